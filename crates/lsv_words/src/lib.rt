@@ -1,0 +1,11 @@
+//! Words that the contracts of several crates cite, and their laws. It has no code that does anything.
+#![tactic(auto)]
+
+ghost use Rattle.std.specs.Prelude.{ℕ, ◌≤◌};
+ghost use Rattle.lsv_words.specs.Causes.{Rose};
+
+/// A count that rose in one of two calls in a row rose in both together, since no call lets a count fall.
+pub fn a_rise_lasts()
+    ensures first { (before mid now : ℕ) → Rose before mid → mid ≤ now → Rose before now }
+    ensures second { (before mid now : ℕ) → before ≤ mid → Rose mid now → Rose before now }
+{}
