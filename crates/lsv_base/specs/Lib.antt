@@ -1,0 +1,7 @@
+pub mod LogNo
+pub mod MemSink
+pub mod MemSource
+pub mod MemTexts
+pub mod Moments
+pub mod Script
+pub mod Time
