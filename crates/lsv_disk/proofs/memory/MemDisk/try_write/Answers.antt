@@ -1,0 +1,8 @@
+use Rattle.std.proofs.Common.{subst, Vec, Global}
+use Rattle.lsv_disk.specs.declared.call.Call.{Call}
+use Rattle.lsv_disk.specs.Calls.{NotedWrite}
+use Rattle.lsv_disk.proofs.memory.MemDisk.try_write.Goals as goal
+
+pub returns-in-Ok-clause-ok : goal.returns-in-Ok-clause-ok
+returns-in-Ok-clause-ok c =
+    (subst (λ (calls : Vec Call Global). NotedWrite calls.items c.write.new.calls.items c.args.f c.args.at c.args.bytes.now) c.next_fails.ensures.calls c.in-Ok.ensures.ok, c.next_fails.ensures.refused)

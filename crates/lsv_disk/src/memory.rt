@@ -1,0 +1,241 @@
+ghost use Rattle.std.specs.Prelude.{◌≡◌, ℕ, ◌+◌, ◌-◌, ◌≤◌, ◌<◌, ◌^◌, ◌↔◌, min, IsTrue, [], ◌∷◌, ◌++◌, List, Option, Some, None, length, drop, option_map, IfOk, OnOk, OnErr, IsErr, ◌⊎◌};
+ghost use Rattle.std.proofs.Props.{props};
+ghost use Rattle.lsv_words.specs.Causes.{Rose};
+ghost use Rattle.lsv_words.specs.Pieces.{piece};
+ghost use Rattle.lsv_disk.specs.declared.file.FileId.{FileId};
+ghost use Rattle.lsv_disk.specs.declared.call.Effect.{Effect};
+ghost use Rattle.lsv_disk.specs.declared.call.Effect.TheVariants.{Made, NotMade, NotRead, NotWritten, Synced, NotSynced};
+ghost use Rattle.lsv_disk.specs.Bytes.{bytes_of, Reaches};
+ghost use Rattle.lsv_disk.specs.State.{Only};
+ghost use Rattle.lsv_disk.specs.Calls.{reads_after, reads_of, state_of, faults_of, syncs_of, Noted, NotedWrite, Failed};
+ghost use Rattle.lsv_disk.specs.Stored.{IsResult};
+ghost use Rattle.lsv_disk.specs.Laws.{state-reads_itself, state-is_now, state-only_now};
+
+use crate::call::{Call, Effect};
+use crate::change::{make, write};
+use crate::stored::{Stored, content, copy_piece};
+use crate::{Disk, DiskFault, FileId, NoMem};
+use std::alloc::Global;
+
+/// A disk in memory, which tells its files. It keeps the calls that changed it or failed, so what a stop of the
+/// machine may leave is told for each moment.
+#[derive(Drop)]
+pub struct MemDisk {
+    alloc: Global,
+    listed: Vec<u64>,
+    asked: u64,
+    refused: u64,
+    calls: Vec<Call>,
+    files: Vec<Stored>,
+    ghost tied: { IsResult files.items calls.items } by { Prim.hlevel props },
+}
+
+impl MemDisk {
+    ghost use Rattle.lsv_disk.specs.Memory.{refusals, failing, asked, next_number, NextFails};
+
+    /// No file is there. The calls with the listed numbers fail, counted from 1 over the calls of `create`,
+    /// `read_at`, `write_at` and `sync`.
+    pub fn new(alloc: Global, fail: &[u64]) -> Result<MemDisk, NoMem>
+        ensures absent { IfOk result (λ d. (f : FileId) → (⟦<MemDisk as Disk>⟧.state d).reads f ≡ None) }
+        ensures settled { IfOk result (λ d. (f : FileId) → Only None ((⟦<MemDisk as Disk>⟧.state d).may_leave f)) }
+        ensures moment { IfOk result (λ d. (⟦<MemDisk as Disk>⟧.state d).moment ≡ 0) }
+        ensures faults { IfOk result (λ d. (f : FileId) → ⟦<MemDisk as Disk>⟧.faults d f ≡ 0) }
+        ensures syncs { IfOk result (λ d. (f : FileId) → ⟦<MemDisk as Disk>⟧.syncs d f ≡ 0) }
+        ensures refused { IfOk result (λ d. refusals d ≡ 0) }
+        ensures failing { IfOk result (λ d. failing d ≡ fail.now) }
+        ensures asked { IfOk result (λ d. asked d ≡ 0) }
+    {
+        Ok(MemDisk {
+            alloc,
+            listed: fail.to_vec(alloc)?,
+            asked: 0,
+            refused: 0,
+            calls: Vec::new(alloc),
+            files: Vec::new(alloc),
+        })
+    }
+
+    /// What a read of the whole file gives.
+    pub fn bytes(&self, f: FileId) -> Option<&[u8]>
+        ensures { option_map (λ b. b.now) result ≡ (⟦<MemDisk as Disk>⟧.state self.now).reads f }
+    {
+        content(&self.files, f)
+    }
+
+    /// How often a call failed for want of memory.
+    pub fn refused(&self) -> u64
+        ensures { result ≡ refusals self.now }
+    {
+        self.refused
+    }
+
+    /// How often a call on the file failed, as far as a number of 64 bits can tell.
+    pub fn failures(&self, f: FileId) -> u64
+        ensures { result ≡ min (⟦<MemDisk as Disk>⟧.faults self.now f) (2 ^ 64 - 1) }
+    {
+        let mut count: u64 = 0;
+        for call in &self.calls {
+            if call.failed_on(f) {
+                count = count.saturating_add(1);
+            }
+        }
+        count.saturating_add(self.refused)
+    }
+
+    /// Whether the next call of those that count is a listed one.
+    fn next_fails(&mut self) -> bool
+        ensures listed { IsTrue result ↔ NextFails self.old }
+        ensures number { asked self.new ≡ next_number self.old }
+        ensures failing { failing self.new ≡ failing self.old }
+        ensures calls { self.new.calls ≡ self.old.calls }
+        ensures files { self.new.files ≡ self.old.files }
+        ensures refused { self.new.refused ≡ self.old.refused }
+    {
+        self.asked = self.asked.saturating_add(1);
+        self.listed.contains(&self.asked)
+    }
+
+    /// Memory was wanting for a call.
+    fn refuse(&mut self) -> DiskFault
+        ensures calls { self.new.calls ≡ self.old.calls }
+        ensures risen { self.old.refused ≤ self.new.refused }
+        ensures rose { Rose self.old.refused self.new.refused }
+        ensures number { asked self.new ≡ asked self.old }
+        ensures failing { failing self.new ≡ failing self.old }
+    {
+        self.refused = self.refused.saturating_add(1);
+        DiskFault
+    }
+
+    /// Keeps a call that changes nothing of what a read gives.
+    fn note(&mut self, file: FileId, effect: Effect) -> Result<(), DiskFault>
+        requires quiet { (past : List Effect) → reads_after (effect ∷ past) ≡ reads_after past }
+        ensures ok { OnOk result (Noted self.old.calls.items self.new.calls.items file effect × (self.new.refused ≡ self.old.refused)) }
+        ensures err { OnErr result ((self.new.calls.items ≡ self.old.calls.items) × (self.old.refused ≤ self.new.refused) × Rose self.old.refused self.new.refused) }
+        ensures number { asked self.new ≡ asked self.old }
+        ensures failing { failing self.new ≡ failing self.old }
+    {
+        match self.calls.push(Call { file, effect }) {
+            Ok(()) => Ok(()),
+            Err(_) => Err(self.refuse()),
+        }
+    }
+
+    /// Keeps a call that failed.
+    fn fail(&mut self, file: FileId, effect: Effect) -> DiskFault
+        requires quiet { (past : List Effect) → reads_after (effect ∷ past) ≡ reads_after past }
+        ensures failed { Failed self.old.calls.items self.new.calls.items file effect self.old.refused self.new.refused }
+        ensures number { asked self.new ≡ asked self.old }
+        ensures failing { failing self.new ≡ failing self.old }
+    {
+        let _ = self.note(file, effect);
+        DiskFault
+    }
+
+    fn try_create(&mut self, f: FileId) -> Result<(), DiskFault>
+        requires absent { reads_of self.old.calls.items f ≡ None }
+        ensures ok { OnOk result (Noted self.old.calls.items self.new.calls.items f Made × (self.new.refused ≡ self.old.refused)) }
+        ensures err { OnErr result (Failed self.old.calls.items self.new.calls.items f NotMade self.old.refused self.new.refused) }
+        ensures listed { NextFails self.old → IsErr result }
+        ensures wanting { OnErr result (NextFails self.old ⊎ Rose (refusals self.old) (refusals self.new)) }
+        ensures number { asked self.new ≡ next_number self.old }
+        ensures failing { failing self.new ≡ failing self.old }
+    {
+        if self.next_fails() {
+            return Err(self.fail(f, Effect::NotMade));
+        }
+        match make(self.alloc, &mut self.files, &mut self.calls, f) {
+            Ok(()) => Ok(()),
+            Err(_) => Err(self.refuse()),
+        }
+    }
+
+    fn try_read(&mut self, f: FileId, at: u64, buf: &mut [u8]) -> Result<usize, DiskFault>
+        ensures count { IfOk result (λ n. n ≡ length (piece (bytes_of (reads_of self.old.calls.items f)) at (length buf.old))) }
+        ensures bytes { IfOk result (λ n. buf.new ≡ piece (bytes_of (reads_of self.old.calls.items f)) at (length buf.old) ++ drop n buf.old) }
+        ensures ok { OnOk result ((self.new.calls.items ≡ self.old.calls.items) × (self.new.refused ≡ self.old.refused)) }
+        ensures err { OnErr result (Failed self.old.calls.items self.new.calls.items f NotRead self.old.refused self.new.refused) }
+        ensures listed { NextFails self.old → IsErr result }
+        ensures listed_alone { OnErr result (NextFails self.old) }
+        ensures number { asked self.new ≡ next_number self.old }
+        ensures failing { failing self.new ≡ failing self.old }
+    {
+        if self.next_fails() {
+            return Err(self.fail(f, Effect::NotRead));
+        }
+        match content(&self.files, f) {
+            Some(bytes) => Ok(copy_piece(bytes, at, buf)),
+            None => Ok(0),
+        }
+    }
+
+    fn try_write(&mut self, f: FileId, at: u64, bytes: &[u8]) -> Result<(), DiskFault>
+        requires place { Reaches (reads_of self.old.calls.items f) at }
+        ensures ok { OnOk result (NotedWrite self.old.calls.items self.new.calls.items f at bytes.now × (self.new.refused ≡ self.old.refused)) }
+        ensures err { OnErr result (Failed self.old.calls.items self.new.calls.items f (NotWritten at (length bytes.now)) self.old.refused self.new.refused) }
+        ensures listed { NextFails self.old → IsErr result }
+        ensures wanting { OnErr result (NextFails self.old ⊎ Rose (refusals self.old) (refusals self.new)) }
+        ensures number { asked self.new ≡ next_number self.old }
+        ensures failing { failing self.new ≡ failing self.old }
+    {
+        if self.next_fails() {
+            return Err(self.fail(f, Effect::NotWritten(at, bytes.len())));
+        }
+        match write(self.alloc, &mut self.files, &mut self.calls, f, at, bytes) {
+            Ok(()) => Ok(()),
+            Err(_) => Err(self.refuse()),
+        }
+    }
+
+    fn try_sync(&mut self, f: FileId) -> Result<(), DiskFault>
+        ensures ok { OnOk result (Noted self.old.calls.items self.new.calls.items f Synced × (self.new.refused ≡ self.old.refused)) }
+        ensures err { OnErr result (Failed self.old.calls.items self.new.calls.items f NotSynced self.old.refused self.new.refused) }
+        ensures listed { NextFails self.old → IsErr result }
+        ensures wanting { OnErr result (NextFails self.old ⊎ Rose (refusals self.old) (refusals self.new)) }
+        ensures number { asked self.new ≡ next_number self.old }
+        ensures failing { failing self.new ≡ failing self.old }
+    {
+        if self.next_fails() {
+            return Err(self.fail(f, Effect::NotSynced));
+        }
+        self.note(f, Effect::Synced)
+    }
+}
+
+impl Disk for MemDisk {
+    ghost tells = { Unit {0} };
+
+    ghost state = { λ d. state_of d.calls.items };
+
+    ghost faults = { λ d f. faults_of d.calls.items f + d.refused };
+
+    ghost syncs = { λ d f. syncs_of d.calls.items f };
+
+    ghost reads_itself = { λ told d. state-reads_itself d.calls.items };
+
+    ghost is_now = { λ told d. state-is_now d.calls.items };
+
+    ghost only_now = { λ told d. state-only_now d.calls.items };
+
+    fn root(&mut self, _dir: &str, _events: &str) {}
+
+    fn create(&mut self, f: FileId) -> Result<(), DiskFault> {
+        self.try_create(f)
+    }
+
+    fn length(&mut self, f: FileId) -> Result<Option<u64>, DiskFault> {
+        Ok(content(&self.files, f).map(|bytes| bytes.len() as u64))
+    }
+
+    fn read_at(&mut self, f: FileId, at: u64, buf: &mut [u8]) -> Result<usize, DiskFault> {
+        self.try_read(f, at, buf)
+    }
+
+    fn write_at(&mut self, f: FileId, at: u64, bytes: &[u8]) -> Result<(), DiskFault> {
+        self.try_write(f, at, bytes)
+    }
+
+    fn sync(&mut self, f: FileId) -> Result<(), DiskFault> {
+        self.try_sync(f)
+    }
+}

@@ -1,0 +1,63 @@
+ghost use Rattle.std.specs.Prelude.{◌≡◌, ℕ, ◌+◌, ◌≤◌, ◌<◌, [], ◌∷◌, ◌++◌, List, Option, Some, None, length, drop, vec_len, option_copied, option_map, IsOk, OnOk, OnErr, IfNone, IfSome, if◌then◌else◌, is_ok};
+ghost use Rattle.std.specs.Vec.{vec_capacity};
+ghost use Rattle.lsv_words.specs.Pieces.{piece};
+ghost use Rattle.lsv_disk.specs.Bytes.{overwritten};
+ghost use Rattle.lsv_disk.specs.Stored.{content_of, StandsAt};
+
+use crate::FileId;
+use std::alloc::AllocError;
+
+/// The bytes of a file that is there.
+#[derive(Drop)]
+pub(crate) struct Stored {
+    pub(crate) file: FileId,
+    pub(crate) bytes: Vec<u8>,
+}
+
+/// Where the file stands.
+pub(crate) fn place_of(stored: &[Stored], file: FileId) -> Option<usize>
+    ensures none { IfNone result (content_of stored.now file ≡ None) }
+    ensures some { IfSome result (StandsAt stored.now file) }
+{
+    for (i, at) in stored.iter().enumerate() {
+        if at.file == file {
+            return Some(i);
+        }
+    }
+    None
+}
+
+/// The bytes of the file, where it is there.
+pub(crate) fn content(stored: &[Stored], file: FileId) -> Option<&[u8]>
+    ensures { option_map (λ b. b.now) result ≡ content_of stored.now file }
+{
+    let place = place_of(stored, file)?;
+    let at = &stored[place];
+    Some(&at.bytes)
+}
+
+/// As many bytes as there are from that place on, into the front of the buffer.
+pub(crate) fn copy_piece(bytes: &[u8], at: u64, buf: &mut [u8]) -> usize
+    ensures count { result ≡ length (piece bytes.now at (length buf.old)) }
+    ensures bytes { buf.new ≡ piece bytes.now at (length buf.old) ++ drop result buf.old }
+{
+    if at >= bytes.len() as u64 {
+        return 0;
+    }
+    let rest = &bytes[at as usize..];
+    let count = rest.len().min(buf.len());
+    buf[..count].copy_from_slice(&rest[..count]);
+    count
+}
+
+/// Writes over what is there, and past the end, into room that was reserved.
+pub(crate) fn overwrite(content: &mut Vec<u8>, at: usize, bytes: &[u8]) -> Result<(), AllocError>
+    requires place { at ≤ vec_len content.old }
+    requires room { vec_len content.old + length bytes.now ≤ vec_capacity content.old }
+    ensures ok { IsOk result }
+    ensures items { content.new.items ≡ overwritten at bytes.now content.old.items }
+{
+    let inside = bytes.len().min(content.len() - at);
+    content[at..at + inside].copy_from_slice(&bytes[..inside]);
+    content.extend_from_slice(&bytes[inside..])
+}

@@ -1,0 +1,153 @@
+ghost use Rattle.std.specs.Prelude.{◌^◌, ◌<◌, length};
+
+use super::*;
+use std::alloc::Global;
+use std::marker::PhantomData;
+use std::test::Fail;
+
+const LOG: FileId = FileId {
+    owner: Owner::Log(7),
+    part: Part::Stdout,
+};
+
+const OTHER: FileId = FileId {
+    owner: Owner::Log(7),
+    part: Part::Stderr,
+};
+
+#[test]
+fn files_read_as_written(rt: HostRuntime) -> Result<(), Fail> {
+    let mut disk = MemDisk::new(rt.alloc(), &[])?;
+    disk.root("store", "store/events");
+    assert_eq!(rt; disk.length(LOG), Ok(None));
+    disk.create(LOG)?;
+    disk.write_at(LOG, 0, b"abcdef")?;
+    disk.write_at(LOG, 0, b"xy")?;
+    assert_eq!(rt; disk.length(LOG), Ok(Some(6)));
+    assert_eq!(rt; disk.length(OTHER), Ok(None));
+    assert_eq!(rt; disk.bytes(LOG).ok_or("absent")?, b"xycdef".as_slice());
+    Ok(())
+}
+
+#[test]
+fn a_read_ends_with_the_file(rt: HostRuntime) -> Result<(), Fail> {
+    let mut disk = MemDisk::new(rt.alloc(), &[])?;
+    disk.create(LOG)?;
+    disk.write_at(LOG, 0, b"abcdef")?;
+    let mut buf = [0; 4];
+    assert_eq!(rt; disk.read_at(LOG, 1, &mut buf), Ok(4));
+    assert_eq!(rt; buf, *b"bcde");
+    assert_eq!(rt; disk.read_at(LOG, 5, &mut buf), Ok(1));
+    assert_eq!(rt; buf, *b"fcde");
+    assert_eq!(rt; disk.read_at(LOG, 1 << 40, &mut buf), Ok(0));
+    assert_eq!(rt; disk.read_at(OTHER, 0, &mut buf), Ok(0));
+    Ok(())
+}
+
+#[test]
+fn a_create_that_fails_makes_nothing(rt: HostRuntime) -> Result<(), Fail> {
+    let mut disk = MemDisk::new(rt.alloc(), &[1])?;
+    assert_eq!(rt; disk.length(LOG), Ok(None));
+    assert_eq!(rt; disk.create(LOG), Err(DiskFault));
+    assert!(rt; disk.bytes(LOG).is_none());
+    assert_eq!(rt;
+        (disk.failures(LOG), disk.failures(OTHER), disk.refused()),
+        (1, 0, 0)
+    );
+    Ok(())
+}
+
+/// Whether a write, a sync and a read succeed where the call of this number fails, and what is told then.
+fn story(alloc: Global, number: u64) -> Result<([bool; 3], u64, usize), Fail> {
+    let mut disk = MemDisk::new(alloc, &[number])?;
+    disk.create(LOG)?;
+    let written = disk.write_at(LOG, 0, b"ab").is_ok();
+    let _ = disk.length(LOG)?;
+    let synced = disk.sync(LOG).is_ok();
+    let mut buf = [0; 4];
+    let read = disk.read_at(LOG, 0, &mut buf).is_ok();
+    let bytes = disk.bytes(LOG).ok_or("absent")?;
+    Ok(([written, synced, read], disk.failures(LOG), bytes.len()))
+}
+
+#[test]
+fn the_listed_call_fails_and_no_other(rt: HostRuntime) -> Result<(), Fail> {
+    for (number, want) in [
+        (2, ([false, true, true], 1, 0)),
+        (3, ([true, false, true], 1, 2)),
+        (4, ([true, true, false], 1, 2)),
+        (5, ([true, true, true], 0, 2)),
+    ] {
+        assert_eq!(rt; story(rt.alloc(), number)?, want, "call {number}");
+    }
+    Ok(())
+}
+
+#[test]
+fn a_synced_write_is_there(rt: HostRuntime) -> Result<(), Fail> {
+    let mut disk = MemDisk::new(rt.alloc(), &[])?;
+    disk.create(LOG)?;
+    write_synced(&mut disk, LOG, 0, b"abc")?;
+    write_synced(&mut disk, LOG, 2, b"de")?;
+    assert_eq!(rt; disk.bytes(LOG).ok_or("absent")?, b"abde".as_slice());
+    Ok(())
+}
+
+#[test]
+fn a_fault_is_handed_on(rt: HostRuntime) -> Result<(), Fail> {
+    for number in [2, 3] {
+        let mut disk = MemDisk::new(rt.alloc(), &[number])?;
+        disk.create(LOG)?;
+        assert_eq!(rt; write_synced(&mut disk, LOG, 0, b"abc"), Err(DiskFault));
+        assert_eq!(rt; disk.failures(LOG), 1);
+    }
+    Ok(())
+}
+
+/// Writes behind what is there.
+fn append<D: Disk>(disk: &mut D, f: FileId, bytes: &[u8]) -> Result<(), DiskFault>
+    requires { length bytes.now < 2 ^ 32 }
+{
+    match disk.length(f)? {
+        Some(end) if end < 1 << 32 => disk.write_at(f, end, bytes),
+        _ => Err(DiskFault),
+    }
+}
+
+#[test]
+fn two_mebibytes_take_no_time(rt: HostRuntime) -> Result<(), Fail> {
+    let alloc = rt.alloc();
+    let chunk = [7; 64];
+    let mut disk = MemDisk::new(alloc, &[])?;
+    disk.create(LOG)?;
+    for _ in 0..32768 {
+        append(&mut disk, LOG, &chunk)?;
+    }
+    let mut buf = [0; 64];
+    assert_eq!(rt; disk.read_at(LOG, 2_097_100, &mut buf), Ok(52));
+    assert_eq!(rt; disk.length(LOG), Ok(Some(2_097_152)));
+    Ok(())
+}
+
+/// What holds of any stretch of calls.
+struct Anything;
+
+impl Claim for Anything {
+    ghost touched = { λ _. Unit {0} };
+
+    ghost holds = { λ _. Unit {0} };
+}
+
+#[test]
+fn the_theorems_hold_at_this_disk(rt: HostRuntime) -> Result<(), Fail> {
+    let disk = MemDisk::new(rt.alloc(), &[])?;
+    stretches_compose(&disk, &disk, &disk, PhantomData::<Anything>);
+    stretches_widen(
+        &disk,
+        &disk,
+        PhantomData::<Anything>,
+        PhantomData::<Anything>,
+    );
+    quiet_stretches(&disk, &disk, &disk, PhantomData::<Anything>);
+    Ok(())
+}
