@@ -1,0 +1,9 @@
+pub mod Awaiting
+mod Digits
+pub mod Filling
+pub mod Keeping
+pub mod Speaking
+pub mod Stepping
+pub mod Taking
+pub mod Coursing
+pub mod Deciding

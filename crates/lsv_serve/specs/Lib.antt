@@ -1,0 +1,12 @@
+pub mod Status
+pub mod Form
+pub mod FormView
+pub mod Layout
+pub mod Staged
+pub mod Reply
+pub mod ReplyView
+pub mod Machine
+pub mod Store
+pub mod Steps
+pub mod Once
+pub mod Course

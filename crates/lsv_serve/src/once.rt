@@ -1,0 +1,185 @@
+// The command `once`: one session from a source to a sink, stored as log 1.
+ghost use Rattle.std.specs.Prelude.{◌≡◌, ◌≤◌, ◌<◌, ◌-◌, ◌^◌, ◌++◌, ◌↔◌, ℕ, List, [], None, Some, length, IsTrue, IfNone, IfSome, OnOk, OnErr, codes};
+ghost use Rattle.lsv_words.specs.Causes.{Rose};
+ghost use Rattle.lsv_words.specs.Pieces.{IsFront};
+ghost use Rattle.lsv_disk.specs.declared.file.FileId.{FileId};
+ghost use Rattle.lsv_serve.specs.Once.{IsOnce, Story};
+ghost use Rattle.lsv_serve.specs.Course.{Course};
+
+use crate::connection::Connection;
+use crate::reply::hello;
+use crate::status::Status;
+use lsv_base::{Bytes, List, Sink, SinkFault, Source};
+use lsv_disk::Disk;
+use std::alloc::Global;
+
+/// The folder of the logs, and the path of the event log.
+const STORE: &str = "store";
+
+const EVENTS: &str = "store/events";
+
+/// At most so many bytes are read at a time.
+const PIECE: usize = 65_536;
+
+/// Puts the answers of a turn, where there are any.
+fn put_replies<K: Sink>(sink: &mut K, replies: &[u8]) -> Result<(), SinkFault>
+    ensures put { K.tells → OnOk result (K.put sink.new ≡ K.put sink.old ++ replies.now) }
+    ensures failed { K.tells → OnErr result ((front : List ℕ) × IsFront front replies.now × (K.put sink.new ≡ K.put sink.old ++ front)) }
+    ensures faults { K.faults sink.old ≤ K.faults sink.new }
+    ensures cause { OnErr result (Rose (K.faults sink.old) (K.faults sink.new)) }
+{
+    if replies.is_empty() {
+        return Ok(());
+    }
+    sink.write(replies)
+}
+
+/// Reads a piece, takes its messages and puts the answers. It says how the run ends, where it does.
+fn serve_piece<S: Source, K: Sink, D: Disk>(
+    connection: &mut Connection,
+    alloc: Global,
+    source: &mut S,
+    sink: &mut K,
+    disk: &mut D,
+    buf: &mut [u8],
+) -> Option<Status>
+    requires room { 0 < length buf.old }
+    requires put { connection.old.replies ≡ [] }
+    requires known { (s : S) × ((k : K) × ((d : D) × Course S.tells K.tells D.tells (S.given s) (S.given source.old) (K.put k) (K.put sink.old)
+        (D.faults d) (D.faults disk.old) (D.state d) (D.state disk.old) connection.old.framer connection.old.session)) }
+    ensures on { IfNone result ((s : S) (k : K) (d : D) →
+        Course S.tells K.tells D.tells (S.given s) (S.given source.old) (K.put k) (K.put sink.old)
+        (D.faults d) (D.faults disk.old) (D.state d) (D.state disk.old) connection.old.framer connection.old.session →
+        Course S.tells K.tells D.tells (S.given s) (S.given source.new) (K.put k) (K.put sink.new)
+        (D.faults d) (D.faults disk.new) (D.state d) (D.state disk.new) connection.new.framer connection.new.session) }
+    ensures ends { IfSome result (λ status. (s : S) (k : K) (d : D) →
+        Course S.tells K.tells D.tells (S.given s) (S.given source.old) (K.put k) (K.put sink.old)
+        (D.faults d) (D.faults disk.old) (D.state d) (D.state disk.old) connection.old.framer connection.old.session →
+        Story S.tells K.tells D.tells (S.given s) (S.given source.new) (S.count source.new < 2 ^ 63 - 1 → S.rest source.new ≡ []) (K.put k) (K.put sink.new)
+        (D.faults d) (D.faults disk.new) (D.state d) (D.state disk.new) status) }
+    ensures emptied { IfNone result (connection.new.replies ≡ []) }
+    ensures progress { IfNone result (S.count source.old < S.count source.new) }
+    ensures limit { S.count source.new < 2 ^ 63 }
+    ensures not_usage { IfSome result (λ status. status ≡ Status.Usage → ⊥) }
+    ensures source_faults { S.faults source.old ≤ S.faults source.new }
+    ensures sink_faults { K.faults sink.old ≤ K.faults sink.new }
+    ensures disk_faults { (g : FileId) → D.faults disk.old g ≤ D.faults disk.new g }
+    ensures read_fault { result ≡ Some Status.ReadFault → Rose (S.faults source.old) (S.faults source.new) }
+    ensures write_fault { result ≡ Some Status.WriteFault → Rose (K.faults sink.old) (K.faults sink.new) }
+{
+    let Ok(count) = source.read(buf) else {
+        return Some(Status::ReadFault);
+    };
+    if count == 0 {
+        return Some(Status::Served);
+    }
+    let Ok(()) = connection.turn(alloc, disk, &buf[..count]) else {
+        return Some(Status::NoMem);
+    };
+    let Ok(()) = put_replies(sink, connection.replies.as_slice()) else {
+        return Some(Status::WriteFault);
+    };
+    connection.replies.truncate(0);
+    if connection.session.is_shut() {
+        return Some(Status::Served);
+    }
+    None
+}
+
+/// Serves piece after piece, until the run ends.
+fn serve<S: Source, K: Sink, D: Disk>(
+    connection: &mut Connection,
+    alloc: Global,
+    source: &mut S,
+    sink: &mut K,
+    disk: &mut D,
+    buf: &mut [u8],
+) -> Status
+    requires room { 0 < length buf.old }
+    requires put { connection.old.replies ≡ [] }
+    requires known { (s : S) × ((k : K) × ((d : D) × Course S.tells K.tells D.tells (S.given s) (S.given source.old) (K.put k) (K.put sink.old)
+        (D.faults d) (D.faults disk.old) (D.state d) (D.state disk.old) connection.old.framer connection.old.session)) }
+    ensures ends { (s : S) (k : K) (d : D) →
+        Course S.tells K.tells D.tells (S.given s) (S.given source.old) (K.put k) (K.put sink.old)
+        (D.faults d) (D.faults disk.old) (D.state d) (D.state disk.old) connection.old.framer connection.old.session →
+        Story S.tells K.tells D.tells (S.given s) (S.given source.new) (S.count source.new < 2 ^ 63 - 1 → S.rest source.new ≡ []) (K.put k) (K.put sink.new)
+        (D.faults d) (D.faults disk.new) (D.state d) (D.state disk.new) result }
+    ensures not_usage { result ≡ Status.Usage → ⊥ }
+    ensures read_fault { result ≡ Status.ReadFault → Rose (S.faults source.old) (S.faults source.new) }
+    ensures write_fault { result ≡ Status.WriteFault → Rose (K.faults sink.old) (K.faults sink.new) }
+{
+    loop {
+        if let Some(status) = serve_piece(connection, alloc, source, sink, disk, buf) {
+            return status;
+        }
+    }
+}
+
+/// Runs one session, from the hello to its end.
+fn run<S: Source, K: Sink, D: Disk>(
+    alloc: Global,
+    source: &mut S,
+    sink: &mut K,
+    disk: &mut D,
+) -> Status
+    ensures story { Story S.tells K.tells D.tells (S.given source.old) (S.given source.new) (S.count source.new < 2 ^ 63 - 1 → S.rest source.new ≡ []) (K.put sink.old) (K.put sink.new)
+        (D.faults disk.old) (D.faults disk.new) (D.state disk.old) (D.state disk.new) result }
+    ensures not_usage { result ≡ Status.Usage → ⊥ }
+    ensures read_fault { result ≡ Status.ReadFault → Rose (S.faults source.old) (S.faults source.new) }
+    ensures write_fault { result ≡ Status.WriteFault → Rose (K.faults sink.old) (K.faults sink.new) }
+{
+    disk.root(STORE, EVENTS);
+    let Ok(()) = sink.write(&hello()) else {
+        return Status::WriteFault;
+    };
+    let Ok(mut buf) = vec![in alloc; 0u8; PIECE] else {
+        return Status::NoMem;
+    };
+    let mut connection = Connection::new(alloc);
+    serve(&mut connection, alloc, source, sink, disk, &mut buf)
+}
+
+/// What the program stands in: where bytes come from, where they go, and the disk of the store.
+#[derive(Drop)]
+pub struct Outside<S, K, D> {
+    pub source: S,
+    pub sink: K,
+    pub disk: D,
+}
+
+fn is_once(word: &Bytes) -> bool
+    ensures { IsTrue result ↔ (word.now ≡ codes "once") }
+{
+    word.as_slice() == b"once".as_slice()
+}
+
+/// Whether the words are the command `once`.
+fn asks_once(words: &List<Bytes>) -> bool
+    ensures { IsTrue result ↔ IsOnce words.now }
+{
+    match words.as_slice() {
+        [word] => is_once(word),
+        _ => false,
+    }
+}
+
+/// `sudo_logsrvd`, behind its name. The command `once` reads the frames of one session of a client, answers
+/// them, and stores the terminal output of the session as log 1.
+pub fn logsrvd<S: Source, K: Sink, D: Disk>(
+    alloc: Global,
+    words: &List<Bytes>,
+    out: &mut Outside<S, K, D>,
+) -> Status
+    ensures usage { (result ≡ Status.Usage) ↔ (IsOnce words.now → ⊥) }
+    ensures unchanged { result ≡ Status.Usage → out.new ≡ out.old }
+    ensures story { IsOnce words.now →
+        Story S.tells K.tells D.tells (S.given out.old.source) (S.given out.new.source) (S.count out.new.source < 2 ^ 63 - 1 → S.rest out.new.source ≡ [])
+        (K.put out.old.sink) (K.put out.new.sink) (D.faults out.old.disk) (D.faults out.new.disk) (D.state out.old.disk) (D.state out.new.disk) result }
+    ensures read_fault { result ≡ Status.ReadFault → Rose (S.faults out.old.source) (S.faults out.new.source) }
+    ensures write_fault { result ≡ Status.WriteFault → Rose (K.faults out.old.sink) (K.faults out.new.sink) }
+{
+    if !asks_once(words) {
+        return Status::Usage;
+    }
+    run(alloc, &mut out.source, &mut out.sink, &mut out.disk)
+}
