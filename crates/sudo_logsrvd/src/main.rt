@@ -1,0 +1,70 @@
+//! The log server of sudo: it stores the sessions that sudo sends it.
+#![tactic(auto)]
+
+mod disk;
+mod folders;
+mod path;
+mod streams;
+#[cfg(test)]
+mod tests;
+
+use disk::FileDisk;
+use lsv_base::{Bytes, List};
+use lsv_serve::{Outside, Status, logsrvd};
+use std::alloc::Global;
+use std::env;
+use std::io::ErrorKind;
+use std::process::ExitCode;
+use streams::{StdSink, StdSource};
+
+/// The words behind the program's name. One that isn't UTF-8 makes them a faulty command line.
+fn words(rt: &HostRuntime, alloc: Global) -> Result<List<Bytes>, Status> {
+    let args = match env::args(rt) {
+        Ok(args) => args,
+        Err(e) if e.kind() == ErrorKind::OutOfMemory => return Err(Status::NoMem),
+        Err(_) => return Err(Status::Usage),
+    };
+    let mut words = List::new(alloc);
+    for arg in args.skip(1) {
+        let Ok(word) = Bytes::of(alloc, arg.as_bytes()) else {
+            return Err(Status::NoMem);
+        };
+        let Ok(()) = words.push(word) else {
+            return Err(Status::NoMem);
+        };
+    }
+    Ok(words)
+}
+
+fn run(rt: HostRuntime) -> Status {
+    let alloc = rt.alloc();
+    let words = match words(&rt, alloc) {
+        Ok(words) => words,
+        Err(status) => return status,
+    };
+    let mut out = Outside {
+        source: StdSource::new(rt),
+        sink: StdSink::new(rt),
+        disk: FileDisk::new(rt),
+    };
+    logsrvd(alloc, &words, &mut out)
+}
+
+/// Prints why the run failed, where it did and memory is there for the text.
+fn tell(rt: &HostRuntime, status: Status) {
+    if status == Status::Served {
+        return;
+    }
+    let Ok(text) = status.text(rt.alloc()) else {
+        return;
+    };
+    if let Ok(text) = str::from_utf8(text.as_slice()) {
+        let _ = eprintln!(rt; "sudo_logsrvd: {text}");
+    }
+}
+
+fn main(rt: HostRuntime) -> ExitCode {
+    let status = run(rt);
+    tell(&rt, status);
+    ExitCode::from(status.number())
+}
