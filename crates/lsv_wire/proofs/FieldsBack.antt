@@ -96,19 +96,21 @@ bytes_back bytes rest b at number first last small is =
 
 -- the same as steps of the fields of a text
 pub fields_from-number : (bytes rest : List ℕ) (at number n : ℕ) → 1 ≤ number → number ≤ LAST_FIELD_NUMBER → n < 2 ^ 64 → drop at bytes ≡ number_field number n ++ rest
-    → (next : ℕ) × (fields_from bytes at ≡ with_field (record { number = number; value = Varint n }) (fields_from bytes next)) × (drop next bytes ≡ rest)
+    → (next : ℕ) × (next_field bytes at ≡ Ok (Some (record { number = number; value = Varint n }, next)))
+    × (fields_from bytes at ≡ with_field (record { number = number; value = Varint n }) (fields_from bytes next)) × (drop next bytes ≡ rest)
 fields_from-number bytes rest at number n first last small is =
     let f = number_back bytes rest at number n first last small is in
-    (at + length (number_field number n), fields_from-step bytes at ∙ ap (step_within (fields_from bytes)) f.next, behind_part bytes (number_field number n) rest at is)
+    (at + length (number_field number n), f.next, fields_from-step bytes at ∙ ap (step_within (fields_from bytes)) f.next, behind_part bytes (number_field number n) rest at is)
 
 pub fields_from-bytes : (bytes rest b : List ℕ) (at number : ℕ) → 1 ≤ number → number ≤ LAST_FIELD_NUMBER → length b < 2 ^ 64 → drop at bytes ≡ bytes_field number b ++ rest
-    → (start : ℕ) × (next : ℕ) × (fields_from bytes at ≡ with_field (record { number = number; value = Range start next }) (fields_from bytes next)) × (piece bytes start (next - start) ≡ b) × (drop next bytes ≡ rest)
+    → (start : ℕ) × (next : ℕ) × (next_field bytes at ≡ Ok (Some (record { number = number; value = Range start next }, next)))
+    × (fields_from bytes at ≡ with_field (record { number = number; value = Range start next }) (fields_from bytes next)) × (piece bytes start (next - start) ≡ b) × (drop next bytes ≡ rest)
 fields_from-bytes bytes rest b at number first last small is =
     let f = bytes_back bytes rest b at number first last small is in
     let start : ℕ = f.0 in
     let size : start + length b - start ≡ length b = omega arith in
     let inside : piece bytes start (start + length b - start) ≡ b = ap (piece bytes start) size ∙ ap (take (length b)) f.2 ∙ take_at b rest (length b) refl in
-    (start, start + length b, fields_from-step bytes at ∙ ap (step_within (fields_from bytes)) f.3.next, inside, behind_part bytes b rest start f.2)
+    (start, start + length b, f.3.next, fields_from-step bytes at ∙ ap (step_within (fields_from bytes)) f.3.next, inside, behind_part bytes b rest start f.2)
 
 pub fields_from-end : (bytes : List ℕ) (at : ℕ) → length bytes ≤ at → fields_from bytes at ≡ record { fields = []; fault = None }
 fields_from-end bytes at le = fields_from-step bytes at ∙ ap (step_within (fields_from bytes)) (next_field-end bytes at le)

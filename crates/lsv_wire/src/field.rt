@@ -154,13 +154,15 @@ fn after_bytes(n: u64, bytes: &[u8], key: usize, at: usize) -> Result<usize, Wir
     Ok(at + n as usize)
 }
 
-/// The varint at a place, and the place after it. Nearly all have one byte.
+/// The varint at a place, and the place after it. A fault tells `key`, the place of the key of the field that the
+/// varint stands in.
 #[tactic(auto, using(crate::proofs::Varints::one_byte))]
-fn varint_at(bytes: &[u8], key: usize, at: usize) -> Result<(u64, usize), WireFault>
+pub fn varint_at(bytes: &[u8], key: usize, at: usize) -> Result<(u64, usize), WireFault>
     requires { at ≤ length bytes.now }
     ensures exact { result ≡ spelled.varint_at bytes.now key at }
     ensures forward { IfOk result (λ n. (at < n.1) × (n.1 ≤ length bytes.now)) }
 {
+    // Nearly all have one byte.
     if at < bytes.len() && bytes[at] < 128 {
         return Ok((bytes[at] as u64, at + 1));
     }

@@ -1,10 +1,10 @@
 //! Laws of the definitions that the contracts of this crate cite. They do nothing when they run.
 
-ghost use Rattle.std.specs.Prelude.{◌≡◌, ◌↔◌, ◌⊎◌, ℕ, ◌+◌, ◌-◌, ◌≤◌, ◌<◌, ◌^◌, List, [], ◌∷◌, ◌++◌, length, drop, All, Option, None, Ok};
+ghost use Rattle.std.specs.Prelude.{◌≡◌, ◌↔◌, ◌⊎◌, ℕ, ◌+◌, ◌-◌, ◌≤◌, ◌<◌, ◌^◌, List, [], ◌∷◌, ◌++◌, length, drop, All, Option, Some, None, Ok};
 ghost use Rattle.lsv_words.specs.Pieces.{piece};
 ghost use Rattle.lsv_wire.specs.Frame.{frame_of, IsMessage, framed, Cut, Over};
 ghost use Rattle.lsv_wire.specs.Varint.{varint};
-ghost use Rattle.lsv_wire.specs.Fields.{varint_at, AreFields, fields_from, with_field, number_field, bytes_field};
+ghost use Rattle.lsv_wire.specs.Fields.{varint_at, next_field, AreFields, fields_from, with_field, number_field, bytes_field};
 ghost use Rattle.lsv_wire.specs.declared.field.Field.{Field};
 ghost use Rattle.lsv_wire.specs.declared.field.FieldValue.TheVariants as values;
 ghost use Rattle.lsv_wire.specs.declared.field.WireFault.{WireFault};
@@ -53,11 +53,13 @@ pub fn what_is_written_is_read_back()
         drop at bytes ≡ varint n ++ rest → varint_at bytes key at ≡ Ok (n, at + length (varint n)) }
     ensures number { (bytes rest : List ℕ) (at number n : ℕ) → 1 ≤ number → number ≤ LAST_FIELD_NUMBER → n < 2 ^ 64 →
         drop at bytes ≡ number_field number n ++ rest →
-        (next : ℕ) × (fields_from bytes at ≡ with_field (record { number = number; value = values.Varint n }) (fields_from bytes next))
+        (next : ℕ) × (next_field bytes at ≡ Ok (Some (record { number = number; value = values.Varint n }, next)))
+        × (fields_from bytes at ≡ with_field (record { number = number; value = values.Varint n }) (fields_from bytes next))
         × (drop next bytes ≡ rest) }
     ensures bytes { (bytes rest text : List ℕ) (at number : ℕ) → 1 ≤ number → number ≤ LAST_FIELD_NUMBER → length text < 2 ^ 64 →
         drop at bytes ≡ bytes_field number text ++ rest →
-        (start : ℕ) × (next : ℕ) × (fields_from bytes at ≡ with_field (record { number = number; value = values.Range start next }) (fields_from bytes next))
+        (start : ℕ) × (next : ℕ) × (next_field bytes at ≡ Ok (Some (record { number = number; value = values.Range start next }, next)))
+        × (fields_from bytes at ≡ with_field (record { number = number; value = values.Range start next }) (fields_from bytes next))
         × (piece bytes start (next - start) ≡ text) × (drop next bytes ≡ rest) }
     ensures end { (bytes : List ℕ) (at : ℕ) → length bytes ≤ at → fields_from bytes at ≡ record { fields = []; fault = None } }
 {}

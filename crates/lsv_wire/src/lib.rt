@@ -7,7 +7,7 @@ mod framing;
 mod laws;
 mod writer;
 
-pub use field::{Field, FieldValue, LAST_FIELD_NUMBER, WireFault, read_field};
+pub use field::{Field, FieldValue, LAST_FIELD_NUMBER, WireFault, read_field, varint_at};
 pub use framer::Framer;
 pub use framing::{FRAME_LIMIT, FrameFault, frame};
 pub use laws::{
