@@ -1,5 +1,5 @@
 -- How turns make a run.
-use Rattle.std.proofs.Common.{◌≡◌, inl, inr, ⊎_elim, ◌≤◌, ◌++◌, ◌∷◌, [], List, ℕ, Bool, refl, sym, ap, subst, ◌∙◌, append_assoc, append-nil, arith}
+use Rattle.std.proofs.Common.{◌≡◌, ◌⊎◌, inl, inr, ⊎_elim, ◌≤◌, ◌++◌, ◌∷◌, [], List, ℕ, Bool, refl, sym, ap, subst, ◌∙◌, append_assoc, append-nil, arith}
 use Rattle.std.specs.List.{concat}
 use Rattle.lsv_words.specs.Pieces.{IsFront}
 use Rattle.lsv_wire.specs.Frame.{frame_of, framed}
@@ -25,6 +25,15 @@ framed-tail (m ∷ ms) r p =
 concat-push : (ps : List (List ℕ)) (p : List ℕ) → concat (ps ++ p ∷ []) ≡ concat ps ++ p
 concat-push [] p = append-nil p
 concat-push (q ∷ ps) p = ap (λ t. q ++ t) (concat-push ps p) ∙ sym (append_assoc q (concat ps) p)
+
+-- a run whose hello wasn't put ended otherwise
+not-ended : {how : Status} → how ≡ status.Served → (how ≡ status.NoMem) ⊎ (how ≡ status.WriteFault) → ⊥
+not-ended e (inl f) = cc
+not-ended e (inr f) = cc
+
+not-faulty : {how : Status} → how ≡ status.ReadFault → (how ≡ status.NoMem) ⊎ (how ≡ status.WriteFault) → ⊥
+not-faulty e (inl f) = cc
+not-faulty e (inr f) = cc
 
 -- what ends without the session shut left it as it was
 ends-open : (rest : List ℕ) (mid new : Stage) (last : List Reply) → (IsShut new → ⊥) → Ends rest mid last new → (last ≡ []) × (new ≡ mid)
@@ -83,12 +92,20 @@ turns-later There F G w unread old (q ∷ ps) xs rest new (open_, first, others,
 answers-append : (xs ys : List Reply) → answers (xs ++ ys) ≡ answers xs ++ spoken ys
 answers-append xs ys = ap (λ t. frame_of hello_message ++ t) (spoken-append xs ys) ∙ sym (append_assoc (frame_of hello_message) (spoken xs) (spoken ys))
 
-module _ (ST KT DT : Type 0) (g0 : List (List ℕ)) (p0 : List ℕ) (f0 : FileId → ℕ) (d0 : DiskState) where
+-- what is read from what is still to come
+read-on : (r0 r1 r2 : List ℕ) (ps : List (List ℕ)) (p : List ℕ) → r0 ≡ concat ps ++ r1 → r1 ≡ p ++ r2 → r0 ≡ concat (ps ++ p ∷ []) ++ r2
+read-on r0 r1 r2 ps p before now = before ∙ ap (λ r. concat ps ++ r) now ∙ sym (append_assoc (concat ps) p r2) ∙ ap (λ b. b ++ r2) (sym (concat-push ps p))
+
+none-more : (r0 r2 : List ℕ) (ps : List (List ℕ)) → r0 ≡ concat ps ++ r2 → r0 ≡ concat (ps ++ []) ++ r2
+none-more r0 r2 ps e = e ∙ ap (λ (qs : List (List ℕ)). concat qs ++ r2) (sym (append-nil ps))
+
+module _ (ST KT DT : Type 0) (g0 : List (List ℕ)) (r0 : List ℕ) (p0 : List ℕ) (f0 : FileId → ℕ) (d0 : DiskState) where
   -- nothing was read yet
-  pub course-at-start : (p1 : List ℕ) (f1 : FileId → ℕ) (d1 : DiskState) (s : Session) → (KT → p1 ≡ p0 ++ frame_of hello_message) → Stands DT d0 d1 f0 f1 Fresh s → Course ST KT DT g0 g0 p0 p1 f0 f1 d0 d1 [] s
+  pub course-at-start : (p1 : List ℕ) (f1 : FileId → ℕ) (d1 : DiskState) (s : Session) → (KT → p1 ≡ p0 ++ frame_of hello_message) → Stands DT d0 d1 f0 f1 Fresh s → Course ST KT DT g0 g0 r0 r0 p0 p1 f0 f1 d0 d1 [] s
   course-at-start p1 f1 d1 s said stands = record {
     pieces = [];
     given = λ told. sym (append-nil g0);
+    read = λ told. refl;
     replies = [];
     stage = Fresh;
     not_shut = λ h. h;
@@ -99,11 +116,12 @@ module _ (ST KT DT : Type 0) (g0 : List (List ℕ)) (p0 : List ℕ) (f0 : FileId
   }
 
   -- the hello was put in part
-  pub story-no-hello : (p1 : List ℕ) (f1 : FileId → ℕ) (d1 : DiskState) (Ended : Type 0) → (KT → (front : List ℕ) × IsFront front (frame_of hello_message) × (p1 ≡ p0 ++ front)) → Stands DT d0 d1 f0 f1 Fresh session.Fresh → Story ST KT DT g0 g0 Ended p0 p1 f0 f1 d0 d1 status.WriteFault
-  story-no-hello p1 f1 d1 Ended put stands = record {
+  pub story-no-hello : (how : Status) (p1 : List ℕ) (f1 : FileId → ℕ) (d1 : DiskState) (Ended : Type 0) → (KT → (front : List ℕ) × IsFront front (frame_of hello_message) × (p1 ≡ p0 ++ front)) → Stands DT d0 d1 f0 f1 Fresh session.Fresh → (how ≡ status.NoMem) ⊎ (how ≡ status.WriteFault) → Story ST KT DT g0 g0 r0 r0 Ended p0 p1 f0 f1 d0 d1 how
+  story-no-hello how p1 f1 d1 Ended put stands why = record {
     pieces = [];
     lost = [];
     given = λ told. sym (append-nil (g0 ++ []) ∙ append-nil g0);
+    read = λ told. refl;
     none_lost = λ _. refl;
     lost_open = inl refl;
     replies = [];
@@ -114,20 +132,21 @@ module _ (ST KT DT : Type 0) (g0 : List (List ℕ)) (p0 : List ℕ) (f0 : FileId
     said = λ told.
         let (front, (more, whole), is) = put told in
         (front, (more, append-nil (frame_of hello_message) ∙ whole), is);
-    all_said = λ told is. absurd (⊎_elim (λ e. cc) (λ e. cc) is);
-    served = λ is. cc;
-    still_open = λ is. cc;
+    all_said = λ told is. absurd (⊎_elim (λ e. not-ended e why) (λ e. not-faulty e why) is);
+    served = λ is. absurd (not-ended is why);
+    still_open = λ is. absurd (not-faulty is why);
     files = λ told _. stands.come told;
     elsewhere = λ told. come-elsewhere Fresh d0 d1 (stands.come told);
   }
 
   -- a piece is taken
-  pub turned : (g1 g2 : List (List ℕ)) (p1 : List ℕ) (f1 f2 : FileId → ℕ) (d1 d2 : DiskState) (unread unread' piece : List ℕ) (s s' : Session) (out : List ℕ) (c : Course ST KT DT g0 g1 p0 p1 f0 f1 d0 d1 unread s) → (ST → g2 ≡ g1 ++ piece ∷ []) → ((x : FileId) → f1 x ≤ f2 x) → TakesAll DT d0 d2 f0 f2 c.stage (unread ++ piece) unread' s' [] out → Turned ST DT g0 g2 f0 f2 d0 d2 unread' s' c.replies out
-  turned g1 g2 p1 f1 f2 d1 d2 unread unread' piece s s' out c given later t =
+  pub turned : (g1 g2 : List (List ℕ)) (r1 r2 : List ℕ) (p1 : List ℕ) (f1 f2 : FileId → ℕ) (d1 d2 : DiskState) (unread unread' piece : List ℕ) (s s' : Session) (out : List ℕ) (c : Course ST KT DT g0 g1 r0 r1 p0 p1 f0 f1 d0 d1 unread s) → (ST → g2 ≡ g1 ++ piece ∷ []) → (ST → r1 ≡ piece ++ r2) → ((x : FileId) → f1 x ≤ f2 x) → TakesAll DT d0 d2 f0 f2 c.stage (unread ++ piece) unread' s' [] out → Turned ST DT g0 g2 r0 r2 f0 f2 d0 d2 unread' s' c.replies out
+  turned g1 g2 r1 r2 p1 f1 f2 d1 d2 unread unread' piece s s' out c given read later t =
       let wider = log-failed-later f0 f1 f2 later in
       record {
         pieces = c.pieces ++ piece ∷ [];
         given = λ told. given told ∙ ap (λ g. g ++ piece ∷ []) (c.given told) ∙ append_assoc g0 c.pieces (piece ∷ []);
+        read = λ told. read-on r0 r1 r2 c.pieces piece (c.read told) (read told);
         replies = t.replies;
         out_is = t.out;
         stage = t.stage;
@@ -138,10 +157,11 @@ module _ (ST KT DT : Type 0) (g0 : List (List ℕ)) (p0 : List ℕ) (f0 : FileId
       }
 
   -- its answers are put, and the session goes on
-  pub course-on : (g2 : List (List ℕ)) (p1 p2 : List ℕ) (f2 : FileId → ℕ) (d2 : DiskState) (unread' : List ℕ) (s' : Session) (earlier : List Reply) (out : List ℕ) (t : Turned ST DT g0 g2 f0 f2 d0 d2 unread' s' earlier out) → (KT → p1 ≡ p0 ++ answers earlier) → (KT → p2 ≡ p1 ++ out) → (IsShut t.stage → ⊥) → Course ST KT DT g0 g2 p0 p2 f0 f2 d0 d2 unread' s'
-  course-on g2 p1 p2 f2 d2 unread' s' earlier out t before put n = record {
+  pub course-on : (g2 : List (List ℕ)) (r2 : List ℕ) (p1 p2 : List ℕ) (f2 : FileId → ℕ) (d2 : DiskState) (unread' : List ℕ) (s' : Session) (earlier : List Reply) (out : List ℕ) (t : Turned ST DT g0 g2 r0 r2 f0 f2 d0 d2 unread' s' earlier out) → (KT → p1 ≡ p0 ++ answers earlier) → (KT → p2 ≡ p1 ++ out) → (IsShut t.stage → ⊥) → Course ST KT DT g0 g2 r0 r2 p0 p2 f0 f2 d0 d2 unread' s'
+  course-on g2 r2 p1 p2 f2 d2 unread' s' earlier out t before put n = record {
     pieces = t.pieces;
     given = t.given;
+    read = t.read;
     replies = earlier ++ t.replies;
     stage = t.stage;
     not_shut = n;
@@ -153,11 +173,12 @@ module _ (ST KT DT : Type 0) (g0 : List (List ℕ)) (p0 : List ℕ) (f0 : FileId
   }
 
   -- the input ended, or a read failed
-  pub story-from-course : (g1 g2 : List (List ℕ)) (p1 : List ℕ) (f1 : FileId → ℕ) (d1 : DiskState) (unread : List ℕ) (s : Session) (Ended : Type 0) (how : Status) → Course ST KT DT g0 g1 p0 p1 f0 f1 d0 d1 unread s → (ST → g2 ≡ g1) → (how ≡ status.Served → ST → Ended) → Story ST KT DT g0 g2 Ended p0 p1 f0 f1 d0 d1 how
-  story-from-course g1 g2 p1 f1 d1 unread s Ended how c given ended = record {
+  pub story-from-course : (g1 g2 : List (List ℕ)) (r1 r2 : List ℕ) (p1 : List ℕ) (f1 : FileId → ℕ) (d1 : DiskState) (unread : List ℕ) (s : Session) (Ended : Type 0) (how : Status) → Course ST KT DT g0 g1 r0 r1 p0 p1 f0 f1 d0 d1 unread s → (ST → g2 ≡ g1) → (ST → r1 ≡ r2) → (how ≡ status.Served → ST → Ended) → Story ST KT DT g0 g2 r0 r2 Ended p0 p1 f0 f1 d0 d1 how
+  story-from-course g1 g2 r1 r2 p1 f1 d1 unread s Ended how c given read ended = record {
     pieces = c.pieces;
     lost = [];
     given = λ told. given told ∙ c.given told ∙ sym (append-nil (g0 ++ c.pieces));
+    read = λ told. none-more r0 r2 c.pieces (c.read told ∙ ap (λ r. concat c.pieces ++ r) (read told));
     none_lost = λ _. refl;
     lost_open = inl refl;
     replies = c.replies;
@@ -174,15 +195,16 @@ module _ (ST KT DT : Type 0) (g0 : List (List ℕ)) (p0 : List ℕ) (f0 : FileId
   }
 
   -- memory ran out within a turn
-  pub story-out-of-memory : (g1 g2 : List (List ℕ)) (p1 : List ℕ) (f1 f2 : FileId → ℕ) (d1 d2 : DiskState) (unread piece : List ℕ) (s : Session) (Ended : Type 0) → Course ST KT DT g0 g1 p0 p1 f0 f1 d0 d1 unread s → (ST → g2 ≡ g1 ++ piece ∷ []) → ((x : FileId) → f1 x ≤ f2 x) → (DT → Elsewhere IsOfLog d1 d2) → Story ST KT DT g0 g2 Ended p0 p1 f0 f2 d0 d2 status.NoMem
-  story-out-of-memory g1 g2 p1 f1 f2 d1 d2 unread piece s Ended c given later elsewhere =
+  pub story-out-of-memory : (g1 g2 : List (List ℕ)) (r1 r2 : List ℕ) (p1 : List ℕ) (f1 f2 : FileId → ℕ) (d1 d2 : DiskState) (unread piece : List ℕ) (s : Session) (Ended : Type 0) → Course ST KT DT g0 g1 r0 r1 p0 p1 f0 f1 d0 d1 unread s → (ST → g2 ≡ g1 ++ piece ∷ []) → (ST → r1 ≡ piece ++ r2) → ((x : FileId) → f1 x ≤ f2 x) → (DT → Elsewhere IsOfLog d1 d2) → Story ST KT DT g0 g2 r0 r2 Ended p0 p1 f0 f2 d0 d2 status.NoMem
+  story-out-of-memory g1 g2 r1 r2 p1 f1 f2 d1 d2 unread piece s Ended c given read later elsewhere =
       let wider = log-failed-later f0 f1 f2 later in
       record {
         pieces = c.pieces;
         lost = piece ∷ [];
         given = λ told. given told ∙ ap (λ g. g ++ piece ∷ []) (c.given told);
+        read = λ told. read-on r0 r1 r2 c.pieces piece (c.read told) (read told);
         none_lost = λ n. absurd (n refl);
-        lost_open = inr c.not_shut;
+        lost_open = inr (piece, refl, c.not_shut);
         replies = c.replies;
         rest = unread;
         stage = c.stage;
@@ -197,11 +219,12 @@ module _ (ST KT DT : Type 0) (g0 : List (List ℕ)) (p0 : List ℕ) (f0 : FileId
       }
 
   -- the answers of a turn were put in part
-  pub story-write-fault : (g2 : List (List ℕ)) (p1 p2 : List ℕ) (f2 : FileId → ℕ) (d2 : DiskState) (unread' : List ℕ) (s' : Session) (earlier : List Reply) (out : List ℕ) (Ended : Type 0) → Turned ST DT g0 g2 f0 f2 d0 d2 unread' s' earlier out → (KT → p1 ≡ p0 ++ answers earlier) → (KT → (front : List ℕ) × IsFront front out × (p2 ≡ p1 ++ front)) → Story ST KT DT g0 g2 Ended p0 p2 f0 f2 d0 d2 status.WriteFault
-  story-write-fault g2 p1 p2 f2 d2 unread' s' earlier out Ended t before put = record {
+  pub story-write-fault : (g2 : List (List ℕ)) (r2 : List ℕ) (p1 p2 : List ℕ) (f2 : FileId → ℕ) (d2 : DiskState) (unread' : List ℕ) (s' : Session) (earlier : List Reply) (out : List ℕ) (Ended : Type 0) → Turned ST DT g0 g2 r0 r2 f0 f2 d0 d2 unread' s' earlier out → (KT → p1 ≡ p0 ++ answers earlier) → (KT → (front : List ℕ) × IsFront front out × (p2 ≡ p1 ++ front)) → Story ST KT DT g0 g2 r0 r2 Ended p0 p2 f0 f2 d0 d2 status.WriteFault
+  story-write-fault g2 r2 p1 p2 f2 d2 unread' s' earlier out Ended t before put = record {
     pieces = t.pieces;
     lost = [];
     given = λ told. t.given told ∙ sym (append-nil (g0 ++ t.pieces));
+    read = λ told. none-more r0 r2 t.pieces (t.read told);
     none_lost = λ _. refl;
     lost_open = inl refl;
     replies = earlier ++ t.replies;
@@ -223,14 +246,15 @@ module _ (ST KT DT : Type 0) (g0 : List (List ℕ)) (p0 : List ℕ) (f0 : FileId
   }
 
   -- the session is shut, and its last answers are put
-  pub story-shut : (g2 : List (List ℕ)) (p1 p2 : List ℕ) (f2 : FileId → ℕ) (d2 : DiskState) (unread' : List ℕ) (s' : Session) (earlier : List Reply) (out : List ℕ) (Ended : Type 0) (t : Turned ST DT g0 g2 f0 f2 d0 d2 unread' s' earlier out) → (KT → p1 ≡ p0 ++ answers earlier) → (KT → p2 ≡ p1 ++ out) → IsShut t.stage → Story ST KT DT g0 g2 Ended p0 p2 f0 f2 d0 d2 status.Served
-  story-shut g2 p1 p2 f2 d2 unread' s' earlier out Ended t before put shut =
+  pub story-shut : (g2 : List (List ℕ)) (r2 : List ℕ) (p1 p2 : List ℕ) (f2 : FileId → ℕ) (d2 : DiskState) (unread' : List ℕ) (s' : Session) (earlier : List Reply) (out : List ℕ) (Ended : Type 0) (t : Turned ST DT g0 g2 r0 r2 f0 f2 d0 d2 unread' s' earlier out) → (KT → p1 ≡ p0 ++ answers earlier) → (KT → p2 ≡ p1 ++ out) → IsShut t.stage → Story ST KT DT g0 g2 r0 r2 Ended p0 p2 f0 f2 d0 d2 status.Served
+  story-shut g2 r2 p1 p2 f2 d2 unread' s' earlier out Ended t before put shut =
       let said : KT → p2 ≡ p0 ++ answers (earlier ++ t.replies) = λ told. put told ∙ ap (λ p. p ++ out) (before told) ∙ append_assoc p0 (answers earlier) out
       ∙ ap (λ p. p0 ++ p) (ap (λ o. answers earlier ++ o) t.out_is ∙ sym (answers-append earlier t.replies)) in
       record {
         pieces = t.pieces;
         lost = [];
         given = λ told. t.given told ∙ sym (append-nil (g0 ++ t.pieces));
+        read = λ told. none-more r0 r2 t.pieces (t.read told);
         none_lost = λ _. refl;
         lost_open = inl refl;
         replies = earlier ++ t.replies;

@@ -1,4 +1,3 @@
-pub mod Awaiting
 mod Digits
 pub mod Filling
 pub mod Keeping
@@ -7,3 +6,4 @@ pub mod Stepping
 pub mod Taking
 pub mod Coursing
 pub mod Deciding
+pub mod Completing

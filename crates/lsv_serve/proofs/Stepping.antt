@@ -6,9 +6,9 @@ use Rattle.lsv_disk.specs.declared.file.FileId.{FileId}
 use Rattle.lsv_serve.specs.declared.session.Session.{Session}
 use Rattle.lsv_serve.specs.declared.session.Session.TheVariants as session
 use Rattle.lsv_serve.specs.declared.staged.Staged.{Staged}
-use Rattle.lsv_serve.specs.Form.{Said, Hello, Accept, Ttyout, Exit}
-use Rattle.lsv_serve.specs.Layout.{elapsed}
-use Rattle.lsv_serve.specs.Machine.{Stage, Fresh, Greeted, Running, Stored, Refused, Outcome, plainly, quietly, accepted, finished, not_built, UsesDevice, refused}
+use Rattle.lsv_serve.specs.Form.{Said, Hello, Accept, Ttyout, Exit, Malformed}
+use Rattle.lsv_serve.specs.Layout.{Output, elapsed}
+use Rattle.lsv_serve.specs.Machine.{Stage, Fresh, Greeted, Running, Stored, Refused, Outcome, plainly, quietly, accepted, finished, not_built, malformed, UsesDevice, refused}
 use Rattle.lsv_serve.specs.Reply.{spoken, Error, CommitPoint}
 use Rattle.lsv_serve.specs.Staged.{staged}
 use Rattle.lsv_serve.specs.Store.{HasCome, HoldsTexts, IsOfLog}
@@ -61,6 +61,25 @@ misfits-accept (Running records) n m = record { no_device = λ u. u; plain = λ 
 misfits-accept (Stored records) n m = record { no_device = λ u. u; plain = λ there. refl }
 misfits-accept Refused n m = record { no_device = λ u. u; plain = λ there. refl }
 
+-- terminal output comes in a running session alone
+pub misfits-ttyout : (old : Stage) (delay : ℕ) (bytes : List ℕ) → ((output : Staged) → session_at old ≡ session.Running output → ⊥) → Misfits old (Some (Ttyout delay bytes))
+misfits-ttyout Fresh delay bytes n = record { no_device = λ u. u; plain = λ there. refl }
+misfits-ttyout Greeted delay bytes n = record { no_device = λ u. u; plain = λ there. refl }
+misfits-ttyout (Running records) delay bytes n = absurd (n (staged records) refl)
+misfits-ttyout (Stored records) delay bytes n = record { no_device = λ u. u; plain = λ there. refl }
+misfits-ttyout Refused delay bytes n = record { no_device = λ u. u; plain = λ there. refl }
+
+-- and not where the elapsed time becomes too large
+pub misfits-late : (old : Stage) (delay : ℕ) (bytes : List ℕ) (output : Staged) → session.Running output ≡ session_at old → ((records : List Output) → output ≡ staged records → false ≡ nat_lt (elapsed records + delay) (2 ^ 63)) → Misfits old (Some (Ttyout delay bytes))
+misfits-late Fresh delay bytes output e late = cc
+misfits-late Greeted delay bytes output e late = cc
+misfits-late (Running records) delay bytes output e late = record {
+  no_device = λ u. u;
+  plain = λ there. ap (λ b. cond b (quietly (Running (records ++ record { delay = delay; bytes = bytes } ∷ []))) not_built) (sym (late records cc));
+}
+misfits-late (Stored records) delay bytes output e late = cc
+misfits-late Refused delay bytes output e late = cc
+
 -- an exit ends a running session alone
 pub misfits-exit : (old : Stage) → ((output : Staged) → session_at old ≡ session.Running output → ⊥) → Misfits old (Some Exit)
 misfits-exit Fresh n = record { no_device = λ u. u; plain = λ there. refl }
@@ -77,6 +96,14 @@ misfits-none (Running records) = record { no_device = λ u. u; plain = λ there.
 misfits-none (Stored records) = record { no_device = λ u. u; plain = λ there. refl }
 misfits-none Refused = record { no_device = λ u. u; plain = λ there. refl }
 
+-- what is no message is refused at each stage
+plainly-malformed : (there : Bool) (old : Stage) → malformed ≡ plainly there old (Some Malformed)
+plainly-malformed there Fresh = refl
+plainly-malformed there Greeted = refl
+plainly-malformed there (Running records) = refl
+plainly-malformed there (Stored records) = refl
+plainly-malformed there Refused = refl
+
 -- no file is touched
 pub untouched : (Touched : FileId → Type 0) (disk : DiskState) → Elsewhere Touched disk disk
 untouched Touched disk = record { same = λ f n. refl; crash = λ f n c left. left }
@@ -89,6 +116,10 @@ module _ (There : Bool → Type 0) (Failed Tells : Type 0) (disk_old disk_new : 
   -- a message that doesn't fit
   pub steps-misfit : (said : Option Said) → Misfits old said → IsRefusal new out_old out_new → (Tells → Elsewhere IsOfLog disk_old disk_new) → Steps There Failed Tells disk_old disk_new old said new out_old out_new
   steps-misfit said m r f = steps-plainly said not_built (sym (m.plain there)) r.0 r.1 f
+
+  -- what is no message
+  pub steps-malformed : (new ≡ session.Shut) × (out_new ≡ out_old ++ spoken (Error (codes "malformed message") ∷ [])) → (Tells → Elsewhere IsOfLog disk_old disk_new) → Steps There Failed Tells disk_old disk_new old (Some Malformed) new out_old out_new
+  steps-malformed r f = steps-plainly (Some Malformed) malformed (plainly-malformed there old) r.0 r.1 f
 
   -- an answer that uses no device
   pub steps-quietly : (said : Option Said) → Quietly old said new out_old out_new → (Tells → HasCome (plainly there old said).stage disk_old disk_new) → Steps There Failed Tells disk_old disk_new old said new out_old out_new

@@ -6,7 +6,7 @@ use Rattle.lsv_wire.specs.Frame.{frame_of, framed, IsMessage}
 use Rattle.lsv_disk.specs.State.{DiskState, Elsewhere}
 use Rattle.lsv_disk.specs.declared.file.FileId.{FileId}
 use Rattle.lsv_serve.specs.declared.session.Session.{Session}
-use Rattle.lsv_serve.specs.Form.{Said, Hello, Accept, Ttyout, Exit, said_of}
+use Rattle.lsv_serve.specs.Form.{Said, Hello, Accept, Ttyout, Exit, Malformed, said_of}
 use Rattle.lsv_serve.specs.Layout.{Output, elapsed}
 use Rattle.lsv_serve.specs.Machine.{Stage, Fresh, Greeted, Running, Stored, Refused, IsShut, Outcome, plainly, quietly, not_built, Brings, Run, Ends, Takes}
 use Rattle.lsv_serve.specs.Once.{MayBeThere}
@@ -63,6 +63,7 @@ has-log-plainly there records (Some (Ttyout delay bytes)) = by_sum (nat_lt (elap
     by_sum true = tt
     by_sum false = tt
 has-log-plainly there records (Some Exit) = tt
+has-log-plainly there records (Some Malformed) = tt
 
 has-log : (There : Bool → Type 0) (Failed : Type 0) (records : List Output) (said : Option Said) (o : Outcome) → Brings There Failed (Running records) said o → HasLog o.stage
 has-log There Failed records said o (inl (there, may, e)) = subst (λ (w : Outcome). HasLog w.stage) (sym e) (has-log-plainly there records said)
@@ -94,6 +95,7 @@ plainly-running b c records (Some Hello) = refl
 plainly-running b c records (Some Accept) = refl
 plainly-running b c records (Some (Ttyout delay bytes)) = refl
 plainly-running b c records (Some Exit) = refl
+plainly-running b c records (Some Malformed) = refl
 
 brings-running : (There There' : Bool → Type 0) (Failed Failed' : Type 0) (records : List Output) (said : Option Said) (o : Outcome) (there : Bool) → There' there → (Failed → Failed') → Brings There Failed (Running records) said o → Brings There' Failed' (Running records) said o
 brings-running There There' Failed Failed' records said o there may f (inl (b, m, e)) = inl (there, may, e ∙ plainly-running b there records said)

@@ -13,12 +13,13 @@ use Rattle.lsv_serve.specs.Steps.{Stands}
 -- The course of a run between two reads, while its session isn't shut.
 pub record Course
     (SourceTells SinkTells DiskTells : Type 0)
-    (given_old given_new : List (List ℕ))
+    (given_old given_new : List (List ℕ)) (to_come_old to_come_new : List ℕ)
     (put_old put_new : List ℕ)
     (faults_old faults_new : FileId → ℕ) (disk_old disk_new : DiskState)
     (unread : List ℕ) (session : Session) : Type 0 where
   pub pieces : List (List ℕ)
   pub given : SourceTells → given_new ≡ given_old ++ pieces
+  pub read : SourceTells → to_come_old ≡ concat pieces ++ to_come_new
   pub replies : List Reply
   pub stage : Stage
   pub not_shut : IsShut stage → ⊥
@@ -30,11 +31,12 @@ pub record Course
 -- After a turn: what it answered is in out, and not put yet.
 pub record Turned
     (SourceTells DiskTells : Type 0)
-    (given_old given_new : List (List ℕ))
+    (given_old given_new : List (List ℕ)) (to_come_old to_come_new : List ℕ)
     (faults_old faults_new : FileId → ℕ) (disk_old disk_new : DiskState)
     (unread : List ℕ) (session : Session) (earlier : List Reply) (out : List ℕ) : Type 0 where
   pub pieces : List (List ℕ)
   pub given : SourceTells → given_new ≡ given_old ++ pieces
+  pub read : SourceTells → to_come_old ≡ concat pieces ++ to_come_new
   pub replies : List Reply
   pub out_is : out ≡ spoken replies
   pub stage : Stage

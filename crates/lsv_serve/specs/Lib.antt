@@ -10,3 +10,4 @@ pub mod Store
 pub mod Steps
 pub mod Once
 pub mod Course
+pub mod Conversation

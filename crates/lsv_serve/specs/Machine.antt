@@ -2,7 +2,7 @@
 use Rattle.std.specs.Prelude.{ℕ, ◌≡◌, ◌⊎◌, ◌+◌, ◌^◌, List, [], ◌∷◌, ◌++◌, Option, Some, Bool, nat_lt, codes, if◌then◌else◌}
 use Rattle.std.specs.List.{AllByRecursion}
 use Rattle.lsv_wire.specs.Frame.{framed, IsMessage, IsPartial, IsTooLong}
-use Rattle.lsv_serve.specs.Form.{Said, Hello, Accept, Ttyout, Exit, said_of}
+use Rattle.lsv_serve.specs.Form.{Said, Hello, Accept, Ttyout, Exit, Malformed, said_of}
 use Rattle.lsv_serve.specs.Layout.{Output, elapsed}
 use Rattle.lsv_serve.specs.Reply.{Reply, LogId, CommitPoint, Error}
 
@@ -42,6 +42,10 @@ refused text = record { replies = Error text ∷ []; stage = Refused }
 abbrev pub not_built : Outcome
 not_built = refused (codes "not built")
 
+-- what is no message
+abbrev pub malformed : Outcome
+malformed = refused (codes "malformed message")
+
 -- the accept of a session makes log 1, unless a file of it is there
 abbrev pub accepted : Bool → Outcome
 accepted there = if there then not_built else record { replies = LogId (codes "000001") ∷ []; stage = Running [] }
@@ -64,6 +68,7 @@ plainly there Fresh (Some Accept) = accepted there
 plainly there Greeted (Some Accept) = accepted there
 plainly there (Running records) (Some (Ttyout delay bytes)) = taken records delay bytes
 plainly there (Running records) (Some Exit) = finished records
+plainly there stage (Some Malformed) = malformed
 plainly there stage said = not_built
 
 -- a message for which files are made or written: it may meet a device fault

@@ -29,7 +29,7 @@ MayBeThere Tells disk there = Tells → there ≡ log_is_there disk.reads
 -- The story of a run: what was read, what was said, and what the disk holds.
 pub record Story
     (SourceTells SinkTells DiskTells : Type 0)
-    (given_old given_new : List (List ℕ)) (Ended : Type 0)
+    (given_old given_new : List (List ℕ)) (to_come_old to_come_new : List ℕ) (Ended : Type 0)
     (put_old put_new : List ℕ)
     (faults_old faults_new : FileId → ℕ) (disk_old disk_new : DiskState)
     (status : Status) : Type 0 where
@@ -38,12 +38,14 @@ pub record Story
   -- the piece in which memory ran out
   pub lost : List (List ℕ)
   pub given : SourceTells → given_new ≡ given_old ++ pieces ++ lost
+  -- they are the front of what was still to come from the source
+  pub read : SourceTells → to_come_old ≡ concat (pieces ++ lost) ++ to_come_new
   pub none_lost : status ≢ NoMem → lost ≡ []
   pub replies : List Reply
   pub rest : List ℕ
   pub stage : Stage
-  -- the lost piece came while the session wasn't shut, too
-  pub lost_open : (lost ≡ []) ⊎ (IsShut stage → ⊥)
+  -- there is one lost piece or none, and it too came while the session wasn't shut
+  pub lost_open : (lost ≡ []) ⊎ ((piece : List ℕ) × (lost ≡ piece ∷ []) × (IsShut stage → ⊥))
   -- piece by piece
   pub turns : Turns (MayBeThere DiskTells disk_old) (LogFailed faults_old faults_new) [] Fresh pieces replies rest stage
   -- and of the whole text, so that it doesn't matter how it was cut into pieces

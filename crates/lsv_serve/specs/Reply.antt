@@ -1,8 +1,11 @@
 -- What the server says, in canonical bytes (sudo_logsrv.proto(5), the protobuf encoding).
-use Rattle.std.specs.Prelude.{ℕ, ◌/◌, ◌%◌, List, [], ◌++◌, ◌==◌, codes, if◌then◌else◌}
+use Rattle.std.specs.Prelude.{ℕ, pos, ◌/◌, ◌%◌, List, [], ◌++◌, true, codes}
 use Rattle.std.specs.List.{flat_map}
+use Rattle.lsv_base.specs.declared.time.TimeSpec.{TimeSpec}
 use Rattle.lsv_wire.specs.Frame.{frame_of}
-use Rattle.lsv_wire.specs.Fields.{number_field, bytes_field}
+use Rattle.lsv_msg.specs.Messages.{server_bytes}
+use Rattle.lsv_msg.specs.declared.messages.ServerMessage.{ServerMessage}
+use Rattle.lsv_msg.specs.declared.messages.ServerMessage.TheVariants as server
 
 -- a reply to the client
 pub data Reply : Type 0 where
@@ -12,23 +15,27 @@ pub data Reply : Type 0 where
   CommitPoint : (nanos : ℕ) → Reply
   Error : (text : List ℕ) → Reply
 
--- a number of a message, which is left out where it is 0
-abbrev pub scalar_field : ℕ → ℕ → List ℕ
-scalar_field number n = if n == 0 then [] else number_field number n
+-- so many nanoseconds as a time
+abbrev pub time_of : ℕ → TimeSpec
+time_of nanos = record { sec = pos (nanos / 1000000000); nsec = pos (nanos % 1000000000) }
 
--- the TimeSpec of so many nanoseconds
-abbrev pub time_message : ℕ → List ℕ
-time_message nanos = scalar_field 1 (nanos / 1000000000) ++ scalar_field 2 (nanos % 1000000000)
+-- a reply as a message of the server
+abbrev pub message_of : Reply → ServerMessage
+message_of (LogId identifier) = server.LogId identifier
+message_of (CommitPoint nanos) = server.CommitPoint (time_of nanos)
+message_of (Error text) = server.Error text
 
--- the message of a reply
+-- the bytes of a reply
 abbrev pub reply_message : Reply → List ℕ
-reply_message (LogId identifier) = bytes_field 3 identifier
-reply_message (CommitPoint nanos) = bytes_field 2 (time_message nanos)
-reply_message (Error text) = bytes_field 4 text
+reply_message r = server_bytes (message_of r)
 
 -- the server's hello: its name, and that it takes subcommands
+abbrev pub server_hello : ServerMessage
+server_hello = server.Hello (record { server_id = codes "lsv 1"; redirect = []; servers = []; subcommands = true })
+
+-- the bytes of the server's hello
 abbrev pub hello_message : List ℕ
-hello_message = bytes_field 1 (bytes_field 1 (codes "lsv 1") ++ number_field 4 1)
+hello_message = server_bytes server_hello
 
 -- the frames of these replies
 abbrev pub spoken : List Reply → List ℕ

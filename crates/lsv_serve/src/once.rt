@@ -1,13 +1,18 @@
 // The command `once`: one session from a source to a sink, stored as log 1.
-ghost use Rattle.std.specs.Prelude.{◌≡◌, ◌≤◌, ◌<◌, ◌-◌, ◌^◌, ◌++◌, ◌↔◌, ℕ, List, [], None, Some, length, IsTrue, IfNone, IfSome, OnOk, OnErr, codes};
+ghost use Rattle.std.specs.Prelude.{◌≡◌, ◌≢◌, ◌≤◌, ◌<◌, ◌-◌, ◌^◌, ◌++◌, ◌↔◌, ◌⊎◌, ℕ, List, [], None, Some, Err, length, IsTrue, IfErr, IfNone, IfSome, OnOk, OnErr, codes, false};
 ghost use Rattle.lsv_words.specs.Causes.{Rose};
 ghost use Rattle.lsv_words.specs.Pieces.{IsFront};
 ghost use Rattle.lsv_disk.specs.declared.file.FileId.{FileId};
+ghost use Rattle.lsv_serve.specs.Layout.{Output};
+ghost use Rattle.lsv_serve.specs.Reply.{answers, hello_message};
+ghost use Rattle.lsv_serve.specs.Store.{HoldsLayout, log_is_there};
 ghost use Rattle.lsv_serve.specs.Once.{IsOnce, Story};
+ghost use Rattle.lsv_serve.specs.Conversation.{IsConversation, IsUndisturbed, replies_to};
 ghost use Rattle.lsv_serve.specs.Course.{Course};
+ghost use Rattle.lsv_wire.specs.Frame.{frame_of};
 
 use crate::connection::Connection;
-use crate::reply::hello;
+use crate::reply::put_hello;
 use crate::status::Status;
 use lsv_base::{Bytes, List, Sink, SinkFault, Source};
 use lsv_disk::Disk;
@@ -45,17 +50,18 @@ fn serve_piece<S: Source, K: Sink, D: Disk>(
 ) -> Option<Status>
     requires room { 0 < length buf.old }
     requires put { connection.old.replies ≡ [] }
-    requires known { (s : S) × ((k : K) × ((d : D) × Course S.tells K.tells D.tells (S.given s) (S.given source.old) (K.put k) (K.put sink.old)
+    requires known { (s : S) × ((k : K) × ((d : D) × Course S.tells K.tells D.tells (S.given s) (S.given source.old) (S.rest s) (S.rest source.old) (K.put k) (K.put sink.old)
         (D.faults d) (D.faults disk.old) (D.state d) (D.state disk.old) connection.old.framer connection.old.session)) }
     ensures on { IfNone result ((s : S) (k : K) (d : D) →
-        Course S.tells K.tells D.tells (S.given s) (S.given source.old) (K.put k) (K.put sink.old)
+        Course S.tells K.tells D.tells (S.given s) (S.given source.old) (S.rest s) (S.rest source.old) (K.put k) (K.put sink.old)
         (D.faults d) (D.faults disk.old) (D.state d) (D.state disk.old) connection.old.framer connection.old.session →
-        Course S.tells K.tells D.tells (S.given s) (S.given source.new) (K.put k) (K.put sink.new)
+        Course S.tells K.tells D.tells (S.given s) (S.given source.new) (S.rest s) (S.rest source.new) (K.put k) (K.put sink.new)
         (D.faults d) (D.faults disk.new) (D.state d) (D.state disk.new) connection.new.framer connection.new.session) }
     ensures ends { IfSome result (λ status. (s : S) (k : K) (d : D) →
-        Course S.tells K.tells D.tells (S.given s) (S.given source.old) (K.put k) (K.put sink.old)
+        Course S.tells K.tells D.tells (S.given s) (S.given source.old) (S.rest s) (S.rest source.old) (K.put k) (K.put sink.old)
         (D.faults d) (D.faults disk.old) (D.state d) (D.state disk.old) connection.old.framer connection.old.session →
-        Story S.tells K.tells D.tells (S.given s) (S.given source.new) (S.count source.new < 2 ^ 63 - 1 → S.rest source.new ≡ []) (K.put k) (K.put sink.new)
+        Story S.tells K.tells D.tells (S.given s) (S.given source.new) (S.rest s) (S.rest source.new)
+        (S.count source.new < 2 ^ 63 - 1 → S.rest source.new ≡ []) (K.put k) (K.put sink.new)
         (D.faults d) (D.faults disk.new) (D.state d) (D.state disk.new) status) }
     ensures emptied { IfNone result (connection.new.replies ≡ []) }
     ensures progress { IfNone result (S.count source.old < S.count source.new) }
@@ -97,12 +103,13 @@ fn serve<S: Source, K: Sink, D: Disk>(
 ) -> Status
     requires room { 0 < length buf.old }
     requires put { connection.old.replies ≡ [] }
-    requires known { (s : S) × ((k : K) × ((d : D) × Course S.tells K.tells D.tells (S.given s) (S.given source.old) (K.put k) (K.put sink.old)
+    requires known { (s : S) × ((k : K) × ((d : D) × Course S.tells K.tells D.tells (S.given s) (S.given source.old) (S.rest s) (S.rest source.old) (K.put k) (K.put sink.old)
         (D.faults d) (D.faults disk.old) (D.state d) (D.state disk.old) connection.old.framer connection.old.session)) }
     ensures ends { (s : S) (k : K) (d : D) →
-        Course S.tells K.tells D.tells (S.given s) (S.given source.old) (K.put k) (K.put sink.old)
+        Course S.tells K.tells D.tells (S.given s) (S.given source.old) (S.rest s) (S.rest source.old) (K.put k) (K.put sink.old)
         (D.faults d) (D.faults disk.old) (D.state d) (D.state disk.old) connection.old.framer connection.old.session →
-        Story S.tells K.tells D.tells (S.given s) (S.given source.new) (S.count source.new < 2 ^ 63 - 1 → S.rest source.new ≡ []) (K.put k) (K.put sink.new)
+        Story S.tells K.tells D.tells (S.given s) (S.given source.new) (S.rest s) (S.rest source.new)
+        (S.count source.new < 2 ^ 63 - 1 → S.rest source.new ≡ []) (K.put k) (K.put sink.new)
         (D.faults d) (D.faults disk.new) (D.state d) (D.state disk.new) result }
     ensures not_usage { result ≡ Status.Usage → ⊥ }
     ensures read_fault { result ≡ Status.ReadFault → Rose (S.faults source.old) (S.faults source.new) }
@@ -115,6 +122,21 @@ fn serve<S: Source, K: Sink, D: Disk>(
     }
 }
 
+/// Puts the server's hello.
+fn put_server_hello<K: Sink>(alloc: Global, sink: &mut K) -> Result<(), Status>
+    ensures put { K.tells → OnOk result (K.put sink.new ≡ K.put sink.old ++ frame_of hello_message) }
+    ensures failed { K.tells → OnErr result ((front : List ℕ) × IsFront front (frame_of hello_message) × (K.put sink.new ≡ K.put sink.old ++ front)) }
+    ensures faults { K.faults sink.old ≤ K.faults sink.new }
+    ensures status { IfErr result (λ status. (status ≡ Status.NoMem) ⊎ (status ≡ Status.WriteFault)) }
+    ensures write_fault { result ≡ Err Status.WriteFault → Rose (K.faults sink.old) (K.faults sink.new) }
+{
+    let mut hello = Bytes::new(alloc);
+    let Ok(()) = put_hello(alloc, &mut hello) else {
+        return Err(Status::NoMem);
+    };
+    sink.write(hello.as_slice()).map_err(|_| Status::WriteFault)
+}
+
 /// Runs one session, from the hello to its end.
 fn run<S: Source, K: Sink, D: Disk>(
     alloc: Global,
@@ -122,16 +144,18 @@ fn run<S: Source, K: Sink, D: Disk>(
     sink: &mut K,
     disk: &mut D,
 ) -> Status
-    ensures story { Story S.tells K.tells D.tells (S.given source.old) (S.given source.new) (S.count source.new < 2 ^ 63 - 1 → S.rest source.new ≡ []) (K.put sink.old) (K.put sink.new)
+    ensures story { Story S.tells K.tells D.tells (S.given source.old) (S.given source.new) (S.rest source.old) (S.rest source.new)
+        (S.count source.new < 2 ^ 63 - 1 → S.rest source.new ≡ []) (K.put sink.old) (K.put sink.new)
         (D.faults disk.old) (D.faults disk.new) (D.state disk.old) (D.state disk.new) result }
     ensures not_usage { result ≡ Status.Usage → ⊥ }
     ensures read_fault { result ≡ Status.ReadFault → Rose (S.faults source.old) (S.faults source.new) }
     ensures write_fault { result ≡ Status.WriteFault → Rose (K.faults sink.old) (K.faults sink.new) }
 {
     disk.root(STORE, EVENTS);
-    let Ok(()) = sink.write(&hello()) else {
-        return Status::WriteFault;
-    };
+    match put_server_hello(alloc, sink) {
+        Ok(()) => {}
+        Err(status) => return status,
+    }
     let Ok(mut buf) = vec![in alloc; 0u8; PIECE] else {
         return Status::NoMem;
     };
@@ -173,8 +197,14 @@ pub fn logsrvd<S: Source, K: Sink, D: Disk>(
     ensures usage { (result ≡ Status.Usage) ↔ (IsOnce words.now → ⊥) }
     ensures unchanged { result ≡ Status.Usage → out.new ≡ out.old }
     ensures story { IsOnce words.now →
-        Story S.tells K.tells D.tells (S.given out.old.source) (S.given out.new.source) (S.count out.new.source < 2 ^ 63 - 1 → S.rest out.new.source ≡ [])
-        (K.put out.old.sink) (K.put out.new.sink) (D.faults out.old.disk) (D.faults out.new.disk) (D.state out.old.disk) (D.state out.new.disk) result }
+        Story S.tells K.tells D.tells (S.given out.old.source) (S.given out.new.source) (S.rest out.old.source) (S.rest out.new.source)
+        (S.count out.new.source < 2 ^ 63 - 1 → S.rest out.new.source ≡ []) (K.put out.old.sink) (K.put out.new.sink)
+        (D.faults out.old.disk) (D.faults out.new.disk) (D.state out.old.disk) (D.state out.new.disk) result }
+    ensures complete { IsOnce words.now → S.tells → K.tells → D.tells → (records : List Output) → IsConversation (S.rest out.old.source) records →
+        log_is_there (D.state out.old.disk).reads ≡ false →
+        IsUndisturbed (S.faults out.old.source) (S.faults out.new.source) (K.faults out.old.sink) (K.faults out.new.sink) (D.faults out.old.disk) (D.faults out.new.disk) →
+        S.count out.new.source < 2 ^ 63 - 1 → result ≢ Status.NoMem →
+        (result ≡ Status.Served) × (K.put out.new.sink ≡ K.put out.old.sink ++ answers (replies_to records)) × HoldsLayout (D.state out.new.disk) records }
     ensures read_fault { result ≡ Status.ReadFault → Rose (S.faults out.old.source) (S.faults out.new.source) }
     ensures write_fault { result ≡ Status.WriteFault → Rose (K.faults out.old.sink) (K.faults out.new.sink) }
 {

@@ -1,15 +1,18 @@
 // What the server says, put into a buffer as frames.
-ghost use Rattle.std.specs.Prelude.{◌≡◌, ◌++◌, ◌∷◌, [], ◌≤◌, OnOk, IfOk};
+ghost use Rattle.std.specs.Prelude.{◌≡◌, ◌++◌, ◌∷◌, [], OnOk, IfOk};
 ghost use Rattle.lsv_wire.specs.Frame.{frame_of};
-ghost use Rattle.lsv_wire.specs.Fields.{bytes_field};
-ghost use Rattle.lsv_serve.specs.Reply.{hello_message, time_message, scalar_field, spoken};
+ghost use Rattle.lsv_msg.specs.Messages.{server_bytes};
+ghost use Rattle.lsv_serve.specs.Reply.{hello_message, server_hello, message_of, spoken, time_of};
 ghost use Rattle.lsv_serve.specs.ReplyView.{reply_of};
 
-use lsv_base::{Bytes, NoMem};
-use lsv_wire::{LAST_FIELD_NUMBER, frame, put_bytes, put_number};
+use lsv_base::{Bytes, List, NoMem, TimeSpec};
+use lsv_msg::{Boxed, ServerHello, ServerMessage, encode_server};
+use lsv_wire::frame;
 use std::alloc::Global;
 
 const NANOS_PER_SEC: u64 = 1_000_000_000;
+
+const SERVER_ID: &str = "lsv 1";
 
 /// An answer to a message of the client.
 #[derive(Clone, Copy)]
@@ -22,62 +25,62 @@ pub enum Answer<'a> {
     Error(&'a str),
 }
 
-/// The server's hello: it is "lsv 1", and takes subcommands.
-const HELLO: [u8; 15] = *b"\0\0\0\x0b\x0a\x09\x0a\x05lsv 1\x20\x01";
-
-/// The frame of the server's hello.
-pub fn hello() -> [u8; 15]
-    ensures { result ≡ frame_of hello_message }
+/// Puts the frame of the server's hello at the end: its name, and that it takes subcommands.
+pub fn put_hello(alloc: Global, out: &mut Bytes) -> Result<(), NoMem>
+    ensures { OnOk result (out.new ≡ out.old ++ frame_of hello_message) }
 {
-    HELLO
+    put_message(alloc, out, &hello(alloc)?)
+}
+
+fn hello(alloc: Global) -> Result<ServerMessage, NoMem>
+    ensures { IfOk result (λ m. m ≡ server_hello) }
+{
+    let hello = ServerHello {
+        server_id: Bytes::of(alloc, SERVER_ID.as_bytes())?,
+        redirect: Bytes::new(alloc),
+        servers: List::new(alloc),
+        subcommands: true,
+    };
+    Ok(ServerMessage::Hello(Boxed::new(alloc, hello)?))
 }
 
 /// Puts an answer's frame at the end.
 pub fn put_answer(alloc: Global, out: &mut Bytes, answer: Answer<'_>) -> Result<(), NoMem>
     ensures { OnOk result (out.new ≡ out.old ++ spoken (reply_of answer.entry ∷ [])) }
 {
-    match answer {
-        Answer::LogId(identifier) => put_message(alloc, out, 3, identifier.as_bytes()),
-        Answer::CommitPoint(nanos) => {
-            let time = time_bytes(alloc, nanos)?;
-            put_message(alloc, out, 2, time.as_slice())
+    put_message(alloc, out, &answer_message(alloc, answer)?)
+}
+
+fn answer_message(alloc: Global, answer: Answer<'_>) -> Result<ServerMessage, NoMem>
+    ensures { IfOk result (λ m. m ≡ message_of (reply_of answer.entry)) }
+{
+    Ok(match answer {
+        Answer::LogId(identifier) => {
+            ServerMessage::LogId(Bytes::of(alloc, identifier.as_bytes())?)
         }
-        Answer::Error(text) => put_message(alloc, out, 4, text.as_bytes()),
+        Answer::CommitPoint(nanos) => ServerMessage::CommitPoint(time(nanos)),
+        Answer::Error(text) => ServerMessage::Error(Bytes::of(alloc, text.as_bytes())?),
+    })
+}
+
+fn time(nanos: u64) -> TimeSpec
+    ensures { result ≡ time_of nanos }
+{
+    TimeSpec {
+        sec: (nanos / NANOS_PER_SEC) as i64,
+        nsec: (nanos % NANOS_PER_SEC) as i32,
     }
 }
 
-/// Puts the frame of a message of one field at the end.
-fn put_message(alloc: Global, out: &mut Bytes, number: u32, value: &[u8]) -> Result<(), NoMem>
-    requires first { 1 ≤ number }
-    requires last { number ≤ LAST_FIELD_NUMBER }
-    ensures { OnOk result (out.new ≡ out.old ++ frame_of (bytes_field number value.now)) }
+/// Puts the frame of a message at the end. None of the server's messages is too long for a frame.
+fn put_message(alloc: Global, out: &mut Bytes, message: &ServerMessage) -> Result<(), NoMem>
+    ensures { OnOk result (out.new ≡ out.old ++ frame_of (server_bytes message.now)) }
 {
-    let mut message = Bytes::new(alloc);
-    put_bytes(&mut message, number, value)?;
-    match frame(alloc, message.as_slice()) {
+    let Ok(bytes) = encode_server(alloc, message) else {
+        return Err(NoMem);
+    };
+    match frame(alloc, bytes.as_slice()) {
         Ok(framed) => out.add(framed.as_slice()),
         Err(_) => Err(NoMem),
     }
-}
-
-/// The message of a time: seconds and nanoseconds, each left out where it is 0.
-fn time_bytes(alloc: Global, nanos: u64) -> Result<Bytes, NoMem>
-    ensures { IfOk result (λ bytes. bytes ≡ time_message nanos) }
-{
-    let mut bytes = Bytes::new(alloc);
-    put_scalar(&mut bytes, 1, nanos / NANOS_PER_SEC)?;
-    put_scalar(&mut bytes, 2, nanos % NANOS_PER_SEC)?;
-    Ok(bytes)
-}
-
-/// Puts a number of a message at the end, where it isn't 0.
-fn put_scalar(out: &mut Bytes, number: u32, n: u64) -> Result<(), NoMem>
-    requires first { 1 ≤ number }
-    requires last { number ≤ LAST_FIELD_NUMBER }
-    ensures { OnOk result (out.new ≡ out.old ++ scalar_field number n) }
-{
-    if n == 0 {
-        return Ok(());
-    }
-    put_number(out, number, n)
 }

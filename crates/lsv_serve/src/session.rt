@@ -18,6 +18,8 @@ use lsv_base::{Bytes, NoMem};
 use lsv_disk::Disk;
 use std::alloc::Global;
 
+const MALFORMED_MESSAGE: &str = "malformed message";
+
 const NOT_BUILT: &str = "not built";
 
 const DEVICE_FAULT: &str = "device fault";
@@ -153,12 +155,13 @@ impl Session {
         ensures elsewhere { D.tells → Elsewhere IsOfLog (D.state disk.old) (D.state disk.new) }
         ensures counts { (g : FileId) → D.faults disk.old g ≤ D.faults disk.new g }
     {
-        match form_of(message) {
-            Some(Form::Hello) => self.greet(alloc, out),
-            Some(Form::Accept) => self.begin(alloc, disk, out),
-            Some(Form::Ttyout(delay, bytes)) => self.keep(alloc, delay, bytes, out),
-            Some(Form::Exit) => self.end(alloc, disk, out),
-            None => self.refuse(alloc, NOT_BUILT, out),
+        match form_of(alloc, message)? {
+            Form::Hello => self.greet(alloc, out),
+            Form::Accept => self.begin(alloc, disk, out),
+            Form::Ttyout(delay, bytes) => self.keep(alloc, delay, bytes.as_slice(), out),
+            Form::Exit => self.end(alloc, disk, out),
+            Form::Malformed => self.refuse(alloc, MALFORMED_MESSAGE, out),
+            Form::NotBuilt => self.refuse(alloc, NOT_BUILT, out),
         }
     }
 }

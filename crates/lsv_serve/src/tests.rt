@@ -20,6 +20,16 @@ const TTYOUT: FileId = FileId {
 const HELLO: &[u8] = b"\0\0\0\x08\x6a\x06\x0a\x04sudo";
 
 const ACCEPT: &[u8] = b"\0\0\0\x06\x0a\x04\x0a\0\x18\x01";
+/// Of a command without a terminal: sudo sends the key `ttyname` without a value.
+const ACCEPT_WITHOUT_TERMINAL: &[u8] = b"\0\0\0\x0f\x0a\x0d\x12\x09\x0a\x07ttyname\x18\x01";
+
+const ACCEPT_WITHOUT_RECORDS: &[u8] = b"\0\0\0\x04\x0a\x02\x0a\0";
+
+const REJECT: &[u8] = b"\0\0\0\x02\x12\0";
+/// Without a delay.
+const TIMELESS_OUTPUT: &[u8] = b"\0\0\0\x02\x3a\0";
+
+const TWO_HELLOS: &[u8] = b"\0\0\0\x04\x6a\0\x6a\0";
 /// After half a second.
 const OUTPUT: &[u8] = b"\0\0\0\x0e\x3a\x0c\x0a\x06\x10\x80\xca\xb5\xee\x01\x12\x02hi";
 
@@ -37,6 +47,8 @@ const LOG_ID: &[u8] = b"\0\0\0\x08\x1a\x06000001";
 const COMMIT_POINT: &[u8] = b"\0\0\0\x08\x12\x06\x10\x80\xca\xb5\xee\x01";
 
 const NOT_BUILT: &[u8] = b"\0\0\0\x0b\x22\x09not built";
+
+const MALFORMED: &[u8] = b"\0\0\0\x13\x22\x11malformed message";
 
 const TOO_LARGE: &[u8] = b"\0\0\0\x13\x22\x11message too large";
 
@@ -162,8 +174,11 @@ fn what_cannot_be_taken_ends_the_session(rt: HostRuntime) -> Result<(), Fail> {
     for (case, frames, error) in [
         (1, &[HELLO, OUTPUT, EXIT][..], NOT_BUILT),
         (2, &[HELLO, HELLO, ACCEPT][..], NOT_BUILT),
-        (3, &[b"\0\0\0\0", HELLO][..], NOT_BUILT),
-        (4, &[b"\0\x20\0\x01", HELLO][..], TOO_LARGE),
+        (3, &[HELLO, REJECT][..], NOT_BUILT),
+        (4, &[ACCEPT_WITHOUT_RECORDS, OUTPUT][..], NOT_BUILT),
+        (5, &[b"\0\0\0\0", HELLO][..], MALFORMED),
+        (6, &[TWO_HELLOS, ACCEPT][..], MALFORMED),
+        (7, &[b"\0\x20\0\x01", HELLO][..], TOO_LARGE),
     ] {
         let input = joined(rt.alloc(), frames)?;
         let pieces = list_of(rt.alloc(), &[input.as_slice(), HELLO])?;
@@ -189,6 +204,7 @@ fn a_running_session_takes_no_accept_and_no_time_of_two_to_the_63(
         (1, &[ACCEPT, ACCEPT][..]),
         (2, &[ACCEPT, HELLO][..]),
         (3, &[ACCEPT, LATE_OUTPUT, OUTPUT][..]),
+        (4, &[ACCEPT_WITHOUT_TERMINAL, TIMELESS_OUTPUT][..]),
     ] {
         let world = world_of(rt.alloc(), list_of(rt.alloc(), frames)?, NONE)?;
         let answers = &[SERVER_HELLO, LOG_ID, NOT_BUILT][..];
@@ -211,7 +227,7 @@ fn a_frame_of_the_limit_is_a_message_and_a_part_of_one_is_none(
         1,
         world,
         Status::Served,
-        &[SERVER_HELLO, NOT_BUILT],
+        &[SERVER_HELLO, MALFORMED],
     )?;
 
     let pieces = list_of(rt.alloc(), &[b"\0\0\0"])?;
