@@ -6,6 +6,7 @@ DESTDIR ?=
 
 CRATE = crates/sudo_logsrvd
 PROGRAM = $(CRATE)/out/sudo_logsrvd
+MESSAGES = crates/lsv_bench
 
 .PHONY: all build run test bench install clean
 
@@ -22,7 +23,8 @@ test:
 	rt ci
 
 bench: build
-	python3 bench/bench.py $(PROGRAM)
+	cd $(MESSAGES) && rt run -- decode >/dev/null
+	python3 bench/bench.py $(PROGRAM) $(MESSAGES)/out/lsv_bench
 
 install: build
 	install -D -m 755 $(PROGRAM) $(DESTDIR)$(PREFIX)/sbin/sudo_logsrvd

@@ -1,11 +1,13 @@
 #!/usr/bin/env python3
-"""Measures `sudo_logsrvd once` on generated sessions, over a store on /dev/shm.
+"""Measures `sudo_logsrvd once` on generated sessions, over a store on /dev/shm, and the messages alone.
 
-usage: bench.py PROGRAM
+usage: bench.py PROGRAM MESSAGES
 
 For each load it prints the processor time a message, the bytes of input a second, and the peak of
 memory beside what the records themselves take. A tenth of each load is run too: the ratio of the
-processor times shows that the cost is linear.
+processor times shows that the cost is linear. Then come messages of the greatest size that hold as
+many parts as fit, with one of half the size beside each. MESSAGES (lsv_bench) reads and writes one
+message a million times.
 """
 import os
 import resource
@@ -16,6 +18,8 @@ import tempfile
 
 LOADS = [(1_000_000, 10, 0.5), (100_000, 1_000, 1.5)]
 RUNS = 5
+LARGEST = 2_097_152
+CROWDS = [("empty entries", b"\x12\0"), ("entries of the number 0", b"\x12\x02\x10\0")]
 
 
 def varint(n):
@@ -67,28 +71,59 @@ def run(program, path):
         shutil.rmtree(folder)
 
 
-def measure(program, count, size):
+def measured(program, parts, runs=RUNS):
+    """The least processor seconds, the greatest peak of memory, and the bytes of the input."""
     with tempfile.NamedTemporaryFile(dir="/dev/shm") as source:
-        for part in session(count, size):
+        for part in parts:
             source.write(part)
         source.flush()
         length = source.tell()
-        results = [run(program, source.name) for _ in range(RUNS)]
-    seconds = min(r[0] for r in results)
-    memory = max(r[1] for r in results)
-    return seconds, memory, length
+        results = [run(program, source.name) for _ in range(runs)]
+    return min(r[0] for r in results), max(r[1] for r in results), length
 
 
-def main():
-    program = os.path.abspath(sys.argv[1])
+def crowded(part, size):
+    """An accept of at most so many bytes, which holds this part as often as it fits."""
+    room = size - len(field(1, b"x" * size)) + size
+    yield frame(field(1, part * (room // len(part))))
+
+
+def measure_sessions(program):
     for count, size, most in LOADS:
-        small, _, _ = measure(program, count // 10, size)
-        seconds, memory, length = measure(program, count, size)
+        small, _, _ = measured(program, session(count // 10, size))
+        seconds, memory, length = measured(program, session(count, size))
         each = seconds / count * 1e6
         above = (memory - kept(count, size)) / 2**20
         print(f"{count} messages of {size} bytes: {each:.3f} us a message (at most {most}), "
               f"{length / seconds / 1e6:.0f} MB a second, {above:.1f} MiB above the records (at most 64); "
               f"a tenth of them takes 1/{seconds / small:.1f} of the time")
+
+
+def measure_crowds(program):
+    for what, part in CROWDS:
+        half, half_memory, _ = measured(program, crowded(part, LARGEST // 2))
+        seconds, memory, length = measured(program, crowded(part, LARGEST))
+        print(f"a message of {length} bytes, made of {what}: {seconds * 1e3:.1f} ms, {memory / 2**20:.1f} MiB; "
+              f"half of it takes {half * 1e3:.1f} ms, {half_memory / 2**20:.1f} MiB")
+
+
+def measure_messages(messages):
+    for word in ("decode", "encode"):
+        times = []
+        for _ in range(RUNS):
+            child = subprocess.Popen([messages, word], stdout=subprocess.DEVNULL)
+            _, status, usage = os.wait4(child.pid, 0)
+            if status != 0:
+                sys.exit(f"bench: {word} ended with status {status}")
+            times.append(usage.ru_utime + usage.ru_stime)
+        print(f"{word} of terminal output of 10 bytes: {min(times):.3f} us (at most 0.15)")
+
+
+def main():
+    program, messages = (os.path.abspath(it) for it in sys.argv[1:3])
+    measure_sessions(program)
+    measure_crowds(program)
+    measure_messages(messages)
 
 
 if __name__ == "__main__":
