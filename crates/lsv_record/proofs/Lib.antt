@@ -1,0 +1,10 @@
+mod Digits
+mod Layouts
+mod Lengths
+mod Lines
+mod Numerals
+mod Once
+mod Readers
+mod Splits
+mod Times
+mod Told

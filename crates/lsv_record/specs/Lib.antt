@@ -1,0 +1,4 @@
+pub mod Reader
+pub mod Reading
+pub mod Records
+pub mod Spelled
