@@ -1,1 +1,4 @@
 pub mod Info
+pub mod Layout
+pub mod Reading
+pub mod Shown

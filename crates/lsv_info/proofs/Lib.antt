@@ -1,0 +1,9 @@
+mod Back
+mod Counting
+mod Good
+mod Reading
+mod Sorted
+mod Tail
+mod Texts
+mod Utf
+mod Writing
