@@ -214,7 +214,7 @@ module _ (ST KT DT : Type 0) (g0 : List (List ℕ)) (r0 : List ℕ) (p0 : List �
         all_said = λ told _. c.said told;
         served = λ is. cc;
         still_open = λ is. cc;
-        files = λ told n. absurd (n refl);
+        files = λ told none. cc;
         elsewhere = λ told. elsewhere-then _ _ IsOfLog d0 d1 d2 (λ f h. h) (λ f h. h) (come-elsewhere c.stage d0 d1 (c.stands.come told)) (elsewhere told);
       }
 

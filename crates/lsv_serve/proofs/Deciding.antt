@@ -3,7 +3,7 @@ use Rattle.std.proofs.Common.{◌≡◌, inl, inr, ◌++◌, ◌∷◌, [], List
 use Rattle.std.specs.List.{AllByRecursion}
 use Rattle.lsv_wire.specs.Frame.{frame_of, framed, IsMessage}
 use Rattle.lsv_wire.proofs.Streams.{same_message, stop_not_frame, partial_not_long}
-use Rattle.lsv_serve.specs.Form.{Said, said_of}
+use Rattle.lsv_serve.specs.Said.{Said, said_of}
 use Rattle.lsv_serve.specs.Machine.{Stage, IsShut, Outcome, plainly, Brings, Run, Ends, Takes}
 use Rattle.lsv_serve.specs.Reply.{Reply}
 

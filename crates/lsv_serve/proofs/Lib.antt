@@ -1,7 +1,8 @@
-mod Digits
-pub mod Filling
-pub mod Keeping
 pub mod Speaking
+pub mod Judging
+pub mod Filling
+pub mod Filing
+pub mod Keeping
 pub mod Stepping
 pub mod Taking
 pub mod Coursing

@@ -1,18 +1,21 @@
 -- How steps make a run, seen from the start of it.
-use Rattle.std.proofs.Common.{◌≡◌, inl, inr, ◌+◌, ◌≤◌, ◌^◌, ◌++◌, ◌∷◌, [], List, ℕ, Bool, true, false, cond, Option, Some, None, refl, sym, ap, subst, ◌∙◌, append_assoc, append-nil, arith}
-use Rattle.std.specs.Prelude.{nat_lt}
+use Rattle.std.proofs.Common.{◌≡◌, inl, inr, ◌+◌, ◌≤◌, ◌^◌, ◌++◌, ◌∷◌, [], List, ℕ, Bool, true, false, cond, Option, Some, None, Ok, Err, refl, sym, ap, subst, ◌∙◌, append_assoc, append-nil, arith}
+use Rattle.std.specs.Prelude.{nat_lt, codes}
 use Rattle.std.specs.List.{flat_map, AllByRecursion}
 use Rattle.lsv_wire.specs.Frame.{frame_of, framed, IsMessage}
 use Rattle.lsv_disk.specs.State.{DiskState, Elsewhere}
 use Rattle.lsv_disk.specs.declared.file.FileId.{FileId}
 use Rattle.lsv_serve.specs.declared.session.Session.{Session}
-use Rattle.lsv_serve.specs.Form.{Said, Hello, Accept, Ttyout, Exit, Malformed, said_of}
-use Rattle.lsv_serve.specs.Layout.{Output, elapsed}
-use Rattle.lsv_serve.specs.Machine.{Stage, Fresh, Greeted, Running, Stored, Refused, IsShut, Outcome, plainly, quietly, not_built, Brings, Run, Ends, Takes}
+use Rattle.lsv_info.specs.declared.times.Head.{Head}
+use Rattle.lsv_record.specs.Records.{elapsed, delay_of}
+use Rattle.lsv_record.specs.declared.records.Record.{Record}
+use Rattle.lsv_serve.specs.Said.{Said, Hello, Accepted, Recorded, Exited, Malformed, said_of}
+use Rattle.lsv_serve.specs.Machine.{Stage, Fresh, Greeted, Running, Stored, Refused, IsShut, Outcome, plainly, quietly, refused, Brings, Run, Ends, Takes}
 use Rattle.lsv_serve.specs.Once.{MayBeThere}
 use Rattle.lsv_serve.specs.Reply.{Reply, spoken, reply_message}
-use Rattle.lsv_serve.specs.Store.{HasCome, IsOfLog, LogFailed, log_is_there, timing_file, ttyout_file}
-use Rattle.lsv_serve.specs.Steps.{session_at, IsReady, Stands, TakesOne, TakesNone, TakesSome, TakesAll}
+use Rattle.lsv_serve.specs.Store.{HasCome, IsOfLog, LogFailed, log_is_there, log_parts}
+use Rattle.lsv_serve.proofs.Filing.{is-there-same}
+use Rattle.lsv_serve.specs.Steps.{session_at, IsReady, IsReadyFor, Stands, TakesOne, TakesNone, TakesSome, TakesAll}
 
 -- what was touched in either of two stretches
 pub elsewhere-then : (T U V : FileId → Type 0) (a b c : DiskState) → ((f : FileId) → T f → V f) → ((f : FileId) → U f → V f) → Elsewhere T a b → Elsewhere U b c → Elsewhere V a c
@@ -32,110 +35,107 @@ itself V f h = h
 pub come-untouched : (stage : Stage) (a b c : DiskState) → Elsewhere (λ _. ⊥) a b → HasCome stage b c → HasCome stage a c
 come-untouched Fresh a b c x y = elsewhere-then _ _ (λ _. ⊥) a b c (none _) (itself _) x y
 come-untouched Greeted a b c x y = elsewhere-then _ _ (λ _. ⊥) a b c (none _) (itself _) x y
-come-untouched (Running records) a b c x y = (y.0, elsewhere-then _ _ IsOfLog a b c (none _) (itself _) x y.1)
-come-untouched (Stored records) a b c x y = (y.0, elsewhere-then _ _ IsOfLog a b c (none _) (itself _) x y.1)
+come-untouched (Running head records) a b c x y = (y.0, y.1, elsewhere-then _ _ IsOfLog a b c (none _) (itself _) x y.2)
+come-untouched (Stored head records exit) a b c x y = (y.0, y.1, elsewhere-then _ _ IsOfLog a b c (none _) (itself _) x y.2)
 come-untouched Refused a b c x y = elsewhere-then _ _ IsOfLog a b c (none _) (itself _) x y
 
 -- the stages of a session that has its log, or is shut
 abbrev HasLog : Stage → Type 0
 HasLog Fresh = ⊥
 HasLog Greeted = ⊥
-HasLog (Running records) = Unit {0}
-HasLog (Stored records) = Unit {0}
+HasLog (Running head records) = Unit {0}
+HasLog (Stored head records exit) = Unit {0}
 HasLog Refused = Unit {0}
 
 -- a stretch in which the log's files alone were touched goes before another that has the log
 come-touched : (stage : Stage) (a b c : DiskState) → HasLog stage → Elsewhere IsOfLog a b → HasCome stage b c → HasCome stage a c
 come-touched Fresh a b c has x y = absurd has
 come-touched Greeted a b c has x y = absurd has
-come-touched (Running records) a b c has x y = (y.0, elsewhere-then _ _ IsOfLog a b c (itself _) (itself _) x y.1)
-come-touched (Stored records) a b c has x y = (y.0, elsewhere-then _ _ IsOfLog a b c (itself _) (itself _) x y.1)
+come-touched (Running head records) a b c has x y = (y.0, y.1, elsewhere-then _ _ IsOfLog a b c (itself _) (itself _) x y.2)
+come-touched (Stored head records exit) a b c has x y = (y.0, y.1, elsewhere-then _ _ IsOfLog a b c (itself _) (itself _) x y.2)
 come-touched Refused a b c has x y = elsewhere-then _ _ IsOfLog a b c (itself _) (itself _) x y
 
 -- from a running session on the log is there, or the session is shut
-has-log-plainly : (there : Bool) (records : List Output) (said : Option Said) → HasLog (plainly there (Running records) said).stage
-has-log-plainly there records None = tt
-has-log-plainly there records (Some Hello) = tt
-has-log-plainly there records (Some Accept) = tt
-has-log-plainly there records (Some (Ttyout delay bytes)) = by_sum (nat_lt (elapsed records + delay) (2 ^ 63))
+has-log-plainly : (there : Bool) (head : Head) (records : List Record) (said : Option Said) → HasLog (plainly there (Running head records) said).stage
+has-log-plainly there head records None = tt
+has-log-plainly there head records (Some Hello) = tt
+has-log-plainly there head records (Some (Accepted h)) = tt
+has-log-plainly there head records (Some (Recorded (Err why))) = tt
+has-log-plainly there head records (Some (Recorded (Ok r))) = by_sum (nat_lt (elapsed records + delay_of r) (2 ^ 63))
   where
-    by_sum : (b : Bool) → HasLog (cond b (quietly (Running (records ++ record { delay = delay; bytes = bytes } ∷ []))) not_built).stage
+    by_sum : (b : Bool) → HasLog (cond b (quietly (Running head (records ++ r ∷ []))) (refused (codes "log full"))).stage
     by_sum true = tt
     by_sum false = tt
-has-log-plainly there records (Some Exit) = tt
-has-log-plainly there records (Some Malformed) = tt
+has-log-plainly there head records (Some (Exited (Ok exit))) = tt
+has-log-plainly there head records (Some (Exited (Err why))) = tt
+has-log-plainly there head records (Some Malformed) = tt
 
-has-log : (There : Bool → Type 0) (Failed : Type 0) (records : List Output) (said : Option Said) (o : Outcome) → Brings There Failed (Running records) said o → HasLog o.stage
-has-log There Failed records said o (inl (there, may, e)) = subst (λ (w : Outcome). HasLog w.stage) (sym e) (has-log-plainly there records said)
-has-log There Failed records said o (inr (failed, uses, e)) = subst (λ (w : Outcome). HasLog w.stage) (sym e) tt
+has-log : (There : Bool → Type 0) (Failed : Type 0) (head : Head) (records : List Record) (said : Option Said) (o : Outcome) → Brings There Failed (Running head records) said o → HasLog o.stage
+has-log There Failed head records said o (inl (there, may, e)) = subst (λ (w : Outcome). HasLog w.stage) (sym e) (has-log-plainly there head records said)
+has-log There Failed head records said o (inr (failed, uses, e)) = subst (λ (w : Outcome). HasLog w.stage) (sym e) tt
 
 -- the disk comes on from stage to stage
 pub come-on : (There : Bool → Type 0) (Failed : Type 0) (a b c : DiskState) (old : Stage) (said : Option Said) (o : Outcome) → (IsShut old → ⊥) → Brings There Failed old said o → HasCome old a b → HasCome o.stage b c → HasCome o.stage a c
 come-on There Failed a b c Fresh said o n brings x y = come-untouched o.stage a b c x y
 come-on There Failed a b c Greeted said o n brings x y = come-untouched o.stage a b c x y
-come-on There Failed a b c (Running records) said o n brings x y = come-touched o.stage a b c (has-log There Failed records said o brings) x.1 y
-come-on There Failed a b c (Stored records) said o n brings x y = absurd (n tt)
+come-on There Failed a b c (Running head records) said o n brings x y = come-touched o.stage a b c (has-log There Failed head records said o brings) x.2 y
+come-on There Failed a b c (Stored head records exit) said o n brings x y = absurd (n tt)
 come-on There Failed a b c Refused said o n brings x y = absurd (n tt)
 
 -- whether the log is there is the same where nothing was touched
 log-there-same : (a b : DiskState) → Elsewhere (λ _. ⊥) a b → log_is_there b.reads ≡ log_is_there a.reads
-log-there-same a b x =
-    let t = x.same timing_file (λ h. h) in
-    let u = x.same ttyout_file (λ h. h) in
-    rw (t, u) refl
+log-there-same a b x = is-there-same log_parts a.reads b.reads (λ f. x.same f (λ h. h))
 
 -- a step from an earlier disk on
 brings-may : (There There' : Bool → Type 0) (Failed Failed' : Type 0) (old : Stage) (said : Option Said) (o : Outcome) → ((b : Bool) → There b → There' b) → (Failed → Failed') → Brings There Failed old said o → Brings There' Failed' old said o
 brings-may There There' Failed Failed' old said o w f (inl (there, may, e)) = inl (there, w there may, e)
 brings-may There There' Failed Failed' old said o w f (inr (failed, uses, e)) = inr (f failed, uses, e)
 
-plainly-running : (b c : Bool) (records : List Output) (said : Option Said) → plainly b (Running records) said ≡ plainly c (Running records) said
-plainly-running b c records None = refl
-plainly-running b c records (Some Hello) = refl
-plainly-running b c records (Some Accept) = refl
-plainly-running b c records (Some (Ttyout delay bytes)) = refl
-plainly-running b c records (Some Exit) = refl
-plainly-running b c records (Some Malformed) = refl
+plainly-running : (b c : Bool) (head : Head) (records : List Record) (said : Option Said) → plainly b (Running head records) said ≡ plainly c (Running head records) said
+plainly-running b c head records None = refl
+plainly-running b c head records (Some Hello) = refl
+plainly-running b c head records (Some (Accepted h)) = refl
+plainly-running b c head records (Some (Recorded r)) = refl
+plainly-running b c head records (Some (Exited exit)) = refl
+plainly-running b c head records (Some Malformed) = refl
 
-brings-running : (There There' : Bool → Type 0) (Failed Failed' : Type 0) (records : List Output) (said : Option Said) (o : Outcome) (there : Bool) → There' there → (Failed → Failed') → Brings There Failed (Running records) said o → Brings There' Failed' (Running records) said o
-brings-running There There' Failed Failed' records said o there may f (inl (b, m, e)) = inl (there, may, e ∙ plainly-running b there records said)
-brings-running There There' Failed Failed' records said o there may f (inr (failed, uses, e)) = inr (f failed, uses, e)
+brings-running : (There There' : Bool → Type 0) (Failed Failed' : Type 0) (head : Head) (records : List Record) (said : Option Said) (o : Outcome) (there : Bool) → There' there → (Failed → Failed') → Brings There Failed (Running head records) said o → Brings There' Failed' (Running head records) said o
+brings-running There There' Failed Failed' head records said o there may f (inl (b, m, e)) = inl (there, may, e ∙ plainly-running b there head records said)
+brings-running There There' Failed Failed' head records said o there may f (inr (failed, uses, e)) = inr (f failed, uses, e)
 
 pub brings-from-start : (Tells : Type 0) (a b : DiskState) (Failed Failed' : Type 0) (old : Stage) (said : Option Said) (o : Outcome) → (IsShut old → ⊥) → (Tells → HasCome old a b) → (Failed → Failed') → Brings (MayBeThere Tells b) Failed old said o → Brings (MayBeThere Tells a) Failed' old said o
 brings-from-start Tells a b Failed Failed' Fresh said o n x f brings = brings-may _ _ Failed Failed' Fresh said o (λ there may told. may told ∙ log-there-same a b (x told)) f brings
 brings-from-start Tells a b Failed Failed' Greeted said o n x f brings = brings-may _ _ Failed Failed' Greeted said o (λ there may told. may told ∙ log-there-same a b (x told)) f brings
-brings-from-start Tells a b Failed Failed' (Running records) said o n x f brings = brings-running _ _ Failed Failed' records said o (log_is_there a.reads) (λ _. refl) f brings
-brings-from-start Tells a b Failed Failed' (Stored records) said o n x f brings = absurd (n tt)
+brings-from-start Tells a b Failed Failed' (Running head records) said o n x f brings = brings-running _ _ Failed Failed' head records said o (log_is_there a.reads) (λ _. refl) f brings
+brings-from-start Tells a b Failed Failed' (Stored head records exit) said o n x f brings = absurd (n tt)
 brings-from-start Tells a b Failed Failed' Refused said o n x f brings = absurd (n tt)
 
 -- the count of a file rose over a longer stretch
 pub log-failed-later : (a b c : FileId → ℕ) → ((f : FileId) → b f ≤ c f) → LogFailed a b → LogFailed a c
-log-failed-later a b c w (inl rose) = inl (λ h. let k = w timing_file in let r = rose (omega arith) in omega arith)
-log-failed-later a b c w (inr rose) = inr (λ h. let k = w ttyout_file in let r = rose (omega arith) in omega arith)
+log-failed-later a b c w (f, of, rose) = (f, of, λ h. let k = w f in let r = rose (omega arith) in omega arith)
 
 pub log-failed-earlier : (a b c : FileId → ℕ) → ((f : FileId) → a f ≤ b f) → LogFailed b c → LogFailed a c
-log-failed-earlier a b c w (inl rose) = inl (λ h. let k = w timing_file in let r = rose h in omega arith)
-log-failed-earlier a b c w (inr rose) = inr (λ h. let k = w ttyout_file in let r = rose h in omega arith)
+log-failed-earlier a b c w (f, of, rose) = (f, of, λ h. let k = w f in let r = rose h in omega arith)
 
 -- at each stage the log's files alone were touched
 pub come-elsewhere : (stage : Stage) (a b : DiskState) → HasCome stage a b → Elsewhere IsOfLog a b
 come-elsewhere Fresh a b x = record { same = λ f n. x.same f (λ h. h); crash = λ f n c left. x.crash f (λ h. h) c left }
 come-elsewhere Greeted a b x = record { same = λ f n. x.same f (λ h. h); crash = λ f n c left. x.crash f (λ h. h) c left }
-come-elsewhere (Running records) a b x = x.1
-come-elsewhere (Stored records) a b x = x.1
+come-elsewhere (Running head records) a b x = x.2
+come-elsewhere (Stored head records exit) a b x = x.2
 come-elsewhere Refused a b x = x
 
--- the code is ready at each stage
-pub ready-from-come : (stage : Stage) (a b : DiskState) → HasCome stage a b → IsReady (session_at stage) b
+-- the disk is ready at each stage
+pub ready-from-come : (stage : Stage) (a b : DiskState) → HasCome stage a b → IsReady stage b
 ready-from-come Fresh a b x = tt
 ready-from-come Greeted a b x = tt
-ready-from-come (Running records) a b x = x.0
-ready-from-come (Stored records) a b x = tt
+ready-from-come (Running head records) a b x = (x.0, x.1)
+ready-from-come (Stored head records exit) a b x = tt
 ready-from-come Refused a b x = tt
 
 -- what stands is ready
-pub ready-from-stands : (Tells : Type 0) (a b : DiskState) (f g : FileId → ℕ) (stage : Stage) (s : Session) → Stands Tells a b f g stage s → Tells → IsReady s b
-ready-from-stands Tells a b f g stage s stands told = subst (λ x. IsReady x b) (sym stands.at) (ready-from-come stage a b (stands.come told))
+pub ready-from-stands : (Tells : Type 0) (a b : DiskState) (f g : FileId → ℕ) (stage : Stage) (s : Session) → Stands Tells a b f g stage s → IsReadyFor Tells b s
+ready-from-stands Tells a b f g stage s stands = (stage, stands.at, λ told. ready-from-come stage a b (stands.come told))
 
 -- messages and answers at the end of others
 pub spoken-append : (xs ys : List Reply) → spoken (xs ++ ys) ≡ spoken xs ++ spoken ys

@@ -56,6 +56,7 @@ pub record Story
   pub all_said : SinkTells → (status ≡ Served) ⊎ (status ≡ ReadFault) → put_new ≡ put_old ++ answers replies
   pub served : status ≡ Served → IsShut stage ⊎ (SourceTells → Ended)
   pub still_open : status ≡ ReadFault → IsShut stage → ⊥
-  -- the files, and that no other file was touched
-  pub files : DiskTells → status ≢ NoMem → HasCome stage disk_old disk_new
+  -- the files are as the stage says, also where memory ran out later than that
+  pub files : DiskTells → lost ≡ [] → HasCome stage disk_old disk_new
+  -- and no file of another owner was touched
   pub elsewhere : DiskTells → Elsewhere IsOfLog disk_old disk_new

@@ -6,27 +6,29 @@ use Rattle.lsv_disk.specs.State.{DiskState}
 use Rattle.lsv_disk.specs.declared.file.FileId.{FileId}
 use Rattle.lsv_serve.specs.declared.session.Session.{Session}
 use Rattle.lsv_serve.specs.declared.session.Session.TheVariants as session
-use Rattle.lsv_serve.specs.Form.{Said, said_of}
+use Rattle.lsv_serve.specs.Said.{Said, said_of}
 use Rattle.lsv_serve.specs.Staged.{staged}
 use Rattle.lsv_serve.specs.Reply.{Reply, spoken}
 use Rattle.lsv_serve.specs.Machine.{Stage, Fresh, Greeted, Running, Stored, Refused, Outcome, plainly, UsesDevice, Brings, IsShut, Ends, Takes, Run}
-use Rattle.lsv_serve.specs.Store.{HoldsLayout, HasCome, LogFailed}
+use Rattle.lsv_serve.specs.Store.{HoldsHead, HoldsLayout, HasCome, LogFailed}
 use Rattle.lsv_serve.specs.Once.{MayBeThere}
 
 -- the session at a stage
 abbrev pub session_at : Stage → Session
 session_at Fresh = session.Fresh
 session_at Greeted = session.Greeted
-session_at (Running records) = session.Running (staged records)
-session_at (Stored records) = session.Shut
+session_at (Running head records) = session.Running (staged records)
+session_at (Stored head records exit) = session.Shut
 session_at Refused = session.Shut
 
--- the files of log 1 are empty while the session runs
-abbrev pub IsReady : Session → DiskState → Type 0
-IsReady session.Fresh disk = Unit {0}
-IsReady session.Greeted disk = Unit {0}
-IsReady (session.Running output) disk = HoldsLayout disk []
-IsReady session.Shut disk = Unit {0}
+-- while the session runs, log 1 has its head, and its other files are empty
+abbrev pub IsReady : Stage → DiskState → Type 0
+IsReady (Running head records) disk = HoldsHead disk head × HoldsLayout disk [] []
+IsReady stage disk = Unit {0}
+
+-- the session is at a stage for which the disk is ready
+abbrev pub IsReadyFor : Type 0 → DiskState → Session → Type 0
+IsReadyFor DiskTells disk session = (stage : Stage) × (session ≡ session_at stage) × (DiskTells → IsReady stage disk)
 
 -- the code answered a message that uses no device
 pub record Quietly (old : Stage) (said : Option Said) (session_new : Session) (out_old out_new : List ℕ) : Type 0 where

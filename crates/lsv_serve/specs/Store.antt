@@ -1,49 +1,82 @@
 -- What the store holds of the session at each stage.
-use Rattle.std.specs.Prelude.{ℕ, ◌≡◌, ◌⊎◌, List, [], Some, Bool, ◌||◌, is_some}
+use Rattle.std.specs.Prelude.{ℕ, ◌≡◌, List, [], ◌∷◌, Some, Bool, false, is_some, ◌||◌}
 use Rattle.lsv_words.specs.Causes.{Rose}
 use Rattle.lsv_disk.specs.declared.file.FileId.{FileId}
+use Rattle.lsv_disk.specs.declared.file.Part.{Part}
 use Rattle.lsv_disk.specs.declared.file.Owner.TheVariants.{Log}
 use Rattle.lsv_disk.specs.declared.file.Part.TheVariants as part
 use Rattle.lsv_disk.specs.State.{DiskState, Image, Only, Elsewhere}
-use Rattle.lsv_serve.specs.Layout.{Output, timing_of, ttyout_data}
+use Rattle.lsv_info.specs.Layout.{head_text, exit_text}
+use Rattle.lsv_info.specs.declared.times.Head.{Head}
+use Rattle.lsv_record.specs.Records.{timing_of, stream_of}
+use Rattle.lsv_record.specs.declared.laid.Laid.{Laid}
+use Rattle.lsv_record.specs.declared.records.Record.{Record}
+use Rattle.lsv_record.specs.declared.records.Stream.TheVariants as stream
 use Rattle.lsv_serve.specs.Machine.{Stage, Fresh, Greeted, Running, Stored, Refused}
 
--- the two files of log 1
-abbrev pub timing_file : FileId
-timing_file = record { owner = Log 1; part = part.Timing }
+-- a file of log 1
+abbrev pub log_file : Part → FileId
+log_file p = record { owner = Log 1; part = p }
 
-abbrev pub ttyout_file : FileId
-ttyout_file = record { owner = Log 1; part = part.Ttyout }
+-- the files that a log has: its head, its exit, the lines of timing, and the five streams
+abbrev pub log_parts : List Part
+log_parts = part.Head ∷ part.Exit ∷ part.Timing ∷ part.Stdin ∷ part.Stdout ∷ part.Stderr ∷ part.Ttyin ∷ part.Ttyout ∷ []
 
+-- log 1 is the file's owner
 abbrev pub IsOfLog : FileId → Type 0
-IsOfLog file = (file ≡ timing_file) ⊎ (file ≡ ttyout_file)
+IsOfLog file = file.owner ≡ Log 1
+
+-- one of these files of log 1 is there
+abbrev pub is_there : List Part → Image → Bool
+is_there [] reads = false
+is_there (p ∷ parts) reads = is_some (reads (log_file p)) || is_there parts reads
 
 -- a file of log 1 is there
 abbrev pub log_is_there : Image → Bool
-log_is_there reads = is_some (reads timing_file) || is_some (reads ttyout_file)
+log_is_there reads = is_there log_parts reads
 
 -- a device call on a file of log 1 failed
 abbrev pub LogFailed : (before now : FileId → ℕ) → Type 0
-LogFailed before now = Rose (before timing_file) (now timing_file) ⊎ Rose (before ttyout_file) (now ttyout_file)
+LogFailed before now = (file : FileId) × IsOfLog file × Rose (before file) (now file)
 
 -- a file reads as these bytes, and a stop of the machine leaves just them
 pub record Holds (disk : DiskState) (file : FileId) (bytes : List ℕ) : Type 0 where
   pub reads : disk.reads file ≡ Some bytes
   pub durable : Only (Some bytes) (disk.may_leave file)
 
--- the two files of log 1 hold these texts
-pub record HoldsTexts (disk : DiskState) (lines output : List ℕ) : Type 0 where
-  pub timing : Holds disk timing_file lines
-  pub ttyout : Holds disk ttyout_file output
+-- log 1 holds this text of its exit, and this layout of records, whatever a stop of the machine leaves
+pub record HoldsLaid (disk : DiskState) (exit : List ℕ) (laid : Laid) : Type 0 where
+  pub exit_is : Holds disk (log_file part.Exit) exit
+  pub timing_is : Holds disk (log_file part.Timing) laid.timing
+  pub stdin_is : Holds disk (log_file part.Stdin) laid.stdin
+  pub stdout_is : Holds disk (log_file part.Stdout) laid.stdout
+  pub stderr_is : Holds disk (log_file part.Stderr) laid.stderr
+  pub ttyin_is : Holds disk (log_file part.Ttyin) laid.ttyin
+  pub ttyout_is : Holds disk (log_file part.Ttyout) laid.ttyout
 
--- log 1 holds the layout of these records, whatever a stop of the machine leaves
-abbrev pub HoldsLayout : DiskState → List Output → Type 0
-HoldsLayout disk records = HoldsTexts disk (timing_of records) (ttyout_data records)
+-- the layout of these records
+abbrev pub layout_of : List Record → Laid
+layout_of records = record {
+  timing = timing_of records;
+  stdin = stream_of stream.Stdin records;
+  stdout = stream_of stream.Stdout records;
+  stderr = stream_of stream.Stderr records;
+  ttyin = stream_of stream.Ttyin records;
+  ttyout = stream_of stream.Ttyout records;
+}
+
+-- log 1 holds this text of its exit, and the layout of these records
+abbrev pub HoldsLayout : DiskState → List ℕ → List Record → Type 0
+HoldsLayout disk exit records = HoldsLaid disk exit (layout_of records)
+
+-- log 1 holds the text of this head
+abbrev pub HoldsHead : DiskState → Head → Type 0
+HoldsHead disk head = Holds disk (log_file part.Head) (head_text head)
 
 -- what the disk has come to at a stage
 abbrev pub HasCome : Stage → DiskState → DiskState → Type 0
 HasCome Fresh old new = Elsewhere (λ _. ⊥) old new
 HasCome Greeted old new = Elsewhere (λ _. ⊥) old new
-HasCome (Running records) old new = HoldsLayout new [] × Elsewhere IsOfLog old new
-HasCome (Stored records) old new = HoldsLayout new records × Elsewhere IsOfLog old new
+HasCome (Running head records) old new = HoldsHead new head × HoldsLayout new [] [] × Elsewhere IsOfLog old new
+HasCome (Stored head records exit) old new = HoldsHead new head × HoldsLayout new (exit_text exit) records × Elsewhere IsOfLog old new
 HasCome Refused old new = Elsewhere IsOfLog old new

@@ -2,11 +2,10 @@
 #![tactic(auto)]
 
 mod connection;
-mod form;
+mod judge;
 mod laws;
 mod log;
 mod once;
-mod output;
 mod reply;
 mod session;
 mod staged;

@@ -3,9 +3,12 @@ ghost use Rattle.std.specs.Prelude.{◌≡◌, ◌≢◌, ◌≤◌, ◌<◌, �
 ghost use Rattle.lsv_words.specs.Causes.{Rose};
 ghost use Rattle.lsv_words.specs.Pieces.{IsFront};
 ghost use Rattle.lsv_disk.specs.declared.file.FileId.{FileId};
-ghost use Rattle.lsv_serve.specs.Layout.{Output};
+ghost use Rattle.lsv_info.specs.Layout.{exit_text};
+ghost use Rattle.lsv_info.specs.declared.times.Exit.{Exit};
+ghost use Rattle.lsv_info.specs.declared.times.Head.{Head};
+ghost use Rattle.lsv_record.specs.declared.records.Record.{Record};
 ghost use Rattle.lsv_serve.specs.Reply.{answers, hello_message};
-ghost use Rattle.lsv_serve.specs.Store.{HoldsLayout, log_is_there};
+ghost use Rattle.lsv_serve.specs.Store.{HoldsHead, HoldsLayout, log_is_there};
 ghost use Rattle.lsv_serve.specs.Once.{IsOnce, Story};
 ghost use Rattle.lsv_serve.specs.Conversation.{IsConversation, IsUndisturbed, replies_to};
 ghost use Rattle.lsv_serve.specs.Course.{Course};
@@ -188,7 +191,7 @@ fn asks_once(words: &List<Bytes>) -> bool
 }
 
 /// `sudo_logsrvd`, behind its name. The command `once` reads the frames of one session of a client, answers
-/// them, and stores the terminal output of the session as log 1.
+/// them, and stores the session as log 1: its head, its records, and its exit.
 pub fn logsrvd<S: Source, K: Sink, D: Disk>(
     alloc: Global,
     words: &List<Bytes>,
@@ -200,11 +203,11 @@ pub fn logsrvd<S: Source, K: Sink, D: Disk>(
         Story S.tells K.tells D.tells (S.given out.old.source) (S.given out.new.source) (S.rest out.old.source) (S.rest out.new.source)
         (S.count out.new.source < 2 ^ 63 - 1 → S.rest out.new.source ≡ []) (K.put out.old.sink) (K.put out.new.sink)
         (D.faults out.old.disk) (D.faults out.new.disk) (D.state out.old.disk) (D.state out.new.disk) result }
-    ensures complete { IsOnce words.now → S.tells → K.tells → D.tells → (records : List Output) → IsConversation (S.rest out.old.source) records →
+    ensures complete { IsOnce words.now → S.tells → K.tells → D.tells → (head : Head) (records : List Record) (exit : Exit) → IsConversation (S.rest out.old.source) head records exit →
         log_is_there (D.state out.old.disk).reads ≡ false →
         IsUndisturbed (S.faults out.old.source) (S.faults out.new.source) (K.faults out.old.sink) (K.faults out.new.sink) (D.faults out.old.disk) (D.faults out.new.disk) →
         S.count out.new.source < 2 ^ 63 - 1 → result ≢ Status.NoMem →
-        (result ≡ Status.Served) × (K.put out.new.sink ≡ K.put out.old.sink ++ answers (replies_to records)) × HoldsLayout (D.state out.new.disk) records }
+        (result ≡ Status.Served) × (K.put out.new.sink ≡ K.put out.old.sink ++ answers (replies_to records)) × HoldsHead (D.state out.new.disk) head × HoldsLayout (D.state out.new.disk) (exit_text exit) records }
     ensures read_fault { result ≡ Status.ReadFault → Rose (S.faults out.old.source) (S.faults out.new.source) }
     ensures write_fault { result ≡ Status.WriteFault → Rose (K.faults out.old.sink) (K.faults out.new.sink) }
 {

@@ -1,26 +1,31 @@
 // One session: what each message does to it, and to the disk.
-ghost use Rattle.std.specs.Prelude.{◌≡◌, ◌≤◌, ◌++◌, ◌↔◌, ◌∷◌, [], Some, IsTrue, OnOk};
+ghost use Rattle.std.specs.Prelude.{◌≡◌, ◌≤◌, ◌++◌, ◌↔◌, ◌⊎◌, ◌∷◌, [], Some, Ok, Err, IsTrue, OnOk, option_map};
 ghost use Rattle.lsv_disk.specs.declared.file.FileId.{FileId};
 ghost use Rattle.lsv_disk.specs.State.{Elsewhere};
-ghost use Rattle.lsv_serve.specs.Form.{Hello, Accept, Exit, Ttyout, said_of};
+ghost use Rattle.lsv_serve.specs.Said.{Hello, Accepted, Exited, Recorded, accept_said, exit_of, record_in, said_by, said_of};
 ghost use Rattle.lsv_serve.specs.Machine.{Stage, IsShut};
 ghost use Rattle.lsv_serve.specs.Machine as machine;
 ghost use Rattle.lsv_serve.specs.Reply.{Error, spoken};
 ghost use Rattle.lsv_serve.specs.Store.{IsOfLog, LogFailed};
 ghost use Rattle.lsv_serve.specs.Once.{MayBeThere};
-ghost use Rattle.lsv_serve.specs.Steps.{session_at, IsReady, Quietly, Steps};
+ghost use Rattle.lsv_serve.specs.Steps.{session_at, IsReady, IsReadyFor, Quietly, Steps};
 
-use crate::form::{Form, form_of};
+use crate::judge::{Refusal, exit_of, head_of, read_message, record_in};
 use crate::log::make_log;
 use crate::reply::{Answer, put_answer};
 use crate::staged::Staged;
 use lsv_base::{Bytes, NoMem};
 use lsv_disk::Disk;
+use lsv_info::{Exit, Head, write_exit, write_head};
+use lsv_msg::{AcceptMessage, ClientMessage, ExitMessage};
+use lsv_record::Record;
 use std::alloc::Global;
 
 const MALFORMED_MESSAGE: &str = "malformed message";
 
 const NOT_BUILT: &str = "not built";
+
+const LOG_FULL: &str = "log full";
 
 const DEVICE_FAULT: &str = "device fault";
 
@@ -29,7 +34,7 @@ const DEVICE_FAULT: &str = "device fault";
 pub enum Session {
     Fresh,
     Greeted,
-    /// Its log is made, and its output is kept for the exit.
+    /// Its log is made, and its records are kept for the exit.
     Running(Staged),
     /// It takes nothing more.
     Shut,
@@ -40,6 +45,13 @@ impl Session {
         ensures { (stage : Stage) → self.now ≡ session_at stage → (IsTrue result ↔ IsShut stage) }
     {
         matches!(self, Session::Shut)
+    }
+
+    /// Whether an accept may come.
+    fn may_begin(&self) -> bool
+        ensures { IsTrue result ↔ ((self.now ≡ Session.Fresh) ⊎ (self.now ≡ Session.Greeted)) }
+    {
+        matches!(self, Session::Fresh | Session::Greeted)
     }
 
     /// Answers an error, with which the session ends.
@@ -64,49 +76,83 @@ impl Session {
         }
     }
 
-    /// Takes terminal output.
-    fn keep(
+    /// Refuses an accept for what is in it, where one may come at all.
+    fn refuse_accept(
         &mut self,
         alloc: Global,
-        delay: u64,
-        bytes: &[u8],
+        why: Refusal,
         out: &mut Bytes,
     ) -> Result<(), NoMem>
-        ensures { OnOk result ((old : Stage) → self.old ≡ session_at old → Quietly old (Some (Ttyout delay bytes.now)) self.new out.old out.new) }
+        ensures { OnOk result ((old : Stage) → self.old ≡ session_at old → Quietly old (Some (Accepted (Err why))) self.new out.old out.new) }
     {
-        let kept = match self {
-            Session::Running(output) => output.keep(delay, bytes)?,
-            _ => false,
+        let text = if self.may_begin() {
+            why.text()
+        } else {
+            NOT_BUILT
         };
-        if kept {
-            return Ok(());
-        }
-        self.refuse(alloc, NOT_BUILT, out)
+        self.refuse(alloc, text, out)
     }
 
     /// Takes an accept.
-    fn begin<D: Disk>(&mut self, alloc: Global, disk: &mut D, out: &mut Bytes) -> Result<(), NoMem>
+    fn begin<D: Disk>(
+        &mut self,
+        alloc: Global,
+        disk: &mut D,
+        accept: AcceptMessage,
+        out: &mut Bytes,
+    ) -> Result<(), NoMem>
         ensures step { OnOk result ((old : Stage) → self.old ≡ session_at old →
             Steps (MayBeThere D.tells (D.state disk.old)) (LogFailed (D.faults disk.old) (D.faults disk.new)) D.tells
-            (D.state disk.old) (D.state disk.new) old (Some Accept) self.new out.old out.new) }
+            (D.state disk.old) (D.state disk.new) old (accept_said accept) self.new out.old out.new) }
         ensures elsewhere { D.tells → Elsewhere IsOfLog (D.state disk.old) (D.state disk.new) }
         ensures counts { (g : FileId) → D.faults disk.old g ≤ D.faults disk.new g }
     {
-        match self {
-            Session::Fresh | Session::Greeted => self.accept(alloc, disk, out),
-            _ => self.refuse(alloc, NOT_BUILT, out),
+        if !accept.expect_iobufs {
+            return self.refuse(alloc, NOT_BUILT, out);
+        }
+        match head_of(accept) {
+            Ok(head) => self.accept(alloc, disk, &head, out),
+            Err(why) => self.refuse_accept(alloc, why, out),
         }
     }
 
-    /// Takes an accept that begins the session: it makes log 1.
-    fn accept<D: Disk>(&mut self, alloc: Global, disk: &mut D, out: &mut Bytes) -> Result<(), NoMem>
-        ensures step { OnOk result ((old : Stage) → machine.UsesDevice old (Some Accept) →
+    /// Takes an accept in which nothing is refused.
+    fn accept<D: Disk>(
+        &mut self,
+        alloc: Global,
+        disk: &mut D,
+        head: &Head,
+        out: &mut Bytes,
+    ) -> Result<(), NoMem>
+        ensures step { OnOk result ((old : Stage) → self.old ≡ session_at old →
             Steps (MayBeThere D.tells (D.state disk.old)) (LogFailed (D.faults disk.old) (D.faults disk.new)) D.tells
-            (D.state disk.old) (D.state disk.new) old (Some Accept) self.new out.old out.new) }
+            (D.state disk.old) (D.state disk.new) old (Some (Accepted (Ok head.now))) self.new out.old out.new) }
         ensures elsewhere { D.tells → Elsewhere IsOfLog (D.state disk.old) (D.state disk.new) }
         ensures counts { (g : FileId) → D.faults disk.old g ≤ D.faults disk.new g }
     {
-        let Ok(there) = make_log(disk) else {
+        if self.may_begin() {
+            self.make(alloc, disk, head, out)
+        } else {
+            self.refuse(alloc, NOT_BUILT, out)
+        }
+    }
+
+    /// Begins the session: it makes log 1.
+    fn make<D: Disk>(
+        &mut self,
+        alloc: Global,
+        disk: &mut D,
+        head: &Head,
+        out: &mut Bytes,
+    ) -> Result<(), NoMem>
+        ensures step { OnOk result ((old : Stage) → machine.UsesDevice old (Some (Accepted (Ok head.now))) →
+            Steps (MayBeThere D.tells (D.state disk.old)) (LogFailed (D.faults disk.old) (D.faults disk.new)) D.tells
+            (D.state disk.old) (D.state disk.new) old (Some (Accepted (Ok head.now))) self.new out.old out.new) }
+        ensures elsewhere { D.tells → Elsewhere IsOfLog (D.state disk.old) (D.state disk.new) }
+        ensures counts { (g : FileId) → D.faults disk.old g ≤ D.faults disk.new g }
+    {
+        let text = write_head(alloc, head)?;
+        let Ok(there) = make_log(disk, text.as_slice()) else {
             return self.refuse(alloc, DEVICE_FAULT, out);
         };
         if there {
@@ -117,17 +163,76 @@ impl Session {
         Ok(())
     }
 
+    /// Refuses a record or an exit for what is in it, where one may come at all.
+    fn refuse_running(
+        &mut self,
+        alloc: Global,
+        why: Refusal,
+        out: &mut Bytes,
+    ) -> Result<(), NoMem>
+        ensures of_record { OnOk result ((old : Stage) → self.old ≡ session_at old → Quietly old (Some (Recorded (Err why))) self.new out.old out.new) }
+        ensures of_exit { OnOk result ((old : Stage) → self.old ≡ session_at old → Quietly old (Some (Exited (Err why))) self.new out.old out.new) }
+    {
+        let text = match self {
+            Session::Running(_) => why.text(),
+            _ => NOT_BUILT,
+        };
+        self.refuse(alloc, text, out)
+    }
+
+    /// Takes a record in which nothing is refused.
+    fn keep(&mut self, alloc: Global, r: &Record, out: &mut Bytes) -> Result<(), NoMem>
+        ensures { OnOk result ((old : Stage) → self.old ≡ session_at old → Quietly old (Some (Recorded (Ok r.now))) self.new out.old out.new) }
+    {
+        let kept = match self {
+            Session::Running(staged) => staged.keep(r)?,
+            _ => return self.refuse(alloc, NOT_BUILT, out),
+        };
+        if kept {
+            return Ok(());
+        }
+        self.refuse(alloc, LOG_FULL, out)
+    }
+
     /// Takes an exit.
-    fn end<D: Disk>(&mut self, alloc: Global, disk: &mut D, out: &mut Bytes) -> Result<(), NoMem>
-        requires ready { D.tells → IsReady self.old (D.state disk.old) }
-        ensures step { OnOk result ((old : Stage) → self.old ≡ session_at old →
+    fn end<D: Disk>(
+        &mut self,
+        alloc: Global,
+        disk: &mut D,
+        exit: ExitMessage,
+        out: &mut Bytes,
+    ) -> Result<(), NoMem>
+        requires ready { IsReadyFor D.tells (D.state disk.old) self.old }
+        ensures step { OnOk result ((old : Stage) → self.old ≡ session_at old → (D.tells → IsReady old (D.state disk.old)) →
             Steps (MayBeThere D.tells (D.state disk.old)) (LogFailed (D.faults disk.old) (D.faults disk.new)) D.tells
-            (D.state disk.old) (D.state disk.new) old (Some Exit) self.new out.old out.new) }
+            (D.state disk.old) (D.state disk.new) old (Some (Exited (exit_of exit))) self.new out.old out.new) }
         ensures elsewhere { D.tells → Elsewhere IsOfLog (D.state disk.old) (D.state disk.new) }
         ensures counts { (g : FileId) → D.faults disk.old g ≤ D.faults disk.new g }
     {
+        match exit_of(exit) {
+            Ok(exit) => self.finish(alloc, disk, &exit, out),
+            Err(why) => self.refuse_running(alloc, why, out),
+        }
+    }
+
+    /// Takes an exit in which nothing is refused.
+    fn finish<D: Disk>(
+        &mut self,
+        alloc: Global,
+        disk: &mut D,
+        exit: &Exit,
+        out: &mut Bytes,
+    ) -> Result<(), NoMem>
+        requires ready { IsReadyFor D.tells (D.state disk.old) self.old }
+        ensures step { OnOk result ((old : Stage) → self.old ≡ session_at old → (D.tells → IsReady old (D.state disk.old)) →
+            Steps (MayBeThere D.tells (D.state disk.old)) (LogFailed (D.faults disk.old) (D.faults disk.new)) D.tells
+            (D.state disk.old) (D.state disk.new) old (Some (Exited (Ok exit.now))) self.new out.old out.new) }
+        ensures elsewhere { D.tells → Elsewhere IsOfLog (D.state disk.old) (D.state disk.new) }
+        ensures counts { (g : FileId) → D.faults disk.old g ≤ D.faults disk.new g }
+    {
+        let text = write_exit(alloc, exit)?;
         let stored = match self {
-            Session::Running(output) => output.store(disk),
+            Session::Running(staged) => staged.store(disk, text.as_slice()),
             _ => return self.refuse(alloc, NOT_BUILT, out),
         };
         match stored {
@@ -140,6 +245,45 @@ impl Session {
         }
     }
 
+    /// Takes a message of another form than those that have a call of their own.
+    fn take_other(
+        &mut self,
+        alloc: Global,
+        message: ClientMessage,
+        out: &mut Bytes,
+    ) -> Result<(), NoMem>
+        ensures { OnOk result ((old : Stage) → self.old ≡ session_at old → Quietly old (option_map Recorded (record_in message)) self.new out.old out.new) }
+    {
+        match record_in(message) {
+            Some(Ok(r)) => self.keep(alloc, &r, out),
+            Some(Err(why)) => self.refuse_running(alloc, why, out),
+            None => self.refuse(alloc, NOT_BUILT, out),
+        }
+    }
+
+    /// Takes what was read of a message.
+    fn hear<D: Disk>(
+        &mut self,
+        alloc: Global,
+        disk: &mut D,
+        message: ClientMessage,
+        out: &mut Bytes,
+    ) -> Result<(), NoMem>
+        requires ready { IsReadyFor D.tells (D.state disk.old) self.old }
+        ensures step { OnOk result ((old : Stage) → self.old ≡ session_at old → (D.tells → IsReady old (D.state disk.old)) →
+            Steps (MayBeThere D.tells (D.state disk.old)) (LogFailed (D.faults disk.old) (D.faults disk.new)) D.tells
+            (D.state disk.old) (D.state disk.new) old (said_by message) self.new out.old out.new) }
+        ensures elsewhere { D.tells → Elsewhere IsOfLog (D.state disk.old) (D.state disk.new) }
+        ensures counts { (g : FileId) → D.faults disk.old g ≤ D.faults disk.new g }
+    {
+        match message {
+            ClientMessage::Hello(_hello) => self.greet(alloc, out),
+            ClientMessage::Accept(accept) => self.begin(alloc, disk, accept.into_inner(), out),
+            ClientMessage::Exit(exit) => self.end(alloc, disk, exit.into_inner(), out),
+            other => self.take_other(alloc, other, out),
+        }
+    }
+
     /// Takes a message, and puts what the session answers at the end of `out`.
     pub fn take<D: Disk>(
         &mut self,
@@ -148,20 +292,16 @@ impl Session {
         message: &[u8],
         out: &mut Bytes,
     ) -> Result<(), NoMem>
-        requires ready { D.tells → IsReady self.old (D.state disk.old) }
-        ensures step { OnOk result ((old : Stage) → self.old ≡ session_at old →
+        requires ready { IsReadyFor D.tells (D.state disk.old) self.old }
+        ensures step { OnOk result ((old : Stage) → self.old ≡ session_at old → (D.tells → IsReady old (D.state disk.old)) →
             Steps (MayBeThere D.tells (D.state disk.old)) (LogFailed (D.faults disk.old) (D.faults disk.new)) D.tells
             (D.state disk.old) (D.state disk.new) old (said_of message.now) self.new out.old out.new) }
         ensures elsewhere { D.tells → Elsewhere IsOfLog (D.state disk.old) (D.state disk.new) }
         ensures counts { (g : FileId) → D.faults disk.old g ≤ D.faults disk.new g }
     {
-        match form_of(alloc, message)? {
-            Form::Hello => self.greet(alloc, out),
-            Form::Accept => self.begin(alloc, disk, out),
-            Form::Ttyout(delay, bytes) => self.keep(alloc, delay, bytes.as_slice(), out),
-            Form::Exit => self.end(alloc, disk, out),
-            Form::Malformed => self.refuse(alloc, MALFORMED_MESSAGE, out),
-            Form::NotBuilt => self.refuse(alloc, NOT_BUILT, out),
+        match read_message(alloc, message)? {
+            Some(message) => self.hear(alloc, disk, message, out),
+            None => self.refuse(alloc, MALFORMED_MESSAGE, out),
         }
     }
 }

@@ -7,52 +7,165 @@ use std::alloc::Global;
 use std::process::Abort;
 use std::test::Fail;
 
-const TIMING: FileId = FileId {
-    owner: Owner::Log(1),
-    part: Part::Timing,
-};
+const HELLO: &[u8] = b"\0\0\0\x08j\x06\x0a\x04sudo";
 
-const TTYOUT: FileId = FileId {
-    owner: Owner::Log(1),
-    part: Part::Ttyout,
-};
+const ACCEPT: &[u8] = b"\
+      \0\0\0R\x0aP\x0a\0\x12\x12\x0a\x07command\x1a\x07/bin/ls\x12\x0f\x0a\x07runuser\x1a\
+      \x04root\x12\x11\x0a\x0asubmituser\x1a\x03ann\x12\x12\x0a\x0asubmithost\x1a\x04web1\
+      \x18\x01";
 
-const HELLO: &[u8] = b"\0\0\0\x08\x6a\x06\x0a\x04sudo";
-
-const ACCEPT: &[u8] = b"\0\0\0\x06\x0a\x04\x0a\0\x18\x01";
 /// Of a command without a terminal: sudo sends the key `ttyname` without a value.
-const ACCEPT_WITHOUT_TERMINAL: &[u8] = b"\0\0\0\x0f\x0a\x0d\x12\x09\x0a\x07ttyname\x18\x01";
+const ACCEPT_WITHOUT_TERMINAL: &[u8] = b"\
+      \0\0\0]\x0a[\x0a\0\x12\x12\x0a\x07command\x1a\x07/bin/ls\x12\x0f\x0a\x07runuser\x1a\
+      \x04root\x12\x11\x0a\x0asubmituser\x1a\x03ann\x12\x12\x0a\x0asubmithost\x1a\x04web1\
+      \x12\x09\x0a\x07ttyname\x18\x01";
 
-const ACCEPT_WITHOUT_RECORDS: &[u8] = b"\0\0\0\x04\x0a\x02\x0a\0";
+/// Its `runargv` has the one byte FF.
+const ACCEPT_OF_NO_UTF8: &[u8] = b"\
+      \0\0\0b\x0a`\x0a\0\x12\x12\x0a\x07command\x1a\x07/bin/ls\x12\x0f\x0a\x07runuser\x1a\
+      \x04root\x12\x11\x0a\x0asubmituser\x1a\x03ann\x12\x12\x0a\x0asubmithost\x1a\x04web1\
+      \x12\x0e\x0a\x07runargv\"\x03\x0a\x01\xff\x18\x01";
+
+const ACCEPT_WITHOUT_RECORDS: &[u8] = b"\
+      \0\0\0N\x0aL\x12\x12\x0a\x07command\x1a\x07/bin/ls\x12\x0f\x0a\x07runuser\x1a\x04roo\
+      t\x12\x11\x0a\x0asubmituser\x1a\x03ann\x12\x12\x0a\x0asubmithost\x1a\x04web1";
+
+const ACCEPT_WITHOUT_HOST: &[u8] = b"\
+      \0\0\0>\x0a<\x0a\0\x12\x12\x0a\x07command\x1a\x07/bin/ls\x12\x0f\x0a\x07runuser\x1a\
+      \x04root\x12\x11\x0a\x0asubmituser\x1a\x03ann\x18\x01";
+
+const ACCEPT_WITHOUT_TIME: &[u8] = b"\
+      \0\0\0<\x0a:\x12\x12\x0a\x07command\x1a\x07/bin/ls\x12\x0f\x0a\x07runuser\x1a\x04roo\
+      t\x12\x11\x0a\x0asubmituser\x1a\x03ann\x18\x01";
+
+const ACCEPT_BEFORE_1970: &[u8] = b"\
+      \0\0\0]\x0a[\x0a\x0b\x08\xff\xff\xff\xff\xff\xff\xff\xff\xff\x01\x12\x12\x0a\x07comm\
+      and\x1a\x07/bin/ls\x12\x0f\x0a\x07runuser\x1a\x04root\x12\x11\x0a\x0asubmituser\x1a\
+      \x03ann\x12\x12\x0a\x0asubmithost\x1a\x04web1\x18\x01";
 
 const REJECT: &[u8] = b"\0\0\0\x02\x12\0";
-/// Without a delay.
-const TIMELESS_OUTPUT: &[u8] = b"\0\0\0\x02\x3a\0";
 
-const TWO_HELLOS: &[u8] = b"\0\0\0\x04\x6a\0\x6a\0";
+const TWO_HELLOS: &[u8] = b"\0\0\0\x04j\0j\0";
+
+const TIMELESS_OUTPUT: &[u8] = b"\0\0\0\x02:\0";
+
 /// After half a second.
-const OUTPUT: &[u8] = b"\0\0\0\x0e\x3a\x0c\x0a\x06\x10\x80\xca\xb5\xee\x01\x12\x02hi";
+const OUTPUT: &[u8] = b"\0\0\0\x0e:\x0c\x0a\x06\x10\x80\xca\xb5\xee\x01\x12\x02hi";
 
-const EMPTY_OUTPUT: &[u8] = b"\0\0\0\x0a\x3a\x08\x0a\x06\x10\x80\xca\xb5\xee\x01";
+const EMPTY_OUTPUT: &[u8] = b"\0\0\0\x0a:\x08\x0a\x06\x10\x80\xca\xb5\xee\x01";
+
 /// After 2^63 - 1 nanoseconds.
-const LATE_OUTPUT: &[u8] =
-    b"\0\0\0\x10\x3a\x0e\x0a\x0c\x08\x84\xfa\x85\xae\x22\x10\xff\xaf\xcb\x97\x03";
+const LATE_OUTPUT: &[u8] = b"\0\0\0\x10:\x0e\x0a\x0c\x08\x84\xfa\x85\xae\"\x10\xff\xaf\xcb\x97\x03";
+
+/// After -1 nanoseconds.
+const NEGATIVE_OUTPUT: &[u8] = b"\0\0\0\x12:\x10\x0a\x0b\x10\xff\xff\xff\xff\xff\xff\xff\xff\xff\x01\x12\x01x";
+
+/// After 2^32 nanoseconds, of which the field takes the low 32 bits.
+const WRAPPED_OUTPUT: &[u8] = b"\0\0\0\x0d:\x0b\x0a\x06\x10\x80\x80\x80\x80\x10\x12\x01x";
+
+const TTYIN: &[u8] = b"\0\0\0\x0b2\x09\x0a\0\x12\x05ttyin";
+
+const TTYOUT: &[u8] = b"\0\0\0\x0c:\x0a\x0a\0\x12\x06ttyout";
+
+const STDIN: &[u8] = b"\0\0\0\x0bB\x09\x0a\0\x12\x05stdin";
+
+const STDOUT: &[u8] = b"\0\0\0\x0cJ\x0a\x0a\0\x12\x06stdout";
+
+const STDERR: &[u8] = b"\0\0\0\x0cR\x0a\x0a\0\x12\x06stderr";
+
+const WINDOW: &[u8] = b"\0\0\0\x0aZ\x08\x0a\x02\x08\x01\x10\x18\x18P";
+
+const NEGATIVE_WINDOW: &[u8] = b"\0\0\0\x11Z\x0f\x0a\0\x10\xff\xff\xff\xff\xff\xff\xff\xff\xff\x01\x18P";
+
+const TIMELESS_WINDOW: &[u8] = b"\0\0\0\x0dZ\x0b\x10\xff\xff\xff\xff\xff\xff\xff\xff\xff\x01";
+
+const SUSPEND: &[u8] = b"\0\0\0\x0ab\x08\x0a\0\x12\x04TSTP";
+
+const SUSPEND_WITHOUT_SIGNAL: &[u8] = b"\0\0\0\x04b\x02\x0a\0";
 
 const EXIT: &[u8] = b"\0\0\0\x04\x1a\x02\x0a\0";
 
-const SERVER_HELLO: &[u8] = b"\0\0\0\x0b\x0a\x09\x0a\x05lsv 1\x20\x01";
+/// It tells no time, and the exit value 0.
+const EXIT_OF_NOTHING: &[u8] = b"\0\0\0\x02\x1a\0";
+
+const EXIT_BY_SIGNAL: &[u8] = b"\
+      \0\0\0\x1a\x1a\x18\x0a\x08\x08\x03\x10\x80\x8c\x8d\x9e\x02\x10\x01\x18\x01\"\x04SEGV\
+      *\x02no";
+
+const EXIT_BEFORE_START: &[u8] = b"\0\0\0\x0f\x1a\x0d\x0a\x0b\x08\xff\xff\xff\xff\xff\xff\xff\xff\xff\x01";
+
+
+// A whole session of `id -u`, piece by piece.
+
+
+const WHOLE_ACCEPT: &[u8] = b"\
+      \0\0\0\xe3\x0a\xe0\x01\x0a\x06\x08\x80\xe2\xcf\xaa\x06\x12\x16\x0a\x07command\x1a\
+      \x0b/usr/bin/id\x12\x13\x0a\x07runargv\"\x08\x0a\x02id\x0a\x02-u\x12\x0f\x0a\x07runu\
+      ser\x1a\x04root\x12\x0a\x0a\x06runuid\x10\0\x12\x0a\x0a\x06rungid\x10\0\x12\x10\x0a\
+      \x08rungroup\x1a\x04root\x12\x11\x0a\x0asubmituser\x1a\x03ann\x12\x12\x0a\x0asubmith\
+      ost\x1a\x04web1\x12\x16\x0a\x09submitcwd\x1a\x09/home/ann\x12\x15\x0a\x07ttyname\x1a\
+      \x0a/dev/pts/0\x12\x09\x0a\x05lines\x10\x18\x12\x0b\x0a\x07columns\x10P\x18\x01";
+
+const WHOLE_PROMPT: &[u8] = b"\0\0\0\x0e:\x0c\x0a\x06\x10\x80\xca\xb5\xee\x01\x12\x02# ";
+
+const WHOLE_COMMAND: &[u8] = b"\0\0\0\x0d:\x0b\x0a\x02\x08\x01\x12\x05id -u";
+
+const WHOLE_ANSWER: &[u8] = b"\0\0\0\x0b:\x09\x0a\0\x12\x05\x0d\x0a0\x0d\x0a";
+
+const WHOLE_WINDOW: &[u8] = b"\0\0\0\x0aZ\x08\x0a\x02\x08\x02\x10\x1e\x18d";
+
+const WHOLE_EXIT: &[u8] = b"\0\0\0\x0c\x1a\x0a\x0a\x08\x08\x03\x10\x80\x8c\x8d\x9e\x02";
+
+
+
+const SERVER_HELLO: &[u8] = b"\0\0\0\x0b\x0a\x09\x0a\x05lsv 1 \x01";
 
 const LOG_ID: &[u8] = b"\0\0\0\x08\x1a\x06000001";
 
 const COMMIT_POINT: &[u8] = b"\0\0\0\x08\x12\x06\x10\x80\xca\xb5\xee\x01";
 
-const NOT_BUILT: &[u8] = b"\0\0\0\x0b\x22\x09not built";
+const WHOLE_COMMIT_POINT: &[u8] = b"\0\0\0\x0a\x12\x08\x08\x03\x10\x80\xca\xb5\xee\x01";
 
-const MALFORMED: &[u8] = b"\0\0\0\x13\x22\x11malformed message";
+const COMMIT_POINT_AT_0: &[u8] = b"\0\0\0\x02\x12\0";
 
-const TOO_LARGE: &[u8] = b"\0\0\0\x13\x22\x11message too large";
+const COMMIT_POINT_AT_1: &[u8] = b"\0\0\0\x04\x12\x02\x08\x01";
 
-const DEVICE_FAULT: &[u8] = b"\0\0\0\x0e\x22\x0cdevice fault";
+const NOT_BUILT: &[u8] = b"\0\0\0\x0b\"\x09not built";
+
+const MALFORMED: &[u8] = b"\0\0\0\x13\"\x11malformed message";
+
+const TOO_LARGE: &[u8] = b"\0\0\0\x13\"\x11message too large";
+
+const BAD_TIME: &[u8] = b"\0\0\0\x0a\"\x08bad time";
+
+const BAD_SIZE: &[u8] = b"\0\0\0\x14\"\x12bad size or signal";
+
+const MISSING_KEY: &[u8] = b"\0\0\0\x0d\"\x0bmissing key";
+
+const LOG_FULL: &[u8] = b"\0\0\0\x0a\"\x08log full";
+
+const DEVICE_FAULT: &[u8] = b"\0\0\0\x0e\"\x0cdevice fault";
+
+const HEAD: &[u8] = b"{\"info\":{\"command\":\"/bin/ls\",\"runuser\":\"root\",\"submithost\":\"web1\",\
+      \"submituser\":\"ann\"},\"submit_time\":{\"nanoseconds\":0,\"seconds\":0}}\n";
+
+const HEAD_OF_NO_UTF8: &[u8] = b"{\"info\":{\"command\":\"/bin/ls\",\"runargv\":[\"\xef\xbf\xbd\"],\
+      \"runuser\":\"root\",\"submithost\":\"web1\",\"submituser\":\"ann\"},\
+      \"submit_time\":{\"nanoseconds\":0,\"seconds\":0}}\n";
+
+const WHOLE_HEAD: &[u8] = b"{\"info\":{\"columns\":80,\"command\":\"/usr/bin/id\",\"lines\":24,\
+      \"runargv\":[\"id\",\"-u\"],\"rungid\":0,\"rungroup\":\"root\",\"runuid\":0,\"runuser\":\"root\",\
+      \"submitcwd\":\"/home/ann\",\"submithost\":\"web1\",\"submituser\":\"ann\",\
+      \"ttyname\":\"/dev/pts/0\"},\"submit_time\":{\"nanoseconds\":0,\"seconds\":1700000000}}\n";
+
+const EXIT_TEXT: &[u8] =
+    b"{\"dumped_core\":false,\"exit_value\":0,\"run_time\":{\"nanoseconds\":0,\"seconds\":0}}\n";
+
+const EXIT_BY_SIGNAL_TEXT: &[u8] = b"{\"dumped_core\":true,\"error\":\"no\",\"exit_value\":1,\
+      \"run_time\":{\"nanoseconds\":600000000,\"seconds\":3},\"signal\":\"SEGV\"}\n";
+
+const WHOLE_EXIT_TEXT: &[u8] = b"{\"dumped_core\":false,\"exit_value\":0,\
+      \"run_time\":{\"nanoseconds\":600000000,\"seconds\":3}}\n";
 
 type World = Outside<MemSource, MemSink, MemDisk>;
 
@@ -69,6 +182,20 @@ const NONE: Failing = Failing {
     write: 0,
     disk: 0,
 };
+
+/// What the files of a log hold: its head, its exit, the timing, and the streams in the order of their events.
+type Files<'a> = [&'a [u8]; 8];
+
+const PARTS: [Part; 8] = [
+    Part::Head,
+    Part::Exit,
+    Part::Timing,
+    Part::Stdin,
+    Part::Stdout,
+    Part::Stderr,
+    Part::Ttyin,
+    Part::Ttyout,
+];
 
 fn list_of(alloc: Global, texts: &[&[u8]]) -> Result<List<Bytes>, Fail> {
     let mut list = List::new(alloc);
@@ -126,16 +253,19 @@ fn ends(
     Ok(world)
 }
 
-/// Asserts what the files of log 1 hold, None where they are absent.
-fn holds(
-    rt: &impl Abort,
-    case: usize,
-    world: &World,
-    timing: Option<&[u8]>,
-    ttyout: Option<&[u8]>,
-) {
-    assert_eq!(rt; world.disk.bytes(TIMING), timing, "in case {case}");
-    assert_eq!(rt; world.disk.bytes(TTYOUT), ttyout, "in case {case}");
+fn stored(world: &World, part: Part) -> Option<&[u8]> {
+    world.disk.bytes(FileId {
+        owner: Owner::Log(1),
+        part,
+    })
+}
+
+/// Asserts what the files of log 1 hold, all absent where there is none.
+fn holds(rt: &impl Abort, case: usize, world: &World, files: Option<Files<'_>>) {
+    for i in 0..8 {
+        let expected = files.map(|files| files[i]);
+        assert_eq!(rt; stored(world, PARTS[i]), expected, "file {i} in case {case}");
+    }
 }
 
 #[test]
@@ -146,24 +276,92 @@ fn a_session_is_stored_however_its_input_is_cut(rt: HostRuntime) -> Result<(), F
         let world = world_of(rt.alloc(), pieces, NONE)?;
         let answers = &[SERVER_HELLO, LOG_ID, COMMIT_POINT][..];
         let world = ends(&rt, rt.alloc(), cut_size, world, Status::Served, answers)?;
-        holds(
-            &rt,
-            cut_size,
-            &world,
-            Some(b"4 0.500000000 2\n"),
-            Some(b"hi"),
-        );
+        let files = [HEAD, EXIT_TEXT, b"4 0.500000000 2\n", b"", b"", b"", b"", b"hi"];
+        holds(&rt, cut_size, &world, Some(files));
     }
     Ok(())
 }
 
+/// Each case is the messages between a hello and the end, the commit point, and the files.
 #[test]
-fn output_without_data_keeps_its_line(rt: HostRuntime) -> Result<(), Fail> {
-    let pieces = list_of(rt.alloc(), &[ACCEPT, EMPTY_OUTPUT, EXIT])?;
-    let world = world_of(rt.alloc(), pieces, NONE)?;
-    let answers = &[SERVER_HELLO, LOG_ID, COMMIT_POINT][..];
-    let world = ends(&rt, rt.alloc(), 0, world, Status::Served, answers)?;
-    holds(&rt, 0, &world, Some(b"4 0.500000000 0\n"), Some(b""));
+fn whole_sessions_are_stored(rt: HostRuntime) -> Result<(), Fail> {
+    for (case, frames, commit_point, files) in [
+        (
+            1,
+            &[
+                WHOLE_ACCEPT,
+                WHOLE_PROMPT,
+                WHOLE_COMMAND,
+                WHOLE_ANSWER,
+                WHOLE_WINDOW,
+                WHOLE_EXIT,
+            ][..],
+            WHOLE_COMMIT_POINT,
+            [
+                WHOLE_HEAD,
+                WHOLE_EXIT_TEXT,
+                b"4 0.500000000 2\n4 1.000000000 5\n4 0.000000000 5\n5 2.000000000 30 100\n",
+                b"",
+                b"",
+                b"",
+                b"",
+                b"# id -u\r\n0\r\n",
+            ],
+        ),
+        (
+            2,
+            &[
+                ACCEPT, TTYIN, TTYOUT, STDIN, STDOUT, STDERR, WINDOW, SUSPEND, EXIT,
+            ][..],
+            COMMIT_POINT_AT_1,
+            [
+                HEAD,
+                EXIT_TEXT,
+                b"3 0.000000000 5\n4 0.000000000 6\n0 0.000000000 5\n1 0.000000000 6\n2 0.000000000 6\n\
+                  5 1.000000000 24 80\n7 0.000000000 TSTP\n",
+                b"stdin",
+                b"stdout",
+                b"stderr",
+                b"ttyin",
+                b"ttyout",
+            ],
+        ),
+        (
+            3,
+            &[ACCEPT_OF_NO_UTF8, EMPTY_OUTPUT, EXIT_BY_SIGNAL][..],
+            COMMIT_POINT,
+            [
+                HEAD_OF_NO_UTF8,
+                EXIT_BY_SIGNAL_TEXT,
+                b"4 0.500000000 0\n",
+                b"",
+                b"",
+                b"",
+                b"",
+                b"",
+            ],
+        ),
+        (
+            4,
+            &[ACCEPT_WITHOUT_TERMINAL, WRAPPED_OUTPUT, EXIT_OF_NOTHING][..],
+            COMMIT_POINT_AT_0,
+            [
+                HEAD,
+                EXIT_TEXT,
+                b"4 0.000000000 1\n",
+                b"",
+                b"",
+                b"",
+                b"",
+                b"x",
+            ],
+        ),
+    ] {
+        let world = world_of(rt.alloc(), list_of(rt.alloc(), frames)?, NONE)?;
+        let answers = &[SERVER_HELLO, LOG_ID, commit_point][..];
+        let world = ends(&rt, rt.alloc(), case, world, Status::Served, answers)?;
+        holds(&rt, case, &world, Some(files));
+    }
     Ok(())
 }
 
@@ -179,37 +377,42 @@ fn what_cannot_be_taken_ends_the_session(rt: HostRuntime) -> Result<(), Fail> {
         (5, &[b"\0\0\0\0", HELLO][..], MALFORMED),
         (6, &[TWO_HELLOS, ACCEPT][..], MALFORMED),
         (7, &[b"\0\x20\0\x01", HELLO][..], TOO_LARGE),
+        (8, &[ACCEPT_WITHOUT_HOST][..], MISSING_KEY),
+        (9, &[HELLO, ACCEPT_WITHOUT_TIME][..], BAD_TIME),
+        (10, &[ACCEPT_BEFORE_1970][..], BAD_TIME),
+        (11, &[HELLO, NEGATIVE_WINDOW][..], NOT_BUILT),
+        (12, &[EXIT_BEFORE_START][..], NOT_BUILT),
     ] {
         let input = joined(rt.alloc(), frames)?;
         let pieces = list_of(rt.alloc(), &[input.as_slice(), HELLO])?;
         let world = world_of(rt.alloc(), pieces, second_read_fails)?;
-        let world = ends(
-            &rt,
-            rt.alloc(),
-            case,
-            world,
-            Status::Served,
-            &[SERVER_HELLO, error],
-        )?;
-        holds(&rt, case, &world, None, None);
+        let answers = &[SERVER_HELLO, error][..];
+        let world = ends(&rt, rt.alloc(), case, world, Status::Served, answers)?;
+        holds(&rt, case, &world, None);
     }
     Ok(())
 }
 
 #[test]
-fn a_running_session_takes_no_accept_and_no_time_of_two_to_the_63(
-    rt: HostRuntime,
-) -> Result<(), Fail> {
-    for (case, frames) in [
-        (1, &[ACCEPT, ACCEPT][..]),
-        (2, &[ACCEPT, HELLO][..]),
-        (3, &[ACCEPT, LATE_OUTPUT, OUTPUT][..]),
-        (4, &[ACCEPT_WITHOUT_TERMINAL, TIMELESS_OUTPUT][..]),
+fn a_running_session_refuses_what_it_cannot_take(rt: HostRuntime) -> Result<(), Fail> {
+    for (case, frames, error) in [
+        (1, &[ACCEPT][..], NOT_BUILT),
+        (2, &[HELLO][..], NOT_BUILT),
+        (3, &[ACCEPT_WITHOUT_TIME][..], NOT_BUILT),
+        (4, &[LATE_OUTPUT, OUTPUT][..], LOG_FULL),
+        (5, &[OUTPUT, TIMELESS_OUTPUT][..], BAD_TIME),
+        (6, &[NEGATIVE_OUTPUT][..], BAD_TIME),
+        (7, &[TIMELESS_WINDOW][..], BAD_TIME),
+        (8, &[NEGATIVE_WINDOW][..], BAD_SIZE),
+        (9, &[SUSPEND_WITHOUT_SIGNAL][..], BAD_SIZE),
+        (10, &[OUTPUT, EXIT_BEFORE_START][..], BAD_TIME),
     ] {
-        let world = world_of(rt.alloc(), list_of(rt.alloc(), frames)?, NONE)?;
-        let answers = &[SERVER_HELLO, LOG_ID, NOT_BUILT][..];
+        let input = joined(rt.alloc(), frames)?;
+        let pieces = list_of(rt.alloc(), &[ACCEPT, input.as_slice()])?;
+        let world = world_of(rt.alloc(), pieces, NONE)?;
+        let answers = &[SERVER_HELLO, LOG_ID, error][..];
         let world = ends(&rt, rt.alloc(), case, world, Status::Served, answers)?;
-        holds(&rt, case, &world, Some(b""), Some(b""));
+        holds(&rt, case, &world, Some([HEAD, b"", b"", b"", b"", b"", b"", b""]));
     }
     Ok(())
 }
@@ -219,43 +422,32 @@ fn a_frame_of_the_limit_is_a_message_and_a_part_of_one_is_none(
     rt: HostRuntime,
 ) -> Result<(), Fail> {
     let body = vec![in rt.alloc(); 0u8; 2_097_152]?;
-    let pieces = list_of(rt.alloc(), &[b"\0\x20\0\0", &body])?;
-    let world = world_of(rt.alloc(), pieces, NONE)?;
-    ends(
-        &rt,
-        rt.alloc(),
-        1,
-        world,
-        Status::Served,
-        &[SERVER_HELLO, MALFORMED],
-    )?;
-
-    let pieces = list_of(rt.alloc(), &[b"\0\0\0"])?;
-    let world = world_of(rt.alloc(), pieces, NONE)?;
-    let world = ends(&rt, rt.alloc(), 2, world, Status::Served, &[SERVER_HELLO])?;
-    holds(&rt, 2, &world, None, None);
+    for (case, pieces, answers) in [
+        (1, &[b"\0\x20\0\0", &body[..]][..], &[SERVER_HELLO, MALFORMED][..]),
+        (2, &[b"\0\0\0".as_slice()][..], &[SERVER_HELLO][..]),
+    ] {
+        let world = world_of(rt.alloc(), list_of(rt.alloc(), pieces)?, NONE)?;
+        let world = ends(&rt, rt.alloc(), case, world, Status::Served, answers)?;
+        holds(&rt, case, &world, None);
+    }
     Ok(())
 }
 
-/// A disk on which this file stands alone, and is empty.
-fn disk_with(alloc: Global, file: FileId) -> Result<MemDisk, Fail> {
-    let mut disk = MemDisk::new(alloc, &[])?;
-    disk.create(file)?;
-    Ok(disk)
-}
-
+/// In each case one file of the log stands alone, and is empty.
 #[test]
-fn a_log_that_is_there_is_not_made_again(rt: HostRuntime) -> Result<(), Fail> {
-    for (case, file, timing, ttyout) in [
-        (1, TIMING, Some(b"".as_slice()), None),
-        (2, TTYOUT, None, Some(b"".as_slice())),
-    ] {
+fn a_log_of_which_a_file_is_there_is_not_made_again(rt: HostRuntime) -> Result<(), Fail> {
+    for (case, part) in PARTS.iter().enumerate() {
         let pieces = list_of(rt.alloc(), &[HELLO, ACCEPT, OUTPUT, EXIT])?;
         let mut world = world_of(rt.alloc(), pieces, NONE)?;
-        world.disk = disk_with(rt.alloc(), file)?;
+        world.disk.create(FileId {
+            owner: Owner::Log(1),
+            part: *part,
+        })?;
         let answers = &[SERVER_HELLO, NOT_BUILT][..];
         let world = ends(&rt, rt.alloc(), case, world, Status::Served, answers)?;
-        holds(&rt, case, &world, timing, ttyout);
+        for (i, other) in PARTS.iter().enumerate() {
+            assert_eq!(rt; stored(&world, *other).is_some(), i == case, "in case {case}");
+        }
     }
     Ok(())
 }
@@ -275,67 +467,38 @@ fn ends_failing(
     Ok(())
 }
 
+/// The calls of the disk that may fail make eight files, and write and sync the head; at the exit they write and
+/// sync the exit, the timing, and the one stream that has data.
 #[test]
-fn the_source_fails_at_each_read_in_turn(rt: HostRuntime) -> Result<(), Fail> {
-    for (read, status, answers) in [
-        (1, Status::ReadFault, &[SERVER_HELLO][..]),
-        (2, Status::ReadFault, &[SERVER_HELLO][..]),
-        (3, Status::ReadFault, &[SERVER_HELLO, LOG_ID][..]),
-        (4, Status::ReadFault, &[SERVER_HELLO, LOG_ID][..]),
-        (5, Status::Served, &[SERVER_HELLO, LOG_ID, COMMIT_POINT][..]),
-    ] {
-        ends_failing(
-            &rt,
-            rt.alloc(),
-            read as usize,
-            Failing { read, ..NONE },
-            status,
-            answers,
-        )?;
+fn each_call_of_the_outside_fails_in_turn(rt: HostRuntime) -> Result<(), Fail> {
+    let all = &[SERVER_HELLO, LOG_ID, COMMIT_POINT][..];
+    for read in 1..=5 {
+        let failing = Failing { read, ..NONE };
+        let (status, count) = match read {
+            1 | 2 => (Status::ReadFault, 1),
+            3 | 4 => (Status::ReadFault, 2),
+            _ => (Status::Served, 3),
+        };
+        ends_failing(&rt, rt.alloc(), 1, failing, status, &all[..count])?;
     }
-    Ok(())
-}
-
-#[test]
-fn the_sink_fails_at_each_write_in_turn(rt: HostRuntime) -> Result<(), Fail> {
-    for (write, status, answers) in [
-        (1, Status::WriteFault, &[][..]),
-        (2, Status::WriteFault, &[SERVER_HELLO][..]),
-        (3, Status::WriteFault, &[SERVER_HELLO, LOG_ID][..]),
-        (4, Status::Served, &[SERVER_HELLO, LOG_ID, COMMIT_POINT][..]),
-    ] {
-        ends_failing(
-            &rt,
-            rt.alloc(),
-            write as usize,
-            Failing { write, ..NONE },
-            status,
-            answers,
-        )?;
+    for write in 1..=4 {
+        let failing = Failing { write, ..NONE };
+        let (status, count) = match write {
+            1 => (Status::WriteFault, 0),
+            2 => (Status::WriteFault, 1),
+            3 => (Status::WriteFault, 2),
+            _ => (Status::Served, 3),
+        };
+        ends_failing(&rt, rt.alloc(), 2, failing, status, &all[..count])?;
     }
-    Ok(())
-}
-
-/// The calls that may fail make the two files, and write and sync each of them.
-#[test]
-fn the_disk_fails_at_each_call_in_turn(rt: HostRuntime) -> Result<(), Fail> {
-    for (disk, answers) in [
-        (1, &[SERVER_HELLO, DEVICE_FAULT][..]),
-        (2, &[SERVER_HELLO, DEVICE_FAULT][..]),
-        (3, &[SERVER_HELLO, LOG_ID, DEVICE_FAULT][..]),
-        (4, &[SERVER_HELLO, LOG_ID, DEVICE_FAULT][..]),
-        (5, &[SERVER_HELLO, LOG_ID, DEVICE_FAULT][..]),
-        (6, &[SERVER_HELLO, LOG_ID, DEVICE_FAULT][..]),
-        (7, &[SERVER_HELLO, LOG_ID, COMMIT_POINT][..]),
-    ] {
-        ends_failing(
-            &rt,
-            rt.alloc(),
-            disk as usize,
-            Failing { disk, ..NONE },
-            Status::Served,
-            answers,
-        )?;
+    for disk in 1..=17 {
+        let failing = Failing { disk, ..NONE };
+        let answers = match disk {
+            1..=10 => &[SERVER_HELLO, DEVICE_FAULT][..],
+            11..=16 => &[SERVER_HELLO, LOG_ID, DEVICE_FAULT][..],
+            _ => all,
+        };
+        ends_failing(&rt, rt.alloc(), 3, failing, Status::Served, answers)?;
     }
     Ok(())
 }
@@ -352,13 +515,10 @@ fn other_words_touch_nothing(rt: HostRuntime) -> Result<(), Fail> {
         let pieces = list_of(rt.alloc(), &[HELLO, ACCEPT])?;
         let mut world = world_of(rt.alloc(), pieces, NONE)?;
         let words = list_of(rt.alloc(), words)?;
-        assert_eq!(rt;
-            logsrvd(rt.alloc(), &words, &mut world),
-            Status::Usage,
-            "in case {case}"
-        );
+        let ended = logsrvd(rt.alloc(), &words, &mut world);
+        assert_eq!(rt; ended, Status::Usage, "in case {case}");
         assert!(rt; world.sink.bytes().is_empty(), "in case {case}");
-        holds(&rt, case, &world, None, None);
+        holds(&rt, case, &world, None);
     }
     Ok(())
 }

@@ -1,21 +1,13 @@
 //! The log server of sudo: it stores the sessions that sudo sends it.
 #![tactic(auto)]
 
-mod disk;
-mod folders;
-mod path;
-mod streams;
-#[cfg(test)]
-mod tests;
-
-use disk::FileDisk;
 use lsv_base::{Bytes, List};
+use lsv_real::{FileDisk, StdSink, StdSource};
 use lsv_serve::{Outside, Status, logsrvd};
 use std::alloc::Global;
 use std::env;
 use std::io::ErrorKind;
 use std::process::ExitCode;
-use streams::{StdSink, StdSource};
 
 /// The words behind the program's name. One that isn't UTF-8 makes them a faulty command line.
 fn words(rt: &HostRuntime, alloc: Global) -> Result<List<Bytes>, Status> {

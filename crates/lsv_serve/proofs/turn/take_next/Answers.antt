@@ -1,6 +1,6 @@
 use Rattle.std.proofs.Common.{[], inl, inr, refl, sym, append-nil, arith, rules}
 use Rattle.lsv_serve.specs.Machine.{IsShut, Refused}
-use Rattle.lsv_serve.proofs.Taking.{come-on, come-elsewhere, brings-from-start, log-failed-earlier}
+use Rattle.lsv_serve.proofs.Taking.{come-on, come-elsewhere, ready-from-come, brings-from-start, log-failed-earlier}
 use Rattle.lsv_serve.proofs.turn.take_next.Goals as goal
 
 pub returns-then-is_shut-clause-none : goal.returns-then-is_shut-clause-none
@@ -19,7 +19,7 @@ pub returns-in_ok-take-in-Ok-Some-clause-one : goal.returns-in_ok-take-in-Ok-Som
 returns-in_ok-take-in-Ok-Some-clause-one g c = λ start old stands.
     let not_shut : IsShut old → ⊥ = λ shut. search (rules, c.is_shut.ensures old stands.at) in
     let next = rw c.in-Ok-Some.field-0-is at c.in-Ok-Some.ensures.message in
-    let step = c.in_ok-take-in-Ok-Some.ensures.step old stands.at in
+    let step = c.in_ok-take-in-Ok-Some.ensures.step old stands.at (λ told. ready-from-come old _ _ (stands.come told)) in
     record {
       message = c.in-Ok-Some.message.now;
       small = next.0;

@@ -1,34 +1,13 @@
-use Rattle.std.proofs.Common.{inl, inr, refl, ap, sym, ◌∙◌, true, false}
-use Rattle.std.specs.Prelude.{codes}
+use Rattle.std.proofs.Common.{refl}
 use Rattle.std.proofs.lemmas.Result.{on_ok_weaker}
-use Rattle.lsv_serve.specs.declared.session.Session.TheVariants as session
-use Rattle.lsv_serve.specs.Machine.{accepted, refused}
-use Rattle.lsv_serve.proofs.Stepping.{plainly-accept}
+use Rattle.lsv_serve.specs.Store.{log_is_there}
+use Rattle.lsv_serve.proofs.Stepping.{steps-refused, refuses-later-accept, untouched}
 use Rattle.lsv_serve.proofs.session.Session.accept.Goals as goal
 
-pub returns-in_default-clause-step : goal.returns-in_default-clause-step
-returns-in_default-clause-step g c = on_ok_weaker c.refuse.result (λ r old uses. record {
-  outcome = refused (codes "device fault");
-  brings = inr (c.in_default.ensures.cause, uses, refl);
-  session = r.0;
-  out = r.1;
-  files = c.make_log.ensures.elsewhere;
-}) c.refuse.ensures
-
-pub returns-then-there-clause-step : goal.returns-then-there-clause-step
-returns-then-there-clause-step g c = on_ok_weaker c.refuse-then-there.result (λ r old uses. record {
-  outcome = accepted true;
-  brings = inl (true, (λ told. sym c.if-there.true ∙ c.in-Ok.ensures.answer told), plainly-accept old uses true);
-  session = r.0;
-  out = r.1;
-  files = c.make_log.ensures.elsewhere;
-}) c.refuse-then-there.ensures
-
-pub returns-clause-step : goal.returns-clause-step
-returns-clause-step g c = λ old uses. record {
-  outcome = accepted false;
-  brings = inl (false, (λ told. sym c.if-there.false ∙ c.in-Ok.ensures.answer told), plainly-accept old uses false);
-  session = ap session.Running c.new.ensures;
-  out = c.in_ok-put_answer.ensures;
-  files = λ told. (rw c.if-there.false at c.in-Ok.ensures.made told, c.in-Ok.ensures.elsewhere told);
-}
+pub returns-else-may_begin-clause-step : goal.returns-else-may_begin-clause-step
+returns-else-may_begin-clause-step g c =
+    let disk = g.D.Disk.state c.args.disk.now in
+    on_ok_weaker c.refuse.result (λ r old at.
+    steps-refused _ _ _ disk disk (log_is_there disk.reads) (λ _. refl) old _ _ _ _ _
+    (refuses-later-accept c.args.self.now _ old _ at c.may_begin.ensures.1 c.if-may_begin.false)
+    r (λ _. untouched _ disk)) c.refuse.ensures

@@ -1,0 +1,89 @@
+// Standard input and output. They tell no content, and count their faults.
+ghost use Rattle.std.specs.Prelude.{[], ◌≡◌, ◌<◌, ◌^◌};
+
+use lsv_base::{Sink, SinkFault, Source, SourceFault};
+use std::io::{Print, Read};
+
+/// A source gives no more bytes than this.
+const LAST_COUNT: u64 = (1 << 63) - 1;
+
+/// Standard input.
+#[derive(Drop)]
+pub struct StdSource {
+    rt: HostRuntime,
+    count: u64,
+    faults: u64,
+    ghost limited: { count < 2 ^ 63 },
+}
+
+impl StdSource {
+    pub fn new(rt: HostRuntime) -> Self
+        ensures count { ⟦<StdSource as Source>⟧.count result ≡ 0 }
+        ensures faults { ⟦<StdSource as Source>⟧.faults result ≡ 0 }
+    {
+        StdSource {
+            rt,
+            count: 0,
+            faults: 0,
+        }
+    }
+}
+
+impl Source for StdSource {
+    ghost tells = { ⊥ };
+
+    ghost given = { λ _. [] };
+
+    ghost rest = { λ _. [] };
+
+    ghost count = { λ s. s.count };
+
+    ghost faults = { λ s. s.faults };
+
+    fn read(&mut self, buf: &mut [u8]) -> Result<usize, SourceFault> {
+        let most = (LAST_COUNT - self.count).min(buf.len() as u64) as usize;
+        match self.rt.stdin().read(&mut buf[..most]) {
+            Ok(n) => {
+                self.count += n as u64;
+                Ok(n)
+            }
+            Err(_) => {
+                self.faults = self.faults.saturating_add(1);
+                Err(SourceFault)
+            }
+        }
+    }
+}
+
+/// Standard output.
+#[derive(Drop)]
+pub struct StdSink {
+    rt: HostRuntime,
+    faults: u64,
+}
+
+impl StdSink {
+    pub fn new(rt: HostRuntime) -> Self
+        ensures { ⟦<StdSink as Sink>⟧.faults result ≡ 0 }
+    {
+        StdSink { rt, faults: 0 }
+    }
+}
+
+impl Sink for StdSink {
+    ghost tells = { ⊥ };
+
+    ghost put = { λ _. [] };
+
+    ghost faults = { λ s. s.faults };
+
+    fn write(&mut self, bytes: &[u8]) -> Result<(), SinkFault> {
+        match self.rt.write_all(bytes) {
+            Ok(()) => Ok(()),
+            Err(_) => {
+                self.faults = self.faults.saturating_add(1);
+                Err(SinkFault)
+            }
+        }
+    }
+}
