@@ -7,7 +7,7 @@ For each load it prints the processor time a message, the bytes of input a secon
 memory beside what the records themselves take. A tenth of each load is run too: the ratio of the
 processor times shows that the cost is linear. Then come messages of the greatest size that hold as
 many parts as fit, with one of half the size beside each. MESSAGES (lsv_bench) reads and writes one
-message a million times.
+message a million times, and lays a million records and reads them back.
 """
 import os
 import resource
@@ -39,10 +39,14 @@ def frame(message):
     return len(message).to_bytes(4, "big") + message
 
 
+KEYS = [(b"command", b"/bin/ls"), (b"runuser", b"root"), (b"submituser", b"ann"), (b"submithost", b"web1")]
+
+
 def session(count, size):
     """The client's bytes of a session with so many records of terminal output of so many bytes."""
+    entries = b"".join(field(2, field(1, key) + field(3, text)) for key, text in KEYS)
     yield frame(field(13, field(1, b"sudo")))
-    yield frame(field(1, field(1, b"") + b"\x18\x01"))
+    yield frame(field(1, field(1, b"") + entries + b"\x18\x01"))
     record = frame(field(7, field(1, b"\x10" + varint(1_000_000)) + field(2, b"x" * size)))
     batch = 10_000
     for _ in range(count // batch):
@@ -52,7 +56,7 @@ def session(count, size):
 
 
 def kept(count, size):
-    """What the two files of the log take, in bytes."""
+    """What the records take in the files of the log, in bytes."""
     line = len("4 0.001000000 %d\n" % size)
     return count * (line + size)
 
@@ -119,11 +123,25 @@ def measure_messages(messages):
         print(f"{word} of terminal output of 10 bytes: {min(times):.3f} us (at most 0.15)")
 
 
+def measure_records(messages):
+    laying, reading = [], []
+    for _ in range(RUNS):
+        child = subprocess.run([messages, "records"], stdout=subprocess.DEVNULL, stderr=subprocess.PIPE, text=True)
+        if child.returncode != 0:
+            sys.exit(f"bench: records ended with status {child.returncode}")
+        laid, read = (int(it) for it in child.stderr.split())
+        laying.append(laid)
+        reading.append(read)
+    print(f"1000000 records of 10 bytes: {min(laying) / 1e9:.3f} us a record to lay them (at most 0.2), "
+          f"{min(reading) / 1e9:.3f} us a record to read them (at most 0.2)")
+
+
 def main():
     program, messages = (os.path.abspath(it) for it in sys.argv[1:3])
     measure_sessions(program)
     measure_crowds(program)
     measure_messages(messages)
+    measure_records(messages)
 
 
 if __name__ == "__main__":

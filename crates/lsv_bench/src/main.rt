@@ -1,10 +1,14 @@
-//! Reads or writes one message a million times, so that `make bench` can measure the messages alone.
+//! Reads or writes one message a million times, or lays and reads a million records, so that `make bench` can
+//! measure each alone.
 #![tactic(auto)]
 
+use lsv_base::{Bytes, List};
 use lsv_msg::{ClientMessage, decode_client, encode_client};
+use lsv_record::{Record, Stream, lay, read_log};
 use std::alloc::Global;
 use std::env;
 use std::process::ExitCode;
+use std::time::Instant;
 
 const COUNT: u32 = 1_000_000;
 
@@ -33,6 +37,37 @@ fn encode_all(alloc: Global) -> Option<u64> {
     Some(total)
 }
 
+/// Terminal output of ten bytes each, a millisecond apart.
+fn records(alloc: Global) -> Option<List<Record>> {
+    let mut records = List::new(alloc);
+    for _ in 0..COUNT {
+        let bytes = Bytes::of(alloc, b"0123456789").ok()?;
+        records
+            .push(Record::Io {
+                delay: 1_000_000,
+                stream: Stream::Ttyout,
+                bytes,
+            })
+            .ok()?;
+    }
+    Some(records)
+}
+
+/// Lays the records and reads them back, says on standard error how many nanoseconds each took, and gives the number
+/// of records that were read.
+fn lay_and_read(rt: &HostRuntime) -> Option<u64> {
+    let alloc = rt.alloc();
+    let records = records(alloc)?;
+    let start = Instant::now(rt).ok()?;
+    let laid = lay(alloc, records.as_slice()).ok()?;
+    let laying = start.elapsed(rt).ok()?.as_nanos();
+    let start = Instant::now(rt).ok()?;
+    let read = read_log(alloc, &laid).ok()?;
+    let reading = start.elapsed(rt).ok()?.as_nanos();
+    let _ = eprintln!(rt; "{laying} {reading}");
+    Some(read.as_slice().len() as u64)
+}
+
 /// The measure that the words ask for.
 fn measured(rt: &HostRuntime) -> Option<u64> {
     let alloc = rt.alloc();
@@ -40,6 +75,7 @@ fn measured(rt: &HostRuntime) -> Option<u64> {
     match word.as_str() {
         "decode" => decode_all(alloc),
         "encode" => encode_all(alloc),
+        "records" => lay_and_read(rt),
         _ => None,
     }
 }
