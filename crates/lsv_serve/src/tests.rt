@@ -433,16 +433,23 @@ fn a_frame_of_the_limit_is_a_message_and_a_part_of_one_is_none(
     Ok(())
 }
 
+/// A disk on which this file of log 1 stands alone, and is empty.
+fn disk_with(alloc: Global, part: Part) -> Result<MemDisk, Fail> {
+    let mut disk = MemDisk::new(alloc, &[])?;
+    disk.create(FileId {
+        owner: Owner::Log(1),
+        part,
+    })?;
+    Ok(disk)
+}
+
 /// In each case one file of the log stands alone, and is empty.
 #[test]
 fn a_log_of_which_a_file_is_there_is_not_made_again(rt: HostRuntime) -> Result<(), Fail> {
     for (case, part) in PARTS.iter().enumerate() {
         let pieces = list_of(rt.alloc(), &[HELLO, ACCEPT, OUTPUT, EXIT])?;
         let mut world = world_of(rt.alloc(), pieces, NONE)?;
-        world.disk.create(FileId {
-            owner: Owner::Log(1),
-            part: *part,
-        })?;
+        world.disk = disk_with(rt.alloc(), *part)?;
         let answers = &[SERVER_HELLO, NOT_BUILT][..];
         let world = ends(&rt, rt.alloc(), case, world, Status::Served, answers)?;
         for (i, other) in PARTS.iter().enumerate() {
