@@ -5,7 +5,7 @@ use Rattle.std.specs.declared.alloc.Global.{Global}
 use Rattle.std.specs.declared.vec.Vec.{Vec}
 use Rattle.lsv_disk.specs.declared.file.FileId.{FileId}
 use Rattle.lsv_disk.specs.declared.call.Call.{Call}
-use Rattle.lsv_disk.specs.declared.call.Effect.TheVariants.{Made, Written}
+use Rattle.lsv_disk.specs.declared.call.Effect.TheVariants.{Held, Made, Written}
 use Rattle.lsv_disk.specs.declared.stored.Stored.{Stored}
 use Rattle.lsv_disk.specs.Files.{same_file}
 use Rattle.lsv_disk.specs.Bytes.{written, overwritten, Reaches}
@@ -20,6 +20,14 @@ pub made_tied : (files files_now : List Stored) (old new : List Call) (file : Fi
 made_tied files files_now old new file bytes empty pushed noted absent tied =
     result_changed files files_now old new file Made noted
     (ap (λ (l : List Stored). content_of l file) pushed ∙ content_push files file (record { file = file; bytes = bytes }) (tied file ∙ absent) (same_itself file) ∙ ap (λ (l : List ℕ). Some l) empty)
+    (λ g differs. ap (λ (l : List Stored). content_of l g) pushed ∙ content_push_other files g (record { file = file; bytes = bytes }) (other_not_same file g (λ is. differs (sym is))))
+    tied
+
+pub held_tied : (files files_now : List Stored) (old new : List Call) (file : FileId) (bytes copy : Vec ℕ Global) → copy.items ≡ bytes.items → files_now ≡ files ++ record { file = file; bytes = bytes } ∷ []
+    → Noted old new file (Held copy) → reads_of old file ≡ None → IsResult files old → IsResult files_now new
+held_tied files files_now old new file bytes copy same pushed noted absent tied =
+    result_changed files files_now old new file (Held copy) noted
+    (ap (λ (l : List Stored). content_of l file) pushed ∙ content_push files file (record { file = file; bytes = bytes }) (tied file ∙ absent) (same_itself file) ∙ ap (λ (l : List ℕ). Some l) (sym same))
     (λ g differs. ap (λ (l : List Stored). content_of l g) pushed ∙ content_push_other files g (record { file = file; bytes = bytes }) (other_not_same file g (λ is. differs (sym is))))
     tied
 

@@ -6,3 +6,8 @@ pub mod Past
 pub mod Noting
 pub mod Changed
 pub mod Outcomes
+pub mod Settling
+pub mod Leaving
+pub mod Holding
+pub mod Imaging
+pub mod Flattening

@@ -1,5 +1,6 @@
 -- What one more call changes of the disk.
-use Rattle.std.proofs.Common.{◌≡◌, ◌≢◌, inl, inr, ℕ, ◌+◌, ◌≤◌, ◌<◌, Bool, true, false, cond, List, [], ◌∷◌, ◌++◌, length, take, get_or, ◌&&◌, add_comm, add-zero, count_by, Option, Result, Ok, Err, is_ok, arith, sym, ◌∙◌, ap, subst}
+use Rattle.std.proofs.Common.{◌≡◌, ◌≢◌, inl, inr, ℕ, ◌+◌, ◌≤◌, ◌<◌, Bool, true, false, cond, List, [], ◌∷◌, ◌++◌, length, take, get_or, ◌&&◌, add_comm, add-zero, count_by, Option, Some, None, Result, Ok, Err, OnOk, OnErr, is_ok, arith, sym, ◌∙◌, ap, subst}
+use Rattle.std.proofs.lemmas.Bool.{le-leb, leb-true, and_from, false≢true}
 use Rattle.std.proofs.lemmas.List.{take-append-le, length_push, take_more}
 use Rattle.std.proofs.lemmas.List.Sums.{sum_by-cons}
 use Rattle.lsv_disk.specs.declared.file.FileId.{FileId}
@@ -8,7 +9,9 @@ use Rattle.lsv_disk.specs.declared.call.Effect.{Effect}
 use Rattle.lsv_disk.specs.declared.stored.Stored.{Stored}
 use Rattle.lsv_disk.specs.State.{Elapses, Elsewhere, Quiet}
 use Rattle.lsv_disk.specs.Files.{same_file}
-use Rattle.lsv_disk.specs.Calls.{past_of, reads_after, MayLeave, reads_of, state_of, is_fault, faults_of, Noted}
+use Rattle.lsv_disk.specs.Calls.{past_of, reads_after, MayLeave, reads_of, state_of, is_fault, faults_of, reaches, is_legal, AreLegal, Noted, NotedWrite}
+use Rattle.lsv_disk.specs.declared.call.Effect.TheVariants.{Made, Written}
+use Rattle.lsv_disk.specs.Bytes.{Reaches}
 use Rattle.lsv_disk.specs.Stored.{content_of, IsResult}
 use Rattle.lsv_disk.proofs.Past.{past_here, past_other}
 use Rattle.lsv_disk.proofs.Same.{same_or_other, same_itself, other_not_same}
@@ -144,3 +147,38 @@ fault_next calls i d file lt =
           let none : same_file call.file file && is_fault call.effect ≡ false = ap (λ (b : Bool). b && is_fault call.effect) (other_not_same call.file file (λ e. differs (sym e))) in
           one ∙ ap (count_by is_fault) (past_other (take i calls) call.file call.effect file differs) ∙ sym (add-zero (faults_of (take i calls) file)) ∙ ap (λ (b : Bool). faults_of (take i calls) file + cond b 1 0) (sym none)
     ]
+
+-- the past of each file stays one that calls can have
+pub legal_noted : (old new : List Call) (file : FileId) (effect : Effect) → Noted old new file effect → is_legal (effect ∷ past_of old file) ≡ true → AreLegal old → AreLegal new
+legal_noted old new file effect noted is legal g = elim (same_or_other g file) [
+  | inl e ↦ subst (λ (h : FileId). is_legal (past_of new h) ≡ true) (sym e) (ap is_legal (here old new file effect noted) ∙ is)
+  | inr differs ↦ ap is_legal (other old new file effect noted g differs) ∙ legal g
+]
+
+pub legal_same : (old new : List Call) → new ≡ old → AreLegal old → AreLegal new
+legal_same old new same legal g = ap (λ (cs : List Call). is_legal (past_of cs g)) same ∙ legal g
+
+-- where a call is kept or not
+pub note_legal : {T E : Type 0} (r : Result T E) (old new : List Call) (file : FileId) (effect : Effect) → new ≡ cond (is_ok r) (old ++ record { file = file; effect = effect } ∷ []) old
+    → is_legal (effect ∷ past_of old file) ≡ is_legal (past_of old file) → AreLegal old → AreLegal new
+note_legal (Ok x) old new file effect noted is legal = legal_noted old new file effect noted (is ∙ legal file) legal
+note_legal (Err x) old new file effect same is legal = legal_same old new same legal
+
+-- a write that leaves no gap
+pub reaches_true : (file : Option (List ℕ)) (at : ℕ) → Reaches file at → reaches file at ≡ true
+reaches_true None at place = absurd place
+reaches_true (Some bytes) at place = le-leb at (length bytes) place
+
+pub reaches_by_true : (file : Option (List ℕ)) (at : ℕ) → reaches file at ≡ true → Reaches file at
+reaches_by_true None at e = false≢true e
+reaches_by_true (Some bytes) at e = leb-true at (length bytes) e
+
+-- a good write
+pub write_legal : {T E : Type 0} (r : Result T E) (old new : List Call) (file : FileId) (at : ℕ) (bytes : List ℕ) → Reaches (reads_of old file) at → OnOk r (NotedWrite old new file at bytes) → OnErr r (new ≡ old) → AreLegal old → AreLegal new
+write_legal (Ok x) old new file at bytes place noted same legal = legal_noted old new file (Written at noted.0) noted.2 (and_from (reaches (reads_of old file) at) (is_legal (past_of old file)) (reaches_true (reads_of old file) at place) (legal file)) legal
+write_legal (Err x) old new file at bytes place noted same legal = legal_same old new same legal
+
+-- and a create
+pub make_legal : {T E : Type 0} (r : Result T E) (old new : List Call) (file : FileId) → OnOk r (Noted old new file Made) → OnErr r (new ≡ old) → AreLegal old → AreLegal new
+make_legal (Ok x) old new file noted same legal = legal_noted old new file Made noted (legal file) legal
+make_legal (Err x) old new file noted same legal = legal_same old new same legal

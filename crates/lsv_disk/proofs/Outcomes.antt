@@ -28,7 +28,7 @@ torn_bytes at bytes old place =
       no_longer = omega (arith, whole);
     }
 
-torn_written : (at : ℕ) (bytes : List ℕ) (old : Option (List ℕ)) → Reaches old at → Torn at (length bytes) old (written at bytes old)
+pub torn_written : (at : ℕ) (bytes : List ℕ) (old : Option (List ℕ)) → Reaches old at → Torn at (length bytes) old (written at bytes old)
 torn_written at bytes None place = absurd place
 torn_written at bytes (Some old) place = torn_bytes at bytes old place
 

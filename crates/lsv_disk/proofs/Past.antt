@@ -32,3 +32,7 @@ past_other calls file effect g other =
 pub past_none : (file : FileId) → past_of [] file ≡ []
 unfolding past_of
 past_none file = refl
+
+-- where no call was made
+pub nothing : (calls : List Call) → calls ≡ [] → (f : FileId) → past_of calls f ≡ []
+nothing calls none f = ap (λ (cs : List Call). past_of cs f) none ∙ past_none f

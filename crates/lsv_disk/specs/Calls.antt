@@ -1,12 +1,12 @@
 -- The calls that a disk in memory keeps, the first one first, and what follows from them.
-use Rattle.std.specs.Prelude.{◌≡◌, ◌⊎◌, ℕ, ◌≤◌, ◌++◌, Bool, true, false, List, [], ◌∷◌, length, take, map, reverse, count_by, Option, Some, None}
+use Rattle.std.specs.Prelude.{◌≡◌, ◌⊎◌, ℕ, ◌≤◌, ◌++◌, Bool, true, false, List, [], ◌∷◌, length, take, map, reverse, count_by, nat_le, ◌&&◌, is_none, Option, Some, None}
 use Rattle.std.specs.List.{filter}
 use Rattle.std.specs.declared.alloc.Global.{Global}
 use Rattle.std.specs.declared.vec.Vec.{Vec}
 use Rattle.lsv_disk.specs.declared.file.FileId.{FileId}
 use Rattle.lsv_disk.specs.declared.call.Call.{Call}
 use Rattle.lsv_disk.specs.declared.call.Effect.{Effect}
-use Rattle.lsv_disk.specs.declared.call.Effect.TheVariants.{Made, NotMade, NotRead, Written, NotWritten, Synced, NotSynced}
+use Rattle.lsv_disk.specs.declared.call.Effect.TheVariants.{Held, Made, NotMade, NotRead, Written, NotWritten, Synced, NotSynced}
 use Rattle.lsv_disk.specs.Bytes.{written, Torn}
 use Rattle.lsv_disk.specs.State.{Image, DiskState}
 use Rattle.lsv_words.specs.Causes.{Rose}
@@ -19,6 +19,7 @@ past_of calls file = reverse (map (λ call. call.effect) (filter (λ call. same_
 -- what a read of a file with this past gives: a good create empties it, and a good write is there at once
 abbrev pub reads_after : List Effect → Option (List ℕ)
 reads_after [] = None
+reads_after (Held bytes ∷ past) = Some bytes.items
 reads_after (Made ∷ past) = Some []
 reads_after (Written at bytes ∷ past) = written at bytes.items (reads_after past)
 reads_after (NotMade ∷ past) = reads_after past
@@ -31,6 +32,7 @@ reads_after (NotSynced ∷ past) = reads_after past
 -- have made the file, and a write, good or not, may have left any bytes in its range
 abbrev pub MayLeave : List Effect → Option (List ℕ) → Type 0
 MayLeave [] c = c ≡ None
+MayLeave (Held bytes ∷ past) c = c ≡ Some bytes.items
 MayLeave (Made ∷ past) c = c ≡ Some []
 MayLeave (Synced ∷ past) c = c ≡ reads_after past
 MayLeave (NotMade ∷ past) c = MayLeave past c ⊎ (c ≡ Some [])
@@ -38,6 +40,27 @@ MayLeave (Written at bytes ∷ past) c = (c ≡ written at bytes.items (reads_af
 MayLeave (NotWritten at n ∷ past) c = (d : Option (List ℕ)) × MayLeave past d × Torn at n d c
 MayLeave (NotRead ∷ past) c = MayLeave past c
 MayLeave (NotSynced ∷ past) c = MayLeave past c
+
+-- a write at this place leaves no gap
+abbrev pub reaches : Option (List ℕ) → ℕ → Bool
+reaches None at = false
+reaches (Some bytes) at = nat_le at (length bytes)
+
+-- the past is one that calls can have: a file is made where it is absent, and written where it is there, with no gap
+abbrev pub is_legal : List Effect → Bool
+is_legal [] = true
+is_legal (Held bytes ∷ past) = is_legal past
+is_legal (Made ∷ past) = is_legal past
+is_legal (NotMade ∷ past) = is_none (reads_after past) && is_legal past
+is_legal (NotRead ∷ past) = is_legal past
+is_legal (Written at bytes ∷ past) = reaches (reads_after past) at && is_legal past
+is_legal (NotWritten at n ∷ past) = reaches (reads_after past) at && is_legal past
+is_legal (Synced ∷ past) = is_legal past
+is_legal (NotSynced ∷ past) = is_legal past
+
+-- and so is the past of each file
+abbrev pub AreLegal : List Call → Type 0
+AreLegal calls = (file : FileId) → is_legal (past_of calls file) ≡ true
 
 -- what a read of the files gives after these calls
 abbrev pub reads_of : List Call → Image
@@ -54,6 +77,7 @@ state_of calls = record {
 
 -- the call failed
 abbrev pub is_fault : Effect → Bool
+is_fault (Held bytes) = false
 is_fault Made = false
 is_fault (Written at bytes) = false
 is_fault Synced = false
@@ -65,6 +89,7 @@ is_fault NotSynced = true
 -- the call synced the file
 abbrev pub is_sync : Effect → Bool
 is_sync Synced = true
+is_sync (Held bytes) = false
 is_sync Made = false
 is_sync (Written at bytes) = false
 is_sync NotMade = false

@@ -4,7 +4,7 @@ use Rattle.std.proofs.Common.{inl, subst, sym, arith}
 use Rattle.std.proofs.lemmas.List.{take_all}
 use Rattle.lsv_disk.specs.declared.call.Call.{Call}
 use Rattle.lsv_disk.specs.declared.call.Effect.{Effect}
-use Rattle.lsv_disk.specs.declared.call.Effect.TheVariants.{Made, NotMade, NotRead, Written, NotWritten, Synced, NotSynced}
+use Rattle.lsv_disk.specs.declared.call.Effect.TheVariants.{Held, Made, NotMade, NotRead, Written, NotWritten, Synced, NotSynced}
 use Rattle.lsv_disk.specs.Bytes.{Torn}
 use Rattle.lsv_disk.specs.State.{Image, IsImage}
 use Rattle.lsv_disk.specs.Calls.{past_of, reads_after, MayLeave, state_of}
@@ -17,6 +17,7 @@ torn_same at n (Some bytes) = record { before = refl; after = refl; no_shorter =
 -- what a read of a file gives, a stop may leave
 pub MayLeave-reads : (past : List Effect) → MayLeave past (reads_after past)
 MayLeave-reads [] = refl
+MayLeave-reads (Held bytes ∷ past) = refl
 MayLeave-reads (Made ∷ past) = refl
 MayLeave-reads (Written at bytes ∷ past) = inl refl
 MayLeave-reads (NotMade ∷ past) = inl (MayLeave-reads past)

@@ -5,4 +5,6 @@ pub mod Files
 pub mod Calls
 pub mod Stored
 pub mod Laws
+pub mod Images
+pub mod Flat
 pub mod Memory

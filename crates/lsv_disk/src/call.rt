@@ -5,6 +5,8 @@ use crate::FileId;
 /// What a call on a file did.
 #[derive(Drop)]
 pub(crate) enum Effect {
+    /// It held these bytes from before the first call on, and a stop left them.
+    Held(Vec<u8>),
     Made,
     NotMade,
     NotRead,
@@ -18,6 +20,21 @@ pub(crate) enum Effect {
 
 impl Effect {
     ghost use Rattle.lsv_disk.specs.Calls.{is_fault};
+    ghost use Rattle.lsv_disk.specs.Images.{settles, may_make};
+
+    /// Whether a stop leaves one content of the file after it.
+    pub(crate) fn settles(&self) -> bool
+        ensures { result ≡ settles self.now }
+    {
+        matches!(self, Effect::Held(_) | Effect::Made | Effect::Synced)
+    }
+
+    /// Whether the file may be there by it.
+    pub(crate) fn may_make(&self) -> bool
+        ensures { result ≡ may_make self.now }
+    {
+        matches!(self, Effect::Held(_) | Effect::Made | Effect::NotMade)
+    }
 
     /// Whether the call failed.
     pub(crate) fn is_fault(&self) -> bool
@@ -40,6 +57,14 @@ pub(crate) struct Call {
 impl Call {
     ghost use Rattle.lsv_disk.specs.Files.{same_file};
     ghost use Rattle.lsv_disk.specs.Calls.{is_fault};
+    ghost use Rattle.lsv_disk.specs.Images.{settles};
+
+    /// Whether it is a call on that file, after which a stop leaves one content of it.
+    pub(crate) fn settles(&self, file: FileId) -> bool
+        ensures { result ≡ (same_file self.now.file file && settles self.now.effect) }
+    {
+        self.file == file && self.effect.settles()
+    }
 
     /// Whether it is a call on that file, which failed.
     pub(crate) fn failed_on(&self, file: FileId) -> bool

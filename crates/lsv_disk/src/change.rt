@@ -1,7 +1,8 @@
 ghost use Rattle.std.specs.Prelude.{◌≡◌, ℕ, ◌+◌, ◌≤◌, ◌<◌, ◌^◌, [], ◌∷◌, ◌++◌, Option, None, length, OnOk, OnErr};
 ghost use Rattle.lsv_disk.specs.declared.call.Effect.TheVariants.{Made, Written};
 ghost use Rattle.lsv_disk.specs.Bytes.{overwritten, Reaches};
-ghost use Rattle.lsv_disk.specs.Calls.{reads_of, Noted, NotedWrite};
+ghost use Rattle.lsv_disk.specs.Calls.{reads_of, AreLegal, Noted, NotedWrite};
+ghost use Rattle.lsv_disk.specs.Images.{NotedHeld};
 ghost use Rattle.lsv_disk.specs.Stored.{IsResult};
 
 use crate::call::{Call, Effect};
@@ -17,8 +18,10 @@ pub(crate) fn make(
     file: FileId,
 ) -> Result<(), NoMem>
     requires tied { IsResult files.old.items calls.old.items }
+    requires legal { AreLegal calls.old.items }
     requires absent { reads_of calls.old.items file ≡ None }
     ensures tied { IsResult files.new.items calls.new.items }
+    ensures legal { AreLegal calls.new.items }
     ensures ok { OnOk result (Noted calls.old.items calls.new.items file Made) }
     ensures err { OnErr result (calls.new.items ≡ calls.old.items) }
 {
@@ -31,6 +34,31 @@ pub(crate) fn make(
         file,
         bytes: Vec::new(alloc),
     })?;
+    Ok(())
+}
+
+/// Puts a file that held these bytes from the start.
+pub(crate) fn hold(
+    alloc: Global,
+    files: &mut Vec<Stored>,
+    calls: &mut Vec<Call>,
+    file: FileId,
+    bytes: Vec<u8>,
+) -> Result<(), NoMem>
+    requires tied { IsResult files.old.items calls.old.items }
+    requires legal { AreLegal calls.old.items }
+    requires absent { reads_of calls.old.items file ≡ None }
+    ensures tied { IsResult files.new.items calls.new.items }
+    ensures legal { AreLegal calls.new.items }
+    ensures ok { OnOk result (NotedHeld calls.old.items calls.new.items file bytes.items) }
+{
+    let copy = bytes.as_slice().to_vec(alloc)?;
+    files.reserve(1)?;
+    calls.push(Call {
+        file,
+        effect: Effect::Held(copy),
+    })?;
+    files.push(Stored { file, bytes })?;
     Ok(())
 }
 
@@ -68,8 +96,10 @@ pub(crate) fn write(
     bytes: &[u8],
 ) -> Result<(), NoMem>
     requires tied { IsResult files.old.items calls.old.items }
+    requires legal { AreLegal calls.old.items }
     requires place { Reaches (reads_of calls.old.items file) at }
     ensures tied { IsResult files.new.items calls.new.items }
+    ensures legal { AreLegal calls.new.items }
     ensures ok { OnOk result (NotedWrite calls.old.items calls.new.items file at bytes.now) }
     ensures err { OnErr result (calls.new.items ≡ calls.old.items) }
 {

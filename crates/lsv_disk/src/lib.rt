@@ -5,6 +5,8 @@ mod call;
 mod change;
 mod disk;
 mod file;
+mod fill;
+mod image;
 mod memory;
 mod no_mem;
 mod stored;
@@ -13,6 +15,7 @@ mod synced;
 
 pub use disk::{Disk, DiskFault};
 pub use file::{FileId, Owner, Part};
+pub use fill::Fill;
 pub use memory::MemDisk;
 pub use no_mem::NoMem;
 pub use stretch::{Claim, quiet_stretches, stretches_compose, stretches_widen};

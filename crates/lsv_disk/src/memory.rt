@@ -1,4 +1,5 @@
-ghost use Rattle.std.specs.Prelude.{◌≡◌, ℕ, ◌+◌, ◌-◌, ◌≤◌, ◌<◌, ◌^◌, ◌↔◌, min, IsTrue, [], ◌∷◌, ◌++◌, List, Option, Some, None, length, drop, option_map, IfOk, OnOk, OnErr, IsErr, ◌⊎◌};
+ghost use Rattle.std.specs.Prelude.{◌≡◌, ℕ, ◌+◌, ◌-◌, ◌≤◌, ◌<◌, ◌^◌, ◌↔◌, min, IsTrue, [], ◌∷◌, ◌++◌, List, Option, Some, None, length, drop, option_map, IfOk, OnOk, OnErr, IsErr, ◌⊎◌, ◌≢◌, if◌then◌else◌};
+ghost use Rattle.std.specs.Option.{option_or};
 ghost use Rattle.std.proofs.Props.{props};
 ghost use Rattle.lsv_words.specs.Causes.{Rose};
 ghost use Rattle.lsv_words.specs.Pieces.{piece};
@@ -7,14 +8,15 @@ ghost use Rattle.lsv_disk.specs.declared.call.Effect.{Effect};
 ghost use Rattle.lsv_disk.specs.declared.call.Effect.TheVariants.{Made, NotMade, NotRead, NotWritten, Synced, NotSynced};
 ghost use Rattle.lsv_disk.specs.Bytes.{bytes_of, Reaches};
 ghost use Rattle.lsv_disk.specs.State.{Only};
-ghost use Rattle.lsv_disk.specs.Calls.{reads_after, reads_of, state_of, faults_of, syncs_of, Noted, NotedWrite, Failed};
+ghost use Rattle.lsv_disk.specs.Calls.{past_of, reads_after, is_legal, AreLegal, reads_of, state_of, faults_of, syncs_of, Noted, NotedWrite, Failed};
 ghost use Rattle.lsv_disk.specs.Stored.{IsResult};
 ghost use Rattle.lsv_disk.specs.Laws.{state-reads_itself, state-is_now, state-only_now};
 
 use crate::call::{Call, Effect};
-use crate::change::{make, write};
+use crate::change::{hold, make, write};
+use crate::image::left;
 use crate::stored::{Stored, content, copy_piece};
-use crate::{Disk, DiskFault, FileId, NoMem};
+use crate::{Disk, DiskFault, FileId, Fill, NoMem};
 use std::alloc::Global;
 
 /// A disk in memory, which tells its files. It keeps the calls that changed it or failed, so what a stop of the
@@ -28,10 +30,30 @@ pub struct MemDisk {
     calls: Vec<Call>,
     files: Vec<Stored>,
     ghost tied: { IsResult files.items calls.items } by { Prim.hlevel props },
+    ghost legal: { AreLegal calls.items },
 }
 
 impl MemDisk {
-    ghost use Rattle.lsv_disk.specs.Memory.{refusals, failing, asked, next_number, NextFails};
+    ghost use Rattle.lsv_disk.specs.Memory.{refusals, failing, asked, next_number, NextFails, image_by, IsLeftOf};
+    ghost use Rattle.lsv_disk.specs.State.{IsImage};
+    ghost use Rattle.lsv_disk.specs.Images.{may_make, left_by, AreHeld};
+
+    /// No call was made.
+    fn empty(alloc: Global, listed: Vec<u64>) -> MemDisk
+        ensures calls { result.calls.items ≡ [] }
+        ensures refused { refusals result ≡ 0 }
+        ensures failing { failing result ≡ listed.items }
+        ensures asked { asked result ≡ 0 }
+    {
+        MemDisk {
+            alloc,
+            listed,
+            asked: 0,
+            refused: 0,
+            calls: Vec::new(alloc),
+            files: Vec::new(alloc),
+        }
+    }
 
     /// No file is there. The calls with the listed numbers fail, counted from 1 over the calls of `create`,
     /// `read_at`, `write_at` and `sync`.
@@ -45,15 +67,60 @@ impl MemDisk {
         ensures failing { IfOk result (λ d. failing d ≡ fail.now) }
         ensures asked { IfOk result (λ d. asked d ≡ 0) }
     {
-        Ok(MemDisk {
-            alloc,
-            listed: fail.to_vec(alloc)?,
-            asked: 0,
-            refused: 0,
-            calls: Vec::new(alloc),
-            files: Vec::new(alloc),
-        })
+        Ok(MemDisk::empty(alloc, fail.to_vec(alloc)?))
     }
+
+    /// Takes over what is left of the call's file after these calls, where the file may be there by the call and
+    /// isn't here yet.
+    fn take_over(
+        &mut self,
+        alloc: Global,
+        calls: &[Call],
+        call: &Call,
+        fill: Fill,
+    ) -> Result<(), NoMem>
+        requires held { AreHeld self.old.calls.items }
+        ensures held { OnOk result (AreHeld self.new.calls.items) }
+        ensures here { OnOk result (reads_of self.new.calls.items call.now.file ≡ (if may_make call.now.effect then option_or (reads_of self.old.calls.items call.now.file) (left_by fill (past_of calls.now call.now.file)) else reads_of self.old.calls.items call.now.file)) }
+        ensures others { OnOk result ((g : FileId) → g ≢ call.now.file → reads_of self.new.calls.items g ≡ reads_of self.old.calls.items g) }
+        ensures refused { self.new.refused ≡ self.old.refused }
+        ensures number { asked self.new ≡ asked self.old }
+        ensures failing { failing self.new ≡ failing self.old }
+    {
+        if !call.effect.may_make() || content(&self.files, call.file).is_some() {
+            return Ok(());
+        }
+        match left(alloc, calls, call.file, fill)? {
+            None => Ok(()),
+            Some(bytes) => hold(alloc, &mut self.files, &mut self.calls, call.file, bytes),
+        }
+    }
+
+    /// A disk that reads as one that a stop of the machine may leave of this one, wholly synced. None of its calls
+    /// fails, and none is counted.
+    pub fn image(&self, alloc: Global, fill: Fill) -> Result<MemDisk, NoMem>
+        ensures image { IfOk result (λ d. IsImage (⟦<MemDisk as Disk>⟧.state self.now) (⟦<MemDisk as Disk>⟧.state d).reads) }
+        ensures content { IfOk result (λ d. (f : FileId) → (⟦<MemDisk as Disk>⟧.state d).reads f ≡ image_by fill self.now f) }
+        ensures settled { IfOk result (λ d. (f : FileId) → Only ((⟦<MemDisk as Disk>⟧.state d).reads f) ((⟦<MemDisk as Disk>⟧.state d).may_leave f)) }
+        ensures faults { IfOk result (λ d. (f : FileId) → ⟦<MemDisk as Disk>⟧.faults d f ≡ 0) }
+        ensures syncs { IfOk result (λ d. (f : FileId) → ⟦<MemDisk as Disk>⟧.syncs d f ≡ 0) }
+        ensures refused { IfOk result (λ d. refusals d ≡ 0) }
+        ensures failing { IfOk result (λ d. failing d ≡ []) }
+        ensures asked { IfOk result (λ d. asked d ≡ 0) }
+    {
+        let mut image = MemDisk::empty(alloc, Vec::new(alloc));
+        for call in &self.calls {
+            image.take_over(alloc, &self.calls, call, fill)?;
+        }
+        Ok(image)
+    }
+
+    /// A stop of the machine may leave a file in exactly these ways: at any length from the one at its last good
+    /// sync to the greatest since, with the bytes of that sync wherever no write since had its range, good or not,
+    /// and with any bytes elsewhere. A file whose making failed is there, empty, or it is not.
+    pub fn what_a_stop_may_leave(&self)
+        ensures { (f : FileId) (c : Option (List ℕ)) → (⟦<MemDisk as Disk>⟧.state self.now).may_leave f c ↔ IsLeftOf self.now f c }
+    {}
 
     /// What a read of the whole file gives.
     pub fn bytes(&self, f: FileId) -> Option<&[u8]>
@@ -110,6 +177,7 @@ impl MemDisk {
     /// Keeps a call that changes nothing of what a read gives.
     fn note(&mut self, file: FileId, effect: Effect) -> Result<(), DiskFault>
         requires quiet { (past : List Effect) → reads_after (effect ∷ past) ≡ reads_after past }
+        requires legal { is_legal (effect ∷ past_of self.old.calls.items file) ≡ is_legal (past_of self.old.calls.items file) }
         ensures ok { OnOk result (Noted self.old.calls.items self.new.calls.items file effect × (self.new.refused ≡ self.old.refused)) }
         ensures err { OnErr result ((self.new.calls.items ≡ self.old.calls.items) × (self.old.refused ≤ self.new.refused) × Rose self.old.refused self.new.refused) }
         ensures number { asked self.new ≡ asked self.old }
@@ -124,6 +192,7 @@ impl MemDisk {
     /// Keeps a call that failed.
     fn fail(&mut self, file: FileId, effect: Effect) -> DiskFault
         requires quiet { (past : List Effect) → reads_after (effect ∷ past) ≡ reads_after past }
+        requires legal { is_legal (effect ∷ past_of self.old.calls.items file) ≡ is_legal (past_of self.old.calls.items file) }
         ensures failed { Failed self.old.calls.items self.new.calls.items file effect self.old.refused self.new.refused }
         ensures number { asked self.new ≡ asked self.old }
         ensures failing { failing self.new ≡ failing self.old }

@@ -129,6 +129,36 @@ fn two_mebibytes_take_no_time(rt: HostRuntime) -> Result<(), Fail> {
     Ok(())
 }
 
+/// A file that was synced as "abc", and then written at its second byte, and past its end, where the call of this
+/// number fails.
+fn unsynced(alloc: Global, number: u64) -> Result<MemDisk, Fail> {
+    let mut disk = MemDisk::new(alloc, &[number])?;
+    disk.create(LOG)?;
+    write_synced(&mut disk, LOG, 0, b"abc")?;
+    let _ = disk.write_at(LOG, 1, b"xy");
+    let _ = disk.write_at(LOG, 3, b"z");
+    Ok(disk)
+}
+
+#[test]
+fn an_image_is_old_or_read_or_filled(rt: HostRuntime) -> Result<(), Fail> {
+    for (number, fill, want) in [
+        (0, Fill::Old, b"abc".as_slice()),
+        (0, Fill::Read, b"axyz"),
+        (0, Fill::Byte(b'-'), b"a---"),
+        (4, Fill::Read, b"abcz"),
+        (4, Fill::Byte(b'-'), b"a---"),
+        (5, Fill::Read, b"axy"),
+        (5, Fill::Byte(b'-'), b"a---"),
+    ] {
+        let disk = unsynced(rt.alloc(), number)?;
+        let image = disk.image(rt.alloc(), fill)?;
+        assert_eq!(rt; image.bytes(LOG), Some(want), "call {number}");
+        assert_eq!(rt; (image.bytes(OTHER), image.failures(LOG)), (None, 0));
+    }
+    Ok(())
+}
+
 /// What holds of any stretch of calls.
 struct Anything;
 

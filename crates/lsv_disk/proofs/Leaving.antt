@@ -1,0 +1,145 @@
+-- What is left of a file, call by call.
+use Rattle.std.proofs.Common.{◌≡◌, ◌≢◌, ◌⊎◌, inl, inr, ◌&&◌, ℕ, ◌+◌, ◌<◌, ◌≤◌, nat_lt, cond, Bool, true, false, List, [], ◌∷◌, ◌++◌, length, take, get_or, Option, None, refl, sym, ◌∙◌, ap, subst, arith}
+use Rattle.std.proofs.lemmas.List.{get_or_default, take_more, take_all}
+use Rattle.std.proofs.lemmas.Bool.{cases_lt, lt-ltb, le-ltb, and_parts, both_ways}
+use Rattle.lsv_disk.specs.declared.file.FileId.{FileId}
+use Rattle.lsv_disk.specs.declared.call.Call.{Call}
+use Rattle.lsv_disk.specs.declared.call.Effect.{Effect}
+use Rattle.lsv_disk.specs.declared.call.Effect.TheVariants.{Held, Made, NotMade, NotRead, Written, NotWritten, Synced, NotSynced}
+use Rattle.lsv_disk.specs.declared.fill.Fill.{Fill}
+use Rattle.lsv_disk.specs.declared.fill.Fill.TheVariants.{Old, Read, Byte}
+use Rattle.lsv_disk.specs.Files.{same_file}
+use Rattle.lsv_disk.specs.Calls.{past_of, reads_after}
+use Rattle.lsv_disk.specs.Images.{settles, read_next, left_next, left_by, IsSettledAt}
+use Rattle.lsv_disk.proofs.Same.{other_not_same, same_or_other, same_itself}
+use Rattle.lsv_disk.proofs.Past.{past_here, past_other, past_none}
+
+-- what a read gives after one more call
+pub read_is : (effect : Effect) (past : List Effect) → reads_after (effect ∷ past) ≡ read_next effect (reads_after past)
+read_is (Held bytes) past = refl
+read_is Made past = refl
+read_is NotMade past = refl
+read_is NotRead past = refl
+read_is (Written at bytes) past = refl
+read_is (NotWritten at n) past = refl
+read_is Synced past = refl
+read_is NotSynced past = refl
+
+-- a call that settles the file leaves what a read gives
+pub settled_is : (fill : Fill) (effect : Effect) (past : List Effect) → settles effect ≡ true → left_by fill (effect ∷ past) ≡ reads_after (effect ∷ past)
+settled_is Old (Held bytes) past is = refl
+settled_is Old Made past is = refl
+settled_is Old Synced past is = refl
+settled_is Read effect past is = refl
+settled_is (Byte byte) (Held bytes) past is = refl
+settled_is (Byte byte) Made past is = refl
+settled_is (Byte byte) Synced past is = refl
+settled_is Old NotMade past is = cc
+settled_is Old NotRead past is = cc
+settled_is Old (Written at bytes) past is = cc
+settled_is Old (NotWritten at n) past is = cc
+settled_is Old NotSynced past is = cc
+settled_is (Byte byte) NotMade past is = cc
+settled_is (Byte byte) NotRead past is = cc
+settled_is (Byte byte) (Written at bytes) past is = cc
+settled_is (Byte byte) (NotWritten at n) past is = cc
+settled_is (Byte byte) NotSynced past is = cc
+
+-- and any other changes what is left
+pub left_is : (fill : Fill) (effect : Effect) (past : List Effect) → settles effect ≡ false → left_by fill (effect ∷ past) ≡ left_next fill effect (left_by fill past)
+left_is Old NotMade past is = refl
+left_is Old NotRead past is = refl
+left_is Old (Written at bytes) past is = refl
+left_is Old (NotWritten at n) past is = refl
+left_is Old NotSynced past is = refl
+left_is Read effect past is = read_is effect past
+left_is (Byte byte) NotMade past is = refl
+left_is (Byte byte) NotRead past is = refl
+left_is (Byte byte) (Written at bytes) past is = refl
+left_is (Byte byte) (NotWritten at n) past is = refl
+left_is (Byte byte) NotSynced past is = refl
+left_is Old (Held bytes) past is = cc
+left_is Old Made past is = cc
+left_is Old Synced past is = cc
+left_is (Byte byte) (Held bytes) past is = cc
+left_is (Byte byte) Made past is = cc
+left_is (Byte byte) Synced past is = cc
+
+-- the past of a file after one more of the calls
+pub past_more : (calls : List Call) (file : FileId) (i : ℕ) (call : Call) → call ≡ get_or calls i call → i < length calls → past_of (take (i + 1) calls) file ≡ cond (same_file call.file file) (call.effect ∷ past_of (take i calls) file) (past_of (take i calls) file)
+past_more calls file i call is lt = ap (λ (cs : List Call). past_of cs file) (take_more calls i call lt ∙ ap (λ (c : Call). take i calls ++ c ∷ []) (sym is)) ∙ by_file (same_or_other file call.file) where
+  by_file : (file ≡ call.file) ⊎ (file ≢ call.file) → past_of (take i calls ++ call ∷ []) file ≡ cond (same_file call.file file) (call.effect ∷ past_of (take i calls) file) (past_of (take i calls) file)
+  by_file (inl e) = subst (λ (f : FileId). past_of (take i calls ++ call ∷ []) f ≡ cond (same_file call.file f) (call.effect ∷ past_of (take i calls) f) (past_of (take i calls) f)) (sym e)
+      (past_here (take i calls) call.file call.effect ∙ ap (λ (b : Bool). cond b (call.effect ∷ past_of (take i calls) call.file) (past_of (take i calls) call.file)) (sym (same_itself call.file)))
+  by_file (inr differs) =
+      past_other (take i calls) call.file call.effect file differs
+      ∙ ap (λ (b : Bool). cond b (call.effect ∷ past_of (take i calls) file) (past_of (take i calls) file)) (sym (other_not_same call.file file (λ e. differs (sym e))))
+
+-- what is left after the first of the calls, of which the last that settled the file stands before a place
+pub record LeftUpTo (calls : List Call) (file : FileId) (fill : Fill) (end i : ℕ) (content : Option (List ℕ)) : Type 0 where
+  pub reads : i ≤ end → content ≡ reads_after (past_of (take i calls) file)
+  pub left : end ≤ i → content ≡ left_by fill (past_of (take i calls) file)
+
+pub left_first : (calls : List Call) (file : FileId) (fill : Fill) (end : ℕ) → LeftUpTo calls file fill end 0 None
+left_first calls file fill end = record {
+  reads = λ _. sym (ap reads_after (past_none file));
+  left = λ _. sym (ap (left_by fill) (past_none file) ∙ none fill);
+} where
+  none : (by : Fill) → left_by by [] ≡ None
+  none Old = refl
+  none Read = refl
+  none (Byte byte) = refl
+
+pub left_more : (calls : List Call) (file : FileId) (fill : Fill) (end i : ℕ) (call : Call) (content next : Option (List ℕ)) → call ≡ get_or calls i call → i < length calls → IsSettledAt calls file end
+    → next ≡ cond (same_file call.file file) (left_next (cond (nat_lt i end) Read fill) call.effect content) content → LeftUpTo calls file fill end i content → LeftUpTo calls file fill end (i + 1) next
+left_more calls file fill end i call content next is lt at next_is upto = by_same (same_file call.file file) refl where
+  past : List Effect
+  past = past_of (take i calls) file
+
+  same_call : (d : Call) → get_or calls i d ≡ call
+  same_call d = get_or_default calls i d call lt ∙ sym is
+
+  Next : Bool → Type 0
+  Next same = next ≡ cond same (left_next (cond (nat_lt i end) Read fill) call.effect content) content
+
+  Past : Bool → Type 0
+  Past same = past_of (take (i + 1) calls) file ≡ cond same (call.effect ∷ past) past
+
+  by_same : (same : Bool) → same_file call.file file ≡ same → LeftUpTo calls file fill end (i + 1) next
+  by_same false e =
+      let stays : next ≡ content = subst Next e next_is in
+      let before : past_of (take (i + 1) calls) file ≡ past = subst Past e (past_more calls file i call is lt) in
+      record {
+        reads = λ le. stays ∙ upto.reads (omega (arith, le)) ∙ ap reads_after (sym before);
+        left = λ le. elim (cases_lt i end) [
+          | inl first ↦
+              let settled = at.settled i (omega (arith, le, first)) call in
+              absurd (both_ways (same_file call.file file) e ((and_parts (same_file call.file file) (settles call.effect) (ap (λ (c : Call). same_file c.file file && settles c.effect) (sym (same_call call)) ∙ settled)).0))
+          | inr later ↦ stays ∙ upto.left later ∙ ap (left_by fill) (sym before)
+        ];
+      }
+  by_same true e =
+      let goes : next ≡ left_next (cond (nat_lt i end) Read fill) call.effect content = subst Next e next_is in
+      let after : past_of (take (i + 1) calls) file ≡ call.effect ∷ past = subst Past e (past_more calls file i call is lt) in
+      elim (cases_lt i end) [
+        | inl first ↦
+            let read : next ≡ reads_after (call.effect ∷ past) =
+            goes ∙ ap (λ (b : Bool). left_next (cond b Read fill) call.effect content) (lt-ltb i end first) ∙ ap (read_next call.effect) (upto.reads (omega (arith, first))) ∙ sym (read_is call.effect past) in
+            record {
+              reads = λ le. read ∙ ap reads_after (sym after);
+              left = λ le.
+                  let settled = at.settled i (omega (arith, le, first)) call in
+                  let it = (and_parts (same_file call.file file) (settles call.effect) (ap (λ (c : Call). same_file c.file file && settles c.effect) (sym (same_call call)) ∙ settled)).1 in
+                  read ∙ sym (settled_is fill call.effect past it) ∙ ap (left_by fill) (sym after);
+            }
+        | inr later ↦
+            let other : settles call.effect ≡ false = ap (λ (b : Bool). b && settles call.effect) (sym e) ∙ ap (λ (c : Call). same_file c.file file && settles c.effect) (sym (same_call call)) ∙ at.after i later lt call in
+            record {
+              reads = λ le. absurd (let no : ⊥ = omega (arith, le, later) in no);
+              left = λ le.
+                  goes ∙ ap (λ (b : Bool). left_next (cond b Read fill) call.effect content) (le-ltb i end later) ∙ ap (left_next fill call.effect) (upto.left later) ∙ sym (left_is fill call.effect past other) ∙ ap (left_by fill) (sym after);
+            }
+      ]
+
+pub left_whole : (calls : List Call) (file : FileId) (fill : Fill) (end i : ℕ) (content : Option (List ℕ)) → IsSettledAt calls file end → length calls ≤ i → LeftUpTo calls file fill end i content → content ≡ left_by fill (past_of calls file)
+left_whole calls file fill end i content at all upto = upto.left (omega (arith, all, at.within)) ∙ ap (λ (cs : List Call). left_by fill (past_of cs file)) (take_all i calls all)
