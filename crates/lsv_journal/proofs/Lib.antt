@@ -1,0 +1,6 @@
+pub mod Counting
+pub mod Growing
+pub mod Appended
+pub mod Words
+pub mod Made
+pub mod Fronts

@@ -1,0 +1,5 @@
+pub mod Entries
+pub mod Last
+pub mod Value
+pub mod Standing
+pub mod Reading
