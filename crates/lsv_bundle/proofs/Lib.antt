@@ -1,0 +1,11 @@
+pub mod Answering
+pub mod Apart
+pub mod Committing
+pub mod Cutting
+pub mod Fronts
+pub mod Journals
+pub mod Lookup
+pub mod Opening
+pub mod Reading
+pub mod Staging
+pub mod Writing

@@ -1,0 +1,60 @@
+ghost use Rattle.std.specs.Prelude.{◌≡◌, ◌<◌, ℕ};
+ghost use Rattle.lsv_bundle.specs.Shape.{parts_of, place_of};
+
+use lsv_disk::Part;
+
+/// Which data files a bundle has.
+#[derive(Clone, Copy, Debug, PartialEq, Eq)]
+pub enum Shape {
+    /// A log: `log.json`, `exit.json`, `timing`, and the five streams.
+    Log,
+    /// An event log: its lines.
+    Lines,
+    /// The state of relaying a log: the identifier that the upstream gave.
+    Relay,
+}
+
+const LOG_PARTS: [Part; 8] = [
+    Part::Head,
+    Part::Exit,
+    Part::Timing,
+    Part::Stdin,
+    Part::Stdout,
+    Part::Stderr,
+    Part::Ttyin,
+    Part::Ttyout,
+];
+
+const LINES_PARTS: [Part; 1] = [Part::Lines];
+
+const RELAY_PARTS: [Part; 1] = [Part::Id];
+
+impl Shape {
+    /// Its parts, in the order of the eight lengths.
+    pub fn parts(self) -> &'static [Part]
+        ensures { result.now ≡ parts_of self }
+    {
+        match self {
+            Shape::Log => &LOG_PARTS,
+            Shape::Lines => &LINES_PARTS,
+            Shape::Relay => &RELAY_PARTS,
+        }
+    }
+}
+
+/// The place of a part among the eight lengths.
+pub fn place(part: Part) -> usize
+    ensures place { result ≡ place_of part }
+    ensures below { result < 8 }
+{
+    match part {
+        Part::Head | Part::Lines | Part::Id | Part::Commit => 0,
+        Part::Exit => 1,
+        Part::Timing => 2,
+        Part::Stdin => 3,
+        Part::Stdout => 4,
+        Part::Stderr => 5,
+        Part::Ttyin => 6,
+        Part::Ttyout => 7,
+    }
+}
