@@ -7,7 +7,8 @@ For each load it prints the processor time a message, the bytes of input a secon
 memory beside what the records themselves take. A tenth of each load is run too: the ratio of the
 processor times shows that the cost is linear. Then come messages of the greatest size that hold as
 many parts as fit, with one of half the size beside each. MESSAGES (lsv_bench) reads and writes one
-message a million times, and lays a million records and reads them back.
+message a million times, lays a million records and reads them back, and flushes a bundle in a
+store in the folder that it is run in.
 """
 import os
 import resource
@@ -136,12 +137,35 @@ def measure_records(messages):
           f"{min(reading) / 1e9:.3f} us a record to read them (at most 0.2)")
 
 
+def timed_flushes(messages, word, place):
+    """The nanoseconds of all flushes, those of their writes and syncs alone, and how many there were."""
+    folder = tempfile.mkdtemp(dir=place)
+    try:
+        child = subprocess.run([messages, word], cwd=folder, capture_output=True, text=True)
+        if child.returncode != 0:
+            sys.exit(f"bench: {word} ended with status {child.returncode}")
+        flushing, writing = (int(it) for it in child.stderr.split())
+        return flushing, writing, int(child.stdout)
+    finally:
+        shutil.rmtree(folder)
+
+
+def measure_flushes(messages):
+    runs = [timed_flushes(messages, "flush", ".") for _ in range(RUNS)]
+    flushing, writing, count = min(r[0] for r in runs), min(r[1] for r in runs), runs[0][2]
+    print(f"flushes of two data files on disk: {count / flushing * 1e9:.0f} a second, {writing / flushing:.2f} of the rate "
+          f"of their four writes and syncs alone, {count / writing * 1e9:.0f} a second (at least 0.9)")
+    flushing, _, count = min(timed_flushes(messages, "flush-often", "/dev/shm") for _ in range(RUNS))
+    print(f"flushes of 100 bytes on /dev/shm: {flushing / count / 1e3:.2f} us each (at most 5)")
+
+
 def main():
     program, messages = (os.path.abspath(it) for it in sys.argv[1:3])
     measure_sessions(program)
     measure_crowds(program)
     measure_messages(messages)
     measure_records(messages)
+    measure_flushes(messages)
 
 
 if __name__ == "__main__":

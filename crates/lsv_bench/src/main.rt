@@ -1,7 +1,10 @@
-//! Reads or writes one message a million times, or lays and reads a million records, so that `make bench` can
-//! measure each alone.
+//! Reads or writes one message a million times, lays and reads a million records, or flushes a bundle, so that
+//! `make bench` can measure each alone.
 #![tactic(auto)]
 
+mod flushes;
+
+use flushes::flushes;
 use lsv_base::{Bytes, List};
 use lsv_msg::{ClientMessage, decode_client, encode_client};
 use lsv_record::{Record, Stream, lay, read_log};
@@ -76,6 +79,8 @@ fn measured(rt: &HostRuntime) -> Option<u64> {
         "decode" => decode_all(alloc),
         "encode" => encode_all(alloc),
         "records" => lay_and_read(rt),
+        "flush" => flushes(*rt, 2_000),
+        "flush-often" => flushes(*rt, 100_000),
         _ => None,
     }
 }
