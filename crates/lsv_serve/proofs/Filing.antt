@@ -1,10 +1,10 @@
 -- Files of log 1, one after another.
-use Rattle.std.proofs.Common.{◌≡◌, ◌≤◌, ◌-◌, ◌⊎◌, inl, inr, List, [], ◌∷◌, ℕ, length, take, drop, get_or, map, Bool, true, false, Option, Some, None, Result, refl, sym, ap, subst, ◌∙◌, true≢false, arith}
-use Rattle.std.specs.Prelude.{IfOk, OnOk, is_some, nat_eq, not, ◌&&◌, ◌||◌}
+use Rattle.std.proofs.Common.{◌≡◌, ◌≤◌, ◌-◌, inl, inr, List, [], ◌∷◌, ℕ, length, take, drop, get_or, Bool, true, false, Option, Some, None, refl, sym, ap, subst, ◌∙◌, true≢false, arith}
+use Rattle.std.specs.Prelude.{is_some, nat_eq, not, ◌&&◌, ◌||◌}
 use Rattle.std.proofs.lemmas.List.{take_all}
 use Rattle.std.proofs.lemmas.Bool.{eq-eqb}
 use Rattle.lsv_disk.specs.Bytes.{size_of}
-use Rattle.lsv_disk.specs.State.{DiskState, Image, Only, Elsewhere}
+use Rattle.lsv_disk.specs.State.{DiskState, Image, Elsewhere}
 use Rattle.lsv_disk.specs.declared.file.FileId.{FileId}
 use Rattle.lsv_disk.specs.declared.file.Part.{Part}
 use Rattle.lsv_disk.specs.declared.file.Part.TheVariants as part

@@ -1,12 +1,11 @@
 -- What is a signal's name.
-use Rattle.std.proofs.Common.{◌≡◌, ◌≤◌, ◌↔◌, List, ℕ, length, Bool, true, false, Option, Some, None, Result, Ok, Err, refl, sym, ◌∙◌}
+use Rattle.std.proofs.Common.{◌≡◌, ◌↔◌, List, ℕ, length, Bool, true, false, Option, Some, None, Ok, Err, refl, sym, ◌∙◌}
 use Rattle.std.specs.Prelude.{IsTrue, nat_le, ◌&&◌, ok_or, option_and_then}
 use Rattle.lsv_base.specs.Time.{nanos_of}
 use Rattle.lsv_msg.specs.declared.messages.CommandSuspend.{CommandSuspend}
 use Rattle.lsv_record.specs.declared.records.Record.TheVariants.{Suspend}
-use Rattle.lsv_serve.specs.declared.judge.Refusal.{Refusal}
 use Rattle.lsv_serve.specs.declared.judge.Refusal.TheVariants.{BadTime, BadSize}
-use Rattle.std.specs.List.{All, list_all}
+use Rattle.std.specs.List.{list_all}
 use Rattle.std.proofs.lemmas.List.Sums.{AllPass-from_list_all, list_all-from_AllPass}
 use Rattle.std.proofs.lemmas.Bool.{leb-true, le-leb}
 use Rattle.lsv_record.specs.Records.{IsSignal}

@@ -20,7 +20,7 @@ use Rattle.lsv_serve.specs.Said.{Said, Hello, Accepted, Recorded, Exited, Malfor
 use Rattle.lsv_serve.specs.Machine.{Stage, Fresh, Greeted, Running, Stored, Refused, Outcome, plainly, quietly, accepted, finished, UsesDevice, refused, refusal_text}
 use Rattle.lsv_serve.specs.Reply.{spoken, Error, CommitPoint}
 use Rattle.lsv_serve.specs.Staged.{staged}
-use Rattle.lsv_serve.specs.Store.{Holds, HasCome, HoldsHead, HoldsLaid, HoldsLayout, IsOfLog, log_file}
+use Rattle.lsv_serve.specs.Store.{Holds, HasCome, HoldsLaid, IsOfLog, log_file}
 use Rattle.lsv_serve.specs.Steps.{session_at, IsReady, Quietly, Steps}
 
 -- an accept that makes the log
@@ -61,7 +61,6 @@ quietly-refused text old said new out_old out_new m r = record {
 -- the text that the code chose
 pub chosen : (t text : List ℕ) (new : Session) (out_old out_new : List ℕ) → t ≡ text → IsRefusal t new out_old out_new → IsRefusal text new out_old out_new
 chosen t text new out_old out_new e r = subst (λ x. IsRefusal x new out_old out_new) e r
-
 
 -- a hello comes first alone
 pub refuses-hello : (old : Stage) → (session_at old ≡ session.Fresh → ⊥) → Refuses (codes "not built") old (Some Hello)

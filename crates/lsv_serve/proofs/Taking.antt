@@ -15,7 +15,7 @@ use Rattle.lsv_serve.specs.Once.{MayBeThere}
 use Rattle.lsv_serve.specs.Reply.{Reply, spoken, reply_message}
 use Rattle.lsv_serve.specs.Store.{HasCome, IsOfLog, LogFailed, log_is_there, log_parts}
 use Rattle.lsv_serve.proofs.Filing.{is-there-same}
-use Rattle.lsv_serve.specs.Steps.{session_at, IsReady, IsReadyFor, Stands, TakesOne, TakesNone, TakesSome, TakesAll}
+use Rattle.lsv_serve.specs.Steps.{IsReady, IsReadyFor, Stands, TakesOne, TakesNone, TakesSome, TakesAll}
 
 -- what was touched in either of two stretches
 pub elsewhere-then : (T U V : FileId → Type 0) (a b c : DiskState) → ((f : FileId) → T f → V f) → ((f : FileId) → U f → V f) → Elsewhere T a b → Elsewhere U b c → Elsewhere V a c

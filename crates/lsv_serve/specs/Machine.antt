@@ -97,6 +97,7 @@ UsesDevice Fresh (Some (Accepted (Ok head))) = Unit {0}
 UsesDevice Greeted (Some (Accepted (Ok head))) = Unit {0}
 UsesDevice (Running head records) (Some (Exited (Ok exit))) = Unit {0}
 UsesDevice stage said = ⊥
+
 -- what a message brings: There says which answers the disk may give to whether a file of log 1 is there, and
 -- Failed that a device call on such a file failed
 abbrev pub Brings : (There : Bool → Type 0) (Failed : Type 0) → Stage → Option Said → Outcome → Type 0

@@ -1,6 +1,6 @@
 -- The records that a running session keeps.
-use Rattle.std.specs.Prelude.{ℕ, List, [], ◌++◌}
-use Rattle.lsv_record.specs.Records.{elapsed, timing_of, stream_of}
+use Rattle.std.specs.Prelude.{ℕ, List, ◌++◌}
+use Rattle.lsv_record.specs.Records.{elapsed}
 use Rattle.lsv_record.specs.declared.laid.Laid.{Laid}
 use Rattle.lsv_record.specs.declared.records.Record.{Record}
 use Rattle.lsv_record.specs.declared.records.Stream.{Stream}

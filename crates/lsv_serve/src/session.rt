@@ -77,12 +77,7 @@ impl Session {
     }
 
     /// Refuses an accept for what is in it, where one may come at all.
-    fn refuse_accept(
-        &mut self,
-        alloc: Global,
-        why: Refusal,
-        out: &mut Bytes,
-    ) -> Result<(), NoMem>
+    fn refuse_accept(&mut self, alloc: Global, why: Refusal, out: &mut Bytes) -> Result<(), NoMem>
         ensures { OnOk result ((old : Stage) → self.old ≡ session_at old → Quietly old (Some (Accepted (Err why))) self.new out.old out.new) }
     {
         let text = if self.may_begin() {
@@ -164,12 +159,7 @@ impl Session {
     }
 
     /// Refuses a record or an exit for what is in it, where one may come at all.
-    fn refuse_running(
-        &mut self,
-        alloc: Global,
-        why: Refusal,
-        out: &mut Bytes,
-    ) -> Result<(), NoMem>
+    fn refuse_running(&mut self, alloc: Global, why: Refusal, out: &mut Bytes) -> Result<(), NoMem>
         ensures of_record { OnOk result ((old : Stage) → self.old ≡ session_at old → Quietly old (Some (Recorded (Err why))) self.new out.old out.new) }
         ensures of_exit { OnOk result ((old : Stage) → self.old ≡ session_at old → Quietly old (Some (Exited (Err why))) self.new out.old out.new) }
     {

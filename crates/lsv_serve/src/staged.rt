@@ -30,9 +30,8 @@ fn delay_of(r: &Record) -> u64
     ensures { result ≡ delay_of r.now }
 {
     match r {
-        Record::Io { delay, .. } | Record::Winsize { delay, .. } | Record::Suspend { delay, .. } => {
-            *delay
-        }
+        Record::Io { delay, .. } | Record::Winsize { delay, .. } | Record::Suspend { delay, .. } =>
+            { *delay }
     }
 }
 

@@ -58,7 +58,8 @@ const EMPTY_OUTPUT: &[u8] = b"\0\0\0\x0a:\x08\x0a\x06\x10\x80\xca\xb5\xee\x01";
 const LATE_OUTPUT: &[u8] = b"\0\0\0\x10:\x0e\x0a\x0c\x08\x84\xfa\x85\xae\"\x10\xff\xaf\xcb\x97\x03";
 
 /// After -1 nanoseconds.
-const NEGATIVE_OUTPUT: &[u8] = b"\0\0\0\x12:\x10\x0a\x0b\x10\xff\xff\xff\xff\xff\xff\xff\xff\xff\x01\x12\x01x";
+const NEGATIVE_OUTPUT: &[u8] =
+    b"\0\0\0\x12:\x10\x0a\x0b\x10\xff\xff\xff\xff\xff\xff\xff\xff\xff\x01\x12\x01x";
 
 /// After 2^32 nanoseconds, of which the field takes the low 32 bits.
 const WRAPPED_OUTPUT: &[u8] = b"\0\0\0\x0d:\x0b\x0a\x06\x10\x80\x80\x80\x80\x10\x12\x01x";
@@ -75,7 +76,8 @@ const STDERR: &[u8] = b"\0\0\0\x0cR\x0a\x0a\0\x12\x06stderr";
 
 const WINDOW: &[u8] = b"\0\0\0\x0aZ\x08\x0a\x02\x08\x01\x10\x18\x18P";
 
-const NEGATIVE_WINDOW: &[u8] = b"\0\0\0\x11Z\x0f\x0a\0\x10\xff\xff\xff\xff\xff\xff\xff\xff\xff\x01\x18P";
+const NEGATIVE_WINDOW: &[u8] =
+    b"\0\0\0\x11Z\x0f\x0a\0\x10\xff\xff\xff\xff\xff\xff\xff\xff\xff\x01\x18P";
 
 const TIMELESS_WINDOW: &[u8] = b"\0\0\0\x0dZ\x0b\x10\xff\xff\xff\xff\xff\xff\xff\xff\xff\x01";
 
@@ -92,11 +94,10 @@ const EXIT_BY_SIGNAL: &[u8] = b"\
       \0\0\0\x1a\x1a\x18\x0a\x08\x08\x03\x10\x80\x8c\x8d\x9e\x02\x10\x01\x18\x01\"\x04SEGV\
       *\x02no";
 
-const EXIT_BEFORE_START: &[u8] = b"\0\0\0\x0f\x1a\x0d\x0a\x0b\x08\xff\xff\xff\xff\xff\xff\xff\xff\xff\x01";
-
+const EXIT_BEFORE_START: &[u8] =
+    b"\0\0\0\x0f\x1a\x0d\x0a\x0b\x08\xff\xff\xff\xff\xff\xff\xff\xff\xff\x01";
 
 // A whole session of `id -u`, piece by piece.
-
 
 const WHOLE_ACCEPT: &[u8] = b"\
       \0\0\0\xe3\x0a\xe0\x01\x0a\x06\x08\x80\xe2\xcf\xaa\x06\x12\x16\x0a\x07command\x1a\
@@ -115,8 +116,6 @@ const WHOLE_ANSWER: &[u8] = b"\0\0\0\x0b:\x09\x0a\0\x12\x05\x0d\x0a0\x0d\x0a";
 const WHOLE_WINDOW: &[u8] = b"\0\0\0\x0aZ\x08\x0a\x02\x08\x02\x10\x1e\x18d";
 
 const WHOLE_EXIT: &[u8] = b"\0\0\0\x0c\x1a\x0a\x0a\x08\x08\x03\x10\x80\x8c\x8d\x9e\x02";
-
-
 
 const SERVER_HELLO: &[u8] = b"\0\0\0\x0b\x0a\x09\x0a\x05lsv 1 \x01";
 
@@ -146,7 +145,8 @@ const LOG_FULL: &[u8] = b"\0\0\0\x0a\"\x08log full";
 
 const DEVICE_FAULT: &[u8] = b"\0\0\0\x0e\"\x0cdevice fault";
 
-const HEAD: &[u8] = b"{\"info\":{\"command\":\"/bin/ls\",\"runuser\":\"root\",\"submithost\":\"web1\",\
+const HEAD: &[u8] =
+    b"{\"info\":{\"command\":\"/bin/ls\",\"runuser\":\"root\",\"submithost\":\"web1\",\
       \"submituser\":\"ann\"},\"submit_time\":{\"nanoseconds\":0,\"seconds\":0}}\n";
 
 const HEAD_OF_NO_UTF8: &[u8] = b"{\"info\":{\"command\":\"/bin/ls\",\"runargv\":[\"\xef\xbf\xbd\"],\
@@ -260,11 +260,21 @@ fn stored(world: &World, part: Part) -> Option<&[u8]> {
     })
 }
 
-/// Asserts what the files of log 1 hold, all absent where there is none.
-fn holds(rt: &impl Abort, case: usize, world: &World, files: Option<Files<'_>>) {
+/// Asserts what the files of log 1 hold.
+fn holds(rt: &impl Abort, case: usize, world: &World, files: Files<'_>) {
     for i in 0..8 {
-        let expected = files.map(|files| files[i]);
-        assert_eq!(rt; stored(world, PARTS[i]), expected, "file {i} in case {case}");
+        assert_eq!(rt;
+            stored(world, PARTS[i]),
+            Some(files[i]),
+            "file {i} in case {case}"
+        );
+    }
+}
+
+/// Asserts that log 1 has no file.
+fn holds_nothing(rt: &impl Abort, case: usize, world: &World) {
+    for part in PARTS {
+        assert!(rt; stored(world, part).is_none(), "in case {case}");
     }
 }
 
@@ -276,8 +286,17 @@ fn a_session_is_stored_however_its_input_is_cut(rt: HostRuntime) -> Result<(), F
         let world = world_of(rt.alloc(), pieces, NONE)?;
         let answers = &[SERVER_HELLO, LOG_ID, COMMIT_POINT][..];
         let world = ends(&rt, rt.alloc(), cut_size, world, Status::Served, answers)?;
-        let files = [HEAD, EXIT_TEXT, b"4 0.500000000 2\n", b"", b"", b"", b"", b"hi"];
-        holds(&rt, cut_size, &world, Some(files));
+        let files = [
+            HEAD,
+            EXIT_TEXT,
+            b"4 0.500000000 2\n",
+            b"",
+            b"",
+            b"",
+            b"",
+            b"hi",
+        ];
+        holds(&rt, cut_size, &world, files);
     }
     Ok(())
 }
@@ -360,7 +379,7 @@ fn whole_sessions_are_stored(rt: HostRuntime) -> Result<(), Fail> {
         let world = world_of(rt.alloc(), list_of(rt.alloc(), frames)?, NONE)?;
         let answers = &[SERVER_HELLO, LOG_ID, commit_point][..];
         let world = ends(&rt, rt.alloc(), case, world, Status::Served, answers)?;
-        holds(&rt, case, &world, Some(files));
+        holds(&rt, case, &world, files);
     }
     Ok(())
 }
@@ -388,7 +407,7 @@ fn what_cannot_be_taken_ends_the_session(rt: HostRuntime) -> Result<(), Fail> {
         let world = world_of(rt.alloc(), pieces, second_read_fails)?;
         let answers = &[SERVER_HELLO, error][..];
         let world = ends(&rt, rt.alloc(), case, world, Status::Served, answers)?;
-        holds(&rt, case, &world, None);
+        holds_nothing(&rt, case, &world);
     }
     Ok(())
 }
@@ -412,7 +431,7 @@ fn a_running_session_refuses_what_it_cannot_take(rt: HostRuntime) -> Result<(), 
         let world = world_of(rt.alloc(), pieces, NONE)?;
         let answers = &[SERVER_HELLO, LOG_ID, error][..];
         let world = ends(&rt, rt.alloc(), case, world, Status::Served, answers)?;
-        holds(&rt, case, &world, Some([HEAD, b"", b"", b"", b"", b"", b"", b""]));
+        holds(&rt, case, &world, [HEAD, b"", b"", b"", b"", b"", b"", b""]);
     }
     Ok(())
 }
@@ -423,12 +442,16 @@ fn a_frame_of_the_limit_is_a_message_and_a_part_of_one_is_none(
 ) -> Result<(), Fail> {
     let body = vec![in rt.alloc(); 0u8; 2_097_152]?;
     for (case, pieces, answers) in [
-        (1, &[b"\0\x20\0\0", &body[..]][..], &[SERVER_HELLO, MALFORMED][..]),
+        (
+            1,
+            &[b"\0\x20\0\0", &body[..]][..],
+            &[SERVER_HELLO, MALFORMED][..],
+        ),
         (2, &[b"\0\0\0".as_slice()][..], &[SERVER_HELLO][..]),
     ] {
         let world = world_of(rt.alloc(), list_of(rt.alloc(), pieces)?, NONE)?;
         let world = ends(&rt, rt.alloc(), case, world, Status::Served, answers)?;
-        holds(&rt, case, &world, None);
+        holds_nothing(&rt, case, &world);
     }
     Ok(())
 }
@@ -453,7 +476,11 @@ fn a_log_of_which_a_file_is_there_is_not_made_again(rt: HostRuntime) -> Result<(
         let answers = &[SERVER_HELLO, NOT_BUILT][..];
         let world = ends(&rt, rt.alloc(), case, world, Status::Served, answers)?;
         for (i, other) in PARTS.iter().enumerate() {
-            assert_eq!(rt; stored(&world, *other).is_some(), i == case, "in case {case}");
+            assert_eq!(rt;
+                stored(&world, *other).is_some(),
+                i == case,
+                "in case {case}"
+            );
         }
     }
     Ok(())
@@ -525,7 +552,7 @@ fn other_words_touch_nothing(rt: HostRuntime) -> Result<(), Fail> {
         let ended = logsrvd(rt.alloc(), &words, &mut world);
         assert_eq!(rt; ended, Status::Usage, "in case {case}");
         assert!(rt; world.sink.bytes().is_empty(), "in case {case}");
-        holds(&rt, case, &world, None);
+        holds_nothing(&rt, case, &world);
     }
     Ok(())
 }

@@ -1,4 +1,4 @@
-use Rattle.std.proofs.Common.{refl, sym, ap, ◌∙◌}
+use Rattle.std.proofs.Common.{sym, ap, ◌∙◌}
 use Rattle.lsv_serve.specs.Said.{is_signal}
 use Rattle.lsv_serve.proofs.Judging.{signal-test, suspended, not-suspended}
 use Rattle.lsv_serve.proofs.judge.suspend_of.Goals as goal

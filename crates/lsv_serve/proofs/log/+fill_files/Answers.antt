@@ -1,12 +1,11 @@
-use Rattle.std.proofs.Common.{rules, get_or}
+use Rattle.std.proofs.Common.{rules}
 use Rattle.std.proofs.lemmas.Result.{on_ok_weaker}
 use Rattle.lsv_serve.proofs.Filing.{filings-apart, filings-empty, filings-filled}
 use Rattle.lsv_serve.proofs.log.+fill_files.Goals as goal
 
 pub fill_files-requires : goal.fill_files-requires
 fill_files-requires g t c κs within =
-    let some = c.in-len1-up.len_at_least in
-    (
+    let some = c.in-len1-up.len_at_least in (
       search rules,
       (
         within,

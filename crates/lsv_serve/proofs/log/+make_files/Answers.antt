@@ -5,8 +5,7 @@ use Rattle.lsv_serve.proofs.log.+make_files.Goals as goal
 
 pub make_files-requires : goal.make_files-requires
 make_files-requires g t c κs within =
-    let some = c.in-len1-up.len_at_least in
-    (
+    let some = c.in-len1-up.len_at_least in (
       search rules,
       (
         within,

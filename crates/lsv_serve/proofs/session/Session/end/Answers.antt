@@ -1,6 +1,5 @@
-use Rattle.std.proofs.Common.{refl, sym, ap, ◌∙◌, Some}
+use Rattle.std.proofs.Common.{refl, sym, ◌∙◌}
 use Rattle.std.proofs.lemmas.Result.{on_ok_weaker}
-use Rattle.lsv_serve.specs.Said.{Exited}
 use Rattle.lsv_serve.specs.Store.{log_is_there}
 use Rattle.lsv_serve.proofs.Stepping.{steps-quietly, files-exit-for}
 use Rattle.lsv_serve.proofs.session.Session.end.Goals as goal

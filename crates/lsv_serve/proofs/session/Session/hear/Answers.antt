@@ -1,4 +1,4 @@
-use Rattle.std.proofs.Common.{refl, sym, ap, subst, ◌∙◌, arith}
+use Rattle.std.proofs.Common.{refl, arith}
 use Rattle.std.proofs.lemmas.Result.{on_ok_weaker}
 use Rattle.lsv_serve.specs.Store.{log_is_there}
 use Rattle.lsv_serve.proofs.Stepping.{steps-quietly, files-hello, files-other, said-other, untouched}
