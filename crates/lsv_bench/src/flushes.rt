@@ -10,7 +10,8 @@ use std::time::Instant;
 /// A line of timing and the data of a record, 100 bytes together.
 const LINE: &[u8] = b"4 0.001000000 82\n";
 
-const DATA: &[u8] = b"0123456789012345678901234567890123456789012345678901234567890123456789012345678901\n";
+const DATA: &[u8] =
+    b"0123456789012345678901234567890123456789012345678901234567890123456789012345678901\n";
 
 /// The bytes of an entry of the journal, and the gate behind it.
 const ENTRY: &[u8] = &[0; 90];
