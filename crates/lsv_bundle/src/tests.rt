@@ -11,12 +11,13 @@ ghost use Rattle.lsv_bundle.specs.Held.{HoldsEntry, IsBeforeOrAfter, held, held_
 ghost use Rattle.lsv_bundle.specs.Standing.{IsAt};
 
 use super::*;
-use lsv_disk::{Disk, FileId, Fill, MemDisk, Owner, Part};
+use lsv_disk::{Claim, Disk, FileId, Fill, MemDisk, Owner, Part};
 use std::alloc::Global;
+use std::marker::PhantomData;
 use std::test::Fail;
 
 /// Flushes two bundles of different owners, one after the other: at every moment each of them holds what it held
-/// before or what it holds next, and after Ok both hold what they hold next.
+/// before or what it holds next.
 fn flush_both<D: Disk>(
     first: &mut Bundle,
     second: &mut Bundle,
@@ -84,13 +85,23 @@ fn commit<D: Disk>(
     bundle.flush(disk, 1, count, 0, 0)
 }
 
-/// Makes a bundle, and commits lines twice.
+/// Makes a bundle, commits lines twice, and cuts them away.
 fn script<D: Disk>(alloc: Global, disk: &mut D) -> Result<(), BundleFault>
     requires { D.tells → IsAbsent (journal_of EVENTS) (D.state disk.old).reads }
 {
     let mut bundle = Bundle::create(alloc, disk, EVENTS, Shape::Lines)?;
     commit(&mut bundle, disk, b"one", 1)?;
-    commit(&mut bundle, disk, b"two", 2)
+    commit(&mut bundle, disk, b"two", 2)?;
+    bundle.cut(disk, [0; 8], 0, 0, 0)
+}
+
+/// A claim of no file.
+struct Nothing;
+
+impl Claim for Nothing {
+    ghost touched = { λ _. ⊥ };
+
+    ghost holds = { λ _. Unit {0} };
 }
 
 /// Makes a bundle, commits a line, reads it from its second byte on, and cuts it away.
@@ -102,6 +113,10 @@ fn read_and_cut<D: Disk>(alloc: Global, disk: &mut D) -> Result<([u8; 4], usize,
     let mut buf = [0; 4];
     let count = bundle.read(disk, Part::Lines, 1, &mut buf)?;
     bundle.cut(disk, [0; 8], 0, 0, 7)?;
+    bundles_are_apart();
+    images_hold_what_was_committed(&bundle, &*disk);
+    staging_commits_nothing(&bundle, &bundle, &*disk);
+    bundles_stay(&bundle, &*disk, &*disk, PhantomData::<Nothing>);
     Ok((buf, count, bundle.last()))
 }
 
@@ -135,7 +150,7 @@ fn story(
 #[test]
 fn each_call_that_fails_leaves_the_entry_before_or_after(rt: HostRuntime) -> Result<(), Fail> {
     let fault = Err(BundleFault::Disk);
-    let (none, one, two) = (None, Some((1, 3)), Some((2, 6)));
+    let (none, one, two, cut) = (None, Some((1, 3)), Some((2, 6)), Some((0, 0)));
     for (number, want) in [
         (1, (fault, [none; 4])),
         (2, (fault, [none; 4])),
@@ -147,7 +162,11 @@ fn each_call_that_fails_leaves_the_entry_before_or_after(rt: HostRuntime) -> Res
         (12, (fault, [one; 4])),
         (15, (fault, [one, one, one, two])),
         (16, (fault, [one, two, one, two])),
-        (0, (Ok(()), [two; 4])),
+        (17, (fault, [two; 4])),
+        (18, (fault, [two; 4])),
+        (19, (fault, [two, two, two, cut])),
+        (20, (fault, [two, cut, two, cut])),
+        (0, (Ok(()), [cut; 4])),
     ] {
         let told = story(rt.alloc(), number)?;
         assert_eq!(rt; told, want, "call {number}");
