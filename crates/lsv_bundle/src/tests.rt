@@ -17,7 +17,7 @@ use std::marker::PhantomData;
 use std::test::Fail;
 
 /// Flushes two bundles of different owners, one after the other: at every moment each of them holds what it held
-/// before or what it holds next.
+/// before or what it holds next, and after Ok both hold what they hold next.
 fn flush_both<D: Disk>(
     first: &mut Bundle,
     second: &mut Bundle,
@@ -32,6 +32,9 @@ fn flush_both<D: Disk>(
         (λ image. IsBeforeOrAfter first.old.owner first.old.shape (held first.old (D.state disk.old)) (Some (held_next first.old (D.state disk.old) 1 1 0 0)) image
         × IsBeforeOrAfter second.old.owner second.old.shape (held second.old (D.state disk.old)) (Some (held_next second.old (D.state disk.old) 1 1 0 0)) image)
         (D.state disk.old) (D.state disk.new) }
+    ensures acknowledged { D.tells → OnOk result ((image : Image) → IsImage (D.state disk.new) image
+        → HoldsEntry first.old.owner first.old.shape (held_next first.old (D.state disk.old) 1 1 0 0) image
+        × HoldsEntry second.old.owner second.old.shape (held_next second.old (D.state disk.old) 1 1 0 0) image) }
     ensures entries { OnOk result ((first.new.last ≢ None) × (second.new.last ≢ None)) }
 {
     first.flush(disk, 1, 1, 0, 0)?;

@@ -1,7 +1,8 @@
 -- Two bundles of different owners: while the one is flushed, the other holds what it held.
 use Rattle.std.proofs.Common.{◌≡◌, ◌≢◌, ◌⊎◌, inl, inr, Option, Some, sym, subst, ◌∙◌}
 use Rattle.lsv_disk.specs.declared.file.FileId.{FileId}
-use Rattle.lsv_disk.specs.State.{Image, DiskState}
+use Rattle.std.proofs.lemmas.Result.{on_ok_weaker}
+use Rattle.lsv_disk.specs.State.{Image, DiskState, IsImage}
 use Rattle.lsv_disk.specs.Runs.{Runs}
 use Rattle.lsv_disk.proofs.Composition.{followed, widened}
 use Rattle.lsv_bundle.specs.Shape.{IsOwnFile}
@@ -40,6 +41,17 @@ module _ (a b : BundleView) (old : DiskState) (differ : a.owner ≢ b.owner) whe
       ))
       next
 
+  -- after both, each image has both next entries
+  both_next : (mid new : DiskState) → Runs (IsOwnFile a.owner a.shape) (Either a old) old mid
+      → ((image : Image) → IsOwnImage a.owner a.shape mid image → HoldsEntry a.owner a.shape (held_next a old 1 1 0 0) image)
+      → Runs (IsOwnFile b.owner b.shape) (Either b mid) mid new
+      → ((image : Image) → IsOwnImage b.owner b.shape new image → HoldsEntry b.owner b.shape (held_next b mid 1 1 0 0) image)
+      → (image : Image) → IsImage new image → HoldsEntry a.owner a.shape (held_next a old 1 1 0 0) image × HoldsEntry b.owner b.shape (held_next b old 1 1 0 0) image
+  both_next mid new one first two second image is = (
+    first image (λ f own. two.elsewhere.crash f (λ own_b. apart a.owner b.owner a.shape b.shape f differ own own_b) (image f) (is f)),
+    subst (λ (h : Held). HoldsEntry b.owner b.shape h image) (owner_next b (IsOwnFile a.owner a.shape) old mid one.elsewhere others 1 1 0 0) (second image (λ f own. is f)),
+  )
+
 pub returns-in_err-flush-clause-any_moment : goal.returns-in_err-flush-clause-any_moment
 returns-in_err-flush-clause-any_moment g c told =
     first_run c.args.first.now c.args.second.now (g.D.Disk.state c.args.disk.now) c.requires.apart (g.D.Disk.state c.flush.new.disk)
@@ -63,3 +75,13 @@ returns-clause-any_moment g c told =
     followed (Touched a b old c.requires.apart) (Both a b old c.requires.apart) old mid new
     (first_run a b old c.requires.apart mid (c.requires.second_stands told) one)
     (second_run a b old c.requires.apart mid new one (c.in_ok-flush.ensures.acknowledged told) (c.flush-2.ensures.any_moment told c.requires.second_whole))
+
+pub returns-clause-acknowledged : goal.returns-clause-acknowledged
+returns-clause-acknowledged g c told =
+    let a = c.args.first.now in
+    let b = c.args.second.now in
+    let old = g.D.Disk.state c.args.disk.now in
+    let mid = g.D.Disk.state c.flush.new.disk in
+    let new = g.D.Disk.state c.flush-2.new.disk in
+    on_ok_weaker c.flush-2.result (both_next a b old c.requires.apart mid new (c.flush.ensures.any_moment told c.requires.first_whole) (c.in_ok-flush.ensures.acknowledged told) (c.flush-2.ensures.any_moment told c.requires.second_whole))
+    (c.flush-2.ensures.acknowledged told)
