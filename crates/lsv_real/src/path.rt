@@ -1,4 +1,8 @@
 // Where the files of the store stand.
+ghost use Rattle.std.specs.Prelude.{◌≡◌, ◌&&◌, ◌++◌, IfOk, is_some, option_map, codes, string_bytes};
+ghost use Rattle.lsv_disk.specs.declared.file.Part.TheVariants.{Commit};
+ghost use Rattle.lsv_real.specs.Places.{has_place, is_log_number, lane_path, log_name, relay_name};
+
 use lsv_base::LogNo;
 use lsv_disk::{FileId, Owner, Part};
 use std::alloc::{AllocError, Global};
@@ -18,21 +22,31 @@ pub struct Place {
 }
 
 impl Places {
-    /// None where the file's number is that of no log.
-    pub fn place_of(&self, alloc: Global, f: FileId) -> Result<Option<Place>, AllocError> {
-        match f.owner {
-            Owner::Log(n) => self.in_log(alloc, n, log_part(f.part)),
-            Owner::Relay(n) => self.in_log(alloc, n, relay_part(f.part)),
-            Owner::Numbers(lane) => Ok(Some(numbers_place(alloc, self.dir.as_str(), lane)?)),
-            Owner::Events(lane) => {
+    /// None where the store has no such file: its owner has none of that part, or its number is that of no log.
+    pub fn place_of(&self, alloc: Global, f: FileId) -> Result<Option<Place>, AllocError>
+        ensures { IfOk result (λ place. is_some place ≡ has_place f) }
+    {
+        match (f.owner, f.part) {
+            (Owner::Log(n), part) => self.in_log(alloc, n, log_name(part)),
+            (Owner::Relay(n), part) => self.in_log(alloc, n, relay_name(part)),
+            (Owner::Numbers(lane), Part::Commit) => {
+                Ok(Some(numbers_place(alloc, self.dir.as_str(), lane)?))
+            }
+            (Owner::Events(lane), Part::Lines | Part::Commit) => {
                 let text = lane_path(alloc, self.events.as_str(), lane)?;
                 Ok(Some(events_place(alloc, text, f.part)?))
             }
+            _ => Ok(None),
         }
     }
 
-    fn in_log(&self, alloc: Global, n: u32, name: &str) -> Result<Option<Place>, AllocError> {
+    fn in_log(&self, alloc: Global, n: u32, name: Option<&str>) -> Result<Option<Place>, AllocError>
+        ensures { IfOk result (λ place. is_some place ≡ (is_log_number n && is_some name.entry)) }
+    {
         let Some(number) = LogNo::new(n) else {
+            return Ok(None);
+        };
+        let Some(name) = name else {
             return Ok(None);
         };
         let [a, b, c, d, e, f] = number.digits();
@@ -45,31 +59,39 @@ impl Places {
     }
 }
 
-fn log_part(part: Part) -> &'static str {
+/// The name of a file of a log, None where a log has no such file.
+fn log_name(part: Part) -> Option<&'static str>
+    ensures { option_map (λ name. name.now) result ≡ log_name part }
+{
     match part {
-        Part::Head => "log.json",
-        Part::Exit => "exit.json",
-        Part::Timing => "timing",
-        Part::Stdin => "stdin",
-        Part::Stdout => "stdout",
-        Part::Stderr => "stderr",
-        Part::Ttyin => "ttyin",
-        Part::Ttyout => "ttyout",
-        Part::Lines => "lines",
-        Part::Id => "id",
-        Part::Commit => "commit",
+        Part::Head => Some("log.json"),
+        Part::Exit => Some("exit.json"),
+        Part::Timing => Some("timing"),
+        Part::Stdin => Some("stdin"),
+        Part::Stdout => Some("stdout"),
+        Part::Stderr => Some("stderr"),
+        Part::Ttyin => Some("ttyin"),
+        Part::Ttyout => Some("ttyout"),
+        Part::Commit => Some("commit"),
+        Part::Lines | Part::Id => None,
     }
 }
 
-fn relay_part(part: Part) -> &'static str {
+/// The name of a file that tells of relaying a log, None where there is no such file.
+fn relay_name(part: Part) -> Option<&'static str>
+    ensures { option_map (λ name. name.now) result ≡ relay_name part }
+{
     match part {
-        Part::Commit => "relay.commit",
-        _ => "relay",
+        Part::Id => Some("relay"),
+        Part::Commit => Some("relay.commit"),
+        _ => None,
     }
 }
 
 /// A path, of a lane above 0 with its number behind it.
-fn lane_path(alloc: Global, path: &str, lane: u32) -> Result<String, AllocError> {
+fn lane_path(alloc: Global, path: &str, lane: u32) -> Result<String, AllocError>
+    ensures { IfOk result (λ text. string_bytes text ≡ lane_path path.now lane) }
+{
     if lane == 0 {
         String::from_str(alloc, path)
     } else {
@@ -77,14 +99,19 @@ fn lane_path(alloc: Global, path: &str, lane: u32) -> Result<String, AllocError>
     }
 }
 
-fn numbers_place(alloc: Global, dir: &str, lane: u32) -> Result<Place, AllocError> {
+fn numbers_place(alloc: Global, dir: &str, lane: u32) -> Result<Place, AllocError>
+    ensures { IfOk result (λ p. string_bytes p.path ≡ lane_path (dir.now ++ codes "/seq") lane) }
+{
     let seq = format!(in alloc; "{dir}/seq")?;
     let path = lane_path(alloc, seq.as_str(), lane)?;
     let folder = String::from_str(alloc, dir)?;
     Ok(Place { folder, path })
 }
 
-fn events_place(alloc: Global, text: String, part: Part) -> Result<Place, AllocError> {
+fn events_place(alloc: Global, text: String, part: Part) -> Result<Place, AllocError>
+    ensures commit { part ≡ Commit → IfOk result (λ p. string_bytes p.path ≡ string_bytes text ++ codes ".commit") }
+    ensures lines { (part ≡ Commit → ⊥) → IfOk result (λ p. string_bytes p.path ≡ string_bytes text) }
+{
     let folder = match text.as_str().rsplit_once('/') {
         Some((folder, _)) => String::from_str(alloc, folder)?,
         None => String::from_str(alloc, ".")?,
