@@ -6,5 +6,5 @@ abbrev pub piece : List ℕ → ℕ → ℕ → List ℕ
 piece bytes at n = take n (drop at bytes)
 
 -- the whole begins with these bytes
-abbrev pub IsFront : List ℕ → List ℕ → Type 0
-IsFront front whole = (rest : List ℕ) × (whole ≡ front ++ rest)
+abbrev pub IsPrefix : List ℕ → List ℕ → Type 0
+IsPrefix prefix whole = (rest : List ℕ) × (whole ≡ prefix ++ rest)

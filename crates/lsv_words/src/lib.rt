@@ -2,10 +2,10 @@
 #![tactic(auto)]
 
 ghost use Rattle.std.specs.Prelude.{ℕ, ◌≤◌};
-ghost use Rattle.lsv_words.specs.Causes.{Rose};
+ghost use Rattle.lsv_words.specs.Causes.{HasRisen};
 
 /// A count that rose in one of two calls in a row rose in both together, since no call lets a count fall.
 pub fn a_rise_lasts()
-    ensures first { (before mid now : ℕ) → Rose before mid → mid ≤ now → Rose before now }
-    ensures second { (before mid now : ℕ) → before ≤ mid → Rose mid now → Rose before now }
+    ensures first { (before mid now : ℕ) → HasRisen before mid → mid ≤ now → HasRisen before now }
+    ensures second { (before mid now : ℕ) → before ≤ mid → HasRisen mid now → HasRisen before now }
 {}
