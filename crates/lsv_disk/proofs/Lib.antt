@@ -1,13 +1,3 @@
 pub mod Composition
 pub mod Tearing
-pub mod Same
-pub mod Found
-pub mod Past
-pub mod Noting
-pub mod Changed
-pub mod Outcomes
-pub mod Settling
-pub mod Leaving
-pub mod Holding
-pub mod Imaging
-pub mod Flattening
+pub mod MemoryLemmas

@@ -1,10 +1,6 @@
 pub mod Bytes
-pub mod State
-pub mod Runs
+pub mod TornLemmas
 pub mod Files
-pub mod Calls
-pub mod Stored
-pub mod Laws
-pub mod Images
-pub mod Flat
+pub mod View
+pub mod Throughout
 pub mod Memory

@@ -1,42 +1,54 @@
 ghost use Rattle.std.specs.Prelude.{◌≡◌, ℕ, ◌+◌, ◌-◌, ◌≤◌, ◌<◌, ◌^◌, ◌↔◌, min, IsTrue, [], ◌∷◌, ◌++◌, List, Option, Some, None, length, drop, option_map, IfOk, OnOk, OnErr, IsErr, ◌⊎◌, ◌≢◌, if◌then◌else◌};
 ghost use Rattle.std.specs.Option.{option_or};
 ghost use Rattle.std.proofs.Props.{props};
-ghost use Rattle.lsv_words.specs.Causes.{Rose};
+ghost use Rattle.lsv_words.specs.Causes.{HasRisen};
 ghost use Rattle.lsv_words.specs.Pieces.{piece};
 ghost use Rattle.lsv_disk.specs.declared.file.FileId.{FileId};
-ghost use Rattle.lsv_disk.specs.declared.call.Effect.{Effect};
-ghost use Rattle.lsv_disk.specs.declared.call.Effect.TheVariants.{Made, NotMade, NotRead, NotWritten, Synced, NotSynced};
+ghost use Rattle.lsv_disk.specs.declared.memory.call.Effect.{Effect};
+ghost use Rattle.lsv_disk.specs.declared.memory.call.Effect.TheVariants.{Made, NotMade, NotRead, NotWritten, Synced, NotSynced};
 ghost use Rattle.lsv_disk.specs.Bytes.{bytes_of, Reaches};
-ghost use Rattle.lsv_disk.specs.State.{Only};
-ghost use Rattle.lsv_disk.specs.Calls.{past_of, reads_after, is_legal, AreLegal, reads_of, state_of, faults_of, syncs_of, Noted, NotedWrite, Failed};
-ghost use Rattle.lsv_disk.specs.Stored.{IsResult};
-ghost use Rattle.lsv_disk.specs.Laws.{state-reads_itself, state-is_now, state-only_now};
+ghost use Rattle.lsv_disk.specs.View.{Only};
+ghost use Rattle.lsv_disk.specs.Memory.Calls.{past_of, reads_after, is_legal, AreLegal, reads_of, view_of, Noted, NotedWrite, Failed};
+ghost use Rattle.lsv_disk.specs.Memory.Stored.{IsResult, content_of, places_of};
+ghost use Rattle.lsv_disk.specs.Memory.Laws.{MayLeave-absent, view-reads_itself, view-is_now, view-only_now};
 
-use crate::call::{Call, Effect};
-use crate::change::{hold, make, write};
-use crate::image::left;
-use crate::stored::{Stored, content, copy_piece};
-use crate::{Disk, DiskFault, FileId, Fill, NoMem};
+mod call;
+mod change;
+mod create;
+mod fill;
+mod image;
+mod places;
+mod stored;
+
+use crate::memory::call::{Call, Effect};
+use crate::memory::change::{hold, make, write};
+use crate::memory::image::left;
+use crate::memory::places::StorePlaces;
+use crate::memory::stored::{Files, content, copy_piece};
+use crate::{Disk, DiskFault, FileId, NoMem, Owner, Part};
+pub use fill::Fill;
 use std::alloc::Global;
+use std::collections::HashMap;
 
-/// A disk in memory, which tells its files. It keeps the calls that changed it or failed, so what a stop of the
-/// machine may leave is told for each moment.
+/// A disk in memory, which tells its files. It keeps the calls that changed it or failed, so what a crash may
+/// leave is told for each moment.
 #[derive(Drop)]
 pub struct MemDisk {
     alloc: Global,
     listed: Vec<u64>,
     asked: u64,
     refused: u64,
+    places: Option<StorePlaces>,
     calls: Vec<Call>,
-    files: Vec<Stored>,
-    ghost tied: { IsResult files.items calls.items } by { Prim.hlevel props },
+    files: Files,
+    ghost tied: { IsResult files calls.items } by { Prim.hlevel props },
     ghost legal: { AreLegal calls.items },
 }
 
 impl MemDisk {
-    ghost use Rattle.lsv_disk.specs.Memory.{refusals, failing, asked, next_number, NextFails, image_by, IsLeftOf};
-    ghost use Rattle.lsv_disk.specs.State.{IsImage};
-    ghost use Rattle.lsv_disk.specs.Images.{may_make, left_by, AreHeld};
+    ghost use Rattle.lsv_disk.specs.Memory.Value.{refusals, failing, SameSettings, asked, next_number, NextFails, image_by, IsLeftOf};
+    ghost use Rattle.lsv_disk.specs.View.{IsCrashImage};
+    ghost use Rattle.lsv_disk.specs.Memory.Images.{may_make, AreHeld};
 
     /// No call was made.
     fn empty(alloc: Global, listed: Vec<u64>) -> MemDisk
@@ -50,19 +62,20 @@ impl MemDisk {
             listed,
             asked: 0,
             refused: 0,
+            places: None,
             calls: Vec::new(alloc),
-            files: Vec::new(alloc),
+            files: HashMap::new(alloc),
         }
     }
 
     /// No file is there. The calls with the listed numbers fail, counted from 1 over the calls of `create`,
     /// `read_at`, `write_at` and `sync`.
     pub fn new(alloc: Global, fail: &[u64]) -> Result<MemDisk, NoMem>
-        ensures absent { IfOk result (λ d. (f : FileId) → (⟦<MemDisk as Disk>⟧.state d).reads f ≡ None) }
-        ensures settled { IfOk result (λ d. (f : FileId) → Only None ((⟦<MemDisk as Disk>⟧.state d).may_leave f)) }
-        ensures moment { IfOk result (λ d. (⟦<MemDisk as Disk>⟧.state d).moment ≡ 0) }
-        ensures faults { IfOk result (λ d. (f : FileId) → ⟦<MemDisk as Disk>⟧.faults d f ≡ 0) }
-        ensures syncs { IfOk result (λ d. (f : FileId) → ⟦<MemDisk as Disk>⟧.syncs d f ≡ 0) }
+        ensures absent { IfOk result (λ d. (f : FileId) → (⟦<MemDisk as Disk>⟧.view d).reads f ≡ None) }
+        ensures durable { IfOk result (λ d. (f : FileId) → Only None ((⟦<MemDisk as Disk>⟧.view d).crash_states f)) }
+        ensures moment { IfOk result (λ d. (⟦<MemDisk as Disk>⟧.view d).moment ≡ 0) }
+        ensures faults { IfOk result (λ d. (f : FileId) → (⟦<MemDisk as Disk>⟧.view d).faults f ≡ 0) }
+        ensures syncs { IfOk result (λ d. (f : FileId) → (⟦<MemDisk as Disk>⟧.view d).syncs f ≡ 0) }
         ensures refused { IfOk result (λ d. refusals d ≡ 0) }
         ensures failing { IfOk result (λ d. failing d ≡ fail.now) }
         ensures asked { IfOk result (λ d. asked d ≡ 0) }
@@ -70,66 +83,60 @@ impl MemDisk {
         Ok(MemDisk::empty(alloc, fail.to_vec(alloc)?))
     }
 
-    /// Takes over what is left of the call's file after these calls, where the file may be there by the call and
-    /// isn't here yet.
-    fn take_over(
-        &mut self,
-        alloc: Global,
-        calls: &[Call],
-        call: &Call,
-        fill: Fill,
-    ) -> Result<(), NoMem>
+    /// Takes over what is left of the call's file, where the file may be there by the call and isn't here yet.
+    fn take_over(&mut self, alloc: Global, left: &Files, call: &Call) -> Result<(), NoMem>
         requires held { AreHeld self.old.calls.items }
         ensures held { OnOk result (AreHeld self.new.calls.items) }
-        ensures here { OnOk result (reads_of self.new.calls.items call.now.file ≡ (if may_make call.now.effect then option_or (reads_of self.old.calls.items call.now.file) (left_by fill (past_of calls.now call.now.file)) else reads_of self.old.calls.items call.now.file)) }
+        ensures here { OnOk result (reads_of self.new.calls.items call.now.file ≡ (if may_make call.now.effect then option_or (reads_of self.old.calls.items call.now.file) (content_of left.now call.now.file) else reads_of self.old.calls.items call.now.file)) }
         ensures others { OnOk result ((g : FileId) → g ≢ call.now.file → reads_of self.new.calls.items g ≡ reads_of self.old.calls.items g) }
         ensures refused { self.new.refused ≡ self.old.refused }
         ensures number { asked self.new ≡ asked self.old }
-        ensures failing { failing self.new ≡ failing self.old }
+        ensures settings { SameSettings self.old self.new }
     {
         if !call.effect.may_make() || content(&self.files, call.file).is_some() {
             return Ok(());
         }
-        match left(alloc, calls, call.file, fill)? {
+        match content(left, call.file) {
             None => Ok(()),
             Some(bytes) => hold(alloc, &mut self.files, &mut self.calls, call.file, bytes),
         }
     }
 
-    /// A disk that reads as one that a stop of the machine may leave of this one, wholly synced. None of its calls
+    /// A disk that reads as one that a crash may leave of this one, wholly synced. None of its calls
     /// fails, and none is counted.
     pub fn image(&self, alloc: Global, fill: Fill) -> Result<MemDisk, NoMem>
-        ensures image { IfOk result (λ d. IsImage (⟦<MemDisk as Disk>⟧.state self.now) (⟦<MemDisk as Disk>⟧.state d).reads) }
-        ensures content { IfOk result (λ d. (f : FileId) → (⟦<MemDisk as Disk>⟧.state d).reads f ≡ image_by fill self.now f) }
-        ensures settled { IfOk result (λ d. (f : FileId) → Only ((⟦<MemDisk as Disk>⟧.state d).reads f) ((⟦<MemDisk as Disk>⟧.state d).may_leave f)) }
-        ensures faults { IfOk result (λ d. (f : FileId) → ⟦<MemDisk as Disk>⟧.faults d f ≡ 0) }
-        ensures syncs { IfOk result (λ d. (f : FileId) → ⟦<MemDisk as Disk>⟧.syncs d f ≡ 0) }
+        ensures image { IfOk result (λ d. IsCrashImage (⟦<MemDisk as Disk>⟧.view self.now) (⟦<MemDisk as Disk>⟧.view d).reads) }
+        ensures content { IfOk result (λ d. (f : FileId) → (⟦<MemDisk as Disk>⟧.view d).reads f ≡ image_by fill self.now f) }
+        ensures durable { IfOk result (λ d. (f : FileId) → Only ((⟦<MemDisk as Disk>⟧.view d).reads f) ((⟦<MemDisk as Disk>⟧.view d).crash_states f)) }
+        ensures faults { IfOk result (λ d. (f : FileId) → (⟦<MemDisk as Disk>⟧.view d).faults f ≡ 0) }
+        ensures syncs { IfOk result (λ d. (f : FileId) → (⟦<MemDisk as Disk>⟧.view d).syncs f ≡ 0) }
         ensures refused { IfOk result (λ d. refusals d ≡ 0) }
         ensures failing { IfOk result (λ d. failing d ≡ []) }
         ensures asked { IfOk result (λ d. asked d ≡ 0) }
     {
+        let left = left(alloc, &self.calls, fill)?;
         let mut image = MemDisk::empty(alloc, Vec::new(alloc));
         for call in &self.calls {
-            image.take_over(alloc, &self.calls, call, fill)?;
+            image.take_over(alloc, &left, call)?;
         }
         Ok(image)
     }
 
-    /// A stop of the machine may leave a file in exactly these ways: at any length from the one at its last good
+    /// A crash may leave a file in exactly these ways: at any length from the one at its last good
     /// sync to the greatest since, with the bytes of that sync wherever no write since had its range, good or not,
     /// and with any bytes elsewhere. A file whose making failed is there, empty, or it is not.
-    pub fn what_a_stop_may_leave(&self)
-        ensures { (f : FileId) (c : Option (List ℕ)) → (⟦<MemDisk as Disk>⟧.state self.now).may_leave f c ↔ IsLeftOf self.now f c }
+    pub fn what_a_crash_may_leave(&self)
+        ensures { (f : FileId) (c : Option (List ℕ)) → (⟦<MemDisk as Disk>⟧.view self.now).crash_states f c ↔ IsLeftOf self.now f c }
     {}
 
     /// What a read of the whole file gives.
     pub fn bytes(&self, f: FileId) -> Option<&[u8]>
-        ensures { option_map (λ b. b.now) result ≡ (⟦<MemDisk as Disk>⟧.state self.now).reads f }
+        ensures { option_map (λ b. b.now) result ≡ (⟦<MemDisk as Disk>⟧.view self.now).reads f }
     {
         content(&self.files, f)
     }
 
-    /// How often a call failed for want of memory.
+    /// How often a call failed for lack of memory.
     pub fn refused(&self) -> u64
         ensures { result ≡ refusals self.now }
     {
@@ -138,7 +145,7 @@ impl MemDisk {
 
     /// How often a call on the file failed, as far as a number of 64 bits can tell.
     pub fn failures(&self, f: FileId) -> u64
-        ensures { result ≡ min (⟦<MemDisk as Disk>⟧.faults self.now f) (2 ^ 64 - 1) }
+        ensures { result ≡ min ((⟦<MemDisk as Disk>⟧.view self.now).faults f) (2 ^ 64 - 1) }
     {
         let mut count: u64 = 0;
         for call in &self.calls {
@@ -153,7 +160,7 @@ impl MemDisk {
     fn next_fails(&mut self) -> bool
         ensures listed { IsTrue result ↔ NextFails self.old }
         ensures number { asked self.new ≡ next_number self.old }
-        ensures failing { failing self.new ≡ failing self.old }
+        ensures settings { SameSettings self.old self.new }
         ensures calls { self.new.calls ≡ self.old.calls }
         ensures files { self.new.files ≡ self.old.files }
         ensures refused { self.new.refused ≡ self.old.refused }
@@ -166,9 +173,9 @@ impl MemDisk {
     fn refuse(&mut self) -> DiskFault
         ensures calls { self.new.calls ≡ self.old.calls }
         ensures risen { self.old.refused ≤ self.new.refused }
-        ensures rose { Rose self.old.refused self.new.refused }
+        ensures rose { HasRisen self.old.refused self.new.refused }
         ensures number { asked self.new ≡ asked self.old }
-        ensures failing { failing self.new ≡ failing self.old }
+        ensures settings { SameSettings self.old self.new }
     {
         self.refused = self.refused.saturating_add(1);
         DiskFault
@@ -179,9 +186,9 @@ impl MemDisk {
         requires quiet { (past : List Effect) → reads_after (effect ∷ past) ≡ reads_after past }
         requires legal { is_legal (effect ∷ past_of self.old.calls.items file) ≡ is_legal (past_of self.old.calls.items file) }
         ensures ok { OnOk result (Noted self.old.calls.items self.new.calls.items file effect × (self.new.refused ≡ self.old.refused)) }
-        ensures err { OnErr result ((self.new.calls.items ≡ self.old.calls.items) × (self.old.refused ≤ self.new.refused) × Rose self.old.refused self.new.refused) }
+        ensures err { OnErr result ((self.new.calls.items ≡ self.old.calls.items) × (self.old.refused ≤ self.new.refused) × HasRisen self.old.refused self.new.refused) }
         ensures number { asked self.new ≡ asked self.old }
-        ensures failing { failing self.new ≡ failing self.old }
+        ensures settings { SameSettings self.old self.new }
     {
         match self.calls.push(Call { file, effect }) {
             Ok(()) => Ok(()),
@@ -195,20 +202,20 @@ impl MemDisk {
         requires legal { is_legal (effect ∷ past_of self.old.calls.items file) ≡ is_legal (past_of self.old.calls.items file) }
         ensures failed { Failed self.old.calls.items self.new.calls.items file effect self.old.refused self.new.refused }
         ensures number { asked self.new ≡ asked self.old }
-        ensures failing { failing self.new ≡ failing self.old }
+        ensures settings { SameSettings self.old self.new }
     {
         let _ = self.note(file, effect);
         DiskFault
     }
 
-    fn try_create(&mut self, f: FileId) -> Result<(), DiskFault>
+    pub(crate) fn try_create(&mut self, f: FileId) -> Result<(), DiskFault>
         requires absent { reads_of self.old.calls.items f ≡ None }
         ensures ok { OnOk result (Noted self.old.calls.items self.new.calls.items f Made × (self.new.refused ≡ self.old.refused)) }
         ensures err { OnErr result (Failed self.old.calls.items self.new.calls.items f NotMade self.old.refused self.new.refused) }
         ensures listed { NextFails self.old → IsErr result }
-        ensures wanting { OnErr result (NextFails self.old ⊎ Rose (refusals self.old) (refusals self.new)) }
+        ensures wanting { OnErr result (NextFails self.old ⊎ HasRisen (refusals self.old) (refusals self.new)) }
         ensures number { asked self.new ≡ next_number self.old }
-        ensures failing { failing self.new ≡ failing self.old }
+        ensures settings { SameSettings self.old self.new }
     {
         if self.next_fails() {
             return Err(self.fail(f, Effect::NotMade));
@@ -227,7 +234,7 @@ impl MemDisk {
         ensures listed { NextFails self.old → IsErr result }
         ensures listed_alone { OnErr result (NextFails self.old) }
         ensures number { asked self.new ≡ next_number self.old }
-        ensures failing { failing self.new ≡ failing self.old }
+        ensures settings { SameSettings self.old self.new }
     {
         if self.next_fails() {
             return Err(self.fail(f, Effect::NotRead));
@@ -243,9 +250,9 @@ impl MemDisk {
         ensures ok { OnOk result (NotedWrite self.old.calls.items self.new.calls.items f at bytes.now × (self.new.refused ≡ self.old.refused)) }
         ensures err { OnErr result (Failed self.old.calls.items self.new.calls.items f (NotWritten at (length bytes.now)) self.old.refused self.new.refused) }
         ensures listed { NextFails self.old → IsErr result }
-        ensures wanting { OnErr result (NextFails self.old ⊎ Rose (refusals self.old) (refusals self.new)) }
+        ensures wanting { OnErr result (NextFails self.old ⊎ HasRisen (refusals self.old) (refusals self.new)) }
         ensures number { asked self.new ≡ next_number self.old }
-        ensures failing { failing self.new ≡ failing self.old }
+        ensures settings { SameSettings self.old self.new }
     {
         if self.next_fails() {
             return Err(self.fail(f, Effect::NotWritten(at, bytes.len())));
@@ -260,9 +267,9 @@ impl MemDisk {
         ensures ok { OnOk result (Noted self.old.calls.items self.new.calls.items f Synced × (self.new.refused ≡ self.old.refused)) }
         ensures err { OnErr result (Failed self.old.calls.items self.new.calls.items f NotSynced self.old.refused self.new.refused) }
         ensures listed { NextFails self.old → IsErr result }
-        ensures wanting { OnErr result (NextFails self.old ⊎ Rose (refusals self.old) (refusals self.new)) }
+        ensures wanting { OnErr result (NextFails self.old ⊎ HasRisen (refusals self.old) (refusals self.new)) }
         ensures number { asked self.new ≡ next_number self.old }
-        ensures failing { failing self.new ≡ failing self.old }
+        ensures settings { SameSettings self.old self.new }
     {
         if self.next_fails() {
             return Err(self.fail(f, Effect::NotSynced));
@@ -274,22 +281,26 @@ impl MemDisk {
 impl Disk for MemDisk {
     ghost tells = { Unit {0} };
 
-    ghost state = { λ d. state_of d.calls.items };
+    ghost view = { λ d. view_of d.calls.items d.refused (places_of d.places) };
 
-    ghost faults = { λ d f. faults_of d.calls.items f + d.refused };
+    ghost reads_itself = { λ told d. view-reads_itself d.calls.items d.refused (places_of d.places) };
 
-    ghost syncs = { λ d f. syncs_of d.calls.items f };
+    ghost absent_or_empty = { λ told d f c absent left. MayLeave-absent (past_of d.calls.items f) (d.legal f) absent c left };
 
-    ghost reads_itself = { λ told d. state-reads_itself d.calls.items };
+    ghost is_now = { λ told d. view-is_now d.calls.items d.refused (places_of d.places) };
 
-    ghost is_now = { λ told d. state-is_now d.calls.items };
+    ghost only_now = { λ told d. view-only_now d.calls.items d.refused (places_of d.places) };
 
-    ghost only_now = { λ told d. state-only_now d.calls.items };
-
-    fn root(&mut self, _dir: &str, _events: &str) {}
+    fn root(&mut self, dir: &str, events: &str) {
+        self.places = StorePlaces::new(self.alloc, dir, events).ok();
+    }
 
     fn create(&mut self, f: FileId) -> Result<(), DiskFault> {
-        self.try_create(f)
+        self.make_file(f)
+    }
+
+    fn create_all(&mut self, owner: Owner, parts: &[Part]) -> Result<(), DiskFault> {
+        self.make_each(owner, parts)
     }
 
     fn length(&mut self, f: FileId) -> Result<Option<u64>, DiskFault> {

@@ -1,10 +1,10 @@
 use Rattle.std.proofs.Common.{◌≡◌, ◌+◌, ◌&&◌, Bool, cond, List, [], take, get_or, count_by, arith, sym, ◌∙◌, ap}
-use Rattle.lsv_disk.specs.declared.call.Call.{Call}
-use Rattle.lsv_disk.specs.declared.call.Effect.{Effect}
+use Rattle.lsv_disk.specs.declared.memory.call.Call.{Call}
+use Rattle.lsv_disk.specs.declared.memory.call.Effect.{Effect}
 use Rattle.lsv_disk.specs.Files.{same_file}
-use Rattle.lsv_disk.specs.Calls.{faults_of, is_fault}
-use Rattle.lsv_disk.proofs.Past.{past_none}
-use Rattle.lsv_disk.proofs.Noting.{fault_next}
+use Rattle.lsv_disk.specs.Memory.Calls.{faults_of, is_fault}
+use Rattle.lsv_disk.proofs.MemoryLemmas.Past.{past_none}
+use Rattle.lsv_disk.proofs.MemoryLemmas.Noting.{fault_next}
 use Rattle.lsv_disk.proofs.memory.MemDisk.failures.Goals as goal
 use Rattle.lsv_disk.proofs.memory.MemDisk.failures.Goals.{then-failed_on, else-failed_on}
 

@@ -1,5 +1,5 @@
 use Rattle.std.proofs.Common.{◌≡◌, ◌-◌, ◌^◌, min, take}
-use Rattle.lsv_disk.specs.Calls.{faults_of}
+use Rattle.lsv_disk.specs.Memory.Calls.{faults_of}
 use Rattle.lsv_disk.proofs.memory.MemDisk.failures.Given as goal
 
 abbrev pub invariant-loop-call : goal.invariant-loop-call

@@ -1,6 +1,6 @@
 use Rattle.std.proofs.Common.{subst, Vec, Global}
-use Rattle.lsv_disk.specs.declared.call.Call.{Call}
-use Rattle.lsv_disk.specs.Calls.{NotedWrite}
+use Rattle.lsv_disk.specs.declared.memory.call.Call.{Call}
+use Rattle.lsv_disk.specs.Memory.Calls.{NotedWrite}
 use Rattle.lsv_disk.proofs.memory.MemDisk.try_write.Goals as goal
 
 pub returns-in-Ok-clause-ok : goal.returns-in-Ok-clause-ok
