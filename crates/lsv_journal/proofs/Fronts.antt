@@ -5,11 +5,11 @@ use Rattle.std.proofs.lemmas.Bool.{cases_lt, cases_Bool, both_ways}
 use Rattle.lsv_words.specs.Pieces.{piece}
 use Rattle.lsv_disk.specs.declared.file.FileId.{FileId}
 use Rattle.lsv_disk.specs.Bytes.{bytes_of, size_of}
-use Rattle.lsv_disk.specs.State.{DiskState, Elapses, Quiet}
-use Rattle.lsv_disk.specs.Runs.{Stays}
-use Rattle.lsv_disk.proofs.Composition.{OnlyNow, quiet_stays, stays_trans}
-use Rattle.lsv_journal.specs.Entries.{place, gate, body, is_whole, count, last_of}
-use Rattle.lsv_journal.specs.Entries as Entries
+use Rattle.lsv_disk.specs.View.{DiskView, OneRead}
+use Rattle.lsv_disk.specs.Throughout.{OnlyReads}
+use Rattle.lsv_disk.proofs.Composition.{OnlyNow, started, one_read, reads_trans, unchanged_reads}
+use Rattle.lsv_journal.specs.Gates.{place, gate, body, is_whole, count, last_of}
+use Rattle.lsv_journal.specs.Gates as Entries
 use Rattle.lsv_journal.specs.Reading.{IsMore}
 use Rattle.lsv_journal.proofs.Counting.{place_next, entry_le_place, is_whole_by, not_whole_short, gate_of_whole, end_of_whole, count_passes, count_stops, count_is, count_within, whole_before, whole_dropped, whole_of_part, first_in_part}
 
@@ -111,15 +111,16 @@ whole_last n end more bytes to is none = to.1 ∙ ap (place n) (sym (count_is n 
 pub whole_past : (n end : ℕ) (bytes : List ℕ) → WholeTo n bytes end → length bytes ≤ end → end ≡ place n (count n bytes)
 whole_past n end bytes to past = to.1 ∙ ap (place n) (sym (count_is n bytes to.0 to.2 (not_whole_short n bytes to.0 (omega (arith, past, to.1, place_next n to.0)))))
 
--- a disk of which nothing was touched reads as before
-pub stays_reads : (old new : DiskState) → Stays old new → (f : FileId) → new.reads f ≡ old.reads f
-stays_reads old new stays f = stays.elsewhere.same f (λ none. none)
+-- no call
+pub reads_none : (disk : DiskView) → OnlyNow disk → OnlyReads disk disk
+reads_none disk only_now = record { unchanged = started (λ _. ⊥) (λ _. Unit {0}) disk only_now (λ _ _. tt); syncs = λ f. refl }
 
-pub stays_more : (old mid new : DiskState) → OnlyNow mid → OnlyNow new → Stays old mid → Quiet mid new → Elapses mid new → Stays old new
-stays_more old mid new only_mid only_new stays quiet time = stays_trans old mid new stays (quiet_stays mid new quiet time only_mid only_new)
+-- calls that read, and one more
+pub reads_more : (old mid new : DiskView) → OnlyNow mid → OnlyNow new → OnlyReads old mid → OneRead mid new → OnlyReads old new
+reads_more old mid new only_mid only_new reads read = reads_trans old mid new reads (one_read mid new read only_mid only_new)
 
-pub more_of_old : (n end more : ℕ) (f : FileId) (old mid : DiskState) → Stays old mid → IsMore n (drop end (bytes_of (mid.reads f))) more → IsMore n (drop end (bytes_of (old.reads f))) more
-more_of_old n end more f old mid stays is = subst (λ (c : Option (List ℕ)). IsMore n (drop end (bytes_of c)) more) (stays_reads old mid stays f) is
+pub more_of_old : (n end more : ℕ) (f : FileId) (old mid : DiskView) → OnlyReads old mid → IsMore n (drop end (bytes_of (mid.reads f))) more → IsMore n (drop end (bytes_of (old.reads f))) more
+more_of_old n end more f old mid reads is = subst (λ (c : Option (List ℕ)). IsMore n (drop end (bytes_of c)) more) (unchanged_reads old mid reads.unchanged f) is
 
 -- the body before the end of the entries
 pub body_read : (n end cut : ℕ) (bytes old buf : List ℕ) → 0 < n → end ≡ place n (count n bytes) → n ≤ end → cut ≡ length (piece bytes (end - n) n) → buf ≡ piece bytes (end - n) n ++ drop cut old → length old ≡ n → Some buf ≡ last_of n bytes (count n bytes)

@@ -1,6 +1,10 @@
 pub mod Counting
-pub mod Growing
-pub mod Appended
-pub mod Words
-pub mod Made
 pub mod Fronts
+pub mod Slots
+pub mod Overwriting
+pub mod Writing
+pub mod Appending
+pub mod Making
+pub mod Same
+pub mod Words
+pub mod Laws

@@ -1,199 +1,341 @@
--- What the bytes of a journal's file say in the words of its contract.
-use Rattle.std.proofs.Common.{◌≡◌, ◌≢◌, ◌⊎◌, inl, inr, ℕ, zero, suc, ◌+◌, ◌≤◌, List, length, take, Option, Some, None, Result, Ok, Err, IsErrAnd, IfErr, refl, sym, ◌∙◌, ap, subst, arith}
-use Rattle.lsv_words.specs.Causes.{Rose}
+-- What the bytes of a journal's files say in the words of its contract.
+use Rattle.std.proofs.Common.{◌≡◌, ◌≢◌, ◌⊎◌, inl, inr, ℕ, ◌+◌, ◌≤◌, true, false, List, length, Option, Some, None, Result, Ok, Err, OnOk, IfOk, refl, sym, ◌∙◌, ap, subst, arith}
+use Rattle.std.specs.Option.{option_or, is_some}
+use Rattle.std.specs.Result.{is_err}
+use Rattle.lsv_words.specs.Pieces.{piece}
+use Rattle.lsv_words.specs.Causes.{HasRisen}
 use Rattle.lsv_disk.specs.declared.file.FileId.{FileId}
-use Rattle.lsv_disk.specs.Bytes.{bytes_of}
-use Rattle.lsv_disk.specs.State.{Image, DiskState, IsImage, Only, Elsewhere}
-use Rattle.lsv_disk.specs.Runs.{Runs, Stays}
-use Rattle.lsv_disk.proofs.Composition.{OnlyNow, started, widened, stays_runs}
-use Rattle.lsv_disk.proofs.Same.{same_or_other}
+use Rattle.lsv_disk.specs.declared.file.Part.TheVariants.{Commit, Slots}
+use Rattle.lsv_disk.specs.Bytes.{bytes_of, size_of}
+use Rattle.lsv_disk.specs.View.{Image, DiskView, IsCrashImage, IsSynced, Elsewhere, OneSync, Unsynced, HasCause, HasOwnCause}
+use Rattle.lsv_disk.specs.Throughout.{Throughout, Unchanged, SyncsAtMost}
+use Rattle.lsv_disk.proofs.Composition.{followed, widened, unchanged_throughout, unchanged_reads, cause_of_file, syncs_trans, unsynced_at_most}
+use Rattle.lsv_journal.specs.declared.slot.Slot.{Slot}
+use Rattle.lsv_journal.specs.declared.slot.Slot.TheVariants.{First, Second}
 use Rattle.lsv_journal.specs.declared.journal.Journal.{Journal}
-use Rattle.lsv_journal.specs.declared.fault.JournalFault.{JournalFault}
-use Rattle.lsv_journal.specs.declared.fault.JournalFault.TheVariants.{Disk}
-use Rattle.lsv_journal.specs.Entries.{place, gate, count, last_of}
-use Rattle.lsv_journal.specs.Standing.{EndsAt, Holds, Grows, IsAt, IsEmptyOrAsBefore}
-use Rattle.lsv_journal.proofs.Counting.{entry_le_place, gate_behind, count_short}
-use Rattle.lsv_journal.specs.Last.{IsOwn, CountAt, LastAt, IsSound, HasLast, IsBeforeOrAfter, IsAlike, IsAsBefore, KeepsEntries, OwnRose}
+use Rattle.lsv_journal.specs.Slots.{entry_of}
+use Rattle.lsv_journal.specs.Last.{old_file, IsOwn, IsAbsent, slots_last, last_gated, LastAt, JournalHolds, IsBeforeOrAfter, SameJournal, IsSomeCrashOf, HasNoOldEntry, MayBeMade, KeepsSelected, SelectsSame, IsNoLonger}
+use Rattle.lsv_journal.specs.Represents.{free, IsReady, IsPrepared, Represents}
+use Rattle.lsv_journal.specs.Reading.{IsEmptyOrAsBefore}
+use Rattle.lsv_journal.specs.Writing.{Keeps, Selects}
+use Rattle.lsv_journal.proofs.Slots.{empty_none}
+use Rattle.lsv_journal.proofs.Counting.{count_short}
+use Rattle.lsv_journal.proofs.Appending.{reads_of_run}
+use Rattle.lsv_journal.proofs.Same.{same_or_other}
 
--- its own file is the one that it is named by
-pub own_is : (f g : FileId) → IsOwn f g → g ≡ f
-unfolding IsOwn
-own_is f g own = own
+-- an answer that isn't an error is one that is Ok
+pub ok_of : {T E : Type 0} (r : Result T E) (P : Type 0) → is_err r ≡ false → OnOk r P → P
+ok_of (Ok x) P good is = is
+ok_of (Err e) P good is = absurd (let none : ⊥ = cc in none)
 
-pub is_own : (f g : FileId) → g ≡ f → IsOwn f g
-unfolding IsOwn
-is_own f g is = is
-
+-- its own files
 pub own_itself : (f : FileId) → IsOwn f f
-own_itself f = is_own f f refl
+unfolding IsOwn
+own_itself f = inl refl
 
-pub own_rose : (f : FileId) (before now : FileId → ℕ) → Rose (before f) (now f) → OwnRose f before now
-own_rose f before now rose = (f, own_itself f, rose)
+pub own_old : (f : FileId) → IsOwn f (old_file f)
+unfolding IsOwn
+own_old f = inr refl
 
--- a number of each own file, and of each other one
-pub own_number : (f : FileId) (more : ℕ) (before now : FileId → ℕ) → now f ≤ before f + more → (g : FileId) → IsOwn f g → now g ≤ before g + more
-own_number f more before now le g own = subst (λ (h : FileId). now h ≤ before h + more) (sym (own_is f g own)) le
+pub own_cases : (f g : FileId) → IsOwn f g → (g ≡ f) ⊎ (g ≡ old_file f)
+unfolding IsOwn
+own_cases f g own = own
 
-pub other_number : (f : FileId) (before now : FileId → ℕ) → ((g : FileId) → g ≢ f → now g ≡ before g) → (g : FileId) → (IsOwn f g → ⊥) → now g ≡ before g
-other_number f before now same g other = same g (λ is. other (is_own f g is))
+pub commit_not_slots : Commit ≢ Slots
+commit_not_slots is = let no : ⊥ = cc in no
 
--- the last entry by the bytes
-pub last_is : (n : ℕ) (f : FileId) (image : Image) → LastAt n f image ≡ last_of n (bytes_of (image f)) (count n (bytes_of (image f)))
+-- the old file is another one
+pub old_other : (f : FileId) → f.part ≡ Slots → old_file f ≢ f
+old_other f slots is = commit_not_slots (ap (λ (g : FileId). g.part) is ∙ slots)
+
+pub own_cause : (f : FileId) (failed : Type 0) (old new : DiskView) → HasCause f failed old new → HasOwnCause (IsOwn f) failed old new
+own_cause f failed old new cause = cause_of_file (IsOwn f) f failed old new (own_itself f) cause
+
+pub old_cause : (f : FileId) (failed : Type 0) (old new : DiskView) → HasCause (old_file f) failed old new → HasOwnCause (IsOwn f) failed old new
+old_cause f failed old new cause = cause_of_file (IsOwn f) (old_file f) failed old new (own_old f) cause
+
+-- syncs of the file alone are ones of its own files
+pub own_syncs : (n : ℕ) (f : FileId) (old new : DiskView) → f.part ≡ Slots → SyncsAtMost n (λ g. g ≡ f) old new → SyncsAtMost n (IsOwn f) old new
+own_syncs n f old new slots syncs = record {
+  own = λ g own. elim (own_cases f g own) [
+    | inl is ↦ syncs.own g is
+    | inr is ↦ let e : new.syncs g ≡ old.syncs g = syncs.others g (λ same. old_other f slots (sym is ∙ same)) in omega (arith, e)
+  ];
+  others = λ g other. syncs.others g (λ is. other (subst (λ (h : FileId). IsOwn f h) (sym is) (own_itself f)));
+}
+
+-- the last entry, by what its files hold
+pub last_is : (n : ℕ) (f : FileId) (image : Image) → LastAt n f image ≡ option_or (entry_of n (bytes_of (image f))) (last_gated n (image (old_file f)))
 unfolding LastAt
 last_is n f image = refl
 
-pub count_at_is : (n : ℕ) (f : FileId) (image : Image) → CountAt n f image ≡ count n (bytes_of (image f))
-unfolding CountAt
-count_at_is n f image = refl
+pub last_slots : (n : ℕ) (f : FileId) (image : Image) (body : List ℕ) → entry_of n (bytes_of (image f)) ≡ Some body → LastAt n f image ≡ Some body
+last_slots n f image body is = last_is n f image ∙ ap (λ (o : Option (List ℕ)). option_or o (last_gated n (image (old_file f)))) is
 
--- no entry by the count
-pub none_by : (n : ℕ) (f : FileId) (image : Image) → count n (bytes_of (image f)) ≡ 0 → LastAt n f image ≡ None
-none_by n f image none = last_is n f image ∙ ap (last_of n (bytes_of (image f))) none
+pub last_old : (n : ℕ) (f : FileId) (image : Image) → entry_of n (bytes_of (image f)) ≡ None → LastAt n f image ≡ last_gated n (image (old_file f))
+last_old n f image is = last_is n f image ∙ ap (λ (o : Option (List ℕ)). option_or o (last_gated n (image (old_file f)))) is
 
-pub count_by_none : (n : ℕ) (f : FileId) (image : Image) → LastAt n f image ≡ None → count n (bytes_of (image f)) ≡ 0
-count_by_none n f image none = no_count (count n (bytes_of (image f))) (sym (last_is n f image) ∙ none) where
-  no_count : (m : ℕ) → last_of n (bytes_of (image f)) m ≡ None → m ≡ 0
-  no_count zero e = refl
-  no_count (suc m) e = absurd (let no : ⊥ = cc in no)
+pub last_same : (n : ℕ) (f : FileId) (image other : Image) → image f ≡ other f → image (old_file f) ≡ other (old_file f) → LastAt n f image ≡ LastAt n f other
+last_same n f image other slots old =
+    last_is n f image ∙ ap (λ (c : Option (List ℕ)). option_or (entry_of n (bytes_of c)) (last_gated n (image (old_file f)))) slots
+    ∙ ap (λ (c : Option (List ℕ)). option_or (entry_of n (bytes_of (other f))) (last_gated n c)) old ∙ sym (last_is n f other)
 
-pub sound_by : (n : ℕ) (f : FileId) (image : Image) → gate n (bytes_of (image f)) (count n (bytes_of (image f))) ≢ 1 → IsSound n f image
-unfolding IsSound
-sound_by n f image closed some = closed
+pub holds_by : (n : ℕ) (f : FileId) (last : Option (List ℕ)) (image : Image) → entry_of n (bytes_of (image f)) ≡ last → (last ≡ None → last_gated n (image (old_file f)) ≡ None) → JournalHolds n f last image
+holds_by n f None image is none = last_old n f image is ∙ none refl
+holds_by n f (Some body) image is none = last_slots n f image body is
 
-pub closed_by_sound : (n : ℕ) (f : FileId) (image : Image) → IsSound n f image → LastAt n f image ≢ None → gate n (bytes_of (image f)) (count n (bytes_of (image f))) ≢ 1
-unfolding IsSound
-closed_by_sound n f image sound some = sound some
+-- a file that is absent has no entry
+pub absent_entry : (n : ℕ) (content : Option (List ℕ)) → content ≡ None → entry_of n (bytes_of content) ≡ None
+absent_entry n content absent = empty_none n (bytes_of content) (subst (λ (c : Option (List ℕ)). length (bytes_of c) ≤ 1) (sym absent) (omega arith))
 
-pub sound_none : (n : ℕ) (f : FileId) (image : Image) → LastAt n f image ≡ None → IsSound n f image
-unfolding IsSound
-sound_none n f image none some = absurd (some none)
+pub absent_gated : (n : ℕ) (content : Option (List ℕ)) → content ≡ None → last_gated n content ≡ None
+absent_gated n content absent = ap (last_gated n) absent ∙ none where
+  none : last_gated n None ≡ None
+  none = let e = count_short n (bytes_of None) (omega arith) in ap (Rattle.lsv_journal.specs.Gates.last_of n (bytes_of None)) e
 
-pub has_none : (n : ℕ) (f : FileId) (image : Image) → count n (bytes_of (image f)) ≡ 0 → HasLast n f None image
-has_none n f image none = let last = none_by n f image none in record { last_entry = last; sound = sound_none n f image last }
+pub absent_last : (n : ℕ) (f : FileId) (image : Image) → IsAbsent f image → LastAt n f image ≡ None
+absent_last n f image absent = last_old n f image (absent_entry n (image f) absent.0) ∙ absent_gated n (image (old_file f)) absent.1
 
-pub has_last : (n : ℕ) (f : FileId) (last : Option (List ℕ)) (image : Image) → Holds n (bytes_of (image f)) last → HasLast n f last image
-has_last n f last image holds = record { last_entry = last_is n f image ∙ holds.last_entry; sound = sound_by n f image holds.gate_closed }
+-- what may be made
+pub may_be_made : (n : ℕ) (f : FileId) (disk : DiskView) → slots_last n f disk.reads ≡ None → HasNoOldEntry n f disk → MayBeMade n f disk
+unfolding MayBeMade
+may_be_made n f disk slots old = (slots, old)
 
--- images that have the same file
-pub alike_same : (n : ℕ) (f : FileId) (was image : Image) → image f ≡ was f → IsAlike n f was image
-unfolding LastAt IsSound
-alike_same n f was image same = record {
-  last_entry = ap (λ (c : Option (List ℕ)). last_of n (bytes_of c) (count n (bytes_of c))) same;
-  sound = λ sound. subst (λ (c : Option (List ℕ)). last_of n (bytes_of c) (count n (bytes_of c)) ≢ None → gate n (bytes_of c) (count n (bytes_of c)) ≢ 1) (sym same) sound;
-}
+pub made_slots : (n : ℕ) (f : FileId) (disk : DiskView) → MayBeMade n f disk → slots_last n f disk.reads ≡ None
+unfolding MayBeMade
+made_slots n f disk may = may.0
 
-pub alike_has : (n : ℕ) (f : FileId) (last : Option (List ℕ)) (was image : Image) → IsAlike n f was image → HasLast n f last was → HasLast n f last image
-alike_has n f last was image alike has = record { last_entry = alike.last_entry ∙ has.last_entry; sound = alike.sound has.sound }
+pub made_old : (n : ℕ) (f : FileId) (disk : DiskView) → MayBeMade n f disk → HasNoOldEntry n f disk
+unfolding MayBeMade
+made_old n f disk may = may.1
 
--- an append, of a body of n bytes
-module _ (n k : ℕ) (f : FileId) (entry : List ℕ) (old new : DiskState) (long : k ≡ n) (ran : Runs (λ g. g ≡ f) (λ image. Grows k entry (bytes_of (old.reads f)) (bytes_of (image f))) old new) where
-  run : Runs (λ g. g ≡ f) (λ image. Grows n entry (bytes_of (old.reads f)) (bytes_of (image f))) old new
-  run = subst (λ (m : ℕ). Runs (λ g. g ≡ f) (λ image. Grows m entry (bytes_of (old.reads f)) (bytes_of (image f))) old new) long ran
+-- the old file was not touched
+pub no_old_stays : (n : ℕ) (f : FileId) (Touched : FileId → Type 0) (old new : DiskView) → Elsewhere Touched old new → (Touched (old_file f) → ⊥) → HasNoOldEntry n f old → HasNoOldEntry n f new
+no_old_stays n f Touched old new elsewhere apart none content left = none content (elsewhere.crash (old_file f) apart content left)
 
-  pub before_or_after : (last : Option (List ℕ)) → last ≡ last_of n (bytes_of (old.reads f)) (count n (bytes_of (old.reads f))) → Runs (IsOwn f) (IsBeforeOrAfter n f last (Some entry)) old new
-  before_or_after last is = widened (λ g. g ≡ f) (IsOwn f) (λ image. Grows n entry (bytes_of (old.reads f)) (bytes_of (image f))) (IsBeforeOrAfter n f last (Some entry)) old new (is_own f)
-      (λ image grows _. elim grows.holds [
-        | inl holds ↦ inl (has_last n f last image (subst (λ (o : Option (List ℕ)). Holds n (bytes_of (image f)) o) (sym is) holds))
-        | inr holds ↦ inr (has_last n f (Some entry) image holds)
-      ])
-      run
+-- a write into the free slot of a journal's file
+module _ (n k : ℕ) (f : FileId) (slot : Option Slot) (old new : DiskView) (long : k ≡ n) (ran : Throughout (λ g. g ≡ f) (λ image. Keeps k slot (bytes_of (old.reads f)) (bytes_of (image f))) old new) where
+  abbrev KeepsAt : Image → Type 0
+  KeepsAt image = Keeps n slot (bytes_of (old.reads f)) (bytes_of (image f))
 
-  pub keeps_entries : Runs (IsOwn f) (KeepsEntries n f old.reads) old new
-  unfolding KeepsEntries CountAt
-  keeps_entries = widened (λ g. g ≡ f) (IsOwn f) (λ image. Grows n entry (bytes_of (old.reads f)) (bytes_of (image f))) (KeepsEntries n f old.reads) old new (is_own f) (λ image grows _. grows.keeps) run
+  run : Throughout (λ g. g ≡ f) KeepsAt old new
+  run = subst (λ (m : ℕ). Throughout (λ g. g ≡ f) (λ image. Keeps m slot (bytes_of (old.reads f)) (bytes_of (image f))) old new) long ran
 
--- a journal that stands
-module _ (n : ℕ) (journal : Journal n) (disk : DiskState) (at : IsAt journal disk) where
-  pub at_last : (image : Image) → ((g : FileId) → IsOwn journal.file g → disk.may_leave g (image g)) → HasLast n journal.file journal.last image
-  at_last image left =
-      let same : image journal.file ≡ disk.reads journal.file = at.settled (image journal.file) (left journal.file (own_itself journal.file)) in
-      alike_has n journal.file journal.last disk.reads image (alike_same n journal.file disk.reads image same)
-      (has_last n journal.file journal.last disk.reads (record { last_entry = sym at.last_entry; gate_closed = at.ends.gate_closed }))
+  pub kept_now : IsCrashImage new new.reads → ((image : Image) → IsCrashImage new image → new.crash_images_at new.moment image) → Keeps n slot (bytes_of (old.reads f)) (bytes_of (new.reads f))
+  kept_now itself now = reads_of_run (λ g. g ≡ f) KeepsAt old new itself now run
 
-  pub at_stays : (Touched : FileId → Type 0) (later : DiskState) → Elsewhere Touched disk later → ((g : FileId) → IsOwn journal.file g → Touched g → ⊥) → IsAt journal later
-  at_stays Touched later elsewhere apart =
-      let same : later.reads journal.file ≡ disk.reads journal.file = elsewhere.same journal.file (apart journal.file (own_itself journal.file)) in
-      record {
-        settled = λ c left. at.settled c (elsewhere.crash journal.file (apart journal.file (own_itself journal.file)) c left) ∙ sym same;
-        ends = subst (λ (c : Option (List ℕ)). EndsAt n (bytes_of c) journal.place) (sym same) at.ends;
-        last_entry = subst (λ (c : Option (List ℕ)). journal.last ≡ last_of n (bytes_of c) (count n (bytes_of c))) (sym same) at.last_entry;
-      }
+  pub kept_holds : f.part ≡ Slots → (last : Option (List ℕ)) → entry_of n (bytes_of (old.reads f)) ≡ last → (last ≡ None → HasNoOldEntry n f old) → Throughout (λ g. g ≡ f) (JournalHolds n f last) old new
+  kept_holds slots last is no_old = widened (λ g. g ≡ f) (λ g. g ≡ f) KeepsAt (JournalHolds n f last) old new (λ g own. own)
+      (λ image keeps beside. holds_by n f last image (keeps.entry ∙ is) (λ none. no_old none (image (old_file f)) (beside (old_file f) (old_other f slots)))) run
 
-  -- nothing was called
-  pub rest_before_or_after : (after : Option (List ℕ)) → OnlyNow disk → Runs (IsOwn journal.file) (IsBeforeOrAfter n journal.file journal.last after) disk disk
-  rest_before_or_after after only = started (IsOwn journal.file) (IsBeforeOrAfter n journal.file journal.last after) disk only (λ image is. inl (at_last image (λ g _. is g)))
+  pub kept_selected : Throughout (λ g. g ≡ f) (KeepsSelected n f old.reads) old new
+  unfolding KeepsSelected
+  kept_selected = widened (λ g. g ≡ f) (λ g. g ≡ f) KeepsAt (KeepsSelected n f old.reads) old new (λ g own. own) (λ image keeps _. keeps.keeps) run
 
-  pub rest_keeps : OnlyNow disk → Runs (IsOwn journal.file) (KeepsEntries n journal.file disk.reads) disk disk
-  unfolding KeepsEntries CountAt
-  rest_keeps only = started (IsOwn journal.file) (KeepsEntries n journal.file disk.reads) disk only
-      (λ image is. ap (λ (c : Option (List ℕ)). take (place n (count n (bytes_of (disk.reads journal.file)))) (bytes_of c)) (at.settled (image journal.file) (is journal.file)))
+  pub kept_length : Throughout (λ g. g ≡ f) (IsNoLonger n f old.reads) old new
+  kept_length = widened (λ g. g ≡ f) (λ g. g ≡ f) KeepsAt (IsNoLonger n f old.reads) old new (λ g own. own) (λ image keeps _. keeps.no_longer) run
 
--- a making
-pub making_run : (n : ℕ) (f : FileId) (old new : DiskState) → Runs (λ g. g ≡ f) (IsEmptyOrAsBefore n f old) old new → Runs (IsOwn f) (λ image. IsAsBefore n f old image ⊎ HasLast n f None image) old new
-making_run n f old new run = widened (λ g. g ≡ f) (IsOwn f) (IsEmptyOrAsBefore n f old) (λ image. IsAsBefore n f old image ⊎ HasLast n f None image) old new (is_own f)
-    (λ image may others. elim may [
-      | inl left ↦ inl (image, whole image left others, alike_same n f image image refl)
-      | inr none ↦ inr (has_none n f image none)
+  pub kept_slot : IsCrashImage new new.reads → ((image : Image) → IsCrashImage new image → new.crash_images_at new.moment image) → SelectsSame n f old.reads new.reads
+  unfolding SelectsSame
+  kept_slot itself now = (kept_now itself now).selects
+
+-- a selection of the free slot
+module _ (n : ℕ) (f : FileId) (slot : Option Slot) (old new : DiskView) (ran : Throughout (λ g. g ≡ f) (λ image. Selects n slot (bytes_of (old.reads f)) (bytes_of (image f))) old new) where
+  abbrev SelectsAt : Image → Type 0
+  SelectsAt image = Selects n slot (bytes_of (old.reads f)) (bytes_of (image f))
+
+  pub selects_holds : f.part ≡ Slots → (last : Option (List ℕ)) → entry_of n (bytes_of (old.reads f)) ≡ last → (last ≡ None → HasNoOldEntry n f old) → (after : Option (List ℕ)) → Some (piece (bytes_of (old.reads f)) (free n slot) n) ≡ after
+      → Throughout (λ g. g ≡ f) (IsBeforeOrAfter n f last after) old new
+  selects_holds slots last is no_old after body = widened (λ g. g ≡ f) (λ g. g ≡ f) SelectsAt (IsBeforeOrAfter n f last after) old new (λ g own. own)
+      (λ image selects beside. elim selects.entry [
+        | inl same ↦ inl (holds_by n f last image (same ∙ is) (λ none. no_old none (image (old_file f)) (beside (old_file f) (old_other f slots))))
+        | inr other ↦ inr (last_slots n f image (piece (bytes_of (old.reads f)) (free n slot) n) other ∙ body)
+      ]) ran
+
+  pub selects_selected : Throughout (λ g. g ≡ f) (KeepsSelected n f old.reads) old new
+  unfolding KeepsSelected
+  selects_selected = widened (λ g. g ≡ f) (λ g. g ≡ f) SelectsAt (KeepsSelected n f old.reads) old new (λ g own. own) (λ image selects _. selects.keeps) ran
+
+  pub selects_length : Throughout (λ g. g ≡ f) (IsNoLonger n f old.reads) old new
+  selects_length = widened (λ g. g ≡ f) (λ g. g ≡ f) SelectsAt (IsNoLonger n f old.reads) old new (λ g own. own) (λ image selects _. selects.no_longer) ran
+
+-- what is prepared is ready to be selected
+pub ready_of : (n : ℕ) (bytes : List ℕ) (slot : Option Slot) (prepared : Option (List ℕ)) → prepared ≢ None → IsPrepared n bytes slot prepared → IsReady n bytes slot × (Some (piece bytes (free n slot) n) ≡ prepared)
+ready_of n bytes slot None some is = absurd (some refl)
+ready_of n bytes slot (Some body) some is = (is.0, ap (λ (b : List ℕ). Some b) is.1)
+
+pub ready_there : (n : ℕ) (bytes : List ℕ) (slot : Option Slot) → IsReady n bytes slot → 2 ≤ length bytes
+ready_there n bytes slot ready = omega (arith, ready.within, behind slot) where
+  behind : (s : Option Slot) → 2 ≤ free n s
+  behind None = omega arith
+  behind (Some First) = omega arith
+  behind (Some Second) = omega arith
+
+-- an append, by both steps
+module _ (n : ℕ) (f : FileId) (old mid new : DiskView) where
+  pub both_hold : (last after : Option (List ℕ)) → Throughout (λ g. g ≡ f) (JournalHolds n f last) old mid → Throughout (λ g. g ≡ f) (IsBeforeOrAfter n f last after) mid new → Throughout (λ g. g ≡ f) (IsBeforeOrAfter n f last after) old new
+  both_hold last after first second = followed (λ g. g ≡ f) (IsBeforeOrAfter n f last after) old mid new
+      (widened (λ g. g ≡ f) (λ g. g ≡ f) (JournalHolds n f last) (IsBeforeOrAfter n f last after) old mid (λ g own. own) (λ image holds _. inl holds) first) second
+
+  pub one_holds : (last after : Option (List ℕ)) → Throughout (λ g. g ≡ f) (JournalHolds n f last) old new → Throughout (λ g. g ≡ f) (IsBeforeOrAfter n f last after) old new
+  one_holds last after run = widened (λ g. g ≡ f) (λ g. g ≡ f) (JournalHolds n f last) (IsBeforeOrAfter n f last after) old new (λ g own. own) (λ image holds _. inl holds) run
+
+  pub both_keep : entry_of n (bytes_of (mid.reads f)) ≡ entry_of n (bytes_of (old.reads f)) → SelectsSame n f old.reads mid.reads → KeepsSelected n f old.reads mid.reads
+      → Throughout (λ g. g ≡ f) (KeepsSelected n f old.reads) old mid → Throughout (λ g. g ≡ f) (KeepsSelected n f mid.reads) mid new → Throughout (λ g. g ≡ f) (KeepsSelected n f old.reads) old new
+  unfolding KeepsSelected SelectsSame
+  both_keep entry same kept first second = followed (λ g. g ≡ f) (KeepsSelected n f old.reads) old mid new first
+      (widened (λ g. g ≡ f) (λ g. g ≡ f) (KeepsSelected n f mid.reads) (KeepsSelected n f old.reads) mid new (λ g own. own)
+      (λ image keeps _ some.
+      let e = same some in
+      ap (λ (k : ℕ). piece (bytes_of (image f)) k n) (sym e) ∙ keeps (λ none. some (sym entry ∙ none)) ∙ ap (λ (k : ℕ). piece (bytes_of (mid.reads f)) k n) e ∙ kept some) second)
+
+  pub both_end : IsNoLonger n f old.reads mid.reads → Throughout (λ g. g ≡ f) (IsNoLonger n f old.reads) old mid → Throughout (λ g. g ≡ f) (IsNoLonger n f mid.reads) mid new → Throughout (λ g. g ≡ f) (IsNoLonger n f old.reads) old new
+  both_end short first second = followed (λ g. g ≡ f) (IsNoLonger n f old.reads) old mid new first
+      (widened (λ g. g ≡ f) (λ g. g ≡ f) (IsNoLonger n f mid.reads) (IsNoLonger n f old.reads) mid new (λ g own. own) (λ image le _. omega (arith, le, short)) second)
+
+-- a making of a file that may be made
+pub made_run : (n : ℕ) (f : FileId) (old new : DiskView) → f.part ≡ Slots → HasNoOldEntry n f old → Throughout (λ g. g ≡ f) (IsEmptyOrAsBefore n f old) old new → Throughout (λ g. g ≡ f) (λ image. IsSomeCrashOf n f old image ⊎ JournalHolds n f None image) old new
+made_run n f old new slots none run = widened (λ g. g ≡ f) (λ g. g ≡ f) (IsEmptyOrAsBefore n f old) (λ image. IsSomeCrashOf n f old image ⊎ JournalHolds n f None image) old new (λ g own. own)
+    (λ image may beside. elim may [
+      | inl left ↦ inl (image, whole image left beside, refl)
+      | inr empty ↦ inr (last_old n f image empty ∙ none (image (old_file f)) (beside (old_file f) (old_other f slots)))
     ]) run where
-      whole : (image : Image) → old.may_leave f (image f) → ((g : FileId) → (g ≡ f → ⊥) → old.may_leave g (image g)) → IsImage old image
-      whole image left others g = elim (same_or_other g f) [
-        | inl is ↦ subst (λ (h : FileId). old.may_leave h (image h)) (sym is) left
-        | inr differs ↦ others g differs
+      whole : (image : Image) → old.crash_states f (image f) → ((g : FileId) → (g ≡ f → ⊥) → old.crash_states g (image g)) → IsCrashImage old image
+      whole image left beside g = elim (same_or_other g f) [
+        | inl is ↦ subst (λ (h : FileId). old.crash_states h (image h)) (sym is) left
+        | inr other ↦ beside g other
       ]
 
-pub at_made : (n : ℕ) (f : FileId) (disk : DiskState) → Only (disk.reads f) (disk.may_leave f) → EndsAt n (bytes_of (disk.reads f)) 0 → (journal : Journal n) → journal.file ≡ f → journal.place ≡ 0 → journal.last ≡ None → IsAt journal disk
-at_made n f disk settled ends journal file_is place_is entry_is = subst (λ (h : FileId). Only (disk.reads h) (disk.may_leave h) → EndsAt n (bytes_of (disk.reads h)) 0 → IsAt journal disk) file_is at_file settled ends where
-  no_count : (bytes : List ℕ) → 0 ≡ place n (count n bytes) → count n bytes ≡ 0
-  no_count bytes e = omega (arith, e, entry_le_place n (count n bytes))
+-- neither file has an entry where the journal has none
+pub neither : (slots old : Option (List ℕ)) → option_or slots old ≡ None → (slots ≡ None) × (old ≡ None)
+neither None old none = (refl, none)
+neither (Some body) old none = absurd (let no_body : ⊥ = cc in no_body)
 
-  at_file : Only (disk.reads journal.file) (disk.may_leave journal.file) → EndsAt n (bytes_of (disk.reads journal.file)) 0 → IsAt journal disk
-  at_file only ended = record {
-    settled = only;
-    ends = subst (λ (k : ℕ). EndsAt n (bytes_of (disk.reads journal.file)) k) (sym place_is) ended;
-    last_entry = entry_is ∙ sym (ap (last_of n (bytes_of (disk.reads journal.file))) (no_count (bytes_of (disk.reads journal.file)) ended.by_entries));
-  }
+pub none_of_last : (n : ℕ) (f : FileId) (image : Image) → LastAt n f image ≡ None → (entry_of n (bytes_of (image f)) ≡ None) × (last_gated n (image (old_file f)) ≡ None)
+none_of_last n f image none = neither (entry_of n (bytes_of (image f))) (last_gated n (image (old_file f))) (sym (last_is n f image) ∙ none)
 
--- what a device fault is handed on as
-pub fault_from : {T : Type 0} (r : Result T JournalFault) (P : Type 0) → IsErrAnd r (λ e. e ≡ Disk) → P → IfErr r (λ e. (e ≡ Disk) × P)
-fault_from (Ok x) P is p = absurd is
-fault_from (Err e) P is p = (is, p)
+-- a fault of a call on one of its own files
+pub rose_at : (f g : FileId) (failed : Type 0) (old new : DiskView) → IsOwn f g → ((h : FileId) → old.faults h ≤ new.faults h) → HasRisen (old.faults g) (new.faults g) → HasOwnCause (IsOwn f) failed old new
+rose_at f g failed old new own monotone rose = record { monotone = monotone; risen = λ _. (g, own, rose) }
 
--- an opening
-module _ (n : ℕ) (f : FileId) (old new : DiskState) (stays : Stays old new) where
-  pub opening_run : Runs (IsOwn f) (λ image. IsAsBefore n f old image) old new
-  opening_run = stays_runs (IsOwn f) (λ image. IsAsBefore n f old image) old new (λ image is. (image, is, alike_same n f image image refl)) stays
+-- where both files are synced, a crash leaves the journal's last entry
+pub synced_holds : (n : ℕ) (f : FileId) (disk : DiskView) (image : Image) → IsSynced disk f → IsSynced disk (old_file f) → disk.crash_states f (image f) → disk.crash_states (old_file f) (image (old_file f)) → JournalHolds n f (LastAt n f disk.reads) image
+synced_holds n f disk image slots old left left_old = last_same n f image disk.reads (slots (image f) left) (old (image (old_file f)) left_old)
 
-  same : new.reads f ≡ old.reads f
-  same = stays.elsewhere.same f (λ none. none)
+module _ (n : ℕ) (f : FileId) (old : DiskView) (slots : f.part ≡ Slots) (synced : IsSynced old f) (old_synced : IsSynced old (old_file f)) where
+  abbrev HoldsAsBefore : Image → Type 0
+  HoldsAsBefore image = JournalHolds n f (LastAt n f old.reads) image
 
-  pub opened_alike : Only (new.reads f) (new.may_leave f) → (image : Image) → IsImage new image → IsAlike n f old.reads image
-  opened_alike settled image is = alike_same n f old.reads image (settled (image f) (is f) ∙ same)
+  -- calls that read
+  pub reads_hold : (new : DiskView) → Unchanged old new → Throughout (λ g. g ≡ f) HoldsAsBefore old new
+  reads_hold new unchanged = unchanged_throughout (λ g. g ≡ f) HoldsAsBefore old new (λ image is. synced_holds n f old image synced old_synced (is f) (is (old_file f))) unchanged
 
-  pub opened_at : Only (new.reads f) (new.may_leave f) → IsSound n f old.reads → (end : ℕ) (last : Option (List ℕ)) → end ≡ place n (count n (bytes_of (old.reads f))) → last ≡ last_of n (bytes_of (old.reads f)) (count n (bytes_of (old.reads f))) → last ≢ None
-      → (journal : Journal n) → journal.file ≡ f → journal.place ≡ end → journal.last ≡ last → IsAt journal new
-  opened_at settled sound end last ends is some journal file_is place_is entry_is = subst (λ (h : FileId). Only (new.reads h) (new.may_leave h) → EndsAt n (bytes_of (new.reads h)) end → last ≡ last_of n (bytes_of (new.reads h)) (count n (bytes_of (new.reads h))) → IsAt journal new) file_is at_file settled
-      (subst (λ (c : Option (List ℕ)). EndsAt n (bytes_of c) end) (sym same) ended)
-      (subst (λ (c : Option (List ℕ)). last ≡ last_of n (bytes_of c) (count n (bytes_of c))) (sym same) is) where
-        there : last_of n (bytes_of (old.reads f)) (count n (bytes_of (old.reads f))) ≢ None
-        there none = some (is ∙ none)
+  -- a file that has no entry and is made
+  module _ (none : entry_of n (bytes_of (old.reads f)) ≡ None) where
+    empty_holds : (image : Image) → entry_of n (bytes_of (image f)) ≡ None → old.crash_states (old_file f) (image (old_file f)) → HoldsAsBefore image
+    empty_holds image empty left = last_old n f image empty ∙ ap (last_gated n) (old_synced (image (old_file f)) left) ∙ sym (last_old n f old.reads none)
 
-        ended : EndsAt n (bytes_of (old.reads f)) end
-        ended = record {
-          by_entries = ends;
-          gate_there = omega (arith, ends, gate_behind n (bytes_of (old.reads f)) there);
-          gate_closed = closed_by_sound n f old.reads sound (λ none. there (sym (last_is n f old.reads) ∙ none));
-        }
+    pub make_holds : (mid new : DiskView) → Unchanged old mid → Throughout (λ g. g ≡ f) (IsEmptyOrAsBefore n f mid) mid new → Throughout (λ g. g ≡ f) HoldsAsBefore old new
+    make_holds mid new unchanged run = followed (λ g. g ≡ f) HoldsAsBefore old mid new (reads_hold mid unchanged)
+        (widened (λ g. g ≡ f) (λ g. g ≡ f) (IsEmptyOrAsBefore n f mid) HoldsAsBefore mid new (λ g own. own)
+        (λ image may beside.
+        let left_old : old.crash_states (old_file f) (image (old_file f)) = unchanged.elsewhere.crash (old_file f) (λ touched. touched) (image (old_file f)) (beside (old_file f) (old_other f slots)) in
+        elim may [
+          | inl left ↦ synced_holds n f old image synced old_synced (unchanged.elsewhere.crash f (λ touched. touched) (image f) left) left_old
+          | inr empty ↦ empty_holds image empty left_old
+        ]) run)
 
-        at_file : Only (new.reads journal.file) (new.may_leave journal.file) → EndsAt n (bytes_of (new.reads journal.file)) end → last ≡ last_of n (bytes_of (new.reads journal.file)) (count n (bytes_of (new.reads journal.file))) → IsAt journal new
-        at_file only has reads = record {
-          settled = only;
-          ends = subst (λ (k : ℕ). EndsAt n (bytes_of (new.reads journal.file)) k) (sym place_is) has;
-          last_entry = entry_is ∙ reads;
-        }
+    -- and has the last body of the old file added
+    pub add_holds : (k : ℕ) (body : List ℕ) (mid new : DiskView) → k ≡ n → last_gated n (old.reads (old_file f)) ≡ Some body → Throughout (λ g. g ≡ f) HoldsAsBefore old mid
+        → Throughout (λ g. g ≡ f) (λ image. (entry_of k (bytes_of (image f)) ≡ None) ⊎ (entry_of k (bytes_of (image f)) ≡ Some body)) mid new → Throughout (λ g. g ≡ f) HoldsAsBefore old new
+    add_holds k body mid new long is first ran = followed (λ g. g ≡ f) HoldsAsBefore old mid new first
+        (widened (λ g. g ≡ f) (λ g. g ≡ f) (λ image. (entry_of n (bytes_of (image f)) ≡ None) ⊎ (entry_of n (bytes_of (image f)) ≡ Some body)) HoldsAsBefore mid new (λ g own. own)
+        (λ image either beside. elim either [
+          | inl empty ↦ empty_holds image empty (first.elsewhere.crash (old_file f) (old_other f slots) (image (old_file f)) (beside (old_file f) (old_other f slots)))
+          | inr there ↦ last_slots n f image body there ∙ sym (last_old n f old.reads none ∙ is)
+        ])
+        (subst (λ (m : ℕ). Throughout (λ g. g ≡ f) (λ image. (entry_of m (bytes_of (image f)) ≡ None) ⊎ (entry_of m (bytes_of (image f)) ≡ Some body)) mid new) long ran))
 
--- a journal that isn't there
-pub none_absent : (n : ℕ) (f : FileId) (image : Image) → image f ≡ None → LastAt n f image ≡ None
-none_absent n f image absent = none_by n f image (count_short n (bytes_of (image f)) (subst (λ (c : Option (List ℕ)). length (bytes_of c) ≤ n + 1) (sym absent) (omega arith)))
+-- an opening: the files were synced, and then settled
+pub unchanged_crashes : (n : ℕ) (f : FileId) (old new : DiskView) → Unchanged old new → Throughout (λ g. g ≡ f) (IsSomeCrashOf n f old) old new
+unchanged_crashes n f old new unchanged = unchanged_throughout (λ g. g ≡ f) (IsSomeCrashOf n f old) old new (λ image is. (image, is, refl)) unchanged
 
-pub absent_has : (n : ℕ) (f : FileId) (image : Image) → image f ≡ None → HasLast n f None image
-absent_has n f image absent = let none = none_absent n f image absent in record { last_entry = none; sound = sound_none n f image none }
+pub unchanged_last : (n : ℕ) (f : FileId) (old new : DiskView) → Unchanged old new → LastAt n f new.reads ≡ LastAt n f old.reads
+unchanged_last n f old new unchanged = last_same n f new.reads old.reads (unchanged_reads old new unchanged f) (unchanged_reads old new unchanged (old_file f))
+
+module _ (n : ℕ) (f : FileId) (old mid new : DiskView) (unchanged : Unchanged old mid) (run : Throughout (λ g. g ≡ f) (JournalHolds n f (LastAt n f mid.reads)) mid new) where
+  pub opening_run : IsCrashImage old old.reads → Throughout (λ g. g ≡ f) (IsSomeCrashOf n f old) old new
+  opening_run itself = followed (λ g. g ≡ f) (IsSomeCrashOf n f old) old mid new (unchanged_crashes n f old mid unchanged)
+      (widened (λ g. g ≡ f) (λ g. g ≡ f) (JournalHolds n f (LastAt n f mid.reads)) (IsSomeCrashOf n f old) mid new (λ g own. own)
+      (λ image holds _. (old.reads, itself, holds ∙ unchanged_last n f old mid unchanged)) run)
+
+  pub opened_same : ((image : Image) → IsCrashImage new image → new.crash_images_at new.moment image) → (image : Image) → IsCrashImage new image → SameJournal n f old.reads image
+  opened_same now image is = run.each new.moment image run.later (omega arith) (now image is) ∙ unchanged_last n f old mid unchanged
+
+-- two journals with one last entry read as one
+pub both_entry : (n : ℕ) (journal later : Journal n) (old mid : DiskView) → later.file ≡ journal.file → later.last ≡ journal.last → Represents journal old → Represents later mid
+    → entry_of n (bytes_of (mid.reads journal.file)) ≡ entry_of n (bytes_of (old.reads journal.file))
+both_entry n journal later old mid file last before after =
+    ap (λ (h : FileId). entry_of n (bytes_of (mid.reads h))) (sym file) ∙ after.last_entry ∙ last ∙ sym before.last_entry
+
+-- the last entry by what was found in the slots
+pub last_found : (n : ℕ) (f : FileId) (image : Image) (found : Option (List ℕ)) → found ≡ entry_of n (bytes_of (image f)) → is_some found ≡ true → found ≡ LastAt n f image
+last_found n f image (Some body) is some = sym (last_slots n f image body (sym is))
+last_found n f image None is some = absurd (let none : ⊥ = cc in none)
+
+pub none_found : (found : Option (List ℕ)) → is_some found ≡ false → found ≡ None
+none_found None none = refl
+none_found (Some body) none = absurd (let no_body : ⊥ = cc in no_body)
+
+-- a file that has no length is absent
+pub no_size : (file : Option (List ℕ)) → None ≡ size_of file → file ≡ None
+no_size None is = refl
+no_size (Some bytes) is = absurd (let none : ⊥ = cc in none)
+
+pub own_by : (f g : FileId) → g ≡ old_file f → IsOwn f g
+own_by f g is = subst (λ (h : FileId). IsOwn f h) (sym is) (own_old f)
+
+-- one sync, and one of each file
+pub one_sync_syncs : (f : FileId) (old new : DiskView) → OneSync f old new → SyncsAtMost 1 (λ g. g ≡ f) old new
+one_sync_syncs f old new sync = record {
+  own = λ g is. subst (λ (h : FileId). new.syncs h ≤ old.syncs h + 1) (sym is) sync.at_most;
+  others = λ g other. sync.others g other;
+}
+
+pub both_syncs : (f o : FileId) (old mid new : DiskView) → o ≡ old_file f → f.part ≡ Slots → OneSync f old mid → OneSync o mid new → SyncsAtMost 1 (IsOwn f) old new
+both_syncs f o old mid new old_is slots first second = record {
+  own = λ g own. elim (own_cases f g own) [
+    | inl is ↦
+        let a : new.syncs g ≡ mid.syncs g = second.others g (λ same. other (sym (sym is ∙ same))) in
+        let b : mid.syncs g ≤ old.syncs g + 1 = subst (λ (h : FileId). mid.syncs h ≤ old.syncs h + 1) (sym is) first.at_most in
+        omega (arith, a, b)
+    | inr is ↦
+        let a : new.syncs g ≤ mid.syncs g + 1 = subst (λ (h : FileId). new.syncs h ≤ mid.syncs h + 1) (old_is ∙ sym is) second.at_most in
+        let b : mid.syncs g ≡ old.syncs g = first.others g (λ same. other (old_is ∙ sym is ∙ same)) in
+        omega (arith, a, b)
+  ];
+  others = λ g apart. second.others g (λ is. apart (own_by f g (is ∙ old_is))) ∙ first.others g (λ is. apart (subst (λ (h : FileId). IsOwn f h) (sym is) (own_itself f)));
+} where
+  other : o ≢ f
+  other is = old_other f slots (sym old_is ∙ is)
+
+-- what follows from what an answer holds
+pub if_ok_weaker : {T E : Type 0} {P Q : T → Type 0} (r : Result T E) → ((x : T) → P x → Q x) → IfOk r P → IfOk r Q
+if_ok_weaker (Ok x) follows is = follows x is
+if_ok_weaker (Err e) follows is = tt
+
+-- files that were synced are read, and then taken over
+pub settled_run : (n : ℕ) (f : FileId) (old mid new : DiskView) → f.part ≡ Slots → IsSynced old f → IsSynced old (old_file f) → Unchanged old mid → Throughout (λ g. g ≡ f) (JournalHolds n f (LastAt n f mid.reads)) mid new
+    → Throughout (λ g. g ≡ f) (JournalHolds n f (LastAt n f old.reads)) old new
+settled_run n f old mid new slots synced old_synced unchanged run = followed (λ g. g ≡ f) (JournalHolds n f (LastAt n f old.reads)) old mid new (reads_hold n f old slots synced old_synced mid unchanged)
+    (widened (λ g. g ≡ f) (λ g. g ≡ f) (JournalHolds n f (LastAt n f mid.reads)) (JournalHolds n f (LastAt n f old.reads)) mid new (λ g own. own) (λ image holds _. holds ∙ unchanged_last n f old mid unchanged) run)
+
+-- the syncs of both files, and then of the slots
+pub opening_syncs : (f : FileId) (old mid done new : DiskView) → f.part ≡ Slots → Unsynced old mid → SyncsAtMost 1 (IsOwn f) mid done → SyncsAtMost 4 (λ g. g ≡ f) done new → SyncsAtMost 5 (IsOwn f) old new
+opening_syncs f old mid done new slots none first second = syncs_trans 0 5 (IsOwn f) old mid new (unsynced_at_most 0 (IsOwn f) old mid none)
+    (syncs_trans 1 4 (IsOwn f) mid done new first (own_syncs 4 f done new slots second))
+
+-- where a synced old file has no entry, none comes to be there
+pub opened_no_old : (n : ℕ) (f : FileId) (mid new : DiskView) → Throughout (λ g. g ≡ f) (JournalHolds n f (LastAt n f mid.reads)) mid new → f.part ≡ Slots → IsSynced mid (old_file f) → LastAt n f mid.reads ≡ None → HasNoOldEntry n f new
+opened_no_old n f mid new run slots synced none content left =
+    ap (last_gated n) (synced content (run.elsewhere.crash (old_file f) (old_other f slots) content left)) ∙ (none_of_last n f mid.reads none).1

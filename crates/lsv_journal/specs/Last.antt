@@ -1,70 +1,75 @@
 -- What a journal holds on an image of the disk, by the name of its file. All that is said of a journal above it is
--- said in these words, so that it may hold its entries in another form, or in more than one file.
-use Rattle.std.specs.Prelude.{◌≡◌, ◌≢◌, ◌⊎◌, ℕ, List, take, Option, None}
-use Rattle.lsv_words.specs.Causes.{Rose}
+-- said in these words.
+use Rattle.std.specs.Prelude.{◌≡◌, ◌⊎◌, ℕ, List, Option, None}
+use Rattle.std.specs.Option.{option_or}
 use Rattle.lsv_disk.specs.declared.file.FileId.{FileId}
-use Rattle.lsv_disk.specs.declared.file.Part.{Part}
-use Rattle.lsv_disk.specs.declared.file.Part.TheVariants.{Head, Exit, Timing, Stdin, Stdout, Stderr, Ttyin, Ttyout, Lines, Id, Commit}
+use Rattle.lsv_disk.specs.declared.file.Part.TheVariants.{Commit}
 use Rattle.lsv_disk.specs.Bytes.{bytes_of}
-use Rattle.lsv_disk.specs.State.{Image, DiskState, IsImage}
-use Rattle.lsv_journal.specs.Entries.{place, gate, count, last_of}
+use Rattle.lsv_disk.specs.Files.{file_of}
+use Rattle.lsv_disk.specs.View.{Image, DiskView, IsCrashImage}
+use Rattle.lsv_journal.specs.Gates.{count, last_of}
+use Rattle.lsv_journal.specs.Slots.{entry_of, KeepsSlot, SelectsAsBefore, StaysWithin}
 
--- the second file is one of those that the journal named by the first keeps its entries in
+-- the journal of an older store, of the same owner, which is only read
+abbrev pub old_file : FileId → FileId
+old_file f = file_of f.owner Commit
+
+-- g is one of the two files of the journal named f
 unfoldable pub IsOwn : FileId → FileId → Type 0
-IsOwn f g = g ≡ f
+IsOwn f g = (g ≡ f) ⊎ (g ≡ old_file f)
 
--- a file of this part is a journal's
-abbrev pub IsJournalPart : Part → Type 0
-IsJournalPart Head = ⊥
-IsJournalPart Exit = ⊥
-IsJournalPart Timing = ⊥
-IsJournalPart Stdin = ⊥
-IsJournalPart Stdout = ⊥
-IsJournalPart Stderr = ⊥
-IsJournalPart Ttyin = ⊥
-IsJournalPart Ttyout = ⊥
-IsJournalPart Lines = ⊥
-IsJournalPart Id = ⊥
-IsJournalPart Commit = Unit {0}
-
--- the journal isn't there
+-- none of the journal's files is there
 abbrev pub IsAbsent : FileId → Image → Type 0
-IsAbsent f image = image f ≡ None
+IsAbsent f image = (image f ≡ None) × (image (old_file f) ≡ None)
 
--- how many entries of n bytes the journal has
-unfoldable pub CountAt : ℕ → FileId → Image → ℕ
-CountAt n f image = count n (bytes_of (image f))
+-- the last body in the file of two slots
+abbrev pub slots_last : ℕ → FileId → Image → Option (List ℕ)
+slots_last n f image = entry_of n (bytes_of (image f))
 
--- the body of its last entry, none where it has no entry or isn't there
+-- the last body in the file of an older store, by its content
+abbrev pub last_gated : ℕ → Option (List ℕ) → Option (List ℕ)
+last_gated n content = last_of n (bytes_of content) (count n (bytes_of content))
+
+-- and by its name
+abbrev pub old_last : ℕ → FileId → Image → Option (List ℕ)
+old_last n f image = last_gated n (image (old_file f))
+
+-- the body of the journal's last entry: that of its slots, or where they have none that of its old file
 unfoldable pub LastAt : ℕ → FileId → Image → Option (List ℕ)
-LastAt n f image = last_of n (bytes_of (image f)) (count n (bytes_of (image f)))
+LastAt n f image = option_or (slots_last n f image) (old_last n f image)
 
--- where it has an entry, there is no open gate behind the last one
-unfoldable pub IsSound : ℕ → FileId → Image → Type 0
-IsSound n f image = LastAt n f image ≢ None → gate n (bytes_of (image f)) (count n (bytes_of (image f))) ≢ 1
-
--- this is its last entry, and it is sound
-pub record HasLast (n : ℕ) (f : FileId) (last : Option (List ℕ)) (image : Image) : Type 0 where
-  pub last_entry : LastAt n f image ≡ last
-  pub sound : IsSound n f image
+-- this is the journal's last entry, or it has none
+abbrev pub JournalHolds : ℕ → FileId → Option (List ℕ) → Image → Type 0
+JournalHolds n f last image = LastAt n f image ≡ last
 
 -- the one or the other is its last entry
 abbrev pub IsBeforeOrAfter : ℕ → FileId → Option (List ℕ) → Option (List ℕ) → Image → Type 0
-IsBeforeOrAfter n f before after image = HasLast n f before image ⊎ HasLast n f after image
+IsBeforeOrAfter n f before after image = JournalHolds n f before image ⊎ JournalHolds n f after image
 
--- it has the last entry of that image, and is sound where that one is
-pub record IsAlike (n : ℕ) (f : FileId) (was image : Image) : Type 0 where
-  pub last_entry : LastAt n f image ≡ LastAt n f was
-  pub sound : IsSound n f was → IsSound n f image
+-- it has the last entry of the first image
+abbrev pub SameJournal : ℕ → FileId → Image → Image → Type 0
+SameJournal n f was image = LastAt n f image ≡ LastAt n f was
 
--- it is as in some image of that disk
-abbrev pub IsAsBefore : ℕ → FileId → DiskState → Image → Type 0
-IsAsBefore n f disk image = (was : Image) × IsImage disk was × IsAlike n f was image
+-- it has the last entry of some crash image of that disk
+abbrev pub IsSomeCrashOf : ℕ → FileId → DiskView → Image → Type 0
+IsSomeCrashOf n f disk image = (was : Image) × IsCrashImage disk was × SameJournal n f was image
 
--- the bytes of the entries that it has in that image are the same in this one
-unfoldable pub KeepsEntries : ℕ → FileId → Image → Image → Type 0
-KeepsEntries n f was image = take (place n (CountAt n f was)) (bytes_of (image f)) ≡ take (place n (CountAt n f was)) (bytes_of (was f))
+-- its old file has no entry in any crash image
+abbrev pub HasNoOldEntry : ℕ → FileId → DiskView → Type 0
+HasNoOldEntry n f disk = (content : Option (List ℕ)) → disk.crash_states (old_file f) content → last_gated n content ≡ None
 
--- the count of faults of one of its files rose
-abbrev pub OwnRose : FileId → (FileId → ℕ) → (FileId → ℕ) → Type 0
-OwnRose f before now = (g : FileId) × IsOwn f g × Rose (before g) (now g)
+-- it may be made: its slots have no entry as they read, and its old file has none in any crash image
+unfoldable pub MayBeMade : ℕ → FileId → DiskView → Type 0
+MayBeMade n f disk = (slots_last n f disk.reads ≡ None) × HasNoOldEntry n f disk
+
+-- where the slots have an entry in that image, the bytes of the selected slot are the same in this one
+unfoldable pub KeepsSelected : ℕ → FileId → Image → Image → Type 0
+KeepsSelected n f was image = KeepsSlot n (bytes_of (was f)) (bytes_of (image f))
+
+-- and in this one the same slot is selected
+unfoldable pub SelectsSame : ℕ → FileId → Image → Image → Type 0
+SelectsSame n f was image = SelectsAsBefore n (bytes_of (was f)) (bytes_of (image f))
+
+-- the file of slots ends at the end of the second slot at most, or where it ended in that image
+abbrev pub IsNoLonger : ℕ → FileId → Image → Image → Type 0
+IsNoLonger n f was image = StaysWithin n (bytes_of (was f)) (bytes_of (image f))

@@ -1,5 +1,7 @@
-pub mod Entries
+pub mod Gates
+pub mod Slots
 pub mod Last
 pub mod Value
-pub mod Standing
+pub mod Represents
+pub mod Writing
 pub mod Reading

@@ -1,6 +1,10 @@
--- What is read of a journal's file at a time.
-use Rattle.std.specs.Prelude.{◌≡◌, ℕ, ◌<◌, true, false, List}
-use Rattle.lsv_journal.specs.Entries.{place, is_whole}
+-- What is read of an old file of gates at a time, and what a making leaves.
+use Rattle.std.specs.Prelude.{◌≡◌, ◌⊎◌, ℕ, ◌<◌, true, false, List, None}
+use Rattle.lsv_disk.specs.declared.file.FileId.{FileId}
+use Rattle.lsv_disk.specs.Bytes.{bytes_of}
+use Rattle.lsv_disk.specs.View.{Image, DiskView}
+use Rattle.lsv_journal.specs.Gates.{place, is_whole}
+use Rattle.lsv_journal.specs.Slots.{entry_of}
 
 -- so many bytes at the front are whole entries, and there are none only where none stands there
 pub record IsMore (n : ℕ) (bytes : List ℕ) (more : ℕ) : Type 0 where
@@ -8,3 +12,7 @@ pub record IsMore (n : ℕ) (bytes : List ℕ) (more : ℕ) : Type 0 where
   pub takes : more ≡ place n entries
   pub whole : (i : ℕ) → i < entries → is_whole n bytes i ≡ true
   pub ends : entries ≡ 0 → is_whole n bytes 0 ≡ false
+
+-- of an image that a making may leave: the file is as that disk could leave it, or has no entry
+abbrev pub IsEmptyOrAsBefore : ℕ → FileId → DiskView → Image → Type 0
+IsEmptyOrAsBefore n f disk image = disk.crash_states f (image f) ⊎ (entry_of n (bytes_of (image f)) ≡ None)

@@ -1,14 +1,15 @@
 use lsv_disk::DiskFault;
+use thiserror::Error;
 
 /// Why a call of a journal failed.
-#[derive(Clone, Copy, Debug, PartialEq, Eq)]
+#[derive(Clone, Copy, Debug, PartialEq, Eq, Error)]
 pub enum JournalFault {
     /// A device call on a file of this journal failed.
+    #[error("a call on a file of the journal failed")]
     Disk,
     /// The journal answered `Disk` before, and wasn't opened again.
+    #[error("the journal failed before, and was not opened again")]
     Broken,
-    /// The file would pass 2^40 bytes.
-    Spent,
 }
 
 impl From<DiskFault> for JournalFault {

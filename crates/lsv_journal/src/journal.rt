@@ -1,104 +1,114 @@
-ghost use Rattle.std.specs.Prelude.{◌≡◌, ◌≢◌, ◌⊎◌, ◌↔◌, ℕ, ◌+◌, ◌*◌, ◌≤◌, ◌<◌, ◌^◌, true, false, Option, Some, None, IfOk, IfErr, IfSome, OnOk, OnErr, IsErrOf};
+ghost use Rattle.std.specs.Prelude.{◌≡◌, ◌≢◌, ◌⊎◌, ◌↔◌, ℕ, ◌+◌, ◌≤◌, ◌<◌, true, false, Option, Some, None, IfOk, IfErr, IfSome, IsErr, OnOk, OnErr, IsErrOf};
 
 use crate::JournalFault;
-use crate::adding::add;
-use crate::making::make;
-use crate::reading::{look, sync_and_look};
-use lsv_disk::{Disk, DiskFault, FileId};
+use crate::append::{select_free, write_free};
+use crate::create::make;
+use crate::gates::last_gated;
+use crate::open::{find, is_absent, old_file, settle, sync_both};
+use crate::slot::Slot;
+use lsv_disk::{Disk, DiskFault, FileId, Part};
 
-/// The longest that a journal's file may become, in bytes.
-pub const FILE_LIMIT: u64 = 1 << 40;
-
-/// A file of bodies of N bytes, each behind a gate byte. Of N from 1 to 120. It keeps its last entry; no call
-/// takes memory. Each call is handed the disk that the journal was made or opened over, and nothing else changes
-/// its files.
+/// A file of two slots of N bytes, of which a selector byte chooses one: its last entry. Of N from 1 to 120. No call
+/// takes memory. Each call is handed the disk that the journal was made or opened over, and nothing else changes its
+/// files.
 #[derive(Drop)]
 pub struct Journal<const N: usize> {
     file: FileId,
-    /// Where the next entry's gate stands.
-    place: u64,
     last: Option<[u8; N]>,
+    /// The body in the free slot, which one byte more selects.
+    prepared: Option<[u8; N]>,
+    /// The slot with the last entry, none where there is no entry.
+    selected: Option<Slot>,
     broken: bool,
 }
 
 impl<const N: usize> Journal<N> {
     ghost use Rattle.lsv_disk.specs.declared.file.FileId.{FileId};
-    ghost use Rattle.lsv_disk.specs.State.{Image, IsImage};
-    ghost use Rattle.lsv_disk.specs.Runs.{Runs, Stays};
-    ghost use Rattle.lsv_journal.specs.Last.{IsOwn, IsAbsent, CountAt, LastAt, IsSound, HasLast, IsBeforeOrAfter, IsAlike, IsAsBefore, KeepsEntries, OwnRose};
-    ghost use Rattle.lsv_journal.specs.Value.{file, last, is_broken, filled, IsSpent};
-    ghost use Rattle.lsv_journal.specs.Standing.{IsAt};
+    ghost use Rattle.lsv_disk.specs.declared.file.Part.{Part};
+    ghost use Rattle.lsv_disk.specs.View.{Image, IsCrashImage, HasOwnCause};
+    ghost use Rattle.lsv_disk.specs.Throughout.{Throughout, OnlyReads, SyncsAtMost};
+    ghost use Rattle.lsv_journal.specs.Last.{IsOwn, IsAbsent, LastAt, JournalHolds, IsBeforeOrAfter, SameJournal, IsSomeCrashOf, MayBeMade, KeepsSelected, SelectsSame, IsNoLonger};
+    ghost use Rattle.lsv_journal.specs.Value.{file, last, prepared, is_broken};
+    ghost use Rattle.lsv_journal.specs.Represents.{Represents};
 
-    /// Makes a journal without an entry, at a file that is absent or has no entry: what a making that was stopped
-    /// or failed has left is made again. `Disk` only where a device call on its files failed; then too it has no
+    /// Makes a journal without an entry, at a file that is absent or has no entry: what a making that a crash or a
+    /// fault ended has left is made again. `Disk` only where a device call on its files failed; then too it has no
     /// entry.
     pub fn create<D: Disk>(disk: &mut D, f: FileId) -> Result<Journal<N>, JournalFault>
         requires size { (0 < N) × (N ≤ 120) }
-        requires no_entry { D.tells → LastAt N f (D.state disk.old).reads ≡ None }
+        requires slots { f.part ≡ Part.Slots }
+        requires may_be_made { D.tells → MayBeMade N f (D.view disk.old) }
         ensures file { IfOk result (λ j. file j ≡ f) }
         ensures last { IfOk result (λ j. last j ≡ None) }
+        ensures prepared { IfOk result (λ j. prepared j ≡ None) }
         ensures whole { IfOk result (λ j. is_broken j ≡ false) }
-        ensures filled { IfOk result (λ j. filled j ≡ 0) }
-        ensures stands { D.tells → IfOk result (λ j. IsAt j (D.state disk.new)) }
-        ensures again { D.tells → LastAt N f (D.state disk.new).reads ≡ None }
-        ensures any_moment { D.tells → Runs (IsOwn f) (λ image. IsAsBefore N f (D.state disk.old) image ⊎ HasLast N f None image) (D.state disk.old) (D.state disk.new) }
-        ensures synced { D.tells → (g : FileId) → IsOwn f g → D.syncs disk.new g ≤ D.syncs disk.old g + 2 }
-        ensures syncs { D.tells → (g : FileId) → (IsOwn f g → ⊥) → D.syncs disk.new g ≡ D.syncs disk.old g }
-        ensures counts { (g : FileId) → D.faults disk.old g ≤ D.faults disk.new g }
-        ensures fault { IfErr result (λ e. (e ≡ JournalFault.Disk) × OwnRose f (D.faults disk.old) (D.faults disk.new)) }
+        ensures represents { D.tells → IfOk result (λ j. Represents j (D.view disk.new)) }
+        ensures again { D.tells → MayBeMade N f (D.view disk.new) }
+        ensures any_moment { D.tells → Throughout (λ g. g ≡ f) (λ image. IsSomeCrashOf N f (D.view disk.old) image ⊎ JournalHolds N f None image) (D.view disk.old) (D.view disk.new) }
+        ensures syncs { D.tells → SyncsAtMost 2 (IsOwn f) (D.view disk.old) (D.view disk.new) }
+        ensures fault { IfErr result (λ e. e ≡ JournalFault.Disk) }
+        ensures cause { HasOwnCause (IsOwn f) (IsErr result) (D.view disk.old) (D.view disk.new) }
     {
         make(disk, f)?;
         Ok(Journal {
             file: f,
-            place: 0,
             last: None,
+            prepared: None,
+            selected: None,
             broken: false,
         })
     }
 
-    /// Syncs the file, and reads its last entry: a stop of the machine leaves that one. None exactly where the file
-    /// is absent. It writes nothing. `Disk` only where a device call on its files failed.
+    /// Syncs both files, and reads the last entry: a crash leaves that one. None exactly where both are absent. Where
+    /// the slots have no entry their file is made again, and the last body of the old file is taken over into it;
+    /// the old file is never written. `Disk` only where a device call on its files failed.
     pub fn open<D: Disk>(disk: &mut D, f: FileId) -> Result<Option<Journal<N>>, JournalFault>
         requires size { (0 < N) × (N ≤ 120) }
-        ensures absent { D.tells → IfOk result (λ o. o ≡ None ↔ IsAbsent f (D.state disk.old).reads) }
+        requires slots { f.part ≡ Part.Slots }
+        ensures absent { D.tells → IfOk result (λ o. o ≡ None ↔ IsAbsent f (D.view disk.old).reads) }
         ensures file { IfOk result (λ o. IfSome o (λ j. file j ≡ f)) }
-        ensures last { D.tells → IfOk result (λ o. IfSome o (λ j. last j ≡ LastAt N f (D.state disk.old).reads)) }
+        ensures last { D.tells → IfOk result (λ o. IfSome o (λ j. last j ≡ LastAt N f (D.view disk.old).reads)) }
+        ensures prepared { IfOk result (λ o. IfSome o (λ j. prepared j ≡ None)) }
         ensures whole { IfOk result (λ o. IfSome o (λ j. is_broken j ≡ false)) }
-        ensures filled { D.tells → IfOk result (λ o. IfSome o (λ j. filled j ≡ CountAt N f (D.state disk.old).reads * (N + 1))) }
-        ensures durable { D.tells → IfOk result (λ o. IfSome o (λ j. (image : Image) → IsImage (D.state disk.new) image → IsAlike N f (D.state disk.old).reads image)) }
-        ensures stands { D.tells → IsSound N f (D.state disk.old).reads → IfOk result (λ o. IfSome o (λ j. last j ≢ None → IsAt j (D.state disk.new))) }
-        ensures any_moment { D.tells → Runs (IsOwn f) (λ image. IsAsBefore N f (D.state disk.old) image) (D.state disk.old) (D.state disk.new) }
-        ensures stays { D.tells → Stays (D.state disk.old) (D.state disk.new) }
-        ensures synced { D.tells → (g : FileId) → IsOwn f g → D.syncs disk.new g ≤ D.syncs disk.old g + 1 }
-        ensures syncs { D.tells → (g : FileId) → (IsOwn f g → ⊥) → D.syncs disk.new g ≡ D.syncs disk.old g }
-        ensures counts { (g : FileId) → D.faults disk.old g ≤ D.faults disk.new g }
-        ensures fault { IfErr result (λ e. (e ≡ JournalFault.Disk) × OwnRose f (D.faults disk.old) (D.faults disk.new)) }
+        ensures durable { D.tells → IfOk result (λ o. IfSome o (λ j. (image : Image) → IsCrashImage (D.view disk.new) image → SameJournal N f (D.view disk.old).reads image)) }
+        ensures represents { D.tells → IfOk result (λ o. IfSome o (λ j. Represents j (D.view disk.new))) }
+        ensures may_be_made { D.tells → IfOk result (λ o. IfSome o (λ j. last j ≡ None → MayBeMade N f (D.view disk.new))) }
+        ensures absent_may_be_made { D.tells → IfOk result (λ o. o ≡ None → MayBeMade N f (D.view disk.new)) }
+        ensures reads { D.tells → SameJournal N f (D.view disk.old).reads (D.view disk.new).reads }
+        ensures any_moment { D.tells → Throughout (λ g. g ≡ f) (IsSomeCrashOf N f (D.view disk.old)) (D.view disk.old) (D.view disk.new) }
+        ensures syncs { D.tells → SyncsAtMost 5 (IsOwn f) (D.view disk.old) (D.view disk.new) }
+        ensures fault { IfErr result (λ e. e ≡ JournalFault.Disk) }
+        ensures cause { HasOwnCause (IsOwn f) (IsErr result) (D.view disk.old) (D.view disk.new) }
     {
-        let Some(found) = sync_and_look(disk, f)? else {
+        if is_absent(disk, f)? {
             return Ok(None);
-        };
+        }
+        sync_both(disk, f)?;
+        let found = settle(disk, f)?;
         Ok(Some(Journal {
             file: f,
-            place: found.end,
             last: found.last,
+            prepared: None,
+            selected: found.selected,
             broken: false,
         }))
     }
 
-    /// The last body, as the file reads, without a sync. None where the file is absent or has no entry. `Disk` only
-    /// where a device call on its files failed.
+    /// The last body, as the files read, without a sync or a write. `Disk` only where a device call on its files
+    /// failed.
     pub fn view<D: Disk>(disk: &mut D, f: FileId) -> Result<Option<[u8; N]>, JournalFault>
         requires size { (0 < N) × (N ≤ 120) }
-        ensures last { D.tells → IfOk result (λ body. body ≡ LastAt N f (D.state disk.old).reads) }
-        ensures stays { D.tells → Stays (D.state disk.old) (D.state disk.new) }
-        ensures syncs { D.tells → (g : FileId) → D.syncs disk.new g ≡ D.syncs disk.old g }
-        ensures counts { (g : FileId) → D.faults disk.old g ≤ D.faults disk.new g }
-        ensures fault { IfErr result (λ e. (e ≡ JournalFault.Disk) × OwnRose f (D.faults disk.old) (D.faults disk.new)) }
+        requires slots { f.part ≡ Part.Slots }
+        ensures last { D.tells → IfOk result (λ body. body ≡ LastAt N f (D.view disk.old).reads) }
+        ensures reads { D.tells → OnlyReads (D.view disk.old) (D.view disk.new) }
+        ensures fault { IfErr result (λ e. e ≡ JournalFault.Disk) }
+        ensures cause { HasOwnCause (IsOwn f) (IsErr result) (D.view disk.old) (D.view disk.new) }
     {
-        match look(disk, f)? {
-            None => Ok(None),
-            Some(found) => Ok(found.last),
+        let found = find(disk, f)?;
+        if found.last.is_some() {
+            return Ok(found.last);
         }
+        Ok(last_gated(disk, old_file(f))?)
     }
 
     /// The body of the last entry.
@@ -115,40 +125,96 @@ impl<const N: usize> Journal<N> {
         self.file
     }
 
-    /// Adds an entry, by two writes and two syncs: at every moment a stop of the machine leaves the last entry
-    /// before or this one, and after Ok this one alone. `Disk` only where a device call on its files failed; from
-    /// then on `Broken`, until it is opened again. `Spent` exactly where the file would pass 2^40 bytes.
-    pub fn append<D: Disk>(&mut self, disk: &mut D, body: [u8; N]) -> Result<(), JournalFault>
+    /// Writes a body into the free slot, and syncs: no crash leaves it as the last entry yet, and the one before
+    /// stays. `Disk` only where a device call on its file failed; from then on `Broken`, until it is opened again.
+    pub fn write_slot<D: Disk>(&mut self, disk: &mut D, body: [u8; N]) -> Result<(), JournalFault>
         requires size { (0 < N) × (N ≤ 120) }
-        requires stands { D.tells → is_broken self.old ≡ false → IsAt self.old (D.state disk.old) }
+        requires represents { D.tells → is_broken self.old ≡ false → Represents self.old (D.view disk.old) }
         ensures file { file self.new ≡ file self.old }
-        ensures last { OnOk result (last self.new ≡ Some body.entry) }
+        ensures last { last self.new ≡ last self.old }
+        ensures prepared { OnOk result (prepared self.new ≡ Some body.entry) }
         ensures whole { OnOk result (is_broken self.new ≡ false) }
-        ensures filled { OnOk result (filled self.new ≡ filled self.old + (N + 1)) }
-        ensures stands { D.tells → OnOk result (IsAt self.new (D.state disk.new)) }
-        ensures stands_on { D.tells → is_broken self.new ≡ false → IsAt self.new (D.state disk.new) }
-        ensures any_moment { D.tells → is_broken self.old ≡ false → Runs (IsOwn (file self.old)) (IsBeforeOrAfter N (file self.old) (last self.old) (Some body.entry)) (D.state disk.old) (D.state disk.new) }
-        ensures keeps { D.tells → is_broken self.old ≡ false → Runs (IsOwn (file self.old)) (KeepsEntries N (file self.old) (D.state disk.old).reads) (D.state disk.old) (D.state disk.new) }
-        ensures synced { D.tells → (g : FileId) → IsOwn (file self.old) g → D.syncs disk.new g ≤ D.syncs disk.old g + 2 }
-        ensures syncs { D.tells → (g : FileId) → (IsOwn (file self.old) g → ⊥) → D.syncs disk.new g ≡ D.syncs disk.old g }
-        ensures counts { (g : FileId) → D.faults disk.old g ≤ D.faults disk.new g }
-        ensures fault { IsErrOf result JournalFault.Disk → OwnRose (file self.old) (D.faults disk.old) (D.faults disk.new) × (is_broken self.new ≡ true) }
+        ensures represents { D.tells → is_broken self.new ≡ false → Represents self.new (D.view disk.new) }
+        ensures any_moment { D.tells → is_broken self.old ≡ false → Throughout (λ g. g ≡ file self.old) (JournalHolds N (file self.old) (last self.old)) (D.view disk.old) (D.view disk.new) }
+        ensures keeps { D.tells → is_broken self.old ≡ false → Throughout (λ g. g ≡ file self.old) (KeepsSelected N (file self.old) (D.view disk.old).reads) (D.view disk.old) (D.view disk.new) }
+        ensures slot { D.tells → is_broken self.old ≡ false → SelectsSame N (file self.old) (D.view disk.old).reads (D.view disk.new).reads }
+        ensures length { D.tells → is_broken self.old ≡ false → Throughout (λ g. g ≡ file self.old) (IsNoLonger N (file self.old) (D.view disk.old).reads) (D.view disk.old) (D.view disk.new) }
+        ensures synced { D.tells → OnOk result ((D.view disk.new).syncs (file self.old) ≡ (D.view disk.old).syncs (file self.old) + 1) }
+        ensures syncs { D.tells → SyncsAtMost 1 (λ g. g ≡ file self.old) (D.view disk.old) (D.view disk.new) }
+        ensures fault { IsErrOf result JournalFault.Disk → is_broken self.new ≡ true }
+        ensures cause { HasOwnCause (IsOwn (file self.old)) (IsErrOf result JournalFault.Disk) (D.view disk.old) (D.view disk.new) }
         ensures broken { IsErrOf result JournalFault.Broken ↔ (is_broken self.old ≡ true) }
-        ensures spent { IsErrOf result JournalFault.Spent ↔ ((is_broken self.old ≡ false) × IsSpent N self.old) }
-        ensures unchanged { IsErrOf result JournalFault.Broken ⊎ IsErrOf result JournalFault.Spent → (self.new ≡ self.old) × (disk.new ≡ disk.old) }
+        ensures unchanged { IsErrOf result JournalFault.Broken → (self.new ≡ self.old) × (disk.new ≡ disk.old) }
     {
         if self.broken {
             return Err(JournalFault::Broken);
         }
-        if self.place > FILE_LIMIT - (N as u64 + 2) {
-            return Err(JournalFault::Spent);
-        }
-        if add(disk, self.file, self.place, &body).is_err() {
+        if write_free(disk, self.file, self.selected, &body).is_err() {
             self.broken = true;
             return Err(JournalFault::Disk);
         }
-        self.place += N as u64 + 1;
-        self.last = Some(body);
+        self.prepared = Some(body);
         Ok(())
+    }
+
+    /// Selects the slot with the prepared body, and syncs: from then on that one is the last entry. `Disk` only where
+    /// a device call on its file failed; from then on `Broken`, until it is opened again.
+    pub fn select<D: Disk>(&mut self, disk: &mut D) -> Result<(), JournalFault>
+        requires size { (0 < N) × (N ≤ 120) }
+        requires represents { D.tells → is_broken self.old ≡ false → Represents self.old (D.view disk.old) }
+        requires prepared { is_broken self.old ≡ false → prepared self.old ≢ None }
+        ensures file { file self.new ≡ file self.old }
+        ensures last { OnOk result (last self.new ≡ prepared self.old) }
+        ensures kept { OnErr result (last self.new ≡ last self.old) }
+        ensures prepared { OnOk result (prepared self.new ≡ None) }
+        ensures whole { OnOk result (is_broken self.new ≡ false) }
+        ensures represents { D.tells → is_broken self.new ≡ false → Represents self.new (D.view disk.new) }
+        ensures any_moment { D.tells → is_broken self.old ≡ false → Throughout (λ g. g ≡ file self.old) (IsBeforeOrAfter N (file self.old) (last self.old) (prepared self.old)) (D.view disk.old) (D.view disk.new) }
+        ensures keeps { D.tells → is_broken self.old ≡ false → Throughout (λ g. g ≡ file self.old) (KeepsSelected N (file self.old) (D.view disk.old).reads) (D.view disk.old) (D.view disk.new) }
+        ensures length { D.tells → is_broken self.old ≡ false → Throughout (λ g. g ≡ file self.old) (IsNoLonger N (file self.old) (D.view disk.old).reads) (D.view disk.old) (D.view disk.new) }
+        ensures synced { D.tells → OnOk result ((D.view disk.new).syncs (file self.old) ≡ (D.view disk.old).syncs (file self.old) + 1) }
+        ensures syncs { D.tells → SyncsAtMost 1 (λ g. g ≡ file self.old) (D.view disk.old) (D.view disk.new) }
+        ensures fault { IsErrOf result JournalFault.Disk → is_broken self.new ≡ true }
+        ensures cause { HasOwnCause (IsOwn (file self.old)) (IsErrOf result JournalFault.Disk) (D.view disk.old) (D.view disk.new) }
+        ensures broken { IsErrOf result JournalFault.Broken ↔ (is_broken self.old ≡ true) }
+        ensures unchanged { IsErrOf result JournalFault.Broken → (self.new ≡ self.old) × (disk.new ≡ disk.old) }
+    {
+        if self.broken {
+            return Err(JournalFault::Broken);
+        }
+        if select_free(disk, self.file, self.selected).is_err() {
+            self.broken = true;
+            return Err(JournalFault::Disk);
+        }
+        self.selected = Some(Slot::free(self.selected));
+        self.last = self.prepared;
+        self.prepared = None;
+        Ok(())
+    }
+
+    /// Adds an entry, by both steps: at every moment a crash leaves the last entry before or this one, and after Ok
+    /// this one alone. `Disk` only where a device call on its file failed; from then on `Broken`, until it is opened
+    /// again.
+    pub fn append<D: Disk>(&mut self, disk: &mut D, body: [u8; N]) -> Result<(), JournalFault>
+        requires size { (0 < N) × (N ≤ 120) }
+        requires represents { D.tells → is_broken self.old ≡ false → Represents self.old (D.view disk.old) }
+        ensures file { file self.new ≡ file self.old }
+        ensures last { OnOk result (last self.new ≡ Some body.entry) }
+        ensures kept { OnErr result (last self.new ≡ last self.old) }
+        ensures prepared { OnOk result (prepared self.new ≡ None) }
+        ensures whole { OnOk result (is_broken self.new ≡ false) }
+        ensures represents { D.tells → is_broken self.new ≡ false → Represents self.new (D.view disk.new) }
+        ensures any_moment { D.tells → is_broken self.old ≡ false → Throughout (λ g. g ≡ file self.old) (IsBeforeOrAfter N (file self.old) (last self.old) (Some body.entry)) (D.view disk.old) (D.view disk.new) }
+        ensures keeps { D.tells → is_broken self.old ≡ false → Throughout (λ g. g ≡ file self.old) (KeepsSelected N (file self.old) (D.view disk.old).reads) (D.view disk.old) (D.view disk.new) }
+        ensures length { D.tells → is_broken self.old ≡ false → Throughout (λ g. g ≡ file self.old) (IsNoLonger N (file self.old) (D.view disk.old).reads) (D.view disk.old) (D.view disk.new) }
+        ensures synced { D.tells → OnOk result ((D.view disk.new).syncs (file self.old) ≡ (D.view disk.old).syncs (file self.old) + 2) }
+        ensures syncs { D.tells → SyncsAtMost 2 (λ g. g ≡ file self.old) (D.view disk.old) (D.view disk.new) }
+        ensures fault { IsErrOf result JournalFault.Disk → is_broken self.new ≡ true }
+        ensures cause { HasOwnCause (IsOwn (file self.old)) (IsErrOf result JournalFault.Disk) (D.view disk.old) (D.view disk.new) }
+        ensures broken { IsErrOf result JournalFault.Broken ↔ (is_broken self.old ≡ true) }
+        ensures unchanged { IsErrOf result JournalFault.Broken → (self.new ≡ self.old) × (disk.new ≡ disk.old) }
+    {
+        self.write_slot(disk, body)?;
+        self.select(disk)
     }
 }

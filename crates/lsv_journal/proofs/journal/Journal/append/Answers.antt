@@ -1,40 +1,33 @@
-use Rattle.std.proofs.Common.{rules, ◌≡◌, length, Some, refl}
-use Rattle.lsv_journal.proofs.Words.{before_or_after, keeps_entries, rest_before_or_after, rest_keeps, other_number, own_rose}
+use Rattle.std.proofs.Common.{◌≡◌, subst}
+use Rattle.lsv_disk.specs.declared.file.FileId.{FileId}
+use Rattle.lsv_disk.specs.Throughout.{Throughout}
+use Rattle.lsv_journal.specs.Last.{KeepsSelected, IsNoLonger}
+use Rattle.lsv_journal.proofs.Words.{both_keep, both_end, both_entry}
+use Rattle.lsv_journal.proofs.Appending.{reads_of_run}
 use Rattle.lsv_journal.proofs.journal.Journal.append.Goals as goal
-
-pub returns-then-self-2-clause-any_moment : goal.returns-then-self-2-clause-any_moment
-returns-then-self-2-clause-any_moment g c told whole =
-    rest_before_or_after g.row.N c.args.self.now (g.D.Disk.state c.args.disk.now) (c.requires.stands told whole) (Some c.args.body) (g.met.D.Disk.only_now told c.args.disk.now)
-
-pub returns-then-self-2-clause-keeps : goal.returns-then-self-2-clause-keeps
-returns-then-self-2-clause-keeps g c told whole =
-    rest_keeps g.row.N c.args.self.now (g.D.Disk.state c.args.disk.now) (c.requires.stands told whole) (g.met.D.Disk.only_now told c.args.disk.now)
-
-pub returns-then-is_err-clause-any_moment : goal.returns-then-is_err-clause-any_moment
-returns-then-is_err-clause-any_moment g c told whole =
-    let long : length c.args.body ≡ g.row.N = search rules in
-    before_or_after g.row.N (length c.args.body) c.args.self.now.file c.args.body (g.D.Disk.state c.args.disk.now) (g.D.Disk.state c.add.new.disk) long (c.add.ensures.any_moment told) c.args.self.now.last (c.requires.stands told whole).last_entry
-
-pub returns-then-is_err-clause-keeps : goal.returns-then-is_err-clause-keeps
-returns-then-is_err-clause-keeps g c told whole =
-    let long : length c.args.body ≡ g.row.N = search rules in
-    keeps_entries g.row.N (length c.args.body) c.args.self.now.file c.args.body (g.D.Disk.state c.args.disk.now) (g.D.Disk.state c.add.new.disk) long (c.add.ensures.any_moment told)
-
-pub returns-then-is_err-clause-syncs : goal.returns-then-is_err-clause-syncs
-returns-then-is_err-clause-syncs g c told = other_number c.args.self.now.file (g.D.Disk.syncs c.args.disk.now) (g.D.Disk.syncs c.add.new.disk) (c.add.ensures.syncs told)
-
-pub returns-then-is_err-clause-fault : goal.returns-then-is_err-clause-fault
-returns-then-is_err-clause-fault g c is = (own_rose c.args.self.now.file (g.D.Disk.faults c.args.disk.now) (g.D.Disk.faults c.add.new.disk) (search rules), refl)
-
-pub returns-clause-any_moment : goal.returns-clause-any_moment
-returns-clause-any_moment g c told whole =
-    let long : length c.args.body ≡ g.row.N = search rules in
-    before_or_after g.row.N (length c.args.body) c.args.self.now.file c.args.body (g.D.Disk.state c.args.disk.now) (g.D.Disk.state c.add.new.disk) long (c.add.ensures.any_moment told) c.args.self.now.last (c.requires.stands told whole).last_entry
 
 pub returns-clause-keeps : goal.returns-clause-keeps
 returns-clause-keeps g c told whole =
-    let long : length c.args.body ≡ g.row.N = search rules in
-    keeps_entries g.row.N (length c.args.body) c.args.self.now.file c.args.body (g.D.Disk.state c.args.disk.now) (g.D.Disk.state c.add.new.disk) long (c.add.ensures.any_moment told)
+    let f = c.args.self.now.file in
+    let old = g.D.Disk.view c.args.disk.now in
+    let mid = g.D.Disk.view c.write_slot.new.disk in
+    let new = g.D.Disk.view c.select.new.disk in
+    let first = c.write_slot.ensures.keeps told whole in
+    let second = subst (λ (h : FileId). Throughout (λ k. k ≡ h) (KeepsSelected g.row.N h mid.reads) mid new) c.write_slot.ensures.file (c.select.ensures.keeps told c.in_ok-write_slot.ensures.whole) in
+    both_keep g.row.N f old mid new
+    (both_entry g.row.N c.args.self.now c.write_slot.new.self old mid c.write_slot.ensures.file c.write_slot.ensures.last (c.requires.represents told whole) (c.write_slot.ensures.represents told c.in_ok-write_slot.ensures.whole))
+    (c.write_slot.ensures.slot told whole)
+    (reads_of_run (λ k. k ≡ f) (KeepsSelected g.row.N f old.reads) old mid (g.met.D.Disk.reads_itself told c.write_slot.new.disk) (g.met.D.Disk.is_now told c.write_slot.new.disk) first)
+    first second
 
-pub returns-clause-syncs : goal.returns-clause-syncs
-returns-clause-syncs g c told = other_number c.args.self.now.file (g.D.Disk.syncs c.args.disk.now) (g.D.Disk.syncs c.add.new.disk) (c.add.ensures.syncs told)
+pub returns-clause-length : goal.returns-clause-length
+returns-clause-length g c told whole =
+    let f = c.args.self.now.file in
+    let old = g.D.Disk.view c.args.disk.now in
+    let mid = g.D.Disk.view c.write_slot.new.disk in
+    let new = g.D.Disk.view c.select.new.disk in
+    let first = c.write_slot.ensures.length told whole in
+    let second = subst (λ (h : FileId). Throughout (λ k. k ≡ h) (IsNoLonger g.row.N h mid.reads) mid new) c.write_slot.ensures.file (c.select.ensures.length told c.in_ok-write_slot.ensures.whole) in
+    both_end g.row.N f old mid new
+    (reads_of_run (λ k. k ≡ f) (IsNoLonger g.row.N f old.reads) old mid (g.met.D.Disk.reads_itself told c.write_slot.new.disk) (g.met.D.Disk.is_now told c.write_slot.new.disk) first)
+    first second

@@ -1,42 +1,54 @@
-use Rattle.std.proofs.Common.{refl}
-use Rattle.lsv_journal.proofs.Words.{making_run, at_made, none_by, count_by_none, own_number, other_number, own_rose, fault_from}
+use Rattle.std.proofs.Common.{◌≡◌, refl}
+use Rattle.lsv_journal.proofs.Words.{made_slots, made_old, may_be_made, made_run, no_old_stays, old_other, own_syncs, rose_at, own_itself}
 use Rattle.lsv_journal.proofs.journal.Journal.create.Goals as goal
 
 pub returns-in_err-make-clause-again : goal.returns-in_err-make-clause-again
 returns-in_err-make-clause-again g c told =
-    none_by g.row.N c.args.f ((g.D.Disk.state c.make.new.disk).reads) (c.make.ensures.none told g.row.N (count_by_none g.row.N c.args.f ((g.D.Disk.state c.args.disk.now).reads) (c.requires.no_entry told)))
+    let old = g.D.Disk.view c.args.disk.now in
+    let new = g.D.Disk.view c.make.new.disk in
+    let none = made_slots g.row.N c.args.f old (c.requires.may_be_made told) in
+    may_be_made g.row.N c.args.f new (c.make.ensures.none told g.row.N none)
+    (no_old_stays g.row.N c.args.f (λ h. h ≡ c.args.f) old new (c.make.ensures.any_moment told g.row.N none).elsewhere (old_other c.args.f c.requires.slots) (made_old g.row.N c.args.f old (c.requires.may_be_made told)))
 
 pub returns-in_err-make-clause-any_moment : goal.returns-in_err-make-clause-any_moment
 returns-in_err-make-clause-any_moment g c told =
-    making_run g.row.N c.args.f (g.D.Disk.state c.args.disk.now) (g.D.Disk.state c.make.new.disk)
-    (c.make.ensures.any_moment told g.row.N (count_by_none g.row.N c.args.f ((g.D.Disk.state c.args.disk.now).reads) (c.requires.no_entry told)))
-
-pub returns-in_err-make-clause-synced : goal.returns-in_err-make-clause-synced
-returns-in_err-make-clause-synced g c told = own_number c.args.f 2 (g.D.Disk.syncs c.args.disk.now) (g.D.Disk.syncs c.make.new.disk) (c.make.ensures.synced told)
+    let old = g.D.Disk.view c.args.disk.now in
+    let none = made_slots g.row.N c.args.f old (c.requires.may_be_made told) in
+    made_run g.row.N c.args.f old (g.D.Disk.view c.make.new.disk) c.requires.slots (made_old g.row.N c.args.f old (c.requires.may_be_made told)) (c.make.ensures.any_moment told g.row.N none)
 
 pub returns-in_err-make-clause-syncs : goal.returns-in_err-make-clause-syncs
-returns-in_err-make-clause-syncs g c told = other_number c.args.f (g.D.Disk.syncs c.args.disk.now) (g.D.Disk.syncs c.make.new.disk) (c.make.ensures.syncs told)
+returns-in_err-make-clause-syncs g c told = own_syncs 2 c.args.f (g.D.Disk.view c.args.disk.now) (g.D.Disk.view c.make.new.disk) c.requires.slots (c.make.ensures.syncs told)
+
+pub returns-in_err-make-clause-cause : goal.returns-in_err-make-clause-cause
+returns-in_err-make-clause-cause g c = rose_at c.args.f c.args.f _ (g.D.Disk.view c.args.disk.now) (g.D.Disk.view c.make.new.disk) (own_itself c.args.f) c.in_err-make.ensures.cause.monotone (c.in_err-make.ensures.cause.risen refl)
+
+pub returns-clause-represents : goal.returns-clause-represents
+returns-clause-represents g c told =
+    let old = g.D.Disk.view c.args.disk.now in
+    let new = g.D.Disk.view c.make.new.disk in
+    let none = made_slots g.row.N c.args.f old (c.requires.may_be_made told) in
+    record {
+      part = c.requires.slots;
+      synced = c.in_ok-make.ensures.durable told;
+      last_entry = c.make.ensures.none told g.row.N none;
+      stands = c.in_ok-make.ensures.stands told g.row.N none;
+      prepared = tt;
+      no_old = λ _. no_old_stays g.row.N c.args.f (λ h. h ≡ c.args.f) old new (c.make.ensures.any_moment told g.row.N none).elsewhere (old_other c.args.f c.requires.slots) (made_old g.row.N c.args.f old (c.requires.may_be_made told));
+    }
 
 pub returns-clause-again : goal.returns-clause-again
 returns-clause-again g c told =
-    none_by g.row.N c.args.f ((g.D.Disk.state c.make.new.disk).reads) (c.make.ensures.none told g.row.N (count_by_none g.row.N c.args.f ((g.D.Disk.state c.args.disk.now).reads) (c.requires.no_entry told)))
+    let old = g.D.Disk.view c.args.disk.now in
+    let new = g.D.Disk.view c.make.new.disk in
+    let none = made_slots g.row.N c.args.f old (c.requires.may_be_made told) in
+    may_be_made g.row.N c.args.f new (c.make.ensures.none told g.row.N none)
+    (no_old_stays g.row.N c.args.f (λ h. h ≡ c.args.f) old new (c.make.ensures.any_moment told g.row.N none).elsewhere (old_other c.args.f c.requires.slots) (made_old g.row.N c.args.f old (c.requires.may_be_made told)))
 
 pub returns-clause-any_moment : goal.returns-clause-any_moment
 returns-clause-any_moment g c told =
-    making_run g.row.N c.args.f (g.D.Disk.state c.args.disk.now) (g.D.Disk.state c.make.new.disk)
-    (c.make.ensures.any_moment told g.row.N (count_by_none g.row.N c.args.f ((g.D.Disk.state c.args.disk.now).reads) (c.requires.no_entry told)))
-
-pub returns-clause-synced : goal.returns-clause-synced
-returns-clause-synced g c told = own_number c.args.f 2 (g.D.Disk.syncs c.args.disk.now) (g.D.Disk.syncs c.make.new.disk) (c.make.ensures.synced told)
+    let old = g.D.Disk.view c.args.disk.now in
+    let none = made_slots g.row.N c.args.f old (c.requires.may_be_made told) in
+    made_run g.row.N c.args.f old (g.D.Disk.view c.make.new.disk) c.requires.slots (made_old g.row.N c.args.f old (c.requires.may_be_made told)) (c.make.ensures.any_moment told g.row.N none)
 
 pub returns-clause-syncs : goal.returns-clause-syncs
-returns-clause-syncs g c told = other_number c.args.f (g.D.Disk.syncs c.args.disk.now) (g.D.Disk.syncs c.make.new.disk) (c.make.ensures.syncs told)
-
-pub returns-clause-stands : goal.returns-clause-stands
-returns-clause-stands g c told =
-    at_made g.row.N c.args.f (g.D.Disk.state c.make.new.disk) (c.in_ok-make.ensures.durable told)
-    (c.in_ok-make.ensures.ends told g.row.N (count_by_none g.row.N c.args.f ((g.D.Disk.state c.args.disk.now).reads) (c.requires.no_entry told))) _ refl refl refl
-
-pub returns-in_err-make-clause-fault : goal.returns-in_err-make-clause-fault
-returns-in_err-make-clause-fault g c =
-    fault_from c.from_residual.result _ c.from_residual.ensures.1 (own_rose c.args.f (g.D.Disk.faults c.args.disk.now) (g.D.Disk.faults c.make.new.disk) c.in_err-make.ensures.cause)
+returns-clause-syncs g c told = own_syncs 2 c.args.f (g.D.Disk.view c.args.disk.now) (g.D.Disk.view c.make.new.disk) c.requires.slots (c.make.ensures.syncs told)

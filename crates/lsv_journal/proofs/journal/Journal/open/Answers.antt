@@ -1,40 +1,113 @@
-use Rattle.std.proofs.Common.{◌∙◌, sym, ap, refl, ◌*◌, ◌+◌, ℕ}
-use Rattle.lsv_journal.proofs.Words.{last_is, count_at_is, opening_run, opened_alike, opened_at, other_number, own_rose, fault_from}
+use Rattle.std.proofs.Common.{sym, ◌∙◌}
+use Rattle.lsv_disk.proofs.Composition.{unchanged_trans, unchanged_reads}
+use Rattle.lsv_journal.specs.Last.{old_file, IsAbsent}
+use Rattle.lsv_journal.proofs.Laws.{reads_absent_may_be_made}
+use Rattle.lsv_journal.proofs.Words.{unchanged_crashes, unchanged_last, opening_run, opened_same, opened_no_old, opening_syncs, may_be_made}
 use Rattle.lsv_journal.proofs.journal.Journal.open.Goals as goal
 
+pub returns-in_err-is_absent-clause-any_moment : goal.returns-in_err-is_absent-clause-any_moment
+returns-in_err-is_absent-clause-any_moment g c told = unchanged_crashes g.row.N c.args.f (g.D.Disk.view c.args.disk.now) (g.D.Disk.view c.is_absent.new.disk) (c.is_absent.ensures.reads told).unchanged
+
+pub returns-in_err-is_absent-clause-reads : goal.returns-in_err-is_absent-clause-reads
+returns-in_err-is_absent-clause-reads g c told = unchanged_last g.row.N c.args.f (g.D.Disk.view c.args.disk.now) (g.D.Disk.view c.is_absent.new.disk) (c.is_absent.ensures.reads told).unchanged
+
+pub returns-then-branch-clause-reads : goal.returns-then-branch-clause-reads
+returns-then-branch-clause-reads g c told = unchanged_last g.row.N c.args.f (g.D.Disk.view c.args.disk.now) (g.D.Disk.view c.is_absent.new.disk) (c.is_absent.ensures.reads told).unchanged
+
+pub returns-then-branch-clause-any_moment : goal.returns-then-branch-clause-any_moment
+returns-then-branch-clause-any_moment g c told = unchanged_crashes g.row.N c.args.f (g.D.Disk.view c.args.disk.now) (g.D.Disk.view c.is_absent.new.disk) (c.is_absent.ensures.reads told).unchanged
+
+pub returns-in_err-sync_both-clause-reads : goal.returns-in_err-sync_both-clause-reads
+returns-in_err-sync_both-clause-reads g c told =
+    let old = g.D.Disk.view c.args.disk.now in
+    let mid = g.D.Disk.view c.sync_both.new.disk in
+    unchanged_last g.row.N c.args.f old mid (unchanged_trans old (g.D.Disk.view c.is_absent.new.disk) mid (c.is_absent.ensures.reads told).unchanged (c.sync_both.ensures.unchanged told))
+
+pub returns-in_err-sync_both-clause-any_moment : goal.returns-in_err-sync_both-clause-any_moment
+returns-in_err-sync_both-clause-any_moment g c told =
+    let old = g.D.Disk.view c.args.disk.now in
+    let mid = g.D.Disk.view c.sync_both.new.disk in
+    unchanged_crashes g.row.N c.args.f old mid (unchanged_trans old (g.D.Disk.view c.is_absent.new.disk) mid (c.is_absent.ensures.reads told).unchanged (c.sync_both.ensures.unchanged told))
+
+pub returns-in_err-found-clause-reads : goal.returns-in_err-found-clause-reads
+returns-in_err-found-clause-reads g c told =
+    let old = g.D.Disk.view c.args.disk.now in
+    let mid = g.D.Disk.view c.sync_both.new.disk in
+    let new = g.D.Disk.view c.settle.new.disk in
+    let unchanged = unchanged_trans old (g.D.Disk.view c.is_absent.new.disk) mid (c.is_absent.ensures.reads told).unchanged (c.sync_both.ensures.unchanged told) in
+    opened_same g.row.N c.args.f old mid new unchanged (c.settle.ensures.any_moment told) (g.met.D.Disk.is_now told c.settle.new.disk) new.reads (g.met.D.Disk.reads_itself told c.settle.new.disk)
+
 pub returns-in_err-found-clause-any_moment : goal.returns-in_err-found-clause-any_moment
-returns-in_err-found-clause-any_moment g c told = opening_run g.row.N c.args.f (g.D.Disk.state c.args.disk.now) (g.D.Disk.state c.sync_and_look.new.disk) (c.sync_and_look.ensures.stays told)
+returns-in_err-found-clause-any_moment g c told =
+    let old = g.D.Disk.view c.args.disk.now in
+    let mid = g.D.Disk.view c.sync_both.new.disk in
+    let unchanged = unchanged_trans old (g.D.Disk.view c.is_absent.new.disk) mid (c.is_absent.ensures.reads told).unchanged (c.sync_both.ensures.unchanged told) in
+    opening_run g.row.N c.args.f old mid (g.D.Disk.view c.settle.new.disk) unchanged (c.settle.ensures.any_moment told) (g.met.D.Disk.reads_itself told c.args.disk.now)
 
 pub returns-in_err-found-clause-syncs : goal.returns-in_err-found-clause-syncs
-returns-in_err-found-clause-syncs g c told = other_number c.args.f (g.D.Disk.syncs c.args.disk.now) (g.D.Disk.syncs c.sync_and_look.new.disk) (c.sync_and_look.ensures.syncs told)
-
-pub returns-in_err-found-clause-fault : goal.returns-in_err-found-clause-fault
-returns-in_err-found-clause-fault g c =
-    fault_from c.from_residual.result _ c.from_residual.ensures.1 (own_rose c.args.f (g.D.Disk.faults c.args.disk.now) (g.D.Disk.faults c.sync_and_look.new.disk) c.in_err-found.ensures.cause)
-
-pub returns-in_default-clause-any_moment : goal.returns-in_default-clause-any_moment
-returns-in_default-clause-any_moment g c told = opening_run g.row.N c.args.f (g.D.Disk.state c.args.disk.now) (g.D.Disk.state c.sync_and_look.new.disk) (c.sync_and_look.ensures.stays told)
-
-pub returns-in_default-clause-syncs : goal.returns-in_default-clause-syncs
-returns-in_default-clause-syncs g c told = other_number c.args.f (g.D.Disk.syncs c.args.disk.now) (g.D.Disk.syncs c.sync_and_look.new.disk) (c.sync_and_look.ensures.syncs told)
-
-pub returns-clause-any_moment : goal.returns-clause-any_moment
-returns-clause-any_moment g c told = opening_run g.row.N c.args.f (g.D.Disk.state c.args.disk.now) (g.D.Disk.state c.sync_and_look.new.disk) (c.sync_and_look.ensures.stays told)
-
-pub returns-clause-syncs : goal.returns-clause-syncs
-returns-clause-syncs g c told = other_number c.args.f (g.D.Disk.syncs c.args.disk.now) (g.D.Disk.syncs c.sync_and_look.new.disk) (c.sync_and_look.ensures.syncs told)
+returns-in_err-found-clause-syncs g c told =
+    opening_syncs c.args.f (g.D.Disk.view c.args.disk.now) (g.D.Disk.view c.is_absent.new.disk) (g.D.Disk.view c.sync_both.new.disk) (g.D.Disk.view c.settle.new.disk) c.requires.slots
+    (c.is_absent.ensures.reads told).syncs (c.sync_both.ensures.syncs told c.requires.slots) (c.settle.ensures.syncs told)
 
 pub returns-clause-last : goal.returns-clause-last
-returns-clause-last g c told = (rw c.in-Some.is at (c.in_ok-found.ensures.last told)) ∙ sym (last_is g.row.N c.args.f ((g.D.Disk.state c.args.disk.now).reads))
-
-pub returns-clause-filled : goal.returns-clause-filled
-returns-clause-filled g c told = (rw c.in-Some.is at (c.in_ok-found.ensures.end told)) ∙ ap (λ (k : ℕ). k * (g.row.N + 1)) (sym (count_at_is g.row.N c.args.f ((g.D.Disk.state c.args.disk.now).reads)))
+returns-clause-last g c told =
+    let old = g.D.Disk.view c.args.disk.now in
+    let mid = g.D.Disk.view c.sync_both.new.disk in
+    let unchanged = unchanged_trans old (g.D.Disk.view c.is_absent.new.disk) mid (c.is_absent.ensures.reads told).unchanged (c.sync_both.ensures.unchanged told) in
+    c.in_ok-found.ensures.last told ∙ unchanged_last g.row.N c.args.f old mid unchanged
 
 pub returns-clause-durable : goal.returns-clause-durable
-returns-clause-durable g c told =
-    opened_alike g.row.N c.args.f (g.D.Disk.state c.args.disk.now) (g.D.Disk.state c.sync_and_look.new.disk) (c.sync_and_look.ensures.stays told) (rw c.in-Some.is at (c.in_ok-found.ensures.durable told))
+returns-clause-durable g c told image is =
+    let old = g.D.Disk.view c.args.disk.now in
+    let mid = g.D.Disk.view c.sync_both.new.disk in
+    let new = g.D.Disk.view c.settle.new.disk in
+    let unchanged = unchanged_trans old (g.D.Disk.view c.is_absent.new.disk) mid (c.is_absent.ensures.reads told).unchanged (c.sync_both.ensures.unchanged told) in
+    opened_same g.row.N c.args.f old mid new unchanged (c.settle.ensures.any_moment told) (g.met.D.Disk.is_now told c.settle.new.disk) image is
 
-pub returns-clause-stands : goal.returns-clause-stands
-returns-clause-stands g c told sound some =
-    opened_at g.row.N c.args.f (g.D.Disk.state c.args.disk.now) (g.D.Disk.state c.sync_and_look.new.disk) (c.sync_and_look.ensures.stays told) (rw c.in-Some.is at (c.in_ok-found.ensures.durable told)) sound
-    c.in-Some.found.end c.in-Some.found.last (rw c.in-Some.is at (c.in_ok-found.ensures.end told)) (rw c.in-Some.is at (c.in_ok-found.ensures.last told)) some _ refl refl refl
+pub returns-clause-reads : goal.returns-clause-reads
+returns-clause-reads g c told =
+    let old = g.D.Disk.view c.args.disk.now in
+    let mid = g.D.Disk.view c.sync_both.new.disk in
+    let new = g.D.Disk.view c.settle.new.disk in
+    let unchanged = unchanged_trans old (g.D.Disk.view c.is_absent.new.disk) mid (c.is_absent.ensures.reads told).unchanged (c.sync_both.ensures.unchanged told) in
+    opened_same g.row.N c.args.f old mid new unchanged (c.settle.ensures.any_moment told) (g.met.D.Disk.is_now told c.settle.new.disk) new.reads (g.met.D.Disk.reads_itself told c.settle.new.disk)
+
+pub returns-clause-any_moment : goal.returns-clause-any_moment
+returns-clause-any_moment g c told =
+    let old = g.D.Disk.view c.args.disk.now in
+    let mid = g.D.Disk.view c.sync_both.new.disk in
+    let unchanged = unchanged_trans old (g.D.Disk.view c.is_absent.new.disk) mid (c.is_absent.ensures.reads told).unchanged (c.sync_both.ensures.unchanged told) in
+    opening_run g.row.N c.args.f old mid (g.D.Disk.view c.settle.new.disk) unchanged (c.settle.ensures.any_moment told) (g.met.D.Disk.reads_itself told c.args.disk.now)
+
+pub returns-clause-represents : goal.returns-clause-represents
+returns-clause-represents g c told =
+    let mid = g.D.Disk.view c.sync_both.new.disk in
+    let new = g.D.Disk.view c.settle.new.disk in
+    record {
+      part = c.requires.slots;
+      synced = c.in_ok-found.ensures.durable told;
+      last_entry = c.in_ok-found.ensures.entry told;
+      stands = c.in_ok-found.ensures.stands told;
+      prepared = tt;
+      no_old = λ none. opened_no_old g.row.N c.args.f mid new (c.settle.ensures.any_moment told) c.requires.slots (c.in_ok-sync_both.ensures.old told) (sym (c.in_ok-found.ensures.last told) ∙ none);
+    }
+
+pub returns-then-branch-clause-absent_may_be_made : goal.returns-then-branch-clause-absent_may_be_made
+returns-then-branch-clause-absent_may_be_made g c told none =
+    let old = g.D.Disk.view c.args.disk.now in
+    let new = g.D.Disk.view c.is_absent.new.disk in
+    let same = unchanged_reads old new (c.is_absent.ensures.reads told).unchanged in
+    let absent : IsAbsent c.args.f old.reads = (c.in_ok-is_absent.ensures.absent told).0 c.if-branch.true in
+    reads_absent_may_be_made g.row.N c.args.f new (g.met.D.Disk.absent_or_empty told c.is_absent.new.disk) (same c.args.f ∙ absent.0, same (old_file c.args.f) ∙ absent.1)
+
+pub returns-clause-may_be_made : goal.returns-clause-may_be_made
+returns-clause-may_be_made g c told none =
+    let mid = g.D.Disk.view c.sync_both.new.disk in
+    let new = g.D.Disk.view c.settle.new.disk in
+    may_be_made g.row.N c.args.f new (c.in_ok-found.ensures.entry told ∙ none)
+    (opened_no_old g.row.N c.args.f mid new (c.settle.ensures.any_moment told) c.requires.slots (c.in_ok-sync_both.ensures.old told) (sym (c.in_ok-found.ensures.last told) ∙ none))
+
+pub returns-clause-syncs : goal.returns-clause-syncs
+returns-clause-syncs g c told =
+    opening_syncs c.args.f (g.D.Disk.view c.args.disk.now) (g.D.Disk.view c.is_absent.new.disk) (g.D.Disk.view c.sync_both.new.disk) (g.D.Disk.view c.settle.new.disk) c.requires.slots
+    (c.is_absent.ensures.reads told).syncs (c.sync_both.ensures.syncs told c.requires.slots) (c.settle.ensures.syncs told)
