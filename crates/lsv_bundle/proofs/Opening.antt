@@ -1,203 +1,117 @@
--- Making a bundle and opening it: its data files are those of its shape, and of each so many bytes count.
-use Rattle.std.proofs.Common.{◌≡◌, ◌⊎◌, inl, inr, ℕ, ◌≤◌, List, [], ◌∷◌, take, map, Option, Some, None, refl, sym, ◌∙◌, ap, subst, arith}
-use Rattle.std.specs.Prelude.{slice_index}
-use Rattle.lsv_words.specs.Causes.{Rose}
+-- Opening a bundle: its journal is opened, its data files are synced, and their lengths are looked at.
+use Rattle.std.proofs.Common.{◌≡◌, ◌⊎◌, inl, inr, ℕ, zero, suc, List, [], ◌∷◌, length, take, map, Option, Some, None, option_map, refl, sym, ◌∙◌, ap, subst, arith}
+use Rattle.std.specs.Prelude.{slice_index, slice_index_or}
+use Rattle.std.proofs.lemmas.Bool.{cases_lt}
 use Rattle.lsv_disk.specs.declared.file.FileId.{FileId}
 use Rattle.lsv_disk.specs.declared.file.Owner.{Owner}
 use Rattle.lsv_disk.specs.declared.file.Part.{Part}
-use Rattle.lsv_disk.specs.declared.file.Part.TheVariants.{Head, Exit, Timing, Stdin, Stdout, Stderr, Ttyin, Ttyout, Lines, Id, Commit}
 use Rattle.lsv_disk.specs.Bytes.{bytes_of}
-use Rattle.lsv_disk.specs.State.{Image, DiskState, IsImage, Elsewhere}
-use Rattle.lsv_disk.specs.Runs.{Runs, Stays}
-use Rattle.lsv_disk.proofs.Composition.{followed, widened, stays_runs}
-use Rattle.lsv_disk.proofs.Same.{same_or_other}
-use Rattle.lsv_journal.specs.Last.{IsOwn, LastAt, HasLast, IsAlike, IsAsBefore}
+use Rattle.lsv_disk.specs.Files.{file_of, IsOneOf}
+use Rattle.lsv_disk.specs.View.{Image, DiskView, IsCrashImage, Unsynced}
+use Rattle.lsv_disk.specs.Throughout.{Throughout, Unchanged, SyncsAtMost}
+use Rattle.lsv_disk.proofs.Composition.{followed, unchanged_throughout}
+use Rattle.lsv_journal.specs.Last.{SameJournal, IsSomeCrashOf}
+use Rattle.lsv_journal.proofs.Laws.{own_alone}
 use Rattle.lsv_bundle.specs.declared.shape.Shape.{Shape}
-use Rattle.lsv_bundle.specs.declared.shape.Shape.TheVariants as shape
 use Rattle.lsv_bundle.specs.declared.body.Body.{Body}
-use Rattle.lsv_bundle.specs.Shape.{parts_of, IsPart, place_of, file_of, journal_of, IsOwnFile}
-use Rattle.lsv_bundle.specs.Body.{encoded}
-use Rattle.lsv_bundle.specs.declared.fault.BundleFault.{BundleFault}
-use Rattle.lsv_bundle.specs.declared.fault.BundleFault.TheVariants.{Disk, Broken, Damaged, Full, NoMem}
-use Rattle.lsv_bundle.specs.Standing.{OpenCause}
-use Rattle.lsv_bundle.specs.Value.{FileView, BundleView, counted}
-use Rattle.lsv_bundle.specs.Held.{HasFront, KeepsBytes, IsShort, IsFirstDamaged, committed}
-use Rattle.lsv_bundle.specs.Files.{Each, IsAmong, IsSettled, Settled, IsFirstShort, SyncCauses}
-use Rattle.lsv_bundle.proofs.Fronts.{settled_front}
-use Rattle.lsv_bundle.proofs.Writing.{settled_stays}
-use Rattle.lsv_bundle.proofs.Lookup.{among_is_data}
-use Rattle.lsv_bundle.proofs.Committing.{part_settled}
-use Rattle.lsv_bundle.proofs.Journals.{data_not_own, last_alone}
+use Rattle.lsv_bundle.specs.Shape.{parts_of, IsPart, index_of, journal_of}
+use Rattle.lsv_bundle.specs.Value.{FileView, BundleView, committed_length}
+use Rattle.lsv_bundle.specs.Committed.{Committed, IsShort, IsFirstShort, committed_bytes, committed}
+use Rattle.lsv_bundle.specs.Represents.{Each, IsDurable, IsDurableFile}
+use Rattle.lsv_bundle.specs.InnerFiles.{EachPart}
+use Rattle.lsv_bundle.proofs.DataFiles.{each_map, durable_stays}
+use Rattle.lsv_bundle.proofs.Shapes.{one_of_is_data, each_part, on_same}
+use Rattle.lsv_bundle.proofs.Journals.{data_not_journal, part_not_journal}
+use Rattle.lsv_bundle.proofs.Making.{fresh}
 
--- a data file of which so many bytes count
-abbrev pub fresh : List ℕ → Part → FileView
-fresh lengths part = record { part = part; counted = slice_index lengths (place_of part); staged = [] }
+-- the journal is opened, and then nothing is touched
+module _ (owner : Owner) (s : Shape) (old mid new : DiskView) (run : Throughout (λ g. g ≡ journal_of owner) (IsSomeCrashOf 89 (journal_of owner) old) old mid) (unchanged : Unchanged mid new) where
+  pub open_run : ((image : Image) → IsCrashImage mid image → mid.crash_images_at mid.moment image) → Throughout (λ g. g ≡ journal_of owner) (IsSomeCrashOf 89 (journal_of owner) old) old new
+  open_run is_now = followed (λ g. g ≡ journal_of owner) (IsSomeCrashOf 89 (journal_of owner) old) old mid new run
+      (unchanged_throughout (λ g. g ≡ journal_of owner) (IsSomeCrashOf 89 (journal_of owner) old) mid new
+      (λ image is. run.each mid.moment image run.later (omega arith) (is_now image is)) unchanged)
 
-pub fresh_parts : (lengths : List ℕ) (parts : List Part) → map (λ f. f.part) (map (fresh lengths) parts) ≡ parts
-fresh_parts lengths [] = refl
-fresh_parts lengths (part ∷ parts) = ap (λ (l : List Part). part ∷ l) (fresh_parts lengths parts)
+  pub open_reads : SameJournal 89 (journal_of owner) old.reads mid.reads → SameJournal 89 (journal_of owner) old.reads new.reads
+  open_reads same = own_alone 89 (journal_of owner) mid.reads new.reads (λ f own. unchanged.elsewhere.same f (λ none. none)) ∙ same
 
-pub fresh_counted : (lengths : List ℕ) (s : Shape) (part : Part) → IsPart s part → slice_index (map (λ f. f.counted) (map (fresh lengths) (parts_of s))) (place_of part) ≡ slice_index lengths (place_of part)
-fresh_counted lengths shape.Log Head is = refl
-fresh_counted lengths shape.Log Exit is = refl
-fresh_counted lengths shape.Log Timing is = refl
-fresh_counted lengths shape.Log Stdin is = refl
-fresh_counted lengths shape.Log Stdout is = refl
-fresh_counted lengths shape.Log Stderr is = refl
-fresh_counted lengths shape.Log Ttyin is = refl
-fresh_counted lengths shape.Log Ttyout is = refl
-fresh_counted lengths shape.Log Lines is = elim is [ ]
-fresh_counted lengths shape.Log Id is = elim is [ ]
-fresh_counted lengths shape.Log Commit is = elim is [ ]
-fresh_counted lengths shape.Lines part is = subst (λ (p : Part). slice_index (map (λ f. f.counted) (map (fresh lengths) (parts_of shape.Lines))) (place_of p) ≡ slice_index lengths (place_of p)) (sym is) refl
-fresh_counted lengths shape.Relay part is = subst (λ (p : Part). slice_index (map (λ f. f.counted) (map (fresh lengths) (parts_of shape.Relay))) (place_of p) ≡ slice_index lengths (place_of p)) (sym is) refl
+  pub part_reads : (part : Part) → IsPart s part → new.reads (file_of owner part) ≡ old.reads (file_of owner part)
+  part_reads part is = unchanged.elsewhere.same (file_of owner part) (λ none. none) ∙ run.elsewhere.same (file_of owner part) (part_not_journal owner s part is)
 
--- no bytes count
-abbrev pub zeros : List ℕ
-zeros = 0 ∷ 0 ∷ 0 ∷ 0 ∷ 0 ∷ 0 ∷ 0 ∷ 0 ∷ []
+-- what is committed depends on what the data files read
+pub committed_reads : (bundle : BundleView) (old new : DiskView) → ((part : Part) → IsPart bundle.shape part → new.reads (file_of bundle.owner part) ≡ old.reads (file_of bundle.owner part)) → committed bundle new ≡ committed bundle old
+committed_reads bundle old new same =
+    ap (λ (bytes : Part → List ℕ). option_map (λ (body : Body). let c : Committed = record { body = body; bytes = bytes } in c) bundle.last)
+    (on_same bundle.shape (committed_bytes bundle new) (committed_bytes bundle old)
+    (λ part is. ap (λ (o : Option (List ℕ)). take (committed_length bundle part) (bytes_of o)) (same part is)))
 
-none_counts : (part : Part) → slice_index zeros (place_of part) ≡ 0
-none_counts Head = refl
-none_counts Exit = refl
-none_counts Timing = refl
-none_counts Stdin = refl
-none_counts Stdout = refl
-none_counts Stderr = refl
-none_counts Ttyin = refl
-none_counts Ttyout = refl
-none_counts Lines = refl
-none_counts Id = refl
-none_counts Commit = refl
+-- which file is short depends on what the files read
+pub short_reads : (owner : Owner) (a b : Image) (lengths : List ℕ) (parts : List Part) → ((part : Part) → IsOneOf owner parts (file_of owner part) → a (file_of owner part) ≡ b (file_of owner part))
+    → (part : Part) → IsFirstShort owner a lengths parts part → IsFirstShort owner b lengths parts part
+short_reads owner a b lengths [] same part is = is
+short_reads owner a b lengths (first ∷ parts) same part is = elim is [
+  | inl here ↦ inl (here.0, subst (λ (o : Option (List ℕ)). IsShort o (slice_index lengths (index_of first))) (same first (inl refl)) here.1)
+  | inr there ↦ inr (
+    (λ short. there.0 (subst (λ (o : Option (List ℕ)). IsShort o (slice_index lengths (index_of first))) (sym (same first (inl refl))) short)),
+    short_reads owner a b lengths parts (λ p one. same p (inr one)) part there.1,
+  )
+]
 
--- files that were made, of which none of their bytes count, are settled
-pub made_settled : (owner : Owner) (Touched : FileId → Type 0) (mid new : DiskState) (parts : List Part) → Elsewhere Touched mid new
-    → ((g : FileId) → IsAmong owner (map (fresh zeros) parts) g → Touched g → ⊥)
-    → Each (λ file. IsSettled mid (file_of owner file.part) 0) (map (fresh zeros) parts) → Each (Settled owner new) (map (fresh zeros) parts)
-made_settled owner Touched mid new [] elsewhere apart each = tt
-made_settled owner Touched mid new (part ∷ parts) elsewhere apart each = (
-  subst (λ (n : ℕ). IsSettled new (file_of owner part) n) (sym (none_counts part))
-      (settled_stays Touched mid new (file_of owner part) 0 elsewhere (apart (file_of owner part) (inl refl)) each.0),
-  made_settled owner Touched mid new parts elsewhere (λ g among. apart g (inr among)) each.1,
+-- a file that is synced where it is there, and isn't short, is durable
+present_enough : (disk : DiskView) (f : FileId) (n : ℕ) → (disk.reads f ≡ None) ⊎ IsDurable disk f 0 → (IsShort (disk.reads f) n → ⊥) → IsDurable disk f n
+present_enough disk f n present enough = elim present [
+  | inl none ↦ absurd (enough (subst (λ (o : Option (List ℕ)). IsShort o n) (sym none) tt))
+  | inr is ↦ record {
+    content = is.content;
+    there = is.there;
+    enough = elim (cases_lt (length is.content) n) [
+      | inl less ↦ absurd (enough (subst (λ (o : Option (List ℕ)). IsShort o n) (sym is.there) less))
+      | inr more ↦ more
+    ];
+    synced = is.synced;
+  }
+]
+
+pub present_durable : (owner : Owner) (disk : DiskView) (parts absent : List Part) (lengths : List ℕ) → EachPart (λ part. IsOneOf owner absent (file_of owner part) ⊎ IsDurable disk (file_of owner part) 0) parts
+    → ((f : FileId) → IsOneOf owner absent f → disk.reads f ≡ None) → EachPart (λ part. IsShort (disk.reads (file_of owner part)) (slice_index lengths (index_of part)) → ⊥) parts
+    → Each (IsDurableFile owner disk) (map (fresh lengths) parts)
+present_durable owner disk [] absent lengths present none enough = tt
+present_durable owner disk (part ∷ parts) absent lengths present none enough = (
+  present_enough disk (file_of owner part) (slice_index lengths (index_of part)) (elim present.0 [ inl one ↦ inl (none (file_of owner part) one) | inr is ↦ inr is ]) enough.0,
+  present_durable owner disk parts absent lengths present.1 none enough.1,
 )
 
--- a file is among these or not
-among_or_not : (owner : Owner) (files : List FileView) (g : FileId) → IsAmong owner files g ⊎ (IsAmong owner files g → ⊥)
-among_or_not owner [] g = inr (λ among. among)
-among_or_not owner (file ∷ files) g = elim (same_or_other g (file_of owner file.part)) [
-  | inl is ↦ inl (inl is)
-  | inr other ↦ elim (among_or_not owner files g) [
-    | inl there ↦ inl (inr there)
-    | inr none ↦ inr (λ among. elim among [ inl is ↦ other is | inr there ↦ none there ])
-  ]
-]
+-- durable files stay so where nothing is touched
+pub durable_unchanged : (owner : Owner) (files : List FileView) (old new : DiskView) → Unchanged old new → Each (IsDurableFile owner old) files → Each (IsDurableFile owner new) files
+durable_unchanged owner files old new unchanged =
+    each_map (IsDurableFile owner old) (IsDurableFile owner new) files (λ file is. durable_stays (λ _. ⊥) old new (file_of owner file.part) file.committed unchanged.elsewhere (λ none. none) is)
 
-abbrev choose : {A : Type 0} → A ⊎ (A → ⊥) → Option (List ℕ) → Option (List ℕ) → Option (List ℕ)
-choose (inl a) x y = x
-choose (inr n) x y = y
+-- each part of the shape has enough bytes
+pub part_enough : (owner : Owner) (s : Shape) (old mid : DiskView) (lengths : List ℕ) → ((part : Part) → IsPart s part → mid.reads (file_of owner part) ≡ old.reads (file_of owner part))
+    → EachPart (λ part. IsShort (mid.reads (file_of owner part)) (slice_index lengths (index_of part)) → ⊥) (parts_of s)
+    → (part : Part) → IsPart s part → IsShort (old.reads (file_of owner part)) (slice_index lengths (index_of part)) → ⊥
+part_enough owner s old mid lengths same enough part is short =
+    each_part (λ p. IsShort (mid.reads (file_of owner p)) (slice_index lengths (index_of p)) → ⊥) owner s enough part is
+    (subst (λ (o : Option (List ℕ)). IsShort o (slice_index lengths (index_of part))) (sym (same part is)) short)
 
-choose_holds : {A : Type 0} (P : Option (List ℕ) → Type 0) (d : A ⊎ (A → ⊥)) (x y : Option (List ℕ)) → P x → ((A → ⊥) → P y) → P (choose d x y)
-choose_holds P (inl a) x y p q = p
-choose_holds P (inr n) x y p q = q n
+-- an entry that was read
+pub last_by : (was last : Option (List ℕ)) (bytes : List ℕ) → was ≡ last → was ≡ Some bytes → last ≡ Some bytes
+last_by was last bytes read some = sym read ∙ some
 
-choose_other : {A : Type 0} (d : A ⊎ (A → ⊥)) (x y : Option (List ℕ)) → (A → ⊥) → choose d x y ≡ y
-choose_other (inl a) x y none = absurd (none a)
-choose_other (inr n) x y none = refl
+-- the files of the shape read as before
+pub one_reads : (owner : Owner) (s : Shape) (old mid new : DiskView) → Throughout (λ g. g ≡ journal_of owner) (IsSomeCrashOf 89 (journal_of owner) old) old mid → Unchanged mid new
+    → (f : FileId) → IsOneOf owner (parts_of s) f → new.reads f ≡ old.reads f
+one_reads owner s old mid new run unchanged f one =
+    unchanged.elsewhere.same f (λ none. none) ∙ run.elsewhere.same f (data_not_journal owner s f (one_of_is_data owner s f one))
 
-pub alike_trans : (f : FileId) (a b c : Image) → IsAlike 89 f a b → IsAlike 89 f b c → IsAlike 89 f a c
-alike_trans f a b c one two = record { last_entry = two.last_entry ∙ one.last_entry; sound = λ s. two.sound (one.sound s) }
+-- some calls that sync, and others that read
+pub syncs_then_reads : (n : ℕ) (Own : FileId → Type 0) (old mid new : DiskView) → SyncsAtMost n Own old mid → Unsynced mid new → SyncsAtMost n Own old new
+syncs_then_reads n Own old mid new syncs unsynced = record {
+  own = λ f is. let e = unsynced f in let k = syncs.own f is in omega (arith, e, k);
+  others = λ f other. unsynced f ∙ syncs.others f other;
+}
 
--- making the data files leaves the journal as it was
-module _ (owner : Owner) (s : Shape) (files : List FileView) (parts : map (λ f. f.part) files ≡ parts_of s) (old mid : DiskState)
-    (reads : IsImage old old.reads) (run : Runs (IsAmong owner files) (λ image. Unit {0}) old mid) where
-  apart : (g : FileId) → IsOwn (journal_of owner) g → IsAmong owner files g → ⊥
-  apart g own among = data_not_own owner s g (among_is_data owner s files parts g among) own
-
-  pub made_alike : IsAlike 89 (journal_of owner) old.reads mid.reads
-  made_alike = last_alone (journal_of owner) old.reads mid.reads (λ g own. run.elsewhere.same g (apart g own))
-
-  as_before : (image : Image) → ((g : FileId) → (IsAmong owner files g → ⊥) → old.may_leave g (image g)) → IsAsBefore 89 (journal_of owner) old image
-  as_before image beside = (
-    λ g. choose (among_or_not owner files g) (old.reads g) (image g),
-    λ g. choose_holds (old.may_leave g) (among_or_not owner files g) (old.reads g) (image g) (reads g) (beside g),
-    last_alone (journal_of owner) (λ g. choose (among_or_not owner files g) (old.reads g) (image g)) image
-        (λ g own. sym (choose_other (among_or_not owner files g) (old.reads g) (image g) (apart g own))),
-  )
-
-  abbrev Made : Image → Type 0
-  Made image = IsAsBefore 89 (journal_of owner) old image ⊎ HasLast 89 (journal_of owner) None image
-
-  pub files_made : Runs (IsOwnFile owner s) Made old mid
-  files_made = widened (IsAmong owner files) (IsOwnFile owner s) (λ image. Unit {0}) Made old mid (λ g among. inl (among_is_data owner s files parts g among))
-      (λ image u beside. inl (as_before image beside)) run
-
-  -- and then the journal
-  pub all_made : (new : DiskState) → ((image : Image) → IsImage mid image → mid.left_at mid.moment image)
-      → Runs (IsOwn (journal_of owner)) (λ image. IsAsBefore 89 (journal_of owner) mid image ⊎ HasLast 89 (journal_of owner) None image) mid new → Runs (IsOwnFile owner s) Made old new
-  all_made new is_now journal = followed (IsOwnFile owner s) Made old mid new files_made
-      (widened (IsOwn (journal_of owner)) (IsOwnFile owner s) (λ image. IsAsBefore 89 (journal_of owner) mid image ⊎ HasLast 89 (journal_of owner) None image) Made mid new (λ g own. inr own)
-      (λ image has beside. elim has [
-        | inl was ↦
-            let before : IsAsBefore 89 (journal_of owner) old was.0 = as_before was.0 (λ g other. run.beside mid.moment was.0 run.later (omega arith) (is_now was.0 was.1) g other) in
-            inl (before.0, before.1, alike_trans (journal_of owner) before.0 was.0 image before.2 was.2)
-        | inr none ↦ inr none
-      ])
-      journal)
-
--- a device fault of a data file is one of the bundle's
-pub among_rose : (owner : Owner) (s : Shape) (files : List FileView) → map (λ f. f.part) files ≡ parts_of s → (before mid now : FileId → ℕ) → ((g : FileId) → before g ≤ mid g)
-    → (g : FileId) × IsAmong owner files g × Rose (mid g) (now g) → (g : FileId) × IsOwnFile owner s g × Rose (before g) (now g)
-among_rose owner s files parts before mid now counts rose =
-    (rose.0, inl (among_is_data owner s files parts rose.0 rose.1), λ lt. let h = rose.2 lt in let k = counts rose.0 in omega (arith, h, k))
-
--- the first of the files that is short is the first part that is damaged
-pub first_damaged : (owner : Owner) (image : Image) (body : Body) (parts : List Part) (part : Part) → IsFirstShort owner image (map (fresh body.lens) parts) part → IsFirstDamaged owner image body parts part
-first_damaged owner image body [] part is = is
-first_damaged owner image body (first ∷ parts) part is = elim is [
-  | inl here ↦ inl here
-  | inr there ↦ inr (there.0, first_damaged owner image body parts part there.1)
-]
-
--- where nothing was touched, each image has the journal as it was
-pub opened_run : (owner : Owner) (s : Shape) (old new : DiskState) → Stays old new → Runs (IsOwnFile owner s) (λ image. IsAsBefore 89 (journal_of owner) old image) old new
-opened_run owner s old new stays = stays_runs (IsOwnFile owner s) (λ image. IsAsBefore 89 (journal_of owner) old image) old new
-    (λ image is. (image, is, last_alone (journal_of owner) image image (λ g own. refl))) stays
-
--- a settled file has the bytes that count
-pub settled_enough : (disk : DiskState) (g : FileId) (n : ℕ) → IsSettled disk g n → IsShort (disk.reads g) n → ⊥
-settled_enough disk g n settled short = not_short (subst (λ (o : Option (List ℕ)). IsShort o n) settled.there short) where
-  not_short : IsShort (Some settled.content) n → ⊥
-  not_short less = let e = settled.enough in omega (arith, e, less)
-
--- an opened bundle, whose files were synced
-module _ (bundle : BundleView) (parts : map (λ f. f.part) bundle.files ≡ parts_of bundle.shape) (old new : DiskState) (stays : Stays old new) (files : Each (Settled bundle.owner new) bundle.files) where
-  pub opened_enough : (part : Part) → IsPart bundle.shape part → IsShort (old.reads (file_of bundle.owner part)) (counted bundle part) → ⊥
-  opened_enough part is short =
-      settled_enough new (file_of bundle.owner part) (counted bundle part) (part_settled bundle parts new files part is)
-      (subst (λ (o : Option (List ℕ)). IsShort o (counted bundle part)) (sym (stays.elsewhere.same (file_of bundle.owner part) (λ none. none))) short)
-
-  pub opened_keeps : (image : Image) → IsImage new image → KeepsBytes bundle.owner bundle.shape (committed bundle old) image
-  opened_keeps image is part of =
-      subst (λ (o : Option (List ℕ)). HasFront (take (counted bundle part) (bytes_of o)) (image (file_of bundle.owner part))) (stays.elsewhere.same (file_of bundle.owner part) (λ none. none))
-      (settled_front new (file_of bundle.owner part) (counted bundle part) (part_settled bundle parts new files part of) (image (file_of bundle.owner part)) (is (file_of bundle.owner part)))
-
--- why no bundle was opened, by why a file could not be synced
-module _ (tells : Type 0) (owner : Owner) (s : Shape) (files : List FileView) (body : Body) (files_are : files ≡ map (fresh body.lens) (parts_of s)) (old mid : DiskState) (before between now : FileId → ℕ)
-    (counts : (g : FileId) → before g ≤ between g) (stays : tells → Stays old mid) (last : tells → LastAt 89 (journal_of owner) old.reads ≡ Some (encoded body)) where
-  same_reads : tells → mid.reads ≡ old.reads
-  same_reads told i g = (stays told).elsewhere.same g (λ none. none) i
-
-  pub fresh_are_parts : map (λ f. f.part) files ≡ parts_of s
-  fresh_are_parts = ap (λ (fs : List FileView). map (λ f. f.part) fs) files_are ∙ fresh_parts body.lens (parts_of s)
-
-  pub open_cause : (e : BundleFault) → SyncCauses tells owner mid between now files e → OpenCause tells owner s old.reads before now e
-  open_cause Disk cause = among_rose owner s files fresh_are_parts before between now counts cause
-  open_cause (Damaged part) cause = λ told. record {
-    body = body;
-    entry = last told;
-    first = first_damaged owner old.reads body (parts_of s) part
-        (subst (λ (fs : List FileView). IsFirstShort owner old.reads fs part) files_are
-        (subst (λ (image : Image). IsFirstShort owner image files part) (same_reads told) (cause told)));
-  }
-  open_cause Broken cause = cause
-  open_cause (Full part) cause = cause
-  open_cause NoMem cause = elim cause [ ]
+-- nothing is staged of files that were just named
+pub fresh_staged : (lengths : List ℕ) (parts : List Part) (i : ℕ) → slice_index_or (map (λ f. f.staged) (map (fresh lengths) parts)) i [] ≡ []
+fresh_staged lengths [] i = refl
+fresh_staged lengths (part ∷ parts) zero = refl
+fresh_staged lengths (part ∷ parts) (suc i) = fresh_staged lengths parts i

@@ -6,11 +6,11 @@ use Rattle.std.proofs.lemmas.Bool.{cases_lt}
 use Rattle.lsv_words.specs.Pieces.{piece}
 use Rattle.lsv_bundle.specs.Value.{FileView}
 
--- the file that stands at a place counts what the list has there
-pub counted_here : (files : List FileView) (i : ℕ) (file : FileView) → i < length files → file ≡ slice_index_or files i file → slice_index (map (λ f. f.counted) files) i ≡ file.counted
-counted_here [] i file within is = absurd (let none : ⊥ = omega (arith, within) in none)
-counted_here (first ∷ files) zero file within is = ap (λ (f : FileView). f.counted) (sym is)
-counted_here (first ∷ files) (suc i) file within is = counted_here files i file (omega (arith, within)) is
+-- the file that stands at an index has the committed length that the list has there
+pub committed_here : (files : List FileView) (i : ℕ) (file : FileView) → i < length files → file ≡ slice_index_or files i file → slice_index (map (λ f. f.committed) files) i ≡ file.committed
+committed_here [] i file within is = absurd (let none : ⊥ = omega (arith, within) in none)
+committed_here (first ∷ files) zero file within is = ap (λ (f : FileView). f.committed) (sym is)
+committed_here (first ∷ files) (suc i) file within is = committed_here files i file (omega (arith, within)) is
 
 take_of_take : (m k : ℕ) (l : List ℕ) → take m (take k l) ≡ take (min k m) l
 take_of_take m k l = elim (cases_lt k m) [
@@ -21,8 +21,8 @@ take_of_take m k l = elim (cases_lt k m) [
 ]
 
 -- the bytes from a place on that are among the first ones
-pub piece_of_front : (content : List ℕ) (n at m : ℕ) → piece (take n content) at m ≡ piece content at (min (n - at) m)
-piece_of_front content n at m = elim (cases_lt n at) [
+pub piece_of_prefix : (content : List ℕ) (n at m : ℕ) → piece (take n content) at m ≡ piece content at (min (n - at) m)
+piece_of_prefix content n at m = elim (cases_lt n at) [
   | inl past ↦
       let e : min (n - at) m ≡ 0 = omega (arith, past) in
       ap (take m) (drop_all at (take n content) (let k = length-take n content in omega (arith, k, past)))
@@ -41,18 +41,18 @@ behind n room buf less within =
     sym (drop-append-le n (take room buf) (drop room buf) (let k = length-take-le room buf within in omega (arith, k, less)))
     ∙ ap (drop n) (take-append-drop room buf)
 
--- a read of so many bytes of the file as count and as the buffer takes
-module _ (content buf new : List ℕ) (counted at room count : ℕ) (room_is : room ≡ min (counted - at) (length buf)) where
+-- a read of so many bytes of the file as are committed and as the buffer takes
+module _ (content buf new : List ℕ) (committed at room count : ℕ) (room_is : room ≡ min (committed - at) (length buf)) where
   within : room ≤ length buf
   within = omega (arith, room_is)
 
-  piece_is : piece content at (length (take room buf)) ≡ piece (take counted content) at (length buf)
-  piece_is = ap (piece content at) (length-take-le room buf within ∙ room_is) ∙ sym (piece_of_front content counted at (length buf))
+  piece_is : piece content at (length (take room buf)) ≡ piece (take committed content) at (length buf)
+  piece_is = ap (piece content at) (length-take-le room buf within ∙ room_is) ∙ sym (piece_of_prefix content committed at (length buf))
 
-  pub read_count : count ≡ length (piece content at (length (take room buf))) → count ≡ length (piece (take counted content) at (length buf))
+  pub read_count : count ≡ length (piece content at (length (take room buf))) → count ≡ length (piece (take committed content) at (length buf))
   read_count is = is ∙ ap (λ (l : List ℕ). length l) piece_is
 
-  pub read_bytes : count ≤ length (take room buf) → new ≡ piece content at (length (take room buf)) ++ drop count (take room buf) → new ++ drop room buf ≡ piece (take counted content) at (length buf) ++ drop count buf
+  pub read_bytes : count ≤ length (take room buf) → new ≡ piece content at (length (take room buf)) ++ drop count (take room buf) → new ++ drop room buf ≡ piece (take committed content) at (length buf) ++ drop count buf
   read_bytes less is =
       ap (λ (l : List ℕ). l ++ drop room buf) is
       ∙ append_assoc (piece content at (length (take room buf))) (drop count (take room buf)) (drop room buf)

@@ -4,7 +4,7 @@ use Rattle.std.specs.List.{concat}
 use Rattle.std.specs.Int.{w64, to_be_bytes}
 use Rattle.lsv_disk.specs.declared.file.Part.{Part}
 use Rattle.lsv_bundle.specs.declared.body.Body.{Body}
-use Rattle.lsv_bundle.specs.Shape.{place_of}
+use Rattle.lsv_bundle.specs.Shape.{index_of}
 
 -- a number as eight bytes, the most significant first
 abbrev pub number : ℕ → List ℕ
@@ -18,14 +18,14 @@ numbers_of body = body.count ∷ body.elapsed ∷ body.lens ++ body.extra ∷ []
 unfoldable pub encoded : Body → List ℕ
 encoded body = body.kind ∷ concat (map number (numbers_of body))
 
--- how many bytes of a part count
+-- how many bytes of a part are committed with it
 abbrev pub length_of : Body → Part → ℕ
-length_of body part = slice_index body.lens (place_of part)
+length_of body part = slice_index body.lens (index_of part)
 
 -- its numbers are of 64 bits, and there are eight lengths
 pub record IsBody (body : Body) : Type 0 where
   pub count : body.count < 2 ^ 64
   pub elapsed : body.elapsed < 2 ^ 64
   pub eight : length body.lens ≡ 8
-  pub lens : (place : ℕ) → slice_index body.lens place < 2 ^ 64
+  pub lens : (index : ℕ) → slice_index body.lens index < 2 ^ 64
   pub extra : body.extra < 2 ^ 64

@@ -1,6 +1,7 @@
 pub mod Shape
 pub mod Body
 pub mod Value
-pub mod Held
-pub mod Files
-pub mod Standing
+pub mod Committed
+pub mod Represents
+pub mod Calls
+pub mod InnerFiles

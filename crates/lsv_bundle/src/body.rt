@@ -1,6 +1,7 @@
 ghost use Rattle.std.specs.List.{concat};
 ghost use Rattle.std.specs.Prelude.{◌≡◌, ◌*◌, length, map};
-ghost use Rattle.lsv_bundle.specs.Body.{number, numbers_of, encoded};
+ghost use Rattle.lsv_bundle.specs.Body.{number, numbers_of, encoded, IsBody};
+ghost use Rattle.lsv_bundle.specs.declared.body.Body.{Body};
 
 /// The bytes of an encoded body.
 pub const BODY_LENGTH: usize = 89;
@@ -14,7 +15,7 @@ pub struct Body {
     pub count: u64,
     /// Nanoseconds from the start of the log.
     pub elapsed: u64,
-    /// How many bytes of each data file count, in the order of the shape's parts; the others are 0.
+    /// How many bytes of each data file are committed, in the order of the shape's parts; the others are 0.
     pub lens: [u64; 8],
     /// What the owner keeps besides.
     pub extra: u64,
@@ -38,20 +39,30 @@ impl Body {
         [self.count, self.elapsed, a, b, c, d, e, f, g, h, self.extra]
     }
 
-    /// The body with these bytes. Any 89 bytes are those of one.
-    pub fn decode(bytes: [u8; 89]) -> Self
-        ensures { encoded result ≡ bytes }
+    /// The body with these numbers.
+    pub(crate) fn new(kind: u8, count: u64, elapsed: u64, lens: [u64; 8], extra: u64) -> Self
+        ensures is { result ≡ record { kind = kind; count = count; elapsed = elapsed; lens = lens; extra = extra } }
+        ensures is_body { IsBody result }
     {
-        let mut numbers = [0; 11];
-        get_numbers(&bytes[1..], &mut numbers);
-        let [count, elapsed, a, b, c, d, e, f, g, h, extra] = numbers;
+        let [a, b, c, d, e, f, g, h] = lens;
         Body {
-            kind: bytes[0],
+            kind,
             count,
             elapsed,
             lens: [a, b, c, d, e, f, g, h],
             extra,
         }
+    }
+
+    /// The body with these bytes. Any 89 bytes are those of one.
+    pub fn decode(bytes: [u8; 89]) -> Self
+        ensures encoded { encoded result ≡ bytes }
+        ensures is_body { IsBody result }
+    {
+        let mut numbers = [0; 11];
+        get_numbers(&bytes[1..], &mut numbers);
+        let [count, elapsed, a, b, c, d, e, f, g, h, extra] = numbers;
+        Body::new(bytes[0], count, elapsed, [a, b, c, d, e, f, g, h], extra)
     }
 }
 
@@ -63,8 +74,8 @@ fn put_numbers(bytes: &mut [u8], numbers: &[u64])
     let [first, rest @ ..] = numbers else {
         return;
     };
-    let (place, later) = bytes.split_at_mut(8);
-    place.copy_from_slice(&first.to_be_bytes());
+    let (number, later) = bytes.split_at_mut(8);
+    number.copy_from_slice(&first.to_be_bytes());
     put_numbers(later, rest);
 }
 

@@ -1,5 +1,5 @@
 ghost use Rattle.std.specs.Prelude.{◌≡◌, ◌<◌, ℕ};
-ghost use Rattle.lsv_bundle.specs.Shape.{parts_of, place_of};
+ghost use Rattle.lsv_bundle.specs.Shape.{parts_of, index_of};
 
 use lsv_disk::Part;
 
@@ -42,13 +42,13 @@ impl Shape {
     }
 }
 
-/// The place of a part among the eight lengths.
-pub fn place(part: Part) -> usize
-    ensures place { result ≡ place_of part }
+/// Where a part's length stands among the eight.
+pub fn index_of(part: Part) -> usize
+    ensures index { result ≡ index_of part }
     ensures below { result < 8 }
 {
     match part {
-        Part::Head | Part::Lines | Part::Id | Part::Commit => 0,
+        Part::Head | Part::Lines | Part::Id | Part::Commit | Part::Slots => 0,
         Part::Exit => 1,
         Part::Timing => 2,
         Part::Stdin => 3,

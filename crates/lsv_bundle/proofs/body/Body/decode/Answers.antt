@@ -15,12 +15,13 @@ listed_all k zero l e = sym (nil_from_length (drop k l) (omega (arith, length-dr
 listed_all k (suc n) l e =
     ap (λ (rest : List ℕ). get_or l k 0 ∷ rest) (listed_all (suc k) n l (omega arith)) ∙ sym (drop-cons l k 0 (omega arith))
 
-pub returns : goal.returns
+pub returns-clause-encoded : goal.returns-clause-encoded
 unfolding encoded
-returns c =
+returns-clause-encoded c =
     let all : listed 0 11 c.get_numbers.new.numbers ≡ c.get_numbers.new.numbers = listed_all 0 11 c.get_numbers.new.numbers (search rules) in
     let rest : take 88 (drop 1 c.args.bytes) ≡ drop 1 c.args.bytes = take_all 88 (drop 1 c.args.bytes) (search rules) in
     let bytes : get_or c.args.bytes 0 0 ∷ drop 1 c.args.bytes ≡ c.args.bytes = sym (drop-cons c.args.bytes 0 0 (search rules)) in
-    ap (λ (l : List ℕ). get_or c.args.bytes 0 0 ∷ concat (map number l)) all
+    ap encoded c.new.ensures.is
+    ∙ ap (λ (l : List ℕ). get_or c.args.bytes 0 0 ∷ concat (map number l)) all
     ∙ ap (λ (l : List ℕ). get_or c.args.bytes 0 0 ∷ l) (c.get_numbers.ensures ∙ rest)
     ∙ bytes

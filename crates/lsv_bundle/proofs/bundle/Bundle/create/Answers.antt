@@ -1,75 +1,136 @@
 -- Making the data files, and then the journal.
-use Rattle.std.proofs.Common.{◌≡◌, List, map, sym, subst, ◌∙◌, ap, inl, inr, IsErrAnd, arith}
-use Rattle.lsv_bundle.specs.declared.fault.BundleFault.TheVariants.{Disk, NoMem}
-use Rattle.lsv_bundle.specs.declared.fault.BundleFault.{BundleFault}
-use Rattle.lsv_bundle.specs.Shape.{parts_of, file_of}
+use Rattle.std.proofs.Common.{◌≡◌, ◌⊎◌, List, [], map, Some, subst, ◌∙◌, ap, lit≤}
+use Rattle.lsv_disk.specs.declared.file.FileId.{FileId}
+use Rattle.lsv_disk.specs.declared.file.Part.{Part}
+use Rattle.lsv_disk.specs.Files.{file_of, IsOneOf}
+use Rattle.lsv_disk.specs.Throughout.{Throughout, SyncsAtMost}
+use Rattle.lsv_bundle.specs.Shape.{parts_of}
 use Rattle.lsv_bundle.specs.Value.{FileView}
-use Rattle.lsv_bundle.specs.Files.{Each, Settled, IsSettled}
-use Rattle.lsv_bundle.specs.Standing.{MakeCause}
-use Rattle.lsv_bundle.proofs.Answering.{if_err_is}
-use Rattle.lsv_bundle.proofs.Lookup.{among_is_data}
-use Rattle.lsv_bundle.proofs.Journals.{data_not_own}
-use Rattle.lsv_bundle.proofs.Opening.{fresh, fresh_parts, zeros, made_settled, made_alike, files_made, all_made, among_rose}
+use Rattle.lsv_bundle.specs.Represents.{IsDurable}
+use Rattle.lsv_bundle.specs.InnerFiles.{EachPart}
+use Rattle.lsv_bundle.proofs.Making.{files_run, files_may, all_made, made_durable, zeros, zero_lengths, fresh_parts, files_then_journal, files_alone}
 use Rattle.lsv_bundle.proofs.bundle.Bundle.create.Goals as goal
-
-pub returns-in_err-files-clause-cause : goal.returns-in_err-files-clause-cause
-returns-in_err-files-clause-cause g c =
-    if_err_is c.from_residual.result NoMem (MakeCause c.args.owner c.args.shape (g.D.Disk.faults c.args.disk.now) (g.D.Disk.faults c.args.disk.now))
-    (subst (λ (e : BundleFault). IsErrAnd c.from_residual.result (λ x. x ≡ e)) c.in_err-files.ensures.refused c.from_residual.ensures.1) tt
 
 pub returns-in_err-make_files-clause-again : goal.returns-in_err-make_files-clause-again
 returns-in_err-make_files-clause-again g c told =
-    (made_alike c.args.owner c.args.shape c.deref.result.now (ap (λ (fs : List FileView). map (λ f. f.part) fs) (c.deref.ensures.value ∙ c.in_ok-files.ensures.items) ∙ fresh_parts zeros (parts_of c.args.shape)) (g.D.Disk.state c.args.disk.now) (g.D.Disk.state c.make_files.new.disk) (g.met.D.Disk.reads_itself told c.args.disk.now) (c.make_files.ensures.any_moment told)).last_entry ∙ c.requires.no_entry told
+    let owner = c.args.owner in
+    let s = c.args.shape in
+    let old = g.D.Disk.view c.args.disk.now in
+    let mid = g.D.Disk.view c.make_files.new.disk in
+    let reads = g.met.D.Disk.reads_itself told c.args.disk.now in
+    let run : Throughout (IsOneOf owner (parts_of s)) (λ image. (f : FileId) → IsOneOf owner (parts_of s) f → old.crash_states f (image f) ⊎ (image f ≡ Some [])) old mid =
+    subst (λ (ps : List Part). Throughout (IsOneOf owner ps) (λ image. (f : FileId) → IsOneOf owner ps f → old.crash_states f (image f) ⊎ (image f ≡ Some [])) old mid) c.parts.ensures (c.make_files.ensures.any_moment told) in
+    files_may owner s old mid reads run (c.requires.may_be_made told)
 
 pub returns-in_err-make_files-clause-any_moment : goal.returns-in_err-make_files-clause-any_moment
 returns-in_err-make_files-clause-any_moment g c told =
-    files_made c.args.owner c.args.shape c.deref.result.now (ap (λ (fs : List FileView). map (λ f. f.part) fs) (c.deref.ensures.value ∙ c.in_ok-files.ensures.items) ∙ fresh_parts zeros (parts_of c.args.shape)) (g.D.Disk.state c.args.disk.now) (g.D.Disk.state c.make_files.new.disk) (g.met.D.Disk.reads_itself told c.args.disk.now) (c.make_files.ensures.any_moment told)
+    let owner = c.args.owner in
+    let s = c.args.shape in
+    let old = g.D.Disk.view c.args.disk.now in
+    let mid = g.D.Disk.view c.make_files.new.disk in
+    let reads = g.met.D.Disk.reads_itself told c.args.disk.now in
+    let run : Throughout (IsOneOf owner (parts_of s)) (λ image. (f : FileId) → IsOneOf owner (parts_of s) f → old.crash_states f (image f) ⊎ (image f ≡ Some [])) old mid =
+    subst (λ (ps : List Part). Throughout (IsOneOf owner ps) (λ image. (f : FileId) → IsOneOf owner ps f → old.crash_states f (image f) ⊎ (image f ≡ Some [])) old mid) c.parts.ensures (c.make_files.ensures.any_moment told) in
+    files_run owner s old mid reads run
 
 pub returns-in_err-make_files-clause-syncs : goal.returns-in_err-make_files-clause-syncs
-returns-in_err-make_files-clause-syncs g c told f other =
-    c.make_files.ensures.syncs told f (λ among. other (inl (among_is_data c.args.owner c.args.shape c.deref.result.now (ap (λ (fs : List FileView). map (λ f. f.part) fs) (c.deref.ensures.value ∙ c.in_ok-files.ensures.items) ∙ fresh_parts zeros (parts_of c.args.shape)) f among)))
-
-pub returns-in_err-make_files-clause-cause : goal.returns-in_err-make_files-clause-cause
-returns-in_err-make_files-clause-cause g c =
-    if_err_is c.from_residual-in_err-make_files.result Disk (MakeCause c.args.owner c.args.shape (g.D.Disk.faults c.args.disk.now) (g.D.Disk.faults c.make_files.new.disk))
-    c.from_residual-in_err-make_files.ensures.1
-    (among_rose c.args.owner c.args.shape c.deref.result.now (ap (λ (fs : List FileView). map (λ f. f.part) fs) (c.deref.ensures.value ∙ c.in_ok-files.ensures.items) ∙ fresh_parts zeros (parts_of c.args.shape)) (g.D.Disk.faults c.args.disk.now) (g.D.Disk.faults c.args.disk.now) (g.D.Disk.faults c.make_files.new.disk) (λ f. omega arith) c.in_err-make_files.ensures.cause)
+returns-in_err-make_files-clause-syncs g c told =
+    let owner = c.args.owner in
+    let s = c.args.shape in
+    let old = g.D.Disk.view c.args.disk.now in
+    let mid = g.D.Disk.view c.make_files.new.disk in
+    let reads = g.met.D.Disk.reads_itself told c.args.disk.now in
+    let run : Throughout (IsOneOf owner (parts_of s)) (λ image. (f : FileId) → IsOneOf owner (parts_of s) f → old.crash_states f (image f) ⊎ (image f ≡ Some [])) old mid =
+    subst (λ (ps : List Part). Throughout (IsOneOf owner ps) (λ image. (f : FileId) → IsOneOf owner ps f → old.crash_states f (image f) ⊎ (image f ≡ Some [])) old mid) c.parts.ensures (c.make_files.ensures.any_moment told) in
+    files_alone owner s 2 old mid (lit≤ tt) (subst (λ (ps : List Part). SyncsAtMost 1 (IsOneOf owner ps) old mid) c.parts.ensures (c.make_files.ensures.syncs told))
 
 pub make_journal-requires : goal.make_journal-requires
 make_journal-requires g c =
-    record { no_entry = λ told. (made_alike c.args.owner c.args.shape c.deref.result.now (ap (λ (fs : List FileView). map (λ f. f.part) fs) (c.deref.ensures.value ∙ c.in_ok-files.ensures.items) ∙ fresh_parts zeros (parts_of c.args.shape)) (g.D.Disk.state c.args.disk.now) (g.D.Disk.state c.make_files.new.disk) (g.met.D.Disk.reads_itself told c.args.disk.now) (c.make_files.ensures.any_moment told)).last_entry ∙ c.requires.no_entry told }
+    record {
+      may_be_made = λ told.
+          let owner = c.args.owner in
+          let s = c.args.shape in
+          let old = g.D.Disk.view c.args.disk.now in
+          let mid = g.D.Disk.view c.make_files.new.disk in
+          let reads = g.met.D.Disk.reads_itself told c.args.disk.now in
+          let run : Throughout (IsOneOf owner (parts_of s)) (λ image. (f : FileId) → IsOneOf owner (parts_of s) f → old.crash_states f (image f) ⊎ (image f ≡ Some [])) old mid =
+          subst (λ (ps : List Part). Throughout (IsOneOf owner ps) (λ image. (f : FileId) → IsOneOf owner ps f → old.crash_states f (image f) ⊎ (image f ≡ Some [])) old mid) c.parts.ensures (c.make_files.ensures.any_moment told) in
+          files_may owner s old mid reads run (c.requires.may_be_made told);
+    }
 
 pub returns-in_err-journal-clause-any_moment : goal.returns-in_err-journal-clause-any_moment
 returns-in_err-journal-clause-any_moment g c told =
-    all_made c.args.owner c.args.shape c.deref.result.now (ap (λ (fs : List FileView). map (λ f. f.part) fs) (c.deref.ensures.value ∙ c.in_ok-files.ensures.items) ∙ fresh_parts zeros (parts_of c.args.shape)) (g.D.Disk.state c.args.disk.now) (g.D.Disk.state c.make_files.new.disk) (g.met.D.Disk.reads_itself told c.args.disk.now) (c.make_files.ensures.any_moment told)
-    (g.D.Disk.state c.make_journal.new.disk) (λ image is. g.met.D.Disk.is_now told c.make_files.new.disk image is) (c.make_journal.ensures.any_moment told)
+    let owner = c.args.owner in
+    let s = c.args.shape in
+    let old = g.D.Disk.view c.args.disk.now in
+    let mid = g.D.Disk.view c.make_files.new.disk in
+    let reads = g.met.D.Disk.reads_itself told c.args.disk.now in
+    let run : Throughout (IsOneOf owner (parts_of s)) (λ image. (f : FileId) → IsOneOf owner (parts_of s) f → old.crash_states f (image f) ⊎ (image f ≡ Some [])) old mid =
+    subst (λ (ps : List Part). Throughout (IsOneOf owner ps) (λ image. (f : FileId) → IsOneOf owner ps f → old.crash_states f (image f) ⊎ (image f ≡ Some [])) old mid) c.parts.ensures (c.make_files.ensures.any_moment told) in
+    let new = g.D.Disk.view c.make_journal.new.disk in
+    let mid_reads = g.met.D.Disk.reads_itself told c.make_files.new.disk in
+    let is_now = g.met.D.Disk.is_now told c.make_files.new.disk in
+    all_made owner s old mid reads run new mid_reads is_now (c.make_journal.ensures.any_moment told)
 
 pub returns-in_err-journal-clause-syncs : goal.returns-in_err-journal-clause-syncs
-returns-in_err-journal-clause-syncs g c told f other =
-    c.make_journal.ensures.syncs told f (λ own. other (inr own))
-    ∙ c.make_files.ensures.syncs told f (λ among. other (inl (among_is_data c.args.owner c.args.shape c.deref.result.now (ap (λ (fs : List FileView). map (λ f. f.part) fs) (c.deref.ensures.value ∙ c.in_ok-files.ensures.items) ∙ fresh_parts zeros (parts_of c.args.shape)) f among)))
+returns-in_err-journal-clause-syncs g c told =
+    let owner = c.args.owner in
+    let s = c.args.shape in
+    let old = g.D.Disk.view c.args.disk.now in
+    let mid = g.D.Disk.view c.make_files.new.disk in
+    let reads = g.met.D.Disk.reads_itself told c.args.disk.now in
+    let run : Throughout (IsOneOf owner (parts_of s)) (λ image. (f : FileId) → IsOneOf owner (parts_of s) f → old.crash_states f (image f) ⊎ (image f ≡ Some [])) old mid =
+    subst (λ (ps : List Part). Throughout (IsOneOf owner ps) (λ image. (f : FileId) → IsOneOf owner ps f → old.crash_states f (image f) ⊎ (image f ≡ Some [])) old mid) c.parts.ensures (c.make_files.ensures.any_moment told) in
+    let new = g.D.Disk.view c.make_journal.new.disk in
+    let mid_reads = g.met.D.Disk.reads_itself told c.make_files.new.disk in
+    let is_now = g.met.D.Disk.is_now told c.make_files.new.disk in
+    files_then_journal owner s 2 old mid new (lit≤ tt) (subst (λ (ps : List Part). SyncsAtMost 1 (IsOneOf owner ps) old mid) c.parts.ensures (c.make_files.ensures.syncs told)) (c.make_journal.ensures.syncs told)
 
 pub returns-clause-any_moment : goal.returns-clause-any_moment
 returns-clause-any_moment g c told =
-    all_made c.args.owner c.args.shape c.deref.result.now (ap (λ (fs : List FileView). map (λ f. f.part) fs) (c.deref.ensures.value ∙ c.in_ok-files.ensures.items) ∙ fresh_parts zeros (parts_of c.args.shape)) (g.D.Disk.state c.args.disk.now) (g.D.Disk.state c.make_files.new.disk) (g.met.D.Disk.reads_itself told c.args.disk.now) (c.make_files.ensures.any_moment told)
-    (g.D.Disk.state c.make_journal.new.disk) (λ image is. g.met.D.Disk.is_now told c.make_files.new.disk image is) (c.make_journal.ensures.any_moment told)
+    let owner = c.args.owner in
+    let s = c.args.shape in
+    let old = g.D.Disk.view c.args.disk.now in
+    let mid = g.D.Disk.view c.make_files.new.disk in
+    let reads = g.met.D.Disk.reads_itself told c.args.disk.now in
+    let run : Throughout (IsOneOf owner (parts_of s)) (λ image. (f : FileId) → IsOneOf owner (parts_of s) f → old.crash_states f (image f) ⊎ (image f ≡ Some [])) old mid =
+    subst (λ (ps : List Part). Throughout (IsOneOf owner ps) (λ image. (f : FileId) → IsOneOf owner ps f → old.crash_states f (image f) ⊎ (image f ≡ Some [])) old mid) c.parts.ensures (c.make_files.ensures.any_moment told) in
+    let new = g.D.Disk.view c.make_journal.new.disk in
+    let mid_reads = g.met.D.Disk.reads_itself told c.make_files.new.disk in
+    let is_now = g.met.D.Disk.is_now told c.make_files.new.disk in
+    all_made owner s old mid reads run new mid_reads is_now (c.make_journal.ensures.any_moment told)
 
 pub returns-clause-syncs : goal.returns-clause-syncs
-returns-clause-syncs g c told f other =
-    c.make_journal.ensures.syncs told f (λ own. other (inr own))
-    ∙ c.make_files.ensures.syncs told f (λ among. other (inl (among_is_data c.args.owner c.args.shape c.deref.result.now (ap (λ (fs : List FileView). map (λ f. f.part) fs) (c.deref.ensures.value ∙ c.in_ok-files.ensures.items) ∙ fresh_parts zeros (parts_of c.args.shape)) f among)))
+returns-clause-syncs g c told =
+    let owner = c.args.owner in
+    let s = c.args.shape in
+    let old = g.D.Disk.view c.args.disk.now in
+    let mid = g.D.Disk.view c.make_files.new.disk in
+    let reads = g.met.D.Disk.reads_itself told c.args.disk.now in
+    let run : Throughout (IsOneOf owner (parts_of s)) (λ image. (f : FileId) → IsOneOf owner (parts_of s) f → old.crash_states f (image f) ⊎ (image f ≡ Some [])) old mid =
+    subst (λ (ps : List Part). Throughout (IsOneOf owner ps) (λ image. (f : FileId) → IsOneOf owner ps f → old.crash_states f (image f) ⊎ (image f ≡ Some [])) old mid) c.parts.ensures (c.make_files.ensures.any_moment told) in
+    let new = g.D.Disk.view c.make_journal.new.disk in
+    let mid_reads = g.met.D.Disk.reads_itself told c.make_files.new.disk in
+    let is_now = g.met.D.Disk.is_now told c.make_files.new.disk in
+    files_then_journal owner s 2 old mid new (lit≤ tt) (subst (λ (ps : List Part). SyncsAtMost 1 (IsOneOf owner ps) old mid) c.parts.ensures (c.make_files.ensures.syncs told)) (c.make_journal.ensures.syncs told)
 
-pub returns-clause-stands : goal.returns-clause-stands
-returns-clause-stands g c told =
-    let files : List FileView = map (fresh zeros) (parts_of c.args.shape) in
-    let there : Each (λ file. IsSettled (g.D.Disk.state c.make_files.new.disk) (file_of c.args.owner file.part) 0) files =
-    subst (λ (fs : List FileView). Each (λ file. IsSettled (g.D.Disk.state c.make_files.new.disk) (file_of c.args.owner file.part) 0) fs) (c.deref.ensures.value ∙ c.in_ok-files.ensures.items) (c.in_ok-make_files.ensures.there told) in
+pub returns-clause-represents : goal.returns-clause-represents
+returns-clause-represents g c told =
+    let owner = c.args.owner in
+    let s = c.args.shape in
+    let old = g.D.Disk.view c.args.disk.now in
+    let mid = g.D.Disk.view c.make_files.new.disk in
+    let reads = g.met.D.Disk.reads_itself told c.args.disk.now in
+    let run : Throughout (IsOneOf owner (parts_of s)) (λ image. (f : FileId) → IsOneOf owner (parts_of s) f → old.crash_states f (image f) ⊎ (image f ≡ Some [])) old mid =
+    subst (λ (ps : List Part). Throughout (IsOneOf owner ps) (λ image. (f : FileId) → IsOneOf owner ps f → old.crash_states f (image f) ⊎ (image f ≡ Some [])) old mid) c.parts.ensures (c.make_files.ensures.any_moment told) in
+    let new = g.D.Disk.view c.make_journal.new.disk in
+    let mid_reads = g.met.D.Disk.reads_itself told c.make_files.new.disk in
+    let is_now = g.met.D.Disk.is_now told c.make_files.new.disk in
     record {
-      made = record { parts = ap (λ (fs : List FileView). map (λ f. f.part) fs) c.in_ok-files.ensures.items ∙ fresh_parts zeros (parts_of c.args.shape); at = c.in_ok-journal.ensures.file; whole = λ _. c.in_ok-journal.ensures.whole };
-      journal = c.in_ok-journal.ensures.stands told;
+      well_formed = record { parts = ap (λ (fs : List FileView). map (λ f. f.part) fs) c.in_ok-files.ensures.items ∙ fresh_parts zeros (parts_of s); at = c.in_ok-journal.ensures.file; whole = λ _. c.in_ok-journal.ensures.whole; last_body = λ body e. cc; prepared = λ _. c.in_ok-journal.ensures.prepared; prepared_body = λ body e. cc };
+      journal = c.in_ok-journal.ensures.represents told;
       entry = c.in_ok-journal.ensures.last;
-      files = subst (λ (fs : List FileView). Each (Settled c.args.owner (g.D.Disk.state c.make_journal.new.disk)) fs) (sym c.in_ok-files.ensures.items)
-          (made_settled c.args.owner _ (g.D.Disk.state c.make_files.new.disk) (g.D.Disk.state c.make_journal.new.disk) (parts_of c.args.shape) (c.make_journal.ensures.any_moment told).elsewhere
-          (λ f among own. data_not_own c.args.owner c.args.shape f (among_is_data c.args.owner c.args.shape files (fresh_parts zeros (parts_of c.args.shape)) f among) own) there);
-      lengths = λ body is. cc;
+      files = made_durable owner s old mid reads run new mid_reads is_now (c.make_journal.ensures.any_moment told) c.in_ok-files.files.items zeros zero_lengths c.in_ok-files.ensures.items
+          (subst (λ (ps : List Part). EachPart (λ part. IsDurable mid (file_of owner part) 0) ps) c.parts.ensures (c.in_ok-make_files.ensures.there told));
+      lengths = λ body e. cc;
     }

@@ -1,32 +1,50 @@
-use Rattle.std.proofs.Common.{◌≡◌}
-use Rattle.lsv_disk.specs.declared.file.FileId.{FileId}
+use Rattle.std.proofs.Common.{◌≡◌, ◌≢◌, ℕ, List, [], ap, sym, subst, ◌∙◌}
+use Rattle.std.specs.Prelude.{◌==◌}
 use Rattle.lsv_disk.specs.Bytes.{written}
-use Rattle.lsv_disk.specs.State.{Only}
-use Rattle.lsv_bundle.specs.Shape.{file_of}
 use Rattle.lsv_bundle.specs.Value.{FileView}
-use Rattle.lsv_bundle.specs.Files.{IsWritten}
-use Rattle.lsv_bundle.proofs.Answering.{on_ok_both}
-use Rattle.lsv_bundle.proofs.Writing.{nothing_written, seen_run, seen_written}
+use Rattle.lsv_bundle.specs.InnerFiles.{IsAppended}
+use Rattle.lsv_bundle.proofs.Results.{on_ok_map}
+use Rattle.lsv_bundle.proofs.DataFiles.{keeps_now, nothing_written, write_keeps, write_run, write_appended, same_crash, same_written, same_frame, some_staged}
 use Rattle.lsv_bundle.proofs.data_file.DataFile.write.Goals as goal
 
 pub returns-then-is_empty-clause-any_moment : goal.returns-then-is_empty-clause-any_moment
 returns-then-is_empty-clause-any_moment g c told =
-    let old = g.D.Disk.state c.args.disk.now in
-    nothing_written c.args.owner c.args.self.now old old (c.requires.settled told) (g.met.D.Disk.only_now told c.args.disk.now)
+    let old = g.D.Disk.view c.args.disk.now in
+    nothing_written c.args.owner c.args.self.now old old (c.requires.durable told) (g.met.D.Disk.only_now told c.args.disk.now)
+
+pub returns-then-is_empty-clause-crash : goal.returns-then-is_empty-clause-crash
+returns-then-is_empty-clause-crash g c told =
+    let old = g.D.Disk.view c.args.disk.now in
+    keeps_now c.args.owner c.args.self.now old old (c.requires.durable told)
 
 pub returns-clause-any_moment : goal.returns-clause-any_moment
 returns-clause-any_moment g c told =
-    let file : FileView = record { part = c.self.inside.part; counted = c.self.inside.counted; staged = c.self.inside.staged.items } in
-    seen_run c.args.owner file c.args.self.now c.deref.result.now (g.D.Disk.state c.args.disk.now) (g.D.Disk.state c.write_synced.new.disk)
-    c.self.view_is c.deref.ensures.value (c.requires.settled told) (c.write_synced.ensures.any_moment told)
+    let old = g.D.Disk.view c.args.disk.now in
+    let new = g.D.Disk.view c.write_at.new.self in
+    let at : c.self.inside.committed ≡ c.args.self.now.committed = ap (λ (v : FileView). v.committed) c.self.view_is in
+    let bytes : c.deref.result.now ≡ c.args.self.now.staged = c.deref.ensures.value ∙ ap (λ (v : FileView). v.staged) c.self.view_is in
+    write_run c.args.owner c.args.self.now old new (c.requires.durable told)
+    (same_crash c.args.owner c.args.self.now c.file.result c.self.inside.committed c.deref.result.now old new c.file.ensures at bytes (c.write_at.ensures.crash told))
+    (same_frame c.args.owner c.args.self.now c.file.result c.self.inside.committed c.deref.result.now old new c.file.ensures at bytes (c.write_at.ensures.frame told))
+    (g.met.D.Disk.only_now told c.args.disk.now) (g.met.D.Disk.only_now told c.write_at.new.self)
 
-pub returns-clause-written : goal.returns-clause-written
-returns-clause-written g c told =
-    let file : FileView = record { part = c.self.inside.part; counted = c.self.inside.counted; staged = c.self.inside.staged.items } in
-    let f : FileId = file_of c.args.owner file.part in
-    let old = g.D.Disk.state c.args.disk.now in
-    let new = g.D.Disk.state c.write_synced.new.disk in
-    on_ok_both c.write_synced.result
-    (new.reads f ≡ written file.counted c.deref.result.now (old.reads f)) (Only (new.reads f) (new.may_leave f)) (IsWritten c.args.owner old new c.args.self.now)
-    (seen_written c.args.owner file c.args.self.now c.deref.result.now old new c.self.view_is c.deref.ensures.value (c.requires.settled told))
-    (c.write_synced.ensures.written told) (c.write_synced.ensures.durable told)
+pub returns-clause-crash : goal.returns-clause-crash
+returns-clause-crash g c told =
+    let old = g.D.Disk.view c.args.disk.now in
+    let new = g.D.Disk.view c.write_at.new.self in
+    let at : c.self.inside.committed ≡ c.args.self.now.committed = ap (λ (v : FileView). v.committed) c.self.view_is in
+    let bytes : c.deref.result.now ≡ c.args.self.now.staged = c.deref.ensures.value ∙ ap (λ (v : FileView). v.staged) c.self.view_is in
+    write_keeps c.args.owner c.args.self.now old new (c.requires.durable told)
+    (same_crash c.args.owner c.args.self.now c.file.result c.self.inside.committed c.deref.result.now old new c.file.ensures at bytes (c.write_at.ensures.crash told))
+
+pub returns-clause-appended : goal.returns-clause-appended
+returns-clause-appended g c told =
+    let old = g.D.Disk.view c.args.disk.now in
+    let new = g.D.Disk.view c.write_at.new.self in
+    let at : c.self.inside.committed ≡ c.args.self.now.committed = ap (λ (v : FileView). v.committed) c.self.view_is in
+    let bytes : c.deref.result.now ≡ c.args.self.now.staged = c.deref.ensures.value ∙ ap (λ (v : FileView). v.staged) c.self.view_is in
+    let some : c.args.self.now.staged ≢ [] = subst (λ (l : List ℕ). l ≢ []) bytes (some_staged c.deref.result.now (ap (λ (n : ℕ). n == 0) c.deref.ensures.len ∙ sym c.is_empty.ensures ∙ c.if-is_empty.false)) in
+    on_ok_map c.write_at.result (new.reads c.file.result ≡ written c.self.inside.committed c.deref.result.now (old.reads c.file.result)) (IsAppended c.args.owner old new c.args.self.now)
+    (λ now. write_appended c.args.owner c.args.self.now old new (c.requires.durable told) some
+    (same_written c.args.owner c.args.self.now c.file.result c.self.inside.committed c.deref.result.now old new c.file.ensures at bytes now))
+    (c.write_at.ensures.written told)

@@ -1,0 +1,28 @@
+use Rattle.lsv_bundle.specs.Represents.{Each, IsWritten}
+use Rattle.lsv_bundle.specs.InnerFiles.{IsSyncedFile, IsSyncedOnce}
+use Rattle.lsv_bundle.proofs.Results.{on_ok_map}
+use Rattle.lsv_bundle.proofs.DataFiles.{synced_run, all_written, all_once}
+use Rattle.lsv_bundle.proofs.data_file.write_staged.Goals as goal
+
+pub returns-clause-any_moment : goal.returns-clause-any_moment
+returns-clause-any_moment g c told =
+    synced_run c.args.owner c.args.files.now (g.D.Disk.view c.args.disk.now) (g.D.Disk.view c.write_all.new.disk) (g.D.Disk.view c.sync_all.new.disk)
+    (c.sync_all.ensures.unchanged told) (c.write_all.ensures.any_moment told) (g.met.D.Disk.is_now told c.write_all.new.disk)
+
+pub returns-clause-written : goal.returns-clause-written
+returns-clause-written g c told =
+    let old = g.D.Disk.view c.args.disk.now in
+    let new = g.D.Disk.view c.sync_all.new.disk in
+    on_ok_map c.sync_all.result (Each (IsSyncedFile c.args.owner new) c.args.files.now) (Each (IsWritten c.args.owner new) c.args.files.now)
+    (all_written c.args.owner c.args.files.now old (g.D.Disk.view c.write_all.new.disk) new
+    (c.sync_all.ensures.unchanged told) (c.write_all.ensures.any_moment told) (c.requires.durable told) (c.in_ok-write_all.ensures.appended told))
+    (c.sync_all.ensures.durable told)
+
+pub returns-clause-once : goal.returns-clause-once
+returns-clause-once g c told =
+    let old = g.D.Disk.view c.args.disk.now in
+    let mid = g.D.Disk.view c.write_all.new.disk in
+    let new = g.D.Disk.view c.sync_all.new.disk in
+    on_ok_map c.sync_all.result (Each (IsSyncedOnce c.args.owner mid new) c.args.files.now) (Each (IsSyncedOnce c.args.owner old new) c.args.files.now)
+    (all_once c.args.owner c.args.files.now old mid new (c.sync_all.ensures.unchanged told) (c.write_all.ensures.any_moment told) (c.write_all.ensures.unsynced told))
+    (c.sync_all.ensures.once told)

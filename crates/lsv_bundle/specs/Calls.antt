@@ -1,0 +1,41 @@
+-- What calls of a bundle sync, and why staging may fail.
+use Rattle.std.specs.Prelude.{◌≡◌, ◌≢◌, ℕ, ◌+◌, ◌≤◌, ◌<◌, ◌^◌, []}
+use Rattle.lsv_disk.specs.declared.file.FileId.{FileId}
+use Rattle.lsv_disk.specs.declared.file.Part.{Part}
+use Rattle.lsv_disk.specs.Files.{file_of}
+use Rattle.lsv_disk.specs.View.{DiskView}
+use Rattle.lsv_bundle.specs.declared.fault.BundleFault.{BundleFault}
+use Rattle.lsv_bundle.specs.declared.fault.BundleFault.TheVariants.{Disk, Broken, Damaged, Full, NoMem}
+use Rattle.lsv_bundle.specs.Shape.{IsPart, journal_of}
+use Rattle.lsv_bundle.specs.Value.{BundleView, IsStagedFile, staged, next_length}
+
+-- with that many more bytes the file would pass 2^40 bytes
+abbrev pub IsFull : BundleView → Part → ℕ → Type 0
+IsFull bundle part more = 2 ^ 40 < next_length bundle part + more
+
+-- each data file of which something is staged was synced once
+abbrev pub SyncsStaged : BundleView → DiskView → DiskView → Type 0
+SyncsStaged bundle old new = (part : Part) → IsPart bundle.shape part → staged bundle part ≢ []
+    → new.syncs (file_of bundle.owner part) ≡ old.syncs (file_of bundle.owner part) + 1
+
+-- each data file of which something is staged was synced once at most, the journal twice at most, and no other file
+pub record SyncsOfFlush (bundle : BundleView) (old new : DiskView) : Type 0 where
+  pub files : (file : FileId) → IsStagedFile bundle file → new.syncs file ≤ old.syncs file + 1
+  pub journal : new.syncs (journal_of bundle.owner) ≤ old.syncs (journal_of bundle.owner) + 2
+  pub others : (file : FileId) → (IsStagedFile bundle file → ⊥) → file ≢ journal_of bundle.owner → new.syncs file ≡ old.syncs file
+
+-- the faults of a bundle that is viewed
+abbrev pub IsViewFault : BundleFault → Type 0
+IsViewFault Disk = Unit {0}
+IsViewFault (Damaged part) = Unit {0}
+IsViewFault NoMem = ⊥
+IsViewFault Broken = ⊥
+IsViewFault (Full part) = ⊥
+
+-- the faults of a bundle that is opened
+abbrev pub IsOpenFault : BundleFault → Type 0
+IsOpenFault Disk = Unit {0}
+IsOpenFault (Damaged part) = Unit {0}
+IsOpenFault NoMem = Unit {0}
+IsOpenFault Broken = ⊥
+IsOpenFault (Full part) = ⊥

@@ -1,0 +1,232 @@
+ghost use Rattle.std.specs.Prelude.{◌≡◌, ◌⊎◌, ◌↔◌, ℕ, ◌+◌, ◌≤◌, true, false, Some, IfErr, OnOk, OnErr, IsErrOf, length, map, slice_index};
+ghost use Rattle.lsv_disk.specs.declared.file.Part.{Part};
+ghost use Rattle.lsv_disk.specs.View.{Image, HasOwnCause};
+ghost use Rattle.lsv_disk.specs.Throughout.{Throughout, SyncsAtMost};
+ghost use Rattle.lsv_journal.specs.Last.{IsOwn};
+ghost use Rattle.lsv_bundle.specs.declared.body.Body.{Body};
+ghost use Rattle.lsv_bundle.specs.declared.fault.BundleFault.{BundleFault};
+ghost use Rattle.lsv_bundle.specs.Shape.{IsPart, index_of, journal_of, IsDataFile, IsWritable, IsOwnFile};
+ghost use Rattle.lsv_bundle.specs.Value.{next_length, next_body, lengths_of, cut_body, IsStagedFile, NoneStaged, IsKept, IsCommitted, IsPrepared};
+ghost use Rattle.lsv_bundle.specs.Committed.{KeepsBytes, IsOwnImage, HoldsEntry, IsBeforeOrAfter, KeepsCommitted, committed_bytes, committed, committed_as, committed_next, committed_cut};
+ghost use Rattle.lsv_bundle.specs.Represents.{Represents, DataIsWritten};
+ghost use Rattle.lsv_bundle.specs.Calls.{SyncsStaged, SyncsOfFlush};
+ghost use Rattle.lsv_bundle.specs.InnerFiles.{commit_file, cut_to, with_files};
+
+use crate::data_file::{commit, cut, write_staged};
+use crate::{Body, Bundle, BundleFault};
+use lsv_disk::Disk;
+
+/// The kind of an entry by which the data files are cut.
+const CUT: u8 = 2;
+
+impl Bundle {
+    /// It didn't answer `Disk`.
+    fn check_whole(&self) -> Result<(), BundleFault>
+        ensures whole { OnOk result (self.now.is_broken ≡ false) }
+        ensures cause { IfErr result (λ e. (e ≡ BundleFault.Broken) × (self.now.is_broken ≡ true)) }
+    {
+        if self.is_broken {
+            return Err(BundleFault::Broken);
+        }
+        Ok(())
+    }
+
+    /// What is staged is committed.
+    fn commit_files(&mut self)
+        ensures { self.new ≡ with_files self.old (map commit_file self.old.files) }
+    {
+        commit(&mut self.files);
+    }
+
+    /// So many bytes of each data file are committed.
+    fn cut_files(&mut self, lengths: &[u64])
+        requires { length lengths.now ≡ 8 }
+        ensures { self.new ≡ with_files self.old (cut_to self.old.files lengths.now) }
+    {
+        cut(&mut self.files, lengths);
+    }
+
+    /// The first step of a flush: writes of each data file what is staged, and then syncs each of which something is.
+    /// Each crash image holds what was committed before. The faults of each step are those of `flush`.
+    pub fn write_data<D: Disk>(&mut self, disk: &mut D) -> Result<(), BundleFault>
+        requires represents { D.tells → self.old.is_broken ≡ false → Represents self.old (D.view disk.old) }
+        ensures same { OnOk result (self.new ≡ self.old) }
+        ensures kept { IsKept self.old self.new }
+        ensures whole { OnOk result (self.new.is_broken ≡ false) }
+        ensures any_moment { D.tells → self.old.is_broken ≡ false → Throughout (IsDataFile self.old.owner self.old.shape) (KeepsCommitted self.old (D.view disk.old)) (D.view disk.old) (D.view disk.new) }
+        ensures written { D.tells → OnOk result (DataIsWritten self.new (D.view disk.new)) }
+        ensures below { D.tells → self.old.is_broken ≡ false → (part : Part) → IsPart self.old.shape part
+            → committed_bytes self.old (D.view disk.new) part ≡ committed_bytes self.old (D.view disk.old) part }
+        ensures represents { D.tells → self.new.is_broken ≡ false → Represents self.new (D.view disk.new) }
+        ensures synced { D.tells → OnOk result (SyncsStaged self.old (D.view disk.old) (D.view disk.new)) }
+        ensures syncs { D.tells → SyncsAtMost 1 (IsStagedFile self.old) (D.view disk.old) (D.view disk.new) }
+        ensures disk { IsErrOf result BundleFault.Disk → self.new.is_broken ≡ true }
+        ensures fault { IfErr result (λ e. (e ≡ BundleFault.Disk) ⊎ (e ≡ BundleFault.Broken)) }
+        ensures cause { HasOwnCause (IsDataFile self.old.owner self.old.shape) (IsErrOf result BundleFault.Disk) (D.view disk.old) (D.view disk.new) }
+        ensures broken { IsErrOf result BundleFault.Broken ↔ (self.old.is_broken ≡ true) }
+        ensures unchanged { IsErrOf result BundleFault.Broken → (self.new ≡ self.old) × (disk.new ≡ disk.old) }
+    {
+        self.check_whole()?;
+        if write_staged(disk, self.owner, &self.files).is_err() {
+            self.is_broken = true;
+            return Err(BundleFault::Disk);
+        }
+        Ok(())
+    }
+
+    /// The second step of a flush: writes the next entry into the journal's free slot, and syncs. Each crash image
+    /// holds what was committed before.
+    pub fn write_entry<D: Disk>(
+        &mut self,
+        disk: &mut D,
+        kind: u8,
+        count: u64,
+        elapsed: u64,
+        extra: u64,
+    ) -> Result<(), BundleFault>
+        requires represents { D.tells → self.old.is_broken ≡ false → Represents self.old (D.view disk.old) }
+        ensures prepared { OnOk result (self.new.prepared ≡ Some (next_body self.old kind count elapsed extra)) }
+        ensures kept { IsKept self.old self.new }
+        ensures whole { OnOk result (self.new.is_broken ≡ false) }
+        ensures any_moment { D.tells → self.old.is_broken ≡ false → Throughout (λ g. g ≡ journal_of self.old.owner) (KeepsCommitted self.old (D.view disk.old)) (D.view disk.old) (D.view disk.new) }
+        ensures written { D.tells → OnOk result (DataIsWritten self.old (D.view disk.old) → DataIsWritten self.new (D.view disk.new)) }
+        ensures represents { D.tells → self.new.is_broken ≡ false → Represents self.new (D.view disk.new) }
+        ensures synced { D.tells → OnOk result ((D.view disk.new).syncs (journal_of self.old.owner) ≡ (D.view disk.old).syncs (journal_of self.old.owner) + 1) }
+        ensures syncs { D.tells → SyncsAtMost 1 (λ g. g ≡ journal_of self.old.owner) (D.view disk.old) (D.view disk.new) }
+        ensures disk { IsErrOf result BundleFault.Disk → self.new.is_broken ≡ true }
+        ensures fault { IfErr result (λ e. (e ≡ BundleFault.Disk) ⊎ (e ≡ BundleFault.Broken)) }
+        ensures cause { HasOwnCause (IsOwn (journal_of self.old.owner)) (IsErrOf result BundleFault.Disk) (D.view disk.old) (D.view disk.new) }
+        ensures broken { IsErrOf result BundleFault.Broken ↔ (self.old.is_broken ≡ true) }
+        ensures unchanged { IsErrOf result BundleFault.Broken → (self.new ≡ self.old) × (disk.new ≡ disk.old) }
+    {
+        self.check_whole()?;
+        let body = self.next_body(kind, count, elapsed, extra);
+        if self.journal.write_slot(disk, body.encode()).is_err() {
+            self.is_broken = true;
+            return Err(BundleFault::Disk);
+        }
+        self.prepared = Some(body);
+        Ok(())
+    }
+
+    /// The third step of a flush: selects the entry that was written, and syncs. Its lengths are those of what is
+    /// staged, and that is written. Each crash image holds what was committed before or what is committed with it,
+    /// and after Ok the latter alone.
+    pub fn select_entry<D: Disk>(&mut self, disk: &mut D) -> Result<(), BundleFault>
+        requires represents { D.tells → self.old.is_broken ≡ false → Represents self.old (D.view disk.old) }
+        requires prepared { self.old.is_broken ≡ false → IsPrepared self.old }
+        requires written { D.tells → self.old.is_broken ≡ false → DataIsWritten self.old (D.view disk.old) }
+        ensures value { OnOk result ((body : Body) → self.old.prepared ≡ Some body → IsCommitted body (next_length self.old) self.old self.new) }
+        ensures kept { OnErr result (IsKept self.old self.new) }
+        ensures committed { D.tells → OnOk result ((body : Body) → self.old.prepared ≡ Some body → committed self.new (D.view disk.new) ≡ Some (committed_as self.old (D.view disk.old) body)) }
+        ensures any_moment { D.tells → self.old.is_broken ≡ false → (body : Body) → self.old.prepared ≡ Some body → Throughout (λ g. g ≡ journal_of self.old.owner)
+            (IsBeforeOrAfter self.old.owner self.old.shape (committed self.old (D.view disk.old)) (Some (committed_as self.old (D.view disk.old) body)))
+            (D.view disk.old) (D.view disk.new) }
+        ensures keeps { D.tells → self.old.is_broken ≡ false → Throughout (λ g. g ≡ journal_of self.old.owner)
+            (KeepsBytes self.old.owner self.old.shape (committed_bytes self.old (D.view disk.old))) (D.view disk.old) (D.view disk.new) }
+        ensures represents { D.tells → self.new.is_broken ≡ false → Represents self.new (D.view disk.new) }
+        ensures synced { D.tells → OnOk result ((D.view disk.new).syncs (journal_of self.old.owner) ≡ (D.view disk.old).syncs (journal_of self.old.owner) + 1) }
+        ensures syncs { D.tells → SyncsAtMost 1 (λ g. g ≡ journal_of self.old.owner) (D.view disk.old) (D.view disk.new) }
+        ensures disk { IsErrOf result BundleFault.Disk → self.new.is_broken ≡ true }
+        ensures fault { IfErr result (λ e. (e ≡ BundleFault.Disk) ⊎ (e ≡ BundleFault.Broken)) }
+        ensures cause { HasOwnCause (IsOwn (journal_of self.old.owner)) (IsErrOf result BundleFault.Disk) (D.view disk.old) (D.view disk.new) }
+        ensures broken { IsErrOf result BundleFault.Broken ↔ (self.old.is_broken ≡ true) }
+        ensures unchanged { IsErrOf result BundleFault.Broken → (self.new ≡ self.old) × (disk.new ≡ disk.old) }
+    {
+        self.check_whole()?;
+        if self.journal.select(disk).is_err() {
+            self.is_broken = true;
+            return Err(BundleFault::Disk);
+        }
+        self.last = self.prepared;
+        self.prepared = None;
+        self.commit_files();
+        Ok(())
+    }
+
+    /// Commits what is staged, and adds one entry, also where nothing is staged: all data is written and synced, then
+    /// the entry is written, then it is selected. At every moment a crash leaves what was committed before or what is
+    /// committed now, and after Ok the latter alone. `Disk` only where a device call on a file of this bundle failed;
+    /// from then on `Broken`, until it is opened again. It takes no memory.
+    pub fn flush<D: Disk>(
+        &mut self,
+        disk: &mut D,
+        kind: u8,
+        count: u64,
+        elapsed: u64,
+        extra: u64,
+    ) -> Result<(), BundleFault>
+        requires represents { D.tells → self.old.is_broken ≡ false → Represents self.old (D.view disk.old) }
+        ensures value { OnOk result (IsCommitted (next_body self.old kind count elapsed extra) (next_length self.old) self.old self.new) }
+        ensures kept { OnErr result (IsKept self.old self.new) }
+        ensures committed { D.tells → OnOk result (committed self.new (D.view disk.new) ≡ Some (committed_next self.old (D.view disk.old) kind count elapsed extra)) }
+        ensures acknowledged { D.tells → OnOk result ((image : Image) → IsOwnImage self.old.owner self.old.shape (D.view disk.new) image
+            → HoldsEntry self.old.owner self.old.shape (committed_next self.old (D.view disk.old) kind count elapsed extra) image) }
+        ensures any_moment { D.tells → self.old.is_broken ≡ false → Throughout (IsWritable self.old.owner self.old.shape)
+            (IsBeforeOrAfter self.old.owner self.old.shape (committed self.old (D.view disk.old)) (Some (committed_next self.old (D.view disk.old) kind count elapsed extra)))
+            (D.view disk.old) (D.view disk.new) }
+        ensures keeps { D.tells → self.old.is_broken ≡ false → Throughout (IsWritable self.old.owner self.old.shape)
+            (KeepsBytes self.old.owner self.old.shape (committed_bytes self.old (D.view disk.old))) (D.view disk.old) (D.view disk.new) }
+        ensures below { D.tells → self.old.is_broken ≡ false → (part : Part) → IsPart self.old.shape part
+            → committed_bytes self.old (D.view disk.new) part ≡ committed_bytes self.old (D.view disk.old) part }
+        ensures represents { D.tells → self.new.is_broken ≡ false → Represents self.new (D.view disk.new) }
+        ensures synced { D.tells → OnOk result (SyncsStaged self.old (D.view disk.old) (D.view disk.new)) }
+        ensures journal_synced { D.tells → OnOk result ((D.view disk.new).syncs (journal_of self.old.owner) ≡ (D.view disk.old).syncs (journal_of self.old.owner) + 2) }
+        ensures syncs { D.tells → SyncsOfFlush self.old (D.view disk.old) (D.view disk.new) }
+        ensures disk { IsErrOf result BundleFault.Disk → self.new.is_broken ≡ true }
+        ensures fault { IfErr result (λ e. (e ≡ BundleFault.Disk) ⊎ (e ≡ BundleFault.Broken)) }
+        ensures cause { HasOwnCause (IsOwnFile self.old.owner self.old.shape) (IsErrOf result BundleFault.Disk) (D.view disk.old) (D.view disk.new) }
+        ensures broken { IsErrOf result BundleFault.Broken ↔ (self.old.is_broken ≡ true) }
+        ensures unchanged { IsErrOf result BundleFault.Broken → (self.new ≡ self.old) × (disk.new ≡ disk.old) }
+    {
+        self.write_data(disk)?;
+        self.write_entry(disk, kind, count, elapsed, extra)?;
+        self.select_entry(disk)
+    }
+
+    /// Adds one entry, of kind 2, that commits so many bytes of each data file, none more than before, and writes to
+    /// no data file. Nothing is staged. At every moment a crash leaves what was committed before or what is now, and
+    /// after Ok the latter alone. The faults are those of `flush`, `Disk` only where a device call on a file of the
+    /// journal failed. It takes no memory.
+    pub fn cut<D: Disk>(
+        &mut self,
+        disk: &mut D,
+        lens: [u64; 8],
+        count: u64,
+        elapsed: u64,
+        extra: u64,
+    ) -> Result<(), BundleFault>
+        requires represents { D.tells → self.old.is_broken ≡ false → Represents self.old (D.view disk.old) }
+        requires none_staged { NoneStaged self.old }
+        requires none_grows { (index : ℕ) → slice_index lens index ≤ slice_index (lengths_of self.old) index }
+        ensures value { OnOk result (IsCommitted (cut_body lens count elapsed extra) (λ part. slice_index lens (index_of part)) self.old self.new) }
+        ensures kept { OnErr result (IsKept self.old self.new) }
+        ensures committed { D.tells → OnOk result (committed self.new (D.view disk.new) ≡ Some (committed_cut self.old (D.view disk.old) lens count elapsed extra)) }
+        ensures acknowledged { D.tells → OnOk result ((image : Image) → IsOwnImage self.old.owner self.old.shape (D.view disk.new) image
+            → HoldsEntry self.old.owner self.old.shape (committed_cut self.old (D.view disk.old) lens count elapsed extra) image) }
+        ensures any_moment { D.tells → self.old.is_broken ≡ false → Throughout (λ g. g ≡ journal_of self.old.owner)
+            (IsBeforeOrAfter self.old.owner self.old.shape (committed self.old (D.view disk.old)) (Some (committed_cut self.old (D.view disk.old) lens count elapsed extra)))
+            (D.view disk.old) (D.view disk.new) }
+        ensures keeps { D.tells → self.old.is_broken ≡ false → Throughout (λ g. g ≡ journal_of self.old.owner)
+            (KeepsBytes self.old.owner self.old.shape (committed_bytes self.old (D.view disk.old))) (D.view disk.old) (D.view disk.new) }
+        ensures represents { D.tells → self.new.is_broken ≡ false → Represents self.new (D.view disk.new) }
+        ensures synced { D.tells → OnOk result ((D.view disk.new).syncs (journal_of self.old.owner) ≡ (D.view disk.old).syncs (journal_of self.old.owner) + 2) }
+        ensures syncs { D.tells → SyncsAtMost 2 (λ g. g ≡ journal_of self.old.owner) (D.view disk.old) (D.view disk.new) }
+        ensures disk { IsErrOf result BundleFault.Disk → self.new.is_broken ≡ true }
+        ensures fault { IfErr result (λ e. (e ≡ BundleFault.Disk) ⊎ (e ≡ BundleFault.Broken)) }
+        ensures cause { HasOwnCause (IsOwn (journal_of self.old.owner)) (IsErrOf result BundleFault.Disk) (D.view disk.old) (D.view disk.new) }
+        ensures broken { IsErrOf result BundleFault.Broken ↔ (self.old.is_broken ≡ true) }
+        ensures unchanged { IsErrOf result BundleFault.Broken → (self.new ≡ self.old) × (disk.new ≡ disk.old) }
+    {
+        self.check_whole()?;
+        let body = Body::new(CUT, count, elapsed, lens, extra);
+        if self.journal.append(disk, body.encode()).is_err() {
+            self.is_broken = true;
+            return Err(BundleFault::Disk);
+        }
+        self.last = Some(body);
+        self.prepared = None;
+        self.cut_files(&lens);
+        Ok(())
+    }
+}
