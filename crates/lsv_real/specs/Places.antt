@@ -5,7 +5,7 @@ use Rattle.lsv_disk.specs.declared.file.FileId.{FileId}
 use Rattle.lsv_disk.specs.declared.file.Owner.{Owner}
 use Rattle.lsv_disk.specs.declared.file.Owner.TheVariants.{Log, Events, Numbers, Relay}
 use Rattle.lsv_disk.specs.declared.file.Part.{Part}
-use Rattle.lsv_disk.specs.declared.file.Part.TheVariants.{Head, Exit, Timing, Stdin, Stdout, Stderr, Ttyin, Ttyout, Lines, Id, Commit}
+use Rattle.lsv_disk.specs.declared.file.Part.TheVariants.{Head, Exit, Timing, Stdin, Stdout, Stderr, Ttyin, Ttyout, Lines, Id, Commit, Slots}
 
 -- the name of a file of a log, where a log has such a file
 abbrev pub log_name : Part → Option (List ℕ)
@@ -18,6 +18,7 @@ log_name Stderr = Some (codes "stderr")
 log_name Ttyin = Some (codes "ttyin")
 log_name Ttyout = Some (codes "ttyout")
 log_name Commit = Some (codes "commit")
+log_name Slots = Some (codes "slots")
 log_name Lines = None
 log_name Id = None
 
@@ -25,6 +26,7 @@ log_name Id = None
 abbrev pub relay_name : Part → Option (List ℕ)
 relay_name Id = Some (codes "relay")
 relay_name Commit = Some (codes "relay.commit")
+relay_name Slots = Some (codes "relay.slots")
 relay_name _ = None
 
 -- log numbers are those with six digits in base 36 that aren't 0
@@ -36,9 +38,11 @@ abbrev pub owner_has : Owner → Part → Bool
 owner_has (Log n) part = is_log_number n && is_some (log_name part)
 owner_has (Relay n) part = is_log_number n && is_some (relay_name part)
 owner_has (Numbers lane) Commit = true
+owner_has (Numbers lane) Slots = true
 owner_has (Numbers lane) part = false
 owner_has (Events lane) Lines = true
 owner_has (Events lane) Commit = true
+owner_has (Events lane) Slots = true
 owner_has (Events lane) part = false
 
 -- the store has such a file
@@ -48,3 +52,9 @@ has_place f = owner_has f.owner f.part
 -- a path, of a lane above 0 with its number behind it
 abbrev pub lane_path : List ℕ → ℕ → List ℕ
 lane_path path lane = if nat_eq lane 0 then path else path ++ codes "." ++ decimal lane
+
+-- the path of a file of the event log, whose lines stand at that path
+abbrev pub events_path : List ℕ → Part → List ℕ
+events_path path Commit = path ++ codes ".commit"
+events_path path Slots = path ++ codes ".slots"
+events_path path _ = path

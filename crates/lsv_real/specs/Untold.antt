@@ -1,7 +1,15 @@
 -- What is known of a disk that tells nothing.
-use Rattle.std.specs.Prelude.{None}
-use Rattle.lsv_disk.specs.State.{DiskState}
+use Rattle.std.specs.Prelude.{ℕ, None}
+use Rattle.lsv_disk.specs.View.{DiskView}
 
--- no file is known, at no moment
-abbrev pub untold : DiskState
-untold = record { reads = λ f. None; may_leave = λ f c. ⊥; moment = 0; left_at = λ k image. ⊥ }
+-- no file is known, at no moment; so often calls have failed
+abbrev pub untold : ℕ → DiskView
+untold count = record {
+  reads = λ f. None;
+  crash_states = λ f c. ⊥;
+  moment = 0;
+  crash_images_at = λ k image. ⊥;
+  faults = λ f. count;
+  syncs = λ f. 0;
+  places = None;
+}

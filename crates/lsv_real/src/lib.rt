@@ -1,13 +1,15 @@
 //! The trusted edge: the real disk, standard input and standard output. They tell no content, and count their faults.
 #![tactic(auto)]
 
+mod call;
 mod disk;
 mod folders;
 mod path;
+mod span;
+mod store;
 mod streams;
+mod unsynced;
 
 pub use disk::FileDisk;
 pub use streams::{StdSink, StdSource};
-
-#[cfg(test)]
-mod tests;
+pub use unsynced::{SyncedFile, Unsynced};

@@ -1,7 +1,6 @@
 // Where the files of the store stand.
 ghost use Rattle.std.specs.Prelude.{◌≡◌, ◌&&◌, ◌++◌, IfOk, is_some, option_map, codes, string_bytes};
-ghost use Rattle.lsv_disk.specs.declared.file.Part.TheVariants.{Commit};
-ghost use Rattle.lsv_real.specs.Places.{has_place, is_log_number, lane_path, log_name, relay_name};
+ghost use Rattle.lsv_real.specs.Places.{has_place, is_log_number, lane_path, events_path, log_name, relay_name};
 
 use lsv_base::LogNo;
 use lsv_disk::{FileId, Owner, Part};
@@ -22,6 +21,17 @@ pub struct Place {
 }
 
 impl Places {
+    /// Copies of both.
+    pub fn new(alloc: Global, dir: &str, events: &str) -> Result<Self, AllocError>
+        ensures dir { IfOk result (λ places. string_bytes places.dir ≡ dir.now) }
+        ensures events { IfOk result (λ places. string_bytes places.events ≡ events.now) }
+    {
+        Ok(Places {
+            dir: String::from_str(alloc, dir)?,
+            events: String::from_str(alloc, events)?,
+        })
+    }
+
     /// None where the store has no such file: its owner has none of that part, or its number is that of no log.
     pub fn place_of(&self, alloc: Global, f: FileId) -> Result<Option<Place>, AllocError>
         ensures { IfOk result (λ place. is_some place ≡ has_place f) }
@@ -30,9 +40,12 @@ impl Places {
             (Owner::Log(n), part) => self.in_log(alloc, n, log_name(part)),
             (Owner::Relay(n), part) => self.in_log(alloc, n, relay_name(part)),
             (Owner::Numbers(lane), Part::Commit) => {
-                Ok(Some(numbers_place(alloc, self.dir.as_str(), lane)?))
+                Ok(Some(numbers_place(alloc, self.dir.as_str(), "seq", lane)?))
             }
-            (Owner::Events(lane), Part::Lines | Part::Commit) => {
+            (Owner::Numbers(lane), Part::Slots) => {
+                Ok(Some(numbers_place(alloc, self.dir.as_str(), "seq2", lane)?))
+            }
+            (Owner::Events(lane), Part::Lines | Part::Commit | Part::Slots) => {
                 let text = lane_path(alloc, self.events.as_str(), lane)?;
                 Ok(Some(events_place(alloc, text, f.part)?))
             }
@@ -73,6 +86,7 @@ fn log_name(part: Part) -> Option<&'static str>
         Part::Ttyin => Some("ttyin"),
         Part::Ttyout => Some("ttyout"),
         Part::Commit => Some("commit"),
+        Part::Slots => Some("slots"),
         Part::Lines | Part::Id => None,
     }
 }
@@ -84,6 +98,7 @@ fn relay_name(part: Part) -> Option<&'static str>
     match part {
         Part::Id => Some("relay"),
         Part::Commit => Some("relay.commit"),
+        Part::Slots => Some("relay.slots"),
         _ => None,
     }
 }
@@ -99,25 +114,26 @@ fn lane_path(alloc: Global, path: &str, lane: u32) -> Result<String, AllocError>
     }
 }
 
-fn numbers_place(alloc: Global, dir: &str, lane: u32) -> Result<Place, AllocError>
-    ensures { IfOk result (λ p. string_bytes p.path ≡ lane_path (dir.now ++ codes "/seq") lane) }
+fn numbers_place(alloc: Global, dir: &str, name: &str, lane: u32) -> Result<Place, AllocError>
+    ensures { IfOk result (λ p. string_bytes p.path ≡ lane_path (dir.now ++ codes "/" ++ name.now) lane) }
 {
-    let seq = format!(in alloc; "{dir}/seq")?;
-    let path = lane_path(alloc, seq.as_str(), lane)?;
+    let numbers = format!(in alloc; "{dir}/{name}")?;
+    let path = lane_path(alloc, numbers.as_str(), lane)?;
     let folder = String::from_str(alloc, dir)?;
     Ok(Place { folder, path })
 }
 
 fn events_place(alloc: Global, text: String, part: Part) -> Result<Place, AllocError>
-    ensures commit { part ≡ Commit → IfOk result (λ p. string_bytes p.path ≡ string_bytes text ++ codes ".commit") }
-    ensures lines { (part ≡ Commit → ⊥) → IfOk result (λ p. string_bytes p.path ≡ string_bytes text) }
+    ensures { IfOk result (λ p. string_bytes p.path ≡ events_path (string_bytes text) part) }
 {
     let folder = match text.as_str().rsplit_once('/') {
+        Some(("", _)) => String::from_str(alloc, "/")?,
         Some((folder, _)) => String::from_str(alloc, folder)?,
         None => String::from_str(alloc, ".")?,
     };
     let path = match part {
         Part::Commit => format!(in alloc; "{text}.commit")?,
+        Part::Slots => format!(in alloc; "{text}.slots")?,
         _ => text,
     };
     Ok(Place { folder, path })

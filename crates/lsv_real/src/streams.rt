@@ -1,8 +1,12 @@
 // Standard input and output. They tell no content, and count their faults.
-ghost use Rattle.std.specs.Prelude.{[], ◌≡◌, ◌<◌, ◌^◌};
+ghost use Rattle.std.specs.Prelude.{[], ◌≡◌, ◌≤◌, ◌<◌, ◌^◌, IfOk, length};
 
 use lsv_base::{Sink, SinkFault, Source, SourceFault};
-use std::io::{Print, Read};
+use std::io;
+use std::io::{ErrorKind, Print, Read};
+
+/// After so many signals in a row a read is a fault.
+const MOST_INTERRUPTS: u32 = 1024;
 
 /// A source gives no more bytes than this.
 const LAST_COUNT: u64 = (1 << 63) - 1;
@@ -42,7 +46,7 @@ impl Source for StdSource {
 
     fn read(&mut self, buf: &mut [u8]) -> Result<usize, SourceFault> {
         let most = (LAST_COUNT - self.count).min(buf.len() as u64) as usize;
-        match self.rt.stdin().read(&mut buf[..most]) {
+        match read_input(&self.rt, &mut buf[..most]) {
             Ok(n) => {
                 self.count += n as u64;
                 Ok(n)
@@ -53,6 +57,19 @@ impl Source for StdSource {
             }
         }
     }
+}
+
+/// Reads standard input; a read that a signal interrupted is tried again.
+fn read_input(rt: &HostRuntime, buf: &mut [u8]) -> io::Result<usize>
+    ensures { IfOk result (λ n. n ≤ length buf.old) }
+{
+    for _ in 0..MOST_INTERRUPTS {
+        match rt.stdin().read(buf) {
+            Err(e) if e.kind() == ErrorKind::Interrupted => {}
+            answer => return answer,
+        }
+    }
+    Err(ErrorKind::Interrupted.into())
 }
 
 /// Standard output.

@@ -37,17 +37,18 @@ fn run(rt: HostRuntime) -> Status {
     let mut out = Outside {
         source: StdSource::new(rt),
         sink: StdSink::new(rt),
-        disk: FileDisk::new(rt),
+        disk: FileDisk::new(rt, "sudo_logsrvd"),
     };
     logsrvd(alloc, &words, &mut out)
 }
 
-/// Prints why the run failed, where it did and memory is there for the text.
+/// Prints why the run failed, where it did.
 fn tell(rt: &HostRuntime, status: Status) {
     if status == Status::Served {
         return;
     }
     let Ok(text) = status.text(rt.alloc()) else {
+        let _ = eprintln!(rt; "sudo_logsrvd: out of memory");
         return;
     };
     if let Ok(text) = str::from_utf8(text.as_slice()) {

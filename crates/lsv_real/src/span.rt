@@ -1,0 +1,36 @@
+ghost use Rattle.std.specs.Prelude.{◌≡◌, ◌≤◌, min, max};
+
+/// The bytes of a file, from one offset to another, that were written since its last sync that succeeded.
+#[derive(Clone, Copy)]
+pub struct Span {
+    pub from: u64,
+    pub to: u64,
+    /// A sync failed since: the system may have let these bytes go, and a later sync of it may say Ok all the same.
+    pub failed: bool,
+}
+
+impl Span {
+    /// The bytes of one write.
+    pub fn of(at: u64, count: usize) -> Self
+        ensures from { result.from ≡ at }
+        ensures ordered { result.from ≤ result.to }
+    {
+        Span {
+            from: at,
+            to: at.saturating_add(count as u64),
+            failed: false,
+        }
+    }
+
+    /// Both, and what lies between.
+    pub fn with(self, other: Span) -> Self
+        ensures from { result.from ≡ min self.from other.from }
+        ensures to { result.to ≡ max self.to other.to }
+    {
+        Span {
+            from: self.from.min(other.from),
+            to: self.to.max(other.to),
+            failed: self.failed || other.failed,
+        }
+    }
+}

@@ -1,0 +1,259 @@
+// The files of a store, behind its lock.
+ghost use Rattle.std.specs.Prelude.{◌≤◌, IfOk, length};
+
+use crate::folders::Folders;
+use crate::path::{Place, Places};
+use crate::unsynced::Unsynced;
+use lru::LruCache;
+use lsv_disk::{FileId, Owner, Part};
+use std::alloc::{AllocError, Global};
+use std::fs::{File, OpenOptions, Permissions, TryLockError};
+use std::io;
+use std::io::ErrorKind;
+use std::num::NonZeroUsize;
+use std::os::unix::fs::{FileExt, OpenOptionsExt, PermissionsExt};
+
+/// So many files are kept open: a log has nine, and a process has 1,024 descriptors by default.
+const MOST_OPEN: usize = 512;
+
+/// Whoever runs the server may read and write its files, and nobody else.
+const MODE: u32 = 0o600;
+
+/// Why a store can't be used.
+#[derive(Drop)]
+pub enum StoreFault {
+    /// Another server has its lock.
+    InUse,
+    Io(io::Error),
+}
+
+impl From<io::Error> for StoreFault {
+    fn from(e: io::Error) -> Self {
+        StoreFault::Io(e)
+    }
+}
+
+impl From<AllocError> for StoreFault {
+    fn from(e: AllocError) -> Self {
+        StoreFault::Io(e.into())
+    }
+}
+
+/// The files of a store. While it stands, nobody else has its lock.
+#[derive(Drop)]
+pub struct Store {
+    rt: HostRuntime,
+    alloc: Global,
+    places: Places,
+    folders: Folders,
+    handles: LruCache<FileId, File>,
+    unsynced: Unsynced,
+    _lock: File,
+}
+
+impl Store {
+    /// Makes the folder of the logs where it is lacking, and takes the lock in it.
+    pub fn open(rt: HostRuntime, dir: &str, events: &str) -> Result<Store, StoreFault> {
+        let alloc = rt.alloc();
+        let places = Places::new(alloc, dir, events)?;
+        let mut folders = Folders::new(rt);
+        folders.make(dir)?;
+        let lock = take_lock(&rt, alloc, dir)?;
+        let Some(most) = NonZeroUsize::new(MOST_OPEN) else {
+            return Err(StoreFault::Io(ErrorKind::InvalidInput.into()));
+        };
+        let handles = match LruCache::new(alloc, most) {
+            Ok(handles) => handles,
+            Err(_) => return Err(StoreFault::Io(ErrorKind::OutOfMemory.into())),
+        };
+        Ok(Store {
+            rt,
+            alloc,
+            places,
+            folders,
+            handles,
+            unsynced: Unsynced::new(alloc),
+            _lock: lock,
+        })
+    }
+
+    /// The folder and the path of a file.
+    pub fn place_of(&self, f: FileId) -> io::Result<Place> {
+        match self.places.place_of(self.alloc, f)? {
+            Some(place) => Ok(place),
+            None => Err(ErrorKind::InvalidInput.into()),
+        }
+    }
+
+    /// Makes an empty file, and waits until it is on the disk with its name.
+    pub fn make(&mut self, f: FileId) -> io::Result<()> {
+        let place = self.place_of(f)?;
+        self.folders.make(place.folder.as_str())?;
+        self.folders.change(place.folder.as_str());
+        let file = make_file(&self.rt, place.path.as_str())?;
+        file.sync_all()?;
+        self.folders.sync(place.folder.as_str())?;
+        self.keep(f, file)
+    }
+
+    /// Makes empty files of one owner, and waits until they are on the disk with their names, which all stand in
+    /// one folder.
+    pub fn make_all(&mut self, owner: Owner, parts: &[Part]) -> io::Result<()> {
+        let [first, ..] = parts else {
+            return Ok(());
+        };
+        let folder = self.place_of(FileId::new(owner, *first))?.folder;
+        self.folders.make(folder.as_str())?;
+        self.folders.change(folder.as_str());
+        for part in parts {
+            let f = FileId::new(owner, *part);
+            let place = self.place_of(f)?;
+            let file = make_file(&self.rt, place.path.as_str())?;
+            self.keep(f, file)?;
+        }
+        self.folders.sync(folder.as_str())?;
+        for part in parts {
+            self.sync_made(FileId::new(owner, *part))?;
+        }
+        Ok(())
+    }
+
+    fn sync_made(&mut self, f: FileId) -> io::Result<()> {
+        if !self.is_open(f)? {
+            return Err(ErrorKind::NotFound.into());
+        }
+        match self.handles.get(&f) {
+            Some(file) => file.sync_all(),
+            None => Err(ErrorKind::NotFound.into()),
+        }
+    }
+
+    /// How many bytes a file has, None where there is none.
+    pub fn length(&mut self, f: FileId) -> io::Result<Option<u64>> {
+        if !self.is_open(f)? {
+            return Ok(None);
+        }
+        match self.handles.get(&f) {
+            Some(file) => Ok(Some(file.metadata()?.len())),
+            None => Ok(None),
+        }
+    }
+
+    /// Reads as many bytes as there are and as the buffer takes.
+    pub fn read(&mut self, f: FileId, at: u64, buf: &mut [u8]) -> io::Result<usize>
+        ensures { IfOk result (λ n. n ≤ length buf.old) }
+    {
+        if !self.is_open(f)? {
+            return Ok(0);
+        }
+        match self.handles.get(&f) {
+            Some(file) => read_from(file, at, buf),
+            None => Ok(0),
+        }
+    }
+
+    /// Writes, and remembers what is to be synced.
+    pub fn write(&mut self, f: FileId, at: u64, bytes: &[u8]) -> io::Result<()> {
+        if !self.is_open(f)? {
+            return Err(ErrorKind::NotFound.into());
+        }
+        self.unsynced.note(f, at, bytes.len())?;
+        match self.handles.get(&f) {
+            Some(file) => file.write_all_at(bytes, at),
+            None => Err(ErrorKind::NotFound.into()),
+        }
+    }
+
+    /// Waits until what was written is on the disk. A file that wasn't made in this run may have been made by a
+    /// program that was killed, so its folder is synced with it, once.
+    pub fn sync(&mut self, f: FileId) -> io::Result<()> {
+        if !self.is_open(f)? {
+            return Ok(());
+        }
+        let folder = self.place_of(f)?.folder;
+        self.folders.sync_once(folder.as_str())?;
+        match self.handles.get(&f) {
+            Some(file) => self.unsynced.sync(f, file),
+            None => Err(ErrorKind::NotFound.into()),
+        }
+    }
+
+    /// Whether a file is open, and so is there.
+    fn is_open(&mut self, f: FileId) -> io::Result<bool> {
+        if self.handles.get(&f).is_some() {
+            return Ok(true);
+        }
+        let place = self.place_of(f)?;
+        let opened = OpenOptions::new()
+            .read(true)
+            .write(true)
+            .open(&self.rt, place.path.as_str());
+        match opened {
+            Ok(file) => {
+                self.keep(f, file)?;
+                Ok(true)
+            }
+            Err(e) if e.kind() == ErrorKind::NotFound => Ok(false),
+            Err(e) => Err(e),
+        }
+    }
+
+    /// Keeps a file open. The one that was not used for longest is closed where there are too many, and synced before
+    /// where something was written to it: a failure then is that file's, and told at its next sync.
+    fn keep(&mut self, f: FileId, file: File) -> io::Result<()> {
+        if self.handles.len() >= MOST_OPEN {
+            if let Some((oldest, file)) = self.handles.pop_lru() {
+                if self.unsynced.has(oldest) {
+                    let _ = self.unsynced.sync(oldest, &file);
+                }
+            }
+        }
+        match self.handles.put(f, file) {
+            Ok(_) => Ok(()),
+            Err(_) => Err(ErrorKind::OutOfMemory.into()),
+        }
+    }
+}
+
+/// Takes the lock of a store, which the system lets go when the program ends.
+fn take_lock(rt: &HostRuntime, alloc: Global, dir: &str) -> Result<File, StoreFault> {
+    let path = format!(in alloc; "{dir}/lock")?;
+    let lock = OpenOptions::new()
+        .read(true)
+        .write(true)
+        .create(true)
+        .mode(MODE)
+        .open(rt, path.as_str())?;
+    match lock.try_lock() {
+        Ok(()) => Ok(lock),
+        Err(TryLockError::WouldBlock) => Err(StoreFault::InUse),
+        Err(TryLockError::Error(e)) => Err(StoreFault::Io(e)),
+    }
+}
+
+/// Makes an empty file, which nobody else may read, whatever the umask.
+fn make_file(rt: &HostRuntime, path: &str) -> io::Result<File> {
+    let file = OpenOptions::new()
+        .read(true)
+        .write(true)
+        .create_new(true)
+        .mode(MODE)
+        .open(rt, path)?;
+    file.set_permissions(Permissions::from_mode(MODE))?;
+    Ok(file)
+}
+
+/// Reads as many bytes as there are and as the buffer takes.
+fn read_from(file: &File, at: u64, buf: &mut [u8]) -> io::Result<usize>
+    ensures { IfOk result (λ n. n ≤ length buf.old) }
+{
+    let mut done = 0;
+    while done < buf.len() {
+        match file.read_at(&mut buf[done..], at.saturating_add(done as u64)) {
+            Ok(0) => return Ok(done),
+            Ok(n) => done += n,
+            Err(e) => return Err(e),
+        }
+    }
+    Ok(done)
+}
