@@ -1,5 +1,6 @@
 -- Log numbers as six digits in base 36, which name the folders of the logs.
-use Rattle.std.specs.Prelude.{ℕ, ◌+◌, ◌-◌, ◌*◌, ◌/◌, ◌%◌, ◌≤◌, ◌≡◌, ◌⊎◌, List, [], ◌∷◌, length, All, fold, nat_lt, if◌then◌else◌}
+use Rattle.std.specs.Prelude.{ℕ, ◌+◌, ◌-◌, ◌*◌, ◌/◌, ◌%◌, ◌≤◌, ◌≡◌, ◌⊎◌, List, [], ◌∷◌, length, All, fold, Option, Some, None, Bool, ◌&&◌, ◌||◌, ◌==◌, nat_lt, nat_le, if◌then◌else◌}
+use Rattle.std.specs.List.{list_all}
 
 -- the byte of a digit below 36: 0 to 9, then A to Z
 abbrev pub digit_byte : ℕ → ℕ
@@ -27,3 +28,11 @@ pub record IsLogText (text : List ℕ) : Type 0 where
   pub six : length text ≡ 6
   pub digits : All IsDigit text
   pub counted : 1 ≤ number_of text
+
+-- whether a byte is a digit
+abbrev pub is_digit : ℕ → Bool
+is_digit byte = (nat_le 48 byte && nat_le byte 57) || (nat_le 65 byte && nat_le byte 90)
+
+-- the log number of which a text is the six digits, where it is that of one
+abbrev pub log_no_in : List ℕ → Option ℕ
+log_no_in text = if (length text == 6) && list_all is_digit text && nat_le 1 (number_of text) then Some (number_of text) else None

@@ -1,5 +1,5 @@
 -- Times as sudo_logsrv.proto(5) has them: seconds and nanoseconds, each with a sign.
-use Rattle.std.specs.Prelude.{ℕ, ℤ, pos, ◌+◌, ◌*◌, ◌^◌, Option, Some, None, ◌&&◌, nat_lt, if◌then◌else◌}
+use Rattle.std.specs.Prelude.{ℕ, ℤ, pos, ◌+◌, ◌*◌, ◌/◌, ◌%◌, ◌^◌, Option, Some, None, ◌&&◌, nat_lt, if◌then◌else◌}
 use Rattle.lsv_base.specs.declared.time.TimeSpec.{TimeSpec}
 
 -- the nanoseconds of so many seconds and nanoseconds, where these are below 10 ^ 9 and all of it below 2 ^ 63
@@ -14,3 +14,7 @@ nanos_of_parts _ _ = None
 -- the value of a time in nanoseconds, where it is a valid time
 abbrev pub nanos_of : TimeSpec → Option ℕ
 nanos_of t = nanos_of_parts t.sec t.nsec
+
+-- so many nanoseconds as a time, its second part below 10 ^ 9
+abbrev pub time_of : ℕ → TimeSpec
+time_of nanos = record { sec = pos (nanos / 1000000000); nsec = pos (nanos % 1000000000) }

@@ -15,14 +15,12 @@ mod point;
 mod script;
 mod sink;
 mod source;
-#[cfg(test)]
-mod tests;
 mod texts;
 mod time;
 
 pub use bytes::Bytes;
 pub use clock::Clock;
-pub use list::List;
+pub use list::{List, copy_numbers, copy_texts};
 pub use log_no::{LogNo, digits_are_read_back};
 pub use mem_clock::MemClock;
 pub use mem_sink::MemSink;
@@ -34,4 +32,4 @@ pub use script::Script;
 pub use sink::{Sink, SinkFault};
 pub use source::{Source, SourceFault};
 pub use texts::{TextFault, Texts};
-pub use time::TimeSpec;
+pub use time::{TimeSpec, nanoseconds_are_one_time};

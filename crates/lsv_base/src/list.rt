@@ -1,6 +1,6 @@
-ghost use Rattle.std.specs.Prelude.{◌≡◌, [], ◌∷◌, ◌++◌, IfErr, OnOk, OnErr};
+ghost use Rattle.std.specs.Prelude.{◌≡◌, [], ◌∷◌, ◌++◌, IfOk, IfErr, OnOk, OnErr};
 
-use crate::NoMem;
+use crate::{Bytes, NoMem};
 use std::alloc::Global;
 use std::marker::Model;
 
@@ -59,4 +59,22 @@ impl<T> List<T> {
     {
         self.items
     }
+}
+
+/// A copy of these texts.
+pub fn copy_texts(alloc: Global, texts: &[Bytes]) -> Result<List<Bytes>, NoMem>
+    ensures { IfOk result (λ copy. copy ≡ texts.now) }
+{
+    let mut copy = Vec::with_capacity(alloc, texts.len())?;
+    for text in texts {
+        copy.push(text.copy(alloc)?)?;
+    }
+    Ok(List::from_vec(copy))
+}
+
+/// A copy of these numbers.
+pub fn copy_numbers(alloc: Global, numbers: &[i64]) -> Result<List<i64>, NoMem>
+    ensures { IfOk result (λ copy. copy ≡ numbers.now) }
+{
+    Ok(List::from_vec(numbers.to_vec(alloc)?))
 }

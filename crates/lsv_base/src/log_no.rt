@@ -1,5 +1,5 @@
-ghost use Rattle.std.specs.Prelude.{◌≡◌, ℕ, ◌+◌, ◌<◌, ◌≤◌, ◌%◌, List, SomeIff};
-ghost use Rattle.lsv_base.specs.LogNo.{digit_byte, digit_value, IsDigit, digits_of, number_of, IsLogText};
+ghost use Rattle.std.specs.Prelude.{◌≡◌, ℕ, ◌+◌, ◌<◌, ◌≤◌, ◌%◌, List, Some, SomeIff};
+ghost use Rattle.lsv_base.specs.LogNo.{digit_byte, digit_value, IsDigit, digits_of, number_of, IsLogText, log_no_in};
 
 use std::marker::Model;
 
@@ -60,19 +60,28 @@ impl LogNo {
         ]
     }
 
-    /// The log number with these six digits. Small letters aren't digits, and 000000 is no log number.
+    /// The log number with these six digits. None where the text isn't six of them: small letters aren't digits, and
+    /// 000000 is no log number.
     pub fn read(text: &[u8]) -> Option<Self>
-        ensures { SomeIff result (IsLogText text.now) (number_of text.now) }
+        ensures digits { SomeIff result (IsLogText text.now) (number_of text.now) }
+        ensures computed { result ≡ log_no_in text.now }
     {
-        if text.len() != 6 {
-            return None;
-        }
-        let mut number = 0;
-        for byte in text {
-            number = BASE * number + value_of_digit(*byte)?;
-        }
-        LogNo::new(number)
+        number_in(text)
     }
+}
+
+/// The log number with these six digits.
+fn number_in(text: &[u8]) -> Option<LogNo>
+    ensures { SomeIff result (IsLogText text.now) (number_of text.now) }
+{
+    if text.len() != 6 {
+        return None;
+    }
+    let mut number = 0;
+    for byte in text {
+        number = BASE * number + value_of_digit(*byte)?;
+    }
+    LogNo::new(number)
 }
 
 /// The last digit of a number in base 36.
@@ -105,4 +114,6 @@ pub fn digits_are_read_back()
     ensures number { (n : ℕ) → n ≤ 2176782335 → number_of (digits_of n) ≡ n }
     ensures digits { (text : List ℕ) → IsLogText text → digits_of (number_of text) ≡ text }
     ensures last { (text : List ℕ) → IsLogText text → number_of text ≤ 2176782335 }
+    ensures computed { (n : ℕ) → 1 ≤ n → n ≤ 2176782335 → log_no_in (digits_of n) ≡ Some n }
+    ensures only { (text : List ℕ) (n : ℕ) → log_no_in text ≡ Some n → IsLogText text × (n ≡ number_of text) }
 {}

@@ -1,5 +1,5 @@
 ghost use Rattle.std.specs.Prelude.{◌≡◌, ℕ, ◌≤◌, List, Option, IfOk, OnOk, OnErr, IsErr, IsErrOf, find};
-ghost use Rattle.lsv_words.specs.Causes.{Rose};
+ghost use Rattle.lsv_words.specs.Causes.{HasRisen};
 ghost use Rattle.lsv_base.specs.Script.{IsListed, script_of, answered, failed};
 ghost use Rattle.lsv_base.specs.MemTexts.{text_at};
 ghost use Rattle.std.specs.Option.{option_copied};
@@ -67,7 +67,7 @@ impl Texts for MemTexts {
         ensures answered { ¬ IsListed self.old.script → self.new.script ≡ answered self.old.script }
         ensures unlisted { IsErrOf result TextFault.Failed → IsListed self.old.script }
         ensures faults { self.old.script.faults ≤ self.new.script.faults }
-        ensures cause { IsErrOf result TextFault.Failed → Rose self.old.script.faults self.new.script.faults }
+        ensures cause { IsErrOf result TextFault.Failed → HasRisen self.old.script.faults self.new.script.faults }
     {
         if self.script.fails() {
             return Err(TextFault::Failed);

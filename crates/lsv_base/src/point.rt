@@ -1,5 +1,5 @@
 ghost use Rattle.std.specs.Prelude.{◌≡◌, ◌+◌, ◌^◌, ◌<◌, Some, SomeIff};
-ghost use Rattle.lsv_base.specs.Time.{nanos_of};
+ghost use Rattle.lsv_base.specs.Time.{nanos_of, time_of};
 
 use crate::TimeSpec;
 use std::marker::Model;
@@ -43,7 +43,8 @@ impl Point {
 
     /// The valid time of this value.
     pub fn spec(self) -> TimeSpec
-        ensures { nanos_of result ≡ Some self }
+        ensures value { nanos_of result ≡ Some self }
+        ensures parts { result ≡ time_of self }
     {
         TimeSpec {
             sec: (self.nanos / 1_000_000_000) as i64,

@@ -44,7 +44,7 @@ impl Script {
         is_listed
     }
 
-    /// Counts a fault for want of memory.
+    /// Counts a fault for lack of memory.
     pub fn refuse(&mut self)
         ensures counted { self.new ≡ record self.old { faults = one_more self.old.faults; refused = one_more self.old.refused } }
         ensures faults { self.old.faults ≤ self.new.faults }

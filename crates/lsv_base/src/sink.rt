@@ -1,6 +1,6 @@
 ghost use Rattle.std.specs.Prelude.{◌≡◌, ℕ, ◌≤◌, List, ◌++◌, OnOk, OnErr};
-ghost use Rattle.lsv_words.specs.Causes.{Rose};
-ghost use Rattle.lsv_words.specs.Pieces.{IsFront};
+ghost use Rattle.lsv_words.specs.Causes.{HasRisen};
+ghost use Rattle.lsv_words.specs.Pieces.{IsPrefix};
 
 /// A write failed.
 #[derive(Clone, Copy, Debug, PartialEq, Eq)]
@@ -20,7 +20,7 @@ pub trait Sink {
     /// Puts all of these bytes, or at a fault some first part of them.
     fn write(&mut self, bytes: &[u8]) -> Result<(), SinkFault>
         ensures put { tells → OnOk result (put self.new ≡ put self.old ++ bytes.now) }
-        ensures failed { tells → OnErr result ((front : List ℕ) × IsFront front bytes.now × (put self.new ≡ put self.old ++ front)) }
+        ensures failed { tells → OnErr result ((front : List ℕ) × IsPrefix front bytes.now × (put self.new ≡ put self.old ++ front)) }
         ensures faults { faults self.old ≤ faults self.new }
-        ensures cause { OnErr result (Rose (faults self.old) (faults self.new)) };
+        ensures cause { OnErr result (HasRisen (faults self.old) (faults self.new)) };
 }

@@ -1,5 +1,5 @@
 ghost use Rattle.std.specs.Prelude.{◌≡◌, ℕ, ◌≤◌, List, Option, IfOk, IsErrOf};
-ghost use Rattle.lsv_words.specs.Causes.{Rose};
+ghost use Rattle.lsv_words.specs.Causes.{HasRisen};
 
 use crate::{Bytes, NoMem};
 use std::alloc::Global;
@@ -37,5 +37,5 @@ pub trait Texts {
         ensures text { tells → IfOk result (λ t. t ≡ texts self.old path.now) }
         ensures same { tells → (p : List ℕ) → texts self.new p ≡ texts self.old p }
         ensures faults { faults self.old ≤ faults self.new }
-        ensures cause { IsErrOf result TextFault.Failed → Rose (faults self.old) (faults self.new) };
+        ensures cause { IsErrOf result TextFault.Failed → HasRisen (faults self.old) (faults self.new) };
 }

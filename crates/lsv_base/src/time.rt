@@ -1,5 +1,6 @@
-ghost use Rattle.std.specs.Prelude.{◌≡◌};
-ghost use Rattle.lsv_base.specs.Time.{nanos_of};
+ghost use Rattle.std.specs.Prelude.{◌≡◌, ℕ, ◌^◌, ◌<◌, Some};
+ghost use Rattle.lsv_base.specs.Time.{nanos_of, time_of};
+ghost use Rattle.lsv_base.specs.declared.time.TimeSpec.{TimeSpec};
 
 use crate::Point;
 
@@ -34,3 +35,10 @@ impl TimeSpec {
         Point::new(self.delay()?)
     }
 }
+
+/// A number of nanoseconds below 2^63 is one time's value, and that of no other time. It does nothing when it runs.
+pub fn nanoseconds_are_one_time()
+    ensures value { (n : ℕ) → n < 2 ^ 63 → nanos_of (time_of n) ≡ Some n }
+    ensures time { (time : TimeSpec) (n : ℕ) → nanos_of time ≡ Some n → time_of n ≡ time }
+    ensures below { (time : TimeSpec) (n : ℕ) → nanos_of time ≡ Some n → n < 2 ^ 63 }
+{}

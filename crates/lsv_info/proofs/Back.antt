@@ -20,7 +20,8 @@ use Rattle.lsv_info.specs.declared.times.Head.{Head}
 use Rattle.lsv_info.specs.declared.times.Exit.{Exit}
 use Rattle.lsv_info.specs.Layout.{shown_text, shown_number, shown_value, with_entry, info_members, time_value, head_value, head_text, exit_value, exit_text}
 use Rattle.lsv_info.specs.Reading.{number_in, small_in, texts_in, numbers_in, value_in, entries_in, time_in, head_in, exit_in, if_json, head_of, exit_of}
-use Rattle.lsv_info.specs.Shown.{seen_value, seen_entry, and_entry, seen_entries, seen_head, seen_exit, FitsValue, FitsEntry, IsTimedHead, IsTimedExit}
+use Rattle.lsv_info.specs.Fitting.{FitsValue, FitsEntry}
+use Rattle.lsv_info.specs.Shown.{seen_value, seen_entry, and_entry, seen_entries, seen_head, seen_exit, IsTimedHead, IsTimedExit}
 use Rattle.lsv_info.proofs.Good.{IsWhole, whole, head_good, head_shallow, exit_good, exit_shallow}
 use Rattle.lsv_info.proofs.Texts.{read_again}
 

@@ -20,7 +20,8 @@ use Rattle.lsv_info.specs.declared.info.Value.TheVariants.{Num, Text, Texts, Num
 use Rattle.lsv_info.specs.declared.times.Head.{Head}
 use Rattle.lsv_info.specs.declared.times.Exit.{Exit}
 use Rattle.lsv_info.specs.Layout.{shown_text, shown_number, shown_value, with_entry, info_members, time_value, head_value, unless_empty, exit_value}
-use Rattle.lsv_info.specs.Shown.{FitsValue, FitsEntry, IsTimedHead, IsTimedExit}
+use Rattle.lsv_info.specs.Fitting.{FitsValue, FitsEntry}
+use Rattle.lsv_info.specs.Shown.{IsTimedHead, IsTimedExit}
 use Rattle.lsv_info.proofs.Sorted.{IsSorted, sorted_put}
 use Rattle.lsv_info.proofs.Texts.{IsInteger, IsGood, AreGood, HaveGood}
 use Rattle.lsv_info.proofs.Utf.{lossy_text}

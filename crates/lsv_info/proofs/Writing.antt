@@ -14,7 +14,10 @@ use Rattle.lsv_info.specs.declared.info.Entry.{Entry}
 use Rattle.lsv_info.specs.declared.info.Value.{Value}
 use Rattle.lsv_info.specs.declared.info.Value.TheVariants.{Num, Text, Texts, Nums}
 use Rattle.lsv_info.specs.declared.times.Head.{Head}
-use Rattle.lsv_info.specs.Layout.{shown_text, shown_number, shown_value, with_entry, info_members, head_value}
+use Rattle.std.specs.Prelude.{codes}
+use Rattle.lsv_base.specs.declared.time.TimeSpec.{TimeSpec}
+use Rattle.lsv_info.specs.declared.times.Exit.{Exit}
+use Rattle.lsv_info.specs.Layout.{shown_text, shown_number, shown_value, with_entry, info_members, time_value, unless_empty, exit_members, head_value}
 
 -- ---- one entry more
 
@@ -68,8 +71,22 @@ put_plain key json (member k d ms) plain rest =
     let parts = or_parts (has_float d) _ rest in
     ordering_plain (slice_cmp nat_cmp key k) (member key json (member k d ms)) (member k json ms) (member k d (put key json ms)) (rw plain rest) (rw plain parts.1) (rw parts.0 (put_plain key json ms plain parts.1))
 
-info_plain : (entries : List Entry) → members_have_float (info_members entries) ≡ false
+pub info_plain : (entries : List Entry) → members_have_float (info_members entries) ≡ false
 info_plain entries = fold_keeps (λ ms. members_have_float ms ≡ false) with_entry (λ ms e plain. put_plain (utf8_lossy e.key) (shown_value e.value) ms (value_plain e.value) plain) no_members entries refl
 
 pub head_plain : (head : Head) (json : Data) → json ≡ head_value head → has_float json ≡ false
 head_plain head json is = rw (is, info_plain head.info.entries, number_plain head.submit.sec, number_plain head.submit.nsec) refl
+
+pub time_plain : (time : TimeSpec) → has_float (time_value time) ≡ false
+time_plain time = rw (number_plain time.nsec, number_plain time.sec) refl
+
+text_plain : (key bytes : List ℕ) (later : Members) → members_have_float later ≡ false → members_have_float (unless_empty key bytes later) ≡ false
+text_plain key [] later plain = plain
+text_plain key (b ∷ bytes) later plain = plain
+
+pub exit_plain : (exit : Exit) → members_have_float (exit_members exit) ≡ false
+exit_plain exit =
+    let signal = text_plain (codes "signal") exit.signal no_members refl in
+    let later : members_have_float (member (codes "exit_value") (shown_number exit.value) (member (codes "run_time") (time_value exit.run) (unless_empty (codes "signal") exit.signal no_members))) ≡ false =
+    rw (number_plain exit.value, number_plain exit.run.nsec, number_plain exit.run.sec) signal in
+    text_plain (codes "error") exit.error _ later

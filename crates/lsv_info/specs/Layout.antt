@@ -51,15 +51,18 @@ unless_empty key (b ∷ bytes) later = member key (shown_text (b ∷ bytes)) lat
 abbrev pub IsFirst : List ℕ → Members → Type 0
 IsFirst key members = (json : Data) → put key json members ≡ member key json members
 
--- the JSON of an exit
-abbrev pub exit_value : Exit → Data
-exit_value exit =
-    object (
+-- the members of an exit's JSON
+abbrev pub exit_members : Exit → Members
+exit_members exit =
     member (codes "dumped_core") (boolean exit.dumped) (
     unless_empty (codes "error") exit.error (
     member (codes "exit_value") (shown_number exit.value) (
     member (codes "run_time") (time_value exit.run) (
-    unless_empty (codes "signal") exit.signal no_members)))))
+    unless_empty (codes "signal") exit.signal no_members))))
+
+-- the JSON of an exit
+abbrev pub exit_value : Exit → Data
+exit_value exit = object (exit_members exit)
 
 -- the text of log.json
 unfoldable pub head_text : Head → List ℕ

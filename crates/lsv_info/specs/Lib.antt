@@ -1,3 +1,4 @@
+pub mod Fitting
 pub mod Info
 pub mod Layout
 pub mod Reading

@@ -117,7 +117,7 @@ head_of bytes = if_json head_in (json_in bytes)
 unfoldable pub exit_of : List ℕ → Result Exit InfoFault
 exit_of bytes = if_json exit_in (json_in bytes)
 
--- for private clauses: an answer is the meaning, unless it is that memory was wanting
+-- for private clauses: an answer is the meaning, unless it is out of memory
 abbrev pub Fails : {A : Type 0} → InfoFault → Result A InfoFault → Type 0
 Fails NotJson meaning = meaning ≡ Err NotJson
 Fails (NotInfo key) meaning = meaning ≡ Err (NotInfo key)

@@ -1,7 +1,7 @@
 -- What is read of a head or an exit that was written: the same, as text shows it.
 use Rattle.std.specs.Prelude.{ℕ, List, [], ◌∷◌, map, fold, FitsSigned, IsSome}
 use Rattle.std.specs.Cmp.Lexicographic.{slice_cmp}
-use Rattle.std.specs.Int.{w32, w64}
+use Rattle.std.specs.Int.{w32}
 use Rattle.std.specs.List.{AllByRecursion}
 use Rattle.std.specs.List.Sorted.{IsStrictlySortedBy}
 use Rattle.std.specs.Ordering.{nat_cmp, match_ordering}
@@ -13,6 +13,7 @@ use Rattle.lsv_info.specs.declared.info.Value.{Value}
 use Rattle.lsv_info.specs.declared.info.Value.TheVariants.{Num, Text, Texts, Nums}
 use Rattle.lsv_info.specs.declared.times.Head.{Head}
 use Rattle.lsv_info.specs.declared.times.Exit.{Exit}
+use Rattle.lsv_info.specs.Fitting.{FitsEntry}
 
 -- the value, its bytes as text: an empty list of numbers is one of texts
 abbrev pub seen_value : Value → Value
@@ -51,16 +52,6 @@ InByteOrder keys = IsStrictlySortedBy (slice_cmp nat_cmp) keys
 abbrev pub keys_in : Members → List (List ℕ)
 keys_in no_members = []
 keys_in (member key json later) = key ∷ keys_in later
-
--- numbers have 64 bits, as the program's values always do
-abbrev pub FitsValue : Value → Type 0
-FitsValue (Num n) = FitsSigned w64 n
-FitsValue (Text bytes) = Unit {0}
-FitsValue (Texts texts) = Unit {0}
-FitsValue (Nums numbers) = AllByRecursion (FitsSigned w64) numbers
-
-abbrev pub FitsEntry : Entry → Type 0
-FitsEntry entry = FitsValue entry.value
 
 -- a head with a valid time
 abbrev pub IsTimedHead : Head → Type 0

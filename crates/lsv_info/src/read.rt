@@ -17,7 +17,7 @@ use std::alloc::Global;
 /// key that comes twice in one object the last counts.
 ///
 /// `NotJson` where the bytes are no JSON. `NotInfo` with the key of the first member that is missing or has another form:
-/// `info` and its members, in byte order of their keys, are judged before `submit_time`. `NoMem` where memory is wanting.
+/// `info` and its members, in byte order of their keys, are judged before `submit_time`. `NoMem` where it is out of memory.
 #[tactic(auto, unfolding(crate::specs::Reading::head_of))]
 pub fn read_head(alloc: Global, bytes: &[u8]) -> Result<Head, InfoFault>
     ensures head { IfOk result (λ head. head_of bytes.now ≡ Ok head) }
@@ -31,7 +31,7 @@ pub fn read_head(alloc: Global, bytes: &[u8]) -> Result<Head, InfoFault>
 /// missing). Further members are passed over, and of a key that comes twice in one object the last counts.
 ///
 /// `NotJson` where the bytes are no JSON. `NotInfo` with the first of these keys, in this order, whose member is missing
-/// or has another form. `NoMem` where memory is wanting.
+/// or has another form. `NoMem` where it is out of memory.
 #[tactic(auto, unfolding(crate::specs::Reading::exit_of))]
 pub fn read_exit(alloc: Global, bytes: &[u8]) -> Result<Exit, InfoFault>
     ensures exit { IfOk result (λ exit. exit_of bytes.now ≡ Ok exit) }

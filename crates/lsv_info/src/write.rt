@@ -1,11 +1,12 @@
-//! Heads and exits are written as JSON.
+//! Heads and exits are written as JSON, and so are their parts, of which other lines of JSON are made.
 
 ghost use Rattle.std.specs.Prelude.{◌≡◌, [], ◌∷◌, ◌++◌, map, false, IfOk, OnOk};
+ghost use Rattle.serde_json.specs.Data.{object};
 ghost use Rattle.serde_json.specs.View.{view, members_view};
 ghost use Rattle.serde_json.specs.Written.{has_float, compact_text};
-ghost use Rattle.lsv_info.specs.Layout.{IsFirst, shown_text, shown_number, shown_value, with_entry, info_members, time_value, head_value, unless_empty, exit_value, head_text, exit_text};
+ghost use Rattle.lsv_info.specs.Layout.{IsFirst, shown_text, shown_number, shown_value, with_entry, info_members, time_value, head_value, unless_empty, exit_members, exit_value, head_text, exit_text};
 
-use crate::{Entry, Exit, Head, Value};
+use crate::{Entry, Exit, Head, Info, Value};
 use lsv_base::{Bytes, NoMem, TimeSpec};
 use serde_json::{Map, Value as Json, json, put};
 use std::alloc::Global;
@@ -18,7 +19,7 @@ use std::alloc::Global;
 pub fn write_head(alloc: Global, head: &Head) -> Result<Bytes, NoMem>
     ensures { IfOk result (λ text. text ≡ head_text head.now) }
 {
-    line(alloc, &head_json(alloc, head)?)
+    json_line(alloc, &head_json(alloc, head)?)
 }
 
 /// The text of exit.json: one compact JSON object and a line feed, its keys in byte order. It has `dumped_core`,
@@ -27,11 +28,11 @@ pub fn write_head(alloc: Global, head: &Head) -> Result<Bytes, NoMem>
 pub fn write_exit(alloc: Global, exit: &Exit) -> Result<Bytes, NoMem>
     ensures { IfOk result (λ text. text ≡ exit_text exit.now) }
 {
-    line(alloc, &exit_json(alloc, exit)?)
+    json_line(alloc, &exit_json(alloc, exit)?)
 }
 
-/// The compact text of a value, and a line feed.
-fn line(alloc: Global, json: &Json) -> Result<Bytes, NoMem>
+/// The compact text of a JSON value, and a line feed.
+pub fn json_line(alloc: Global, json: &Json) -> Result<Bytes, NoMem>
     requires { has_float (view json.now) ≡ false }
     ensures { IfOk result (λ text. text ≡ compact_text (view json.now) ++ 10 ∷ []) }
 {
@@ -43,13 +44,21 @@ fn line(alloc: Global, json: &Json) -> Result<Bytes, NoMem>
 fn head_json(alloc: Global, head: &Head) -> Result<Json, NoMem>
     ensures { IfOk result (λ json. view json ≡ head_value head.now) }
 {
-    let info = Json::Object(info_json(alloc, head.info.entries.as_slice())?);
+    let info = info_json(alloc, &head.info)?;
     let submit_time = time_json(alloc, head.submit)?;
     Ok(json!(in alloc; {"info": info, "submit_time": submit_time})?)
 }
 
 fn exit_json(alloc: Global, exit: &Exit) -> Result<Json, NoMem>
     ensures { IfOk result (λ json. view json ≡ exit_value exit.now) }
+{
+    Ok(Json::Object(exit_members(alloc, exit)?))
+}
+
+/// The members of an exit's JSON: `dumped_core`, `exit_value` and `run_time`, and `error` and `signal` where they aren't
+/// empty.
+pub fn exit_members(alloc: Global, exit: &Exit) -> Result<Map<String, Json>, NoMem>
+    ensures { IfOk result (λ members. members_view members.entries ≡ exit_members exit.now) }
 {
     let mut members = Map::new(alloc);
     // From the last key to the first, so that each member goes before those that are there.
@@ -58,7 +67,7 @@ fn exit_json(alloc: Global, exit: &Exit) -> Result<Json, NoMem>
     put(&mut members, alloc, "exit_value", Json::from(exit.value))?;
     put_text(&mut members, alloc, "error", exit.error.as_slice())?;
     put(&mut members, alloc, "dumped_core", Json::from(exit.dumped))?;
-    Ok(Json::Object(members))
+    Ok(members)
 }
 
 /// Puts a text where it isn't empty.
@@ -77,13 +86,22 @@ fn put_text(
     Ok(())
 }
 
-fn time_json(alloc: Global, time: TimeSpec) -> Result<Json, NoMem>
+/// The JSON of a time: an object with `nanoseconds` and `seconds`.
+pub fn time_json(alloc: Global, time: TimeSpec) -> Result<Json, NoMem>
     ensures { IfOk result (λ json. view json ≡ time_value time) }
 {
     Ok(json!(in alloc; {"nanoseconds": (time.nsec), "seconds": (time.sec)})?)
 }
 
-fn info_json(alloc: Global, entries: &[Entry]) -> Result<Map<String, Json>, NoMem>
+/// The JSON of a command's information: an object with a member for each key as it is shown, a number, a string, or an
+/// array of either. Of several entries with one such key the last counts.
+pub fn info_json(alloc: Global, info: &Info) -> Result<Json, NoMem>
+    ensures { IfOk result (λ json. view json ≡ object (info_members info.now.entries)) }
+{
+    Ok(Json::Object(entries_json(alloc, info.entries.as_slice())?))
+}
+
+fn entries_json(alloc: Global, entries: &[Entry]) -> Result<Map<String, Json>, NoMem>
     ensures { IfOk result (λ members. members_view members.entries ≡ info_members entries.now) }
 {
     let mut members = Map::new(alloc);
@@ -104,7 +122,8 @@ fn put_entry(members: &mut Map<String, Json>, alloc: Global, entry: &Entry) -> R
     Ok(())
 }
 
-fn value_json(alloc: Global, value: &Value) -> Result<Json, NoMem>
+/// The JSON of an entry's value: a number, a string, or an array of either.
+pub fn value_json(alloc: Global, value: &Value) -> Result<Json, NoMem>
     ensures { IfOk result (λ json. view json ≡ shown_value value.now) }
 {
     match value {
@@ -135,7 +154,8 @@ fn numbers_json(alloc: Global, numbers: &[i64]) -> Result<Vec<Json>, NoMem>
     Ok(items)
 }
 
-fn text_json(alloc: Global, bytes: &[u8]) -> Result<Json, NoMem>
+/// The JSON of bytes: a string, in which what is no UTF-8 is U+FFFD.
+pub fn text_json(alloc: Global, bytes: &[u8]) -> Result<Json, NoMem>
     ensures { IfOk result (λ json. view json ≡ shown_text bytes.now) }
 {
     Ok(Json::String(String::from_utf8_lossy(alloc, bytes)?))

@@ -6,3 +6,6 @@ pub mod Repeats
 pub mod Oneofs
 pub mod Tables
 pub mod Refusals
+pub mod Keeping
+pub mod Decoded
+pub mod Replies

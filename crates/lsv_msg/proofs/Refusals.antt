@@ -19,3 +19,7 @@ given_message (Err e) reading given = tt
 pub given_refusal : {A : Type 0} (result reading : Result A MsgFault) → Gives (λ a. a) result reading → IfErr result (λ e. e ≢ NoMem → reading ≡ Err e)
 given_refusal (Ok a) reading given = tt
 given_refusal (Err e) reading given = fails e reading given
+
+pub given_good : {A : Type 0} (Good : A → Type 0) (result reading : Result A MsgFault) → Gives (λ a. a) result reading → ((a : A) → reading ≡ Ok a → Good a) → IfOk result Good
+given_good Good (Ok a) reading given good = good a given
+given_good Good (Err e) reading given good = tt

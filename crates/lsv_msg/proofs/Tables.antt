@@ -15,7 +15,8 @@ use Rattle.lsv_msg.specs.declared.messages.ServerMessage.TheVariants as server
 use Rattle.lsv_msg.specs.declared.fault.MsgFault.{MsgFault}
 use Rattle.lsv_msg.specs.Format.{single, part, repeated, repeated_said, message, int64, int32, flag, text, typed, ◌⊗◌}
 use Rattle.lsv_msg.specs.Messages.{time_spec, io_buffer, change_window_size, command_suspend, string_list, number_list, value_members, client_members, server_members, entry_value, entry_made, entry_parts, info_message, accept_message, reject_message, alert_message, exit_message, restart_message, client_hello, server_hello, client_message, server_message, client_in, client_bytes, server_in, server_bytes}
-use Rattle.lsv_msg.specs.Fitting.{FitsTime, FitsSize, FitsValue, FitsEntry, FitsExit, FitsClient, FitsServer}
+use Rattle.lsv_info.specs.Fitting.{FitsValue, FitsEntry}
+use Rattle.lsv_msg.specs.Fitting.{FitsTime, FitsSize, FitsExit, FitsClient, FitsServer}
 use Rattle.lsv_msg.proofs.Back.{WrittenIsRead, IsNumber, KindBack, Lawful, Acts, Found, read_back, message_back, single_lawful, part_lawful, both_lawful, named_lawful}
 use Rattle.lsv_msg.proofs.Scalars.{int64_back, text_back, int64_again, int32_again, flag_again, text_again}
 use Rattle.lsv_msg.proofs.Repeats.{repeated_lawful, said_lawful, numbers_lawful}

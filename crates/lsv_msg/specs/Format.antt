@@ -20,7 +20,7 @@ abbrev pub of_wire : {A : Type 0} → Result A WireFault → Result A MsgFault
 of_wire (Ok a) = Ok a
 of_wire (Err fault) = Err (Wire fault)
 
--- What a call returned, seen by view, is what a reading gives, unless memory was wanting.
+-- What a call returned, seen by view, is what a reading gives, unless it is out of memory.
 abbrev pub Fails : {B : Type 0} → MsgFault → Result B MsgFault → Type 0
 Fails NoMem reading = Unit {0}
 Fails (Wire fault) reading = reading ≡ Err (Wire fault)

@@ -3,6 +3,7 @@
 ghost use Rattle.std.specs.Prelude.{◌≡◌, ◌≢◌, length, None, Ok, Err, IfOk, IfErr};
 ghost use Rattle.lsv_wire.specs.Fields.{IsWithin};
 ghost use Rattle.lsv_msg.specs.declared.fault.MsgFault.TheVariants as faults;
+ghost use Rattle.lsv_msg.specs.Fitting.{FitsClient, FitsServer, ClientWithin, ServerWithin};
 ghost use Rattle.lsv_msg.specs.Format.{Gives, read};
 ghost use Rattle.lsv_msg.specs.Messages.{client_in, client_message, server_in, server_message};
 
@@ -18,17 +19,21 @@ use lsv_wire::Field;
 use std::alloc::Global;
 
 /// The message of a client that these bytes are. It takes one copy of a record's data and no other memory, and time
-/// and memory that grow with the bytes and no faster.
+/// and memory that grow with the bytes and no faster. No text in the message, nor a record's data, is longer than the bytes.
 pub fn decode_client(alloc: Global, b: &[u8]) -> Result<ClientMessage, MsgFault>
     ensures message { IfOk result (λ m. client_in b.now ≡ Ok m) }
+    ensures fits { IfOk result FitsClient }
+    ensures within { IfOk result (ClientWithin (length b.now)) }
     ensures refused { IfErr result (λ e. e ≢ faults.NoMem → client_in b.now ≡ Err e) }
 {
     client_in(alloc, b)
 }
 
-/// The message of a server that these bytes are.
+/// The message of a server that these bytes are. No text in it is longer than the bytes.
 pub fn decode_server(alloc: Global, b: &[u8]) -> Result<ServerMessage, MsgFault>
     ensures message { IfOk result (λ m. server_in b.now ≡ Ok m) }
+    ensures fits { IfOk result FitsServer }
+    ensures within { IfOk result (ServerWithin (length b.now)) }
     ensures refused { IfErr result (λ e. e ≢ faults.NoMem → server_in b.now ≡ Err e) }
 {
     server_in(alloc, b)

@@ -185,7 +185,7 @@ fn client_hello_bytes(alloc: Global, m: &ClientHello) -> Result<Bytes, NoMem>
 
 /// The bytes of a hello of a server.
 #[tactic(auto, unfolding(crate::specs::Format::canon))]
-fn server_hello_bytes(alloc: Global, m: &ServerHello) -> Result<Bytes, NoMem>
+pub fn server_hello_bytes(alloc: Global, m: &ServerHello) -> Result<Bytes, NoMem>
     ensures { IfOk result (λ b. b ≡ canon server_hello m.now) }
 {
     let mut out = Bytes::new(alloc);

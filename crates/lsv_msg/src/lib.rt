@@ -3,6 +3,7 @@
 
 mod boxed;
 mod commands;
+mod copies;
 mod decode;
 mod encode;
 mod entry;
@@ -14,6 +15,7 @@ mod messages;
 mod packed;
 mod put;
 mod records;
+mod reply;
 mod rows;
 mod time;
 
@@ -21,11 +23,9 @@ pub use boxed::Boxed;
 pub use decode::{decode_client, decode_server};
 pub use encode::{encode_client, encode_server};
 pub use fault::{EncodeFault, MsgFault};
-pub use laws::a_written_message_is_read_back;
+pub use laws::{a_written_message_is_read_back, what_is_decoded_fits};
 pub use messages::{
     AcceptMessage, AlertMessage, ChangeWindowSize, ClientHello, ClientMessage, CommandSuspend,
     ExitMessage, IoBuffer, RejectMessage, RestartMessage, ServerHello, ServerMessage,
 };
-
-#[cfg(test)]
-mod tests;
+pub use reply::put_server;

@@ -6,8 +6,11 @@ use lsv_base::{Bytes, NoMem};
 use std::alloc::Global;
 use std::marker::Model;
 
+/// The bytes of memory that an empty framer keeps at most.
+const KEPT: usize = 65_536;
+
 /// Cuts a stream into its messages, in whatever pieces it comes. Contracts see the bytes that were fed and
-/// not yet given.
+/// not yet given. A framer that is empty keeps at most 65,536 bytes of memory.
 #[derive(Debug, Drop)]
 pub struct Framer {
     buffer: Vec<u8>,
@@ -95,8 +98,18 @@ impl Framer {
     {
         self.start = self.start + 4 + message_length;
         if self.start == self.buffer.len() {
-            self.buffer.clear();
-            self.start = 0;
+            self.empty();
+        }
+    }
+
+    /// Passes over all bytes. One large message doesn't hold its memory for as long as its connection lasts.
+    fn empty(&mut self)
+        ensures { self.new ≡ [] }
+    {
+        self.buffer.clear();
+        self.start = 0;
+        if self.buffer.capacity() > KEPT {
+            self.buffer.shrink_to(0);
         }
     }
 

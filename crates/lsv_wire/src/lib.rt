@@ -14,7 +14,4 @@ pub use laws::{
     a_stream_is_read_from_the_front, no_frame_begins_another, one_text_has_one_cutting,
     one_text_has_one_list_of_fields, what_is_written_is_read_back,
 };
-pub use writer::{put_bytes, put_number, put_varint};
-
-#[cfg(test)]
-mod tests;
+pub use writer::{put_bytes, put_number, put_varint, write_varint};

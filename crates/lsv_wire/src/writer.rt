@@ -1,4 +1,4 @@
-ghost use Rattle.std.specs.Prelude.{◌≡◌, ◌+◌, ◌≤◌, ◌++◌, length, take, OnOk, OnErr};
+ghost use Rattle.std.specs.Prelude.{◌≡◌, ◌+◌, ◌≤◌, ◌<◌, ◌++◌, length, take, OnOk, OnErr};
 ghost use Rattle.lsv_wire.specs.Varint.{varint};
 ghost use Rattle.lsv_wire.specs.Fields.{number_field, bytes_field};
 
@@ -51,8 +51,9 @@ pub fn put_bytes(out: &mut Bytes, number: u32, b: &[u8]) -> Result<(), NoMem>
 }
 
 /// Writes the shortest varint of a number from a place on, and gives the place after it.
-fn write_varint(bytes: &mut [u8], at: usize, v: u64) -> usize
+pub fn write_varint(bytes: &mut [u8], at: usize, v: u64) -> usize
     requires { at + 10 ≤ length bytes.old }
+    ensures after { at < result }
     ensures there { result ≤ at + 10 }
     ensures written { take result bytes.new ≡ take at bytes.old ++ varint v }
 {

@@ -1,6 +1,5 @@
-use Rattle.std.proofs.Common.{arith}
-use Rattle.lsv_base.proofs.Digits.{power-le}
+use Rattle.lsv_base.proofs.LogNumbers.{as_computed}
 use Rattle.lsv_base.proofs.log_no.LogNo.read.Goals as goal
 
-pub overflow_mul-number : goal.overflow_mul-number
-overflow_mul-number c = let below = power-le c.loop-byte.byte-index (omega arith) in omega arith
+pub returns-clause-computed : goal.returns-clause-computed
+returns-clause-computed c = as_computed _ _ c.number_in.ensures

@@ -1,7 +1,7 @@
 use Rattle.std.proofs.Common.{◌≡◌, ◌^◌, ◌<◌, take, length}
 use Rattle.std.specs.List.{All}
 use Rattle.lsv_base.specs.LogNo.{IsDigit, number_of}
-use Rattle.lsv_base.proofs.log_no.LogNo.read.Given as goal
+use Rattle.lsv_base.proofs.log_no.number_in.Given as goal
 
 abbrev pub invariant-loop-byte : goal.invariant-loop-byte
 invariant-loop-byte l = record {

@@ -1,6 +1,6 @@
 use Rattle.lsv_info.proofs.Writing.{info_next}
 use Rattle.std.proofs.Common.{◌∙◌}
-use Rattle.lsv_info.proofs.write.info_json.Goals as goal
+use Rattle.lsv_info.proofs.write.entries_json.Goals as goal
 
 pub loop-entry-preserved : goal.loop-entry-preserved
 loop-entry-preserved c =
