@@ -1,21 +1,9 @@
--- Decimal digits: the last ones of a number, written from the right and read again.
-use Rattle.std.proofs.Common.{◌≡◌, ℕ, zero, suc, ◌+◌, ◌-◌, ◌/◌, ◌%◌, ◌<◌, ◌≤◌, List, [], ◌∷◌, ◌++◌, length, drop, set, get_or, append_assoc, arith, refl, sym, ap, ◌∙◌, subst, add-one}
-use Rattle.std.proofs.lemmas.List.{drop-set}
-use Rattle.lsv_record.specs.Records.{last_digits}
-
--- the k + 1 digits that end at place j + 1 are k digits and the one at j
-last_digits-written : (k j n : ℕ) (text : List ℕ) → j < length text → last_digits k (n / 10) ++ drop j (set text j (48 + n % 10)) ≡ last_digits (suc k) n ++ drop (suc j) text
-unfolding last_digits
-last_digits-written k j n text h = rw (drop-set text j (48 + n % 10) h, add-one) (sym (append_assoc (last_digits k (n / 10)) ((48 + n % 10) ∷ []) (drop (suc j) text)))
-
--- one digit more from the right, where a point stands in front of the digits
-pub last_digits-step : (i n : ℕ) (text : List ℕ) → 1 < i → i ≤ length text → last_digits (i - 1 - 1) (n / 10) ++ drop (i - 1) (set text (i - 1) (48 + n % 10)) ≡ last_digits (i - 1) n ++ drop i text
-last_digits-step zero n text h le = absurd (omega arith)
-last_digits-step (suc zero) n text h le = absurd (omega arith)
-last_digits-step (suc (suc k)) n text h le =
-    let f : suc (suc k) - 1 ≡ suc k = omega arith in
-    let e : suc k - 1 ≡ k = omega arith in
-    rw (f, e) (last_digits-written k (suc k) n text (omega arith))
+-- Decimal digits: the last ones of a number, and bytes written before what stands.
+use Rattle.std.proofs.Common.{◌≡◌, ℕ, zero, suc, ◌+◌, ◌-◌, ◌/◌, ◌%◌, ◌<◌, ◌≤◌, List, [], ◌∷◌, ◌++◌, length, drop, set, append_assoc, arith, ◌*◌, ◌^◌, lit<, length-drop, length-set, lit≤, refl, sym, ap, ◌∙◌}
+use Rattle.std.specs.Fmt.{decimal}
+use Rattle.std.proofs.lemmas.Fmt.{decimal_digit, decimal_step}
+use Rattle.std.proofs.lemmas.List.{drop-drop, drop-set}
+use Rattle.lsv_record.specs.Records.{last_digits, seconds, fields_of}
 
 pub no_digits : (n : ℕ) → last_digits 0 n ≡ []
 unfolding last_digits
@@ -25,10 +13,46 @@ pub more_digits : (k n : ℕ) → last_digits (suc k) n ≡ last_digits k (n / 1
 unfolding last_digits
 more_digits k n = refl
 
--- with none left to write, all stand behind the point
-pub fraction_written : (n rest i : ℕ) (text : List ℕ) → i ≡ 1 → 0 < length text → get_or text 0 0 ≡ 46 → last_digits (i - 1) rest ++ drop i text ≡ last_digits 9 n ++ 32 ∷ [] → text ≡ 46 ∷ last_digits 9 n ++ 32 ∷ []
-fraction_written n rest i [] one long point written = absurd (omega arith)
-fraction_written n rest i (x ∷ text) one long point written =
-    let at_one : last_digits 0 rest ++ text ≡ last_digits 9 n ++ 32 ∷ [] = subst (λ (k : ℕ). last_digits (k - 1) rest ++ drop k (x ∷ text) ≡ last_digits 9 n ++ 32 ∷ []) one written in
-    let e : text ≡ last_digits 9 n ++ 32 ∷ [] = ap (λ ds. ds ++ text) (sym (no_digits rest)) ∙ at_one in
-    rw (point, e) refl
+some_power : (k : ℕ) → 1 ≤ 10 ^ k
+some_power zero = lit≤ tt
+some_power (suc k) = let h = some_power k in let power : 10 ^ suc k ≡ 10 * 10 ^ k = omega arith in omega arith
+
+-- a number with a one before so many digits
+pub one_before : (k n : ℕ) → n < 10 ^ k → 10 ^ k + n < 2 ^ 64 → decimal (10 ^ k + n) ≡ 49 ∷ last_digits k n
+one_before zero n h fits =
+    let none : n ≡ 0 = omega arith in
+    let one : 10 ^ 0 + n ≡ 1 = omega arith in
+    rw (one, no_digits n) (decimal_digit 1 (lit< tt))
+one_before (suc k) n h fits =
+    let power : 10 ^ suc k ≡ 10 * 10 ^ k = omega arith in
+    let whole : (10 ^ suc k + n) / 10 ≡ 10 ^ k + n / 10 = omega arith in
+    let last : (10 ^ suc k + n) % 10 ≡ n % 10 = omega arith in
+    let some : 10 ≤ 10 ^ suc k + n = omega (arith, some_power k) in
+    let rest : decimal (10 ^ k + n / 10) ≡ 49 ∷ last_digits k (n / 10) = one_before k (n / 10) (omega arith) (omega arith) in
+    decimal_step (10 ^ suc k + n) some fits ∙ rw (whole, last, rest, more_digits k n) refl
+
+-- a byte written before what stands from an offset on
+pub written_before : (text : List ℕ) (i at byte : ℕ) → at ≡ i + 1 → i < length text → drop i (set text i byte) ≡ byte ∷ drop at text
+written_before text i at byte e below = drop-set text i byte below ∙ ap (λ (k : ℕ). byte ∷ drop k text) (omega arith)
+
+-- a byte written over the first one that stands from an offset on
+pub written_over : (text rest : List ℕ) (at old byte : ℕ) → drop at text ≡ old ∷ rest → drop at (set text at byte) ≡ byte ∷ rest
+written_over text rest at old byte e =
+    let below : at < length text = omega (arith, ap length e, length-drop at text) in
+    let behind : drop (at + 1) text ≡ rest = sym (drop-drop 1 at text) ∙ ap (drop 1) e in
+    written_before text at (at + 1) byte refl below ∙ ap (λ (t : List ℕ). byte ∷ t) behind
+
+-- the start of a line, written from the space before its rest to its event
+pub start_written : (text after digits : List ℕ) (rest point at event delay : ℕ) → 1 ≤ rest → rest ≤ length text
+    → drop point after ≡ 46 ∷ last_digits 9 (delay % 1000000000) ++ drop (rest - 1) (set text (rest - 1) 32)
+    → point + 10 ≡ rest - 1
+    → drop at digits ≡ decimal (delay / 1000000000) ++ drop point after
+    → 2 ≤ at → at ≤ length digits
+    → drop (at - 2) (set (set digits (at - 1) 32) (at - 2) (48 + event)) ≡ fields_of event delay (drop rest text)
+start_written text after digits rest point at event delay some within fraction ten whole two below =
+    let space : drop (rest - 1) (set text (rest - 1) 32) ≡ 32 ∷ drop rest text = written_before text (rest - 1) rest 32 (omega arith) (omega arith) in
+    let behind : drop at digits ≡ seconds delay ++ 32 ∷ drop rest text =
+    whole ∙ (ap (λ (t : List ℕ). decimal (delay / 1000000000) ++ t) (fraction ∙ ap (λ (t : List ℕ). 46 ∷ last_digits 9 (delay % 1000000000) ++ t) space) ∙ sym (append_assoc (decimal (delay / 1000000000)) (46 ∷ last_digits 9 (delay % 1000000000)) (32 ∷ drop rest text))) in
+    let first : drop (at - 1) (set digits (at - 1) 32) ≡ 32 ∷ drop at digits = written_before digits (at - 1) at 32 (omega arith) (omega arith) in
+    let long : at - 2 < length (set digits (at - 1) 32) = omega (arith, length-set {A = ℕ}) in
+    written_before (set digits (at - 1) 32) (at - 2) (at - 1) (48 + event) (omega arith) long ∙ ap (λ (t : List ℕ). (48 + event) ∷ t) (first ∙ ap (λ (t : List ℕ). 32 ∷ t) behind)

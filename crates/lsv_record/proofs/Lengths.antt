@@ -5,12 +5,19 @@ use Rattle.std.proofs.lemmas.Fmt.{length-decimal-le}
 use Rattle.lsv_record.specs.declared.records.Shaped.{Shaped}
 use Rattle.lsv_record.specs.declared.records.Shaped.TheVariants.{Io, Winsize, Suspend}
 use Rattle.lsv_record.specs.Records.{last_digits, seconds, text_of, shaped_line, IsGood}
-use Rattle.lsv_record.specs.Spelled.{parts_of, joined}
+use Rattle.lsv_record.specs.Inner.Spelled.{parts_of, joined}
 use Rattle.lsv_record.proofs.Numerals.{length-last_digits}
 use Rattle.lsv_record.proofs.Told.{text_is_joined, good_delay}
 
-short_number : (n : ℕ) → n < 10 ^ 10 → length (decimal n) ≤ 10
+pub short_number : (n : ℕ) → n < 10 ^ 10 → length (decimal n) ≤ 10
 short_number n h = length-decimal-le 10 n (lit< tt) h (omega arith)
+
+-- any number that a line may have
+pub long_number : (n : ℕ) → n < 2 ^ 64 → length (decimal n) ≤ 20
+long_number n h = length-decimal-le 20 n (lit< tt) (omega arith) h
+
+pub whole_seconds : (delay : ℕ) → delay < 2 ^ 64 → length (decimal (delay / 1000000000)) ≤ 11
+whole_seconds delay h = length-decimal-le 11 (delay / 1000000000) (lit< tt) (omega arith) (omega arith)
 
 short_delay : (delay : ℕ) → delay < 2 ^ 63 → length (seconds delay) ≤ 20
 short_delay delay h =

@@ -4,7 +4,11 @@ mod Lengths
 mod Lines
 mod Numerals
 mod Once
+mod Points
 mod Readers
+mod Signals
 mod Splits
 mod Times
+mod Tallies
 mod Told
+mod Windows

@@ -1,12 +1,12 @@
--- A line with its line feed, at a place of a text.
+-- A line with its line feed, at an offset of a text.
 use Rattle.std.proofs.Common.{◌≡◌, ◌≢◌, ℕ, ◌+◌, ◌<◌, ◌≤◌, List, [], ◌∷◌, ◌++◌, length, drop, All, None, arith, refl, sym, ap, ◌∙◌, subst, lit<, lit≤, append_assoc, length-append, length-drop}
 use Rattle.std.proofs.lemmas.List.{drop_at, drop-drop}
 use Rattle.std.proofs.lemmas.List.Elements.{All-cons, All-append, All-weaker}
 use Rattle.lsv_record.specs.declared.records.Shaped.{Shaped}
 use Rattle.lsv_record.specs.declared.records.Shaped.TheVariants.{Io, Winsize, Suspend}
 use Rattle.lsv_record.specs.Records.{seconds, text_of, shaped_line, IsGood}
-use Rattle.lsv_record.specs.Reading.{IsLineAt, IsBadAt}
-use Rattle.lsv_record.specs.Spelled.{Reads, joined, parts_of}
+use Rattle.lsv_record.specs.Lines.{IsLineAt, IsBadAt}
+use Rattle.lsv_record.specs.Inner.Spelled.{Reads, joined, parts_of}
 use Rattle.lsv_record.proofs.Splits.{cut_once, avoids}
 use Rattle.lsv_record.proofs.Times.{decimal_above, seconds_above}
 use Rattle.lsv_record.proofs.Told.{text_is_joined, good_delay}

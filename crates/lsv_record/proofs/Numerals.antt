@@ -5,7 +5,7 @@ use Rattle.std.proofs.lemmas.List.{take_all, take_more}
 use Rattle.std.specs.Prelude.{SomeIff}
 use Rattle.std.specs.Fmt.{decimal}
 use Rattle.lsv_record.specs.Records.{last_digits}
-use Rattle.lsv_record.specs.Spelled.{Reads, IsPlain}
+use Rattle.lsv_record.specs.Inner.Spelled.{Reads, IsPlain}
 use Rattle.lsv_record.proofs.Digits.{no_digits, more_digits}
 use Rattle.std.proofs.lemmas.Fmt.{decimal_digit, decimal_is_IsNumeral, first_decimal, length-decimal-le, decimal_nonempty, decimal-digits_value}
 use Rattle.std.specs.Char.{is_ascii_digit, digit_value}

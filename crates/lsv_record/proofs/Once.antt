@@ -4,7 +4,7 @@ use Rattle.std.specs.Fmt.{decimal}
 use Rattle.std.proofs.lemmas.Fmt.{decimal_injective}
 use Rattle.std.proofs.lemmas.List.{drop_at, take_at, drop-drop}
 use Rattle.std.proofs.lemmas.List.Elements.{All-head, All-tail}
-use Rattle.lsv_words.specs.Pieces.{IsFront}
+use Rattle.lsv_words.specs.Pieces.{IsPrefix}
 use Rattle.lsv_record.specs.declared.laid.Laid.{Laid}
 use Rattle.lsv_record.specs.declared.log.LayFault.{LayFault}
 use Rattle.lsv_record.specs.declared.log.LayFault.TheVariants as faults
@@ -14,11 +14,13 @@ use Rattle.lsv_record.specs.declared.records.Stream.{Stream}
 use Rattle.lsv_record.specs.declared.records.Shaped.{Shaped}
 use Rattle.lsv_record.specs.declared.records.Shaped.TheVariants.{Io, Winsize, Suspend}
 use Rattle.lsv_record.specs.Records.{event_of, text_of, shape_of, shaped_line, line_of, delay_of, data_in, timing_of, stream_of, elapsed, IsGood, IsValid}
-use Rattle.lsv_record.specs.Reading.{IsLineAt, IsLayout, Begins, IsRead, IsFaulty, IsShort, Fails, stream_in, told_delay}
-use Rattle.lsv_record.specs.Spelled.{Parts, parts_of}
+use Rattle.lsv_record.specs.Layout.{IsLayout, Begins, IsRead, IsFaulty, IsShort, Fails, stream_in}
+use Rattle.lsv_record.specs.Lines.{OneBegins, IsLineAt, told_delay}
+use Rattle.lsv_record.specs.Tally.{told_count}
+use Rattle.lsv_record.specs.Inner.Spelled.{Parts, parts_of}
 use Rattle.lsv_record.proofs.Layouts.{timing_of-append, stream_of-append, elapsed-append}
 use Rattle.lsv_record.proofs.Lines.{one_line_feed}
-use Rattle.lsv_record.proofs.Readers.{event_once, event_below, front_length}
+use Rattle.lsv_record.proofs.Readers.{event_once, event_below, prefix_length}
 use Rattle.lsv_record.proofs.Splits.{cut_once}
 use Rattle.lsv_record.proofs.Times.{decimal_without}
 use Rattle.lsv_record.proofs.Told.{text_is_joined, good_delay, joined_once, apart}
@@ -48,7 +50,7 @@ shape_by_parts (Suspend d s) (Suspend e t) good other is =
     let signal : s ≡ t = ap (λ (p : Parts). p.rest) is in
     cc
 
--- two lines at the front of one text are one
+-- two lines that begin one text are one
 pub first_line : (a b : Shaped) (x y : List ℕ) → IsGood a → IsGood b → shaped_line a ++ x ≡ shaped_line b ++ y → (a ≡ b) × (x ≡ y)
 first_line a b x y good other e =
     let e' : text_of a ++ 10 ∷ x ≡ text_of b ++ 10 ∷ y = sym (append_assoc (text_of a) (10 ∷ []) x) ∙ (e ∙ append_assoc (text_of b) (10 ∷ []) y) in
@@ -61,23 +63,16 @@ one_line text at next other_next told other a b =
     let same = first_line told other (drop next text) (drop other_next text) a.good b.good (sym a.spelled ∙ b.spelled) in
     (same.0, a.after ∙ (ap (λ (s : Shaped). at + length (shaped_line s)) same.0 ∙ sym b.after))
 
--- how much data a line tells of a stream
-told_count : Stream → Shaped → ℕ
-told_count s (Io delay stream count) = cond (nat_eq (event_of s) (event_of stream)) count 0
-told_count s (Winsize delay rows cols) = 0
-told_count s (Suspend delay signal) = 0
-
 length_cond : (b : Bool) (bytes : List ℕ) → length (cond b bytes []) ≡ cond b (length bytes) 0
 length_cond true bytes = refl
 length_cond false bytes = refl
 
-data_length : (s : Stream) (r : Record) → length (data_in s r) ≡ told_count s (shape_of r)
-unfolding told_count
+pub data_length : (s : Stream) (r : Record) → length (data_in s r) ≡ told_count s (shape_of r)
 data_length s (records.Io d t b) = length_cond (nat_eq (event_of s) (event_of t)) b
 data_length s (records.Winsize d r c) = refl
 data_length s (records.Suspend d g) = refl
 
-own_data : (d : ℕ) (s : Stream) (b : List ℕ) → data_in s (records.Io d s b) ≡ b
+pub own_data : (d : ℕ) (s : Stream) (b : List ℕ) → data_in s (records.Io d s b) ≡ b
 own_data d s b = ap (λ (x : Bool). cond x b []) (eq-eqb (event_of s) (event_of s) refl)
 
 -- a record by its line and its data
@@ -96,41 +91,41 @@ same_record (records.Suspend d g) (records.Io e t b) shape same = absurd (cc)
 same_record (records.Suspend d g) (records.Winsize e q k) shape same = absurd (cc)
 same_record (records.Suspend d g) (records.Suspend e t) shape same = cc
 
--- records whose layout is a front of a text and of each stream
-record Fronts (t : List ℕ) (X : Stream → List ℕ) (rs : List Record) : Type 0 where
-  valid : All IsValid rs
-  timing : IsFront (timing_of rs) t
-  streams : (s : Stream) → IsFront (stream_of s rs) (X s)
+-- records whose layout is a prefix of a text and of each stream
+pub record Prefixes (t : List ℕ) (X : Stream → List ℕ) (rs : List Record) : Type 0 where
+  pub valid : All IsValid rs
+  pub timing : IsPrefix (timing_of rs) t
+  pub streams : (s : Stream) → IsPrefix (stream_of s rs) (X s)
 
-fronts_of : (l : Laid) (rs : List Record) → Begins l rs → Fronts l.timing (λ s. stream_in s l) rs
-fronts_of l rs begins = record { valid = begins.valid; timing = begins.timing; streams = begins.streams }
+prefixes_of : (l : Laid) (rs : List Record) → Begins l rs → Prefixes l.timing (λ s. stream_in s l) rs
+prefixes_of l rs begins = record { valid = begins.valid; timing = begins.timing; streams = begins.streams }
 
--- a front of two parts is the first one, and then the second one
-second_front : (a b t : List ℕ) → IsFront (a ++ b) t → IsFront b (drop (length a) t)
-second_front a b t f =
+-- a prefix of two parts is the first one, and then the second one
+pub second_prefix : (a b t : List ℕ) → IsPrefix (a ++ b) t → IsPrefix b (drop (length a) t)
+second_prefix a b t f =
     let whole : t ≡ a ++ (b ++ f.0) = f.1 ∙ append_assoc a b f.0 in
     (f.0, ap (drop (length a)) whole ∙ drop_at a (b ++ f.0) (length a) refl)
 
-behind_first : (t : List ℕ) (X : Stream → List ℕ) (r : Record) (rs : List Record) → Fronts t X (r ∷ rs) → Fronts (drop (length (line_of r)) t) (λ s. drop (length (data_in s r)) (X s)) rs
+behind_first : (t : List ℕ) (X : Stream → List ℕ) (r : Record) (rs : List Record) → Prefixes t X (r ∷ rs) → Prefixes (drop (length (line_of r)) t) (λ s. drop (length (data_in s r)) (X s)) rs
 behind_first t X r rs f = record {
   valid = All-tail IsValid r rs f.valid;
-  timing = second_front (line_of r) (timing_of rs) t f.timing;
-  streams = λ s. second_front (data_in s r) (stream_of s rs) (X s) (f.streams s);
+  timing = second_prefix (line_of r) (timing_of rs) t f.timing;
+  streams = λ s. second_prefix (data_in s r) (stream_of s rs) (X s) (f.streams s);
 }
 
-same_front : (a b x y t : List ℕ) → length a ≡ length b → IsFront (a ++ x) t → IsFront (b ++ y) t → a ≡ b
-same_front a b x y t long f g =
+same_prefix : (a b x y t : List ℕ) → length a ≡ length b → IsPrefix (a ++ x) t → IsPrefix (b ++ y) t → a ≡ b
+same_prefix a b x y t long f g =
     let first : take (length a) t ≡ a = ap (take (length a)) (f.1 ∙ append_assoc a x f.0) ∙ take_at a (x ++ f.0) (length a) refl in
     let second : take (length a) t ≡ b = ap (take (length a)) (g.1 ∙ append_assoc b y g.0) ∙ take_at b (y ++ g.0) (length a) (sym long) in
     sym first ∙ second
 
-first_record : (t : List ℕ) (X : Stream → List ℕ) (r q : Record) (rs qs : List Record) → Fronts t X (r ∷ rs) → Fronts t X (q ∷ qs) → r ≡ q
+first_record : (t : List ℕ) (X : Stream → List ℕ) (r q : Record) (rs qs : List Record) → Prefixes t X (r ∷ rs) → Prefixes t X (q ∷ qs) → r ≡ q
 first_record t X r q rs qs f g =
     let lines : line_of r ++ (timing_of rs ++ f.timing.0) ≡ line_of q ++ (timing_of qs ++ g.timing.0) =
     sym (append_assoc (line_of r) (timing_of rs) f.timing.0) ∙ (sym f.timing.1 ∙ (g.timing.1 ∙ append_assoc (line_of q) (timing_of qs) g.timing.0)) in
     let shapes = first_line (shape_of r) (shape_of q) (timing_of rs ++ f.timing.0) (timing_of qs ++ g.timing.0) (All-head IsValid r rs f.valid) (All-head IsValid q qs g.valid) lines in
     let shape : shape_of r ≡ shape_of q = shapes.0 in
-    same_record r q shape (λ s. same_front (data_in s r) (data_in s q) (stream_of s rs) (stream_of s qs) (X s) (data_length s r ∙ (ap (told_count s) shape ∙ sym (data_length s q))) (f.streams s) (g.streams s))
+    same_record r q shape (λ s. same_prefix (data_in s r) (data_in s q) (stream_of s rs) (stream_of s qs) (X s) (data_length s r ∙ (ap (told_count s) shape ∙ sym (data_length s q))) (f.streams s) (g.streams s))
 
 -- of two lists of records one begins the other
 Compared : List Record → List Record → Type 0
@@ -141,13 +136,13 @@ unfolding Compared
 compared_behind r q rs qs same (inl h) = inl (h.0, cc (h.1))
 compared_behind r q rs qs same (inr h) = inr (h.0, cc (h.1))
 
-compare : (t : List ℕ) (X : Stream → List ℕ) (rs qs : List Record) → Fronts t X rs → Fronts t X qs → Compared rs qs
+compare : (t : List ℕ) (X : Stream → List ℕ) (rs qs : List Record) → Prefixes t X rs → Prefixes t X qs → Compared rs qs
 unfolding Compared
 compare t X [] qs f g = inl (qs, refl)
 compare t X (r ∷ rs) [] f g = inr (r ∷ rs, refl)
 compare t X (r ∷ rs) (q ∷ qs) f g =
     let same = first_record t X r q rs qs f g in
-    let g' = subst (λ (p : Record). Fronts t X (p ∷ qs)) (sym same) g in
+    let g' = subst (λ (p : Record). Prefixes t X (p ∷ qs)) (sym same) g in
     compared_behind r q rs qs same (compare (drop (length (line_of r)) t) (λ s. drop (length (data_in s r)) (X s)) rs qs (behind_first t X r rs f) (behind_first t X r qs g'))
 
 valid_at : (qs : List Record) (r : Record) (more : List Record) → All IsValid (qs ++ r ∷ more) → IsValid r
@@ -155,9 +150,9 @@ valid_at [] r more h = All-head IsValid r more h
 valid_at (q ∷ qs) r more h = valid_at qs r more (All-tail IsValid q (qs ++ r ∷ more) h)
 
 -- the line of the next record stands behind the records before it
-line_behind : (l : Laid) (qs : List Record) (r : Record) (more : List Record) → Begins l (qs ++ r ∷ more) → IsLineAt l.timing (length (timing_of qs)) (shape_of r) (length (timing_of qs) + length (line_of r))
+pub line_behind : (l : Laid) (qs : List Record) (r : Record) (more : List Record) → Begins l (qs ++ r ∷ more) → IsLineAt l.timing (length (timing_of qs)) (shape_of r) (length (timing_of qs) + length (line_of r))
 line_behind l qs r more begins =
-    let behind : IsFront (timing_of (r ∷ more)) (drop (length (timing_of qs)) l.timing) = second_front (timing_of qs) (timing_of (r ∷ more)) l.timing (subst (λ (t : List ℕ). IsFront t l.timing) (timing_of-append qs (r ∷ more)) begins.timing) in
+    let behind : IsPrefix (timing_of (r ∷ more)) (drop (length (timing_of qs)) l.timing) = second_prefix (timing_of qs) (timing_of (r ∷ more)) l.timing (subst (λ (t : List ℕ). IsPrefix t l.timing) (timing_of-append qs (r ∷ more)) begins.timing) in
     let spelled : drop (length (timing_of qs)) l.timing ≡ line_of r ++ (timing_of more ++ behind.0) = behind.1 ∙ append_assoc (line_of r) (timing_of more) behind.0 in
     let dropped : drop (length (timing_of qs) + length (line_of r)) l.timing ≡ timing_of more ++ behind.0 =
     sym (drop-drop (length (line_of r)) (length (timing_of qs)) l.timing) ∙ (ap (drop (length (line_of r))) spelled ∙ drop_at (line_of r) (timing_of more ++ behind.0) (length (line_of r)) refl) in
@@ -175,14 +170,14 @@ delay_told (records.Suspend d g) = refl
 
 lacks_none : (l : Laid) (qs : List Record) (r : Record) (more : List Record) (s : Stream) → Begins l (qs ++ r ∷ more) → IsShort l qs (shape_of r) s → ⊥
 lacks_none l qs (records.Io d t b) more s begins short =
-    let whole = front_length (stream_of t (qs ++ records.Io d t b ∷ more)) (stream_in t l) (begins.streams t) in
+    let whole = prefix_length (stream_of t (qs ++ records.Io d t b ∷ more)) (stream_in t l) (begins.streams t) in
     omega (arith, short.2, whole, ap length (stream_of-append t qs (records.Io d t b ∷ more)), length-append (stream_of t qs) (stream_of t (records.Io d t b ∷ more)), length-append (data_in t (records.Io d t b)) (stream_of t more), ap length (own_data d t b))
 lacks_none l qs (records.Winsize d r c) more s begins short = short
 lacks_none l qs (records.Suspend d g) more s begins short = short
 
 -- nothing is at fault behind records that are followed by another one
 no_fault_before : (l : Laid) (qs : List Record) (r : Record) (more : List Record) (fault : LayFault) → Begins l (qs ++ r ∷ more) → IsFaulty l qs fault → ⊥
-no_fault_before l qs r more (faults.BadLine place) begins bad =
+no_fault_before l qs r more (faults.BadLine offset) begins bad =
     bad.1.no_line (shape_of r) (length (timing_of qs) + length (line_of r)) (subst (λ (k : ℕ). IsLineAt l.timing k (shape_of r) (length (timing_of qs) + length (line_of r))) (sym bad.0) (line_behind l qs r more begins))
 no_fault_before l qs r more (faults.Short s) begins (told, next, short) =
     let same = one_line l.timing (length (timing_of qs)) next.0 _ told (shape_of r) next.1 (line_behind l qs r more begins) in
@@ -194,7 +189,7 @@ no_fault_before l qs r more faults.NoMem begins bad = bad
 
 -- nor is anything behind the whole timing
 no_fault_at_end : (l : Laid) (rs : List Record) (fault : LayFault) → IsRead l rs → IsFaulty l rs fault → ⊥
-no_fault_at_end l rs (faults.BadLine place) read bad = omega (arith, bad.0, bad.1.before_end, ap length read.whole)
+no_fault_at_end l rs (faults.BadLine offset) read bad = omega (arith, bad.0, bad.1.before_end, ap length read.whole)
 no_fault_at_end l rs (faults.Short s) read (told, next, short) = none_at_end l.timing (length (timing_of rs)) told next.0 (omega (arith, ap length read.whole)) next.1
 no_fault_at_end l rs faults.TooLong read (told, next, late) = none_at_end l.timing (length (timing_of rs)) told next.0 (omega (arith, ap length read.whole)) next.1
 no_fault_at_end l rs faults.NoMem read bad = bad
@@ -211,7 +206,7 @@ clean l rs qs fault read begins faulty (inr ([], e)) = no_fault_at_end l rs faul
 clean l rs qs fault read begins faulty (inr ((r ∷ more), e)) = no_fault_before l qs r more fault (subst (Begins l) e read.begins) faulty
 
 pub no_fault : (l : Laid) (rs : List Record) (fault : LayFault) → IsRead l rs → Fails l fault → ⊥
-no_fault l rs fault read (qs, begins, faulty) = clean l rs qs fault read begins faulty (compare l.timing (λ s. stream_in s l) rs qs (fronts_of l rs read.begins) (fronts_of l qs begins))
+no_fault l rs fault read (qs, begins, faulty) = clean l rs qs fault read begins faulty (compare l.timing (λ s. stream_in s l) rs qs (prefixes_of l rs read.begins) (prefixes_of l qs begins))
 
 same_reading : (l : Laid) (rs qs : List Record) → IsRead l rs → IsRead l qs → Compared rs qs → rs ≡ qs
 unfolding Compared
@@ -221,7 +216,7 @@ same_reading l rs qs read other (inr ([], e)) = e ∙ append-nil qs
 same_reading l rs qs read other (inr ((r ∷ more), e)) = absurd (none_behind_whole l qs r more other (subst (Begins l) e read.begins))
 
 pub one_reading : (l : Laid) (rs qs : List Record) → IsRead l rs → IsRead l qs → rs ≡ qs
-one_reading l rs qs read other = same_reading l rs qs read other (compare l.timing (λ s. stream_in s l) rs qs (fronts_of l rs read.begins) (fronts_of l qs other.begins))
+one_reading l rs qs read other = same_reading l rs qs read other (compare l.timing (λ s. stream_in s l) rs qs (prefixes_of l rs read.begins) (prefixes_of l qs other.begins))
 
 -- a stream that lacks data and a time that is too long aren't told of one line
 short_in_time : (l : Laid) (rs : List Record) (told : Shaped) (s : Stream) → IsShort l rs told s → 2 ^ 63 ≤ elapsed rs + told_delay told → ⊥
@@ -234,8 +229,8 @@ short_stream l rs (Io d u n) s t short other = short.0 ∙ sym other.0
 short_stream l rs (Winsize d r c) s t short other = absurd short
 short_stream l rs (Suspend d g) s t short other = absurd short
 
-no_line_at : (l : Laid) (rs : List Record) (place : ℕ) (told : Shaped) → IsFaulty l rs (faults.BadLine place) → (next : ℕ) → IsLineAt l.timing (length (timing_of rs)) told next → ⊥
-no_line_at l rs place told bad next line = bad.1.no_line told next (subst (λ (k : ℕ). IsLineAt l.timing k told next) (sym bad.0) line)
+no_line_at : (l : Laid) (rs : List Record) (offset : ℕ) (told : Shaped) → IsFaulty l rs (faults.BadLine offset) → (next : ℕ) → IsLineAt l.timing (length (timing_of rs)) told next → ⊥
+no_line_at l rs offset told bad next line = bad.1.no_line told next (subst (λ (k : ℕ). IsLineAt l.timing k told next) (sym bad.0) line)
 
 -- behind the same records one thing is at fault
 same_fault : (l : Laid) (rs : List Record) (a b : LayFault) → IsFaulty l rs a → IsFaulty l rs b → a ≡ b
@@ -267,7 +262,7 @@ joined_fault l rs qs a b begins faulty other lacks (inr ([], e)) = same_fault l 
 joined_fault l rs qs a b begins faulty other lacks (inr ((r ∷ more), e)) = absurd (no_fault_before l qs r more b (subst (Begins l) e begins) lacks)
 
 pub one_fault : (l : Laid) (a b : LayFault) → Fails l a → Fails l b → a ≡ b
-one_fault l a b (rs, begins, faulty) (qs, other, lacks) = joined_fault l rs qs a b begins faulty other lacks (compare l.timing (λ s. stream_in s l) rs qs (fronts_of l rs begins) (fronts_of l qs other))
+one_fault l a b (rs, begins, faulty) (qs, other, lacks) = joined_fault l rs qs a b begins faulty other lacks (compare l.timing (λ s. stream_in s l) rs qs (prefixes_of l rs begins) (prefixes_of l qs other))
 
 -- what is laid is read
 pub laid_is_read : (l : Laid) (rs : List Record) → All IsValid rs → elapsed rs < 2 ^ 63 → IsLayout l rs → IsRead l rs
@@ -280,3 +275,37 @@ laid_is_read l rs valid time laid = record {
   };
   whole = laid.timing;
 }
+
+-- of two beginnings of a layout one begins the other
+pub one_begins : (l : Laid) (rs qs : List Record) → Begins l rs → Begins l qs → OneBegins rs qs
+unfolding Compared
+one_begins l rs qs begins other = compare l.timing (λ s. stream_in s l) rs qs (prefixes_of l rs begins) (prefixes_of l qs other)
+
+whole_layout : (l : Laid) (rs : List Record) → All IsValid rs → IsLayout l rs → Prefixes l.timing (λ s. stream_in s l) rs
+whole_layout l rs valid laid = record {
+  valid = valid;
+  timing = ([], laid.timing ∙ sym (append-nil (timing_of rs)));
+  streams = λ s. ([], laid.streams s ∙ sym (append-nil (stream_of s rs)));
+}
+
+-- no record is laid in no bytes
+none_laid : (rs : List Record) (r : Record) (more : List Record) → timing_of (rs ++ r ∷ more) ≡ timing_of rs → ⊥
+none_laid rs r more e = omega (arith, ap length e, ap length (timing_of-append rs (r ∷ more)), length-append (timing_of rs) (timing_of (r ∷ more)), length-append (line_of r) (timing_of more), length-append (text_of (shape_of r)) (10 ∷ []))
+
+one_of_two : (l : Laid) (rs qs : List Record) → IsLayout l rs → IsLayout l qs → Compared rs qs → rs ≡ qs
+unfolding Compared
+one_of_two l rs qs laid other (inl ([], e)) = sym (e ∙ append-nil rs)
+one_of_two l rs qs laid other (inl ((r ∷ more), e)) = absurd (none_laid rs r more (ap timing_of (sym e) ∙ (sym other.timing ∙ laid.timing)))
+one_of_two l rs qs laid other (inr ([], e)) = e ∙ append-nil qs
+one_of_two l rs qs laid other (inr ((r ∷ more), e)) = absurd (none_laid qs r more (ap timing_of (sym e) ∙ (sym laid.timing ∙ other.timing)))
+
+-- a layout is that of one list of valid records
+pub one_layout : (l : Laid) (rs qs : List Record) → All IsValid rs → All IsValid qs → IsLayout l rs → IsLayout l qs → rs ≡ qs
+one_layout l rs qs valid other laid laid_too =
+    one_of_two l rs qs laid laid_too (compare l.timing (λ s. stream_in s l) rs qs (whole_layout l rs valid laid) (whole_layout l qs other laid_too))
+
+-- the data of the next record stand behind those of the records before it
+pub data_behind : (l : Laid) (qs : List Record) (r : Record) (more : List Record) → Begins l (qs ++ r ∷ more) → (s : Stream) → take (length (data_in s r)) (drop (length (stream_of s qs)) (stream_in s l)) ≡ data_in s r
+data_behind l qs r more begins s =
+    let behind : IsPrefix (stream_of s (r ∷ more)) (drop (length (stream_of s qs)) (stream_in s l)) = second_prefix (stream_of s qs) (stream_of s (r ∷ more)) (stream_in s l) (subst (λ (t : List ℕ). IsPrefix t (stream_in s l)) (stream_of-append s qs (r ∷ more)) (begins.streams s)) in
+    ap (take (length (data_in s r))) (behind.1 ∙ append_assoc (data_in s r) (stream_of s more) behind.0) ∙ take_at (data_in s r) (stream_of s more ++ behind.0) (length (data_in s r)) refl

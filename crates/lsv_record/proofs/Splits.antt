@@ -2,7 +2,7 @@
 use Rattle.std.proofs.Common.{◌≡◌, ◌≢◌, ℕ, ◌<◌, ◌≤◌, List, [], ◌∷◌, ◌++◌, All, arith, refl}
 use Rattle.std.proofs.lemmas.List.Elements.{All-head, All-tail, All-weaker}
 
--- a byte that no place of a text has stands nowhere in it
+-- a byte that a text has nowhere stands nowhere in it
 pub stands_not : (stop : ℕ) (a b : List ℕ) → All (λ byte. byte ≢ stop) (a ++ stop ∷ b) → ⊥
 stands_not stop [] b h = All-head (λ byte. byte ≢ stop) stop b h refl
 stands_not stop (x ∷ a) b h = stands_not stop a b (All-tail (λ byte. byte ≢ stop) x (a ++ stop ∷ b) h)

@@ -6,7 +6,7 @@ use Rattle.std.proofs.lemmas.List.Elements.{All-cons, All-append, All-from_get_o
 use Rattle.std.proofs.lemmas.Str.Parse.{digit_at}
 use Rattle.std.proofs.lemmas.Fmt.{decimal_injective}
 use Rattle.lsv_record.specs.Records.{last_digits, seconds}
-use Rattle.lsv_record.specs.Spelled.{Reads}
+use Rattle.lsv_record.specs.Inner.Spelled.{Reads}
 use Rattle.lsv_record.proofs.Numerals.{decimal_digits, digits-last_digits, value-last_digits}
 use Rattle.lsv_record.proofs.Splits.{stands_not, cut_once, avoids}
 

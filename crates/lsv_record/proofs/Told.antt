@@ -7,7 +7,7 @@ use Rattle.lsv_record.specs.declared.records.Stream.TheVariants.{Stdin, Stdout, 
 use Rattle.lsv_record.specs.declared.records.Shaped.{Shaped}
 use Rattle.lsv_record.specs.declared.records.Shaped.TheVariants.{Io, Winsize, Suspend}
 use Rattle.lsv_record.specs.Records.{seconds, event_of, text_of, IsGood, IsSignal}
-use Rattle.lsv_record.specs.Spelled.{Reads, Parts, joined, parts_of}
+use Rattle.lsv_record.specs.Inner.Spelled.{Reads, Parts, joined, parts_of}
 use Rattle.lsv_record.proofs.Splits.{stands_not, cut_once, avoids}
 use Rattle.lsv_record.proofs.Times.{decimal_without, seconds_above, seconds_injective}
 

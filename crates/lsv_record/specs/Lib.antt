@@ -1,4 +1,6 @@
-pub mod Reader
-pub mod Reading
+pub mod Inner
+pub mod Layout
+pub mod Lines
+pub mod Points
 pub mod Records
-pub mod Spelled
+pub mod Tally

@@ -1,6 +1,6 @@
 -- Records of a session, and their layout (sudoers I/O log format): lines of timing, and the data of each stream.
-use Rattle.std.specs.Prelude.{ℕ, zero, suc, ◌+◌, ◌/◌, ◌%◌, ◌^◌, ◌<◌, ◌≤◌, List, [], ◌∷◌, ◌++◌, length, All, ◌==◌, if◌then◌else◌}
-use Rattle.std.specs.List.{flat_map}
+use Rattle.std.specs.Prelude.{ℕ, zero, suc, ◌+◌, ◌/◌, ◌%◌, ◌^◌, ◌<◌, ◌≤◌, List, [], ◌∷◌, ◌++◌, length, All, Bool, nat_lt, nat_le, ◌&&◌, ◌==◌, if◌then◌else◌}
+use Rattle.std.specs.List.{flat_map, list_all}
 use Rattle.std.specs.Fmt.{decimal}
 use Rattle.lsv_record.specs.declared.records.Stream.{Stream}
 use Rattle.lsv_record.specs.declared.records.Stream.TheVariants.{Stdin, Stdout, Stderr, Ttyin, Ttyout}
@@ -81,6 +81,10 @@ pub record IsSignal (text : List ℕ) : Type 0 where
   pub few : length text ≤ 32
   pub visible : All (λ byte. (33 ≤ byte) × (byte ≤ 126)) text
 
+-- whether a text is a signal's name
+abbrev pub is_signal : List ℕ → Bool
+is_signal text = nat_le 1 (length text) && nat_le (length text) 32 && list_all (λ byte. nat_le 33 byte && nat_le byte 126) text
+
 -- a line may tell this: delays below 2 ^ 63 ns, at most 2 MiB of data, windows below 2 ^ 31 each way
 abbrev pub IsGood : Shaped → Type 0
 IsGood (shapes.Io delay stream count) = (delay < 2 ^ 63) × (count ≤ 2097152)
@@ -90,3 +94,9 @@ IsGood (shapes.Suspend delay signal) = (delay < 2 ^ 63) × IsSignal signal
 -- a valid record
 abbrev pub IsValid : Record → Type 0
 IsValid r = IsGood (shape_of r)
+
+-- whether a record is valid
+abbrev pub is_valid : Record → Bool
+is_valid (Io delay stream bytes) = nat_lt delay (2 ^ 63) && nat_le (length bytes) 2097152
+is_valid (Winsize delay rows cols) = nat_lt delay (2 ^ 63) && nat_lt rows (2 ^ 31) && nat_lt cols (2 ^ 31)
+is_valid (Suspend delay signal) = nat_lt delay (2 ^ 63) && is_signal signal

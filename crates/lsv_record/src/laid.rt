@@ -1,6 +1,7 @@
-ghost use Rattle.std.specs.Prelude.{◌≡◌, ◌++◌, [], ◌==◌, if◌then◌else◌, IfOk, OnOk};
+ghost use Rattle.std.specs.Prelude.{◌≡◌, ◌++◌, ◌∷◌, [], List, ◌==◌, if◌then◌else◌, IfOk, OnOk, OnErr};
 ghost use Rattle.lsv_record.specs.Records.{line_of, data_in, event_of};
-ghost use Rattle.lsv_record.specs.Reading.{IsLayout, stream_in};
+ghost use Rattle.lsv_record.specs.Layout.{IsLayout, stream_in};
+ghost use Rattle.lsv_record.specs.declared.records.Record.{Record};
 ghost use Rattle.lsv_record.specs.declared.records.Stream.{Stream};
 
 use crate::{Record, Stream, put_line};
@@ -32,8 +33,8 @@ impl Laid {
         }
     }
 
-    /// The layout of no records.
-    fn empty(alloc: Global) -> Self
+    /// The layout of no records. It takes no memory until it grows.
+    pub fn new(alloc: Global) -> Self
         ensures { IsLayout result [] }
     {
         Laid {
@@ -46,22 +47,30 @@ impl Laid {
         }
     }
 
-    /// Puts one record more at the end.
-    fn add(&mut self, r: &Record) -> Result<(), NoMem>
+    /// Puts one record more at the end, which needn't be valid. Out of memory it leaves the layout as it was.
+    pub fn add(&mut self, r: &Record) -> Result<(), NoMem>
         ensures timing { OnOk result (self.new.timing ≡ self.old.timing ++ line_of r.now) }
         ensures streams { OnOk result ((s : Stream) → stream_in s self.new ≡ stream_in s self.old ++ data_in s r.now) }
+        ensures layout { OnOk result ((records : List Record) → IsLayout self.old records → IsLayout self.new (records ++ r.now ∷ [])) }
+        ensures err { OnErr result (self.new ≡ self.old) }
     {
+        let len = self.timing.as_slice().len();
         put_line(&mut self.timing, r)?;
-        match r {
-            Record::Io { stream, bytes, .. } => self.add_data(*stream, bytes.as_slice()),
-            Record::Winsize { .. } | Record::Suspend { .. } => Ok(()),
+        let Record::Io { stream, bytes, .. } = r else {
+            return Ok(());
+        };
+        let added = self.add_data(*stream, bytes.as_slice());
+        if added.is_err() {
+            self.timing.truncate(len);
         }
+        added
     }
 
-    /// Puts data at the end of a stream.
+    /// Puts data at the end of a stream. Out of memory it leaves the layout as it was.
     fn add_data(&mut self, stream: Stream, bytes: &[u8]) -> Result<(), NoMem>
         ensures timing { OnOk result (self.new.timing ≡ self.old.timing) }
         ensures streams { OnOk result ((s : Stream) → stream_in s self.new ≡ stream_in s self.old ++ (if event_of s == event_of stream then bytes.now else [])) }
+        ensures err { OnErr result (self.new ≡ self.old) }
     {
         match stream {
             Stream::Stdin => self.stdin.add(bytes),
@@ -77,7 +86,7 @@ impl Laid {
 pub fn lay(alloc: Global, rs: &[Record]) -> Result<Laid, NoMem>
     ensures { IfOk result (λ l. IsLayout l rs.now) }
 {
-    let mut laid = Laid::empty(alloc);
+    let mut laid = Laid::new(alloc);
     for r in rs {
         laid.add(r)?;
     }

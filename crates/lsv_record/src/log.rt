@@ -1,11 +1,12 @@
 ghost use Rattle.std.specs.Prelude.{◌≡◌, ◌≢◌, ◌+◌, ◌<◌, ◌≤◌, length, take, drop, IfOk, IfErr, MatchOption};
 ghost use Rattle.std.specs.Bool.{OnTrue, OnFalse};
-ghost use Rattle.lsv_record.specs.Reader.{IsBehind, IsTaken};
-ghost use Rattle.lsv_record.specs.Reading.{IsRead, IsRefused, Fails, told_delay};
+ghost use Rattle.lsv_record.specs.Inner.Reader.{IsBehind, IsTaken};
+ghost use Rattle.lsv_record.specs.Layout.{IsRead, IsRefused, Fails};
+ghost use Rattle.lsv_record.specs.Lines.{told_delay};
 ghost use Rattle.lsv_record.specs.Records.{IsGood};
 ghost use Rattle.lsv_record.specs.declared.log.LayFault.TheVariants as faults;
 
-use crate::reading::TIME_LIMIT;
+use crate::read::TIME_LIMIT;
 use crate::{Laid, LineFault, Record, Shaped, Stream, read_line};
 use lsv_base::{Bytes, List, NoMem};
 use std::alloc::Global;
@@ -13,13 +14,13 @@ use std::alloc::Global;
 /// Why a layout couldn't be read.
 #[derive(Clone, Copy, Debug, PartialEq, Eq)]
 pub enum LayFault {
-    /// No line of timing stands at this place.
+    /// No line of timing stands at this offset.
     BadLine(usize),
     /// The stream has fewer bytes than the lines of timing tell.
     Short(Stream),
     /// The elapsed time reaches 2^63 nanoseconds.
     TooLong,
-    /// Memory was wanting.
+    /// Out of memory.
     NoMem,
 }
 
@@ -37,7 +38,7 @@ impl From<NoMem> for LayFault {
 #[derive(Debug, Drop)]
 struct Reader {
     records: List<Record>,
-    /// The place of the next line of timing.
+    /// The offset of the next line of timing.
     at: usize,
     /// Nanoseconds from the start of the log.
     elapsed: u64,
@@ -46,7 +47,7 @@ struct Reader {
 }
 
 impl Reader {
-    /// Reads the next record, or says false at the end of the timing.
+    /// Reads the next record, or returns false at the end of the timing.
     fn next(&mut self, alloc: Global, l: &Laid) -> Result<bool, LayFault>
         requires { IsBehind l.now self.old }
         ensures more { IfOk result (λ more. OnTrue more (IsBehind l.now self.new)) }
@@ -57,7 +58,7 @@ impl Reader {
         let (told, next) = match read_line(alloc, l.timing.as_slice(), self.at) {
             Ok(Some(line)) => line,
             Ok(None) => return Ok(false),
-            Err(LineFault::BadLine(place)) => return Err(LayFault::BadLine(place)),
+            Err(LineFault::BadLine(offset)) => return Err(LayFault::BadLine(offset)),
             Err(LineFault::NoMem) => return Err(LayFault::NoMem),
         };
         let record = self.take(alloc, l, told)?;
@@ -75,7 +76,7 @@ impl Reader {
         ensures ok { IfOk result (λ r. IsTaken l.now told self.old self.new r) }
         ensures fault { IfErr result (λ fault. fault ≢ faults.NoMem → IsRefused l.now self.old.records told fault) }
     {
-        let elapsed = self.elapsed + delay_of(&told);
+        let elapsed = self.elapsed + told.delay();
         if elapsed >= TIME_LIMIT {
             return Err(LayFault::TooLong);
         }
@@ -101,7 +102,7 @@ impl Reader {
     }
 }
 
-/// A copy of so many bytes from a place on. None where there are fewer.
+/// A copy of so many bytes from an offset on. None where there are fewer.
 fn data_at(alloc: Global, stream: &[u8], from: usize, count: usize) -> Result<Option<Bytes>, NoMem>
     requires { from ≤ length stream.now }
     ensures { IfOk result (λ found. MatchOption found (length stream.now < from + count)
@@ -113,15 +114,6 @@ fn data_at(alloc: Global, stream: &[u8], from: usize, count: usize) -> Result<Op
     }
     let (bytes, _) = rest.split_at(count);
     Ok(Some(Bytes::of(alloc, bytes)?))
-}
-
-/// The delay that a line tells.
-fn delay_of(told: &Shaped) -> u64
-    ensures { result ≡ told_delay told.now }
-{
-    match told {
-        Shaped::Io(delay, ..) | Shaped::Winsize(delay, ..) | Shaped::Suspend(delay, ..) => *delay,
-    }
 }
 
 /// The records of a layout. At each line, from front to back, the line is bad, or else the elapsed time reaches 2^63

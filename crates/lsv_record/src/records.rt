@@ -1,5 +1,6 @@
 ghost use Rattle.std.specs.Prelude.{◌≡◌, ◌↔◌, IsTrue};
-ghost use Rattle.lsv_record.specs.Records.{IsSignal, event_of};
+ghost use Rattle.lsv_record.specs.Lines.{told_delay};
+ghost use Rattle.lsv_record.specs.Records.{IsSignal, delay_of, event_of};
 
 use lsv_base::Bytes;
 
@@ -15,7 +16,7 @@ pub enum Stream {
 
 impl Stream {
     /// The number of its event in a line of timing (sudoers I/O log format).
-    pub(crate) fn event(self) -> u8
+    pub fn event(self) -> u8
         ensures { result ≡ event_of self }
     {
         match self {
@@ -52,6 +53,19 @@ pub enum Record {
     },
 }
 
+impl Record {
+    /// The nanoseconds since the record before.
+    pub fn delay(&self) -> u64
+        ensures { result ≡ delay_of self.now }
+    {
+        match self {
+            Record::Io { delay, .. }
+            | Record::Winsize { delay, .. }
+            | Record::Suspend { delay, .. } => *delay,
+        }
+    }
+}
+
 /// What a line of timing tells of a record: all but the data of a stream, of which it has the number of bytes.
 #[derive(Debug, Drop)]
 pub enum Shaped {
@@ -61,6 +75,19 @@ pub enum Shaped {
     Winsize(u64, u32, u32),
     /// The delay in nanoseconds, and the signal's name.
     Suspend(u64, Bytes),
+}
+
+impl Shaped {
+    /// The nanoseconds since the line before.
+    pub fn delay(&self) -> u64
+        ensures { result ≡ told_delay self.now }
+    {
+        match self {
+            Shaped::Io(delay, ..) | Shaped::Winsize(delay, ..) | Shaped::Suspend(delay, ..) => {
+                *delay
+            }
+        }
+    }
 }
 
 /// Whether a text is a signal's name: 1 to 32 visible bytes of ASCII.

@@ -1,5 +1,5 @@
 use Rattle.std.proofs.Common.{take}
-use Rattle.lsv_record.specs.Reading.{IsLayout}
+use Rattle.lsv_record.specs.Layout.{IsLayout}
 use Rattle.lsv_record.proofs.laid.lay.Given as goal
 
 -- the records so far are laid

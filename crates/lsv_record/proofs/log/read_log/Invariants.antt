@@ -1,5 +1,5 @@
 use Rattle.std.proofs.Common.{◌-◌, length}
-use Rattle.lsv_record.specs.Reader.{IsBehind}
+use Rattle.lsv_record.specs.Inner.Reader.{IsBehind}
 use Rattle.lsv_record.proofs.log.read_log.Given as goal
 
 -- the layout begins with the records so far

@@ -1,5 +1,0 @@
-use Rattle.lsv_record.proofs.Once.{one_line}
-use Rattle.lsv_record.proofs.laws.one_line_stands_at_a_place.Goals as goal
-
-pub returns : goal.returns
-returns c = λ text at next other_next told other a b. one_line text at next other_next told other a b
