@@ -1,0 +1,5 @@
+mod Covers
+mod Prompts
+mod Stars
+mod Steps
+mod Tails
