@@ -7,7 +7,7 @@ use Rattle.std.proofs.lemmas.List.{length-append, take-append-le}
 use Rattle.std.specs.Int.{w32, from_be_bytes}
 use Rattle.lsv_wire.specs.Frame.{IsTooLong}
 use Rattle.lsv_wire.proofs.Streams.{framed-piece}
-use Rattle.lsv_disk.specs.State.{DiskState}
+use Rattle.lsv_disk.specs.View.{DiskView}
 use Rattle.lsv_disk.specs.declared.file.FileId.{FileId}
 use Rattle.lsv_serve.specs.declared.status.Status.{Status}
 use Rattle.lsv_serve.specs.declared.status.Status.TheVariants as status
@@ -135,7 +135,7 @@ takes-plain There Failed w n bytes old xs rest new t = record {
   answered = t.answered;
 }
 
-module _ (ST KT DT : Type 0) (g0 g1 : List (List ℕ)) (r0 r1 : List ℕ) (Ended : Type 0) (p0 p1 : List ℕ) (f0 f1 : FileId → ℕ) (d0 d1 : DiskState) (head : Head) (records : List Record) (exit : Exit) where
+module _ (ST KT DT : Type 0) (g0 g1 : List (List ℕ)) (r0 r1 : List ℕ) (Ended : Type 0) (p0 p1 : List ℕ) (f0 f1 : FileId → ℕ) (d0 d1 : DiskView) (head : Head) (records : List Record) (exit : Exit) where
   -- a run that took a whole conversation answered it, and stored its records
   pub story-complete : Story ST KT DT g0 g1 r0 r1 Ended p0 p1 f0 f1 d0 d1 status.Served → ST → KT → DT → (Ended → r1 ≡ []) → IsConversation r0 head records exit → log_is_there d0.reads ≡ false → (LogFailed f0 f1 → ⊥)
       → (p1 ≡ p0 ++ answers (replies_to records)) × HoldsHead d1 head × HoldsLayout d1 (exit_text exit) records

@@ -1,9 +1,9 @@
 -- How turns make a run.
 use Rattle.std.proofs.Common.{◌≡◌, ◌⊎◌, inl, inr, ⊎_elim, ◌≤◌, ◌++◌, ◌∷◌, [], List, ℕ, Bool, refl, sym, ap, subst, ◌∙◌, append_assoc, append-nil, arith}
 use Rattle.std.specs.List.{concat}
-use Rattle.lsv_words.specs.Pieces.{IsFront}
+use Rattle.lsv_words.specs.Pieces.{IsPrefix}
 use Rattle.lsv_wire.specs.Frame.{frame_of, framed}
-use Rattle.lsv_disk.specs.State.{DiskState, Elsewhere, IsUntouched}
+use Rattle.lsv_disk.specs.View.{DiskView, Elsewhere, IsUntouched}
 use Rattle.lsv_disk.specs.declared.file.FileId.{FileId}
 use Rattle.lsv_serve.specs.declared.session.Session.{Session}
 use Rattle.lsv_serve.specs.declared.session.Session.TheVariants as session
@@ -99,9 +99,9 @@ read-on r0 r1 r2 ps p before now = before ∙ ap (λ r. concat ps ++ r) now ∙ 
 none-more : (r0 r2 : List ℕ) (ps : List (List ℕ)) → r0 ≡ concat ps ++ r2 → r0 ≡ concat (ps ++ []) ++ r2
 none-more r0 r2 ps e = e ∙ ap (λ (qs : List (List ℕ)). concat qs ++ r2) (sym (append-nil ps))
 
-module _ (ST KT DT : Type 0) (g0 : List (List ℕ)) (r0 : List ℕ) (p0 : List ℕ) (f0 : FileId → ℕ) (d0 : DiskState) where
+module _ (ST KT DT : Type 0) (g0 : List (List ℕ)) (r0 : List ℕ) (p0 : List ℕ) (f0 : FileId → ℕ) (d0 : DiskView) where
   -- nothing was read yet
-  pub course-at-start : (p1 : List ℕ) (f1 : FileId → ℕ) (d1 : DiskState) (s : Session) → (KT → p1 ≡ p0 ++ frame_of hello_message) → Stands DT d0 d1 f0 f1 Fresh s → Course ST KT DT g0 g0 r0 r0 p0 p1 f0 f1 d0 d1 [] s
+  pub course-at-start : (p1 : List ℕ) (f1 : FileId → ℕ) (d1 : DiskView) (s : Session) → (KT → p1 ≡ p0 ++ frame_of hello_message) → Stands DT d0 d1 f0 f1 Fresh s → Course ST KT DT g0 g0 r0 r0 p0 p1 f0 f1 d0 d1 [] s
   course-at-start p1 f1 d1 s said stands = record {
     pieces = [];
     given = λ told. sym (append-nil g0);
@@ -116,7 +116,7 @@ module _ (ST KT DT : Type 0) (g0 : List (List ℕ)) (r0 : List ℕ) (p0 : List �
   }
 
   -- the hello was put in part
-  pub story-no-hello : (how : Status) (p1 : List ℕ) (f1 : FileId → ℕ) (d1 : DiskState) (Ended : Type 0) → (KT → (front : List ℕ) × IsFront front (frame_of hello_message) × (p1 ≡ p0 ++ front)) → Stands DT d0 d1 f0 f1 Fresh session.Fresh → (how ≡ status.NoMem) ⊎ (how ≡ status.WriteFault) → Story ST KT DT g0 g0 r0 r0 Ended p0 p1 f0 f1 d0 d1 how
+  pub story-no-hello : (how : Status) (p1 : List ℕ) (f1 : FileId → ℕ) (d1 : DiskView) (Ended : Type 0) → (KT → (front : List ℕ) × IsPrefix front (frame_of hello_message) × (p1 ≡ p0 ++ front)) → Stands DT d0 d1 f0 f1 Fresh session.Fresh → (how ≡ status.NoMem) ⊎ (how ≡ status.WriteFault) → Story ST KT DT g0 g0 r0 r0 Ended p0 p1 f0 f1 d0 d1 how
   story-no-hello how p1 f1 d1 Ended put stands why = record {
     pieces = [];
     lost = [];
@@ -140,7 +140,7 @@ module _ (ST KT DT : Type 0) (g0 : List (List ℕ)) (r0 : List ℕ) (p0 : List �
   }
 
   -- a piece is taken
-  pub turned : (g1 g2 : List (List ℕ)) (r1 r2 : List ℕ) (p1 : List ℕ) (f1 f2 : FileId → ℕ) (d1 d2 : DiskState) (unread unread' piece : List ℕ) (s s' : Session) (out : List ℕ) (c : Course ST KT DT g0 g1 r0 r1 p0 p1 f0 f1 d0 d1 unread s) → (ST → g2 ≡ g1 ++ piece ∷ []) → (ST → r1 ≡ piece ++ r2) → ((x : FileId) → f1 x ≤ f2 x) → TakesAll DT d0 d2 f0 f2 c.stage (unread ++ piece) unread' s' [] out → Turned ST DT g0 g2 r0 r2 f0 f2 d0 d2 unread' s' c.replies out
+  pub turned : (g1 g2 : List (List ℕ)) (r1 r2 : List ℕ) (p1 : List ℕ) (f1 f2 : FileId → ℕ) (d1 d2 : DiskView) (unread unread' piece : List ℕ) (s s' : Session) (out : List ℕ) (c : Course ST KT DT g0 g1 r0 r1 p0 p1 f0 f1 d0 d1 unread s) → (ST → g2 ≡ g1 ++ piece ∷ []) → (ST → r1 ≡ piece ++ r2) → ((x : FileId) → f1 x ≤ f2 x) → TakesAll DT d0 d2 f0 f2 c.stage (unread ++ piece) unread' s' [] out → Turned ST DT g0 g2 r0 r2 f0 f2 d0 d2 unread' s' c.replies out
   turned g1 g2 r1 r2 p1 f1 f2 d1 d2 unread unread' piece s s' out c given read later t =
       let wider = log-failed-later f0 f1 f2 later in
       record {
@@ -157,7 +157,7 @@ module _ (ST KT DT : Type 0) (g0 : List (List ℕ)) (r0 : List ℕ) (p0 : List �
       }
 
   -- its answers are put, and the session goes on
-  pub course-on : (g2 : List (List ℕ)) (r2 : List ℕ) (p1 p2 : List ℕ) (f2 : FileId → ℕ) (d2 : DiskState) (unread' : List ℕ) (s' : Session) (earlier : List Reply) (out : List ℕ) (t : Turned ST DT g0 g2 r0 r2 f0 f2 d0 d2 unread' s' earlier out) → (KT → p1 ≡ p0 ++ answers earlier) → (KT → p2 ≡ p1 ++ out) → (IsShut t.stage → ⊥) → Course ST KT DT g0 g2 r0 r2 p0 p2 f0 f2 d0 d2 unread' s'
+  pub course-on : (g2 : List (List ℕ)) (r2 : List ℕ) (p1 p2 : List ℕ) (f2 : FileId → ℕ) (d2 : DiskView) (unread' : List ℕ) (s' : Session) (earlier : List Reply) (out : List ℕ) (t : Turned ST DT g0 g2 r0 r2 f0 f2 d0 d2 unread' s' earlier out) → (KT → p1 ≡ p0 ++ answers earlier) → (KT → p2 ≡ p1 ++ out) → (IsShut t.stage → ⊥) → Course ST KT DT g0 g2 r0 r2 p0 p2 f0 f2 d0 d2 unread' s'
   course-on g2 r2 p1 p2 f2 d2 unread' s' earlier out t before put n = record {
     pieces = t.pieces;
     given = t.given;
@@ -173,7 +173,7 @@ module _ (ST KT DT : Type 0) (g0 : List (List ℕ)) (r0 : List ℕ) (p0 : List �
   }
 
   -- the input ended, or a read failed
-  pub story-from-course : (g1 g2 : List (List ℕ)) (r1 r2 : List ℕ) (p1 : List ℕ) (f1 : FileId → ℕ) (d1 : DiskState) (unread : List ℕ) (s : Session) (Ended : Type 0) (how : Status) → Course ST KT DT g0 g1 r0 r1 p0 p1 f0 f1 d0 d1 unread s → (ST → g2 ≡ g1) → (ST → r1 ≡ r2) → (how ≡ status.Served → ST → Ended) → Story ST KT DT g0 g2 r0 r2 Ended p0 p1 f0 f1 d0 d1 how
+  pub story-from-course : (g1 g2 : List (List ℕ)) (r1 r2 : List ℕ) (p1 : List ℕ) (f1 : FileId → ℕ) (d1 : DiskView) (unread : List ℕ) (s : Session) (Ended : Type 0) (how : Status) → Course ST KT DT g0 g1 r0 r1 p0 p1 f0 f1 d0 d1 unread s → (ST → g2 ≡ g1) → (ST → r1 ≡ r2) → (how ≡ status.Served → ST → Ended) → Story ST KT DT g0 g2 r0 r2 Ended p0 p1 f0 f1 d0 d1 how
   story-from-course g1 g2 r1 r2 p1 f1 d1 unread s Ended how c given read ended = record {
     pieces = c.pieces;
     lost = [];
@@ -195,7 +195,7 @@ module _ (ST KT DT : Type 0) (g0 : List (List ℕ)) (r0 : List ℕ) (p0 : List �
   }
 
   -- memory ran out within a turn
-  pub story-out-of-memory : (g1 g2 : List (List ℕ)) (r1 r2 : List ℕ) (p1 : List ℕ) (f1 f2 : FileId → ℕ) (d1 d2 : DiskState) (unread piece : List ℕ) (s : Session) (Ended : Type 0) → Course ST KT DT g0 g1 r0 r1 p0 p1 f0 f1 d0 d1 unread s → (ST → g2 ≡ g1 ++ piece ∷ []) → (ST → r1 ≡ piece ++ r2) → ((x : FileId) → f1 x ≤ f2 x) → (DT → Elsewhere IsOfLog d1 d2) → Story ST KT DT g0 g2 r0 r2 Ended p0 p1 f0 f2 d0 d2 status.NoMem
+  pub story-out-of-memory : (g1 g2 : List (List ℕ)) (r1 r2 : List ℕ) (p1 : List ℕ) (f1 f2 : FileId → ℕ) (d1 d2 : DiskView) (unread piece : List ℕ) (s : Session) (Ended : Type 0) → Course ST KT DT g0 g1 r0 r1 p0 p1 f0 f1 d0 d1 unread s → (ST → g2 ≡ g1 ++ piece ∷ []) → (ST → r1 ≡ piece ++ r2) → ((x : FileId) → f1 x ≤ f2 x) → (DT → Elsewhere IsOfLog d1 d2) → Story ST KT DT g0 g2 r0 r2 Ended p0 p1 f0 f2 d0 d2 status.NoMem
   story-out-of-memory g1 g2 r1 r2 p1 f1 f2 d1 d2 unread piece s Ended c given read later elsewhere =
       let wider = log-failed-later f0 f1 f2 later in
       record {
@@ -219,7 +219,7 @@ module _ (ST KT DT : Type 0) (g0 : List (List ℕ)) (r0 : List ℕ) (p0 : List �
       }
 
   -- the answers of a turn were put in part
-  pub story-write-fault : (g2 : List (List ℕ)) (r2 : List ℕ) (p1 p2 : List ℕ) (f2 : FileId → ℕ) (d2 : DiskState) (unread' : List ℕ) (s' : Session) (earlier : List Reply) (out : List ℕ) (Ended : Type 0) → Turned ST DT g0 g2 r0 r2 f0 f2 d0 d2 unread' s' earlier out → (KT → p1 ≡ p0 ++ answers earlier) → (KT → (front : List ℕ) × IsFront front out × (p2 ≡ p1 ++ front)) → Story ST KT DT g0 g2 r0 r2 Ended p0 p2 f0 f2 d0 d2 status.WriteFault
+  pub story-write-fault : (g2 : List (List ℕ)) (r2 : List ℕ) (p1 p2 : List ℕ) (f2 : FileId → ℕ) (d2 : DiskView) (unread' : List ℕ) (s' : Session) (earlier : List Reply) (out : List ℕ) (Ended : Type 0) → Turned ST DT g0 g2 r0 r2 f0 f2 d0 d2 unread' s' earlier out → (KT → p1 ≡ p0 ++ answers earlier) → (KT → (front : List ℕ) × IsPrefix front out × (p2 ≡ p1 ++ front)) → Story ST KT DT g0 g2 r0 r2 Ended p0 p2 f0 f2 d0 d2 status.WriteFault
   story-write-fault g2 r2 p1 p2 f2 d2 unread' s' earlier out Ended t before put = record {
     pieces = t.pieces;
     lost = [];
@@ -246,7 +246,7 @@ module _ (ST KT DT : Type 0) (g0 : List (List ℕ)) (r0 : List ℕ) (p0 : List �
   }
 
   -- the session is shut, and its last answers are put
-  pub story-shut : (g2 : List (List ℕ)) (r2 : List ℕ) (p1 p2 : List ℕ) (f2 : FileId → ℕ) (d2 : DiskState) (unread' : List ℕ) (s' : Session) (earlier : List Reply) (out : List ℕ) (Ended : Type 0) (t : Turned ST DT g0 g2 r0 r2 f0 f2 d0 d2 unread' s' earlier out) → (KT → p1 ≡ p0 ++ answers earlier) → (KT → p2 ≡ p1 ++ out) → IsShut t.stage → Story ST KT DT g0 g2 r0 r2 Ended p0 p2 f0 f2 d0 d2 status.Served
+  pub story-shut : (g2 : List (List ℕ)) (r2 : List ℕ) (p1 p2 : List ℕ) (f2 : FileId → ℕ) (d2 : DiskView) (unread' : List ℕ) (s' : Session) (earlier : List Reply) (out : List ℕ) (Ended : Type 0) (t : Turned ST DT g0 g2 r0 r2 f0 f2 d0 d2 unread' s' earlier out) → (KT → p1 ≡ p0 ++ answers earlier) → (KT → p2 ≡ p1 ++ out) → IsShut t.stage → Story ST KT DT g0 g2 r0 r2 Ended p0 p2 f0 f2 d0 d2 status.Served
   story-shut g2 r2 p1 p2 f2 d2 unread' s' earlier out Ended t before put shut =
       let said : KT → p2 ≡ p0 ++ answers (earlier ++ t.replies) = λ told. put told ∙ ap (λ p. p ++ out) (before told) ∙ append_assoc p0 (answers earlier) out
       ∙ ap (λ p. p0 ++ p) (ap (λ o. answers earlier ++ o) t.out_is ∙ sym (answers-append earlier t.replies)) in
@@ -271,7 +271,7 @@ module _ (ST KT DT : Type 0) (g0 : List (List ℕ)) (r0 : List ℕ) (p0 : List �
       }
 
 -- the run stands at its start where the disk is as it was
-pub stands-untouched : (DT : Type 0) (d0 d1 : DiskState) (f0 f1 : FileId → ℕ) → (DT → IsUntouched d0 d1) → ((f : FileId) → f1 f ≡ f0 f) → Stands DT d0 d1 f0 f1 Fresh session.Fresh
+pub stands-untouched : (DT : Type 0) (d0 d1 : DiskView) (f0 f1 : FileId → ℕ) → (DT → IsUntouched d0 d1) → ((f : FileId) → f1 f ≡ f0 f) → Stands DT d0 d1 f0 f1 Fresh session.Fresh
 stands-untouched DT d0 d1 f0 f1 untouched counts = record {
   at = refl;
   come = λ told. let t = untouched told in record { same = λ f n. t.quiet.same f; crash = λ f n c left. t.quiet.crash f c left };

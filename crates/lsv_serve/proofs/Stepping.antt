@@ -1,7 +1,7 @@
 -- What a step of the machine is, where a message fits the stage, and where it is refused.
 use Rattle.std.proofs.Common.{◌≡◌, inl, inr, ◌⊎◌, ◌+◌, ◌^◌, ◌++◌, ◌∷◌, [], List, ℕ, Bool, true, false, Option, Some, None, Result, Ok, Err, refl, sym, ap, subst, cond, true≢false, ◌∙◌, append-nil}
 use Rattle.std.specs.Prelude.{codes, nat_lt, not, option_map}
-use Rattle.lsv_disk.specs.State.{DiskState, Elsewhere}
+use Rattle.lsv_disk.specs.View.{DiskView, Elsewhere}
 use Rattle.lsv_disk.specs.declared.file.FileId.{FileId}
 use Rattle.lsv_disk.specs.declared.file.Part.TheVariants as part
 use Rattle.lsv_info.specs.Layout.{exit_text}
@@ -154,10 +154,10 @@ refuses-malformed (Stored head records exit) = record { no_device = λ u. u; pla
 refuses-malformed Refused = record { no_device = λ u. u; plain = λ there. refl }
 
 -- no file is touched
-pub untouched : (Touched : FileId → Type 0) (disk : DiskState) → Elsewhere Touched disk disk
+pub untouched : (Touched : FileId → Type 0) (disk : DiskView) → Elsewhere Touched disk disk
 untouched Touched disk = record { same = λ f n. refl; crash = λ f n c left. left }
 
-module _ (There : Bool → Type 0) (Failed Tells : Type 0) (disk_old disk_new : DiskState) (there : Bool) (may : There there) (old : Stage) (new : Session) (out_old out_new : List ℕ) where
+module _ (There : Bool → Type 0) (Failed Tells : Type 0) (disk_old disk_new : DiskView) (there : Bool) (may : There there) (old : Stage) (new : Session) (out_old out_new : List ℕ) where
   -- a step that is plain
   pub steps-plainly : (said : Option Said) (outcome : Outcome) → outcome ≡ plainly there old said → new ≡ session_at outcome.stage → out_new ≡ out_old ++ spoken outcome.replies → (Tells → HasCome outcome.stage disk_old disk_new) → Steps There Failed Tells disk_old disk_new old said new out_old out_new
   steps-plainly said outcome e s o f = record { outcome = outcome; brings = inl (there, may, e); session = s; out = o; files = f }
@@ -205,14 +205,14 @@ module _ (There : Bool → Type 0) (Failed Tells : Type 0) (disk_old disk_new : 
       not_stored Refused e = cc
 
 -- what uses no device leaves the disk as it is
-pub files-hello : (there : Bool) (old : Stage) (disk : DiskState) → HasCome (plainly there old (Some Hello)).stage disk disk
+pub files-hello : (there : Bool) (old : Stage) (disk : DiskView) → HasCome (plainly there old (Some Hello)).stage disk disk
 files-hello there Fresh disk = untouched _ disk
 files-hello there Greeted disk = untouched _ disk
 files-hello there (Running head records) disk = untouched _ disk
 files-hello there (Stored head records exit) disk = untouched _ disk
 files-hello there Refused disk = untouched _ disk
 
-pub files-record : (there : Bool) (old : Stage) (r : Result Record Refusal) (disk : DiskState) → IsReady old disk → HasCome (plainly there old (Some (Recorded r))).stage disk disk
+pub files-record : (there : Bool) (old : Stage) (r : Result Record Refusal) (disk : DiskView) → IsReady old disk → HasCome (plainly there old (Some (Recorded r))).stage disk disk
 files-record there Fresh r disk ready = untouched _ disk
 files-record there Greeted r disk ready = untouched _ disk
 files-record there (Running head records) (Err why) disk ready = untouched _ disk
@@ -224,11 +224,11 @@ files-record there (Running head records) (Ok r) disk ready = kept (nat_lt (elap
 files-record there (Stored head records exit) r disk ready = untouched _ disk
 files-record there Refused r disk ready = untouched _ disk
 
-pub files-none : (there : Bool) (old : Stage) (disk : DiskState) → HasCome (plainly there old None).stage disk disk
+pub files-none : (there : Bool) (old : Stage) (disk : DiskView) → HasCome (plainly there old None).stage disk disk
 files-none there old disk = subst (λ (o : Outcome). HasCome o.stage disk disk) (sym ((refuses-none old).plain there)) (untouched _ disk)
 
 -- a message that has no call of its own brings a record or isn't built
-pub files-other : (there : Bool) (old : Stage) (r : Option (Result Record Refusal)) (disk : DiskState) → IsReady old disk → HasCome (plainly there old (option_map Recorded r)).stage disk disk
+pub files-other : (there : Bool) (old : Stage) (r : Option (Result Record Refusal)) (disk : DiskView) → IsReady old disk → HasCome (plainly there old (option_map Recorded r)).stage disk disk
 files-other there old None disk ready = files-none there old disk
 files-other there old (Some r) disk ready = files-record there old r disk ready
 
@@ -259,17 +259,17 @@ pub said-accept : (accept : AcceptMessage) → not accept.expect_iobufs ≡ fals
 said-accept accept e = rw (not-false _ e) refl
 
 -- an accept in which something is refused leaves the disk as it is
-pub files-refused : (there : Bool) (old : Stage) (said : Option Said) (text : List ℕ) (disk : DiskState) → Refuses text old said → HasCome (plainly there old said).stage disk disk
+pub files-refused : (there : Bool) (old : Stage) (said : Option Said) (text : List ℕ) (disk : DiskView) → Refuses text old said → HasCome (plainly there old said).stage disk disk
 files-refused there old said text disk m = subst (λ (o : Outcome). HasCome o.stage disk disk) (sym (m.plain there)) (untouched _ disk)
 
-pub files-accept-for : (there : Bool) (old : Stage) (why : Refusal) (disk : DiskState) → HasCome (plainly there old (Some (Accepted (Err why)))).stage disk disk
+pub files-accept-for : (there : Bool) (old : Stage) (why : Refusal) (disk : DiskView) → HasCome (plainly there old (Some (Accepted (Err why)))).stage disk disk
 files-accept-for there Fresh why disk = untouched _ disk
 files-accept-for there Greeted why disk = untouched _ disk
 files-accept-for there (Running h records) why disk = untouched _ disk
 files-accept-for there (Stored h records exit) why disk = untouched _ disk
 files-accept-for there Refused why disk = untouched _ disk
 
-pub files-exit-for : (there : Bool) (old : Stage) (why : Refusal) (disk : DiskState) → HasCome (plainly there old (Some (Exited (Err why)))).stage disk disk
+pub files-exit-for : (there : Bool) (old : Stage) (why : Refusal) (disk : DiskView) → HasCome (plainly there old (Some (Exited (Err why)))).stage disk disk
 files-exit-for there Fresh why disk = untouched _ disk
 files-exit-for there Greeted why disk = untouched _ disk
 files-exit-for there (Running h records) why disk = untouched _ disk

@@ -3,7 +3,7 @@ use Rattle.std.proofs.Common.{◌≡◌, inl, inr, ◌+◌, ◌≤◌, ◌^◌, 
 use Rattle.std.specs.Prelude.{nat_lt, codes}
 use Rattle.std.specs.List.{flat_map, AllByRecursion}
 use Rattle.lsv_wire.specs.Frame.{frame_of, framed, IsMessage}
-use Rattle.lsv_disk.specs.State.{DiskState, Elsewhere}
+use Rattle.lsv_disk.specs.View.{DiskView, Elsewhere}
 use Rattle.lsv_disk.specs.declared.file.FileId.{FileId}
 use Rattle.lsv_serve.specs.declared.session.Session.{Session}
 use Rattle.lsv_info.specs.declared.times.Head.{Head}
@@ -13,15 +13,27 @@ use Rattle.lsv_serve.specs.Said.{Said, Hello, Accepted, Recorded, Exited, Malfor
 use Rattle.lsv_serve.specs.Machine.{Stage, Fresh, Greeted, Running, Stored, Refused, IsShut, Outcome, plainly, quietly, refused, Brings, Run, Ends, Takes}
 use Rattle.lsv_serve.specs.Once.{MayBeThere}
 use Rattle.lsv_serve.specs.Reply.{Reply, spoken, reply_message}
-use Rattle.lsv_serve.specs.Store.{HasCome, IsOfLog, LogFailed, log_is_there, log_parts}
+use Rattle.lsv_serve.specs.Store.{HasCome, IsOfLog, LogFailed, log_is_there, log_parts, OnlyTouches}
 use Rattle.lsv_serve.proofs.Filing.{is-there-same}
 use Rattle.lsv_serve.specs.Steps.{IsReady, IsReadyFor, Stands, TakesOne, TakesNone, TakesSome, TakesAll}
 
 -- what was touched in either of two stretches
-pub elsewhere-then : (T U V : FileId → Type 0) (a b c : DiskState) → ((f : FileId) → T f → V f) → ((f : FileId) → U f → V f) → Elsewhere T a b → Elsewhere U b c → Elsewhere V a c
+pub elsewhere-then : (T U V : FileId → Type 0) (a b c : DiskView) → ((f : FileId) → T f → V f) → ((f : FileId) → U f → V f) → Elsewhere T a b → Elsewhere U b c → Elsewhere V a c
 elsewhere-then T U V a b c t u x y = record {
   same = λ f n. y.same f (λ h. n (u f h)) ∙ x.same f (λ h. n (t f h));
   crash = λ f n o left. x.crash f (λ h. n (t f h)) o (y.crash f (λ h. n (u f h)) o left);
+}
+
+-- nothing was called
+pub touches-none : (Tells : Type 0) (T : FileId → Type 0) (a : DiskView) → OnlyTouches Tells T a a
+touches-none Tells T a = record { monotone = λ f. omega arith; elsewhere = λ told. record { same = λ f n. refl; crash = λ f n c left. left }; places = λ told. refl }
+
+-- some calls, and then others
+pub touches-then : (Tells : Type 0) (T : FileId → Type 0) (a b c : DiskView) → OnlyTouches Tells T a b → OnlyTouches Tells T b c → OnlyTouches Tells T a c
+touches-then Tells T a b c x y = record {
+  monotone = λ f. omega (arith, x.monotone f, y.monotone f);
+  elsewhere = λ told. elsewhere-then T T T a b c (λ f h. h) (λ f h. h) (x.elsewhere told) (y.elsewhere told);
+  places = λ told. y.places told ∙ x.places told;
 }
 
 -- a stage at which other stages may still follow without the log
@@ -32,7 +44,7 @@ itself : (V : FileId → Type 0) (f : FileId) → V f → V f
 itself V f h = h
 
 -- a stretch in which nothing was touched goes before another
-pub come-untouched : (stage : Stage) (a b c : DiskState) → Elsewhere (λ _. ⊥) a b → HasCome stage b c → HasCome stage a c
+pub come-untouched : (stage : Stage) (a b c : DiskView) → Elsewhere (λ _. ⊥) a b → HasCome stage b c → HasCome stage a c
 come-untouched Fresh a b c x y = elsewhere-then _ _ (λ _. ⊥) a b c (none _) (itself _) x y
 come-untouched Greeted a b c x y = elsewhere-then _ _ (λ _. ⊥) a b c (none _) (itself _) x y
 come-untouched (Running head records) a b c x y = (y.0, y.1, elsewhere-then _ _ IsOfLog a b c (none _) (itself _) x y.2)
@@ -48,7 +60,7 @@ HasLog (Stored head records exit) = Unit {0}
 HasLog Refused = Unit {0}
 
 -- a stretch in which the log's files alone were touched goes before another that has the log
-come-touched : (stage : Stage) (a b c : DiskState) → HasLog stage → Elsewhere IsOfLog a b → HasCome stage b c → HasCome stage a c
+come-touched : (stage : Stage) (a b c : DiskView) → HasLog stage → Elsewhere IsOfLog a b → HasCome stage b c → HasCome stage a c
 come-touched Fresh a b c has x y = absurd has
 come-touched Greeted a b c has x y = absurd has
 come-touched (Running head records) a b c has x y = (y.0, y.1, elsewhere-then _ _ IsOfLog a b c (itself _) (itself _) x y.2)
@@ -75,7 +87,7 @@ has-log There Failed head records said o (inl (there, may, e)) = subst (λ (w : 
 has-log There Failed head records said o (inr (failed, uses, e)) = subst (λ (w : Outcome). HasLog w.stage) (sym e) tt
 
 -- the disk comes on from stage to stage
-pub come-on : (There : Bool → Type 0) (Failed : Type 0) (a b c : DiskState) (old : Stage) (said : Option Said) (o : Outcome) → (IsShut old → ⊥) → Brings There Failed old said o → HasCome old a b → HasCome o.stage b c → HasCome o.stage a c
+pub come-on : (There : Bool → Type 0) (Failed : Type 0) (a b c : DiskView) (old : Stage) (said : Option Said) (o : Outcome) → (IsShut old → ⊥) → Brings There Failed old said o → HasCome old a b → HasCome o.stage b c → HasCome o.stage a c
 come-on There Failed a b c Fresh said o n brings x y = come-untouched o.stage a b c x y
 come-on There Failed a b c Greeted said o n brings x y = come-untouched o.stage a b c x y
 come-on There Failed a b c (Running head records) said o n brings x y = come-touched o.stage a b c (has-log There Failed head records said o brings) x.2 y
@@ -83,7 +95,7 @@ come-on There Failed a b c (Stored head records exit) said o n brings x y = absu
 come-on There Failed a b c Refused said o n brings x y = absurd (n tt)
 
 -- whether the log is there is the same where nothing was touched
-log-there-same : (a b : DiskState) → Elsewhere (λ _. ⊥) a b → log_is_there b.reads ≡ log_is_there a.reads
+log-there-same : (a b : DiskView) → Elsewhere (λ _. ⊥) a b → log_is_there b.reads ≡ log_is_there a.reads
 log-there-same a b x = is-there-same log_parts a.reads b.reads (λ f. x.same f (λ h. h))
 
 -- a step from an earlier disk on
@@ -103,7 +115,7 @@ brings-running : (There There' : Bool → Type 0) (Failed Failed' : Type 0) (hea
 brings-running There There' Failed Failed' head records said o there may f (inl (b, m, e)) = inl (there, may, e ∙ plainly-running b there head records said)
 brings-running There There' Failed Failed' head records said o there may f (inr (failed, uses, e)) = inr (f failed, uses, e)
 
-pub brings-from-start : (Tells : Type 0) (a b : DiskState) (Failed Failed' : Type 0) (old : Stage) (said : Option Said) (o : Outcome) → (IsShut old → ⊥) → (Tells → HasCome old a b) → (Failed → Failed') → Brings (MayBeThere Tells b) Failed old said o → Brings (MayBeThere Tells a) Failed' old said o
+pub brings-from-start : (Tells : Type 0) (a b : DiskView) (Failed Failed' : Type 0) (old : Stage) (said : Option Said) (o : Outcome) → (IsShut old → ⊥) → (Tells → HasCome old a b) → (Failed → Failed') → Brings (MayBeThere Tells b) Failed old said o → Brings (MayBeThere Tells a) Failed' old said o
 brings-from-start Tells a b Failed Failed' Fresh said o n x f brings = brings-may _ _ Failed Failed' Fresh said o (λ there may told. may told ∙ log-there-same a b (x told)) f brings
 brings-from-start Tells a b Failed Failed' Greeted said o n x f brings = brings-may _ _ Failed Failed' Greeted said o (λ there may told. may told ∙ log-there-same a b (x told)) f brings
 brings-from-start Tells a b Failed Failed' (Running head records) said o n x f brings = brings-running _ _ Failed Failed' head records said o (log_is_there a.reads) (λ _. refl) f brings
@@ -118,7 +130,7 @@ pub log-failed-earlier : (a b c : FileId → ℕ) → ((f : FileId) → a f ≤ 
 log-failed-earlier a b c w (f, of, rose) = (f, of, λ h. let k = w f in let r = rose h in omega arith)
 
 -- at each stage the log's files alone were touched
-pub come-elsewhere : (stage : Stage) (a b : DiskState) → HasCome stage a b → Elsewhere IsOfLog a b
+pub come-elsewhere : (stage : Stage) (a b : DiskView) → HasCome stage a b → Elsewhere IsOfLog a b
 come-elsewhere Fresh a b x = record { same = λ f n. x.same f (λ h. h); crash = λ f n c left. x.crash f (λ h. h) c left }
 come-elsewhere Greeted a b x = record { same = λ f n. x.same f (λ h. h); crash = λ f n c left. x.crash f (λ h. h) c left }
 come-elsewhere (Running head records) a b x = x.2
@@ -126,7 +138,7 @@ come-elsewhere (Stored head records exit) a b x = x.2
 come-elsewhere Refused a b x = x
 
 -- the disk is ready at each stage
-pub ready-from-come : (stage : Stage) (a b : DiskState) → HasCome stage a b → IsReady stage b
+pub ready-from-come : (stage : Stage) (a b : DiskView) → HasCome stage a b → IsReady stage b
 ready-from-come Fresh a b x = tt
 ready-from-come Greeted a b x = tt
 ready-from-come (Running head records) a b x = (x.0, x.1)
@@ -134,7 +146,7 @@ ready-from-come (Stored head records exit) a b x = tt
 ready-from-come Refused a b x = tt
 
 -- what stands is ready
-pub ready-from-stands : (Tells : Type 0) (a b : DiskState) (f g : FileId → ℕ) (stage : Stage) (s : Session) → Stands Tells a b f g stage s → IsReadyFor Tells b s
+pub ready-from-stands : (Tells : Type 0) (a b : DiskView) (f g : FileId → ℕ) (stage : Stage) (s : Session) → Stands Tells a b f g stage s → IsReadyFor Tells b s
 ready-from-stands Tells a b f g stage s stands = (stage, stands.at, λ told. ready-from-come stage a b (stands.come told))
 
 -- messages and answers at the end of others
@@ -177,7 +189,7 @@ takes-later There F G w bytes old xs rest new t = record {
   answered = t.answered;
 }
 
-module _ (Tells : Type 0) (a b c : DiskState) (f g h : FileId → ℕ) (later : (x : FileId) → g x ≤ h x) (old : Stage) where
+module _ (Tells : Type 0) (a b c : DiskView) (f g h : FileId → ℕ) (later : (x : FileId) → g x ≤ h x) (old : Stage) where
   -- one message more
   pub some-more : (u v w : List ℕ) (s s' : Session) (oo o o' : List ℕ) (t : TakesSome Tells a b f g old u v s oo o) → TakesOne Tells a c f h t.stage v w s' o o' → TakesSome Tells a c f h old u w s' oo o'
   some-more u v w s s' oo o o' t one = record {
@@ -216,5 +228,5 @@ module _ (Tells : Type 0) (a b c : DiskState) (f g h : FileId → ℕ) (later : 
   }
 
 -- nothing was taken yet
-pub some-at-start : (Tells : Type 0) (a b : DiskState) (f g : FileId → ℕ) (old : Stage) (u : List ℕ) (s : Session) (o : List ℕ) → Stands Tells a b f g old s → TakesSome Tells a b f g old u u s o o
+pub some-at-start : (Tells : Type 0) (a b : DiskView) (f g : FileId → ℕ) (old : Stage) (u : List ℕ) (s : Session) (o : List ℕ) → Stands Tells a b f g old s → TakesSome Tells a b f g old u u s o o
 some-at-start Tells a b f g old u s o stands = record { messages = []; each = tt; read = refl; replies = []; stage = old; run = (refl, refl); stands = stands; out = sym (append-nil o) }

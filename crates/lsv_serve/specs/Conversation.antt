@@ -1,7 +1,7 @@
 -- What a client and the outside do in a session that comes to its end.
 use Rattle.std.specs.Prelude.{ℕ, ◌≡◌, ◌<◌, ◌^◌, List, [], ◌∷◌, ◌++◌, Some, Ok, Bool, map, codes, if◌then◌else◌}
 use Rattle.std.specs.List.{AllByRecursion}
-use Rattle.lsv_words.specs.Causes.{Rose}
+use Rattle.lsv_words.specs.Causes.{HasRisen}
 use Rattle.lsv_disk.specs.declared.file.FileId.{FileId}
 use Rattle.lsv_wire.specs.Frame.{framed, IsMessage}
 use Rattle.lsv_info.specs.declared.times.Head.{Head}
@@ -33,6 +33,6 @@ replies_to records = LogId (codes "000001") ∷ CommitPoint (elapsed records) �
 
 -- no fault was counted: none of the source, none of the sink, and none of a file of log 1
 pub record IsUndisturbed (source_before source_now sink_before sink_now : ℕ) (disk_before disk_now : FileId → ℕ) : Type 0 where
-  pub source : Rose source_before source_now → ⊥
-  pub sink : Rose sink_before sink_now → ⊥
+  pub source : HasRisen source_before source_now → ⊥
+  pub sink : HasRisen sink_before sink_now → ⊥
   pub log : LogFailed disk_before disk_now → ⊥

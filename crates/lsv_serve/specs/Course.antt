@@ -2,7 +2,7 @@
 use Rattle.std.specs.Prelude.{ℕ, ◌≡◌, List, [], ◌++◌}
 use Rattle.std.specs.List.{concat}
 use Rattle.lsv_disk.specs.declared.file.FileId.{FileId}
-use Rattle.lsv_disk.specs.State.{DiskState}
+use Rattle.lsv_disk.specs.View.{DiskView}
 use Rattle.lsv_serve.specs.declared.session.Session.{Session}
 use Rattle.lsv_serve.specs.Machine.{Stage, Fresh, IsShut, Takes}
 use Rattle.lsv_serve.specs.Reply.{Reply, answers, spoken}
@@ -15,7 +15,7 @@ pub record Course
     (SourceTells SinkTells DiskTells : Type 0)
     (given_old given_new : List (List ℕ)) (to_come_old to_come_new : List ℕ)
     (put_old put_new : List ℕ)
-    (faults_old faults_new : FileId → ℕ) (disk_old disk_new : DiskState)
+    (faults_old faults_new : FileId → ℕ) (disk_old disk_new : DiskView)
     (unread : List ℕ) (session : Session) : Type 0 where
   pub pieces : List (List ℕ)
   pub given : SourceTells → given_new ≡ given_old ++ pieces
@@ -32,7 +32,7 @@ pub record Course
 pub record Turned
     (SourceTells DiskTells : Type 0)
     (given_old given_new : List (List ℕ)) (to_come_old to_come_new : List ℕ)
-    (faults_old faults_new : FileId → ℕ) (disk_old disk_new : DiskState)
+    (faults_old faults_new : FileId → ℕ) (disk_old disk_new : DiskView)
     (unread : List ℕ) (session : Session) (earlier : List Reply) (out : List ℕ) : Type 0 where
   pub pieces : List (List ℕ)
   pub given : SourceTells → given_new ≡ given_old ++ pieces

@@ -2,8 +2,8 @@
 use Rattle.std.specs.Prelude.{ℕ, ◌≡◌, ◌⊎◌, List, [], ◌∷◌, map, Bool, true, false, not, ◌&&◌, ◌||◌, nat_eq}
 use Rattle.lsv_disk.specs.declared.file.FileId.{FileId}
 use Rattle.lsv_disk.specs.declared.file.Part.{Part}
-use Rattle.lsv_disk.specs.declared.file.Part.TheVariants.{Head, Exit, Timing, Stdin, Stdout, Stderr, Ttyin, Ttyout, Lines, Id, Commit}
-use Rattle.lsv_disk.specs.State.{DiskState}
+use Rattle.lsv_disk.specs.declared.file.Part.TheVariants.{Head, Exit, Timing, Stdin, Stdout, Stderr, Ttyin, Ttyout, Lines, Id, Commit, Slots}
+use Rattle.lsv_disk.specs.View.{DiskView}
 use Rattle.lsv_serve.specs.declared.log.Filing.{Filing}
 use Rattle.lsv_serve.specs.Store.{Holds, log_file}
 
@@ -20,6 +20,7 @@ part_number Ttyout = 7
 part_number Lines = 8
 part_number Id = 9
 part_number Commit = 10
+part_number Slots = 11
 
 -- the part is one of these
 abbrev pub is_among : List Part → Part → Bool
@@ -36,8 +37,8 @@ abbrev pub IsAmong : List Part → FileId → Type 0
 IsAmong [] file = ⊥
 IsAmong (p ∷ parts) file = (file ≡ log_file p) ⊎ IsAmong parts file
 
--- these files of log 1 are empty, whatever a stop leaves
-abbrev pub HoldEmpty : List Part → DiskState → Type 0
+-- these files of log 1 are empty, whatever a crash leaves
+abbrev pub HoldEmpty : List Part → DiskView → Type 0
 HoldEmpty [] disk = Unit {0}
 HoldEmpty (p ∷ parts) disk = Holds disk (log_file p) [] × HoldEmpty parts disk
 
@@ -46,6 +47,6 @@ abbrev pub parts_of : List Filing → List Part
 parts_of filings = map (λ f. f.part) filings
 
 -- these files of log 1 hold what is to stand in them
-abbrev pub HoldTexts : List Filing → DiskState → Type 0
+abbrev pub HoldTexts : List Filing → DiskView → Type 0
 HoldTexts [] disk = Unit {0}
 HoldTexts (f ∷ filings) disk = Holds disk (log_file f.part) f.bytes.now × HoldTexts filings disk

@@ -1,9 +1,9 @@
 -- A run of the command `once`, from its bytes to its bytes and its files.
 use Rattle.std.specs.Prelude.{ℕ, ◌≡◌, ◌≢◌, ◌⊎◌, List, [], ◌∷◌, ◌++◌, Bool, codes}
 use Rattle.std.specs.List.{concat}
-use Rattle.lsv_words.specs.Pieces.{IsFront}
+use Rattle.lsv_words.specs.Pieces.{IsPrefix}
 use Rattle.lsv_disk.specs.declared.file.FileId.{FileId}
-use Rattle.lsv_disk.specs.State.{DiskState, Elsewhere}
+use Rattle.lsv_disk.specs.View.{DiskView, Elsewhere}
 use Rattle.lsv_serve.specs.declared.status.Status.{Status}
 use Rattle.lsv_serve.specs.declared.status.Status.TheVariants.{Served, ReadFault, NoMem}
 use Rattle.lsv_serve.specs.Machine.{Stage, Fresh, IsShut, Takes}
@@ -23,7 +23,7 @@ Turns There Failed unread old (piece ∷ pieces) replies rest new =
     × Turns There Failed between mid pieces others rest new × (replies ≡ first ++ others)
 
 -- which answers the disk may give to whether log 1 is there: the true one, where it tells
-abbrev pub MayBeThere : Type 0 → DiskState → Bool → Type 0
+abbrev pub MayBeThere : Type 0 → DiskView → Bool → Type 0
 MayBeThere Tells disk there = Tells → there ≡ log_is_there disk.reads
 
 -- The story of a run: what was read, what was said, and what the disk holds.
@@ -31,7 +31,7 @@ pub record Story
     (SourceTells SinkTells DiskTells : Type 0)
     (given_old given_new : List (List ℕ)) (to_come_old to_come_new : List ℕ) (Ended : Type 0)
     (put_old put_new : List ℕ)
-    (faults_old faults_new : FileId → ℕ) (disk_old disk_new : DiskState)
+    (faults_old faults_new : FileId → ℕ) (disk_old disk_new : DiskView)
     (status : Status) : Type 0 where
   -- the pieces whose messages were taken
   pub pieces : List (List ℕ)
@@ -51,7 +51,7 @@ pub record Story
   -- and of the whole text, so that it doesn't matter how it was cut into pieces
   pub session : Takes (MayBeThere DiskTells disk_old) (LogFailed faults_old faults_new) (concat pieces) Fresh replies rest stage
   -- what was put is a first part of the answers
-  pub said : SinkTells → (put : List ℕ) × IsFront put (answers replies) × (put_new ≡ put_old ++ put)
+  pub said : SinkTells → (put : List ℕ) × IsPrefix put (answers replies) × (put_new ≡ put_old ++ put)
   -- and all of them, where neither the sink nor memory failed
   pub all_said : SinkTells → (status ≡ Served) ⊎ (status ≡ ReadFault) → put_new ≡ put_old ++ answers replies
   pub served : status ≡ Served → IsShut stage ⊎ (SourceTells → Ended)

@@ -2,7 +2,7 @@
 use Rattle.std.specs.List.{AllByRecursion}
 use Rattle.std.specs.Prelude.{ℕ, ◌≡◌, ◌≤◌, List, [], ◌++◌, Option, Bool}
 use Rattle.lsv_wire.specs.Frame.{frame_of, framed, IsMessage}
-use Rattle.lsv_disk.specs.State.{DiskState}
+use Rattle.lsv_disk.specs.View.{DiskView}
 use Rattle.lsv_disk.specs.declared.file.FileId.{FileId}
 use Rattle.lsv_serve.specs.declared.session.Session.{Session}
 use Rattle.lsv_serve.specs.declared.session.Session.TheVariants as session
@@ -22,12 +22,12 @@ session_at (Stored head records exit) = session.Shut
 session_at Refused = session.Shut
 
 -- while the session runs, log 1 has its head, and its other files are empty
-abbrev pub IsReady : Stage → DiskState → Type 0
+abbrev pub IsReady : Stage → DiskView → Type 0
 IsReady (Running head records) disk = HoldsHead disk head × HoldsLayout disk [] []
 IsReady stage disk = Unit {0}
 
 -- the session is at a stage for which the disk is ready
-abbrev pub IsReadyFor : Type 0 → DiskState → Session → Type 0
+abbrev pub IsReadyFor : Type 0 → DiskView → Session → Type 0
 IsReadyFor DiskTells disk session = (stage : Stage) × (session ≡ session_at stage) × (DiskTells → IsReady stage disk)
 
 -- the code answered a message that uses no device
@@ -37,7 +37,7 @@ pub record Quietly (old : Stage) (said : Option Said) (session_new : Session) (o
   pub out : (there : Bool) → out_new ≡ out_old ++ spoken (plainly there old said).replies
 
 -- the code made a step of the machine that brings this
-pub record Steps (There : Bool → Type 0) (Failed DiskTells : Type 0) (disk_old disk_new : DiskState) (old : Stage) (said : Option Said) (session_new : Session) (out_old out_new : List ℕ) : Type 0 where
+pub record Steps (There : Bool → Type 0) (Failed DiskTells : Type 0) (disk_old disk_new : DiskView) (old : Stage) (said : Option Said) (session_new : Session) (out_old out_new : List ℕ) : Type 0 where
   pub outcome : Outcome
   pub brings : Brings There Failed old said outcome
   pub session : session_new ≡ session_at outcome.stage
@@ -45,13 +45,13 @@ pub record Steps (There : Bool → Type 0) (Failed DiskTells : Type 0) (disk_old
   pub files : DiskTells → HasCome outcome.stage disk_old disk_new
 
 -- The code stands at this stage: its session is there, and the disk has come to it from the start of the run.
-pub record Stands (DiskTells : Type 0) (disk_start disk_now : DiskState) (faults_start faults_now : FileId → ℕ) (stage : Stage) (session : Session) : Type 0 where
+pub record Stands (DiskTells : Type 0) (disk_start disk_now : DiskView) (faults_start faults_now : FileId → ℕ) (stage : Stage) (session : Session) : Type 0 where
   pub at : session ≡ session_at stage
   pub come : DiskTells → HasCome stage disk_start disk_now
   pub counts : (f : FileId) → faults_start f ≤ faults_now f
 
 -- One message was taken from the front of the unread bytes.
-pub record TakesOne (DiskTells : Type 0) (disk_start disk_now : DiskState) (faults_start faults_now : FileId → ℕ) (old : Stage) (unread_old unread_new : List ℕ) (session : Session) (out_old out_new : List ℕ) : Type 0 where
+pub record TakesOne (DiskTells : Type 0) (disk_start disk_now : DiskView) (faults_start faults_now : FileId → ℕ) (old : Stage) (unread_old unread_new : List ℕ) (session : Session) (out_old out_new : List ℕ) : Type 0 where
   pub message : List ℕ
   pub small : IsMessage message
   pub read : unread_old ≡ frame_of message ++ unread_new
@@ -62,7 +62,7 @@ pub record TakesOne (DiskTells : Type 0) (disk_start disk_now : DiskState) (faul
   pub out : out_new ≡ out_old ++ spoken outcome.replies
 
 -- No further message is taken.
-pub record TakesNone (DiskTells : Type 0) (disk_start disk_now : DiskState) (faults_start faults_now : FileId → ℕ) (old : Stage) (unread_old unread_new : List ℕ) (session : Session) (out_old out_new : List ℕ) : Type 0 where
+pub record TakesNone (DiskTells : Type 0) (disk_start disk_now : DiskView) (faults_start faults_now : FileId → ℕ) (old : Stage) (unread_old unread_new : List ℕ) (session : Session) (out_old out_new : List ℕ) : Type 0 where
   pub unread : unread_new ≡ unread_old
   pub replies : List Reply
   pub stage : Stage
@@ -71,7 +71,7 @@ pub record TakesNone (DiskTells : Type 0) (disk_start disk_now : DiskState) (fau
   pub out : out_new ≡ out_old ++ spoken replies
 
 -- All messages were taken that can be.
-pub record TakesAll (DiskTells : Type 0) (disk_start disk_now : DiskState) (faults_start faults_now : FileId → ℕ) (old : Stage) (unread_old unread_new : List ℕ) (session : Session) (out_old out_new : List ℕ) : Type 0 where
+pub record TakesAll (DiskTells : Type 0) (disk_start disk_now : DiskView) (faults_start faults_now : FileId → ℕ) (old : Stage) (unread_old unread_new : List ℕ) (session : Session) (out_old out_new : List ℕ) : Type 0 where
   pub replies : List Reply
   pub stage : Stage
   pub takes : Takes (MayBeThere DiskTells disk_start) (LogFailed faults_start faults_now) unread_old old replies unread_new stage
@@ -79,7 +79,7 @@ pub record TakesAll (DiskTells : Type 0) (disk_start disk_now : DiskState) (faul
   pub out : out_new ≡ out_old ++ spoken replies
 
 -- These messages were taken so far.
-pub record TakesSome (DiskTells : Type 0) (disk_start disk_now : DiskState) (faults_start faults_now : FileId → ℕ) (old : Stage) (unread_old unread_new : List ℕ) (session : Session) (out_old out_new : List ℕ) : Type 0 where
+pub record TakesSome (DiskTells : Type 0) (disk_start disk_now : DiskView) (faults_start faults_now : FileId → ℕ) (old : Stage) (unread_old unread_new : List ℕ) (session : Session) (out_old out_new : List ℕ) : Type 0 where
   pub messages : List (List ℕ)
   pub each : AllByRecursion IsMessage messages
   pub read : unread_old ≡ framed messages unread_new

@@ -1,11 +1,11 @@
 -- What the store holds of the session at each stage.
-use Rattle.std.specs.Prelude.{ℕ, ◌≡◌, List, [], ◌∷◌, Some, Bool, false, is_some, ◌||◌}
-use Rattle.lsv_words.specs.Causes.{Rose}
+use Rattle.std.specs.Prelude.{ℕ, ◌≡◌, ◌≤◌, List, [], ◌∷◌, Some, Bool, false, is_some, ◌||◌, None, ◌⊎◌, codes}
+use Rattle.lsv_words.specs.Causes.{HasRisen}
 use Rattle.lsv_disk.specs.declared.file.FileId.{FileId}
 use Rattle.lsv_disk.specs.declared.file.Part.{Part}
 use Rattle.lsv_disk.specs.declared.file.Owner.TheVariants.{Log}
 use Rattle.lsv_disk.specs.declared.file.Part.TheVariants as part
-use Rattle.lsv_disk.specs.State.{DiskState, Image, Only, Elsewhere}
+use Rattle.lsv_disk.specs.View.{DiskView, Image, Only, Elsewhere}
 use Rattle.lsv_info.specs.Layout.{head_text, exit_text}
 use Rattle.lsv_info.specs.declared.times.Head.{Head}
 use Rattle.lsv_record.specs.Records.{timing_of, stream_of}
@@ -35,17 +35,27 @@ is_there (p ∷ parts) reads = is_some (reads (log_file p)) || is_there parts re
 abbrev pub log_is_there : Image → Bool
 log_is_there reads = is_there log_parts reads
 
+-- no count of faults fell; and where the disk tells its files, only these were touched, and its places stay
+pub record OnlyTouches (tells : Type 0) (Touched : FileId → Type 0) (old new : DiskView) : Type 0 where
+  pub monotone : (g : FileId) → old.faults g ≤ new.faults g
+  pub elsewhere : tells → Elsewhere Touched old new
+  pub places : tells → new.places ≡ old.places
+
+-- the places of the store that the disk was given are the folder `store`, and in it the event log `events`; or out of memory it has none
+abbrev pub HasPlaces : DiskView → Type 0
+HasPlaces disk = (disk.places ≡ Some (record { logs = codes "store"; events = codes "store/events" })) ⊎ (disk.places ≡ None)
+
 -- a device call on a file of log 1 failed
 abbrev pub LogFailed : (before now : FileId → ℕ) → Type 0
-LogFailed before now = (file : FileId) × IsOfLog file × Rose (before file) (now file)
+LogFailed before now = (file : FileId) × IsOfLog file × HasRisen (before file) (now file)
 
--- a file reads as these bytes, and a stop of the machine leaves just them
-pub record Holds (disk : DiskState) (file : FileId) (bytes : List ℕ) : Type 0 where
+-- a file reads as these bytes, and a crash leaves just them
+pub record Holds (disk : DiskView) (file : FileId) (bytes : List ℕ) : Type 0 where
   pub reads : disk.reads file ≡ Some bytes
-  pub durable : Only (Some bytes) (disk.may_leave file)
+  pub durable : Only (Some bytes) (disk.crash_states file)
 
--- log 1 holds this text of its exit, and this layout of records, whatever a stop of the machine leaves
-pub record HoldsLaid (disk : DiskState) (exit : List ℕ) (laid : Laid) : Type 0 where
+-- log 1 holds this text of its exit, and this layout of records, whatever a crash leaves
+pub record HoldsLaid (disk : DiskView) (exit : List ℕ) (laid : Laid) : Type 0 where
   pub exit_is : Holds disk (log_file part.Exit) exit
   pub timing_is : Holds disk (log_file part.Timing) laid.timing
   pub stdin_is : Holds disk (log_file part.Stdin) laid.stdin
@@ -66,15 +76,15 @@ layout_of records = record {
 }
 
 -- log 1 holds this text of its exit, and the layout of these records
-abbrev pub HoldsLayout : DiskState → List ℕ → List Record → Type 0
+abbrev pub HoldsLayout : DiskView → List ℕ → List Record → Type 0
 HoldsLayout disk exit records = HoldsLaid disk exit (layout_of records)
 
 -- log 1 holds the text of this head
-abbrev pub HoldsHead : DiskState → Head → Type 0
+abbrev pub HoldsHead : DiskView → Head → Type 0
 HoldsHead disk head = Holds disk (log_file part.Head) (head_text head)
 
 -- what the disk has come to at a stage
-abbrev pub HasCome : Stage → DiskState → DiskState → Type 0
+abbrev pub HasCome : Stage → DiskView → DiskView → Type 0
 HasCome Fresh old new = Elsewhere (λ _. ⊥) old new
 HasCome Greeted old new = Elsewhere (λ _. ⊥) old new
 HasCome (Running head records) old new = HoldsHead new head × HoldsLayout new [] [] × Elsewhere IsOfLog old new

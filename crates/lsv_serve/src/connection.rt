@@ -1,9 +1,8 @@
 // The one connection of `once`: what was read and not yet taken, its session, and the answers of the turn.
 ghost use Rattle.std.specs.Prelude.{◌≡◌, ◌≤◌, ◌++◌, [], OnOk};
 ghost use Rattle.lsv_disk.specs.declared.file.FileId.{FileId};
-ghost use Rattle.lsv_disk.specs.State.{Elsewhere};
 ghost use Rattle.lsv_serve.specs.Machine.{Stage};
-ghost use Rattle.lsv_serve.specs.Store.{IsOfLog};
+ghost use Rattle.lsv_serve.specs.Store.{IsOfLog, OnlyTouches};
 ghost use Rattle.lsv_serve.specs.Steps.{Stands, TakesAll};
 
 use crate::session::Session;
@@ -36,12 +35,11 @@ impl Connection {
 
     /// One turn: takes all messages that this piece completes.
     pub fn turn<D: Disk>(&mut self, alloc: Global, disk: &mut D, piece: &[u8]) -> Result<(), NoMem>
-        requires { (start : D) × ((stage : Stage) × Stands D.tells (D.state start) (D.state disk.old) (D.faults start) (D.faults disk.old) stage self.old.session) }
+        requires { (start : D) × ((stage : Stage) × Stands D.tells (D.view start) (D.view disk.old) (D.view start).faults (D.view disk.old).faults stage self.old.session) }
         ensures all { OnOk result ((start : D) (old : Stage) →
-            Stands D.tells (D.state start) (D.state disk.old) (D.faults start) (D.faults disk.old) old self.old.session →
-            TakesAll D.tells (D.state start) (D.state disk.new) (D.faults start) (D.faults disk.new) old (self.old.framer ++ piece.now) self.new.framer self.new.session self.old.replies self.new.replies) }
-        ensures elsewhere { D.tells → Elsewhere IsOfLog (D.state disk.old) (D.state disk.new) }
-        ensures counts { (g : FileId) → D.faults disk.old g ≤ D.faults disk.new g }
+            Stands D.tells (D.view start) (D.view disk.old) (D.view start).faults (D.view disk.old).faults old self.old.session →
+            TakesAll D.tells (D.view start) (D.view disk.new) (D.view start).faults (D.view disk.new).faults old (self.old.framer ++ piece.now) self.new.framer self.new.session self.old.replies self.new.replies) }
+        ensures frame { OnlyTouches D.tells IsOfLog (D.view disk.old) (D.view disk.new) }
     {
         self.framer.feed(piece)?;
         take_all(

@@ -1,12 +1,12 @@
 // The files of log 1: making them with the log's head, and storing a session's records and exit in them.
 ghost use Rattle.std.specs.Prelude.{◌≡◌, ◌≤◌, ℕ, [], List, true, false, IfOk, OnOk, OnErr};
 ghost use Rattle.std.specs.Bool.{OnFalse};
-ghost use Rattle.lsv_words.specs.Causes.{Rose};
+ghost use Rattle.lsv_words.specs.Causes.{HasRisen};
 ghost use Rattle.lsv_disk.specs.declared.file.FileId.{FileId};
 ghost use Rattle.lsv_disk.specs.declared.file.Part.TheVariants as part;
-ghost use Rattle.lsv_disk.specs.State.{Elsewhere, Quiet};
+ghost use Rattle.lsv_disk.specs.View.{Quiet};
 ghost use Rattle.lsv_serve.specs.Filing.{are_apart, HoldEmpty, HoldTexts, IsAmong, parts_of};
-ghost use Rattle.lsv_serve.specs.Store.{Holds, HoldsLaid, HoldsLayout, IsOfLog, LogFailed, is_there, log_file, log_is_there, log_parts};
+ghost use Rattle.lsv_serve.specs.Store.{Holds, HoldsLaid, HoldsLayout, IsOfLog, LogFailed, is_there, log_file, log_is_there, log_parts, OnlyTouches};
 
 use lsv_disk::{Disk, DiskFault, FileId, Owner, Part, write_synced};
 use lsv_record::Laid;
@@ -42,10 +42,9 @@ fn log_file(part: Part) -> FileId
 
 /// Whether one of these files of log 1 is there.
 fn any_is_there<D: Disk>(disk: &mut D, parts: &[Part]) -> Result<bool, DiskFault>
-    ensures answer { D.tells → IfOk result (λ there. there ≡ is_there parts.now (D.state disk.old).reads) }
-    ensures quiet { D.tells → Quiet (D.state disk.old) (D.state disk.new) }
-    ensures counts { (g : FileId) → D.faults disk.old g ≤ D.faults disk.new g }
-    ensures cause { OnErr result (LogFailed (D.faults disk.old) (D.faults disk.new)) }
+    ensures answer { D.tells → IfOk result (λ there. there ≡ is_there parts.now (D.view disk.old).reads) }
+    ensures frame { OnlyTouches D.tells (λ _. ⊥) (D.view disk.old) (D.view disk.new) }
+    ensures cause { OnErr result (LogFailed (D.view disk.old).faults (D.view disk.new).faults) }
 {
     let [part, rest @ ..] = parts else {
         return Ok(false);
@@ -59,11 +58,10 @@ fn any_is_there<D: Disk>(disk: &mut D, parts: &[Part]) -> Result<bool, DiskFault
 /// Makes these files of log 1, all empty. None of them is there before.
 fn make_files<D: Disk>(disk: &mut D, parts: &[Part]) -> Result<(), DiskFault>
     requires apart { are_apart parts.now ≡ true }
-    requires absent { D.tells → is_there parts.now (D.state disk.old).reads ≡ false }
-    ensures made { D.tells → OnOk result (HoldEmpty parts.now (D.state disk.new)) }
-    ensures elsewhere { D.tells → Elsewhere (IsAmong parts.now) (D.state disk.old) (D.state disk.new) }
-    ensures counts { (g : FileId) → D.faults disk.old g ≤ D.faults disk.new g }
-    ensures cause { OnErr result (LogFailed (D.faults disk.old) (D.faults disk.new)) }
+    requires absent { D.tells → is_there parts.now (D.view disk.old).reads ≡ false }
+    ensures made { D.tells → OnOk result (HoldEmpty parts.now (D.view disk.new)) }
+    ensures frame { OnlyTouches D.tells (IsAmong parts.now) (D.view disk.old) (D.view disk.new) }
+    ensures cause { OnErr result (LogFailed (D.view disk.old).faults (D.view disk.new).faults) }
 {
     let [part, rest @ ..] = parts else {
         return Ok(());
@@ -75,11 +73,10 @@ fn make_files<D: Disk>(disk: &mut D, parts: &[Part]) -> Result<(), DiskFault>
 /// Writes and syncs an empty file. Nothing is done where nothing is to stand in it.
 #[tactic(auto, using(crate::proofs::Filling::written_whole))]
 fn fill<D: Disk>(disk: &mut D, f: FileId, bytes: &[u8]) -> Result<(), DiskFault>
-    requires { D.tells → Holds (D.state disk.old) f [] }
-    ensures filled { D.tells → OnOk result (Holds (D.state disk.new) f bytes.now) }
-    ensures elsewhere { D.tells → Elsewhere (λ g. g ≡ f) (D.state disk.old) (D.state disk.new) }
-    ensures counts { (g : FileId) → D.faults disk.old g ≤ D.faults disk.new g }
-    ensures cause { OnErr result (Rose (D.faults disk.old f) (D.faults disk.new f)) }
+    requires { D.tells → Holds (D.view disk.old) f [] }
+    ensures filled { D.tells → OnOk result (Holds (D.view disk.new) f bytes.now) }
+    ensures frame { OnlyTouches D.tells (λ g. g ≡ f) (D.view disk.old) (D.view disk.new) }
+    ensures cause { OnErr result (HasRisen ((D.view disk.old).faults f) ((D.view disk.new).faults f)) }
 {
     if bytes.is_empty() {
         return Ok(());
@@ -90,11 +87,10 @@ fn fill<D: Disk>(disk: &mut D, f: FileId, bytes: &[u8]) -> Result<(), DiskFault>
 /// Writes and syncs these files of log 1, which are empty.
 fn fill_files<D: Disk>(disk: &mut D, filings: &[Filing<'_>]) -> Result<(), DiskFault>
     requires apart { are_apart (parts_of filings.now) ≡ true }
-    requires empty { D.tells → HoldEmpty (parts_of filings.now) (D.state disk.old) }
-    ensures filled { D.tells → OnOk result (HoldTexts filings.now (D.state disk.new)) }
-    ensures elsewhere { D.tells → Elsewhere (IsAmong (parts_of filings.now)) (D.state disk.old) (D.state disk.new) }
-    ensures counts { (g : FileId) → D.faults disk.old g ≤ D.faults disk.new g }
-    ensures cause { OnErr result (LogFailed (D.faults disk.old) (D.faults disk.new)) }
+    requires empty { D.tells → HoldEmpty (parts_of filings.now) (D.view disk.old) }
+    ensures filled { D.tells → OnOk result (HoldTexts filings.now (D.view disk.new)) }
+    ensures frame { OnlyTouches D.tells (IsAmong (parts_of filings.now)) (D.view disk.old) (D.view disk.new) }
+    ensures cause { OnErr result (LogFailed (D.view disk.old).faults (D.view disk.new).faults) }
 {
     let [filing, rest @ ..] = filings else {
         return Ok(());
@@ -106,12 +102,11 @@ fn fill_files<D: Disk>(disk: &mut D, filings: &[Filing<'_>]) -> Result<(), DiskF
 /// Makes the files of log 1: its head with this text, the others empty. It says whether one of them was there
 /// before, and then makes none.
 pub fn make_log<D: Disk>(disk: &mut D, head: &[u8]) -> Result<bool, DiskFault>
-    ensures answer { D.tells → IfOk result (λ there. there ≡ log_is_there (D.state disk.old).reads) }
-    ensures head { D.tells → IfOk result (λ there. OnFalse there (Holds (D.state disk.new) (log_file part.Head) head.now)) }
-    ensures made { D.tells → IfOk result (λ there. OnFalse there (HoldsLayout (D.state disk.new) [] [])) }
-    ensures elsewhere { D.tells → Elsewhere IsOfLog (D.state disk.old) (D.state disk.new) }
-    ensures counts { (g : FileId) → D.faults disk.old g ≤ D.faults disk.new g }
-    ensures cause { OnErr result (LogFailed (D.faults disk.old) (D.faults disk.new)) }
+    ensures answer { D.tells → IfOk result (λ there. there ≡ log_is_there (D.view disk.old).reads) }
+    ensures head { D.tells → IfOk result (λ there. OnFalse there (Holds (D.view disk.new) (log_file part.Head) head.now)) }
+    ensures made { D.tells → IfOk result (λ there. OnFalse there (HoldsLayout (D.view disk.new) [] [])) }
+    ensures frame { OnlyTouches D.tells IsOfLog (D.view disk.old) (D.view disk.new) }
+    ensures cause { OnErr result (LogFailed (D.view disk.old).faults (D.view disk.new).faults) }
 {
     if any_is_there(disk, &PARTS)? {
         return Ok(true);
@@ -124,12 +119,11 @@ pub fn make_log<D: Disk>(disk: &mut D, head: &[u8]) -> Result<bool, DiskFault>
 /// Writes and syncs the text of the exit and the layout of the records into the files of log 1, which are empty.
 /// The head isn't touched.
 pub fn store_log<D: Disk>(disk: &mut D, exit: &[u8], laid: &Laid) -> Result<(), DiskFault>
-    requires { D.tells → HoldsLayout (D.state disk.old) [] [] }
-    ensures stored { D.tells → OnOk result (HoldsLaid (D.state disk.new) exit.now laid.now) }
-    ensures head { D.tells → (text : List ℕ) → Holds (D.state disk.old) (log_file part.Head) text → Holds (D.state disk.new) (log_file part.Head) text }
-    ensures elsewhere { D.tells → Elsewhere IsOfLog (D.state disk.old) (D.state disk.new) }
-    ensures counts { (g : FileId) → D.faults disk.old g ≤ D.faults disk.new g }
-    ensures cause { OnErr result (LogFailed (D.faults disk.old) (D.faults disk.new)) }
+    requires { D.tells → HoldsLayout (D.view disk.old) [] [] }
+    ensures stored { D.tells → OnOk result (HoldsLaid (D.view disk.new) exit.now laid.now) }
+    ensures head { D.tells → (text : List ℕ) → Holds (D.view disk.old) (log_file part.Head) text → Holds (D.view disk.new) (log_file part.Head) text }
+    ensures frame { OnlyTouches D.tells IsOfLog (D.view disk.old) (D.view disk.new) }
+    ensures cause { OnErr result (LogFailed (D.view disk.old).faults (D.view disk.new).faults) }
 {
     let filings = [
         to_fill(Part::Exit, exit),

@@ -1,12 +1,11 @@
 // One session: what each message does to it, and to the disk.
 ghost use Rattle.std.specs.Prelude.{◌≡◌, ◌≤◌, ◌++◌, ◌↔◌, ◌⊎◌, ◌∷◌, [], Some, Ok, Err, IsTrue, OnOk, option_map};
 ghost use Rattle.lsv_disk.specs.declared.file.FileId.{FileId};
-ghost use Rattle.lsv_disk.specs.State.{Elsewhere};
 ghost use Rattle.lsv_serve.specs.Said.{Hello, Accepted, Exited, Recorded, accept_said, exit_of, record_in, said_by, said_of};
 ghost use Rattle.lsv_serve.specs.Machine.{Stage, IsShut};
 ghost use Rattle.lsv_serve.specs.Machine as machine;
 ghost use Rattle.lsv_serve.specs.Reply.{Error, spoken};
-ghost use Rattle.lsv_serve.specs.Store.{IsOfLog, LogFailed};
+ghost use Rattle.lsv_serve.specs.Store.{IsOfLog, LogFailed, OnlyTouches};
 ghost use Rattle.lsv_serve.specs.Once.{MayBeThere};
 ghost use Rattle.lsv_serve.specs.Steps.{session_at, IsReady, IsReadyFor, Quietly, Steps};
 
@@ -97,10 +96,9 @@ impl Session {
         out: &mut Bytes,
     ) -> Result<(), NoMem>
         ensures step { OnOk result ((old : Stage) → self.old ≡ session_at old →
-            Steps (MayBeThere D.tells (D.state disk.old)) (LogFailed (D.faults disk.old) (D.faults disk.new)) D.tells
-            (D.state disk.old) (D.state disk.new) old (accept_said accept) self.new out.old out.new) }
-        ensures elsewhere { D.tells → Elsewhere IsOfLog (D.state disk.old) (D.state disk.new) }
-        ensures counts { (g : FileId) → D.faults disk.old g ≤ D.faults disk.new g }
+            Steps (MayBeThere D.tells (D.view disk.old)) (LogFailed (D.view disk.old).faults (D.view disk.new).faults) D.tells
+            (D.view disk.old) (D.view disk.new) old (accept_said accept) self.new out.old out.new) }
+        ensures frame { OnlyTouches D.tells IsOfLog (D.view disk.old) (D.view disk.new) }
     {
         if !accept.expect_iobufs {
             return self.refuse(alloc, NOT_BUILT, out);
@@ -120,10 +118,9 @@ impl Session {
         out: &mut Bytes,
     ) -> Result<(), NoMem>
         ensures step { OnOk result ((old : Stage) → self.old ≡ session_at old →
-            Steps (MayBeThere D.tells (D.state disk.old)) (LogFailed (D.faults disk.old) (D.faults disk.new)) D.tells
-            (D.state disk.old) (D.state disk.new) old (Some (Accepted (Ok head.now))) self.new out.old out.new) }
-        ensures elsewhere { D.tells → Elsewhere IsOfLog (D.state disk.old) (D.state disk.new) }
-        ensures counts { (g : FileId) → D.faults disk.old g ≤ D.faults disk.new g }
+            Steps (MayBeThere D.tells (D.view disk.old)) (LogFailed (D.view disk.old).faults (D.view disk.new).faults) D.tells
+            (D.view disk.old) (D.view disk.new) old (Some (Accepted (Ok head.now))) self.new out.old out.new) }
+        ensures frame { OnlyTouches D.tells IsOfLog (D.view disk.old) (D.view disk.new) }
     {
         if self.may_begin() {
             self.make(alloc, disk, head, out)
@@ -141,10 +138,9 @@ impl Session {
         out: &mut Bytes,
     ) -> Result<(), NoMem>
         ensures step { OnOk result ((old : Stage) → machine.UsesDevice old (Some (Accepted (Ok head.now))) →
-            Steps (MayBeThere D.tells (D.state disk.old)) (LogFailed (D.faults disk.old) (D.faults disk.new)) D.tells
-            (D.state disk.old) (D.state disk.new) old (Some (Accepted (Ok head.now))) self.new out.old out.new) }
-        ensures elsewhere { D.tells → Elsewhere IsOfLog (D.state disk.old) (D.state disk.new) }
-        ensures counts { (g : FileId) → D.faults disk.old g ≤ D.faults disk.new g }
+            Steps (MayBeThere D.tells (D.view disk.old)) (LogFailed (D.view disk.old).faults (D.view disk.new).faults) D.tells
+            (D.view disk.old) (D.view disk.new) old (Some (Accepted (Ok head.now))) self.new out.old out.new) }
+        ensures frame { OnlyTouches D.tells IsOfLog (D.view disk.old) (D.view disk.new) }
     {
         let text = write_head(alloc, head)?;
         let Ok(there) = make_log(disk, text.as_slice()) else {
@@ -192,12 +188,11 @@ impl Session {
         exit: ExitMessage,
         out: &mut Bytes,
     ) -> Result<(), NoMem>
-        requires ready { IsReadyFor D.tells (D.state disk.old) self.old }
-        ensures step { OnOk result ((old : Stage) → self.old ≡ session_at old → (D.tells → IsReady old (D.state disk.old)) →
-            Steps (MayBeThere D.tells (D.state disk.old)) (LogFailed (D.faults disk.old) (D.faults disk.new)) D.tells
-            (D.state disk.old) (D.state disk.new) old (Some (Exited (exit_of exit))) self.new out.old out.new) }
-        ensures elsewhere { D.tells → Elsewhere IsOfLog (D.state disk.old) (D.state disk.new) }
-        ensures counts { (g : FileId) → D.faults disk.old g ≤ D.faults disk.new g }
+        requires ready { IsReadyFor D.tells (D.view disk.old) self.old }
+        ensures step { OnOk result ((old : Stage) → self.old ≡ session_at old → (D.tells → IsReady old (D.view disk.old)) →
+            Steps (MayBeThere D.tells (D.view disk.old)) (LogFailed (D.view disk.old).faults (D.view disk.new).faults) D.tells
+            (D.view disk.old) (D.view disk.new) old (Some (Exited (exit_of exit))) self.new out.old out.new) }
+        ensures frame { OnlyTouches D.tells IsOfLog (D.view disk.old) (D.view disk.new) }
     {
         match exit_of(exit) {
             Ok(exit) => self.finish(alloc, disk, &exit, out),
@@ -213,12 +208,11 @@ impl Session {
         exit: &Exit,
         out: &mut Bytes,
     ) -> Result<(), NoMem>
-        requires ready { IsReadyFor D.tells (D.state disk.old) self.old }
-        ensures step { OnOk result ((old : Stage) → self.old ≡ session_at old → (D.tells → IsReady old (D.state disk.old)) →
-            Steps (MayBeThere D.tells (D.state disk.old)) (LogFailed (D.faults disk.old) (D.faults disk.new)) D.tells
-            (D.state disk.old) (D.state disk.new) old (Some (Exited (Ok exit.now))) self.new out.old out.new) }
-        ensures elsewhere { D.tells → Elsewhere IsOfLog (D.state disk.old) (D.state disk.new) }
-        ensures counts { (g : FileId) → D.faults disk.old g ≤ D.faults disk.new g }
+        requires ready { IsReadyFor D.tells (D.view disk.old) self.old }
+        ensures step { OnOk result ((old : Stage) → self.old ≡ session_at old → (D.tells → IsReady old (D.view disk.old)) →
+            Steps (MayBeThere D.tells (D.view disk.old)) (LogFailed (D.view disk.old).faults (D.view disk.new).faults) D.tells
+            (D.view disk.old) (D.view disk.new) old (Some (Exited (Ok exit.now))) self.new out.old out.new) }
+        ensures frame { OnlyTouches D.tells IsOfLog (D.view disk.old) (D.view disk.new) }
     {
         let text = write_exit(alloc, exit)?;
         let stored = match self {
@@ -259,12 +253,11 @@ impl Session {
         message: ClientMessage,
         out: &mut Bytes,
     ) -> Result<(), NoMem>
-        requires ready { IsReadyFor D.tells (D.state disk.old) self.old }
-        ensures step { OnOk result ((old : Stage) → self.old ≡ session_at old → (D.tells → IsReady old (D.state disk.old)) →
-            Steps (MayBeThere D.tells (D.state disk.old)) (LogFailed (D.faults disk.old) (D.faults disk.new)) D.tells
-            (D.state disk.old) (D.state disk.new) old (said_by message) self.new out.old out.new) }
-        ensures elsewhere { D.tells → Elsewhere IsOfLog (D.state disk.old) (D.state disk.new) }
-        ensures counts { (g : FileId) → D.faults disk.old g ≤ D.faults disk.new g }
+        requires ready { IsReadyFor D.tells (D.view disk.old) self.old }
+        ensures step { OnOk result ((old : Stage) → self.old ≡ session_at old → (D.tells → IsReady old (D.view disk.old)) →
+            Steps (MayBeThere D.tells (D.view disk.old)) (LogFailed (D.view disk.old).faults (D.view disk.new).faults) D.tells
+            (D.view disk.old) (D.view disk.new) old (said_by message) self.new out.old out.new) }
+        ensures frame { OnlyTouches D.tells IsOfLog (D.view disk.old) (D.view disk.new) }
     {
         match message {
             ClientMessage::Hello(_hello) => self.greet(alloc, out),
@@ -282,12 +275,11 @@ impl Session {
         message: &[u8],
         out: &mut Bytes,
     ) -> Result<(), NoMem>
-        requires ready { IsReadyFor D.tells (D.state disk.old) self.old }
-        ensures step { OnOk result ((old : Stage) → self.old ≡ session_at old → (D.tells → IsReady old (D.state disk.old)) →
-            Steps (MayBeThere D.tells (D.state disk.old)) (LogFailed (D.faults disk.old) (D.faults disk.new)) D.tells
-            (D.state disk.old) (D.state disk.new) old (said_of message.now) self.new out.old out.new) }
-        ensures elsewhere { D.tells → Elsewhere IsOfLog (D.state disk.old) (D.state disk.new) }
-        ensures counts { (g : FileId) → D.faults disk.old g ≤ D.faults disk.new g }
+        requires ready { IsReadyFor D.tells (D.view disk.old) self.old }
+        ensures step { OnOk result ((old : Stage) → self.old ≡ session_at old → (D.tells → IsReady old (D.view disk.old)) →
+            Steps (MayBeThere D.tells (D.view disk.old)) (LogFailed (D.view disk.old).faults (D.view disk.new).faults) D.tells
+            (D.view disk.old) (D.view disk.new) old (said_of message.now) self.new out.old out.new) }
+        ensures frame { OnlyTouches D.tells IsOfLog (D.view disk.old) (D.view disk.new) }
     {
         match read_message(alloc, message)? {
             Some(message) => self.hear(alloc, disk, message, out),

@@ -2,11 +2,10 @@
 ghost use Rattle.std.specs.Prelude.{◌≡◌, ℕ, ◌+◌, ◌^◌, ◌++◌, ◌∷◌, [], List, nat_lt, ◌≤◌, IfOk, OnOk, OnErr};
 ghost use Rattle.std.specs.Bool.{OnTrue, OnFalse};
 ghost use Rattle.lsv_disk.specs.declared.file.FileId.{FileId};
-ghost use Rattle.lsv_disk.specs.State.{Elsewhere};
 ghost use Rattle.lsv_record.specs.Records.{delay_of, elapsed};
 ghost use Rattle.lsv_record.specs.declared.records.Record.{Record};
 ghost use Rattle.lsv_disk.specs.declared.file.Part.TheVariants as part;
-ghost use Rattle.lsv_serve.specs.Store.{Holds, HoldsLaid, HoldsLayout, IsOfLog, LogFailed, layout_of, log_file};
+ghost use Rattle.lsv_serve.specs.Store.{Holds, HoldsLaid, HoldsLayout, IsOfLog, LogFailed, layout_of, log_file, OnlyTouches};
 ghost use Rattle.lsv_serve.specs.Staged.{put_in, staged};
 
 use crate::log::store_log;
@@ -96,13 +95,12 @@ impl Staged {
     /// Stores it all in the files of log 1 with the text of the exit, and gives the elapsed time. They are empty
     /// before, and the head isn't touched.
     pub fn store<D: Disk>(&self, disk: &mut D, exit: &[u8]) -> Result<u64, DiskFault>
-        requires { D.tells → HoldsLayout (D.state disk.old) [] [] }
+        requires { D.tells → HoldsLayout (D.view disk.old) [] [] }
         ensures elapsed { IfOk result (λ elapsed. elapsed ≡ self.now.elapsed) }
-        ensures stored { D.tells → OnOk result (HoldsLaid (D.state disk.new) exit.now self.now.laid) }
-        ensures head { D.tells → (text : List ℕ) → Holds (D.state disk.old) (log_file part.Head) text → Holds (D.state disk.new) (log_file part.Head) text }
-        ensures elsewhere { D.tells → Elsewhere IsOfLog (D.state disk.old) (D.state disk.new) }
-        ensures counts { (g : FileId) → D.faults disk.old g ≤ D.faults disk.new g }
-        ensures cause { OnErr result (LogFailed (D.faults disk.old) (D.faults disk.new)) }
+        ensures stored { D.tells → OnOk result (HoldsLaid (D.view disk.new) exit.now self.now.laid) }
+        ensures head { D.tells → (text : List ℕ) → Holds (D.view disk.old) (log_file part.Head) text → Holds (D.view disk.new) (log_file part.Head) text }
+        ensures frame { OnlyTouches D.tells IsOfLog (D.view disk.old) (D.view disk.new) }
+        ensures cause { OnErr result (LogFailed (D.view disk.old).faults (D.view disk.new).faults) }
     {
         store_log(disk, exit, &self.laid)?;
         Ok(self.elapsed)

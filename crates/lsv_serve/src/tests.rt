@@ -236,7 +236,7 @@ fn world_of(alloc: Global, pieces: List<Bytes>, failing: Failing) -> Result<Worl
     })
 }
 
-/// Runs `once` in this world, and asserts how it ends and what it puts.
+/// Throughout `once` in this world, and asserts how it ends and what it puts.
 fn ends(
     rt: &impl Abort,
     alloc: Global,

@@ -2,9 +2,8 @@
 ghost use Rattle.std.specs.Prelude.{◌≤◌, ◌<◌, length, IfOk, OnOk};
 ghost use Rattle.std.specs.Bool.{OnTrue, OnFalse};
 ghost use Rattle.lsv_disk.specs.declared.file.FileId.{FileId};
-ghost use Rattle.lsv_disk.specs.State.{Elsewhere};
 ghost use Rattle.lsv_serve.specs.Machine.{Stage};
-ghost use Rattle.lsv_serve.specs.Store.{IsOfLog};
+ghost use Rattle.lsv_serve.specs.Store.{IsOfLog, OnlyTouches};
 ghost use Rattle.lsv_serve.specs.Steps.{Stands, TakesOne, TakesNone, TakesAll};
 
 use crate::session::Session;
@@ -23,16 +22,15 @@ fn take_next<D: Disk>(
     disk: &mut D,
     out: &mut Bytes,
 ) -> Result<bool, NoMem>
-    requires { (start : D) × ((stage : Stage) × Stands D.tells (D.state start) (D.state disk.old) (D.faults start) (D.faults disk.old) stage session.old) }
+    requires { (start : D) × ((stage : Stage) × Stands D.tells (D.view start) (D.view disk.old) (D.view start).faults (D.view disk.old).faults stage session.old) }
     ensures one { IfOk result (λ more. OnTrue more ((start : D) (old : Stage) →
-        Stands D.tells (D.state start) (D.state disk.old) (D.faults start) (D.faults disk.old) old session.old →
-        TakesOne D.tells (D.state start) (D.state disk.new) (D.faults start) (D.faults disk.new) old framer.old framer.new session.new out.old out.new)) }
+        Stands D.tells (D.view start) (D.view disk.old) (D.view start).faults (D.view disk.old).faults old session.old →
+        TakesOne D.tells (D.view start) (D.view disk.new) (D.view start).faults (D.view disk.new).faults old framer.old framer.new session.new out.old out.new)) }
     ensures none { IfOk result (λ more. OnFalse more ((start : D) (old : Stage) →
-        Stands D.tells (D.state start) (D.state disk.old) (D.faults start) (D.faults disk.old) old session.old →
-        TakesNone D.tells (D.state start) (D.state disk.new) (D.faults start) (D.faults disk.new) old framer.old framer.new session.new out.old out.new)) }
+        Stands D.tells (D.view start) (D.view disk.old) (D.view start).faults (D.view disk.old).faults old session.old →
+        TakesNone D.tells (D.view start) (D.view disk.new) (D.view start).faults (D.view disk.new).faults old framer.old framer.new session.new out.old out.new)) }
     ensures shorter { IfOk result (λ more. OnTrue more (length framer.new < length framer.old)) }
-    ensures elsewhere { D.tells → Elsewhere IsOfLog (D.state disk.old) (D.state disk.new) }
-    ensures counts { (g : FileId) → D.faults disk.old g ≤ D.faults disk.new g }
+    ensures frame { OnlyTouches D.tells IsOfLog (D.view disk.old) (D.view disk.new) }
 {
     if session.is_shut() {
         return Ok(false);
@@ -60,12 +58,11 @@ pub fn take_all<D: Disk>(
     disk: &mut D,
     out: &mut Bytes,
 ) -> Result<(), NoMem>
-    requires { (start : D) × ((stage : Stage) × Stands D.tells (D.state start) (D.state disk.old) (D.faults start) (D.faults disk.old) stage session.old) }
+    requires { (start : D) × ((stage : Stage) × Stands D.tells (D.view start) (D.view disk.old) (D.view start).faults (D.view disk.old).faults stage session.old) }
     ensures all { OnOk result ((start : D) (old : Stage) →
-        Stands D.tells (D.state start) (D.state disk.old) (D.faults start) (D.faults disk.old) old session.old →
-        TakesAll D.tells (D.state start) (D.state disk.new) (D.faults start) (D.faults disk.new) old framer.old framer.new session.new out.old out.new) }
-    ensures elsewhere { D.tells → Elsewhere IsOfLog (D.state disk.old) (D.state disk.new) }
-    ensures counts { (g : FileId) → D.faults disk.old g ≤ D.faults disk.new g }
+        Stands D.tells (D.view start) (D.view disk.old) (D.view start).faults (D.view disk.old).faults old session.old →
+        TakesAll D.tells (D.view start) (D.view disk.new) (D.view start).faults (D.view disk.new).faults old framer.old framer.new session.new out.old out.new) }
+    ensures frame { OnlyTouches D.tells IsOfLog (D.view disk.old) (D.view disk.new) }
 {
     while take_next(framer, session, alloc, disk, out)? {}
     Ok(())

@@ -11,7 +11,7 @@ fill_files-requires g t c κs within =
         within,
         (
           filings-apart c.args.filings.now some c.requires.apart,
-          λ told. filings-empty c.args.filings.now _ some c.requires.apart c.log_file.result c.log_file.ensures _ (g.D.Disk.state c.fill.new.disk) (c.requires.empty told) (c.in_ok-fill.ensures.elsewhere told),
+          λ told. filings-empty c.args.filings.now _ some c.requires.apart c.log_file.result c.log_file.ensures _ (g.D.Disk.view c.fill.new.disk) (c.requires.empty told) (c.in_ok-fill.ensures.frame.elsewhere told),
         ),
       ),
     )
@@ -19,5 +19,5 @@ fill_files-requires g t c κs within =
 pub returns-clause-filled : goal.returns-clause-filled
 returns-clause-filled g t c = λ told.
     on_ok_weaker c.fill_files.result (λ filled.
-    filings-filled c.args.filings.now _ c.in-len1-up.len_at_least c.requires.apart c.log_file.result c.log_file.ensures (g.D.Disk.state c.fill.new.disk) _
-    (c.in_ok-fill.ensures.filled told) (c.fill_files.ensures.elsewhere told) filled) (c.fill_files.ensures.filled told)
+    filings-filled c.args.filings.now _ c.in-len1-up.len_at_least c.requires.apart c.log_file.result c.log_file.ensures (g.D.Disk.view c.fill.new.disk) _
+    (c.in_ok-fill.ensures.filled told) (c.fill_files.ensures.frame.elsewhere told) filled) (c.fill_files.ensures.filled told)

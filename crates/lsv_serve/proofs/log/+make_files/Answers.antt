@@ -1,4 +1,4 @@
-use Rattle.std.proofs.Common.{rules}
+use Rattle.std.proofs.Common.{rules, ◌∙◌}
 use Rattle.std.proofs.lemmas.Result.{on_ok_weaker}
 use Rattle.lsv_serve.proofs.Filing.{others-apart, parts-absent, parts-made}
 use Rattle.lsv_serve.proofs.log.+make_files.Goals as goal
@@ -11,7 +11,7 @@ make_files-requires g t c κs within =
         within,
         (
           others-apart c.args.parts.now some c.requires.apart,
-          λ told. parts-absent c.args.parts.now some c.requires.apart c.log_file.result c.log_file.ensures _ (g.D.Disk.state c.create.new.self) (c.requires.absent told) (c.in_ok-create.ensures.elsewhere told),
+          λ told. parts-absent c.args.parts.now some c.requires.apart c.log_file.result c.log_file.ensures _ (g.D.Disk.view c.create.new.self) (c.requires.absent told) ((c.in_ok-create.ensures.frame told).elsewhere),
         ),
       ),
     )
@@ -19,6 +19,6 @@ make_files-requires g t c κs within =
 pub returns-clause-made : goal.returns-clause-made
 returns-clause-made g t c = λ told.
     on_ok_weaker c.make_files.result (λ made.
-    parts-made c.args.parts.now c.in-len1-up.len_at_least c.requires.apart c.log_file.result c.log_file.ensures (g.D.Disk.state c.create.new.self) _
-    (record { reads = c.in_ok-create.ensures.made told; durable = c.in_ok-create.ensures.durable told })
-    (c.make_files.ensures.elsewhere told) made) (c.make_files.ensures.made told)
+    parts-made c.args.parts.now c.in-len1-up.len_at_least c.requires.apart c.log_file.result c.log_file.ensures (g.D.Disk.view c.create.new.self) _
+    (record { reads = c.in_ok-create.ensures.made told; durable = λ d left. c.in_ok-create.ensures.durable told d left ∙ c.in_ok-create.ensures.made told })
+    (c.make_files.ensures.frame.elsewhere told) made) (c.make_files.ensures.made told)

@@ -18,24 +18,24 @@ returns-then-count-eq0-clause-ends g c = λ s k d course.
 
 pub returns-in_default-turn-clause-ends : goal.returns-in_default-turn-clause-ends
 returns-in_default-turn-clause-ends g c = λ s k d course.
-    story-out-of-memory _ _ _ _ _ _ _ _ _ _ _ _ _ _ _ _ _ _ (take c.in-Ok.count c.read.new.buf) _ _ course (λ told. c.in-Ok.ensures.piece told (omega arith)) (λ told. c.in-Ok.ensures.rest told) c.turn.ensures.counts c.turn.ensures.elsewhere
+    story-out-of-memory _ _ _ _ _ _ _ _ _ _ _ _ _ _ _ _ _ _ (take c.in-Ok.count c.read.new.buf) _ _ course (λ told. c.in-Ok.ensures.piece told (omega arith)) (λ told. c.in-Ok.ensures.rest told) c.turn.ensures.frame.monotone c.turn.ensures.frame.elsewhere
 
 pub returns-in_default-put_replies-clause-ends : goal.returns-in_default-put_replies-clause-ends
 returns-in_default-put_replies-clause-ends g c = λ s k d course.
     let all = rw c.requires.put at c.in-Ok-turn.ensures.all d course.stage course.stands in
-    let t = turned _ g.K.Sink.tells _ _ _ _ _ _ _ _ _ _ _ _ _ _ _ _ _ (take c.in-Ok.count c.read.new.buf) _ _ _ course (λ told. c.in-Ok.ensures.piece told (omega arith)) (λ told. c.in-Ok.ensures.rest told) c.turn.ensures.counts all in
+    let t = turned _ g.K.Sink.tells _ _ _ _ _ _ _ _ _ _ _ _ _ _ _ _ _ (take c.in-Ok.count c.read.new.buf) _ _ _ course (λ told. c.in-Ok.ensures.piece told (omega arith)) (λ told. c.in-Ok.ensures.rest told) c.turn.ensures.frame.monotone all in
     story-write-fault _ _ _ _ _ _ _ _ _ _ _ _ _ _ _ _ _ _ _ t course.said (λ told. rw c.as_slice.ensures at c.in_default-put_replies.ensures.failed told)
 
 pub returns-then-is_shut-clause-ends : goal.returns-then-is_shut-clause-ends
 returns-then-is_shut-clause-ends g c = λ s k d course.
     let all = rw c.requires.put at c.in-Ok-turn.ensures.all d course.stage course.stands in
-    let t = turned _ g.K.Sink.tells _ _ _ _ _ _ _ _ _ _ _ _ _ _ _ _ _ (take c.in-Ok.count c.read.new.buf) _ _ _ course (λ told. c.in-Ok.ensures.piece told (omega arith)) (λ told. c.in-Ok.ensures.rest told) c.turn.ensures.counts all in
+    let t = turned _ g.K.Sink.tells _ _ _ _ _ _ _ _ _ _ _ _ _ _ _ _ _ (take c.in-Ok.count c.read.new.buf) _ _ _ course (λ told. c.in-Ok.ensures.piece told (omega arith)) (λ told. c.in-Ok.ensures.rest told) c.turn.ensures.frame.monotone all in
     let shut : IsShut t.stage = search (rules, c.is_shut.ensures t.stage t.stands.at) in
     story-shut _ _ _ _ _ _ _ _ _ _ _ _ _ _ _ _ _ _ _ t course.said (λ told. rw c.as_slice.ensures at c.in-Ok-put_replies.ensures.put told) shut
 
 pub returns-clause-on : goal.returns-clause-on
 returns-clause-on g c = λ s k d course.
     let all = rw c.requires.put at c.in-Ok-turn.ensures.all d course.stage course.stands in
-    let t = turned _ g.K.Sink.tells _ _ _ _ _ _ _ _ _ _ _ _ _ _ _ _ _ (take c.in-Ok.count c.read.new.buf) _ _ _ course (λ told. c.in-Ok.ensures.piece told (omega arith)) (λ told. c.in-Ok.ensures.rest told) c.turn.ensures.counts all in
+    let t = turned _ g.K.Sink.tells _ _ _ _ _ _ _ _ _ _ _ _ _ _ _ _ _ (take c.in-Ok.count c.read.new.buf) _ _ _ course (λ told. c.in-Ok.ensures.piece told (omega arith)) (λ told. c.in-Ok.ensures.rest told) c.turn.ensures.frame.monotone all in
     let not_shut : IsShut t.stage → ⊥ = λ shut. search (rules, c.is_shut.ensures t.stage t.stands.at) in
     course-on _ _ _ _ _ _ _ _ _ _ _ _ _ _ _ _ _ _ t course.said (λ told. rw c.as_slice.ensures at c.in-Ok-put_replies.ensures.put told) not_shut

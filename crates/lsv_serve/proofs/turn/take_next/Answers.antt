@@ -26,11 +26,11 @@ returns-in_ok-take-in-Ok-Some-clause-one g c = λ start old stands.
       read = rw c.consume.ensures next.1;
       not_shut = not_shut;
       outcome = step.outcome;
-      brings = brings-from-start _ _ _ _ _ old _ _ not_shut stands.come (log-failed-earlier (g.D.Disk.faults start) (g.D.Disk.faults c.args.disk.now) (g.D.Disk.faults c.take.new.disk) stands.counts) step.brings;
+      brings = brings-from-start _ _ _ _ _ old _ _ not_shut stands.come (log-failed-earlier ((g.D.Disk.view start).faults) ((g.D.Disk.view c.args.disk.now).faults) ((g.D.Disk.view c.take.new.disk).faults) stands.counts) step.brings;
       stands = record {
         at = step.session;
         come = λ told. come-on _ _ _ _ _ old _ _ not_shut step.brings (stands.come told) (step.files told);
-        counts = λ f. let a = stands.counts f in let b = c.in_ok-take-in-Ok-Some.ensures.counts f in omega arith;
+        counts = λ f. let a = stands.counts f in let b = c.in_ok-take-in-Ok-Some.ensures.frame.monotone f in omega arith;
       };
       out = step.out;
     }

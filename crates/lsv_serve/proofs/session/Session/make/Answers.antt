@@ -14,7 +14,7 @@ returns-in_default-clause-step g c = on_ok_weaker c.refuse.result (λ r old uses
   brings = inr (c.in_default.ensures.cause, uses, refl);
   session = r.0;
   out = r.1;
-  files = c.make_log.ensures.elsewhere;
+  files = c.make_log.ensures.frame.elsewhere;
 }) c.refuse.ensures
 
 pub returns-then-there-clause-step : goal.returns-then-there-clause-step
@@ -23,7 +23,7 @@ returns-then-there-clause-step g c = on_ok_weaker c.refuse-then-there.result (λ
   brings = inl (true, (λ told. sym c.if-there.true ∙ c.in-Ok.ensures.answer told), plainly-accept old c.args.head.now uses true);
   session = r.0;
   out = r.1;
-  files = c.make_log.ensures.elsewhere;
+  files = c.make_log.ensures.frame.elsewhere;
 }) c.refuse-then-there.ensures
 
 pub returns-clause-step : goal.returns-clause-step
@@ -33,8 +33,8 @@ returns-clause-step g c = λ old uses. record {
   session = ap session.Running c.new.ensures;
   out = c.in_ok-put_answer.ensures;
   files = λ told. (
-    subst (λ t. Holds (g.D.Disk.state c.make_log.new.disk) (log_file part.Head) t) (c.as_slice.ensures ∙ c.in_ok-text.ensures) (rw c.if-there.false at c.in-Ok.ensures.head told),
+    subst (λ t. Holds (g.D.Disk.view c.make_log.new.disk) (log_file part.Head) t) (c.as_slice.ensures ∙ c.in_ok-text.ensures) (rw c.if-there.false at c.in-Ok.ensures.head told),
     rw c.if-there.false at c.in-Ok.ensures.made told,
-    c.in-Ok.ensures.elsewhere told,
+    c.in-Ok.ensures.frame.elsewhere told,
   );
 }
