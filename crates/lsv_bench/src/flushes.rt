@@ -13,8 +13,8 @@ const LINE: &[u8] = b"4 0.001000000 82\n";
 const DATA: &[u8] =
     b"0123456789012345678901234567890123456789012345678901234567890123456789012345678901\n";
 
-/// The bytes of an entry of the journal, and the gate behind it.
-const ENTRY: &[u8] = &[0; 90];
+/// The body of an entry of the journal.
+const BODY: &[u8] = &[0; 89];
 
 const OWNER: Owner = Owner::Log(1);
 
@@ -41,16 +41,16 @@ fn flush_all(bundle: &mut Bundle, disk: &mut FileDisk, count: u32) -> Result<(),
     Ok(())
 }
 
-/// What of a flush reaches the device: two data files, the body of an entry, and its gate.
+/// What of a flush reaches the device: two data files, the body in a slot, and the selector.
 fn write_once(disk: &mut FileDisk, count: u32) -> Result<(), DiskFault> {
     let count = u64::from(count);
     disk.write_at(file(Part::Stdin), count * LINE.len() as u64, LINE)?;
     disk.sync(file(Part::Stdin))?;
     disk.write_at(file(Part::Stdout), count * DATA.len() as u64, DATA)?;
     disk.sync(file(Part::Stdout))?;
-    disk.write_at(file(Part::Stderr), count * ENTRY.len() as u64, ENTRY)?;
+    disk.write_at(file(Part::Stderr), 2 + count % 2 * BODY.len() as u64, BODY)?;
     disk.sync(file(Part::Stderr))?;
-    disk.write_at(file(Part::Stderr), count * ENTRY.len() as u64, &ENTRY[..1])?;
+    disk.write_at(file(Part::Stderr), 1, &[(count % 2) as u8])?;
     disk.sync(file(Part::Stderr))
 }
 
@@ -64,7 +64,7 @@ fn write_all(disk: &mut FileDisk, count: u32) -> Result<(), DiskFault> {
 /// Flushes so often, and writes and syncs alone so often, in a store in this folder. Says on standard error how many
 /// nanoseconds each took.
 pub fn flushes(rt: HostRuntime, count: u32) -> Option<u64> {
-    let mut disk = FileDisk::new(rt);
+    let mut disk = FileDisk::new(rt, "lsv_bench");
     disk.root("store", "store/events");
     let mut bundle = Bundle::create(rt.alloc(), &mut disk, OWNER, Shape::Log).ok()?;
     let start = Instant::now(&rt).ok()?;

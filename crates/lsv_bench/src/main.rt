@@ -1,13 +1,15 @@
-//! Reads or writes one message a million times, lays and reads a million records, or flushes a bundle, so that
+//! Reads or writes one message a million times, lays and reads a million records, flushes a bundle, or makes logs, so that
 //! `make bench` can measure each alone.
 #![tactic(auto)]
 
 mod flushes;
+mod makes;
 
 use flushes::flushes;
 use lsv_base::{Bytes, List};
 use lsv_msg::{ClientMessage, decode_client, encode_client};
 use lsv_record::{Record, Stream, lay, read_log};
+use makes::makes;
 use std::alloc::Global;
 use std::env;
 use std::process::ExitCode;
@@ -80,6 +82,7 @@ fn measured(rt: &HostRuntime) -> Option<u64> {
         "encode" => encode_all(alloc),
         "records" => lay_and_read(rt),
         "flush" => flushes(*rt, 2_000),
+        "make" => makes(*rt, 200),
         "flush-often" => flushes(*rt, 100_000),
         _ => None,
     }

@@ -1,0 +1,199 @@
+// Real files, which no clause speaks of.
+use lsv_disk::{Disk, FileId, Owner, Part};
+use lsv_real::{FileDisk, SyncedFile, Unsynced};
+use std::cell::Cell;
+use std::io::ErrorKind;
+use std::os::unix::fs::PermissionsExt;
+use std::test::Fail;
+use std::{env, fs, io};
+
+const LINES: FileId = FileId {
+    owner: Owner::Events(1),
+    part: Part::Lines,
+};
+
+const OUTPUT: FileId = FileId {
+    owner: Owner::Log(1296),
+    part: Part::Ttyout,
+};
+
+// A folder of this process and test alone.
+fn own_folder(rt: &HostRuntime, name: &str) -> Result<String, Fail> {
+    let base = env::temp_dir(rt)?;
+    let id = std::process::id(rt.process());
+    let path = base
+        .as_path()
+        .to_str()
+        .ok_or("a temporary folder of UTF-8")?;
+    let folder = format!(in rt.alloc(); "{path}/lsv-{name}-{id}")?;
+    Ok(folder)
+}
+
+#[test]
+fn a_file_of_the_store_is_made_written_and_read(rt: HostRuntime) -> Result<(), Fail> {
+    let alloc = rt.alloc();
+    let own = own_folder(&rt, "file")?;
+    let dir = format!(in alloc; "{own}/a/b")?;
+    let events = format!(in alloc; "{dir}/events")?;
+    let mut disk = FileDisk::new(rt, "test");
+    disk.root(dir.as_str(), events.as_str());
+
+    assert_eq!(rt; disk.length(OUTPUT), Ok(None));
+    assert_eq!(rt; disk.create(OUTPUT), Ok(()));
+    assert_eq!(rt; disk.length(OUTPUT), Ok(Some(0)));
+    assert_eq!(rt; disk.write_at(OUTPUT, 0, b"abcd"), Ok(()));
+    assert_eq!(rt; disk.write_at(OUTPUT, 2, b"xyz"), Ok(()));
+    assert_eq!(rt; disk.sync(OUTPUT), Ok(()));
+    let mut buf = [0u8; 8];
+    assert_eq!(rt; disk.read_at(OUTPUT, 1, &mut buf), Ok(4));
+    assert_eq!(rt; buf.as_slice(), b"bxyz\0\0\0\0".as_slice());
+
+    let path = format!(in alloc; "{dir}/00/01/00/ttyout")?;
+    let stored = fs::read(&rt, path.as_str())?;
+    assert_eq!(rt; stored.as_slice(), b"abxyz".as_slice());
+
+    assert_eq!(rt; disk.create(LINES), Ok(()));
+    let lines = format!(in alloc; "{dir}/events.1")?;
+    assert!(rt; fs::exists(&rt, lines.as_str())?);
+    // A file that is there is not made again, and a log has no number 0.
+    assert!(rt; disk.create(OUTPUT).is_err());
+    let nothing = FileId {
+        owner: Owner::Log(0),
+        part: Part::Head,
+    };
+    assert!(rt; disk.length(nothing).is_err());
+    fs::remove_dir_all(&rt, own.as_str())?;
+    Ok(())
+}
+
+/// The mode of a file or folder.
+fn mode(rt: &HostRuntime, path: &str) -> Result<u32, Fail> {
+    Ok(fs::metadata(rt, path)?.permissions().mode() & 0o777)
+}
+
+#[test]
+fn nobody_else_may_read_the_store(rt: HostRuntime) -> Result<(), Fail> {
+    let alloc = rt.alloc();
+    let own = own_folder(&rt, "modes")?;
+    let mut disk = FileDisk::new(rt, "test");
+    let events = format!(in alloc; "{own}/events")?;
+    disk.root(own.as_str(), events.as_str());
+    disk.create_all(Owner::Log(1), &[Part::Head, Part::Timing])?;
+    disk.create(LINES)?;
+    for (name, want) in [
+        ("", 0o700),
+        ("/lock", 0o600),
+        ("/00", 0o700),
+        ("/00/00/01", 0o700),
+        ("/00/00/01/log.json", 0o600),
+        ("/00/00/01/timing", 0o600),
+        ("/events.1", 0o600),
+    ] {
+        let path = format!(in alloc; "{own}{name}")?;
+        assert_eq!(rt; mode(&rt, path.as_str())?, want, "{name}");
+    }
+    fs::remove_dir_all(&rt, own.as_str())?;
+    Ok(())
+}
+
+#[test]
+fn a_store_has_one_server(rt: HostRuntime) -> Result<(), Fail> {
+    let own = own_folder(&rt, "lock")?;
+    let mut first = FileDisk::new(rt, "first");
+    first.root(own.as_str(), "events");
+    assert_eq!(rt; first.create(OUTPUT), Ok(()));
+
+    let mut second = FileDisk::new(rt, "second");
+    assert!(rt; second.length(OUTPUT).is_err());
+    second.root(own.as_str(), "events");
+    assert!(rt; second.length(OUTPUT).is_err());
+    assert!(rt; second.create(LINES).is_err());
+    assert!(rt; second.sync(OUTPUT).is_err());
+
+    drop(first);
+    second.root(own.as_str(), "events");
+    assert_eq!(rt; second.length(OUTPUT), Ok(Some(0)));
+    fs::remove_dir_all(&rt, own.as_str())?;
+    Ok(())
+}
+
+#[test]
+fn a_file_that_was_closed_is_opened_again(rt: HostRuntime) -> Result<(), Fail> {
+    let own = own_folder(&rt, "many")?;
+    let mut disk = FileDisk::new(rt, "test");
+    disk.root(own.as_str(), "events");
+    disk.create(OUTPUT)?;
+    disk.write_at(OUTPUT, 0, b"kept")?;
+    for number in 1..600 {
+        disk.create(FileId::new(Owner::Log(number), Part::Head))?;
+    }
+    let mut buf = [0u8; 8];
+    assert_eq!(rt; disk.read_at(OUTPUT, 0, &mut buf), Ok(4));
+    assert_eq!(rt; disk.sync(OUTPUT), Ok(()));
+    assert_eq!(rt; disk.length(OUTPUT), Ok(Some(4)));
+    fs::remove_dir_all(&rt, own.as_str())?;
+    Ok(())
+}
+
+/// A file of six bytes, whose next syncs fail so often.
+#[derive(Drop)]
+struct Failing {
+    fails: Cell<u32>,
+    written: Cell<usize>,
+}
+
+impl SyncedFile for Failing {
+    fn read_piece(&self, buf: &mut [u8], at: u64) -> io::Result<usize> {
+        Ok(if at < 6 {
+            buf.len().min((6 - at) as usize)
+        } else {
+            0
+        })
+    }
+
+    fn write_piece(&self, bytes: &[u8], _at: u64) -> io::Result<()> {
+        self.written
+            .set(self.written.get().saturating_add(bytes.len()));
+        Ok(())
+    }
+
+    fn sync_written(&self) -> io::Result<()> {
+        let left = self.fails.get();
+        if left == 0 {
+            return Ok(());
+        }
+        self.fails.set(left - 1);
+        Err(ErrorKind::Other.into())
+    }
+}
+
+/// Whether three syncs in a row succeed of which the first ones fail, how many bytes were written again after each,
+/// and whether something is unsynced at last.
+fn syncs(rt: &HostRuntime, fails: u32) -> Result<([(bool, usize); 3], bool), Fail> {
+    let file = Failing {
+        fails: Cell::new(fails),
+        written: Cell::new(0),
+    };
+    let mut unsynced = Unsynced::new(rt.alloc());
+    unsynced.note(OUTPUT, 1, 2)?;
+    unsynced.note(OUTPUT, 4, 9)?;
+    let mut seen = [(false, 0); 3];
+    for told in &mut seen {
+        let synced = unsynced.sync(OUTPUT, &file).is_ok();
+        *told = (synced, file.written.get());
+    }
+    Ok((seen, unsynced.has(OUTPUT)))
+}
+
+#[test]
+fn bytes_whose_sync_failed_are_written_again(rt: HostRuntime) -> Result<(), Fail> {
+    for (fails, want) in [
+        (0, ([(true, 0), (true, 0), (true, 0)], false)),
+        (1, ([(false, 0), (true, 5), (true, 5)], false)),
+        (2, ([(false, 0), (false, 5), (true, 10)], false)),
+        (3, ([(false, 0), (false, 5), (false, 10)], true)),
+    ] {
+        assert_eq!(rt; syncs(&rt, fails)?, want, "{fails} faults");
+    }
+    Ok(())
+}
