@@ -2,8 +2,11 @@ ghost use Rattle.std.specs.Prelude.{◌≡◌, ℕ, ◌≤◌, List, ◌++◌, O
 ghost use Rattle.lsv_words.specs.Causes.{HasRisen};
 ghost use Rattle.lsv_words.specs.Pieces.{IsPrefix};
 
+use thiserror::Error;
+
 /// A write failed.
-#[derive(Clone, Copy, Debug, PartialEq, Eq)]
+#[derive(Clone, Copy, Debug, PartialEq, Eq, Error)]
+#[error("a write failed")]
 pub struct SinkFault;
 
 /// Where bytes go, as standard output.

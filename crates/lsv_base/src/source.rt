@@ -1,8 +1,11 @@
 ghost use Rattle.std.specs.Prelude.{◌≡◌, ℕ, ◌+◌, ◌-◌, ◌<◌, ◌≤◌, ◌^◌, List, [], ◌∷◌, ◌++◌, length, take, IfOk, OnErr};
 ghost use Rattle.lsv_words.specs.Causes.{HasRisen};
 
+use thiserror::Error;
+
 /// A read failed.
-#[derive(Clone, Copy, Debug, PartialEq, Eq)]
+#[derive(Clone, Copy, Debug, PartialEq, Eq, Error)]
+#[error("a read failed")]
 pub struct SourceFault;
 
 /// Where bytes come from, as standard input.

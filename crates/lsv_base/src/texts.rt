@@ -3,11 +3,14 @@ ghost use Rattle.lsv_words.specs.Causes.{HasRisen};
 
 use crate::{Bytes, NoMem};
 use std::alloc::Global;
+use thiserror::Error;
 
 /// Why a text couldn't be read.
-#[derive(Clone, Copy, Debug, PartialEq, Eq)]
+#[derive(Clone, Copy, Debug, PartialEq, Eq, Error)]
 pub enum TextFault {
+    #[error("a reading of a text failed")]
     Failed,
+    #[error("out of memory")]
     NoMem,
 }
 
