@@ -1,5 +1,5 @@
-ghost use Rattle.std.specs.Prelude.{◌≡◌, ℕ, ◌≤◌, List, Option, IfOk, IsErrOf};
-ghost use Rattle.lsv_words.specs.Causes.{HasRisen};
+ghost use Rattle.std.specs.Prelude.{◌≡◌, ℕ, List, Option, IfOk, IsErrOf};
+ghost use Rattle.lsv_base.specs.Outside.{HasCause};
 
 use crate::{Bytes, NoMem};
 use std::alloc::Global;
@@ -39,6 +39,5 @@ pub trait Texts {
     fn text(&mut self, alloc: Global, path: &str) -> Result<Option<Bytes>, TextFault>
         ensures text { tells → IfOk result (λ t. t ≡ texts self.old path.now) }
         ensures same { tells → (p : List ℕ) → texts self.new p ≡ texts self.old p }
-        ensures faults { faults self.old ≤ faults self.new }
-        ensures cause { IsErrOf result TextFault.Failed → HasRisen (faults self.old) (faults self.new) };
+        ensures cause { HasCause (IsErrOf result TextFault.Failed) (faults self.old) (faults self.new) };
 }
