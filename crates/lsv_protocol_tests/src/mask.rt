@@ -86,64 +86,24 @@ fn stored_so(
 }
 
 #[test]
-fn a_password_is_stored_as_stars(rt: HostRuntime) -> Result<(), Fail> {
-    let rows: [(&[Data], &[u8]); 10] = [
-        // The end of the line ends the password, and another line of output with it.
-        (
-            &[
-                (Ttyout, b"[sudo] password for ann: "),
-                (Ttyin, b"pw"),
-                (Ttyin, b"1\rls"),
-                (Ttyout, b"\r\n"),
-                (Ttyin, b"id"),
-            ],
-            b"***\rlsid",
-        ),
-        // A session that is taken on at a password.
-        (
-            &[
-                (Ttyout, b"[sudo] password for ann: "),
-                (Ttyin, b"pw"),
-                (Ttyin, b"1\r"),
-            ],
-            b"***\r",
-        ),
-        // A prompt that straddles records.
-        (
-            &[
-                (Ttyout, b"Pass"),
-                (Ttyout, b""),
-                (Stdout, b"\n"),
-                (Ttyout, b"word: "),
-                (Ttyin, b"pw\nls"),
-            ],
-            b"**\nls",
-        ),
-        // A prompt that begins within another that breaks off.
-        (&[(Ttyout, b"asswordassword for x"), (Ttyin, b"pw")], b"**"),
-        (&[(Ttyout, b"aassassword:"), (Ttyin, b"pw")], b"**"),
-        // What stands before a line feed is no prompt.
-        (&[(Ttyout, b"Password: \r\n"), (Ttyin, b"id")], b"id"),
-        (&[(Ttyout, b"Pass\nword: "), (Ttyin, b"id")], b"id"),
-        // Output on the line of the prompt asks again, and none asks nothing.
-        (
-            &[
-                (Ttyout, b"Password: "),
-                (Ttyin, b"a\r"),
-                (Ttyout, b""),
-                (Ttyin, b"b"),
-                (Ttyout, b"x"),
-                (Ttyin, b"c"),
-            ],
-            b"*\rb*",
-        ),
-        // Another stream asks nothing.
-        (&[(Stdout, b"Password: "), (Ttyin, b"id")], b"id"),
-        (&[(Ttyin, b"id")], b"id"),
+fn a_mask_is_taken_on_again_anywhere(rt: HostRuntime) -> Result<(), Fail> {
+    let straddling: [Data; 5] = [
+        (Ttyout, b"Pass"),
+        (Ttyout, b""),
+        (Stdout, b"\n"),
+        (Ttyout, b"word: "),
+        (Ttyin, b"pw\nls"),
     ];
-    for (session, wanted) in rows {
-        stored_so(&rt, rt.alloc(), &PROMPTS, session, wanted)?;
-    }
+    stored_so(&rt, rt.alloc(), &PROMPTS, &straddling, b"**\nls")?;
+    let again: [Data; 6] = [
+        (Ttyout, b"Password: "),
+        (Ttyin, b"a\r"),
+        (Ttyout, b""),
+        (Ttyin, b"b"),
+        (Ttyout, b"x"),
+        (Ttyin, b"c"),
+    ];
+    stored_so(&rt, rt.alloc(), &PROMPTS, &again, b"*\rb*")?;
     let without: [&[u8]; 0] = [];
     let session: [Data; 2] = [(Ttyout, b"Password: "), (Ttyin, b"id")];
     stored_so(&rt, rt.alloc(), &without, &session, b"id")
