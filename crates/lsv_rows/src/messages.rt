@@ -43,10 +43,13 @@ pub fn server(rt: &HostRuntime, digits: &str) -> anyhow::Result<()> {
 pub fn request(rt: &HostRuntime, digits: &str) -> anyhow::Result<()> {
     let alloc = rt.alloc();
     let bytes = bytes_of(alloc, digits)?;
-    match decode_client(alloc, bytes.as_slice()).map(request_of) {
-        Ok(Ok(request)) => println!(rt; "{request:?}")?,
-        Ok(Err(refusal)) => println!(rt; "{}", refusal.text())?,
-        Err(fault) => println!(rt; "{fault}")?,
+    let message = match decode_client(alloc, bytes.as_slice()) {
+        Ok(message) => message,
+        Err(fault) => return Ok(println!(rt; "{fault}")?),
+    };
+    match request_of(message) {
+        Ok(request) => println!(rt; "{request:?}")?,
+        Err(refusal) => println!(rt; "{}", refusal.text())?,
     }
     Ok(())
 }
