@@ -216,6 +216,7 @@ cause_widened Own Wider failed wider old new more fails cause = record {
 -- a count that rose by so much at most, and then by so much more at most
 pub rose_trans : (m n : ℕ) (Own : FileId → Type 0) (old mid new : FileId → ℕ) → RoseAtMost m Own old mid → RoseAtMost n Own mid new → RoseAtMost (m + n) Own old new
 rose_trans m n Own old mid new first second = record {
+  never_fell = λ f. omega (arith, first.never_fell f, second.never_fell f);
   own = λ f is. omega (arith, first.own f is, second.own f is);
   others = λ f other. second.others f other ∙ first.others f other;
 }
@@ -223,13 +224,23 @@ rose_trans m n Own old mid new first second = record {
 -- a count that stayed rose by so much at most
 pub stayed_rose : (n : ℕ) (Own : FileId → Type 0) (old new : FileId → ℕ) → ((f : FileId) → new f ≡ old f) → RoseAtMost n Own old new
 stayed_rose n Own old new same = record {
+  never_fell = λ f. omega (arith, same f);
   own = λ f is. omega (arith, same f);
   others = λ f other. same f;
+}
+
+-- so much, and so more, at most
+pub rose_more : (m n : ℕ) (Own : FileId → Type 0) (old new : FileId → ℕ) → m ≤ n → RoseAtMost m Own old new → RoseAtMost n Own old new
+rose_more m n Own old new more rose = record {
+  never_fell = rose.never_fell;
+  own = λ f is. omega (arith, more, rose.own f is);
+  others = rose.others;
 }
 
 -- a count that rose for one file by one at most
 pub rose_of_one : (f : FileId) (old new : FileId → ℕ) → RoseByOne f old new → RoseAtMost 1 (λ g. g ≡ f) old new
 rose_of_one f old new rose = record {
+  never_fell = rose.never_fell;
   own = λ g is. subst (λ (h : FileId). new h ≤ old h + 1) (sym is) rose.at_most;
   others = rose.others;
 }

@@ -23,8 +23,9 @@ pub record OnlyReads (old new : DiskView) : Type 0 where
   pub unchanged : Unchanged old new
   pub counts : Uncounted old new
 
--- a count rose for each of these files by so much at most, and for no other
+-- a count rose for each of these files by so much at most, and for no other, and fell for none
 pub record RoseAtMost (n : ℕ) (Own : FileId → Type 0) (old new : FileId → ℕ) : Type 0 where
+  pub never_fell : (file : FileId) → old file ≤ new file
   pub own : (file : FileId) → Own file → new file ≤ old file + n
   pub others : (file : FileId) → (Own file → ⊥) → new file ≡ old file
 

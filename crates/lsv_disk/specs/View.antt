@@ -84,9 +84,9 @@ pub record OneMaking (f : FileId) (old new : DiskView) : Type 0 where
   pub counts : Uncounted old new
   pub places : new.places ≡ old.places
 
--- a count rose for this file by one at most, and for no other
+-- a count rose for this file by one at most, and for no other, and fell for none
 pub record RoseByOne (f : FileId) (old new : FileId → ℕ) : Type 0 where
-  pub at_least : old f ≤ new f
+  pub never_fell : (g : FileId) → old g ≤ new g
   pub at_most : new f ≤ old f + 1
   pub others : (g : FileId) → g ≢ f → new g ≡ old g
 

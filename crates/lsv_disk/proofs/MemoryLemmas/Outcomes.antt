@@ -57,13 +57,13 @@ kept_same p old new file (inr same) g = ap (λ (cs : List Call). count_by p (pas
 -- and each count rises by one at most, for this file alone
 pub kept_rose : (P : Effect → Type 0) (p : Effect → Bool) (old new : List Call) (file : FileId) → Kept P old new file → RoseByOne file (λ g. count_by p (past_of old g)) (λ g. count_by p (past_of new g))
 kept_rose P p old new file (inl k) = record {
-  at_least = counts p old new file k.0 k.2 file;
+  never_fell = counts p old new file k.0 k.2;
   at_most = count_most p old new file k.0 k.2;
   others = λ g differs. ap (count_by p) (other old new file k.0 k.2 g differs);
 }
 kept_rose P p old new file (inr same) =
     let e = ap (λ (cs : List Call). count_by p (past_of cs file)) same in
-    record { at_least = omega (arith, e); at_most = omega (arith, e); others = λ g differs. ap (λ (cs : List Call). count_by p (past_of cs g)) same }
+    record { never_fell = λ g. let s = ap (λ (cs : List Call). count_by p (past_of cs g)) same in omega (arith, s); at_most = omega (arith, e); others = λ g differs. ap (λ (cs : List Call). count_by p (past_of cs g)) same }
 
 -- what holds of a call less is known of
 pub kept_weaker : (P Q : Effect → Type 0) (old new : List Call) (file : FileId) → ((effect : Effect) → P effect → Q effect) → Kept P old new file → Kept Q old new file
