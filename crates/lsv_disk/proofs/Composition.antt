@@ -229,7 +229,14 @@ stayed_rose n Own old new same = record {
   others = λ f other. same f;
 }
 
--- so much, and so more, at most
+-- a count that rose by nothing stayed, where the files can be told apart
+pub rose_nothing : (Own : FileId → Type 0) (old new : FileId → ℕ) → ((f : FileId) → Own f ⊎ (Own f → ⊥)) → RoseAtMost 0 Own old new → (f : FileId) → new f ≡ old f
+rose_nothing Own old new either rose f = elim (either f) [
+  | inl own ↦ omega (arith, rose.own f own, rose.never_fell f)
+  | inr other ↦ rose.others f other
+]
+
+-- by more at most
 pub rose_more : (m n : ℕ) (Own : FileId → Type 0) (old new : FileId → ℕ) → m ≤ n → RoseAtMost m Own old new → RoseAtMost n Own old new
 rose_more m n Own old new more rose = record {
   never_fell = rose.never_fell;

@@ -9,7 +9,7 @@ use Rattle.lsv_disk.specs.declared.file.Part.TheVariants.{Commit, Slots}
 use Rattle.lsv_disk.specs.Bytes.{bytes_of, size_of}
 use Rattle.lsv_disk.specs.View.{Image, DiskView, IsCrashImage, IsSynced, Elsewhere, Uncounted, RoseByOne, OneSync, HasCause, HasOwnCause}
 use Rattle.lsv_disk.specs.Throughout.{Throughout, Unchanged, RoseAtMost, CallsAtMost, WritesOneOf}
-use Rattle.lsv_disk.proofs.Composition.{followed, widened, unchanged_throughout, unchanged_reads, cause_of_file, rose_trans, rose_more, stayed_rose, rose_of_one}
+use Rattle.lsv_disk.proofs.Composition.{followed, widened, unchanged_throughout, unchanged_reads, cause_of_file, rose_nothing, rose_trans, rose_more, stayed_rose, rose_of_one}
 use Rattle.lsv_journal.specs.declared.slot.Slot.{Slot}
 use Rattle.lsv_journal.specs.declared.slot.Slot.TheVariants.{First, Second}
 use Rattle.lsv_journal.specs.declared.journal.Journal.{Journal}
@@ -338,22 +338,20 @@ pub settled_run : (n : ℕ) (f : FileId) (old mid new : DiskView) → f.part ≡
 settled_run n f old mid new slots synced old_synced unchanged run = followed (λ g. g ≡ f) (JournalHolds n f (LastAt n f old.reads)) old mid new (reads_hold n f old slots synced old_synced mid unchanged)
     (widened (λ g. g ≡ f) (λ g. g ≡ f) (JournalHolds n f (LastAt n f mid.reads)) (JournalHolds n f (LastAt n f old.reads)) mid new (λ g own. own) (λ image holds _. holds ∙ unchanged_last n f old mid unchanged) run)
 
--- calls that write each of its own files no time write none
-pub own_unwritten : (f : FileId) (old new : FileId → ℕ) → RoseAtMost 0 (IsOwn f) old new → (g : FileId) → new g ≡ old g
-own_unwritten f old new rose g = elim (same_or_other g f) [
-  | inl is ↦ within (subst (λ (h : FileId). IsOwn f h) (sym is) (own_itself f))
+-- a file is one of its own, or it isn't
+own_either : (f g : FileId) → IsOwn f g ⊎ (IsOwn f g → ⊥)
+own_either f g = elim (same_or_other g f) [
+  | inl is ↦ inl (subst (λ (h : FileId). IsOwn f h) (sym is) (own_itself f))
   | inr other ↦ elim (same_or_other g (old_file f)) [
-    | inl is ↦ within (own_by f g is)
-    | inr apart ↦ rose.others g (λ own. elim (own_cases f g own) [ inl is ↦ other is | inr is ↦ apart is ])
+    | inl is ↦ inl (own_by f g is)
+    | inr apart ↦ inr (λ own. elim (own_cases f g own) [ inl is ↦ other is | inr is ↦ apart is ])
   ]
-] where
-  within : IsOwn f g → new g ≡ old g
-  within own = omega (arith, rose.own g own, rose.never_fell g)
+]
 
 -- both files are synced, and then the slots are settled
 module _ (f : FileId) (old mid done new : DiskView) (none : Uncounted old mid) (synced : CallsAtMost 0 1 (IsOwn f) mid done) where
   before_unwritten : (g : FileId) → done.writes g ≡ old.writes g
-  before_unwritten g = own_unwritten f mid.writes done.writes synced.writes g ∙ none.writes g
+  before_unwritten g = rose_nothing (IsOwn f) mid.writes done.writes (own_either f) synced.writes g ∙ none.writes g
 
   pub opening_calls : f.part ≡ Slots → CallsAtMost 3 4 (λ g. g ≡ f) done new → WritesOneOf f 3 5 (IsOwn f) old new
   opening_calls slots settled = record {
