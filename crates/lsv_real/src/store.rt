@@ -2,6 +2,7 @@
 ghost use Rattle.std.specs.Prelude.{◌≤◌, IfOk, length};
 
 use crate::folders::Folders;
+use crate::limit::SizeLimit;
 use crate::path::{Place, Places};
 use crate::unsynced::Unsynced;
 use lru::LruCache;
@@ -48,6 +49,7 @@ pub struct Store {
     folders: Folders,
     handles: LruCache<FileId, File>,
     unsynced: Unsynced,
+    limit: SizeLimit,
     _lock: File,
 }
 
@@ -73,6 +75,7 @@ impl Store {
             folders,
             handles,
             unsynced: Unsynced::new(alloc),
+            limit: SizeLimit::now(),
             _lock: lock,
         })
     }
@@ -137,6 +140,7 @@ impl Store {
         if !self.is_open(f)? {
             return Err(ErrorKind::NotFound.into());
         }
+        self.limit.check(at, bytes.len())?;
         self.unsynced.note(f, at, bytes.len())?;
         match self.handles.get(&f) {
             Some(file) => file.write_all_at(bytes, at),
