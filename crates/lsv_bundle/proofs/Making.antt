@@ -10,7 +10,7 @@ use Rattle.lsv_disk.specs.View.{Image, DiskView, IsCrashImage}
 use Rattle.lsv_disk.specs.Throughout.{Throughout, RoseAtMost, CallsAtMost, WritesOneOf}
 use Rattle.lsv_disk.proofs.Composition.{followed, widened, rose_nothing, rose_trans, stayed_rose, uncounted_at_most}
 use Rattle.lsv_disk.proofs.Same.{same_or_other}
-use Rattle.lsv_journal.specs.Last.{IsOwn, JournalHolds, IsSomeCrashOf, MayBeMade}
+use Rattle.lsv_journal.specs.Last.{IsOwn, JournalHolds, IsSomeCrashOf, OpeningCalls, MayBeMade}
 use Rattle.lsv_journal.proofs.Laws.{own_cases, own_alone, may_be_made_stays}
 use Rattle.lsv_bundle.specs.declared.shape.Shape.{Shape}
 use Rattle.lsv_bundle.specs.declared.shape.Shape.TheVariants as shape
@@ -258,5 +258,8 @@ module _ (owner : Owner) (s : Shape) (old mid new : DiskView) where
 pub files_alone : (owner : Owner) (s : Shape) (old new : DiskView) → CallsAtMost 0 1 (IsOneOf owner (parts_of s)) old new → WritesOneOf (journal_of owner) 1 2 (IsWritable owner s) old new
 files_alone owner s old new calls = made_calls owner s old new new calls (uncounted_at_most 1 2 (λ g. g ≡ journal_of owner) new new (record { writes = λ f. refl; syncs = λ f. refl }))
 
-pub journal_alone : (owner : Owner) (s : Shape) (old new : DiskView) → WritesOneOf (journal_of owner) 3 5 (IsOwn (journal_of owner)) old new → WritesOneOf (journal_of owner) 3 5 (IsOwnFile owner s) old new
-journal_alone owner s old new calls = opened_calls owner s old new new calls (uncounted_at_most 0 1 (IsOneOf owner (parts_of s)) new new (record { writes = λ f. refl; syncs = λ f. refl }))
+pub journal_alone : (owner : Owner) (s : Shape) (old new : DiskView) → OpeningCalls 89 (journal_of owner) (IsOwn (journal_of owner)) old new → OpeningCalls 89 (journal_of owner) (IsOwnFile owner s) old new
+journal_alone owner s old new calls = record {
+  at_most = opened_calls owner s old new new calls.at_most (uncounted_at_most 0 1 (IsOneOf owner (parts_of s)) new new (record { writes = λ f. refl; syncs = λ f. refl }));
+  unwritten = calls.unwritten;
+}

@@ -3,8 +3,8 @@ ghost use Rattle.lsv_disk.specs.declared.file.FileId.{FileId};
 ghost use Rattle.lsv_disk.specs.declared.file.Part.{Part};
 ghost use Rattle.lsv_disk.specs.Files.{file_of, IsOneOf, AreDistinct};
 ghost use Rattle.lsv_disk.specs.View.{Image, IsCrashImage, HasOwnCause};
-ghost use Rattle.lsv_disk.specs.Throughout.{Throughout, Unchanged, OnlyReads, CallsAtMost, WritesOneOf};
-ghost use Rattle.lsv_journal.specs.Last.{IsOwn, IsAbsent, LastAt, SameJournal, IsSomeCrashOf, HasSlotsEntry, MayBeMade};
+ghost use Rattle.lsv_disk.specs.Throughout.{Throughout, Unchanged, OnlyReads, CallsAtMost};
+ghost use Rattle.lsv_journal.specs.Last.{IsOwn, IsAbsent, LastAt, SameJournal, IsSomeCrashOf, OpeningCalls, MayBeMade};
 ghost use Rattle.lsv_journal.specs.Value as journals;
 ghost use Rattle.lsv_journal.specs.Represents as represents;
 ghost use Rattle.lsv_bundle.specs.declared.body.Body.{Body};
@@ -114,8 +114,7 @@ fn open_journal<D: Disk>(
     ensures represents { D.tells → IfOk result (λ o. IfSome o (λ opened. represents.Represents opened.0 (D.view disk.new))) }
     ensures reads { D.tells → SameJournal 89 (journal_of owner) (D.view disk.old).reads (D.view disk.new).reads }
     ensures any_moment { D.tells → Throughout (λ g. g ≡ journal_of owner) (IsSomeCrashOf 89 (journal_of owner) (D.view disk.old)) (D.view disk.old) (D.view disk.new) }
-    ensures calls { D.tells → WritesOneOf (journal_of owner) 3 5 (IsOwn (journal_of owner)) (D.view disk.old) (D.view disk.new) }
-    ensures unwritten { D.tells → HasSlotsEntry 89 (journal_of owner) (D.view disk.old).reads → (g : FileId) → (D.view disk.new).writes g ≡ (D.view disk.old).writes g }
+    ensures calls { D.tells → OpeningCalls 89 (journal_of owner) (IsOwn (journal_of owner)) (D.view disk.old) (D.view disk.new) }
     ensures fault { IfErr result (λ e. e ≡ BundleFault.Disk) }
     ensures cause { HasOwnCause (IsOwn (journal_of owner)) (IsErr result) (D.view disk.old) (D.view disk.new) }
 {
@@ -155,8 +154,7 @@ impl Bundle {
         ensures represents { D.tells → IfOk result (λ o. IfSome o (λ b. Represents b (D.view disk.new))) }
         ensures reads { D.tells → SameJournal 89 (journal_of owner) (D.view disk.old).reads (D.view disk.new).reads }
         ensures any_moment { D.tells → Throughout (λ g. g ≡ journal_of owner) (IsSomeCrashOf 89 (journal_of owner) (D.view disk.old)) (D.view disk.old) (D.view disk.new) }
-        ensures calls { D.tells → WritesOneOf (journal_of owner) 3 5 (IsOwnFile owner shape) (D.view disk.old) (D.view disk.new) }
-        ensures unwritten { D.tells → HasSlotsEntry 89 (journal_of owner) (D.view disk.old).reads → (g : FileId) → (D.view disk.new).writes g ≡ (D.view disk.old).writes g }
+        ensures calls { D.tells → OpeningCalls 89 (journal_of owner) (IsOwnFile owner shape) (D.view disk.old) (D.view disk.new) }
         ensures damaged { D.tells → (part : Part) → IsErrOf result (BundleFault.Damaged part) → IsDamaged owner shape (D.view disk.old).reads part }
         ensures fault { IfErr result IsOpenFault }
         ensures cause { HasOwnCause (IsOwnFile owner shape) (IsErrOf result BundleFault.Disk) (D.view disk.old) (D.view disk.new) }

@@ -1,5 +1,5 @@
 -- How calls compose: each lemma is over the views alone, so that a caller cites one a device call. Crates above cite
--- these lemmas, and no other of this crate.
+-- these lemmas and those of Same, and no other of this crate.
 use Rattle.std.proofs.Common.{◌≡◌, ℕ, ◌+◌, ◌≤◌, ◌<◌, ◌⊎◌, inl, inr, Result, Ok, Err, OnOk, arith, refl, sym, ◌∙◌, subst}
 use Rattle.std.proofs.lemmas.Bool.{cases_lt}
 use Rattle.lsv_words.specs.Causes.{HasRisen}

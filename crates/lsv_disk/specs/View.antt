@@ -114,6 +114,11 @@ pub record IsUntouched (old new : DiskView) : Type 0 where
   pub keeps : (k : ℕ) (image : Image) → old.crash_images_at k image → new.crash_images_at k image
   pub counts : Uncounted old new
 
+-- what a call leaves alone that touches nothing: all, and of a disk that tells nothing the counts of faults
+pub record IsLeftAlone (told : Type 0) (old new : DiskView) : Type 0 where
+  pub untouched : told → IsUntouched old new
+  pub faults : (f : FileId) → new.faults f ≡ old.faults f
+
 -- no count of faults fell, and where the call failed that of this file rose
 pub record HasCause (f : FileId) (failed : Type 0) (old new : DiskView) : Type 0 where
   pub monotone : (g : FileId) → old.faults g ≤ new.faults g

@@ -3,7 +3,7 @@ ghost use Rattle.lsv_words.specs.Pieces.{piece};
 ghost use Rattle.lsv_disk.specs.declared.file.FileId.{FileId};
 ghost use Rattle.lsv_disk.specs.Files.{AreDistinct, IsOneOf};
 ghost use Rattle.lsv_disk.specs.Bytes.{written, bytes_of, size_of, Reaches, Torn};
-ghost use Rattle.lsv_disk.specs.View.{Image, DiskView, IsCrashImage, IsSynced, Follows, OneRead, OneMaking, OneWrite, OneSync, Uncounted, IsUntouched, HasCause, HasOwnCause};
+ghost use Rattle.lsv_disk.specs.View.{Image, DiskView, IsCrashImage, IsSynced, Follows, OneRead, OneMaking, OneWrite, OneSync, Uncounted, IsLeftAlone, HasCause, HasOwnCause};
 ghost use Rattle.lsv_disk.specs.Throughout.{Throughout};
 
 use crate::{FileId, Owner, Part};
@@ -26,8 +26,7 @@ pub trait Disk {
     /// Out of memory there are no places.
     fn root(&mut self, dir: &str, events: &str)
         ensures places { tells → ((view self.new).places ≡ Some (record { logs = dir.now; events = events.now })) ⊎ ((view self.new).places ≡ None) }
-        ensures frame { tells → IsUntouched (view self.old) (view self.new) }
-        ensures faults { (f : FileId) → (view self.new).faults f ≡ (view self.old).faults f };
+        ensures frame { IsLeftAlone tells (view self.old) (view self.new) };
 
     /// Makes an empty file. At Ok a crash leaves it there.
     fn create(&mut self, f: FileId) -> Result<(), DiskFault>

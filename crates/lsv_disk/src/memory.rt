@@ -48,7 +48,7 @@ pub struct MemDisk {
 impl MemDisk {
     ghost use Rattle.lsv_disk.specs.Memory.Value.{refusals, failing, asked, next_number, AskedOnce, AskedNone, SameBesideNumber, SameCalls, SameBesideCalls, NextFails, image_by, IsLeftOf};
     ghost use Rattle.lsv_disk.specs.View.{IsCrashImage};
-    ghost use Rattle.lsv_disk.specs.Memory.Images.{may_make, AreHeld};
+    ghost use Rattle.lsv_disk.specs.Memory.Images.{IsTakenOver, AreHeld};
 
     /// No call was made.
     fn empty(alloc: Global, listed: Vec<u64>) -> MemDisk
@@ -88,8 +88,7 @@ impl MemDisk {
     fn take_over(&mut self, alloc: Global, left: &Files, call: &Call) -> Result<(), NoMem>
         requires held { AreHeld self.old.calls.items }
         ensures held { OnOk result (AreHeld self.new.calls.items) }
-        ensures here { OnOk result (reads_of self.new.calls.items call.now.file ≡ (if may_make call.now.effect then option_or (reads_of self.old.calls.items call.now.file) (content_of left.now call.now.file) else reads_of self.old.calls.items call.now.file)) }
-        ensures others { OnOk result ((g : FileId) → g ≢ call.now.file → reads_of self.new.calls.items g ≡ reads_of self.old.calls.items g) }
+        ensures taken { OnOk result (IsTakenOver (content_of left.now) call.now (reads_of self.old.calls.items) (reads_of self.new.calls.items)) }
         ensures same { SameBesideCalls self.old self.new }
     {
         if !call.effect.may_make() || content(&self.files, call.file).is_some() {

@@ -7,6 +7,7 @@ use Rattle.lsv_disk.specs.declared.file.Part.TheVariants.{Commit}
 use Rattle.lsv_disk.specs.Bytes.{bytes_of}
 use Rattle.lsv_disk.specs.Files.{file_of}
 use Rattle.lsv_disk.specs.View.{Image, DiskView, IsCrashImage}
+use Rattle.lsv_disk.specs.Throughout.{WritesOneOf}
 use Rattle.lsv_journal.specs.Gates.{count, last_of}
 use Rattle.lsv_journal.specs.Slots.{entry_of, KeepsSlot, SelectsAsBefore, StaysWithin}
 
@@ -57,6 +58,11 @@ IsSomeCrashOf n f disk image = (was : Image) × IsCrashImage disk was × SameJou
 -- its slots have an entry
 unfoldable pub HasSlotsEntry : ℕ → FileId → Image → Type 0
 HasSlotsEntry n f image = slots_last n f image ≢ None
+
+-- opening it wrote its slots three times at most, and not where they have an entry; and synced each of these files five times at most
+pub record OpeningCalls (n : ℕ) (f : FileId) (Own : FileId → Type 0) (old new : DiskView) : Type 0 where
+  pub at_most : WritesOneOf f 3 5 Own old new
+  pub unwritten : HasSlotsEntry n f old.reads → (g : FileId) → new.writes g ≡ old.writes g
 
 -- its old file has no entry in any crash image
 abbrev pub HasNoOldEntry : ℕ → FileId → DiskView → Type 0

@@ -26,8 +26,8 @@ impl<const N: usize> Journal<N> {
     ghost use Rattle.lsv_disk.specs.declared.file.FileId.{FileId};
     ghost use Rattle.lsv_disk.specs.declared.file.Part.{Part};
     ghost use Rattle.lsv_disk.specs.View.{Image, IsCrashImage, HasOwnCause};
-    ghost use Rattle.lsv_disk.specs.Throughout.{Throughout, OnlyReads, CallsAtMost, WritesOneOf};
-    ghost use Rattle.lsv_journal.specs.Last.{IsOwn, IsAbsent, LastAt, JournalHolds, IsBeforeOrAfter, SameJournal, IsSomeCrashOf, HasSlotsEntry, MayBeMade, KeepsSelected, SelectsSame, IsNoLonger};
+    ghost use Rattle.lsv_disk.specs.Throughout.{Throughout, OnlyReads, CallsAtMost};
+    ghost use Rattle.lsv_journal.specs.Last.{IsOwn, IsAbsent, LastAt, JournalHolds, IsBeforeOrAfter, SameJournal, IsSomeCrashOf, OpeningCalls, MayBeMade, KeepsSelected, SelectsSame, IsNoLonger};
     ghost use Rattle.lsv_journal.specs.Value.{file, last, prepared, is_broken, KeptAtError};
     ghost use Rattle.lsv_journal.specs.Represents.{Represents};
 
@@ -76,8 +76,7 @@ impl<const N: usize> Journal<N> {
         ensures absent_may_be_made { D.tells → IfOk result (λ o. o ≡ None → MayBeMade N f (D.view disk.new)) }
         ensures reads { D.tells → SameJournal N f (D.view disk.old).reads (D.view disk.new).reads }
         ensures any_moment { D.tells → Throughout (λ g. g ≡ f) (IsSomeCrashOf N f (D.view disk.old)) (D.view disk.old) (D.view disk.new) }
-        ensures calls { D.tells → WritesOneOf f 3 5 (IsOwn f) (D.view disk.old) (D.view disk.new) }
-        ensures unwritten { D.tells → HasSlotsEntry N f (D.view disk.old).reads → (g : FileId) → (D.view disk.new).writes g ≡ (D.view disk.old).writes g }
+        ensures calls { D.tells → OpeningCalls N f (IsOwn f) (D.view disk.old) (D.view disk.new) }
         ensures fault { IfErr result (λ e. e ≡ JournalFault.Disk) }
         ensures cause { HasOwnCause (IsOwn f) (IsErr result) (D.view disk.old) (D.view disk.new) }
     {

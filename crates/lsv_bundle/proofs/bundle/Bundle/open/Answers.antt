@@ -52,17 +52,22 @@ returns-in_err-sync_present-clause-any_moment g c told =
     open_run owner s old one two run synced is_now
 
 pub returns-in_err-sync_present-clause-calls : goal.returns-in_err-sync_present-clause-calls
-returns-in_err-sync_present-clause-calls g c told =
-    let owner = c.args.owner in
-    let s = c.args.shape in
-    let old = g.D.Disk.view c.args.disk.now in
-    let one = g.D.Disk.view c.open_journal.new.disk in
-    let two = g.D.Disk.view c.sync_present.new.disk in
-    let run = c.open_journal.ensures.any_moment told in
-    let synced = c.sync_present.ensures.unchanged told in
-    let is_now = g.met.D.Disk.is_now told c.open_journal.new.disk in
-    let calls : CallsAtMost 0 1 (IsOneOf owner (parts_of s)) one two = subst (λ (ps : List Part). CallsAtMost 0 1 (IsOneOf owner ps) one two) c.parts.ensures (c.sync_present.ensures.calls told) in
-    opened_calls owner s old one two (c.open_journal.ensures.calls told) calls
+returns-in_err-sync_present-clause-calls g c told = record {
+  at_most =
+        let owner = c.args.owner in
+        let s = c.args.shape in
+        let old = g.D.Disk.view c.args.disk.now in
+        let one = g.D.Disk.view c.open_journal.new.disk in
+        let two = g.D.Disk.view c.sync_present.new.disk in
+        let run = c.open_journal.ensures.any_moment told in
+        let synced = c.sync_present.ensures.unchanged told in
+        let is_now = g.met.D.Disk.is_now told c.open_journal.new.disk in
+        let calls : CallsAtMost 0 1 (IsOneOf owner (parts_of s)) one two = subst (λ (ps : List Part). CallsAtMost 0 1 (IsOneOf owner ps) one two) c.parts.ensures (c.sync_present.ensures.calls told) in
+        opened_calls owner s old one two (c.open_journal.ensures.calls told).at_most calls;
+  unwritten = λ has f.
+        files_unwritten c.args.owner c.parts.result.now (g.D.Disk.view c.open_journal.new.disk) (g.D.Disk.view c.sync_present.new.disk) (c.sync_present.ensures.calls told) f
+        ∙ (c.open_journal.ensures.calls told).unwritten has f;
+}
 
 pub returns-in_err-check_lengths-clause-reads : goal.returns-in_err-check_lengths-clause-reads
 returns-in_err-check_lengths-clause-reads g c told =
@@ -95,19 +100,25 @@ returns-in_err-check_lengths-clause-any_moment g c told =
     open_run owner s old one new run unchanged is_now
 
 pub returns-in_err-check_lengths-clause-calls : goal.returns-in_err-check_lengths-clause-calls
-returns-in_err-check_lengths-clause-calls g c told =
-    let owner = c.args.owner in
-    let s = c.args.shape in
-    let old = g.D.Disk.view c.args.disk.now in
-    let one = g.D.Disk.view c.open_journal.new.disk in
-    let two = g.D.Disk.view c.sync_present.new.disk in
-    let run = c.open_journal.ensures.any_moment told in
-    let synced = c.sync_present.ensures.unchanged told in
-    let is_now = g.met.D.Disk.is_now told c.open_journal.new.disk in
-    let calls : CallsAtMost 0 1 (IsOneOf owner (parts_of s)) one two = subst (λ (ps : List Part). CallsAtMost 0 1 (IsOneOf owner ps) one two) c.parts.ensures (c.sync_present.ensures.calls told) in
-    let new = g.D.Disk.view c.check_lengths.new.disk in
-    let unchanged = unchanged_trans one two new synced (c.check_lengths.ensures.reads told).unchanged in
-    opened_calls owner s old one new (c.open_journal.ensures.calls told) (calls_trans 0 1 0 0 (IsOneOf owner (parts_of s)) one two new calls (uncounted_at_most 0 0 (IsOneOf owner (parts_of s)) two new (c.check_lengths.ensures.reads told).counts))
+returns-in_err-check_lengths-clause-calls g c told = record {
+  at_most =
+        let owner = c.args.owner in
+        let s = c.args.shape in
+        let old = g.D.Disk.view c.args.disk.now in
+        let one = g.D.Disk.view c.open_journal.new.disk in
+        let two = g.D.Disk.view c.sync_present.new.disk in
+        let run = c.open_journal.ensures.any_moment told in
+        let synced = c.sync_present.ensures.unchanged told in
+        let is_now = g.met.D.Disk.is_now told c.open_journal.new.disk in
+        let calls : CallsAtMost 0 1 (IsOneOf owner (parts_of s)) one two = subst (λ (ps : List Part). CallsAtMost 0 1 (IsOneOf owner ps) one two) c.parts.ensures (c.sync_present.ensures.calls told) in
+        let new = g.D.Disk.view c.check_lengths.new.disk in
+        let unchanged = unchanged_trans one two new synced (c.check_lengths.ensures.reads told).unchanged in
+        opened_calls owner s old one new (c.open_journal.ensures.calls told).at_most (calls_trans 0 1 0 0 (IsOneOf owner (parts_of s)) one two new calls (uncounted_at_most 0 0 (IsOneOf owner (parts_of s)) two new (c.check_lengths.ensures.reads told).counts));
+  unwritten = λ has f.
+        (c.check_lengths.ensures.reads told).counts.writes f
+        ∙ files_unwritten c.args.owner c.parts.result.now (g.D.Disk.view c.open_journal.new.disk) (g.D.Disk.view c.sync_present.new.disk) (c.sync_present.ensures.calls told) f
+        ∙ (c.open_journal.ensures.calls told).unwritten has f;
+}
 
 pub returns-in_err-check_lengths-clause-damaged : goal.returns-in_err-check_lengths-clause-damaged
 returns-in_err-check_lengths-clause-damaged g c told part is =
@@ -161,19 +172,25 @@ returns-clause-any_moment g c told =
     open_run owner s old one new run unchanged is_now
 
 pub returns-clause-calls : goal.returns-clause-calls
-returns-clause-calls g c told =
-    let owner = c.args.owner in
-    let s = c.args.shape in
-    let old = g.D.Disk.view c.args.disk.now in
-    let one = g.D.Disk.view c.open_journal.new.disk in
-    let two = g.D.Disk.view c.sync_present.new.disk in
-    let run = c.open_journal.ensures.any_moment told in
-    let synced = c.sync_present.ensures.unchanged told in
-    let is_now = g.met.D.Disk.is_now told c.open_journal.new.disk in
-    let calls : CallsAtMost 0 1 (IsOneOf owner (parts_of s)) one two = subst (λ (ps : List Part). CallsAtMost 0 1 (IsOneOf owner ps) one two) c.parts.ensures (c.sync_present.ensures.calls told) in
-    let new = g.D.Disk.view c.check_lengths.new.disk in
-    let unchanged = unchanged_trans one two new synced (c.check_lengths.ensures.reads told).unchanged in
-    opened_calls owner s old one new (c.open_journal.ensures.calls told) (calls_trans 0 1 0 0 (IsOneOf owner (parts_of s)) one two new calls (uncounted_at_most 0 0 (IsOneOf owner (parts_of s)) two new (c.check_lengths.ensures.reads told).counts))
+returns-clause-calls g c told = record {
+  at_most =
+        let owner = c.args.owner in
+        let s = c.args.shape in
+        let old = g.D.Disk.view c.args.disk.now in
+        let one = g.D.Disk.view c.open_journal.new.disk in
+        let two = g.D.Disk.view c.sync_present.new.disk in
+        let run = c.open_journal.ensures.any_moment told in
+        let synced = c.sync_present.ensures.unchanged told in
+        let is_now = g.met.D.Disk.is_now told c.open_journal.new.disk in
+        let calls : CallsAtMost 0 1 (IsOneOf owner (parts_of s)) one two = subst (λ (ps : List Part). CallsAtMost 0 1 (IsOneOf owner ps) one two) c.parts.ensures (c.sync_present.ensures.calls told) in
+        let new = g.D.Disk.view c.check_lengths.new.disk in
+        let unchanged = unchanged_trans one two new synced (c.check_lengths.ensures.reads told).unchanged in
+        opened_calls owner s old one new (c.open_journal.ensures.calls told).at_most (calls_trans 0 1 0 0 (IsOneOf owner (parts_of s)) one two new calls (uncounted_at_most 0 0 (IsOneOf owner (parts_of s)) two new (c.check_lengths.ensures.reads told).counts));
+  unwritten = λ has f.
+        (c.check_lengths.ensures.reads told).counts.writes f
+        ∙ files_unwritten c.args.owner c.parts.result.now (g.D.Disk.view c.open_journal.new.disk) (g.D.Disk.view c.sync_present.new.disk) (c.sync_present.ensures.calls told) f
+        ∙ (c.open_journal.ensures.calls told).unwritten has f;
+}
 
 pub returns-clause-represents : goal.returns-clause-represents
 returns-clause-represents g c told =
@@ -247,20 +264,3 @@ returns-clause-durable g c told image is =
     } in
     subst (λ (b : Option Committed). BundleHolds owner s b image) (committed_reads view old new (part_reads owner s old one new run unchanged))
     (represents_holds view new at image (λ f own. is f))
-
-pub returns-in_err-sync_present-clause-unwritten : goal.returns-in_err-sync_present-clause-unwritten
-returns-in_err-sync_present-clause-unwritten g c told has f =
-    files_unwritten c.args.owner c.parts.result.now (g.D.Disk.view c.open_journal.new.disk) (g.D.Disk.view c.sync_present.new.disk) (c.sync_present.ensures.calls told) f
-    ∙ c.open_journal.ensures.unwritten told has f
-
-pub returns-in_err-check_lengths-clause-unwritten : goal.returns-in_err-check_lengths-clause-unwritten
-returns-in_err-check_lengths-clause-unwritten g c told has f =
-    (c.check_lengths.ensures.reads told).counts.writes f
-    ∙ files_unwritten c.args.owner c.parts.result.now (g.D.Disk.view c.open_journal.new.disk) (g.D.Disk.view c.sync_present.new.disk) (c.sync_present.ensures.calls told) f
-    ∙ c.open_journal.ensures.unwritten told has f
-
-pub returns-clause-unwritten : goal.returns-clause-unwritten
-returns-clause-unwritten g c told has f =
-    (c.check_lengths.ensures.reads told).counts.writes f
-    ∙ files_unwritten c.args.owner c.parts.result.now (g.D.Disk.view c.open_journal.new.disk) (g.D.Disk.view c.sync_present.new.disk) (c.sync_present.ensures.calls told) f
-    ∙ c.open_journal.ensures.unwritten told has f

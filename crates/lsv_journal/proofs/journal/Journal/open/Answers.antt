@@ -45,18 +45,18 @@ returns-in_err-found-clause-any_moment g c told =
     opening_run g.row.N c.args.f old mid (g.D.Disk.view c.settle.new.disk) unchanged (c.settle.ensures.any_moment told) (g.met.D.Disk.reads_itself told c.args.disk.now)
 
 pub returns-in_err-found-clause-calls : goal.returns-in_err-found-clause-calls
-returns-in_err-found-clause-calls g c told =
-    opening_calls c.args.f (g.D.Disk.view c.args.disk.now) (g.D.Disk.view c.is_absent.new.disk) (g.D.Disk.view c.sync_both.new.disk) (g.D.Disk.view c.settle.new.disk)
-    (c.is_absent.ensures.reads told).counts (c.sync_both.ensures.calls told c.requires.slots) c.requires.slots (c.settle.ensures.calls told)
-
-pub returns-in_err-found-clause-unwritten : goal.returns-in_err-found-clause-unwritten
-returns-in_err-found-clause-unwritten g c told has f =
-    let old = g.D.Disk.view c.args.disk.now in
-    let mid = g.D.Disk.view c.sync_both.new.disk in
-    let unchanged = unchanged_trans old (g.D.Disk.view c.is_absent.new.disk) mid (c.is_absent.ensures.reads told).unchanged (c.sync_both.ensures.unchanged told) in
-    opening_unwritten c.args.f (g.D.Disk.view c.args.disk.now) (g.D.Disk.view c.is_absent.new.disk) (g.D.Disk.view c.sync_both.new.disk) (g.D.Disk.view c.settle.new.disk)
-    (c.is_absent.ensures.reads told).counts (c.sync_both.ensures.calls told c.requires.slots)
-    f (c.settle.ensures.unwritten told (entry_stays g.row.N c.args.f old mid unchanged has) f)
+returns-in_err-found-clause-calls g c told = record {
+  at_most =
+        opening_calls c.args.f (g.D.Disk.view c.args.disk.now) (g.D.Disk.view c.is_absent.new.disk) (g.D.Disk.view c.sync_both.new.disk) (g.D.Disk.view c.settle.new.disk)
+        (c.is_absent.ensures.reads told).counts (c.sync_both.ensures.calls told c.requires.slots) c.requires.slots (c.settle.ensures.calls told);
+  unwritten = λ has f.
+        let old = g.D.Disk.view c.args.disk.now in
+        let mid = g.D.Disk.view c.sync_both.new.disk in
+        let unchanged = unchanged_trans old (g.D.Disk.view c.is_absent.new.disk) mid (c.is_absent.ensures.reads told).unchanged (c.sync_both.ensures.unchanged told) in
+        opening_unwritten c.args.f (g.D.Disk.view c.args.disk.now) (g.D.Disk.view c.is_absent.new.disk) (g.D.Disk.view c.sync_both.new.disk) (g.D.Disk.view c.settle.new.disk)
+        (c.is_absent.ensures.reads told).counts (c.sync_both.ensures.calls told c.requires.slots)
+        f (c.settle.ensures.unwritten told (entry_stays g.row.N c.args.f old mid unchanged has) f);
+}
 
 pub returns-clause-last : goal.returns-clause-last
 returns-clause-last g c told =
@@ -117,26 +117,26 @@ returns-clause-may_be_made g c told none =
     (opened_no_old g.row.N c.args.f mid new (c.settle.ensures.any_moment told) c.requires.slots (c.in_ok-sync_both.ensures.old told) (sym (c.in_ok-found.ensures.last told) ∙ none))
 
 pub returns-clause-calls : goal.returns-clause-calls
-returns-clause-calls g c told =
-    opening_calls c.args.f (g.D.Disk.view c.args.disk.now) (g.D.Disk.view c.is_absent.new.disk) (g.D.Disk.view c.sync_both.new.disk) (g.D.Disk.view c.settle.new.disk)
-    (c.is_absent.ensures.reads told).counts (c.sync_both.ensures.calls told c.requires.slots) c.requires.slots (c.settle.ensures.calls told)
-
-pub returns-clause-unwritten : goal.returns-clause-unwritten
-returns-clause-unwritten g c told has f =
-    let old = g.D.Disk.view c.args.disk.now in
-    let mid = g.D.Disk.view c.sync_both.new.disk in
-    let unchanged = unchanged_trans old (g.D.Disk.view c.is_absent.new.disk) mid (c.is_absent.ensures.reads told).unchanged (c.sync_both.ensures.unchanged told) in
-    opening_unwritten c.args.f (g.D.Disk.view c.args.disk.now) (g.D.Disk.view c.is_absent.new.disk) (g.D.Disk.view c.sync_both.new.disk) (g.D.Disk.view c.settle.new.disk)
-    (c.is_absent.ensures.reads told).counts (c.sync_both.ensures.calls told c.requires.slots)
-    f (c.settle.ensures.unwritten told (entry_stays g.row.N c.args.f old mid unchanged has) f)
+returns-clause-calls g c told = record {
+  at_most =
+        opening_calls c.args.f (g.D.Disk.view c.args.disk.now) (g.D.Disk.view c.is_absent.new.disk) (g.D.Disk.view c.sync_both.new.disk) (g.D.Disk.view c.settle.new.disk)
+        (c.is_absent.ensures.reads told).counts (c.sync_both.ensures.calls told c.requires.slots) c.requires.slots (c.settle.ensures.calls told);
+  unwritten = λ has f.
+        let old = g.D.Disk.view c.args.disk.now in
+        let mid = g.D.Disk.view c.sync_both.new.disk in
+        let unchanged = unchanged_trans old (g.D.Disk.view c.is_absent.new.disk) mid (c.is_absent.ensures.reads told).unchanged (c.sync_both.ensures.unchanged told) in
+        opening_unwritten c.args.f (g.D.Disk.view c.args.disk.now) (g.D.Disk.view c.is_absent.new.disk) (g.D.Disk.view c.sync_both.new.disk) (g.D.Disk.view c.settle.new.disk)
+        (c.is_absent.ensures.reads told).counts (c.sync_both.ensures.calls told c.requires.slots)
+        f (c.settle.ensures.unwritten told (entry_stays g.row.N c.args.f old mid unchanged has) f);
+}
 
 pub returns-in_err-sync_both-clause-calls : goal.returns-in_err-sync_both-clause-calls
-returns-in_err-sync_both-clause-calls g c told =
-    syncing_calls c.args.f (g.D.Disk.view c.args.disk.now) (g.D.Disk.view c.is_absent.new.disk) (g.D.Disk.view c.sync_both.new.disk)
-    (c.is_absent.ensures.reads told).counts (c.sync_both.ensures.calls told c.requires.slots)
-
-pub returns-in_err-sync_both-clause-unwritten : goal.returns-in_err-sync_both-clause-unwritten
-returns-in_err-sync_both-clause-unwritten g c told has f =
-    let new = g.D.Disk.view c.sync_both.new.disk in
-    opening_unwritten c.args.f (g.D.Disk.view c.args.disk.now) (g.D.Disk.view c.is_absent.new.disk) new new
-    (c.is_absent.ensures.reads told).counts (c.sync_both.ensures.calls told c.requires.slots) f refl
+returns-in_err-sync_both-clause-calls g c told = record {
+  at_most =
+        syncing_calls c.args.f (g.D.Disk.view c.args.disk.now) (g.D.Disk.view c.is_absent.new.disk) (g.D.Disk.view c.sync_both.new.disk)
+        (c.is_absent.ensures.reads told).counts (c.sync_both.ensures.calls told c.requires.slots);
+  unwritten = λ has f.
+        let new = g.D.Disk.view c.sync_both.new.disk in
+        opening_unwritten c.args.f (g.D.Disk.view c.args.disk.now) (g.D.Disk.view c.is_absent.new.disk) new new
+        (c.is_absent.ensures.reads told).counts (c.sync_both.ensures.calls told c.requires.slots) f refl;
+}
