@@ -5,8 +5,10 @@ mod connection;
 mod full;
 mod job;
 mod reply;
+mod table;
 
 pub use connection::{ConnId, ConnState};
 pub use full::Full;
 pub use job::{Body, Fault, Job};
 pub use reply::{Reply, ReplyBody};
+pub use table::{ClaimFault, Table};
