@@ -8,7 +8,7 @@ use crate::{ConnId, ConnState};
 use lsv_base::{LogNo, NoMem};
 use std::alloc::{AllocError, AllocFailed, Global};
 use std::collections::HashMap;
-use std::fmt;
+use thiserror::Error;
 
 /// What each connection of a lane is doing, and which one writes a log. A look-up takes the same time however many there
 /// are.
@@ -19,20 +19,13 @@ pub struct Table {
 }
 
 /// Why a log isn't claimed.
-#[derive(Clone, Copy, Debug, PartialEq, Eq)]
+#[derive(Clone, Copy, Debug, PartialEq, Eq, Error)]
 pub enum ClaimFault {
     /// This connection writes the log.
+    #[error("another session writes the log")]
     InUse(ConnId),
+    #[error("out of memory")]
     NoMem,
-}
-
-impl fmt::Display for ClaimFault {
-    fn fmt<W: fmt::Write>(&self, f: &mut fmt::Formatter<W>) -> fmt::Result {
-        f.write_str(match self {
-            ClaimFault::InUse(_) => "another session writes the log",
-            ClaimFault::NoMem => "out of memory",
-        })
-    }
 }
 
 impl Table {
@@ -67,6 +60,7 @@ impl Table {
     pub fn reserve(&mut self, more: usize) -> Result<(), NoMem>
         ensures same { sessions self.new ≡ sessions self.old }
         ensures ok { OnOk result (more ≤ spare self.new) }
+        ensures enough { more ≤ spare self.old → IsOk result }
         ensures kept { spare self.old ≤ spare self.new }
         ensures owners { spare_owners self.new ≡ spare_owners self.old }
     {
@@ -78,6 +72,7 @@ impl Table {
     pub fn reserve_owners(&mut self, more: usize) -> Result<(), NoMem>
         ensures same { sessions self.new ≡ sessions self.old }
         ensures ok { OnOk result (more ≤ spare_owners self.new) }
+        ensures enough { more ≤ spare_owners self.old → IsOk result }
         ensures kept { spare_owners self.old ≤ spare_owners self.new }
         ensures states { spare self.new ≡ spare self.old }
     {
