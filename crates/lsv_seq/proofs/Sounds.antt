@@ -1,10 +1,12 @@
 -- What each value of numbers has, kept from call to call.
-use Rattle.std.proofs.Common.{◌≡◌, ℕ, ◌≤◌, ◌<◌, ◌^◌, true, false, Option, Some, None, List, refl, sym, ap, subst, ◌∙◌, inl, inr, arith}
-use Rattle.std.specs.Prelude.{◌⊎◌, ◌≢◌}
+use Rattle.std.proofs.Common.{◌≡◌, ℕ, ◌≤◌, ◌<◌, ◌^◌, true, false, Option, Some, None, Result, Ok, Err, List, refl, sym, ap, subst, ◌∙◌, inl, inr, arith}
+use Rattle.std.specs.Prelude.{◌⊎◌, ◌≢◌, IfErr}
 use Rattle.std.specs.Option.{option_map}
 use Rattle.lsv_journal.specs.Value as journals
 use Rattle.lsv_journal.specs.declared.journal.Journal.{Journal}
 use Rattle.lsv_seq.specs.declared.entry.Entry.{Entry}
+use Rattle.lsv_seq.specs.declared.fault.DrawFault.{DrawFault}
+use Rattle.lsv_seq.specs.declared.fault.DrawFault.TheVariants.{Changed}
 use Rattle.lsv_seq.specs.declared.numbers.Numbers.{Numbers}
 use Rattle.lsv_seq.specs.Entry.{entry_in, body_of, is_entry, most, next}
 use Rattle.lsv_seq.specs.Drawn.{numbers_file}
@@ -68,3 +70,17 @@ is_changed old now another = record {
   another = λ e. another.another (ap (option_map entry_in) e ∙ ap (λ k. Some k) (read_back old.kept old.sound.entry));
   nor_pending = λ p is e. another.nor_pending p is (ap (option_map entry_in) e ∙ ap (λ k. Some k) (read_back (record old.kept { last = p }) (pending_entry old p is)));
 }
+
+-- a call that answers Changed of another entry than both
+abbrev pub AnswersChanged : Numbers → Option (List ℕ) → Result (Unit {0}) DrawFault → Type 0
+AnswersChanged old found result = IfErr result (λ e. (e ≡ Changed (body_of old.kept) found) × IsAnother old found)
+
+pub changed_from : (old : Numbers) (found : Option (List ℕ)) (result : Result (Unit {0}) DrawFault) → AnswersChanged old found result → (kept : List ℕ) (now : Option (List ℕ)) → result ≡ Err (Changed kept now) → IsChanged old kept now
+changed_from old found result changed kept now is =
+    let h : (Changed kept now ≡ Changed (body_of old.kept) found) × IsAnother old found = subst (AnswersChanged old found) is changed in
+    let k : kept ≡ body_of old.kept = cc h.0 in
+    let n : now ≡ found = cc h.0 in
+    subst (λ x. IsChanged old x now) (sym k) (subst (λ x. IsChanged old (body_of old.kept) x) (sym n) (is_changed old found h.1))
+
+pub another_from : (old : Numbers) (found : Option (List ℕ)) (result : Result (Unit {0}) DrawFault) → AnswersChanged old found result → (e : DrawFault) → result ≡ Err e → IsAnother old found
+another_from old found result changed e is = (subst (AnswersChanged old found) is changed).1
