@@ -2,3 +2,4 @@ pub mod Images
 pub mod Entries
 pub mod Sounds
 pub mod Runs
+pub mod Openings
