@@ -3,3 +3,4 @@ pub mod Entries
 pub mod Sounds
 pub mod Runs
 pub mod Openings
+pub mod Laws

@@ -58,12 +58,12 @@ module _ (lane lanes : ℕ) (f : FileId) (is : f ≡ numbers_file lane) where
   first_moments disk disk_mid disk_now file last body named none bytes below few made run =
       followed (λ g. g ≡ numbers_file lane) (WhileMade lane lanes disk) disk disk_mid disk_now (created_moments disk disk_mid made)
       (widened (λ g. g ≡ file) (λ g. g ≡ numbers_file lane) (IsBeforeOrAfter 12 file last (Some body)) (WhileMade lane lanes disk) disk_mid disk_now (λ g e. e ∙ named ∙ is) (λ image holds beside. each image holds) run) where
-    at_file : (image : Image) → entry_at lane image ≡ option_map entry_in (LastAt 12 file image)
-    at_file image = ap (λ h. option_map entry_in (LastAt 12 h image)) (sym (named ∙ is))
+        at_file : (image : Image) → entry_at lane image ≡ option_map entry_in (LastAt 12 file image)
+        at_file image = ap (λ h. option_map entry_in (LastAt 12 h image)) (sym (named ∙ is))
 
-    each : (image : Image) → IsBeforeOrAfter 12 file last (Some body) image → WhileMade lane lanes disk image
-    each image (inl before) = inr (inl (at_file image ∙ ap (option_map entry_in) (before ∙ none)))
-    each image (inr after) = inr (inr (at_file image ∙ ap (option_map entry_in) after ∙ ap (λ b. Some (entry_in b)) bytes ∙ ap (λ e. Some e) (read_back (first_entry lane lanes) (first_is_entry lane lanes below few))))
+        each : (image : Image) → IsBeforeOrAfter 12 file last (Some body) image → WhileMade lane lanes disk image
+        each image (inl before) = inr (inl (at_file image ∙ ap (option_map entry_in) (before ∙ none)))
+        each image (inr after) = inr (inr (at_file image ∙ ap (option_map entry_in) after ∙ ap (λ b. Some (entry_in b)) bytes ∙ ap (λ e. Some e) (read_back (first_entry lane lanes) (first_is_entry lane lanes below few))))
 
   -- what the files have while they are opened
   pub opened_moments : (disk disk_now : DiskView) → Throughout (λ g. g ≡ f) (IsSomeCrashOf 12 f disk) disk disk_now
@@ -79,13 +79,13 @@ module _ (lane lanes : ℕ) (f : FileId) (is : f ≡ numbers_file lane) where
   made_moments disk disk_mid disk_now itself is_now none first second =
       followed (λ g. g ≡ numbers_file lane) (λ image. IsAsSomeCrash lane disk image ⊎ LastDrawn lane lanes 0 image) disk disk_mid disk_now (opened_moments disk disk_mid first)
       (widened (λ g. g ≡ numbers_file lane) (λ g. g ≡ numbers_file lane) (WhileMade lane lanes disk_mid) (λ image. IsAsSomeCrash lane disk image ⊎ LastDrawn lane lanes 0 image) disk_mid disk_now (λ g e. e) (λ image made beside. each image made) second) where
-    back : (was : Image) → IsCrashImage disk_mid was → IsAsSomeCrash lane disk was
-    back was crash = some_crash lane disk was (subst (λ h. IsSomeCrashOf 12 h disk was) is (now_of_run (λ g. g ≡ f) (IsSomeCrashOf 12 f disk) disk disk_mid is_now first was crash))
+        back : (was : Image) → IsCrashImage disk_mid was → IsAsSomeCrash lane disk was
+        back was crash = some_crash lane disk was (subst (λ h. IsSomeCrashOf 12 h disk was) is (now_of_run (λ g. g ≡ f) (IsSomeCrashOf 12 f disk) disk disk_mid is_now first was crash))
 
-    each : (image : Image) → WhileMade lane lanes disk_mid image → IsAsSomeCrash lane disk image ⊎ LastDrawn lane lanes 0 image
-    each image (inl (was, crash, same)) = let b = back was crash in inl (b.0, b.1, same ∙ b.2)
-    each image (inr (inl empty)) = inl (disk.reads, itself, empty ∙ sym none)
-    each image (inr (inr drawn)) = inr drawn
+        each : (image : Image) → WhileMade lane lanes disk_mid image → IsAsSomeCrash lane disk image ⊎ LastDrawn lane lanes 0 image
+        each image (inl (was, crash, same)) = let b = back was crash in inl (b.0, b.1, same ∙ b.2)
+        each image (inr (inl empty)) = inl (disk.reads, itself, empty ∙ sym none)
+        each image (inr (inr drawn)) = inr drawn
 
 -- the calls of an opening
 pub opened_calls : (m n lane : ℕ) (f : FileId) (disk disk_now : DiskView) → f ≡ numbers_file lane → WritesOneOf f m n (IsOwn f) disk disk_now → WritesOneOf (numbers_file lane) m n (IsNumbersFile lane) disk disk_now

@@ -119,9 +119,9 @@ draw_moments old mid kept pending disk disk_mid disk_now same passed none first 
     let Q : Image → Type 0 = λ image. HasDrawn old image ⊎ HasDrawnOf kept pending image in
     followed T Q disk disk_mid disk_now (widened T T (HasDrawn old) Q disk disk_mid (λ g e. e) (λ image has beside. inl has) first)
     (widened (λ g. g ≡ numbers_file (lane_of mid)) T (λ image. HasDrawn mid image ⊎ HasDrawnOf kept pending image) Q disk_mid disk_now (λ g e. e ∙ ap numbers_file same.lane_is) each second) where
-  each : (image : Image) → HasDrawn mid image ⊎ HasDrawnOf kept pending image → ((g : FileId) → (g ≡ numbers_file (lane_of mid) → ⊥) → disk_mid.crash_states g (image g)) → HasDrawn old image ⊎ HasDrawnOf kept pending image
-  each image (inl has) beside = inl (settled_within old mid image same passed none has)
-  each image (inr has) beside = inr has
+      each : (image : Image) → HasDrawn mid image ⊎ HasDrawnOf kept pending image → ((g : FileId) → (g ≡ numbers_file (lane_of mid) → ⊥) → disk_mid.crash_states g (image g)) → HasDrawn old image ⊎ HasDrawnOf kept pending image
+      each image (inl has) beside = inl (settled_within old mid image same passed none has)
+      each image (inr has) beside = inr has
 
 -- the number that was answered is durable
 pub drawn_durable : (old mid new : Numbers) (n : ℕ) (disk : DiskView) → IsSameLane old mid → IsSameLane mid new → last_of new ≡ n → pending_of new ≡ None → Represents new disk

@@ -14,7 +14,7 @@ returns-in_err-append-clause-any_moment g c told =
 pub invariant_of-result : goal.invariant_of-result
 invariant_of-result g c = record {
   sound = first_sound c.args.lane c.args.lanes c.append.new.self c.requires.lane c.requires.lanes (c.append.ensures.kept.file_is ∙ c.in_ok-journal.ensures.file ∙ c.numbers_file.ensures)
-  (c.in_ok-append.ensures.last ∙ ap (λ b. Some b) c.encode.ensures) c.in_ok-append.ensures.whole;
+      (c.in_ok-append.ensures.last ∙ ap (λ b. Some b) c.encode.ensures) c.in_ok-append.ensures.whole;
 }
 
 pub returns-clause-represents : goal.returns-clause-represents

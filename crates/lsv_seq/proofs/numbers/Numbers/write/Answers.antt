@@ -11,8 +11,8 @@ use Rattle.lsv_seq.proofs.numbers.Numbers.write.Goals as goal
 pub invariant_of-self : goal.invariant_of-self
 invariant_of-self g c = record {
   sound = subst (IsSound _ _) (sym c.requires.settled)
-  (written_sound c.args.self.now c.append.new.self c.get-number.result _ refl (c.get-number.ensures.value ∙ c.requires.after) c.get-number.ensures.last c.append.ensures.kept.file_is c.in-Ok.ensures.whole
-  (c.in-Ok.ensures.last ∙ ap (λ b. Some b) c.encode.ensures));
+      (written_sound c.args.self.now c.append.new.self c.get-number.result _ refl (c.get-number.ensures.value ∙ c.requires.after) c.get-number.ensures.last c.append.ensures.kept.file_is c.in-Ok.ensures.whole
+      (c.in-Ok.ensures.last ∙ ap (λ b. Some b) c.encode.ensures));
 }
 
 pub returns-in-Ok-clause-represents : goal.returns-in-Ok-clause-represents
