@@ -3,4 +3,5 @@ pub mod Escapes
 pub mod Events
 pub mod InnerLine
 pub mod JsonLine
+pub mod Lines
 pub mod SudoLine

@@ -4,12 +4,12 @@
 mod date;
 mod escape;
 mod event;
-mod json;
+mod json_form;
 mod laws;
 mod line;
-mod sudo;
+mod sudo_form;
 
 pub use event::{Event, Kind, Peer};
-pub use json::json_line;
+pub use json_form::json_line;
 pub use laws::one_event_is_one_line;
-pub use sudo::sudo_line;
+pub use sudo_form::sudo_line;

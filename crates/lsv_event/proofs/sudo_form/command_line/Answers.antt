@@ -1,7 +1,7 @@
 use Rattle.std.proofs.Common.{ℕ, List, [], ◌∷◌, ◌++◌, ap, ◌∙◌}
 use Rattle.std.proofs.lemmas.Result.{IfOk-weaker}
 use Rattle.lsv_event.specs.SudoLine.{command_parts, joined, line_start, part_unless_empty}
-use Rattle.lsv_event.proofs.sudo.command_line.Goals as goal
+use Rattle.lsv_event.proofs.sudo_form.command_line.Goals as goal
 
 pub returns : goal.returns
 returns c =

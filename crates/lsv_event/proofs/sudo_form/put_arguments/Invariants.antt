@@ -2,7 +2,7 @@ use Rattle.std.proofs.Common.{ℕ, List, [], ◌∷◌, ◌++◌, take, drop}
 use Rattle.std.specs.List.{flat_map}
 use Rattle.lsv_event.specs.Escapes.{escaped}
 use Rattle.lsv_event.specs.InnerLine.{Has}
-use Rattle.lsv_event.proofs.sudo.put_arguments.Given as goal
+use Rattle.lsv_event.proofs.sudo_form.put_arguments.Given as goal
 
 -- the arguments before this one stand at the end
 abbrev pub invariant-loop-text : goal.invariant-loop-text

@@ -2,7 +2,7 @@ use Rattle.std.proofs.Common.{◌≡◌, arith, to_z, of_z, w32}
 use Rattle.std.proofs.lemmas.Int.{to_z-of_z}
 use Rattle.std.proofs.lemmas.Result.{on_ok_weaker}
 use Rattle.lsv_event.proofs.Parts.{has_in_order}
-use Rattle.lsv_event.proofs.sudo.put_exit.Goals as goal
+use Rattle.lsv_event.proofs.sudo_form.put_exit.Goals as goal
 
 pub returns : goal.returns
 returns c = λ start parts has.

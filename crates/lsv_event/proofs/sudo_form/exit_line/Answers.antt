@@ -2,7 +2,7 @@ use Rattle.std.proofs.Common.{◌≡◌, ℕ, List, [], ◌∷◌, ◌++◌, ap,
 use Rattle.std.proofs.lemmas.Result.{IfOk-weaker}
 use Rattle.lsv_event.specs.Events.{peer_text}
 use Rattle.lsv_event.specs.SudoLine.{exit_parts, joined, line_start}
-use Rattle.lsv_event.proofs.sudo.exit_line.Goals as goal
+use Rattle.lsv_event.proofs.sudo_form.exit_line.Goals as goal
 
 pub returns : goal.returns
 returns c =
