@@ -1,3 +1,4 @@
 pub mod Laws
+mod Making
 mod Moments
 mod Opening

@@ -29,7 +29,7 @@ writable_own owner s file (inl data_file) = inl data_file
 writable_own owner s file (inr journal) = inr (subst (λ (f : FileId). IsOwn (journal_of owner) f) (sym journal) (own_itself (journal_of owner)))
 
 -- the lines that the next entry commits
-next_text : (bundle : BundleView) (disk : DiskView) (kind count elapsed extra : ℕ) → bundle.shape ≡ shapes.Lines
+pub next_text : (bundle : BundleView) (disk : DiskView) (kind count elapsed extra : ℕ) → bundle.shape ≡ shapes.Lines
     → (committed_next bundle disk kind count elapsed extra).bytes Lines ≡ committed_bytes bundle disk Lines ++ staged bundle Lines
 next_text bundle disk kind count elapsed extra shape =
     ap (λ (s : Shape). on_shape s (λ part. committed_bytes bundle disk part ++ staged bundle part) Lines) shape ∙ on_lines (λ part. committed_bytes bundle disk part ++ staged bundle part)
@@ -84,7 +84,7 @@ committed_of bundle disk c some shape e =
     sym (on_lines (committed_bytes bundle disk)) ∙ ap (λ (s : Shape). on_shape s (committed_bytes bundle disk) Lines) (sym shape)
     ∙ ap (λ (b : Part → List ℕ). b Lines) (sym found.2) ∙ ap (λ (d : Committed). d.bytes Lines) (same_committed found.0 c (sym found.1 ∙ e))
 
-some_body : (last : Option Body) (body : Body) → last ≡ Some body → last ≢ None
+pub some_body : (last : Option Body) (body : Body) → last ≡ Some body → last ≢ None
 some_body last body is none = absurd (let never : ⊥ = cc in never)
 
 -- then none is added any more

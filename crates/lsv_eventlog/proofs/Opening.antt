@@ -62,6 +62,10 @@ pub lines_apart : (lane : ℕ) → file_of (Events lane) Lines ≡ journal_of (E
 unfolding is_journal
 lines_apart lane e = false≢true (ap (λ (f : FileId). is_journal f.part) e)
 
+pub old_lines : (lane : ℕ) → old_file (journal_of (Events lane)) ≡ file_of (Events lane) Lines → ⊥
+unfolding is_journal
+old_lines lane e = false≢true (sym (ap (λ (f : FileId). is_journal f.part) e))
+
 -- what opens a journal leaves the lines of some image before
 pub opens : (lane : ℕ) (old new : DiskView) → Throughout (λ g. g ≡ journal_of (Events lane)) (IsSomeCrashOf 89 (journal_of (Events lane)) old) old new → Throughout (IsOfEventLog lane) (IsAsBefore lane old) old new
 unfolding is_journal mixed
@@ -148,7 +152,7 @@ or_none : (a b : Option (List ℕ)) → option_or a b ≡ None → a ≡ None
 or_none None b e = refl
 or_none (Some x) b e = absurd (let never : ⊥ = cc in never)
 
-old_apart : (lane : ℕ) → old_file (journal_of (Events lane)) ≡ journal_of (Events lane) → ⊥
+pub old_apart : (lane : ℕ) → old_file (journal_of (Events lane)) ≡ journal_of (Events lane) → ⊥
 unfolding is_slots
 old_apart lane e = false≢true (ap (λ (f : FileId). is_slots f.part) e)
 
