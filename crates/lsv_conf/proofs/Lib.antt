@@ -1,0 +1,7 @@
+mod Cuts
+mod Blanks
+mod Forms
+mod Hosts
+mod Ports
+mod Pushes
+mod Reading

@@ -1,0 +1,14 @@
+//! The settings file of the log server, in the form of sudo_logsrvd.conf(5).
+#![tactic(auto)]
+
+mod address;
+mod conf;
+mod draft;
+mod line;
+mod read;
+mod row;
+mod text;
+mod value;
+
+pub use conf::{Conf, ConfFault, Kind, Note};
+pub use read::read_conf;
