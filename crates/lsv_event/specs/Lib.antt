@@ -1,0 +1,6 @@
+pub mod Dates
+pub mod Escapes
+pub mod Events
+pub mod InnerLine
+pub mod JsonLine
+pub mod SudoLine
