@@ -5,3 +5,4 @@ mod Hosts
 mod Ports
 mod Pushes
 mod Reading
+mod Utf8

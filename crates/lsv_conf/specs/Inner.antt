@@ -1,15 +1,16 @@
 -- What proofs alone need: no public clause cites it.
-use Rattle.std.specs.Prelude.{◌≡◌, ℕ, List, [], ◌∷◌, ◌++◌, Option, Some, None, Bool, false, ◌&&◌, codes, map, length, nat_le, option_map, unwrap_or, if◌then◌else◌}
+use Rattle.std.specs.Prelude.{◌≡◌, ℕ, List, [], ◌∷◌, ◌++◌, Option, Some, None, Bool, true, false, ◌&&◌, codes, map, length, nat_le, option_map, unwrap_or, if◌then◌else◌}
 use Rattle.std.specs.List.{list_all}
+use Rattle.std.specs.Option.{option_map_or}
 use Rattle.std.specs.Char.{to_ascii_lowercase}
 use Prim.Native.String.{String}
 use Rattle.lsv_conf.specs.Lines as spec
-use Rattle.std.specs.Str.{str_eq_ignore_ascii_case}
+use Rattle.std.specs.Str.{is_utf8, str_eq_ignore_ascii_case}
 use Rattle.lsv_conf.specs.Lines.{Placed}
 use Rattle.lsv_conf.specs.Settings.{Settings, is_true}
 use Rattle.lsv_conf.specs.Values.{Values, Listening, Upstream, Truth, Sequence, Format, Texts, is_prompt, kind_of, prompts_of, with_port}
 use Rattle.lsv_conf.specs.Values as values
-use Rattle.lsv_conf.specs.declared.conf.Kind.TheVariants.{Sudo}
+use Rattle.lsv_event.specs.declared.event.Kind.TheVariants.{Sudo}
 use Rattle.lsv_conf.specs.declared.draft.Draft.{Draft}
 use Rattle.lsv_conf.specs.declared.line.Line.{Line}
 use Rattle.lsv_conf.specs.declared.line.Line.TheVariants.{Empty, Section, Setting, Bad}
@@ -100,3 +101,12 @@ placed_setting number section key value = record { number = number; section = So
 -- what is given, with one value more
 abbrev pub with_given : List ℕ → List ℕ → List ℕ → (List ℕ → List ℕ → Option (List ℕ)) → List ℕ → List ℕ → Option (List ℕ)
 with_given section key value given s k = if str_eq_ignore_ascii_case section s && str_eq_ignore_ascii_case key k then Some value else given s k
+
+-- each text of the settings is UTF-8
+pub record AreTexts (s : Settings) : Type 0 where
+  pub listen : is_utf8 s.listen ≡ true
+  pub relay_host : option_map_or is_utf8 s.relay_host true ≡ true
+  pub iolog_dir : is_utf8 s.iolog_dir ≡ true
+  pub path : is_utf8 s.path ≡ true
+  pub notes : list_all (λ note. is_utf8 note.key) s.notes ≡ true
+  pub prompts : list_all is_utf8 s.prompts ≡ true

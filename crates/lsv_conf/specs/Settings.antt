@@ -7,8 +7,8 @@ use Prim.Native.String.{String}
 use Rattle.lsv_conf.specs.Lines.{Line, Empty, Section, Setting, Bad, Placed}
 use Rattle.lsv_conf.specs.Table.{Row, row_of}
 use Rattle.lsv_conf.specs.Values.{kind_of, prompts_of, truth_of, with_port}
-use Rattle.lsv_conf.specs.declared.conf.Kind.{Kind}
-use Rattle.lsv_conf.specs.declared.conf.Kind.TheVariants.{Sudo}
+use Rattle.lsv_event.specs.declared.event.Kind.{Kind}
+use Rattle.lsv_event.specs.declared.event.Kind.TheVariants.{Sudo}
 use Rattle.lsv_conf.specs.declared.conf.Note.{Note}
 use Rattle.lsv_conf.specs.declared.conf.Conf.{Conf}
 

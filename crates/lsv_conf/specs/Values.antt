@@ -5,8 +5,8 @@ use Rattle.std.specs.Option.{option_map_or}
 use Rattle.std.specs.Str.{all_ascii_digits, bytes_eq}
 use Rattle.std.specs.Str.Parse.{digits_value}
 use Rattle.lsv_conf.specs.Texts.{before, behind, is_empty, pieces, trimmed}
-use Rattle.lsv_conf.specs.declared.conf.Kind.{Kind}
-use Rattle.lsv_conf.specs.declared.conf.Kind.TheVariants.{Sudo, Json}
+use Rattle.lsv_event.specs.declared.event.Kind.{Kind}
+use Rattle.lsv_event.specs.declared.event.Kind.TheVariants.{Sudo, Json}
 
 -- a space, a square bracket or a parenthesis, which stand in no host
 abbrev pub is_mark : ℕ → Bool

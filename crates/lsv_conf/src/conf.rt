@@ -1,12 +1,11 @@
-use lsv_base::{Bytes, List};
-use thiserror::Error;
+ghost use Rattle.std.specs.Prelude.{IsTrue, true};
+ghost use Rattle.std.specs.List.{list_all};
+ghost use Rattle.std.specs.Option.{option_map_or};
+ghost use Rattle.std.specs.Str.{is_utf8};
 
-/// The form of event lines.
-#[derive(Clone, Copy, Debug, PartialEq, Eq)]
-pub enum Kind {
-    Sudo,
-    Json,
-}
+use lsv_base::{Bytes, List};
+use lsv_event::Kind;
+use thiserror::Error;
 
 /// A key that was passed over, since this server doesn't know it.
 #[derive(Debug, Drop)]
@@ -27,7 +26,7 @@ pub enum ConfFault {
     NoMem,
 }
 
-/// The settings.
+/// The settings. Its type keeps that each text in it is UTF-8.
 #[derive(Debug, Drop)]
 pub struct Conf {
     /// `host:port` to listen at.
@@ -50,4 +49,10 @@ pub struct Conf {
     pub notes: List<Note>,
     /// Texts that ask for a password.
     pub prompts: List<Bytes>,
+    pub ghost listen_is_text: { IsTrue (is_utf8 listen) },
+    pub ghost relay_host_is_text: { IsTrue (option_map_or is_utf8 relay_host true) },
+    pub ghost iolog_dir_is_text: { IsTrue (is_utf8 iolog_dir) },
+    pub ghost path_is_text: { IsTrue (is_utf8 path) },
+    pub ghost notes_are_text: { IsTrue (list_all (λ note. is_utf8 note.key) notes) },
+    pub ghost prompts_are_text: { IsTrue (list_all is_utf8 prompts) },
 }

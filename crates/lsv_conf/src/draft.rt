@@ -1,6 +1,6 @@
 ghost use Rattle.std.specs.Prelude.{◌≡◌, [], ◌∷◌, ◌++◌, true, false, not, ◌&&◌, IfOk, IfErr, OnOk, OnErr};
 ghost use Rattle.lsv_conf.specs.declared.draft.SetFault.TheVariants as faults;
-ghost use Rattle.lsv_conf.specs.Inner.{nothing_given, shown, values_of, with_value};
+ghost use Rattle.lsv_conf.specs.Inner.{AreTexts, nothing_given, shown, values_of, with_value};
 ghost use Rattle.lsv_conf.specs.Settings.{settings_by, settings_in};
 ghost use Rattle.lsv_conf.specs.Values.{is_address, takes, with_port};
 ghost use Rattle.lsv_conf.specs.Texts.{is_empty};
@@ -135,6 +135,7 @@ impl Draft {
 
     /// The settings, once the file is read.
     pub fn finish(self) -> Conf
+        requires { AreTexts (shown self) }
         ensures { settings_in result ≡ shown self }
     {
         Conf {

@@ -10,5 +10,6 @@ mod row;
 mod text;
 mod value;
 
-pub use conf::{Conf, ConfFault, Kind, Note};
+pub use conf::{Conf, ConfFault, Note};
+pub use lsv_event::Kind;
 pub use read::read_conf;

@@ -1,6 +1,7 @@
-use Rattle.std.proofs.Common.{◌≡◌, ◌∙◌, Some, ap, sym, arith, rules}
-use Rattle.lsv_conf.specs.Inner.{shown}
+use Rattle.std.proofs.Common.{◌≡◌, ◌∙◌, Some, ap, sym, subst, arith, rules}
+use Rattle.lsv_conf.specs.Inner.{AreTexts, shown}
 use Rattle.lsv_conf.proofs.Cuts.{left_less}
+use Rattle.lsv_conf.proofs.Utf8.{settings_are_text}
 use Rattle.lsv_conf.proofs.Reading.{reading_start, reading_next, reading_end, reading_refused}
 use Rattle.lsv_conf.proofs.read.read_conf.Goals as goal
 
@@ -27,3 +28,7 @@ returns-clause-settings c = c.finish.ensures ∙ (reading_end c.args.text.now (s
 
 pub returns-clause-none_refused : goal.returns-clause-none_refused
 returns-clause-none_refused c = (reading_end c.args.text.now (shown c.loop-rest.draft) c.loop-rest.number c.loop-rest.section c.loop-rest.rest c.in_default.is c.loop-rest.invariant).1
+
+pub finish-requires : goal.finish-requires
+finish-requires c =
+    subst AreTexts (sym (reading_end c.args.text.now (shown c.loop-rest.draft) c.loop-rest.number c.loop-rest.section c.loop-rest.rest c.in_default.is c.loop-rest.invariant).0) (settings_are_text c.args.text.now)
