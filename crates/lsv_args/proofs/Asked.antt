@@ -1,5 +1,5 @@
 -- Words that clap doesn't refuse ask for something.
-use Rattle.std.proofs.Common.{◌≡◌, ◌∙◌, ◌+◌, ◌<◌, ◌≤◌, ◌&&◌, ◌||◌, ◌==◌, ℕ, Bool, true, false, not, cond, List, [], ◌∷◌, ◌++◌, Option, Some, None, find, fold, is_some, codes, option_map, refl, sym, ap, ap₂, subst, arith}
+use Rattle.std.proofs.Common.{◌≡◌, ◌∙◌, ◌+◌, ◌<◌, ◌≤◌, ◌^◌, IfSome, unwrap_or, ◌&&◌, ◌||◌, ◌==◌, ℕ, Bool, true, false, not, cond, List, [], ◌∷◌, ◌++◌, Option, Some, None, find, fold, is_some, codes, option_map, refl, sym, ap, ap₂, subst, arith}
 use Rattle.std.specs.List.{AllByRecursion, list_any}
 use Rattle.std.specs.Option.{option_and_then, option_map_or}
 use Rattle.std.specs.Prelude.{slice_get}
@@ -17,9 +17,9 @@ use Rattle.clap.specs.Simple.{App, Shape, built, built_leaf, entered, inherited,
 use Rattle.clap.specs.Takes.{is_given, value_passes}
 use Rattle.clap.specs.ValueTests.{accepts}
 use Rattle.clap.specs.Walk.{Held, answers_to, Row, Rule, Text, Walk, default_rows, finished, first_of, has_row, nothing_held, rows_after, reading_by, settled, walk, walk_from, walked, walked_from, with_default, word_met}
-use Rattle.lsv_args.specs.Commands.{commands, from_to, load, once, serve}
+use Rattle.lsv_args.specs.Commands.{commands, from_to, load, most_lanes, once, serve}
 use Rattle.lsv_args.proofs.Numbers.{number_accepted}
-use Rattle.lsv_args.specs.Reading.{Asked, asked, asked_by, number, number_in, options_of, Once, Serve, Load}
+use Rattle.lsv_args.specs.Reading.{Asked, HasRanges, IsInRange, number_of, asked, asked_by, number, number_in, options_of, Once, Serve, Load}
 use Rattle.lsv_args.proofs.Walks.{AllPlain, HasValue, IsPlainRule, both_none, settled_passes, step_passes, word_passes}
 
 turn_by : (id : Text) (acc : Text → Bool) (s : Shape) (w : Walk) (word : Text) (o : Option (Text × List Text)) → s.args_override_self ≡ false → AllPlain id acc s.rules
@@ -61,14 +61,14 @@ level_passes id acc s words single all none =
 
 -- a command of this shape asks for something where its words are taken
 abbrev Asks : Shape → List Text → Type 0
-Asks s words = level_fault s [] nothing_held words false [] ≡ [] → (x : Asked) × (asked_by s.name (rows_after s.rules [] words) ≡ Some x)
+Asks s words = level_fault s [] nothing_held words false [] ≡ [] → (x : Asked) × (asked_by s.name (rows_after s.rules [] words) ≡ Some x) × IsInRange x
 
 abbrev sub_of : Bool → Bool → Bool → Shape → Shape → Shape → Option Shape
 sub_of t u v a b c = cond t (Some a) (cond u (Some b) (cond v (Some c) None))
 
 by_sub : (t u v : Bool) (a b c : Shape) (words : List Text) → Asks a words → Asks b words → Asks c words
     → is_some (option_map (λ s. rows_at s words) (sub_of t u v a b c)) ≡ true → option_map_or (λ s. level_fault s [] nothing_held words false []) (sub_of t u v a b c) [] ≡ []
-    → (x : Asked) × (option_and_then (λ (s : Text × List Row). asked_by s.0 s.1) (option_map (λ s. rows_at s words) (sub_of t u v a b c)) ≡ Some x)
+    → (x : Asked) × (option_and_then (λ (s : Text × List Row). asked_by s.0 s.1) (option_map (λ s. rows_at s words) (sub_of t u v a b c)) ≡ Some x) × IsInRange x
 by_sub true u v a b c words f g h some none = f none
 by_sub false true v a b c words f g h some none = g none
 by_sub false false true a b c words f g h some none = h none
@@ -98,11 +98,73 @@ above = (on_top with_leaf_noted (on_top marked_built commands)).top
 abbrev made : App → Shape
 made a = built_leaf (inherited above a.top)
 
+lanes_value : Text → Bool
+lanes_value = accepts false (from_to 1 most_lanes)
+
+stop_value : Text → Bool
+stop_value = accepts false (from_to 1 4294967295)
+
+-- the number of an argument, where there is one, is in its range
+number_ranges : (low high : ℕ) (id : Text) (rows : List Row) (o : Option Row) → 1 ≤ low → high < 2 ^ 32 → find (λ x. bytes_eq x.id id) rows ≡ o → HasValue id (accepts false (from_to low high)) rows
+    → IfSome (option_and_then number_in (option_and_then (λ (r : Row). slice_get r.values 0) o)) (λ n. (low ≤ n) × (n ≤ high))
+number_ranges low high id rows None some fits e good = tt
+number_ranges low high id rows (Some r) some fits e good =
+    let v = good r e in
+    let n = number_accepted low high v.0 some fits v.2 in
+    subst (λ (o : Option ℕ). IfSome o (λ n. (low ≤ n) × (n ≤ high))) (sym (ap (option_and_then number_in) v.1 ∙ n.1)) (n.2, n.3)
+
+number_in_range : (low high : ℕ) (id : Text) (rows : List Row) → 1 ≤ low → high < 2 ^ 32 → HasValue id (accepts false (from_to low high)) rows → IfSome (number_of rows id) (λ n. (low ≤ n) × (n ≤ high))
+number_in_range low high id rows some fits good = number_ranges low high id rows (find (λ x. bytes_eq x.id id) rows) some fits refl good
+
+lanes_within : (o : Option ℕ) → IfSome o (λ n. (1 ≤ n) × (n ≤ most_lanes)) → (1 ≤ unwrap_or o 1) × (unwrap_or o 1 ≤ most_lanes)
+lanes_within None h = (omega arith, omega arith)
+lanes_within (Some n) h = h
+
+stop_within : (o : Option ℕ) → IfSome o (λ n. (1 ≤ n) × (n ≤ 4294967295)) → IfSome o (λ n. 1 ≤ n)
+stop_within None h = tt
+stop_within (Some n) h = h.0
+
+in_ranges : (rows : List Row) → HasValue (codes "lanes") lanes_value rows → HasValue (codes "stop-after") stop_value rows → HasRanges (options_of rows)
+unfolding lanes_value stop_value
+in_ranges rows lanes_good stop_good =
+    let l = lanes_within (number_of rows (codes "lanes")) (number_in_range 1 most_lanes (codes "lanes") rows (omega arith) (omega arith) lanes_good) in
+    record {
+      least_lanes = l.0;
+      most_lanes = l.1;
+      stop_after = stop_within (number_of rows (codes "stop-after")) (number_in_range 1 4294967295 (codes "stop-after") rows (omega arith) (omega arith) stop_good);
+    }
+
+ranges_of : (s : Shape) (words : List Text) → s.args_override_self ≡ false → AllPlain (codes "lanes") lanes_value s.rules → AllPlain (codes "stop-after") stop_value s.rules
+    → level_fault s [] nothing_held words false [] ≡ [] → HasRanges (options_of (rows_after s.rules [] words))
+ranges_of s words single lanes_plain stop_plain none = in_ranges (rows_after s.rules [] words) (level_passes (codes "lanes") lanes_value s words single lanes_plain none).0 (level_passes (codes "stop-after") stop_value s words single stop_plain none).0
+
+once_lanes : AllPlain (codes "lanes") lanes_value (made once).rules
+once_lanes = (record { sets = refl; one = refl; passes = λ e v. absurd (cc); defaults = refl }, tt)
+
+once_stop : AllPlain (codes "stop-after") stop_value (made once).rules
+once_stop = (record { sets = refl; one = refl; passes = λ e v. absurd (cc); defaults = refl }, tt)
+
+serve_lanes : AllPlain (codes "lanes") lanes_value (made serve).rules
+unfolding lanes_value
+serve_lanes = (record { sets = refl; one = refl; passes = λ e v. absurd (cc); defaults = refl }, (record { sets = refl; one = refl; passes = λ e v. refl; defaults = refl }, (record { sets = refl; one = refl; passes = λ e v. absurd (cc); defaults = refl }, tt)))
+
+serve_stop : AllPlain (codes "stop-after") stop_value (made serve).rules
+unfolding stop_value
+serve_stop = (record { sets = refl; one = refl; passes = λ e v. absurd (cc); defaults = refl }, (record { sets = refl; one = refl; passes = λ e v. absurd (cc); defaults = refl }, (record { sets = refl; one = refl; passes = λ e v. refl; defaults = refl }, tt)))
+
+load_lanes : AllPlain (codes "lanes") lanes_value (made load).rules
+load_lanes = (record { sets = refl; one = refl; passes = λ e v. absurd (cc); defaults = refl }, (record { sets = refl; one = refl; passes = λ e v. absurd (cc); defaults = refl }, tt))
+
+load_stop : AllPlain (codes "stop-after") stop_value (made load).rules
+load_stop = (record { sets = refl; one = refl; passes = λ e v. absurd (cc); defaults = refl }, (record { sets = refl; one = refl; passes = λ e v. absurd (cc); defaults = refl }, tt))
+
 asks_once : (words : List Text) → Asks (made once) words
-asks_once words none = (Once (options_of (rows_after (made once).rules [] words)), refl)
+asks_once words none =
+    (Once (options_of (rows_after (made once).rules [] words)), refl, ranges_of (made once) words refl once_lanes once_stop none)
 
 asks_serve : (words : List Text) → Asks (made serve) words
-asks_serve words none = (Serve (options_of (rows_after (made serve).rules [] words)), refl)
+asks_serve words none =
+    (Serve (options_of (rows_after (made serve).rules [] words)), refl, ranges_of (made serve) words refl serve_lanes serve_stop none)
 
 load_plain : AllPlain (codes "count") load_count (made load).rules
 unfolding load_count
@@ -116,9 +178,9 @@ asks_load words none =
     let given = given_by (is_given (codes "count") rows) level.1 in
     let v = given_value (codes "count") load_count rows _ refl given level.0 in
     let n = number_accepted 1 10000 v.0 (omega arith) (omega arith) v.2 in
-    (Load (options_of rows) n.0, ap (option_map (Load (options_of rows))) (counted rows v.0 n.0 v.1 n.1))
+    (Load (options_of rows) n.0, ap (option_map (Load (options_of rows))) (counted rows v.0 n.0 v.1 n.1), (ranges_of (made load) words refl load_lanes load_stop none, n.2, n.3))
 
-stop_some : (stop : Option (Text × List Text)) → is_some (entered (built commands) stop) ≡ true → entered_fault (built commands) stop ≡ [] → (x : Asked) × (option_and_then (λ (s : Text × List Row). asked_by s.0 s.1) (entered (built commands) stop) ≡ Some x)
+stop_some : (stop : Option (Text × List Text)) → is_some (entered (built commands) stop) ≡ true → entered_fault (built commands) stop ≡ [] → (x : Asked) × (option_and_then (λ (s : Text × List Row). asked_by s.0 s.1) (entered (built commands) stop) ≡ Some x) × IsInRange x
 stop_some None some none = absurd (cc)
 stop_some (Some p) some none = by_sub (answers_to p.0 (label_of (made once))) (answers_to p.0 (label_of (made serve))) (answers_to p.0 (label_of (made load))) (made once) (made serve) (made load) p.1
     (asks_once p.1) (asks_serve p.1) (asks_load p.1) some none
@@ -129,7 +191,7 @@ sub_wanted true e = refl
 sub_wanted false e = absurd (cc)
 
 -- words that clap takes ask for something
-pub asked_where_taken : (words : List Text) → fault_of commands words ≡ [] → (x : Asked) × (asked words ≡ Some x)
+pub asked_where_taken : (words : List Text) → fault_of commands words ≡ [] → (x : Asked) × (asked words ≡ Some x) × IsInRange x
 asked_where_taken words none =
     let a = built commands in
     let walked_to = walk a.top.rules (names_of a) nothing_held words in
@@ -158,3 +220,13 @@ refused_where_nothing words nothing none = let some = asked_where_taken words no
   where
     some_not_none : (x : Asked) → Some x ≡ None → ⊥
     some_not_none x e = cc
+
+-- what words ask for that are taken is in its ranges
+pub taken_in_range : (words : List Text) (x : Asked) → fault_of commands words ≡ [] → asked words ≡ Some x → IsInRange x
+taken_in_range words x none is =
+    let y = asked_where_taken words none in
+    let same : y.0 ≡ x = some_same y.0 x (sym y.1 ∙ is) in
+    subst IsInRange same y.2
+  where
+    some_same : (a b : Asked) → Some a ≡ Some b → a ≡ b
+    some_same a b e = cc

@@ -1,12 +1,12 @@
 -- What the words ask for.
-use Rattle.std.specs.Prelude.{◌^◌, ◌&&◌, ℕ, List, Option, Some, None, nat_lt, codes, unwrap_or, option_map, option_and_then, if◌then◌else◌}
+use Rattle.std.specs.Prelude.{◌≤◌, ◌^◌, ◌&&◌, IfSome, ℕ, List, Option, Some, None, nat_lt, codes, unwrap_or, option_map, option_and_then, if◌then◌else◌}
 use Rattle.std.specs.Str.{bytes_eq}
 use Rattle.std.specs.Str.Parse.{digits_value, without_leading_plus}
 use Prim.Native.String.{String}
 use Rattle.clap.specs.Simple.{subcommand_of}
 use Rattle.clap.specs.ValueTests.{is_numeral}
 use Rattle.clap.specs.Walk.{Row, first_of}
-use Rattle.lsv_args.specs.Commands.{commands}
+use Rattle.lsv_args.specs.Commands.{commands, most_lanes}
 use Rattle.lsv_args.specs.declared.command.Command.{Command}
 use Rattle.lsv_args.specs.declared.command.Command.TheVariants as command
 use Rattle.lsv_args.specs.declared.command.Opts.{Opts}
@@ -66,3 +66,16 @@ asked_in (command.Once opts) = Once (options_in opts)
 asked_in (command.Serve opts) = Serve (options_in opts)
 asked_in (command.Relay opts) = Relay (options_in opts)
 asked_in (command.Load opts count) = Load (options_in opts) count
+
+-- the options are in their ranges
+pub record HasRanges (o : Options) : Type 0 where
+  pub least_lanes : 1 ≤ o.lanes
+  pub most_lanes : o.lanes ≤ most_lanes
+  pub stop_after : IfSome o.stop_after (λ n. 1 ≤ n)
+
+-- the numbers are in their ranges
+abbrev pub IsInRange : Asked → Type 0
+IsInRange (Once o) = HasRanges o
+IsInRange (Serve o) = HasRanges o
+IsInRange (Relay o) = HasRanges o
+IsInRange (Load o count) = HasRanges o × (1 ≤ count) × (count ≤ 10000)

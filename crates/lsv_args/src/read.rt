@@ -3,7 +3,7 @@ ghost use Rattle.std.specs.List.{list_all};
 ghost use Rattle.std.specs.Str.{is_utf8};
 ghost use Rattle.clap.specs.Words.{fault_of, found_of, rows_of, subcommand_of, subcommand_rows_of};
 ghost use Rattle.lsv_args.specs.Commands.{commands};
-ghost use Rattle.lsv_args.specs.Reading.{asked, asked_by, asked_in, number_in, number_of, options_in, options_of};
+ghost use Rattle.lsv_args.specs.Reading.{IsInRange, asked, asked_by, asked_in, number_in, number_of, options_in, options_of};
 ghost use Rattle.lsv_args.specs.declared.command.ArgFault.TheVariants as faults;
 
 use crate::commands::commands;
@@ -110,6 +110,7 @@ fn matched<'a>(alloc: Global, words: &'a [&'a str]) -> Result<ArgMatches<'a>, Ar
 pub fn read_words(alloc: Global, words: &List<Bytes>) -> Result<Command, ArgFault>
     requires { IsTrue (list_all is_utf8 words.now) }
     ensures ok { IfOk result (λ c. asked words.now ≡ Some (asked_in c)) }
+    ensures in_range { IfOk result (λ c. IsInRange (asked_in c)) }
     ensures taken { OnOk result (fault_of commands words.now ≡ []) }
     ensures usage { result ≡ Err ArgFault.Usage → fault_of commands words.now ≢ [] }
 {
