@@ -51,16 +51,16 @@ returns-in_err-sync_present-clause-any_moment g c told =
 pub returns-in_err-sync_present-clause-calls : goal.returns-in_err-sync_present-clause-calls
 returns-in_err-sync_present-clause-calls g c told = record {
   at_most =
-        let owner = c.args.owner in
-        let s = c.args.shape in
-        let old = g.D.Disk.view c.args.disk.now in
-        let one = g.D.Disk.view c.open_journal.new.disk in
-        let two = g.D.Disk.view c.sync_present.new.disk in
-        let calls : CallsAtMost 0 1 (IsOneOf owner (parts_of s)) one two = subst (λ (ps : List Part). CallsAtMost 0 1 (IsOneOf owner ps) one two) c.parts.ensures (c.sync_present.ensures.calls told) in
-        opened_calls owner s old one two (c.open_journal.ensures.calls told).at_most calls;
+      let owner = c.args.owner in
+      let s = c.args.shape in
+      let old = g.D.Disk.view c.args.disk.now in
+      let one = g.D.Disk.view c.open_journal.new.disk in
+      let two = g.D.Disk.view c.sync_present.new.disk in
+      let calls : CallsAtMost 0 1 (IsOneOf owner (parts_of s)) one two = subst (λ (ps : List Part). CallsAtMost 0 1 (IsOneOf owner ps) one two) c.parts.ensures (c.sync_present.ensures.calls told) in
+      opened_calls owner s old one two (c.open_journal.ensures.calls told).at_most calls;
   unwritten = λ has f.
-        files_unwritten c.args.owner c.parts.result.now (g.D.Disk.view c.open_journal.new.disk) (g.D.Disk.view c.sync_present.new.disk) (c.sync_present.ensures.calls told) f
-        ∙ (c.open_journal.ensures.calls told).unwritten has f;
+      files_unwritten c.args.owner c.parts.result.now (g.D.Disk.view c.open_journal.new.disk) (g.D.Disk.view c.sync_present.new.disk) (c.sync_present.ensures.calls told) f
+      ∙ (c.open_journal.ensures.calls told).unwritten has f;
 }
 
 pub returns-in_err-check_lengths-clause-reads : goal.returns-in_err-check_lengths-clause-reads
@@ -93,18 +93,18 @@ returns-in_err-check_lengths-clause-any_moment g c told =
 pub returns-in_err-check_lengths-clause-calls : goal.returns-in_err-check_lengths-clause-calls
 returns-in_err-check_lengths-clause-calls g c told = record {
   at_most =
-        let owner = c.args.owner in
-        let s = c.args.shape in
-        let old = g.D.Disk.view c.args.disk.now in
-        let one = g.D.Disk.view c.open_journal.new.disk in
-        let two = g.D.Disk.view c.sync_present.new.disk in
-        let calls : CallsAtMost 0 1 (IsOneOf owner (parts_of s)) one two = subst (λ (ps : List Part). CallsAtMost 0 1 (IsOneOf owner ps) one two) c.parts.ensures (c.sync_present.ensures.calls told) in
-        let new = g.D.Disk.view c.check_lengths.new.disk in
-        opened_calls owner s old one new (c.open_journal.ensures.calls told).at_most (calls_trans 0 1 0 0 (IsOneOf owner (parts_of s)) one two new calls (uncounted_at_most 0 0 (IsOneOf owner (parts_of s)) two new (c.check_lengths.ensures.reads told).counts));
+      let owner = c.args.owner in
+      let s = c.args.shape in
+      let old = g.D.Disk.view c.args.disk.now in
+      let one = g.D.Disk.view c.open_journal.new.disk in
+      let two = g.D.Disk.view c.sync_present.new.disk in
+      let calls : CallsAtMost 0 1 (IsOneOf owner (parts_of s)) one two = subst (λ (ps : List Part). CallsAtMost 0 1 (IsOneOf owner ps) one two) c.parts.ensures (c.sync_present.ensures.calls told) in
+      let new = g.D.Disk.view c.check_lengths.new.disk in
+      opened_calls owner s old one new (c.open_journal.ensures.calls told).at_most (calls_trans 0 1 0 0 (IsOneOf owner (parts_of s)) one two new calls (uncounted_at_most 0 0 (IsOneOf owner (parts_of s)) two new (c.check_lengths.ensures.reads told).counts));
   unwritten = λ has f.
-        (c.check_lengths.ensures.reads told).counts.writes f
-        ∙ files_unwritten c.args.owner c.parts.result.now (g.D.Disk.view c.open_journal.new.disk) (g.D.Disk.view c.sync_present.new.disk) (c.sync_present.ensures.calls told) f
-        ∙ (c.open_journal.ensures.calls told).unwritten has f;
+      (c.check_lengths.ensures.reads told).counts.writes f
+      ∙ files_unwritten c.args.owner c.parts.result.now (g.D.Disk.view c.open_journal.new.disk) (g.D.Disk.view c.sync_present.new.disk) (c.sync_present.ensures.calls told) f
+      ∙ (c.open_journal.ensures.calls told).unwritten has f;
 }
 
 pub returns-in_err-check_lengths-clause-damaged : goal.returns-in_err-check_lengths-clause-damaged
@@ -157,18 +157,18 @@ returns-clause-any_moment g c told =
 pub returns-clause-calls : goal.returns-clause-calls
 returns-clause-calls g c told = record {
   at_most =
-        let owner = c.args.owner in
-        let s = c.args.shape in
-        let old = g.D.Disk.view c.args.disk.now in
-        let one = g.D.Disk.view c.open_journal.new.disk in
-        let two = g.D.Disk.view c.sync_present.new.disk in
-        let calls : CallsAtMost 0 1 (IsOneOf owner (parts_of s)) one two = subst (λ (ps : List Part). CallsAtMost 0 1 (IsOneOf owner ps) one two) c.parts.ensures (c.sync_present.ensures.calls told) in
-        let new = g.D.Disk.view c.check_lengths.new.disk in
-        opened_calls owner s old one new (c.open_journal.ensures.calls told).at_most (calls_trans 0 1 0 0 (IsOneOf owner (parts_of s)) one two new calls (uncounted_at_most 0 0 (IsOneOf owner (parts_of s)) two new (c.check_lengths.ensures.reads told).counts));
+      let owner = c.args.owner in
+      let s = c.args.shape in
+      let old = g.D.Disk.view c.args.disk.now in
+      let one = g.D.Disk.view c.open_journal.new.disk in
+      let two = g.D.Disk.view c.sync_present.new.disk in
+      let calls : CallsAtMost 0 1 (IsOneOf owner (parts_of s)) one two = subst (λ (ps : List Part). CallsAtMost 0 1 (IsOneOf owner ps) one two) c.parts.ensures (c.sync_present.ensures.calls told) in
+      let new = g.D.Disk.view c.check_lengths.new.disk in
+      opened_calls owner s old one new (c.open_journal.ensures.calls told).at_most (calls_trans 0 1 0 0 (IsOneOf owner (parts_of s)) one two new calls (uncounted_at_most 0 0 (IsOneOf owner (parts_of s)) two new (c.check_lengths.ensures.reads told).counts));
   unwritten = λ has f.
-        (c.check_lengths.ensures.reads told).counts.writes f
-        ∙ files_unwritten c.args.owner c.parts.result.now (g.D.Disk.view c.open_journal.new.disk) (g.D.Disk.view c.sync_present.new.disk) (c.sync_present.ensures.calls told) f
-        ∙ (c.open_journal.ensures.calls told).unwritten has f;
+      (c.check_lengths.ensures.reads told).counts.writes f
+      ∙ files_unwritten c.args.owner c.parts.result.now (g.D.Disk.view c.open_journal.new.disk) (g.D.Disk.view c.sync_present.new.disk) (c.sync_present.ensures.calls told) f
+      ∙ (c.open_journal.ensures.calls told).unwritten has f;
 }
 
 pub returns-clause-represents : goal.returns-clause-represents
