@@ -357,7 +357,7 @@ module _ (f : FileId) (old mid done new : DiskView) (none : Uncounted old mid) (
   opening_calls slots settled = record {
     writes = rose_trans 0 3 (λ g. g ≡ f) old.writes done.writes new.writes (stayed_rose 0 (λ g. g ≡ f) old.writes done.writes before_unwritten) settled.writes;
     syncs = rose_trans 0 5 (IsOwn f) old.syncs mid.syncs new.syncs (stayed_rose 0 (IsOwn f) old.syncs mid.syncs none.syncs)
-    (rose_trans 1 4 (IsOwn f) mid.syncs done.syncs new.syncs synced.syncs (own_rose 4 f done.syncs new.syncs slots settled.syncs));
+        (rose_trans 1 4 (IsOwn f) mid.syncs done.syncs new.syncs synced.syncs (own_rose 4 f done.syncs new.syncs slots settled.syncs));
   }
 
   pub opening_unwritten : (g : FileId) → new.writes g ≡ done.writes g → new.writes g ≡ old.writes g

@@ -9,15 +9,18 @@ use std::{fs, io};
 /// Whoever runs the server may look into its folders, and nobody else.
 const MODE: u32 = 0o700;
 
-/// So many folders are remembered as synced at most.
+/// So many folders of each kind are remembered at most.
 const MOST_REMEMBERED: usize = 1024;
 
-/// The folders that were synced in this run.
+/// The folders that this run made something in or synced.
 #[derive(Drop)]
 pub struct Folders {
     rt: HostRuntime,
     alloc: Global,
+    /// Those that were synced since this run last made something in them.
     synced: HashSet<String>,
+    /// Those that are there after a crash.
+    named: HashSet<String>,
 }
 
 impl Folders {
@@ -27,6 +30,7 @@ impl Folders {
             rt,
             alloc,
             synced: HashSet::new(alloc),
+            named: HashSet::new(alloc),
         }
     }
 
@@ -35,15 +39,13 @@ impl Folders {
         let _ = self.synced.remove(folder);
     }
 
-    /// Waits until what was made or named in a folder is on the disk.
+    /// Waits until what was made or named in a folder is on the disk, and the folder itself, with new ones above it:
+    /// they were made before.
     pub fn sync(&mut self, folder: &str) -> io::Result<()> {
         self.change(folder);
         File::open(&self.rt, folder)?.sync_all()?;
-        if self.synced.len() >= MOST_REMEMBERED {
-            self.synced.clear();
-        }
-        self.synced.insert(String::from_str(self.alloc, folder)?)?;
-        Ok(())
+        remember(self.alloc, &mut self.synced, folder)?;
+        remember(self.alloc, &mut self.named, folder)
     }
 
     /// The same of a folder in which this run made nothing since it synced it.
@@ -54,8 +56,8 @@ impl Folders {
         self.sync(folder)
     }
 
-    /// Makes a folder and those above it that are not there. The parent of each that was there is synced too, once,
-    /// since it may have been made by a program that was killed before it synced.
+    /// Makes a folder and those above it that are not there. They are on the disk once it is synced. The parent of each
+    /// that was there is synced, once, since it may have been made by a program that was killed before it synced.
     pub fn make(&mut self, folder: &str) -> io::Result<()> {
         let mut made = String::new(self.alloc);
         for name in folder.split('/') {
@@ -70,19 +72,24 @@ impl Folders {
     }
 
     fn make_one(&mut self, folder: &str, parent: &str) -> io::Result<()> {
+        if self.named.contains(folder) {
+            return Ok(());
+        }
         match DirBuilder::new().mode(MODE).create(&self.rt, folder) {
             Ok(()) => {
                 self.change(parent);
-                fs::set_permissions(&self.rt, folder, Permissions::from_mode(MODE))?;
-                self.sync(parent)
+                fs::set_permissions(&self.rt, folder, Permissions::from_mode(MODE))
             }
-            Err(e) if e.kind() == ErrorKind::AlreadyExists => self.sync_found(parent),
+            Err(e) if e.kind() == ErrorKind::AlreadyExists => {
+                self.sync_found(parent)?;
+                remember(self.alloc, &mut self.named, folder)
+            }
             Err(e) => Err(e),
         }
     }
 
-    /// Syncs the parent of a folder that was there. One that may not be opened is passed over: this program can't
-    /// have made a folder in it, since it would not have gone on without the sync.
+    /// Syncs the parent of a folder that was there. One that may not be opened is passed over: what is told to be on
+    /// the disk below it has its own folder synced first.
     fn sync_found(&mut self, parent: &str) -> io::Result<()> {
         match self.sync_once(parent) {
             Err(e) if e.kind() == ErrorKind::PermissionDenied => Ok(()),
@@ -90,6 +97,15 @@ impl Folders {
             Ok(()) => Ok(()),
         }
     }
+}
+
+/// Remembers a folder. Where too many are remembered they are forgotten, and looked at again.
+fn remember(alloc: Global, folders: &mut HashSet<String>, folder: &str) -> io::Result<()> {
+    if folders.len() >= MOST_REMEMBERED {
+        folders.clear();
+    }
+    folders.insert(String::from_str(alloc, folder)?)?;
+    Ok(())
 }
 
 /// The folder that a path ends in a name of.

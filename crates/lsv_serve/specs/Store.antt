@@ -54,6 +54,11 @@ pub record Holds (disk : DiskView) (file : FileId) (bytes : List ℕ) : Type 0 w
   pub reads : disk.reads file ≡ Some bytes
   pub durable : Only (Some bytes) (disk.crash_states file)
 
+-- the files of the log alone were touched, and its head's text stays
+pub record KeepsHead (tells : Type 0) (old new : DiskView) : Type 0 where
+  pub touches : OnlyTouches tells IsOfLog old new
+  pub head : tells → (text : List ℕ) → Holds old (log_file part.Head) text → Holds new (log_file part.Head) text
+
 -- log 1 holds this text of its exit, and this layout of records, whatever a crash leaves
 pub record HoldsLaid (disk : DiskView) (exit : List ℕ) (laid : Laid) : Type 0 where
   pub exit_is : Holds disk (log_file part.Exit) exit

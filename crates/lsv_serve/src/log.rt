@@ -6,7 +6,7 @@ ghost use Rattle.lsv_disk.specs.declared.file.FileId.{FileId};
 ghost use Rattle.lsv_disk.specs.declared.file.Part.TheVariants as part;
 ghost use Rattle.lsv_disk.specs.View.{Quiet};
 ghost use Rattle.lsv_serve.specs.Filing.{are_apart, HoldEmpty, HoldTexts, IsAmong, parts_of};
-ghost use Rattle.lsv_serve.specs.Store.{Holds, HoldsLaid, HoldsLayout, IsOfLog, LogFailed, is_there, log_file, log_is_there, log_parts, OnlyTouches};
+ghost use Rattle.lsv_serve.specs.Store.{Holds, HoldsLaid, HoldsLayout, IsOfLog, LogFailed, is_there, log_file, log_is_there, log_parts, KeepsHead, OnlyTouches};
 
 use lsv_disk::{Disk, DiskFault, FileId, Owner, Part, write_synced};
 use lsv_record::Laid;
@@ -121,8 +121,7 @@ pub fn make_log<D: Disk>(disk: &mut D, head: &[u8]) -> Result<bool, DiskFault>
 pub fn store_log<D: Disk>(disk: &mut D, exit: &[u8], laid: &Laid) -> Result<(), DiskFault>
     requires { D.tells → HoldsLayout (D.view disk.old) [] [] }
     ensures stored { D.tells → OnOk result (HoldsLaid (D.view disk.new) exit.now laid.now) }
-    ensures head { D.tells → (text : List ℕ) → Holds (D.view disk.old) (log_file part.Head) text → Holds (D.view disk.new) (log_file part.Head) text }
-    ensures frame { OnlyTouches D.tells IsOfLog (D.view disk.old) (D.view disk.new) }
+    ensures frame { KeepsHead D.tells (D.view disk.old) (D.view disk.new) }
     ensures cause { OnErr result (LogFailed (D.view disk.old).faults (D.view disk.new).faults) }
 {
     let filings = [

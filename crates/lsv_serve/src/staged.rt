@@ -5,7 +5,7 @@ ghost use Rattle.lsv_disk.specs.declared.file.FileId.{FileId};
 ghost use Rattle.lsv_record.specs.Records.{delay_of, elapsed};
 ghost use Rattle.lsv_record.specs.declared.records.Record.{Record};
 ghost use Rattle.lsv_disk.specs.declared.file.Part.TheVariants as part;
-ghost use Rattle.lsv_serve.specs.Store.{Holds, HoldsLaid, HoldsLayout, IsOfLog, LogFailed, layout_of, log_file, OnlyTouches};
+ghost use Rattle.lsv_serve.specs.Store.{Holds, HoldsLaid, HoldsLayout, IsOfLog, LogFailed, layout_of, KeepsHead};
 ghost use Rattle.lsv_serve.specs.Staged.{put_in, staged};
 
 use crate::log::store_log;
@@ -98,8 +98,7 @@ impl Staged {
         requires { D.tells → HoldsLayout (D.view disk.old) [] [] }
         ensures elapsed { IfOk result (λ elapsed. elapsed ≡ self.now.elapsed) }
         ensures stored { D.tells → OnOk result (HoldsLaid (D.view disk.new) exit.now self.now.laid) }
-        ensures head { D.tells → (text : List ℕ) → Holds (D.view disk.old) (log_file part.Head) text → Holds (D.view disk.new) (log_file part.Head) text }
-        ensures frame { OnlyTouches D.tells IsOfLog (D.view disk.old) (D.view disk.new) }
+        ensures frame { KeepsHead D.tells (D.view disk.old) (D.view disk.new) }
         ensures cause { OnErr result (LogFailed (D.view disk.old).faults (D.view disk.new).faults) }
     {
         store_log(disk, exit, &self.laid)?;

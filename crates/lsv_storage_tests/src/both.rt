@@ -98,10 +98,16 @@ fn two_bundles_are_flushed_one_after_the_other(rt: HostRuntime) -> Result<(), Fa
         let (disk, answer) = story(rt.alloc(), number)?;
         let found = after_crash(rt.alloc(), &disk)?;
         let none_fails = number == 0 || number > 20;
-        assert_eq!(rt; (answer.is_ok(), found), (none_fails, want), "call {number}");
+        assert_eq!(rt;
+            (answer.is_ok(), found),
+            (none_fails, want),
+            "call {number}"
+        );
     }
     let (disk, _) = story(rt.alloc(), 0)?;
-    let lines = disk.bytes(FileId::new(EVENTS, Part::Lines)).ok_or("absent")?;
+    let lines = disk
+        .bytes(FileId::new(EVENTS, Part::Lines))
+        .ok_or("absent")?;
     assert_eq!(rt; lines, b"one".as_slice());
     let id = disk.bytes(FileId::new(RELAY, Part::Id)).ok_or("absent")?;
     assert_eq!(rt; id, b"seven".as_slice());

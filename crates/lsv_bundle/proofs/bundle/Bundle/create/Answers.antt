@@ -39,9 +39,6 @@ returns-in_err-make_files-clause-calls g c told =
     let s = c.args.shape in
     let old = g.D.Disk.view c.args.disk.now in
     let mid = g.D.Disk.view c.make_files.new.disk in
-    let reads = g.met.D.Disk.reads_itself told c.args.disk.now in
-    let run : Throughout (IsOneOf owner (parts_of s)) (λ image. (f : FileId) → IsOneOf owner (parts_of s) f → old.crash_states f (image f) ⊎ (image f ≡ Some [])) old mid =
-    subst (λ (ps : List Part). Throughout (IsOneOf owner ps) (λ image. (f : FileId) → IsOneOf owner ps f → old.crash_states f (image f) ⊎ (image f ≡ Some [])) old mid) c.parts.ensures (c.make_files.ensures.any_moment told) in
     files_alone owner s old mid (subst (λ (ps : List Part). CallsAtMost 0 1 (IsOneOf owner ps) old mid) c.parts.ensures (c.make_files.ensures.calls told))
 
 pub make_journal-requires : goal.make_journal-requires
@@ -78,12 +75,7 @@ returns-in_err-journal-clause-calls g c told =
     let s = c.args.shape in
     let old = g.D.Disk.view c.args.disk.now in
     let mid = g.D.Disk.view c.make_files.new.disk in
-    let reads = g.met.D.Disk.reads_itself told c.args.disk.now in
-    let run : Throughout (IsOneOf owner (parts_of s)) (λ image. (f : FileId) → IsOneOf owner (parts_of s) f → old.crash_states f (image f) ⊎ (image f ≡ Some [])) old mid =
-    subst (λ (ps : List Part). Throughout (IsOneOf owner ps) (λ image. (f : FileId) → IsOneOf owner ps f → old.crash_states f (image f) ⊎ (image f ≡ Some [])) old mid) c.parts.ensures (c.make_files.ensures.any_moment told) in
     let new = g.D.Disk.view c.make_journal.new.disk in
-    let mid_reads = g.met.D.Disk.reads_itself told c.make_files.new.disk in
-    let is_now = g.met.D.Disk.is_now told c.make_files.new.disk in
     made_calls owner s old mid new (subst (λ (ps : List Part). CallsAtMost 0 1 (IsOneOf owner ps) old mid) c.parts.ensures (c.make_files.ensures.calls told)) (c.make_journal.ensures.calls told)
 
 pub returns-clause-any_moment : goal.returns-clause-any_moment
@@ -106,12 +98,7 @@ returns-clause-calls g c told =
     let s = c.args.shape in
     let old = g.D.Disk.view c.args.disk.now in
     let mid = g.D.Disk.view c.make_files.new.disk in
-    let reads = g.met.D.Disk.reads_itself told c.args.disk.now in
-    let run : Throughout (IsOneOf owner (parts_of s)) (λ image. (f : FileId) → IsOneOf owner (parts_of s) f → old.crash_states f (image f) ⊎ (image f ≡ Some [])) old mid =
-    subst (λ (ps : List Part). Throughout (IsOneOf owner ps) (λ image. (f : FileId) → IsOneOf owner ps f → old.crash_states f (image f) ⊎ (image f ≡ Some [])) old mid) c.parts.ensures (c.make_files.ensures.any_moment told) in
     let new = g.D.Disk.view c.make_journal.new.disk in
-    let mid_reads = g.met.D.Disk.reads_itself told c.make_files.new.disk in
-    let is_now = g.met.D.Disk.is_now told c.make_files.new.disk in
     made_calls owner s old mid new (subst (λ (ps : List Part). CallsAtMost 0 1 (IsOneOf owner ps) old mid) c.parts.ensures (c.make_files.ensures.calls told)) (c.make_journal.ensures.calls told)
 
 pub returns-clause-represents : goal.returns-clause-represents

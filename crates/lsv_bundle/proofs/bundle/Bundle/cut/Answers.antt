@@ -24,9 +24,6 @@ returns-then-is_err-clause-any_moment g c told unbroken =
     let body_is : c.new-body.result ≡ cut_body c.args.lens c.args.count c.args.elapsed c.args.extra = c.new-body.ensures.is in
     let entry : Body = cut_body c.args.lens c.args.count c.args.elapsed c.args.extra in
     let is_body : IsBody entry = subst IsBody body_is c.new-body.ensures.is_body in
-    let eight : length c.args.lens ≡ 8 = is_body.eight in
-    let mid : BundleView = record { owner = seen.owner; shape = seen.shape; last = Some c.new-body.result; prepared = None; files = seen.files; is_broken = seen.is_broken; journal = c.append.new.self } in
-    let next : BundleView = with_files mid (cut_to mid.files c.args.lens) in
     let whole : seen.is_broken ≡ false = ap (λ (b : BundleView). b.is_broken) c.self.view_is ∙ c.in_ok-check_whole.ensures.whole in
     let old = g.D.Disk.view c.args.disk.now in
     let new = g.D.Disk.view c.append.new.disk in
@@ -44,9 +41,6 @@ returns-then-is_err-clause-keeps g c told unbroken =
     let body_is : c.new-body.result ≡ cut_body c.args.lens c.args.count c.args.elapsed c.args.extra = c.new-body.ensures.is in
     let entry : Body = cut_body c.args.lens c.args.count c.args.elapsed c.args.extra in
     let is_body : IsBody entry = subst IsBody body_is c.new-body.ensures.is_body in
-    let eight : length c.args.lens ≡ 8 = is_body.eight in
-    let mid : BundleView = record { owner = seen.owner; shape = seen.shape; last = Some c.new-body.result; prepared = None; files = seen.files; is_broken = seen.is_broken; journal = c.append.new.self } in
-    let next : BundleView = with_files mid (cut_to mid.files c.args.lens) in
     let whole : seen.is_broken ≡ false = ap (λ (b : BundleView). b.is_broken) c.self.view_is ∙ c.in_ok-check_whole.ensures.whole in
     let old = g.D.Disk.view c.args.disk.now in
     let new = g.D.Disk.view c.append.new.disk in
@@ -64,9 +58,6 @@ returns-clause-any_moment g c told unbroken =
     let body_is : c.new-body.result ≡ cut_body c.args.lens c.args.count c.args.elapsed c.args.extra = c.new-body.ensures.is in
     let entry : Body = cut_body c.args.lens c.args.count c.args.elapsed c.args.extra in
     let is_body : IsBody entry = subst IsBody body_is c.new-body.ensures.is_body in
-    let eight : length c.args.lens ≡ 8 = is_body.eight in
-    let mid : BundleView = record { owner = seen.owner; shape = seen.shape; last = Some c.new-body.result; prepared = None; files = seen.files; is_broken = seen.is_broken; journal = c.append.new.self } in
-    let next : BundleView = with_files mid (cut_to mid.files c.args.lens) in
     let whole : seen.is_broken ≡ false = ap (λ (b : BundleView). b.is_broken) c.self.view_is ∙ c.in_ok-check_whole.ensures.whole in
     let old = g.D.Disk.view c.args.disk.now in
     let new = g.D.Disk.view c.append.new.disk in
@@ -84,9 +75,6 @@ returns-clause-keeps g c told unbroken =
     let body_is : c.new-body.result ≡ cut_body c.args.lens c.args.count c.args.elapsed c.args.extra = c.new-body.ensures.is in
     let entry : Body = cut_body c.args.lens c.args.count c.args.elapsed c.args.extra in
     let is_body : IsBody entry = subst IsBody body_is c.new-body.ensures.is_body in
-    let eight : length c.args.lens ≡ 8 = is_body.eight in
-    let mid : BundleView = record { owner = seen.owner; shape = seen.shape; last = Some c.new-body.result; prepared = None; files = seen.files; is_broken = seen.is_broken; journal = c.append.new.self } in
-    let next : BundleView = with_files mid (cut_to mid.files c.args.lens) in
     let whole : seen.is_broken ≡ false = ap (λ (b : BundleView). b.is_broken) c.self.view_is ∙ c.in_ok-check_whole.ensures.whole in
     let old = g.D.Disk.view c.args.disk.now in
     let new = g.D.Disk.view c.append.new.disk in

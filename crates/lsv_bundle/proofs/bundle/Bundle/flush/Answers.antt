@@ -22,15 +22,9 @@ returns-clause-calls g c told =
     let one = g.D.Disk.view c.write_data.new.disk in
     let two = g.D.Disk.view c.write_entry.new.disk in
     let same : c.write_data.new.self ≡ now = c.in_ok-write_data.ensures.same in
-    let unbroken : now.is_broken ≡ false = ap (λ (b : BundleView). b.is_broken) (sym same) ∙ c.in_ok-write_data.ensures.whole in
-    let body : Body = next_body now c.args.kind c.args.count c.args.elapsed c.args.extra in
-    let first = c.write_data.ensures.any_moment told unbroken in
-    let below = c.write_data.ensures.below told unbroken in
-    let second : Throughout (λ f. f ≡ journal_of now.owner) (KeepsCommitted now one) one two = subst (λ (b : BundleView). Throughout (λ f. f ≡ journal_of b.owner) (KeepsCommitted b one) one two) same (c.write_entry.ensures.any_moment told c.in_ok-write_data.ensures.whole) in
     let new = g.D.Disk.view c.select_entry.new.disk in
     let last : BundleView = c.write_entry.new.self in
     let kept : IsKept now last = subst (λ (b : BundleView). IsKept b last) same c.in_ok-write_entry.ensures.value.kept in
-    let prepared : last.prepared ≡ Some body = subst (λ (b : BundleView). last.prepared ≡ Some (next_body b c.args.kind c.args.count c.args.elapsed c.args.extra)) same c.in_ok-write_entry.ensures.value.prepared_is in
     three_calls now old one two new (c.write_data.ensures.calls told) (subst (λ (b : BundleView). CallsAtMost 1 1 (λ f. f ≡ journal_of b.owner) one two) same (c.write_entry.ensures.calls told)) (subst (λ (b : BundleView). CallsAtMost 1 1 (λ f. f ≡ journal_of b.owner) two new) (kept_is now last kept) (c.select_entry.ensures.calls told))
 
 pub returns-in_err-write_entry-clause-any_moment : goal.returns-in_err-write_entry-clause-any_moment
@@ -82,11 +76,6 @@ returns-in_err-write_entry-clause-calls g c told =
     let one = g.D.Disk.view c.write_data.new.disk in
     let two = g.D.Disk.view c.write_entry.new.disk in
     let same : c.write_data.new.self ≡ now = c.in_ok-write_data.ensures.same in
-    let unbroken : now.is_broken ≡ false = ap (λ (b : BundleView). b.is_broken) (sym same) ∙ c.in_ok-write_data.ensures.whole in
-    let body : Body = next_body now c.args.kind c.args.count c.args.elapsed c.args.extra in
-    let first = c.write_data.ensures.any_moment told unbroken in
-    let below = c.write_data.ensures.below told unbroken in
-    let second : Throughout (λ f. f ≡ journal_of now.owner) (KeepsCommitted now one) one two = subst (λ (b : BundleView). Throughout (λ f. f ≡ journal_of b.owner) (KeepsCommitted b one) one two) same (c.write_entry.ensures.any_moment told c.in_ok-write_data.ensures.whole) in
     two_calls now old one two (c.write_data.ensures.calls told) (subst (λ (b : BundleView). CallsAtMost 1 1 (λ f. f ≡ journal_of b.owner) one two) same (c.write_entry.ensures.calls told))
 
 pub returns-clause-any_moment : goal.returns-clause-any_moment
@@ -156,15 +145,9 @@ returns-clause-synced g c told =
     let one = g.D.Disk.view c.write_data.new.disk in
     let two = g.D.Disk.view c.write_entry.new.disk in
     let same : c.write_data.new.self ≡ now = c.in_ok-write_data.ensures.same in
-    let unbroken : now.is_broken ≡ false = ap (λ (b : BundleView). b.is_broken) (sym same) ∙ c.in_ok-write_data.ensures.whole in
-    let body : Body = next_body now c.args.kind c.args.count c.args.elapsed c.args.extra in
-    let first = c.write_data.ensures.any_moment told unbroken in
-    let below = c.write_data.ensures.below told unbroken in
-    let second : Throughout (λ f. f ≡ journal_of now.owner) (KeepsCommitted now one) one two = subst (λ (b : BundleView). Throughout (λ f. f ≡ journal_of b.owner) (KeepsCommitted b one) one two) same (c.write_entry.ensures.any_moment told c.in_ok-write_data.ensures.whole) in
     let new = g.D.Disk.view c.select_entry.new.disk in
     let last : BundleView = c.write_entry.new.self in
     let kept : IsKept now last = subst (λ (b : BundleView). IsKept b last) same c.in_ok-write_entry.ensures.value.kept in
-    let prepared : last.prepared ≡ Some body = subst (λ (b : BundleView). last.prepared ≡ Some (next_body b c.args.kind c.args.count c.args.elapsed c.args.extra)) same c.in_ok-write_entry.ensures.value.prepared_is in
     on_ok_map c.select_entry.result _ _ (λ _. staged_stays now old one two new (subst (λ (b : BundleView). CallsAtMost 1 1 (λ f. f ≡ journal_of b.owner) one two) same (c.write_entry.ensures.calls told)) (subst (λ (b : BundleView). CallsAtMost 1 1 (λ f. f ≡ journal_of b.owner) two new) (kept_is now last kept) (c.select_entry.ensures.calls told)) (c.in_ok-write_data.ensures.synced told)) (c.select_entry.ensures.synced told)
 
 pub returns-clause-committed : goal.returns-clause-committed

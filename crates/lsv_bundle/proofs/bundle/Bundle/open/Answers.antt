@@ -34,8 +34,6 @@ returns-in_err-sync_present-clause-reads g c told =
     let two = g.D.Disk.view c.sync_present.new.disk in
     let run = c.open_journal.ensures.any_moment told in
     let synced = c.sync_present.ensures.unchanged told in
-    let is_now = g.met.D.Disk.is_now told c.open_journal.new.disk in
-    let calls : CallsAtMost 0 1 (IsOneOf owner (parts_of s)) one two = subst (λ (ps : List Part). CallsAtMost 0 1 (IsOneOf owner ps) one two) c.parts.ensures (c.sync_present.ensures.calls told) in
     open_reads owner s old one two run synced (c.open_journal.ensures.reads told)
 
 pub returns-in_err-sync_present-clause-any_moment : goal.returns-in_err-sync_present-clause-any_moment
@@ -48,25 +46,21 @@ returns-in_err-sync_present-clause-any_moment g c told =
     let run = c.open_journal.ensures.any_moment told in
     let synced = c.sync_present.ensures.unchanged told in
     let is_now = g.met.D.Disk.is_now told c.open_journal.new.disk in
-    let calls : CallsAtMost 0 1 (IsOneOf owner (parts_of s)) one two = subst (λ (ps : List Part). CallsAtMost 0 1 (IsOneOf owner ps) one two) c.parts.ensures (c.sync_present.ensures.calls told) in
     open_run owner s old one two run synced is_now
 
 pub returns-in_err-sync_present-clause-calls : goal.returns-in_err-sync_present-clause-calls
 returns-in_err-sync_present-clause-calls g c told = record {
   at_most =
-        let owner = c.args.owner in
-        let s = c.args.shape in
-        let old = g.D.Disk.view c.args.disk.now in
-        let one = g.D.Disk.view c.open_journal.new.disk in
-        let two = g.D.Disk.view c.sync_present.new.disk in
-        let run = c.open_journal.ensures.any_moment told in
-        let synced = c.sync_present.ensures.unchanged told in
-        let is_now = g.met.D.Disk.is_now told c.open_journal.new.disk in
-        let calls : CallsAtMost 0 1 (IsOneOf owner (parts_of s)) one two = subst (λ (ps : List Part). CallsAtMost 0 1 (IsOneOf owner ps) one two) c.parts.ensures (c.sync_present.ensures.calls told) in
-        opened_calls owner s old one two (c.open_journal.ensures.calls told).at_most calls;
+      let owner = c.args.owner in
+      let s = c.args.shape in
+      let old = g.D.Disk.view c.args.disk.now in
+      let one = g.D.Disk.view c.open_journal.new.disk in
+      let two = g.D.Disk.view c.sync_present.new.disk in
+      let calls : CallsAtMost 0 1 (IsOneOf owner (parts_of s)) one two = subst (λ (ps : List Part). CallsAtMost 0 1 (IsOneOf owner ps) one two) c.parts.ensures (c.sync_present.ensures.calls told) in
+      opened_calls owner s old one two (c.open_journal.ensures.calls told).at_most calls;
   unwritten = λ has f.
-        files_unwritten c.args.owner c.parts.result.now (g.D.Disk.view c.open_journal.new.disk) (g.D.Disk.view c.sync_present.new.disk) (c.sync_present.ensures.calls told) f
-        ∙ (c.open_journal.ensures.calls told).unwritten has f;
+      files_unwritten c.args.owner c.parts.result.now (g.D.Disk.view c.open_journal.new.disk) (g.D.Disk.view c.sync_present.new.disk) (c.sync_present.ensures.calls told) f
+      ∙ (c.open_journal.ensures.calls told).unwritten has f;
 }
 
 pub returns-in_err-check_lengths-clause-reads : goal.returns-in_err-check_lengths-clause-reads
@@ -78,8 +72,6 @@ returns-in_err-check_lengths-clause-reads g c told =
     let two = g.D.Disk.view c.sync_present.new.disk in
     let run = c.open_journal.ensures.any_moment told in
     let synced = c.sync_present.ensures.unchanged told in
-    let is_now = g.met.D.Disk.is_now told c.open_journal.new.disk in
-    let calls : CallsAtMost 0 1 (IsOneOf owner (parts_of s)) one two = subst (λ (ps : List Part). CallsAtMost 0 1 (IsOneOf owner ps) one two) c.parts.ensures (c.sync_present.ensures.calls told) in
     let new = g.D.Disk.view c.check_lengths.new.disk in
     let unchanged = unchanged_trans one two new synced (c.check_lengths.ensures.reads told).unchanged in
     open_reads owner s old one new run unchanged (c.open_journal.ensures.reads told)
@@ -94,7 +86,6 @@ returns-in_err-check_lengths-clause-any_moment g c told =
     let run = c.open_journal.ensures.any_moment told in
     let synced = c.sync_present.ensures.unchanged told in
     let is_now = g.met.D.Disk.is_now told c.open_journal.new.disk in
-    let calls : CallsAtMost 0 1 (IsOneOf owner (parts_of s)) one two = subst (λ (ps : List Part). CallsAtMost 0 1 (IsOneOf owner ps) one two) c.parts.ensures (c.sync_present.ensures.calls told) in
     let new = g.D.Disk.view c.check_lengths.new.disk in
     let unchanged = unchanged_trans one two new synced (c.check_lengths.ensures.reads told).unchanged in
     open_run owner s old one new run unchanged is_now
@@ -102,22 +93,18 @@ returns-in_err-check_lengths-clause-any_moment g c told =
 pub returns-in_err-check_lengths-clause-calls : goal.returns-in_err-check_lengths-clause-calls
 returns-in_err-check_lengths-clause-calls g c told = record {
   at_most =
-        let owner = c.args.owner in
-        let s = c.args.shape in
-        let old = g.D.Disk.view c.args.disk.now in
-        let one = g.D.Disk.view c.open_journal.new.disk in
-        let two = g.D.Disk.view c.sync_present.new.disk in
-        let run = c.open_journal.ensures.any_moment told in
-        let synced = c.sync_present.ensures.unchanged told in
-        let is_now = g.met.D.Disk.is_now told c.open_journal.new.disk in
-        let calls : CallsAtMost 0 1 (IsOneOf owner (parts_of s)) one two = subst (λ (ps : List Part). CallsAtMost 0 1 (IsOneOf owner ps) one two) c.parts.ensures (c.sync_present.ensures.calls told) in
-        let new = g.D.Disk.view c.check_lengths.new.disk in
-        let unchanged = unchanged_trans one two new synced (c.check_lengths.ensures.reads told).unchanged in
-        opened_calls owner s old one new (c.open_journal.ensures.calls told).at_most (calls_trans 0 1 0 0 (IsOneOf owner (parts_of s)) one two new calls (uncounted_at_most 0 0 (IsOneOf owner (parts_of s)) two new (c.check_lengths.ensures.reads told).counts));
+      let owner = c.args.owner in
+      let s = c.args.shape in
+      let old = g.D.Disk.view c.args.disk.now in
+      let one = g.D.Disk.view c.open_journal.new.disk in
+      let two = g.D.Disk.view c.sync_present.new.disk in
+      let calls : CallsAtMost 0 1 (IsOneOf owner (parts_of s)) one two = subst (λ (ps : List Part). CallsAtMost 0 1 (IsOneOf owner ps) one two) c.parts.ensures (c.sync_present.ensures.calls told) in
+      let new = g.D.Disk.view c.check_lengths.new.disk in
+      opened_calls owner s old one new (c.open_journal.ensures.calls told).at_most (calls_trans 0 1 0 0 (IsOneOf owner (parts_of s)) one two new calls (uncounted_at_most 0 0 (IsOneOf owner (parts_of s)) two new (c.check_lengths.ensures.reads told).counts));
   unwritten = λ has f.
-        (c.check_lengths.ensures.reads told).counts.writes f
-        ∙ files_unwritten c.args.owner c.parts.result.now (g.D.Disk.view c.open_journal.new.disk) (g.D.Disk.view c.sync_present.new.disk) (c.sync_present.ensures.calls told) f
-        ∙ (c.open_journal.ensures.calls told).unwritten has f;
+      (c.check_lengths.ensures.reads told).counts.writes f
+      ∙ files_unwritten c.args.owner c.parts.result.now (g.D.Disk.view c.open_journal.new.disk) (g.D.Disk.view c.sync_present.new.disk) (c.sync_present.ensures.calls told) f
+      ∙ (c.open_journal.ensures.calls told).unwritten has f;
 }
 
 pub returns-in_err-check_lengths-clause-damaged : goal.returns-in_err-check_lengths-clause-damaged
@@ -129,8 +116,6 @@ returns-in_err-check_lengths-clause-damaged g c told part is =
     let two = g.D.Disk.view c.sync_present.new.disk in
     let run = c.open_journal.ensures.any_moment told in
     let synced = c.sync_present.ensures.unchanged told in
-    let is_now = g.met.D.Disk.is_now told c.open_journal.new.disk in
-    let calls : CallsAtMost 0 1 (IsOneOf owner (parts_of s)) one two = subst (λ (ps : List Part). CallsAtMost 0 1 (IsOneOf owner ps) one two) c.parts.ensures (c.sync_present.ensures.calls told) in
     let same : c.in_err-check_lengths.field-0.0 ≡ Damaged part = same_fault c.from_residual-in_err-check_lengths.result c.in_err-check_lengths.field-0.0 (Damaged part) c.from_residual-in_err-check_lengths.ensures.1 is in
     let short : IsFirstShort owner two.reads c.in-Some.body.lens (parts_of s) part = subst (λ (ps : List Part). IsFirstShort owner two.reads c.in-Some.body.lens ps part) c.parts-2.ensures (c.in_err-check_lengths.ensures.damaged told part (ap Err same)) in
     record {
@@ -144,7 +129,6 @@ returns-in_err-check_lengths-clause-cause g c =
     let owner = c.args.owner in
     let s = c.args.shape in
     let old = g.D.Disk.view c.args.disk.now in
-    let one = g.D.Disk.view c.open_journal.new.disk in
     let two = g.D.Disk.view c.sync_present.new.disk in
     let new = g.D.Disk.view c.check_lengths.new.disk in
     cause_widened (IsOneOf owner c.parts-2.result.now) (IsOwnFile owner s) _ _ old new
@@ -166,7 +150,6 @@ returns-clause-any_moment g c told =
     let run = c.open_journal.ensures.any_moment told in
     let synced = c.sync_present.ensures.unchanged told in
     let is_now = g.met.D.Disk.is_now told c.open_journal.new.disk in
-    let calls : CallsAtMost 0 1 (IsOneOf owner (parts_of s)) one two = subst (λ (ps : List Part). CallsAtMost 0 1 (IsOneOf owner ps) one two) c.parts.ensures (c.sync_present.ensures.calls told) in
     let new = g.D.Disk.view c.check_lengths.new.disk in
     let unchanged = unchanged_trans one two new synced (c.check_lengths.ensures.reads told).unchanged in
     open_run owner s old one new run unchanged is_now
@@ -174,35 +157,27 @@ returns-clause-any_moment g c told =
 pub returns-clause-calls : goal.returns-clause-calls
 returns-clause-calls g c told = record {
   at_most =
-        let owner = c.args.owner in
-        let s = c.args.shape in
-        let old = g.D.Disk.view c.args.disk.now in
-        let one = g.D.Disk.view c.open_journal.new.disk in
-        let two = g.D.Disk.view c.sync_present.new.disk in
-        let run = c.open_journal.ensures.any_moment told in
-        let synced = c.sync_present.ensures.unchanged told in
-        let is_now = g.met.D.Disk.is_now told c.open_journal.new.disk in
-        let calls : CallsAtMost 0 1 (IsOneOf owner (parts_of s)) one two = subst (λ (ps : List Part). CallsAtMost 0 1 (IsOneOf owner ps) one two) c.parts.ensures (c.sync_present.ensures.calls told) in
-        let new = g.D.Disk.view c.check_lengths.new.disk in
-        let unchanged = unchanged_trans one two new synced (c.check_lengths.ensures.reads told).unchanged in
-        opened_calls owner s old one new (c.open_journal.ensures.calls told).at_most (calls_trans 0 1 0 0 (IsOneOf owner (parts_of s)) one two new calls (uncounted_at_most 0 0 (IsOneOf owner (parts_of s)) two new (c.check_lengths.ensures.reads told).counts));
+      let owner = c.args.owner in
+      let s = c.args.shape in
+      let old = g.D.Disk.view c.args.disk.now in
+      let one = g.D.Disk.view c.open_journal.new.disk in
+      let two = g.D.Disk.view c.sync_present.new.disk in
+      let calls : CallsAtMost 0 1 (IsOneOf owner (parts_of s)) one two = subst (λ (ps : List Part). CallsAtMost 0 1 (IsOneOf owner ps) one two) c.parts.ensures (c.sync_present.ensures.calls told) in
+      let new = g.D.Disk.view c.check_lengths.new.disk in
+      opened_calls owner s old one new (c.open_journal.ensures.calls told).at_most (calls_trans 0 1 0 0 (IsOneOf owner (parts_of s)) one two new calls (uncounted_at_most 0 0 (IsOneOf owner (parts_of s)) two new (c.check_lengths.ensures.reads told).counts));
   unwritten = λ has f.
-        (c.check_lengths.ensures.reads told).counts.writes f
-        ∙ files_unwritten c.args.owner c.parts.result.now (g.D.Disk.view c.open_journal.new.disk) (g.D.Disk.view c.sync_present.new.disk) (c.sync_present.ensures.calls told) f
-        ∙ (c.open_journal.ensures.calls told).unwritten has f;
+      (c.check_lengths.ensures.reads told).counts.writes f
+      ∙ files_unwritten c.args.owner c.parts.result.now (g.D.Disk.view c.open_journal.new.disk) (g.D.Disk.view c.sync_present.new.disk) (c.sync_present.ensures.calls told) f
+      ∙ (c.open_journal.ensures.calls told).unwritten has f;
 }
 
 pub returns-clause-represents : goal.returns-clause-represents
 returns-clause-represents g c told =
     let owner = c.args.owner in
     let s = c.args.shape in
-    let old = g.D.Disk.view c.args.disk.now in
     let one = g.D.Disk.view c.open_journal.new.disk in
     let two = g.D.Disk.view c.sync_present.new.disk in
-    let run = c.open_journal.ensures.any_moment told in
     let synced = c.sync_present.ensures.unchanged told in
-    let is_now = g.met.D.Disk.is_now told c.open_journal.new.disk in
-    let calls : CallsAtMost 0 1 (IsOneOf owner (parts_of s)) one two = subst (λ (ps : List Part). CallsAtMost 0 1 (IsOneOf owner ps) one two) c.parts.ensures (c.sync_present.ensures.calls told) in
     let new = g.D.Disk.view c.check_lengths.new.disk in
     let unchanged = unchanged_trans one two new synced (c.check_lengths.ensures.reads told).unchanged in
     let view : BundleView = record { owner = owner; shape = s; last = Some c.in-Some.body; prepared = None; files = c.in_ok-files.files.items; is_broken = false; journal = c.in-Some.journal } in
@@ -237,8 +212,6 @@ returns-clause-durable g c told image is =
     let two = g.D.Disk.view c.sync_present.new.disk in
     let run = c.open_journal.ensures.any_moment told in
     let synced = c.sync_present.ensures.unchanged told in
-    let is_now = g.met.D.Disk.is_now told c.open_journal.new.disk in
-    let calls : CallsAtMost 0 1 (IsOneOf owner (parts_of s)) one two = subst (λ (ps : List Part). CallsAtMost 0 1 (IsOneOf owner ps) one two) c.parts.ensures (c.sync_present.ensures.calls told) in
     let new = g.D.Disk.view c.check_lengths.new.disk in
     let unchanged = unchanged_trans one two new synced (c.check_lengths.ensures.reads told).unchanged in
     let view : BundleView = record { owner = owner; shape = s; last = Some c.in-Some.body; prepared = None; files = c.in_ok-files.files.items; is_broken = false; journal = c.in-Some.journal } in

@@ -19,8 +19,6 @@ pub returns-then-is_err-clause-any_moment : goal.returns-then-is_err-clause-any_
 returns-then-is_err-clause-any_moment g c told unbroken body is =
     let seen : BundleView = record { owner = c.self.inside.owner; shape = c.self.inside.shape; last = c.self.inside.last; prepared = c.self.inside.prepared; files = c.self.inside.files.items; is_broken = c.self.inside.is_broken; journal = c.self.inside.journal } in
     let inv : WellFormed seen = c.self.invariant in
-    let mid : BundleView = record { owner = seen.owner; shape = seen.shape; last = seen.prepared; prepared = None; files = seen.files; is_broken = seen.is_broken; journal = c.select.new.self } in
-    let next : BundleView = with_files mid (map commit_file mid.files) in
     let whole : seen.is_broken ≡ false = ap (λ (b : BundleView). b.is_broken) c.self.view_is ∙ c.in_ok-check_whole.ensures.whole in
     let old = g.D.Disk.view c.args.disk.now in
     let new = g.D.Disk.view c.select.new.disk in
@@ -41,8 +39,6 @@ pub returns-then-is_err-clause-keeps : goal.returns-then-is_err-clause-keeps
 returns-then-is_err-clause-keeps g c told unbroken =
     let seen : BundleView = record { owner = c.self.inside.owner; shape = c.self.inside.shape; last = c.self.inside.last; prepared = c.self.inside.prepared; files = c.self.inside.files.items; is_broken = c.self.inside.is_broken; journal = c.self.inside.journal } in
     let inv : WellFormed seen = c.self.invariant in
-    let mid : BundleView = record { owner = seen.owner; shape = seen.shape; last = seen.prepared; prepared = None; files = seen.files; is_broken = seen.is_broken; journal = c.select.new.self } in
-    let next : BundleView = with_files mid (map commit_file mid.files) in
     let whole : seen.is_broken ≡ false = ap (λ (b : BundleView). b.is_broken) c.self.view_is ∙ c.in_ok-check_whole.ensures.whole in
     let old = g.D.Disk.view c.args.disk.now in
     let new = g.D.Disk.view c.select.new.disk in
@@ -60,8 +56,6 @@ pub returns-clause-any_moment : goal.returns-clause-any_moment
 returns-clause-any_moment g c told unbroken body is =
     let seen : BundleView = record { owner = c.self.inside.owner; shape = c.self.inside.shape; last = c.self.inside.last; prepared = c.self.inside.prepared; files = c.self.inside.files.items; is_broken = c.self.inside.is_broken; journal = c.self.inside.journal } in
     let inv : WellFormed seen = c.self.invariant in
-    let mid : BundleView = record { owner = seen.owner; shape = seen.shape; last = seen.prepared; prepared = None; files = seen.files; is_broken = seen.is_broken; journal = c.select.new.self } in
-    let next : BundleView = with_files mid (map commit_file mid.files) in
     let whole : seen.is_broken ≡ false = ap (λ (b : BundleView). b.is_broken) c.self.view_is ∙ c.in_ok-check_whole.ensures.whole in
     let old = g.D.Disk.view c.args.disk.now in
     let new = g.D.Disk.view c.select.new.disk in
@@ -82,8 +76,6 @@ pub returns-clause-keeps : goal.returns-clause-keeps
 returns-clause-keeps g c told unbroken =
     let seen : BundleView = record { owner = c.self.inside.owner; shape = c.self.inside.shape; last = c.self.inside.last; prepared = c.self.inside.prepared; files = c.self.inside.files.items; is_broken = c.self.inside.is_broken; journal = c.self.inside.journal } in
     let inv : WellFormed seen = c.self.invariant in
-    let mid : BundleView = record { owner = seen.owner; shape = seen.shape; last = seen.prepared; prepared = None; files = seen.files; is_broken = seen.is_broken; journal = c.select.new.self } in
-    let next : BundleView = with_files mid (map commit_file mid.files) in
     let whole : seen.is_broken ≡ false = ap (λ (b : BundleView). b.is_broken) c.self.view_is ∙ c.in_ok-check_whole.ensures.whole in
     let old = g.D.Disk.view c.args.disk.now in
     let new = g.D.Disk.view c.select.new.disk in
@@ -100,7 +92,6 @@ returns-clause-keeps g c told unbroken =
 pub returns-clause-value : goal.returns-clause-value
 returns-clause-value g c body is =
     let seen : BundleView = record { owner = c.self.inside.owner; shape = c.self.inside.shape; last = c.self.inside.last; prepared = c.self.inside.prepared; files = c.self.inside.files.items; is_broken = c.self.inside.is_broken; journal = c.self.inside.journal } in
-    let inv : WellFormed seen = c.self.invariant in
     let mid : BundleView = record { owner = seen.owner; shape = seen.shape; last = seen.prepared; prepared = None; files = seen.files; is_broken = seen.is_broken; journal = c.select.new.self } in
     let next : BundleView = with_files mid (map commit_file mid.files) in
     let whole : seen.is_broken ≡ false = ap (λ (b : BundleView). b.is_broken) c.self.view_is ∙ c.in_ok-check_whole.ensures.whole in

@@ -47,15 +47,15 @@ returns-in_err-found-clause-any_moment g c told =
 pub returns-in_err-found-clause-calls : goal.returns-in_err-found-clause-calls
 returns-in_err-found-clause-calls g c told = record {
   at_most =
-        opening_calls c.args.f (g.D.Disk.view c.args.disk.now) (g.D.Disk.view c.is_absent.new.disk) (g.D.Disk.view c.sync_both.new.disk) (g.D.Disk.view c.settle.new.disk)
-        (c.is_absent.ensures.reads told).counts (c.sync_both.ensures.calls told c.requires.slots) c.requires.slots (c.settle.ensures.calls told);
+      opening_calls c.args.f (g.D.Disk.view c.args.disk.now) (g.D.Disk.view c.is_absent.new.disk) (g.D.Disk.view c.sync_both.new.disk) (g.D.Disk.view c.settle.new.disk)
+      (c.is_absent.ensures.reads told).counts (c.sync_both.ensures.calls told c.requires.slots) c.requires.slots (c.settle.ensures.calls told);
   unwritten = λ has f.
-        let old = g.D.Disk.view c.args.disk.now in
-        let mid = g.D.Disk.view c.sync_both.new.disk in
-        let unchanged = unchanged_trans old (g.D.Disk.view c.is_absent.new.disk) mid (c.is_absent.ensures.reads told).unchanged (c.sync_both.ensures.unchanged told) in
-        opening_unwritten c.args.f (g.D.Disk.view c.args.disk.now) (g.D.Disk.view c.is_absent.new.disk) (g.D.Disk.view c.sync_both.new.disk) (g.D.Disk.view c.settle.new.disk)
-        (c.is_absent.ensures.reads told).counts (c.sync_both.ensures.calls told c.requires.slots)
-        f (c.settle.ensures.unwritten told (entry_stays g.row.N c.args.f old mid unchanged has) f);
+      let old = g.D.Disk.view c.args.disk.now in
+      let mid = g.D.Disk.view c.sync_both.new.disk in
+      let unchanged = unchanged_trans old (g.D.Disk.view c.is_absent.new.disk) mid (c.is_absent.ensures.reads told).unchanged (c.sync_both.ensures.unchanged told) in
+      opening_unwritten c.args.f (g.D.Disk.view c.args.disk.now) (g.D.Disk.view c.is_absent.new.disk) (g.D.Disk.view c.sync_both.new.disk) (g.D.Disk.view c.settle.new.disk)
+      (c.is_absent.ensures.reads told).counts (c.sync_both.ensures.calls told c.requires.slots)
+      f (c.settle.ensures.unwritten told (entry_stays g.row.N c.args.f old mid unchanged has) f);
 }
 
 pub returns-clause-last : goal.returns-clause-last
@@ -119,24 +119,24 @@ returns-clause-may_be_made g c told none =
 pub returns-clause-calls : goal.returns-clause-calls
 returns-clause-calls g c told = record {
   at_most =
-        opening_calls c.args.f (g.D.Disk.view c.args.disk.now) (g.D.Disk.view c.is_absent.new.disk) (g.D.Disk.view c.sync_both.new.disk) (g.D.Disk.view c.settle.new.disk)
-        (c.is_absent.ensures.reads told).counts (c.sync_both.ensures.calls told c.requires.slots) c.requires.slots (c.settle.ensures.calls told);
+      opening_calls c.args.f (g.D.Disk.view c.args.disk.now) (g.D.Disk.view c.is_absent.new.disk) (g.D.Disk.view c.sync_both.new.disk) (g.D.Disk.view c.settle.new.disk)
+      (c.is_absent.ensures.reads told).counts (c.sync_both.ensures.calls told c.requires.slots) c.requires.slots (c.settle.ensures.calls told);
   unwritten = λ has f.
-        let old = g.D.Disk.view c.args.disk.now in
-        let mid = g.D.Disk.view c.sync_both.new.disk in
-        let unchanged = unchanged_trans old (g.D.Disk.view c.is_absent.new.disk) mid (c.is_absent.ensures.reads told).unchanged (c.sync_both.ensures.unchanged told) in
-        opening_unwritten c.args.f (g.D.Disk.view c.args.disk.now) (g.D.Disk.view c.is_absent.new.disk) (g.D.Disk.view c.sync_both.new.disk) (g.D.Disk.view c.settle.new.disk)
-        (c.is_absent.ensures.reads told).counts (c.sync_both.ensures.calls told c.requires.slots)
-        f (c.settle.ensures.unwritten told (entry_stays g.row.N c.args.f old mid unchanged has) f);
+      let old = g.D.Disk.view c.args.disk.now in
+      let mid = g.D.Disk.view c.sync_both.new.disk in
+      let unchanged = unchanged_trans old (g.D.Disk.view c.is_absent.new.disk) mid (c.is_absent.ensures.reads told).unchanged (c.sync_both.ensures.unchanged told) in
+      opening_unwritten c.args.f (g.D.Disk.view c.args.disk.now) (g.D.Disk.view c.is_absent.new.disk) (g.D.Disk.view c.sync_both.new.disk) (g.D.Disk.view c.settle.new.disk)
+      (c.is_absent.ensures.reads told).counts (c.sync_both.ensures.calls told c.requires.slots)
+      f (c.settle.ensures.unwritten told (entry_stays g.row.N c.args.f old mid unchanged has) f);
 }
 
 pub returns-in_err-sync_both-clause-calls : goal.returns-in_err-sync_both-clause-calls
 returns-in_err-sync_both-clause-calls g c told = record {
   at_most =
-        syncing_calls c.args.f (g.D.Disk.view c.args.disk.now) (g.D.Disk.view c.is_absent.new.disk) (g.D.Disk.view c.sync_both.new.disk)
-        (c.is_absent.ensures.reads told).counts (c.sync_both.ensures.calls told c.requires.slots);
+      syncing_calls c.args.f (g.D.Disk.view c.args.disk.now) (g.D.Disk.view c.is_absent.new.disk) (g.D.Disk.view c.sync_both.new.disk)
+      (c.is_absent.ensures.reads told).counts (c.sync_both.ensures.calls told c.requires.slots);
   unwritten = λ has f.
-        let new = g.D.Disk.view c.sync_both.new.disk in
-        opening_unwritten c.args.f (g.D.Disk.view c.args.disk.now) (g.D.Disk.view c.is_absent.new.disk) new new
-        (c.is_absent.ensures.reads told).counts (c.sync_both.ensures.calls told c.requires.slots) f refl;
+      let new = g.D.Disk.view c.sync_both.new.disk in
+      opening_unwritten c.args.f (g.D.Disk.view c.args.disk.now) (g.D.Disk.view c.is_absent.new.disk) new new
+      (c.is_absent.ensures.reads told).counts (c.sync_both.ensures.calls told c.requires.slots) f refl;
 }

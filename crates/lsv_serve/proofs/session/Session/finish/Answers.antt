@@ -19,11 +19,11 @@ pub returns-in-Ok-clause-step : goal.returns-in-Ok-clause-step
 returns-in-Ok-clause-step g c = λ old at ready.
     let disk = g.D.Disk.view c.args.disk.now in
     steps-stored _ _ _ disk _ (log_is_there disk.reads) (λ _. refl) old _ _ _ c.args.exit.now _ c.in-Running.staged c.in-Ok.elapsed
-    (sym at ∙ c.in-Running.is) (c.as_slice.ensures ∙ c.in_ok-text.ensures) c.in-Ok.ensures.elapsed ready c.in-Ok.ensures.stored c.in-Ok.ensures.head c.in-Ok.ensures.frame.elsewhere refl c.in_ok-put_answer-in-Ok.ensures
+    (sym at ∙ c.in-Running.is) (c.as_slice.ensures ∙ c.in_ok-text.ensures) c.in-Ok.ensures.elapsed ready c.in-Ok.ensures.stored c.in-Ok.ensures.frame.head c.in-Ok.ensures.frame.touches.elsewhere refl c.in_ok-put_answer-in-Ok.ensures
 
 pub returns-clause-step : goal.returns-clause-step
 returns-clause-step g c =
     let disk = g.D.Disk.view c.args.disk.now in
     on_ok_weaker c.refuse-in-Err.result (λ r old at ready.
     steps-not_stored _ _ _ disk _ (log_is_there disk.reads) (λ _. refl) old _ _ _ _ c.in-Running.staged
-    (sym at ∙ c.in-Running.is) c.in-Err.ensures.cause c.in-Err.ensures.frame.elsewhere r) c.refuse-in-Err.ensures
+    (sym at ∙ c.in-Running.is) c.in-Err.ensures.cause c.in-Err.ensures.frame.touches.elsewhere r) c.refuse-in-Err.ensures
