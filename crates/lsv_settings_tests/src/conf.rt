@@ -1,0 +1,332 @@
+//! The settings file: what it sets, what it passes over, and the first line that is refused.
+
+use lsv_base::Bytes;
+use lsv_conf::{Conf, ConfFault, Kind, read_conf};
+use std::alloc::Global;
+use std::process::Abort;
+use std::str;
+use std::test::Fail;
+
+/// A text as it is printed.
+fn text_of(bytes: &Bytes) -> Result<&str, Fail> {
+    Ok(str::from_utf8(bytes.as_slice()).ok().ok_or("no text")?)
+}
+
+/// The settings that aren't the defaults.
+fn changes(alloc: Global, conf: &Conf) -> Result<String, Fail> {
+    let mut text = String::new(alloc);
+    let listen = text_of(&conf.listen)?;
+    if listen != "*:30343" {
+        write_setting(&mut text, "listen", listen)?;
+    }
+    if let Some(host) = &conf.relay_host {
+        write_setting(&mut text, "relay", text_of(host)?)?;
+    }
+    if conf.store_first {
+        text.push_str("store_first;")?;
+    }
+    let dir = text_of(&conf.iolog_dir)?;
+    if dir != "/var/log/sudo-io" {
+        write_setting(&mut text, "dir", dir)?;
+    }
+    if !conf.log_passwords {
+        text.push_str("no passwords;")?;
+    }
+    if conf.format == Kind::Json {
+        text.push_str("json;")?;
+    }
+    if conf.log_exit {
+        text.push_str("exits;")?;
+    }
+    let path = text_of(&conf.path)?;
+    if path != "/var/log/sudo.log" {
+        write_setting(&mut text, "path", path)?;
+    }
+    write_lists(alloc, &mut text, conf)?;
+    Ok(text)
+}
+
+fn write_setting(text: &mut String, name: &str, value: &str) -> Result<(), Fail> {
+    text.push_str(name)?;
+    text.push_str("=")?;
+    text.push_str(value)?;
+    text.push_str(";")?;
+    Ok(())
+}
+
+/// The prompts that aren't the defaults, and the notes.
+fn write_lists(alloc: Global, text: &mut String, conf: &Conf) -> Result<(), Fail> {
+    let mut prompts = String::new(alloc);
+    for prompt in conf.prompts.as_slice() {
+        prompts.push_str("<")?;
+        prompts.push_str(text_of(prompt)?)?;
+        prompts.push_str(">")?;
+    }
+    if prompts.as_str() != "<assword:><assword for>" {
+        write_setting(text, "prompts", prompts.as_str())?;
+    }
+    for note in conf.notes.as_slice() {
+        let line = note.line;
+        write_setting(text, format!(in alloc; "note {line}")?.as_str(), text_of(&note.key)?)?;
+    }
+    Ok(())
+}
+
+/// What is made of a settings file.
+fn made(alloc: Global, text: &[u8]) -> Result<String, Fail> {
+    match read_conf(alloc, text) {
+        Ok(conf) => changes(alloc, &conf),
+        Err(ConfFault::Line(line)) => Ok(format!(in alloc; "line {line}")?),
+        Err(ConfFault::NoMem) => Err(Fail::from("out of memory")),
+    }
+}
+
+/// Each settings file is read so.
+fn read_so(rt: &impl Abort, alloc: Global, rows: &[(&str, &str)]) -> Result<(), Fail> {
+    for (text, wanted) in rows {
+        let got = made(alloc, text.as_bytes())?;
+        assert_eq!(rt; got.as_str(), *wanted, "of {text:?}");
+    }
+    Ok(())
+}
+
+/// Each value of a key of a section is taken so: `line 2` where it is refused.
+fn taken_so(
+    rt: &impl Abort,
+    alloc: Global,
+    section: &str,
+    key: &str,
+    rows: &[(&str, &str)],
+) -> Result<(), Fail> {
+    for (value, wanted) in rows {
+        let text = format!(in alloc; "[{section}]\n{key} = {value}\n")?;
+        let got = made(alloc, text.as_bytes())?;
+        assert_eq!(rt; got.as_str(), *wanted, "of {text:?}");
+    }
+    Ok(())
+}
+
+#[test]
+fn lines_are_read_and_the_first_refused_one_is_told(rt: HostRuntime) -> Result<(), Fail> {
+    let rows = [
+        ("", ""),
+        ("\n\n", ""),
+        ("[server]\nlisten_address = *:30343\n[relay]\nstore_first = maybe", "line 4"),
+        ("[server]\ntimeout = 30\n", "note 2=timeout;"),
+        ("; local\n[Server]\nListen_Address = *:30344", "listen=*:30344;"),
+        ("[server]\nlisten_address=a:1\nLISTEN_ADDRESS=b:2\n", "listen=b:2;"),
+        ("[server]\nlisten_address=a:1\nlisten_address=b:0\n", "line 3"),
+        ("[server]\nlisten_address=a:0\nbad\n", "line 2"),
+        ("listen_address = a\n[server]\n", "line 1"),
+        ("timeout = 3\n", "line 1"),
+        ("[server\n", "line 1"),
+        ("server]\n", "line 1"),
+        ("[server]x\n", "line 1"),
+        ("[server] # the server\nlisten_address = h#:7\n", "listen=h:30343;"),
+        ("[server]\nlisten_address = #h\n", "line 2"),
+        ("[server]\n#listen_address = h\n", ""),
+        ("[server]\nlisten#_address = h\n", "line 2"),
+        ("[server]\n  ; listen_address = (\n", ""),
+        ("[server]\nlisten_address = a;b\n", "listen=a;b:30343;"),
+        ("[server]\n = a\n", "line 2"),
+        ("[server]\nlisten_address\n", "line 2"),
+        ("\t[server]\t\r\n \tlisten_address\t= \ta \r\n", "listen=a:30343;"),
+        ("[ server ]\nlisten_address = (\n", "note 2=listen_address;"),
+        ("[]\nk = \n", "note 2=k;"),
+        ("[a] = b]\nk = v\n", "note 2=k;"),
+        ("[other]\nlisten_address = (\n[SERVER]\nlisten_address = c\n", "listen=c:30343;note 2=listen_address;"),
+        ("[server]\nstore_first = maybe\n", "note 2=store_first;"),
+        ("[logfile]\nPath = /a=b = c\n", "path=/a=b = c;"),
+        ("[iolog]\nprompts = a,,b\n", "line 2"),
+    ];
+    read_so(&rt, rt.alloc(), rows.as_slice())
+}
+
+#[test]
+fn a_line_that_is_no_text_is_refused(rt: HostRuntime) -> Result<(), Fail> {
+    let rows = [
+        (&b"[server]\n# \xff\n"[..], "line 2"),
+        (&b"\xc3\xa4\n"[..], "line 1"),
+        (&b"[logfile]\npath = /\xc3\xa4\n"[..], "path=/\u{e4};"),
+        (&b"[logfile]\npath = /\xc3\n"[..], "line 2"),
+        (&b"[logfile]\npath = /\x00\n"[..], "path=/\0;"),
+    ];
+    for (text, wanted) in rows {
+        assert_eq!(rt; made(rt.alloc(), text)?.as_str(), wanted, "of {text:?}");
+    }
+    Ok(())
+}
+
+#[test]
+fn addresses_are_hosts_and_ports(rt: HostRuntime) -> Result<(), Fail> {
+    let rows = [
+        ("*", ""),
+        ("*:30343", ""),
+        ("*:1", "listen=*:1;"),
+        ("*:65535", "listen=*:65535;"),
+        ("*:65536", "line 2"),
+        ("*:0", "line 2"),
+        ("*:00001", "line 2"),
+        ("*:+1", "line 2"),
+        ("*:1x", "line 2"),
+        ("*:", "line 2"),
+        ("*:99999999999999999999", "line 2"),
+        ("*:30344(tls)", "line 2"),
+        ("h(tls)", "line 2"),
+        ("h", "listen=h:30343;"),
+        ("a.b-c_d", "listen=a.b-c_d:30343;"),
+        ("a b", "line 2"),
+        ("a]", "line 2"),
+        ("::1", "line 2"),
+        (":1", "line 2"),
+        ("", "line 2"),
+        ("[::1]", "listen=[::1]:30343;"),
+        ("[::1]:5", "listen=[::1]:5;"),
+        ("[::1]:0", "line 2"),
+        ("[::1]5", "line 2"),
+        ("[::1]:", "line 2"),
+        ("[::1", "line 2"),
+        ("[]:5", "line 2"),
+        ("[a b]", "line 2"),
+        ("[a(]", "line 2"),
+        ("[[a]", "line 2"),
+    ];
+    taken_so(&rt, rt.alloc(), "server", "listen_address", rows.as_slice())?;
+    let rows = [
+        ("*", "line 2"),
+        ("*:5", "line 2"),
+        ("h:65535", "relay=h:65535;"),
+        ("[::1]", "relay=[::1]:30343;"),
+        ("h:5(tls)", "line 2"),
+    ];
+    taken_so(&rt, rt.alloc(), "relay", "relay_host", rows.as_slice())
+}
+
+#[test]
+fn truth_values_paths_and_words(rt: HostRuntime) -> Result<(), Fail> {
+    let alloc = rt.alloc();
+    let yes = [
+        ("true", "store_first;"),
+        ("yes", "store_first;"),
+        ("on", "store_first;"),
+        ("1", "store_first;"),
+        ("false", ""),
+        ("no", ""),
+        ("off", ""),
+        ("0", ""),
+        ("True", "line 2"),
+        ("2", "line 2"),
+        ("", "line 2"),
+        ("truee", "line 2"),
+    ];
+    taken_so(&rt, alloc, "relay", "store_first", yes.as_slice())?;
+    let rows = [("no", "no passwords;"), ("yes", ""), ("nein", "line 2")];
+    taken_so(&rt, alloc, "iolog", "log_passwords", rows.as_slice())?;
+    let rows = [("on", "exits;"), ("off", ""), ("o", "line 2")];
+    taken_so(&rt, alloc, "eventlog", "log_exit", rows.as_slice())?;
+    let rows = [("json", "json;"), ("sudo", ""), ("JSON", "line 2"), ("json_pretty", "line 2")];
+    taken_so(&rt, alloc, "eventlog", "log_format", rows.as_slice())?;
+    let rows = [("/x", "dir=/x;"), ("x y", "dir=x y;"), ("", "line 2")];
+    taken_so(&rt, alloc, "iolog", "iolog_dir", rows.as_slice())?;
+    let rows = [("/x", "path=/x;"), ("", "line 2")];
+    taken_so(&rt, alloc, "logfile", "path", rows.as_slice())?;
+    let rows = [("%{seq}", ""), ("%{seq}x", "line 2"), ("%{user}/%{seq}", "line 2"), ("", "line 2")];
+    taken_so(&rt, alloc, "iolog", "iolog_file", rows.as_slice())
+}
+
+/// So many texts of so many bytes.
+fn prompts(alloc: Global, count: u32, len: u32) -> Result<String, Fail> {
+    let mut text = String::new(alloc);
+    for i in 0..count {
+        if i != 0 {
+            text.push_str(" ,\t")?;
+        }
+        for _ in 0..len {
+            text.push_str("p")?;
+        }
+    }
+    Ok(text)
+}
+
+#[test]
+fn one_to_sixteen_prompts_of_1_to_64_bytes(rt: HostRuntime) -> Result<(), Fail> {
+    let alloc = rt.alloc();
+    let rows = [
+        ("a", "prompts=<a>;"),
+        ("a, b c ,d", "prompts=<a><b c><d>;"),
+        ("", "line 2"),
+        (",", "line 2"),
+        ("a,", "line 2"),
+        (", a", "line 2"),
+        ("a, ,b", "line 2"),
+    ];
+    taken_so(&rt, alloc, "iolog", "prompts", rows.as_slice())?;
+    for (count, len, is_taken) in [(16, 1, true), (17, 1, false), (1, 64, true), (1, 65, false)] {
+        let value = prompts(alloc, count, len)?;
+        let text = format!(in alloc; "[iolog]\nprompts = {value}\n")?;
+        let is_refused = made(alloc, text.as_bytes())?.as_str() == "line 2";
+        assert!(rt; is_refused != is_taken, "{count} of {len}");
+    }
+    Ok(())
+}
+
+/// The keys of the settings file that Debian ships with sudo, where each stands behind a comment sign, and what is
+/// made of each without that sign.
+const DEBIAN: [(&str, &str, &str, &str); 44] = [
+    ("server", "listen_address", "*:30343", ""),
+    ("server", "listen_address", "*:30344(tls)", "line 2"),
+    ("server", "pid_file", "/run/sudo/sudo_logsrvd.pid", "note 2=pid_file;"),
+    ("server", "server_log", "syslog", "note 2=server_log;"),
+    ("server", "tcp_keepalive", "true", "note 2=tcp_keepalive;"),
+    ("server", "timeout", "30", "note 2=timeout;"),
+    ("server", "tls_verify", "true", "note 2=tls_verify;"),
+    ("server", "tls_checkpeer", "false", "note 2=tls_checkpeer;"),
+    ("server", "tls_cacert", "/etc/ssl/sudo/cacert.pem", "note 2=tls_cacert;"),
+    ("server", "tls_cert", "/etc/ssl/sudo/certs/logsrvd_cert.pem", "note 2=tls_cert;"),
+    ("server", "tls_key", "/etc/ssl/sudo/private/logsrvd_key.pem", "note 2=tls_key;"),
+    ("server", "tls_ciphers_v12", "HIGH:!aNULL", "note 2=tls_ciphers_v12;"),
+    ("server", "tls_ciphers_v13", "TLS_AES_256_GCM_SHA384", "note 2=tls_ciphers_v13;"),
+    ("server", "tls_dhparams", "/etc/ssl/sudo/logsrvd_dhparams.pem", "note 2=tls_dhparams;"),
+    ("relay", "relay_host", "relayhost.dom.ain", "relay=relayhost.dom.ain:30343;"),
+    ("relay", "relay_host", "relayhost.dom.ain(tls)", "line 2"),
+    ("relay", "connect_timeout", "30", "note 2=connect_timeout;"),
+    ("relay", "relay_dir", "/var/log/sudo_logsrvd", "note 2=relay_dir;"),
+    ("relay", "retry_interval", "30", "note 2=retry_interval;"),
+    ("relay", "store_first", "true", "store_first;"),
+    ("relay", "tcp_keepalive", "true", "note 2=tcp_keepalive;"),
+    ("relay", "timeout", "30", "note 2=timeout;"),
+    ("relay", "tls_checkpeer", "false", "note 2=tls_checkpeer;"),
+    ("iolog", "iolog_dir", "/var/log/sudo-io", ""),
+    ("iolog", "iolog_file", "%{seq}", ""),
+    ("iolog", "iolog_compress", "false", "note 2=iolog_compress;"),
+    ("iolog", "iolog_flush", "true", "note 2=iolog_flush;"),
+    ("iolog", "iolog_group", "root", "note 2=iolog_group;"),
+    ("iolog", "iolog_user", "root", "note 2=iolog_user;"),
+    ("iolog", "iolog_mode", "0600", "note 2=iolog_mode;"),
+    ("iolog", "log_passwords", "true", ""),
+    ("iolog", "passprompt_regex", "[Pp]assword[: ]*", "note 2=passprompt_regex;"),
+    ("iolog", "maxseq", "2176782336", "note 2=maxseq;"),
+    ("eventlog", "log_type", "syslog", "note 2=log_type;"),
+    ("eventlog", "log_exit", "true", "exits;"),
+    ("eventlog", "log_format", "sudo", ""),
+    ("syslog", "maxlen", "960", "note 2=maxlen;"),
+    ("syslog", "facility", "authpriv", "note 2=facility;"),
+    ("syslog", "accept_priority", "notice", "note 2=accept_priority;"),
+    ("syslog", "reject_priority", "alert", "note 2=reject_priority;"),
+    ("syslog", "alert_priority", "alert", "note 2=alert_priority;"),
+    ("syslog", "server_facility", "daemon", "note 2=server_facility;"),
+    ("logfile", "path", "/var/log/sudo.log", ""),
+    ("logfile", "time_format", "%h %e %T", "note 2=time_format;"),
+];
+
+#[test]
+fn the_keys_that_debian_ships_are_known_noted_or_refused(rt: HostRuntime) -> Result<(), Fail> {
+    let alloc = rt.alloc();
+    let mut shipped = String::from_str(alloc, "#\n# sudo logsrv daemon configuration\n#\n")?;
+    for (section, key, value, wanted) in DEBIAN {
+        taken_so(&rt, alloc, section, key, [(value, wanted)].as_slice())?;
+        shipped.push_str(format!(in alloc; "[{section}]\n#{key} = {value}\n\n")?.as_str())?;
+    }
+    assert_eq!(rt; made(alloc, shipped.as_bytes())?.as_str(), "");
+    Ok(())
+}

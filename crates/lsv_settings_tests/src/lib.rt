@@ -1,0 +1,9 @@
+//! Tests of the settings, of the command words and of the generated load, by public calls alone.
+#![tactic(auto)]
+
+#[cfg(test)]
+mod conf;
+#[cfg(test)]
+mod load;
+#[cfg(test)]
+mod words;
