@@ -1,0 +1,12 @@
+pub mod Machine
+pub mod Answers
+pub mod Judgement
+pub mod Work
+pub mod Failures
+pub mod Turns
+pub mod History
+pub mod Counts
+pub mod Lines
+pub mod Durable
+pub mod Starts
+pub mod Stands
