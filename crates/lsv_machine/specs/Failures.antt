@@ -1,5 +1,5 @@
 -- What else a job may do: end its connection for want of memory or by a failed device. What a step of the machine is.
-use Rattle.std.specs.Prelude.{◌≡◌, ◌≢◌, ◌≤◌, ◌<◌, ◌+◌, ◌*◌, ◌⊎◌, ℕ, min, Bool, true, false, List, [], ◌∷◌, take, Option, Some, None, Contains, Result, Ok, Err}
+use Rattle.std.specs.Prelude.{◌≡◌, ◌≤◌, ◌<◌, ◌+◌, ◌*◌, ◌⊎◌, ℕ, min, Bool, true, false, List, [], ◌∷◌, take, Option, Some, None, Contains, Result, Ok, Err}
 use Rattle.lsv_base.specs.declared.time.TimeSpec.{TimeSpec}
 use Rattle.lsv_disk.specs.declared.file.Owner.{Owner}
 use Rattle.lsv_disk.specs.declared.file.Owner.TheVariants.{Log, Events, Numbers, Relay}
@@ -19,8 +19,8 @@ use Rattle.lsv_session.specs.declared.job.Body.TheVariants as body
 use Rattle.lsv_session.specs.declared.job.Job.{Job}
 use Rattle.lsv_machine.specs.Answers.{Answer, Shut, say, refusal}
 use Rattle.lsv_machine.specs.Judgement.{judged, fault_refusal}
-use Rattle.lsv_machine.specs.Machine.{LogState, LogState.Absent, LogState.Damaged, LogState.There, Machine, Settings, is_dead, leaves, log_of, with_log}
-use Rattle.lsv_machine.specs.Work.{Done, draws, empty_log, has_line, last_number, next_number, opens, plain, with_exit}
+use Rattle.lsv_machine.specs.Machine.{LogState, LogState.There, Machine, Settings, is_dead, leaves, log_of, with_log}
+use Rattle.lsv_machine.specs.Work.{draws, empty_log, has_line, last_number, next_number, opens, plain, with_exit}
 
 -- a job with its answers in order, the owners whose files failed in it, whether the log of a refused restart failed inside its cut, the event
 -- line that it left, and the moment of its turn

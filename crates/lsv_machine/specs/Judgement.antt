@@ -1,5 +1,5 @@
 -- How a message is judged before its work: by the session's state, then by itself, then by its keys. The first refusal counts.
-use Rattle.std.specs.Prelude.{ℕ, Bool, true, false, ◌||◌, if◌then◌else◌, Option, Some, None, Result, Ok, Err}
+use Rattle.std.specs.Prelude.{Bool, true, false, ◌||◌, if◌then◌else◌, Some, None, Result, Ok, Err}
 use Rattle.lsv_msg.specs.declared.fault.MsgFault.{MsgFault}
 use Rattle.lsv_msg.specs.declared.fault.MsgFault.TheVariants as message_faults
 use Rattle.lsv_msg.specs.declared.messages.ClientMessage.{ClientMessage}

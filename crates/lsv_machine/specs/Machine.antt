@@ -1,6 +1,6 @@
 -- The session machine of one lane: what it knows at a moment. A log is its head, its records and its exit, each as it is stored; no file,
 -- no length and no buffer is spoken of.
-use Rattle.std.specs.Prelude.{ℕ, ◌+◌, ◌*◌, ◌<◌, ◌≡◌, ◌==◌, ◌&&◌, nat_lt, Bool, true, false, if◌then◌else◌, List, [], ◌∷◌, ◌++◌, Option, Some, None}
+use Rattle.std.specs.Prelude.{ℕ, ◌+◌, ◌*◌, ◌≡◌, ◌==◌, ◌&&◌, nat_lt, Bool, true, false, if◌then◌else◌, List, [], ◌∷◌, Option, Some, None}
 use Rattle.lsv_base.specs.declared.time.TimeSpec.{TimeSpec}
 use Rattle.lsv_record.specs.Points.{Stored}
 use Rattle.lsv_request.specs.declared.request.Request.{Request}

@@ -1,5 +1,5 @@
 -- How a machine stands for a history: the invariant that each step keeps.
-use Rattle.std.specs.Prelude.{◌≡◌, ◌≤◌, ◌<◌, ◌⊎◌, ℕ, Bool, true, false, List, [], ◌∷◌, length, Option, Some, None}
+use Rattle.std.specs.Prelude.{◌≡◌, ◌≤◌, ◌<◌, ◌⊎◌, ℕ, List, [], ◌∷◌, length, Option, Some, None}
 use Rattle.lsv_record.specs.Points.{Stored}
 use Rattle.lsv_record.specs.declared.records.Record.{Record}
 use Rattle.lsv_session.specs.declared.connection.ConnId.{ConnId}

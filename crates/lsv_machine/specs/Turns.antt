@@ -1,5 +1,5 @@
 -- The end of a turn: the event lines become lines of the event log, and then the logs that wait have their commit points. What a turn is, and a run.
-use Rattle.std.specs.Prelude.{◌≡◌, ◌⊎◌, ℕ, max, Bool, true, false, if◌then◌else◌, List, [], ◌∷◌, ◌++◌, map, Option, Some, None, unwrap_or, Contains}
+use Rattle.std.specs.Prelude.{◌≡◌, ◌⊎◌, ℕ, max, Bool, true, false, if◌then◌else◌, List, [], ◌∷◌, ◌++◌, map, Some, None, unwrap_or, Contains}
 use Rattle.lsv_disk.specs.declared.file.Owner.{Owner}
 use Rattle.lsv_disk.specs.declared.file.Owner.TheVariants.{Log, Events}
 use Rattle.lsv_record.specs.Points.{Stored, first}
