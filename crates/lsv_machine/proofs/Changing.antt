@@ -11,8 +11,10 @@ use Rattle.lsv_session.specs.declared.connection.ConnState.TheVariants.{Running}
 use Rattle.lsv_machine.specs.History.{Ledger, becomes}
 use Rattle.lsv_machine.specs.Machine.{IsOfLane, LogState, LogState.Absent, LogState.Damaged, LogState.There, Machine, Settings, is_dead, log_of, same, with_log, with_owner, with_state}
 use Rattle.lsv_machine.specs.Stands.{Agrees, HoldsAt, HoldsRecords, Sound, as_list}
-use Rattle.lsv_machine.specs.Work.{cut_to, cuts_with}
-use Rattle.lsv_machine.proofs.Choices.{SameOr, SameOr.alike, SameOr.apart, same_or, same_refl, EqOr, EqOr.equal, EqOr.unequal, eq_or}
+use Rattle.lsv_machine.specs.Failures.{MayDraw}
+use Rattle.lsv_machine.specs.Work.{cut_to, draws}
+use Rattle.std.proofs.Math.Nat.{add-mul}
+use Rattle.lsv_machine.proofs.Choices.{SomeOr, SomeOr.nothing, SomeOr.just, some_or, SameOr, SameOr.alike, SameOr.apart, same_or, same_refl, EqOr, EqOr.equal, EqOr.unequal, eq_or}
 use Rattle.lsv_machine.proofs.Fits.{Fits}
 use Rattle.lsv_machine.proofs.RecordLemmas.{becomes_is, becomes_none, becomes_some, cut_alike, prefix_all, take_none}
 
@@ -136,9 +138,9 @@ fits_begins good set n i k stored promised m last draws l l' idle alive free d b
 
 -- what a cut leaves
 pub holds_cut : (stored : Stored) (promised : ℕ) (o w : Option ConnId) (all : List Record) (told : Option ℕ) (c f : ℕ)
-    → HoldsRecords stored promised o all told → stored.exit ≡ None → ((j : ConnId) → w ≡ Some j → (p : ℕ) × (told ≡ Some p)) → first stored.records c ≡ Some f
+    → HoldsRecords stored promised o all told → stored.exit ≡ None → first stored.records c ≡ Some f
     → HoldsRecords (cut_to f stored) f w (cut all c) (becomes told (kept all c))
-holds_cut stored promised o w all told c f h un tell at =
+holds_cut stored promised o w all told c f h un at =
     let a = cut_alike stored.records all c f h.prefix at in
     let same = a.cut_is in
     let point = a.kept_is in
@@ -147,8 +149,58 @@ holds_cut stored promised o w all told c f h un tell at =
       prefix = prefix_all (take f stored.records) (cut all c) (sym same);
       whole = λ k e. sym same;
       unfinished = λ k e. un;
-      is_told = λ k e. let (p, q) = tell k e in (kept all c, becomes_some told (kept all c) p q);
+      is_told = λ k e. elim (some_or told) [
+        | nothing u ↦ absurd (let b : first stored.records c ≡ None = ap (λ x. first x c) (h.bare u) in cc)
+        | just p u ↦ (kept all c, becomes_some told (kept all c) p u)
+      ];
       enough = grind (arith, common_steps);
       alike = λ p e. let b = becomes_is told (kept all c) p e in omega arith;
       bare = λ e. ap (λ (z : List Record). take f z) (h.bare (becomes_none told (kept all c) e)) ∙ take_none f;
     }
+
+-- ---- Draws
+
+-- a number that is drawn is of the lane, and above the last one
+pub drawn_is : (set : Settings) (m : Machine) (i : ℕ) → Sound set m → MayDraw set m i → IsOfLane set.lane set.lanes i × (m.last < i)
+drawn_is set m i h d = elim (eq_or m.last 0) [
+  | equal p t ↦ let e : i ≡ set.lane + 1 + d.passed * set.lanes = d.next ∙ first_is t in ((d.passed, e), omega arith)
+  | unequal p t ↦ elim h.drawn [
+    | inl none ↦ absurd (p none)
+    | inr (steps, at) ↦
+        let e : i ≡ m.last + set.lanes + d.passed * set.lanes = d.next ∙ next_is t in
+        let lanes = h.lane in
+        let a : (steps + 1 + d.passed) * set.lanes ≡ (steps + 1) * set.lanes + d.passed * set.lanes = add-mul (steps + 1) d.passed set.lanes in
+        let b : (steps + 1) * set.lanes ≡ steps * set.lanes + 1 * set.lanes = add-mul steps 1 set.lanes in
+        ((steps + 1 + d.passed, omega arith), omega arith)
+  ]
+]
+  where
+    first_is : (m.last == 0) ≡ true → (if m.last == 0 then set.lane + 1 else m.last + set.lanes) + d.passed * set.lanes ≡ set.lane + 1 + d.passed * set.lanes
+    first_is t = rw t refl
+
+    next_is : (m.last == 0) ≡ false → (if m.last == 0 then set.lane + 1 else m.last + set.lanes) + d.passed * set.lanes ≡ m.last + set.lanes + d.passed * set.lanes
+    next_is t = rw t refl
+
+pub later : (set : Settings) (m : Machine) (i : ℕ) → IsOfLane set.lane set.lanes i → m.last < i → Draws set m i
+later set m i lane above = record { drawn = inr lane; up = omega arith }
+
+pub same_last : (set : Settings) (m : Machine) → Sound set m → Draws set m m.last
+same_last set m h = record { drawn = h.drawn; up = omega arith }
+
+pub itself_not_above : (set : Settings) (i : ℕ) → NotAbove set i i
+itself_not_above set i lane above = omega arith
+
+pub draws_fits : (good : Type 0) (set : Settings) (n i : ℕ) (m : Machine) (l : Ledger) → IsOfLane set.lane set.lanes i → m.last < i → Fits good set n m l → Fits good set n (draws i m) l
+draws_fits good set n i m l lane above f = record {
+  sound = record {
+    lane = f.sound.lane;
+    drawn = inr lane;
+    owns = f.sound.owns;
+    owned = f.sound.owned;
+    there = f.sound.there;
+    none_above = λ j o a. let lo : m.last < j = omega arith in f.sound.none_above j o lo;
+  };
+  agrees = record { texts = f.agrees.texts; shut = f.agrees.shut; writers = f.agrees.writers };
+  holds = f.holds;
+  untold = λ g o a. let lo : m.last < n = omega arith in f.untold g o lo;
+}

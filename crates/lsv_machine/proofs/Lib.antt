@@ -4,3 +4,4 @@ pub mod RecordLemmas
 pub mod Fits
 pub mod Leaving
 pub mod Changing
+pub mod WorkFits
