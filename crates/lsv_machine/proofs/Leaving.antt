@@ -83,7 +83,7 @@ owner_left k s m n j o = elim (left_owner k s m n) [
   | another p t ↦ sym t ∙ o
 ]
 
-without_self : (k : ConnId) → without_conn k (k ∷ []) ≡ []
+pub without_self : (k : ConnId) → without_conn k (k ∷ []) ≡ []
 without_self k = rw (same_refl k) refl
 
 without_other : (j k : ConnId) → j ≢ k → without_conn k (j ∷ []) ≡ j ∷ []

@@ -5,3 +5,8 @@ pub mod Fits
 pub mod Leaving
 pub mod Changing
 pub mod WorkFits
+pub mod Dying
+pub mod JudgedLemmas
+pub mod JobFits
+pub mod RunFits
+pub mod RunLaws

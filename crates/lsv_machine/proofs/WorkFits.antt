@@ -55,7 +55,7 @@ module _ (good : Type 0) (set : Settings) (n : ℕ) (k : ConnId) (m : Machine) (
 
   -- ---- An accept
 
-  opened_together : (accept : Accept) (i : ℕ) → log_of (m.states k) ≡ None → is_dead (m.states k) ≡ false → IsOfLane set.lane set.lanes i → m.last < i
+  pub opened_together : (accept : Accept) (i : ℕ) → log_of (m.states k) ≡ None → is_dead (m.states k) ≡ false → IsOfLane set.lane set.lanes i → m.last < i
       → Together good set n k (Ok (request.Accept accept)) l (opened k (head_text accept.head) i m)
   opened_together accept i idle alive lane above = go (nat_lt last_number i) refl (fits_file (head_text accept.head)) refl
     where
@@ -118,7 +118,7 @@ module _ (good : Type 0) (set : Settings) (n : ℕ) (k : ConnId) (m : Machine) (
       go (Some x) e = let d : is_some stored.exit ≡ true = ap is_some e in rw d (refused_together good set n k (Ok (request.Restart restart)) refusals.LogComplete m l f)
       go None e = let d : is_some stored.exit ≡ false = ap is_some e in rw d (resumed_together restart stored promised (first stored.records restart.point) idle alive unowned at e refl)
 
-  restarted_together : (restart : Restart) → log_of (m.states k) ≡ None → is_dead (m.states k) ≡ false → Together good set n k (Ok (request.Restart restart)) l (restarted k restart.log restart.point m)
+  pub restarted_together : (restart : Restart) → log_of (m.states k) ≡ None → is_dead (m.states k) ≡ false → Together good set n k (Ok (request.Restart restart)) l (restarted k restart.log restart.point m)
   restarted_together restart idle alive = go (m.owner restart.log) refl
     where
       go : (o : Option ConnId) → m.owner restart.log ≡ o → Together good set n k (Ok (request.Restart restart)) l (restarted k restart.log restart.point m)
@@ -184,7 +184,7 @@ module _ (good : Type 0) (set : Settings) (n : ℕ) (k : ConnId) (m : Machine) (
       go true d = rw d (fits_beside good set n (with_log i (There (with_record (covered m.texts stored.records r) stored) promised) m) m.failed_draws (insert_once i m.waiting) m.lines m.fresh m.noting
           (asked n k (Ok (request.Record r)) [] false l) more)
 
-  recorded_together : (r : Record) (i : ℕ) → log_of (m.states k) ≡ Some i → Together good set n k (Ok (request.Record r)) l (recorded k (Some i) r m)
+  pub recorded_together : (r : Record) (i : ℕ) → log_of (m.states k) ≡ Some i → Together good set n k (Ok (request.Record r)) l (recorded k (Some i) r m)
   recorded_together r i e = let (stored, promised, at) = f.sound.there i k (owned_by i e) in rw at (taken_together r i stored promised e at)
 
   -- ---- An exit
@@ -222,6 +222,6 @@ module _ (good : Type 0) (set : Settings) (n : ℕ) (k : ConnId) (m : Machine) (
       go true d = rw d ended
       go false d = rw d (refused_together good set n k (Ok (request.Exit exit)) refusals.LogFull m l f)
 
-  exited_together : (exit : Exit) (o : Option ℕ) → log_of (m.states k) ≡ o → Together good set n k (Ok (request.Exit exit)) l (exited k o (exit_text exit) m)
+  pub exited_together : (exit : Exit) (o : Option ℕ) → log_of (m.states k) ≡ o → Together good set n k (Ok (request.Exit exit)) l (exited k o (exit_text exit) m)
   exited_together exit None e = shut_together good set n k (Ok (request.Exit exit)) m l f
   exited_together exit (Some i) e = let (stored, promised, at) = f.sound.there i k (owned_by i e) in rw at (finished_together exit i stored promised e at)
