@@ -3,6 +3,7 @@ use Rattle.std.proofs.Common.{◌≡◌, ◌≢◌, ◌≤◌, ◌<◌, ◌+◌,
 use Rattle.std.specs.Prelude.{◌==◌, ◌&&◌, ◌||◌, not, nat_lt, max, min, Bool, true, false, if◌then◌else◌, Result, Ok, Err, Contains}
 use Rattle.lsv_base.specs.declared.time.TimeSpec.{TimeSpec}
 use Rattle.lsv_disk.specs.declared.file.Owner.{Owner}
+use Rattle.lsv_disk.specs.declared.file.Owner.TheVariants.{Log, Events, Numbers, Relay}
 use Rattle.lsv_info.specs.Layout.{head_text, exit_text}
 use Rattle.lsv_msg.specs.declared.messages.ClientMessage.{ClientMessage}
 use Rattle.lsv_record.specs.Points.{Stored}
@@ -20,7 +21,7 @@ use Rattle.lsv_session.specs.declared.job.Body.{Body}
 use Rattle.lsv_session.specs.declared.job.Body.TheVariants as body
 use Rattle.lsv_session.specs.declared.job.Job.{Job}
 use Rattle.lsv_machine.specs.Answers.{Answer, Saying.Shut, farewell, is_refused, say, refusal}
-use Rattle.lsv_machine.specs.Failures.{Act, AsksFor, BreaksOff, Breaks, BrokenOff, Deviates, FailsCut, IsSet, LeavesLog, LetsGo, LosesLog, Makes, MayDraw, MeetsFault, Plainly, Step, WantsMemory, exit_in}
+use Rattle.lsv_machine.specs.Failures.{Act, AsksFor, BreaksOff, Breaks, BrokenOff, Deviates, FailsAt, FailsCut, FailsToDraw, HasMade, HasSet, IsRefused, IsSet, LogFails, LosesLine, LeavesLog, LetsGo, LosesLog, Makes, MayDraw, MeetsFault, Plainly, Step, WantsMemory, exit_in}
 use Rattle.lsv_machine.specs.History.{Ledger, answered as noted_answer, asked, heard, heard_all, is_exit, is_gone, lowered_to, noted, reopened, request_in, restarted_by, writes}
 use Rattle.lsv_machine.specs.Judgement.{fault_refusal, judged}
 use Rattle.lsv_machine.specs.Machine.{IsOfLane, LogState, LogState.Absent, LogState.Damaged, LogState.There, Machine, Settings, forgets, is_dead, is_running, leaves, log_of, same, with_log, with_state, without_conn}
@@ -175,14 +176,57 @@ module _ (good : Type 0) (set : Settings) (n : ℕ) (k : ConnId) (m : Machine) (
 
   -- ---- A connection that ends otherwise
 
-  -- how far the work had come
+  died_drawing : (exits : Bool) (failed : List Owner) (left : Machine) → FailsToDraw set failed m left → Fits good set n (leaves k Dead left) (heard exits k Shut l)
+  died_drawing exits failed left t = rw t.now (fits_dies good set n k (record m { failed_draws = m.failed_draws + 1 }) l (fits_beside good set n m (m.failed_draws + 1) m.waiting m.lines m.fresh m.noting l f) exits)
+
+  died_making : (exits : Bool) (w : Result Request Refusal) (left : Machine) → Makes set (m.states k) w m left → Fits good set n (leaves k Dead left) (heard exits k Shut l)
+  died_making exits w left t =
+      let (lane, above) = drawn_is set m t.number f.sound t.drawn in
+      rw t.now (fits_dies good set n k (with_log t.number t.log (draws t.number m)) l (made_fits good set n k m l f t.number (head_text t.accept.head) t.log lane above t.made) exits)
+
+  -- however far the work had come
   died_broken : (exits : Bool) (failed : List Owner) (w : Result Request Refusal) (left : Machine) → BreaksOff set failed (m.states k) w m left
       → Fits good set n (leaves k Dead left) (heard exits k Shut l)
   died_broken exits failed w left (inl leaving) = died_leaving good set n k m l f exits failed (log_of (m.states k)) (exit_in w) left refl leaving
-  died_broken exits failed w left (inr (inl (opening, t))) = rw t.now (fits_dies good set n k (record m { failed_draws = m.failed_draws + 1 }) l (fits_beside good set n m (m.failed_draws + 1) m.waiting m.lines m.fresh m.noting l f) exits)
-  died_broken exits failed w left (inr (inr t)) =
+  died_broken exits failed w left (inr (inl (opening, t))) = died_drawing exits failed left t
+  died_broken exits failed w left (inr (inr t)) = died_making exits w left t
+
+  died_setting : (exits : Bool) (o : Option ℕ) (exit : List ℕ) (left : Machine) → log_of (m.states k) ≡ o → HasSet o exit m left → Fits good set n (leaves k Dead left) (heard exits k Shut l)
+  died_setting exits None exit left e t = rw t (fits_dies good set n k m l f exits)
+  died_setting exits (Some i) exit left e t = rw t.2 (died_set good set n k m l f exits i exit t.0 e t.1)
+
+  died_made : (exits : Bool) (accept : Accept) (left : Machine) → HasMade set accept m left → Fits good set n (leaves k Dead left) (heard exits k Shut l)
+  died_made exits accept left t =
       let (lane, above) = drawn_is set m t.number f.sound t.drawn in
-      rw t.now (fits_dies good set n k (with_log t.number t.log (draws t.number m)) l (made_fits good set n k m l f t.number (head_text t.accept.head) t.log lane above t.made) exits)
+      rw t.now (fits_dies good set n k (makes t.number (head_text accept.head) m) l
+      (made_fits good set n k m l f t.number (head_text accept.head) (There (empty_log (head_text accept.head)) 0) lane above (inr refl)) exits)
+
+  -- the event log failed
+  died_lining : (exits : Bool) (failed : List Owner) (what : Request) (left : Machine) → LosesLine set failed (m.states k) what m left → Fits good set n (leaves k Dead left) (heard exits k Shut l)
+  died_lining exits failed (request.Accept accept) left (inl t) = died_made exits accept left t.1
+  died_lining exits failed (request.Accept accept) left (inr t) = died_leaving good set n k m l f exits failed (log_of (m.states k)) None left refl t.1
+  died_lining exits failed (request.Exit exit) left t = died_setting exits (log_of (m.states k)) (exit_text exit) left refl t
+  died_lining exits failed request.Hello left t = died_leaving good set n k m l f exits failed (log_of (m.states k)) None left refl t
+  died_lining exits failed (request.Reject report) left t = died_leaving good set n k m l f exits failed (log_of (m.states k)) None left refl t
+  died_lining exits failed (request.Alert report) left t = died_leaving good set n k m l f exits failed (log_of (m.states k)) None left refl t
+  died_lining exits failed (request.Restart restart) left t = died_leaving good set n k m l f exits failed (log_of (m.states k)) None left refl t
+  died_lining exits failed (request.Record r) left t = died_leaving good set n k m l f exits failed (log_of (m.states k)) None left refl t
+
+  -- a log failed
+  died_failing : (exits : Bool) (failed : List Owner) (what : Request) (i : ℕ) (left : Machine) → LogFails set failed (m.states k) what i m left → Fits good set n (leaves k Dead left) (heard exits k Shut l)
+  died_failing exits failed (request.Accept accept) i left t = died_making exits (Ok (request.Accept accept)) left t.0
+  died_failing exits failed (request.Restart restart) i left t = rw t.2 (fits_dies good set n k m l f exits)
+  died_failing exits failed (request.Exit exit) i left t = died_leaving good set n k m l f exits failed (Some i) (Some (exit_text exit)) left t.0 t.1
+  died_failing exits failed request.Hello i left t = absurd t
+  died_failing exits failed (request.Reject report) i left t = absurd t
+  died_failing exits failed (request.Alert report) i left t = absurd t
+  died_failing exits failed (request.Record r) i left t = absurd t
+
+  died_at : (exits : Bool) (failed : List Owner) (what : Request) (o : Owner) (left : Machine) → FailsAt set failed (m.states k) what o m left → Fits good set n (leaves k Dead left) (heard exits k Shut l)
+  died_at exits failed what (Numbers lane) left t = died_drawing exits failed left t.2
+  died_at exits failed what (Events lane) left t = died_lining exits failed what left t.2
+  died_at exits failed what (Log i) left t = died_failing exits failed what i left t
+  died_at exits failed what (Relay i) left t = absurd t
 
 -- a job where no device fails and memory is ample
 pub plain_together : (good : Type 0) (set : Settings) (n : ℕ) (now : TimeSpec) (job : Job) (i : ℕ) (m : Machine) (l : Ledger) → MayDraw set m i → Fits good set n m l
@@ -202,23 +246,38 @@ pub wants_last : (k : ConnId) (answers : List Answer) → WantsMemory k answers 
 wants_last k answers (inl e) = by_refusal refusals.OutOfMemory e
 wants_last k answers (inr e) = by_shut e
 
-broken_together : (good : Type 0) (set : Settings) (n : ℕ) (k : ConnId) (m : Machine) (l : Ledger) (failed : List Owner) (answers : List Answer) (what w : Result Request Refusal) (left : Machine) → Fits good set n m l
-    → Last k answers → BreaksOff set failed (m.states k) w m left → Fits good set n (leaves k Dead left) (heard_all (is_exit what) answers (asked n k what answers false l))
-broken_together good set n k m l failed answers what w left f (by_refusal why is) t =
-    rw is (died_broken good set n k m (asked n k what (refusal k why) false l) (fits_same good set n m l (asked n k what (refusal k why) false l) (asked_loud n k what (refusal k why) l refl refl) f) (is_exit what) failed w left t)
-broken_together good set n k m l failed answers what w left f (by_shut is) t =
-    rw is (died_broken good set n k m (asked n k what (say k Shut ∷ []) false l) (fits_same good set n m l (asked n k what (say k Shut ∷ []) false l) (asked_loud n k what (say k Shut ∷ []) l refl refl) f) (is_exit what) failed w left t)
+pub refused_last : (k : ConnId) (answers : List Answer) → IsRefused k answers → Last k answers
+refused_last k answers (inl e) = by_refusal refusals.DeviceFault e
+refused_last k answers (inr w) = wants_last k answers w
+
+-- how a job that breaks off ends, whatever it asked
+died_of : (good : Type 0) (set : Settings) (n : ℕ) (m left : Machine) (l : Ledger) (act : Act) (w : Result Request Refusal) (exits : Bool) → Fits good set n m l
+    → (WantsMemory act.job.conn act.answers × BreaksOff set act.failed (m.states act.job.conn) w m left) ⊎ (IsRefused act.job.conn act.answers × MeetsFault set act.failed (m.states act.job.conn) w m left)
+    → Fits good set n (leaves act.job.conn Dead left) (heard exits act.job.conn Shut l)
+died_of good set n m left l act w exits f (inl t) = died_broken good set n act.job.conn m l f exits act.failed w left t.1
+died_of good set n m left l act w exits f (inr t) = died_at good set n act.job.conn m l f exits act.failed t.1.request t.1.owner left t.1.leaves
 
 broken_last : (set : Settings) (old left : Machine) (act : Act) (w : Result Request Refusal)
-    → WantsMemory act.job.conn act.answers ⊎ ((act.answers ≡ refusal act.job.conn refusals.DeviceFault) × MeetsFault set old left (old.states act.job.conn) w act.failed) → Last act.job.conn act.answers
-broken_last set old left act w (inl wants) = wants_last act.job.conn act.answers wants
-broken_last set old left act w (inr fault) = by_refusal refusals.DeviceFault fault.0
+    → (WantsMemory act.job.conn act.answers × BreaksOff set act.failed (old.states act.job.conn) w old left) ⊎ (IsRefused act.job.conn act.answers × MeetsFault set act.failed (old.states act.job.conn) w old left) → Last act.job.conn act.answers
+broken_last set old left act w (inl t) = wants_last act.job.conn act.answers t.0
+broken_last set old left act w (inr t) = refused_last act.job.conn act.answers t.0
+
+broken_together : (good : Type 0) (set : Settings) (n : ℕ) (m : Machine) (l : Ledger) (act : Act) (what w : Result Request Refusal) (new : Machine) → Fits good set n m l → (t : BrokenOff set m act w new)
+    → Fits good set n (leaves act.job.conn Dead t.left) (heard_all (is_exit what) act.answers (asked n act.job.conn what act.answers false l))
+broken_together good set n m l act what w new f t = go (broken_last set m t.left act w t.why)
+  where
+    k : ConnId
+    k = act.job.conn
+
+    go : Last act.job.conn act.answers → Fits good set n (leaves act.job.conn Dead t.left) (heard_all (is_exit what) act.answers (asked n act.job.conn what act.answers false l))
+    go (by_refusal why is) = rw is (died_of good set n m t.left (asked n act.job.conn what (refusal act.job.conn why) false l) act w (is_exit what)
+        (fits_same good set n m l (asked n act.job.conn what (refusal act.job.conn why) false l) (asked_loud n act.job.conn what (refusal act.job.conn why) l refl refl) f) t.why)
+    go (by_shut is) = rw is (died_of good set n m t.left (asked n act.job.conn what (say act.job.conn Shut ∷ []) false l) act w (is_exit what)
+        (fits_same good set n m l (asked n act.job.conn what (say act.job.conn Shut ∷ []) false l) (asked_loud n act.job.conn what (say act.job.conn Shut ∷ []) l refl refl) f) t.why)
 
 breaks_together : (good : Type 0) (set : Settings) (n : ℕ) (m : Machine) (l : Ledger) (act : Act) (b : Body) (new : Machine) → Fits good set n m l → Breaks set m act b new → Fits good set n new (noted_answer n act.job.conn b act.answers false l)
-breaks_together good set n m l act (body.Msg message) new f t =
-    rw t.now (broken_together good set n act.job.conn m l act.failed act.answers (request_of message) (judged (m.states act.job.conn) message) t.left f (broken_last set m t.left act (judged (m.states act.job.conn) message) t.why) t.how_far)
-breaks_together good set n m l act (body.Bad fault) new f t =
-    rw t.now (broken_together good set n act.job.conn m l act.failed act.answers (Err refusals.MalformedMessage) (Err (fault_refusal fault)) t.left f (broken_last set m t.left act (Err (fault_refusal fault)) t.why) t.how_far)
+breaks_together good set n m l act (body.Msg message) new f t = rw t.now (broken_together good set n m l act (request_of message) (judged (m.states act.job.conn) message) new f t)
+breaks_together good set n m l act (body.Bad fault) new f t = rw t.now (broken_together good set n m l act (Err refusals.MalformedMessage) (Err (fault_refusal fault)) new f t)
 breaks_together good set n m l act body.Gone new f t = absurd t
 
 -- nobody writes a log whose writer is refused, or went
@@ -259,10 +318,18 @@ cut_asked good set n m l act new (body.Bad fault) e f t asks = absurd asks
 cut_asked good set n m l act new body.Gone e f t asks = absurd asks
 cut_asked good set n m l act new (body.Msg message) e f t asks =
     let (is, suit) = judged_ok (m.states act.job.conn) message (request.Restart t.restart) asks in
-    rw (t.now, is, t.answers) (elim (eq_or t.restart.log n) [
+    rw (t.now, is) (go (refused_last act.job.conn act.answers t.answers))
+  where
+    lowered : Fits good set n (leaves act.job.conn Dead (with_log t.restart.log t.log m)) (heard false act.job.conn Shut
+        (if t.restart.log == n then record l { promised = lowered_to l.promised l.shown t.restart.point } else l))
+    lowered = elim (eq_or t.restart.log n) [
       | equal p u ↦ rw u (cut_failed good set n act.job.conn m l f t.restart.point t.restart.log t.log (record l { promised = lowered_to l.promised l.shown t.restart.point }) t.free t.fails refl (λ j. refl) refl (λ q. (refl, refl)) (λ q. absurd (q (sym p))))
       | unequal p u ↦ rw u (cut_failed good set n act.job.conn m l f t.restart.point t.restart.log t.log l t.free t.fails refl (λ j. refl) refl (λ q. absurd (p (sym q))) (λ q. (refl, refl)))
-    ])
+    ]
+
+    go : Last act.job.conn act.answers → Fits good set n (leaves act.job.conn Dead (with_log t.restart.log t.log m)) (heard_all false act.answers (asked n act.job.conn (Ok (request.Restart t.restart)) act.answers true l))
+    go (by_refusal why e) = rw e lowered
+    go (by_shut e) = rw e lowered
 
 -- a step keeps machine and history together
 pub step_together : (good : Type 0) (set : Settings) (n : ℕ) (m : Machine) (l : Ledger) (act : Act) (new : Machine) → Fits good set n m l → Step set m act new → Fits good set n new (noted n l (Did act))

@@ -10,3 +10,5 @@ pub mod JudgedLemmas
 pub mod JobFits
 pub mod RunFits
 pub mod RunLaws
+pub mod Promises
+pub mod Shown

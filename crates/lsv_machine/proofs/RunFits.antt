@@ -13,22 +13,18 @@ use Rattle.lsv_machine.specs.Failures.{WantsMemory, LosesTail}
 use Rattle.lsv_machine.specs.History.{Ledger, heard, heard_all, ledger_from, noted, raised_to, writes}
 use Rattle.lsv_machine.specs.Machine.{LogState, LogState.There, Machine, Settings, leaves, log_of, with_log}
 use Rattle.lsv_machine.specs.Stands.{HoldsRecords, as_list}
-use Rattle.lsv_machine.specs.Turns.{Commits, EndOfTurn, FailsFlush, FlushesLines, FlushesLog, FlushesLogs, Happened, Happened.Did, Happened.Tailed, Happened.Begins, IsRefused, LosesLines, RefusesAll, RefusesOne, Run, Tail, raised, with_lines}
+use Rattle.lsv_machine.specs.Turns.{Commits, EndOfTurn, FailsFlush, FlushesLines, FlushesLog, FlushesLogs, Happened, Happened.Did, Happened.Tailed, Happened.Begins, LosesLines, RefusesAll, RefusesOne, Run, Tail, raised, with_lines}
 use Rattle.lsv_machine.proofs.Choices.{EqOr, EqOr.equal, EqOr.unequal, eq_or}
 use Rattle.lsv_machine.proofs.Changing.{fits_log, there_not_above}
 use Rattle.lsv_machine.proofs.Dying.{died_leaving, died_with, holds_loses}
 use Rattle.lsv_machine.proofs.Fits.{Fits, fits_beside, writes_its, writes_none}
-use Rattle.lsv_machine.proofs.JobFits.{Last, Last.by_refusal, Last.by_shut, step_together, wants_last}
+use Rattle.lsv_machine.proofs.JobFits.{Last, Last.by_refusal, Last.by_shut, refused_last, step_together}
 use Rattle.lsv_machine.proofs.RecordLemmas.{raised_is, raised_none, raised_some, raised_within}
 use Rattle.lsv_machine.proofs.WorkFits.{holds_there, left_nobody}
 
 pub heard_append : (exits : Bool) (xs ys : List Answer) (l : Ledger) → heard_all exits (xs ++ ys) l ≡ heard_all exits ys (heard_all exits xs l)
 heard_append exits [] ys l = refl
 heard_append exits (a ∷ xs) ys l = heard_append exits xs ys (heard exits a.conn a.says l)
-
-refused_last : (k : ConnId) (answers : List Answer) → IsRefused k answers → Last k answers
-refused_last k answers (inl e) = by_refusal refusals.DeviceFault e
-refused_last k answers (inr w) = wants_last k answers w
 
 module _ (good : Type 0) (set : Settings) (n : ℕ) (m : Machine) (l : Ledger) (f : Fits good set n m l) where
   holds_raised : (stored : Stored) (promised : ℕ) (k : ConnId) (c : ℕ) → m.owner n ≡ Some k → HoldsRecords stored promised (m.owner n) l.shown l.promised
@@ -44,8 +40,8 @@ module _ (good : Type 0) (set : Settings) (n : ℕ) (m : Machine) (l : Ledger) (
   }
 
   -- the ledger where a commit point is told to the one who writes
-  commits_together : (i : ℕ) (answers : List Answer) (mid : Machine) → Commits i answers m mid → Fits good set n mid (heard_all false answers l)
-  commits_together i answers mid t = rw (t.now, t.told) (elim (eq_or n i) [
+  commits_together : (failed : List Owner) (i : ℕ) (answers : List Answer) (mid : Machine) → Commits failed i answers m mid → Fits good set n mid (heard_all false answers l)
+  commits_together failed i answers mid t = rw (t.now, t.told) (elim (eq_or n i) [
     | equal p u ↦
         let own : m.owner n ≡ Some t.writer = ap m.owner p ∙ t.owned in
         let w : writes l t.writer ≡ true = writes_its l t.writer (f.agrees.writers ∙ ap as_list own) in
@@ -75,7 +71,7 @@ module _ (good : Type 0) (set : Settings) (n : ℕ) (m : Machine) (l : Ledger) (
       go (by_shut is) = rw (t.now, is) (lost_died failed i answers mid t)
 
   pub flushed_together : (failed : List Owner) (i : ℕ) (answers : List Answer) (mid : Machine) → FlushesLog failed i answers m mid → Fits good set n mid (heard_all false answers l)
-  flushed_together failed i answers mid (inl t) = commits_together i answers mid t
+  flushed_together failed i answers mid (inl t) = commits_together failed i answers mid t
   flushed_together failed i answers mid (inr t) = fails_together failed i answers mid t
 
   refused_one : (failed : List Owner) (k : ConnId) (answers : List Answer) (mid : Machine) → RefusesOne failed k answers m mid → Fits good set n mid (heard_all false answers l)
@@ -105,7 +101,7 @@ with_lines_together : (good : Type 0) (set : Settings) (n : ℕ) (m : Machine) (
 with_lines_together good set n m wrote l f = fits_beside good set n m m.failed_draws m.waiting (with_lines wrote m).lines [] [] l f
 
 pub lines_together : (good : Type 0) (set : Settings) (n : ℕ) (failed : List Owner) (answers : List Answer) (m new : Machine) (l : Ledger) → Fits good set n m l → FlushesLines set failed answers m new → Fits good set n new (heard_all false answers l)
-lines_together good set n failed answers m new l f (inl t) = rw (t.1, t.0) (with_lines_together good set n m true l f)
+lines_together good set n failed answers m new l f (inl t) = rw (t.2, t.1) (with_lines_together good set n m true l f)
 lines_together good set n failed answers m new l f (inr t) = all_refused good set n failed m.noting answers (with_lines t.wrote m) new l (with_lines_together good set n m t.wrote l f) t.refuses
 
 pub tail_together : (good : Type 0) (set : Settings) (n : ℕ) (m : Machine) (l : Ledger) → Fits good set n m l → (tail : Tail) (new : Machine) → EndOfTurn set m tail new → Fits good set n new (noted n l (Tailed tail))

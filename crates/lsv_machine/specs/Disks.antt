@@ -27,14 +27,19 @@ GoodOr r before after n images = (image : Image) → images image → GoodAt r b
 abbrev pub AllWithin : Reading → Past → ℕ → (Image → Type 0) → Type 0
 AllWithin r p n images = (image : Image) → images image → Within r p.history p.acts image n
 
+-- of the log the same is read on two images
+pub record SameLog (r : Reading) (n : ℕ) (was image : Image) : Type 0 where
+  pub to : (found : Recovered) → r.replays was n found → r.replays image n found
+  pub back : (found : Recovered) → r.replays image n found → r.replays was n found
+
 -- each of these images holds of the log what one of those before held
 abbrev pub AsBefore : Reading → ℕ → (before images : Image → Type 0) → Type 0
-AsBefore r n before images = (image : Image) → images image → (was : Image) × before was × ((found : Recovered) → r.replays was n found → r.replays image n found)
+AsBefore r n before images = (image : Image) → images image → (was : Image) × before was × SameLog r n was image
 
 -- a log that was not touched but by syncs: each image holds of it what one held before, and it reads as it did
 pub record Rests (r : Reading) (n : ℕ) (old new : DiskView) : Type 0 where
   pub images : AsBefore r n (IsCrashImage old) (IsCrashImage new)
-  pub reads : (found : Recovered) → r.replays old.reads n found → r.replays new.reads n found
+  pub reads : SameLog r n old.reads new.reads
 
 -- ---- Numbers
 

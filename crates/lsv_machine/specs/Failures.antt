@@ -20,7 +20,7 @@ use Rattle.lsv_session.specs.declared.job.Job.{Job}
 use Rattle.lsv_machine.specs.Answers.{Answer, Shut, say, refusal}
 use Rattle.lsv_machine.specs.Judgement.{judged, fault_refusal}
 use Rattle.lsv_machine.specs.Machine.{LogState, LogState.There, Machine, Settings, is_dead, leaves, log_of, with_log}
-use Rattle.lsv_machine.specs.Work.{draws, empty_log, has_line, last_number, next_number, opens, plain, with_exit}
+use Rattle.lsv_machine.specs.Work.{draws, empty_log, has_line, last_number, makes, next_number, opens, plain, with_exit}
 
 -- a job with its answers in order, the owners whose files failed in it, whether the log of a refused restart failed inside its cut, the event
 -- line that it left, and the moment of its turn
@@ -119,38 +119,61 @@ BreaksOff set failed s asked old new =
     ⊎ ((asks_to_open s asked ≡ true) × FailsToDraw set failed old new)
     ⊎ Makes set s asked old new
 
--- the log whose files a request uses: the one that an accept makes; the one that a restart names, where nobody writes it; the one that an exit ends
-abbrev pub UsesLog : Machine → Machine → ConnState → Request → ℕ → Type 0
-UsesLog old new s (request.Accept accept) n = (opens s (request.Accept accept) ≡ true) × (old.last < n) × (new.last ≡ n)
-UsesLog old new s (request.Restart restart) n = (restart.log ≡ n) × (old.owner n ≡ None)
-UsesLog old new s (request.Exit exit) n = log_of s ≡ Some n
-UsesLog old new s asked n = ⊥
+-- an accept's number was drawn and its log made, when its event line met a fault
+pub record HasMade (set : Settings) (accept : Accept) (old new : Machine) : Type 0 where
+  pub number : ℕ
+  pub drawn : MayDraw set old number
+  pub within : number ≤ last_number
+  pub now : new ≡ makes number (head_text accept.head) old
 
--- the owners whose files a request uses: the lane's number file, for an accept that opens a log; its event log, for a line; and the log
-abbrev pub Uses : Settings → Machine → Machine → ConnState → Request → Owner → Type 0
-Uses set old new s asked (Numbers lane) = (lane ≡ set.lane) × (opens s asked ≡ true)
-Uses set old new s asked (Events lane) = (lane ≡ set.lane) × (has_line set asked ≡ true)
-Uses set old new s asked (Log n) = UsesLog old new s asked n
-Uses set old new s asked (Relay n) = ⊥
+-- an exit was set, where the connection has a log, when its event line met a fault
+abbrev pub HasSet : Option ℕ → List ℕ → Machine → Machine → Type 0
+HasSet None exit old new = new ≡ old
+HasSet (Some n) exit old new = (log : LogState) × IsSet exit (old.logs n) log × (new ≡ with_log n log old)
+
+-- the event log failed at a request's line: what was done before the line is done, and any other log is let go
+abbrev pub LosesLine : Settings → List Owner → ConnState → Request → Machine → Machine → Type 0
+LosesLine set failed s (request.Accept accept) old new =
+    ((opens s (request.Accept accept) ≡ true) × HasMade set accept old new)
+    ⊎ ((opens s (request.Accept accept) ≡ false) × LeavesLog failed (log_of s) None old new)
+LosesLine set failed s (request.Exit exit) old new = HasSet (log_of s) (exit_text exit) old new
+LosesLine set failed s asked old new = LeavesLog failed (log_of s) None old new
+
+-- log n failed: the one that an accept makes; the one that a restart names and nobody writes, which is as it was; the one that an exit ends, in which the exit may be set
+abbrev pub LogFails : Settings → List Owner → ConnState → Request → ℕ → Machine → Machine → Type 0
+LogFails set failed s (request.Accept accept) n old new = (made : Makes set s (Ok (request.Accept accept)) old new) × (made.number ≡ n)
+LogFails set failed s (request.Restart restart) n old new = (restart.log ≡ n) × (old.owner n ≡ None) × (new ≡ old)
+LogFails set failed s (request.Exit exit) n old new = (log_of s ≡ Some n) × LeavesLog failed (Some n) (Some (exit_text exit)) old new
+LogFails set failed s asked n old new = ⊥
+
+-- what a request leaves by the owner that failed: the lane's number file, for an accept that opens a log; its event log, for a line; or the log
+abbrev pub FailsAt : Settings → List Owner → ConnState → Request → Owner → Machine → Machine → Type 0
+FailsAt set failed s asked (Numbers lane) old new = (lane ≡ set.lane) × (opens s asked ≡ true) × FailsToDraw set failed old new
+FailsAt set failed s asked (Events lane) old new = (lane ≡ set.lane) × (has_line set asked ≡ true) × LosesLine set failed s asked old new
+FailsAt set failed s asked (Log n) old new = LogFails set failed s asked n old new
+FailsAt set failed s asked (Relay n) old new = ⊥
 
 -- a request that isn't refused met a device fault: an owner failed that it uses
-pub record MeetsFault (set : Settings) (old new : Machine) (s : ConnState) (asked : Result Request Refusal) (failed : List Owner) : Type 0 where
+pub record MeetsFault (set : Settings) (failed : List Owner) (s : ConnState) (asked : Result Request Refusal) (old new : Machine) : Type 0 where
   pub request : Request
   pub asks : asked ≡ Ok request
   pub owner : Owner
-  pub uses : Uses set old new s request owner
   pub did : Contains failed owner
+  pub leaves : FailsAt set failed s request owner old new
 
 -- the answers where memory was wanting: the error, or a Shut alone in its place
 abbrev pub WantsMemory : ConnId → List Answer → Type 0
 WantsMemory k answers = (answers ≡ refusal k OutOfMemory) ⊎ (answers ≡ say k Shut ∷ [])
 
--- a job ends its connection for want of memory or by a device fault
+-- the connection is refused for a device fault, or memory was wanting for that
+abbrev pub IsRefused : ConnId → List Answer → Type 0
+IsRefused k answers = (answers ≡ refusal k DeviceFault) ⊎ WantsMemory k answers
+
+-- a job ends its connection: memory was wanting, however far the work had come; or it met a device fault
 pub record BrokenOff (set : Settings) (old : Machine) (act : Act) (asked : Result Request Refusal) (new : Machine) : Type 0 where
   pub left : Machine
-  pub how_far : BreaksOff set act.failed (old.states act.job.conn) asked old left
-  pub why : WantsMemory act.job.conn act.answers
-      ⊎ ((act.answers ≡ refusal act.job.conn DeviceFault) × MeetsFault set old left (old.states act.job.conn) asked act.failed)
+  pub why : (WantsMemory act.job.conn act.answers × BreaksOff set act.failed (old.states act.job.conn) asked old left)
+      ⊎ (IsRefused act.job.conn act.answers × MeetsFault set act.failed (old.states act.job.conn) asked old left)
   pub now : new ≡ leaves act.job.conn Dead left
 
 -- the same of a job's body: a Gone never ends so
@@ -190,7 +213,7 @@ pub record FailsCut (set : Settings) (old : Machine) (act : Act) (new : Machine)
   pub did : Contains act.failed (Log restart.log)
   pub log : LogState
   pub fails : FailsInCut restart.point (old.logs restart.log) log
-  pub answers : act.answers ≡ refusal act.job.conn DeviceFault
+  pub answers : IsRefused act.job.conn act.answers
   pub now : new ≡ leaves act.job.conn Dead (with_log restart.log log old)
 
 -- ---- A step

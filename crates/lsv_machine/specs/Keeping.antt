@@ -1,5 +1,5 @@
 -- What a keeper owes: one job, the end of a turn, a turn, and the opening of the store, each as a step of the machine with what it leaves on the disk.
-use Rattle.std.specs.Prelude.{◌≡◌, ◌≤◌, ◌⊎◌, ◌++◌, ℕ, true, false, List, [], ◌∷◌, map, All}
+use Rattle.std.specs.Prelude.{◌≡◌, ◌≤◌, ◌⊎◌, ◌++◌, ℕ, true, false, List, [], ◌∷◌, map, All, Contains}
 use Rattle.std.specs.List.{flat_map}
 use Rattle.lsv_base.specs.declared.time.TimeSpec.{TimeSpec}
 use Rattle.lsv_disk.specs.Throughout.{Jointly}
@@ -9,7 +9,7 @@ use Rattle.lsv_disk.specs.declared.file.Owner.TheVariants.{Events}
 use Rattle.lsv_session.specs.declared.job.Job.{Job}
 use Rattle.lsv_session.specs.declared.reply.Reply.{Reply}
 use Rattle.lsv_machine.specs.Answers.{reply_of}
-use Rattle.lsv_machine.specs.Counts.{Counts, is_among}
+use Rattle.lsv_machine.specs.Counts.{Counts}
 use Rattle.lsv_machine.specs.Disks.{AllGood, AllWithin, AsBefore, GoodOr, KeepsNumbers, LinesAsBeforeOr, LinesRest, Rests}
 use Rattle.lsv_machine.specs.Durable.{GoodAt, Reading}
 use Rattle.lsv_machine.specs.Failures.{Act, Step}
@@ -56,7 +56,7 @@ pub record Ended (r : Reading) (set : Settings) (tail : Tail) (Ends : Machine �
 -- the event lines of the turn are flushed: at each moment the event log is as before or has them, and at the end it has them, unless it failed; and then it reads as the machine says
 pub record LinesFlushed (r : Reading) (set : Settings) (tail : Tail) (m after : Machine) (old new : DiskView) : Type 0 where
   pub moments : Jointly (LinesAsBeforeOr r (IsCrashImage old) (m.lines ++ m.fresh)) old new
-  pub now : ((is_among (Events set.lane) tail.failed ≡ true) × LinesAsBeforeOr r (IsCrashImage old) (m.lines ++ m.fresh) (IsCrashImage new))
+  pub now : (Contains tail.failed (Events set.lane) × LinesAsBeforeOr r (IsCrashImage old) (m.lines ++ m.fresh) (IsCrashImage new))
       ⊎ ((m.fresh ≡ []) × LinesRest r old new)
       ⊎ ((image : Image) → IsCrashImage new image → r.lines image (m.lines ++ m.fresh))
   pub reads : r.lines old.reads m.lines → r.lines new.reads after.lines
@@ -114,6 +114,7 @@ pub record Turned (r : Reading) (set : Settings) (now : TimeSpec) (jobs : List J
   pub unsettled_logs : KeepsUnsettled r set acts (turn_of acts tail) m old new
   pub numbers : KeepsNumbers r set.lane set.lanes old new
   pub lines : KeepsLines r set acts (turn_of acts tail) m old new
+  pub lines_read : r.lines old.reads m.lines → r.lines new.reads after.lines
 
 -- ---- Opening
 

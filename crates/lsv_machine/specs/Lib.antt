@@ -10,6 +10,7 @@ pub mod Lines
 pub mod Durable
 pub mod Starts
 pub mod Stands
+pub mod Silence
 pub mod Disks
 pub mod Keeping
 pub mod Recovery

@@ -1,8 +1,7 @@
 -- What the event log may hold: the lines of each turn in which it didn't fail, and of each other turn all its lines or none.
-use Rattle.std.specs.Prelude.{◌≡◌, ◌⊎◌, ℕ, true, List, [], ◌∷◌, ◌++◌}
+use Rattle.std.specs.Prelude.{◌≡◌, ◌⊎◌, ℕ, Contains, List, [], ◌∷◌, ◌++◌}
 use Rattle.std.specs.List.{flat_map}
 use Rattle.lsv_disk.specs.declared.file.Owner.TheVariants.{Events}
-use Rattle.lsv_machine.specs.Counts.{is_among}
 use Rattle.lsv_machine.specs.Failures.{Act}
 use Rattle.lsv_machine.specs.Turns.{Happened, Happened.Did, Happened.Tailed, Happened.Begins}
 
@@ -16,7 +15,7 @@ LinesFrom lane text fresh [] text' fresh' = (text' ≡ text) × (fresh' ≡ fres
 LinesFrom lane text fresh (Did act ∷ history) text' fresh' = LinesFrom lane text (fresh ++ act.line) history text' fresh'
 LinesFrom lane text fresh (Tailed tail ∷ history) text' fresh' =
     LinesFrom lane (text ++ fresh) [] history text' fresh'
-    ⊎ ((is_among (Events lane) tail.failed ≡ true) × LinesFrom lane text [] history text' fresh')
+    ⊎ (Contains tail.failed (Events lane) × LinesFrom lane text [] history text' fresh')
 LinesFrom lane text fresh (Begins texts ∷ history) text' fresh' =
     LinesFrom lane (text ++ fresh) [] history text' fresh'
     ⊎ LinesFrom lane text [] history text' fresh'

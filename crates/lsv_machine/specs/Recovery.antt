@@ -1,5 +1,6 @@
 -- Crash recovery of one run: what it leaves of each log at each of its moments, whatever happened before it.
-use Rattle.std.specs.Prelude.{◌≡◌, ◌≤◌, ◌⊎◌, ◌++◌, ℕ, false, List, [], ◌∷◌, length, take}
+use Rattle.std.specs.Prelude.{◌≡◌, ◌≤◌, ◌⊎◌, ◌++◌, ℕ, false, List, [], ◌∷◌, length, take, All}
+use Rattle.lsv_base.specs.declared.time.TimeSpec.{TimeSpec}
 use Rattle.lsv_disk.specs.View.{DiskView, IsCrashImage}
 use Rattle.lsv_machine.specs.Counts.{Counts}
 use Rattle.lsv_machine.specs.Disks.{AllGood, AllWithin, NumbersFit, Past}
@@ -15,8 +16,9 @@ pub record Outside : Type 1 where
   pub found : DiskView
   pub left : DiskView
 
--- a turn, and the number of the moment at which it ended
+-- a turn: the moment of its jobs on the clock, its jobs, its end, and the number of the disk's moment at which it ended
 pub record Turn : Type 0 where
+  pub now : TimeSpec
   pub acts : List Act
   pub tail : Tail
   pub ended : ℕ
@@ -42,9 +44,15 @@ pub record GoesOn (texts : List (List ℕ)) (p : Past) (g : List Happened) : Typ
   pub some : done ≤ length p.acts
   pub is : g ≡ (p.history ++ all_acted (take done p.acts)) ++ Begins texts ∷ []
 
--- the moments of a run: those of the opening, and then a stretch for each turn
+-- the jobs of each of these turns came at its moment
+abbrev pub AtTheirMoments : List Turn → Type 0
+AtTheirMoments [] = Unit {0}
+AtTheirMoments (t ∷ turns) = All (λ act. act.now ≡ t.now) t.acts × AtTheirMoments turns
+
+-- the disk's moments of a run: those of the opening, and then a stretch for each turn, in order
 pub record Spans (o : Outside) (s : Story) : Type 0 where
   pub first : o.found.moment ≤ s.opened
+  pub rising : (before after : List Turn) (t : Turn) → s.turns ≡ before ++ t ∷ after → ended_at s.opened before ≤ t.ended
   pub within : (before after : List Turn) → s.turns ≡ before ++ after → ended_at s.opened before ≤ o.left.moment
   pub whole : ended_at s.opened s.turns ≡ o.left.moment
 
@@ -65,11 +73,11 @@ pub record Kept (r : Reading) (o : Outside) (s : Story) (n : ℕ) (p : Past) (g 
   pub now : AllGood r (ledger (g ++ all_turns s.turns) n) n (IsCrashImage o.left)
       ⊎ ((settled n g (all_turns s.turns) ≡ false) × AllWithin r p n (IsCrashImage o.left) × Good r (g ++ all_turns s.turns) o.left.reads n)
 
--- crash recovery: a run with these texts, for each log and all that may have happened before it. It holds of a run whose opening failed too
+-- crash recovery: a run with these texts, for each log and all that may have happened before it. It holds of a run whose opening failed too, and then of no turns
 pub record Recovers (r : Reading) (lane lanes : ℕ) (texts : List (List ℕ)) (o : Outside) (s : Story) : Type 0 where
   pub spans : Spans o s
   pub logs : (n : ℕ) (p : Past) (g : List Happened) → AllWithin r p n (IsCrashImage o.found) → GoesOn texts p g → Good r g o.found.reads n → Kept r o s n p g
-  pub numbers : (k : ℕ) → o.found.moment ≤ k → k ≤ o.left.moment → NumbersFit r lane lanes (o.left.crash_images_at k)
+  pub numbers : NumbersFit r lane lanes (IsCrashImage o.found) → (k : ℕ) → o.found.moment ≤ k → k ≤ o.left.moment → NumbersFit r lane lanes (o.left.crash_images_at k)
 
 -- the turns of a run are the machine's, from what the disk was read as; and what failed in them is at most what was counted
 pub record Ran (r : Reading) (set : Settings) (texts : List (List ℕ)) (o : Outside) (end : Machine) (s : Story) : Type 0 where
@@ -79,4 +87,5 @@ pub record Ran (r : Reading) (set : Settings) (texts : List (List ℕ)) (o : Out
   pub drawn : r.drawn o.found.reads start.last
   pub lines : r.lines o.found.reads start.lines
   pub run : Run set start (all_turns s.turns) end
+  pub moments : AtTheirMoments s.turns
   pub counts : Counts (all_turns s.turns) o.found o.left

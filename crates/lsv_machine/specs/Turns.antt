@@ -9,7 +9,7 @@ use Rattle.lsv_request.specs.declared.refusal.Refusal.TheVariants.{DeviceFault}
 use Rattle.lsv_session.specs.declared.connection.ConnId.{ConnId}
 use Rattle.lsv_session.specs.declared.connection.ConnState.TheVariants.{Dead}
 use Rattle.lsv_machine.specs.Answers.{Answer, CommitPoint, say, refusal}
-use Rattle.lsv_machine.specs.Failures.{Act, LeavesLog, LosesTail, Step, WantsMemory}
+use Rattle.lsv_machine.specs.Failures.{Act, IsRefused, LeavesLog, LosesTail, Step}
 use Rattle.lsv_machine.specs.Machine.{LogState, LogState.There, Machine, Settings, is_dead, leaves, log_of, with_log}
 
 -- the end of a turn: its answers in order, and the owners whose files failed in it
@@ -20,10 +20,6 @@ pub record Tail : Type 0 where
 -- the larger of what is promised and the records through the first that ends at a point
 abbrev pub raised : ℕ → List Record → ℕ → ℕ
 raised promised records point = max promised (unwrap_or (first records point) promised)
-
--- the connection is refused for a device fault, or memory was wanting for that
-abbrev pub IsRefused : ConnId → List Answer → Type 0
-IsRefused k answers = (answers ≡ refusal k DeviceFault) ⊎ WantsMemory k answers
 
 -- ---- Event lines
 
@@ -52,19 +48,20 @@ pub record LosesLines (set : Settings) (failed : List Owner) (answers : List Ans
   pub wrote : Bool
   pub refuses : RefusesAll failed old.noting answers (with_lines wrote old) new
 
--- the event lines of the turn are flushed
+-- the event lines of the turn are flushed: the event log took them, or it failed
 abbrev pub FlushesLines : Settings → List Owner → List Answer → Machine → Machine → Type 0
-FlushesLines set failed answers old new = ((answers ≡ []) × (new ≡ with_lines true old)) ⊎ LosesLines set failed answers old new
+FlushesLines set failed answers old new = ((Contains failed (Events set.lane) → ⊥) × (answers ≡ []) × (new ≡ with_lines true old)) ⊎ LosesLines set failed answers old new
 
 -- ---- Commit points
 
--- a log's writer has a commit point at its elapsed time
-pub record Commits (n : ℕ) (answers : List Answer) (old new : Machine) : Type 0 where
+-- a log that didn't fail: its writer has a commit point at its elapsed time
+pub record Commits (failed : List Owner) (n : ℕ) (answers : List Answer) (old new : Machine) : Type 0 where
   pub writer : ConnId
   pub owned : old.owner n ≡ Some writer
   pub stored : Stored
   pub promised : ℕ
   pub was : old.logs n ≡ There stored promised
+  pub sound : Contains failed (Log n) → ⊥
   pub told : answers ≡ say writer (CommitPoint (elapsed stored.records)) ∷ []
   pub now : new ≡ with_log n (There stored (raised promised stored.records (elapsed stored.records))) old
 
@@ -80,7 +77,7 @@ pub record FailsFlush (failed : List Owner) (n : ℕ) (answers : List Answer) (o
 
 -- one log is flushed
 abbrev pub FlushesLog : List Owner → ℕ → List Answer → Machine → Machine → Type 0
-FlushesLog failed n answers old new = Commits n answers old new ⊎ FailsFlush failed n answers old new
+FlushesLog failed n answers old new = Commits failed n answers old new ⊎ FailsFlush failed n answers old new
 
 -- these logs are flushed, one after another
 abbrev pub FlushesLogs : List Owner → List ℕ → List Answer → Machine → Machine → Type 0
@@ -115,3 +112,10 @@ Run set old [] new = new ≡ old
 Run set old (Did act ∷ rest) new = (mid : Machine) × Step set old act mid × Run set mid rest new
 Run set old (Tailed tail ∷ rest) new = (mid : Machine) × EndOfTurn set old tail mid × Run set mid rest new
 Run set old (Begins texts ∷ rest) new = ⊥
+
+-- each run of a history begins with these texts
+abbrev pub AllBegin : (texts : List (List ℕ)) → List Happened → Type 0
+AllBegin texts [] = Unit {0}
+AllBegin texts (Did act ∷ history) = AllBegin texts history
+AllBegin texts (Tailed tail ∷ history) = AllBegin texts history
+AllBegin texts (Begins others ∷ history) = (others ≡ texts) × AllBegin texts history
