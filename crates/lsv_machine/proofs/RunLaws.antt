@@ -7,13 +7,15 @@ use Rattle.lsv_record.specs.declared.records.Record.{Record}
 use Rattle.lsv_session.specs.declared.connection.ConnId.{ConnId}
 use Rattle.lsv_session.specs.declared.connection.ConnState.TheVariants.{Fresh}
 use Rattle.lsv_machine.specs.Durable.{GoodFor, GoodLog, IsPrefix, Keeps}
+use Rattle.lsv_machine.specs.Failures.{Act, Step}
 use Rattle.lsv_machine.specs.History.{Ledger, blank, ledger, ledger_from, noted, promised, shown, writers}
 use Rattle.lsv_machine.specs.Machine.{IsOfLane, LogState, LogState.Absent, LogState.Damaged, LogState.There, Machine, Settings, is_dead, log_of}
 use Rattle.lsv_machine.specs.Stands.{HoldsAt, HoldsRecords, Sound, Stands, StandsFor, as_list}
 use Rattle.lsv_machine.specs.Starts.{Continues, GoodState, StartsAs}
-use Rattle.lsv_machine.specs.Turns.{Happened, Happened.Did, Happened.Tailed, Happened.Begins, Run}
+use Rattle.lsv_machine.specs.Turns.{Happened, Happened.Did, Happened.Tailed, Happened.Begins, EndOfTurn, Run, Tail}
 use Rattle.lsv_machine.proofs.Fits.{Fits, fits_of_stands, stands_of_fits}
-use Rattle.lsv_machine.proofs.RunFits.{run_together}
+use Rattle.lsv_machine.proofs.JobFits.{step_together}
+use Rattle.lsv_machine.proofs.RunFits.{run_together, tail_together}
 use Rattle.lsv_machine.proofs.WorkFits.{holds_there}
 
 pub ledger_append : (n : ℕ) (l : Ledger) (g h : List Happened) → ledger_from n l (g ++ h) ≡ ledger_from n (ledger_from n l g) h
@@ -126,3 +128,11 @@ run_append set [] h a b c r s = subst (λ x. Run set x h c) r s
 run_append set (Did act ∷ g) h a b c (mid, step, rest) s = (mid, step, run_append set g h mid b c rest s)
 run_append set (Tailed tail ∷ g) h a b c (mid, step, rest) s = (mid, step, run_append set g h mid b c rest s)
 run_append set (Begins texts ∷ g) h a b c r s = absurd r
+
+-- ---- One job, one end of a turn
+
+pub job_stands : (set : Settings) (n : ℕ) (l : Ledger) (act : Act) (m after : Machine) → StandsFor set n m l → Step set m act after → StandsFor set n after (noted n l (Did act))
+job_stands set n l act m after s t = stands_of_fits set n after (noted n l (Did act)) (step_together (Unit {0}) set n m l act after (fits_of_stands set n m l s) t)
+
+pub tail_stands : (set : Settings) (n : ℕ) (l : Ledger) (tail : Tail) (m after : Machine) → StandsFor set n m l → EndOfTurn set m tail after → StandsFor set n after (noted n l (Tailed tail))
+tail_stands set n l tail m after s t = stands_of_fits set n after (noted n l (Tailed tail)) (tail_together (Unit {0}) set n m l (fits_of_stands set n m l s) tail after t)

@@ -173,3 +173,6 @@ shown_masked by m texts h n a = masked_from by m texts h n (noted n blank (Begin
 
 pub shown_plain : ByDelays → Masks → (h : List Happened) (n : ℕ) → AllBegin [] h → shown h n ≡ sent h n
 shown_plain by m h n a = masked_from by m [] h n blank refl refl refl a ∙ m.no_texts (sent h n)
+
+pub sent_length : ByDelays → (h : List Happened) (n : ℕ) → length (sent h n) ≡ length (shown h n)
+sent_length by h n = same_length (sent h n) (shown h n) (shown_delays by h n)
