@@ -12,3 +12,5 @@ pub mod RunFits
 pub mod RunLaws
 pub mod Promises
 pub mod Shown
+pub mod Shapes
+pub mod StepLooks
