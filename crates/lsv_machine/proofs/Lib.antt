@@ -14,3 +14,4 @@ pub mod Promises
 pub mod Shown
 pub mod Shapes
 pub mod StepLooks
+pub mod Silent
