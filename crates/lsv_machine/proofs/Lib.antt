@@ -15,3 +15,4 @@ pub mod Shown
 pub mod Shapes
 pub mod StepLooks
 pub mod Silent
+pub mod OutcomeLemmas
