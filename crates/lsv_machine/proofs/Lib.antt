@@ -16,3 +16,6 @@ pub mod Shapes
 pub mod StepLooks
 pub mod Silent
 pub mod OutcomeLemmas
+pub mod Weaken
+pub mod Untouched
+pub mod Splits
