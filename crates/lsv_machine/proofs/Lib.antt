@@ -19,3 +19,7 @@ pub mod OutcomeLemmas
 pub mod Weaken
 pub mod Untouched
 pub mod Splits
+pub mod Folds
+pub mod TailFolds
+pub mod Recovering
+pub mod Chains

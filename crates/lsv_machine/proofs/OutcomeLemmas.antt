@@ -210,11 +210,14 @@ flushes_once failed failed' (n ∷ numbers) as' bs m x y e e' (mid, its, rest, p
     (parts ∙ (ap (λ (z : List Answer). z ++ rest) a ∙ (ap (λ (z : List Answer). its' ++ z) b ∙ sym parts')), q)
 
 pub one_tail : (set : Settings) (old x y : Machine) (s t : Tail) → s.failed ≡ [] → t.failed ≡ [] → EndOfTurn set old s x → EndOfTurn set old t y → (s.answers ≡ t.answers) × (x ≡ y)
-one_tail set old x y s t e e' (mid, its, rest, parts, inl lines, logs) (mid', its', rest', parts', inl lines', logs') =
-    let p : mid ≡ mid' = lines.2 ∙ sym lines'.2 in
-    let a : its ≡ its' = lines.1 ∙ sym lines'.1 in
-    let logs'' : FlushesLogs t.failed mid.waiting rest' mid y = subst (λ z. FlushesLogs t.failed z.waiting rest' z y) (sym p) logs' in
-    let (b, q) = flushes_once s.failed t.failed mid.waiting rest rest' mid x y e e' logs logs'' in
-    (parts ∙ (ap (λ (z : List Answer). z ++ rest) a ∙ (ap (λ (z : List Answer). its' ++ z) b ∙ sym parts')), q)
-one_tail set old x y s t e e' (mid, its, rest, parts, inr lines, logs) u = absurd (none_among (Events set.lane) s.failed e lines.did)
-one_tail set old x y s t e e' (mid, its, rest, parts, inl lines, logs) (mid', its', rest', parts', inr lines', logs') = absurd (none_among (Events set.lane) t.failed e' lines'.did)
+one_tail set old x y s t e e' u v = go u.lines v.lines
+  where
+    go : FlushesLines set s.failed u.of_lines old u.mid → FlushesLines set t.failed v.of_lines old v.mid → (s.answers ≡ t.answers) × (x ≡ y)
+    go (inl a) (inl b) =
+        let p : u.mid ≡ v.mid = a.2 ∙ sym b.2 in
+        let q : u.of_lines ≡ v.of_lines = a.1 ∙ sym b.1 in
+        let logs : FlushesLogs t.failed u.mid.waiting v.of_logs u.mid v.last = subst (λ z. FlushesLogs t.failed z.waiting v.of_logs z v.last) (sym p) v.logs in
+        let (w, z) = flushes_once s.failed t.failed u.mid.waiting u.of_logs v.of_logs u.mid u.last v.last e e' u.logs logs in
+        (u.answers ∙ (ap (λ (k : List Answer). k ++ u.of_logs) q ∙ (ap (λ (k : List Answer). v.of_lines ++ k) w ∙ sym v.answers)), u.now ∙ (ap (λ (k : Machine). record k { waiting = [] }) z ∙ sym v.now))
+    go (inr a) b = absurd (none_among (Events set.lane) s.failed e a.did)
+    go (inl a) (inr b) = absurd (none_among (Events set.lane) t.failed e' b.did)

@@ -86,7 +86,7 @@ module _ (good : Type 0) (set : Settings) (n : ℕ) (m : Machine) (l : Ledger) (
 
 pub all_flushed : (good : Type 0) (set : Settings) (n : ℕ) (failed : List Owner) (numbers : List ℕ) (answers : List Answer) (m new : Machine) (l : Ledger) → Fits good set n m l → FlushesLogs failed numbers answers m new
     → Fits good set n new (heard_all false answers l)
-all_flushed good set n failed [] answers m new l f t = rw (t.1, t.0) (fits_beside good set n m m.failed_draws [] m.lines m.fresh m.noting l f)
+all_flushed good set n failed [] answers m new l f t = rw (t.1, t.0) f
 all_flushed good set n failed (i ∷ numbers) answers m new l f (mid, its, rest, parts, one, more) =
     rw (parts, heard_append false its rest l) (all_flushed good set n failed numbers rest mid new (heard_all false its l) (flushed_together good set n m l f failed i its mid one) more)
 
@@ -105,8 +105,12 @@ lines_together good set n failed answers m new l f (inl t) = rw (t.2, t.1) (with
 lines_together good set n failed answers m new l f (inr t) = all_refused good set n failed m.noting answers (with_lines t.wrote m) new l (with_lines_together good set n m t.wrote l f) t.refuses
 
 pub tail_together : (good : Type 0) (set : Settings) (n : ℕ) (m : Machine) (l : Ledger) → Fits good set n m l → (tail : Tail) (new : Machine) → EndOfTurn set m tail new → Fits good set n new (noted n l (Tailed tail))
-tail_together good set n m l f tail new (mid, its, rest, parts, lines, logs) =
-    rw (parts, heard_append false its rest l) (all_flushed good set n tail.failed mid.waiting rest mid new (heard_all false its l) (lines_together good set n tail.failed its m mid l f lines) logs)
+tail_together good set n m l f tail new t =
+    let between = lines_together good set n tail.failed t.of_lines m t.mid l f t.lines in
+    let flushed = all_flushed good set n tail.failed t.mid.waiting t.of_logs t.mid t.last (heard_all false t.of_lines l) between t.logs in
+    let parts = t.answers in
+    let last = t.last in
+    rw (t.now, parts, heard_append false t.of_lines t.of_logs l) (fits_beside good set n last last.failed_draws [] last.lines last.fresh last.noting (heard_all false t.of_logs (heard_all false t.of_lines l)) flushed)
 
 -- a run keeps machine and history together
 pub run_together : (good : Type 0) (set : Settings) (n : ℕ) (h : List Happened) (m end : Machine) (l : Ledger) → Fits good set n m l → Run set m h end → Fits good set n end (ledger_from n l h)

@@ -171,10 +171,11 @@ lines_quiet set failed k answers m new q (inr t) =
     shut_or (unknown e h) = inr h
 
 pub tail_quiet : (set : Settings) (k : ConnId) (m : Machine) (tail : Tail) (new : Machine) → Sound set m → Quiet k m → EndOfTurn set m tail new → Same k m new × NoneTo k tail.answers
-tail_quiet set k m tail new s q (mid, its, rest, parts, lines, logs) =
-    let (x, a) = lines_quiet set tail.failed k its m mid q lines in
-    let (y, b) = flushes_quiet set tail.failed mid.waiting k rest mid new (lines_sound set tail.failed its m mid s lines) (quiet_log k mid (quiet_same k m mid x q)) logs in
-    (same_trans k m mid new x y, rw parts (none_append k its rest a b))
+tail_quiet set k m tail new s q t =
+    let (x, a) = lines_quiet set tail.failed k t.of_lines m t.mid q t.lines in
+    let (y, b) = flushes_quiet set tail.failed t.mid.waiting k t.of_logs t.mid t.last (lines_sound set tail.failed t.of_lines m t.mid s t.lines) (quiet_log k t.mid (quiet_same k m t.mid x q)) t.logs in
+    let z : Same k t.last new = record { state = ap (λ (w : Machine). w.states k) t.now; noting = λ h. ap (λ (w : Machine). list_any (same k) w.noting) t.now ∙ h } in
+    (same_trans k m t.last new (same_trans k m t.mid t.last x y) z, let parts = t.answers in rw parts (none_append k t.of_lines t.of_logs a b))
 
 -- ---- Who is shut in a tail is dead
 
@@ -206,9 +207,12 @@ lines_shut set failed answers m new (inl t) = rw t.1 tt
 lines_shut set failed answers m new (inr t) = refuses_shut failed m.noting answers (with_lines t.wrote m) new t.refuses
 
 pub tail_shut : (set : Settings) (m : Machine) (tail : Tail) (new : Machine) → Sound set m → EndOfTurn set m tail new → ShutsAreDead new tail.answers
-tail_shut set m tail new s (mid, its, rest, parts, lines, logs) =
-    let s' = lines_sound set tail.failed its m mid s lines in
-    rw parts (shuts_append new its rest (shuts_stay mid new its (flushes_stay set tail.failed mid.waiting rest mid new s' logs) (lines_shut set tail.failed its m mid lines)) (flushes_shut set tail.failed mid.waiting rest mid new s' logs))
+tail_shut set m tail new s t =
+    let s' = lines_sound set tail.failed t.of_lines m t.mid s t.lines in
+    let all = shuts_append t.last t.of_lines t.of_logs (shuts_stay t.mid t.last t.of_lines (flushes_stay set tail.failed t.mid.waiting t.of_logs t.mid t.last s' t.logs) (lines_shut set tail.failed t.of_lines m t.mid t.lines))
+        (flushes_shut set tail.failed t.mid.waiting t.of_logs t.mid t.last s' t.logs) in
+    let parts = t.answers in
+    rw parts (shuts_stay t.last new (t.of_lines ++ t.of_logs) (λ k e. ap (λ (w : Machine). w.states k) t.now ∙ e) all)
 
 -- ---- Without failures no device fault is told
 
@@ -225,7 +229,8 @@ lines_clean set answers m new failed none (inl t) = rw t.1 tt
 lines_clean set answers m new failed none (inr t) = absurd (none_among (Events set.lane) failed none t.did)
 
 pub tail_clean : (set : Settings) (m : Machine) (tail : Tail) (new : Machine) → EndOfTurn set m tail new → tail.failed ≡ [] → NoFault tail.answers
-tail_clean set m tail new (mid, its, rest, parts, lines, logs) none = rw parts (clean_append its rest (lines_clean set its m mid tail.failed none lines) (flushes_clean mid.waiting rest mid new tail.failed none logs))
+tail_clean set m tail new t none = let parts = t.answers in
+    rw parts (clean_append t.of_lines t.of_logs (lines_clean set t.of_lines m t.mid tail.failed none t.lines) (flushes_clean t.mid.waiting t.of_logs t.mid t.last tail.failed none t.logs))
 
 -- ---- Nothing is said to a connection that is quiet
 

@@ -73,7 +73,7 @@ heard_to exits k (a ∷ answers) l (it, to) e =
     untouched_on l next (heard_all exits answers next) s (heard_to exits k answers next to (still k l next s e))
 
 -- answers to anybody, where nobody writes the log
-heard_free : (exits : Bool) (answers : List Answer) (l : Ledger) → l.writers ≡ [] → Untouched l (heard_all exits answers l)
+pub heard_free : (exits : Bool) (answers : List Answer) (l : Ledger) → l.writers ≡ [] → Untouched l (heard_all exits answers l)
 heard_free exits [] l e = untouched_same l
 heard_free exits (a ∷ answers) l e =
     let s = heard_untouched exits a.conn a.says l (nobody l a.conn e) in

@@ -81,16 +81,22 @@ FlushesLog failed n answers old new = Commits failed n answers old new ⊎ Fails
 
 -- these logs are flushed, one after another
 abbrev pub FlushesLogs : List Owner → List ℕ → List Answer → Machine → Machine → Type 0
-FlushesLogs failed [] answers old new = (answers ≡ []) × (new ≡ record old { waiting = [] })
+FlushesLogs failed [] answers old new = (answers ≡ []) × (new ≡ old)
 FlushesLogs failed (n ∷ numbers) answers old new = (mid : Machine) × (its : List Answer) × (rest : List Answer)
     × (answers ≡ its ++ rest) × FlushesLog failed n its old mid × FlushesLogs failed numbers rest mid new
 
 -- ---- Turns and runs
 
--- the event lines are flushed, and then the logs that wait
-abbrev pub EndOfTurn : Settings → Machine → Tail → Machine → Type 0
-EndOfTurn set old tail new = (mid : Machine) × (its : List Answer) × (rest : List Answer)
-    × (tail.answers ≡ its ++ rest) × FlushesLines set tail.failed its old mid × FlushesLogs tail.failed mid.waiting rest mid new
+-- the event lines are flushed, and then the logs that wait; none waits any more
+pub record EndOfTurn (set : Settings) (old : Machine) (tail : Tail) (new : Machine) : Type 0 where
+  pub mid : Machine
+  pub last : Machine
+  pub of_lines : List Answer
+  pub of_logs : List Answer
+  pub answers : tail.answers ≡ of_lines ++ of_logs
+  pub lines : FlushesLines set tail.failed of_lines old mid
+  pub logs : FlushesLogs tail.failed mid.waiting of_logs mid last
+  pub now : new ≡ record last { waiting = [] }
 
 -- what happens: a job, the end of a turn, or that a run with these texts begins, where all that ran before has stopped
 pub data Happened : Type 0 where
