@@ -23,3 +23,5 @@ pub mod Folds
 pub mod TailFolds
 pub mod Recovering
 pub mod Chains
+pub mod Under
+pub mod Wholes

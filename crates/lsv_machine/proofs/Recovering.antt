@@ -50,7 +50,7 @@ start_stands r set texts image m p g n starts reads on good =
     let cut : ledger g n ≡ noted n (ledger h n) (Begins texts) = ap (λ (x : List Happened). ledger x n) on.is ∙ begun_ledger n texts h in
     let at_g : GoodAt r (noted n (ledger h n) (Begins texts)) n image = subst (λ (l : Ledger). GoodAt r l n image) cut good in
     let at_h : GoodAt r (ledger h n) n image = at_weaker r (noted n (ledger h n) (Begins texts)) (ledger h n) n image
-        (record { head = refl; shown = refl; exit = refl; finished = refl; lower = lower_same (ledger h n).promised }) at_g in
+        (record { head = refl; sent = refl; shown = refl; exit = refl; finished = refl; lower = lower_same (ledger h n).promised }) at_g in
     subst (λ (x : List Happened). Stands set x n m) (sym on.is) (stands_begun set n texts h m starts (state_of r image n (ledger h n) (m.logs n) (reads n) at_h))
 
 -- ---- The opening

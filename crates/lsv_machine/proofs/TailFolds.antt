@@ -21,7 +21,7 @@ use Rattle.lsv_machine.specs.History.{Ledger, heard, heard_all, noted, raised_to
 use Rattle.lsv_machine.specs.Keeping.{Ended, LinesFlushed, TailEnded}
 use Rattle.lsv_machine.specs.Machine.{LogState, Machine, Settings, log_of}
 use Rattle.lsv_machine.specs.Stands.{StandsFor}
-use Rattle.lsv_machine.specs.Tails.{LinesEnded, LogEnded, LogsEnded, NoneFailed, joined}
+use Rattle.lsv_machine.specs.Tails.{LinesEnded, LogEnded, LogsEnded, NoneFailed, joined, no_answer}
 use Rattle.lsv_machine.specs.Turns.{EndOfTurn, FlushesLines, FlushesLog, FlushesLogs, Happened, Happened.Tailed, RefusesAll, Tail, raised, with_lines}
 use Rattle.lsv_machine.proofs.Fits.{fits_of_stands, stands_of_fits}
 use Rattle.lsv_machine.proofs.Folds.{Down, as_before_on, before_down, each_down, lines_as_on, lines_rest_on, lines_still, moments_on, no_counts, numbers_down, numbers_on, rests_on, rests_still, same_lines_on, still}
@@ -98,9 +98,9 @@ heard_back : (k : ConnId) (says : Saying) (l : Ledger) → Weaker (heard false k
 heard_back k (CommitPoint c) l = go (writes l k)
   where
     go : (b : Bool) → Weaker (if b then record l { promised = raised_to l.promised l.shown c; finished = l.finished || false } else l) l
-    go true = record { head = refl; shown = refl; exit = refl; finished = or_none l.finished; lower = raised_lower l.promised l.shown c }
+    go true = record { head = refl; sent = refl; shown = refl; exit = refl; finished = or_none l.finished; lower = raised_lower l.promised l.shown c }
     go false = weaker_same l
-heard_back k Shut l = record { head = refl; shown = refl; exit = refl; finished = refl; lower = lower_same l.promised }
+heard_back k Shut l = record { head = refl; sent = refl; shown = refl; exit = refl; finished = refl; lower = lower_same l.promised }
 heard_back k (LogId i) l = weaker_same l
 heard_back k (Error why) l = weaker_same l
 
@@ -160,9 +160,6 @@ lines_stand : (set : Settings) (n : ℕ) (failed : List Owner) (answers : List A
 lines_stand set n failed answers m new l s t = stands_of_fits set n new (heard_all false answers l) (lines_together (Unit {0}) set n failed answers m new l (fits_of_stands set n m l s) t)
 
 -- ---- No log yet, and one log more
-
-abbrev pub no_answer : Tail
-no_answer = record { answers = []; failed = [] }
 
 pub logs_none : (r : Reading) (set : Settings) (m : Machine) (here : DiskView) → ((image : Image) → here.crash_images_at here.moment image → IsCrashImage here image)
     → NumbersFit r set.lane set.lanes (IsCrashImage here) → LogsEnded r set [] no_answer m m here here

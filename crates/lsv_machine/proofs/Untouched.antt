@@ -59,7 +59,7 @@ or_false false b e = (refl, e)
 
 heard_untouched : (exits : Bool) (k : ConnId) (says : Saying) (l : Ledger) → writes l k ≡ false → Untouched l (heard exits k says l)
 heard_untouched exits k (CommitPoint c) l e = rw e (untouched_same l)
-heard_untouched exits k Shut l e = record { writers = without_absent k l.writers e; weaker = record { head = refl; shown = refl; exit = refl; finished = refl; lower = lower_same l.promised } }
+heard_untouched exits k Shut l e = record { writers = without_absent k l.writers e; weaker = record { head = refl; sent = refl; shown = refl; exit = refl; finished = refl; lower = lower_same l.promised } }
 heard_untouched exits k (LogId i) l e = untouched_same l
 heard_untouched exits k (Error why) l e = untouched_same l
 
@@ -87,7 +87,7 @@ restart_untouched : (l : Ledger) (k : ConnId) (c : ℕ) (it quiet shut look in_c
 restart_untouched l k c false quiet shut look in_cut s = untouched_same l
 restart_untouched l k c true true true look in_cut s = untouched_same l
 restart_untouched l k c true true false look in_cut s = absurd (cc)
-restart_untouched l k c true false shut look true s = record { writers = refl; weaker = record { head = refl; shown = refl; exit = refl; finished = refl; lower = lowered l.promised l.shown c } }
+restart_untouched l k c true false shut look true s = record { writers = refl; weaker = record { head = refl; sent = refl; shown = refl; exit = refl; finished = refl; lower = lowered l.promised l.shown c } }
 restart_untouched l k c true false shut look false s = untouched_same l
 
 record_untouched : (l : Ledger) (quiet : Bool) (r : Record) → Untouched l (if quiet && false then sent_one r l else l)
@@ -106,7 +106,7 @@ asked_untouched n k (Ok (request.Exit exit)) answers in_cut l e a s = rw e (unto
 asked_untouched n k (Err why) answers in_cut l e a s = untouched_same l
 
 reopened_untouched : (k : ConnId) (b : Bool) (l : Ledger) → Untouched l (reopened k b l)
-reopened_untouched k true l = record { writers = refl; weaker = record { head = refl; shown = refl; exit = refl; finished = refl; lower = lower_same l.promised } }
+reopened_untouched k true l = record { writers = refl; weaker = record { head = refl; sent = refl; shown = refl; exit = refl; finished = refl; lower = lower_same l.promised } }
 reopened_untouched k false l = untouched_same l
 
 -- a job of a connection that doesn't write the log, and doesn't settle it
@@ -134,7 +134,7 @@ noted_untouched n l (Did act) e s =
     let b = heard_free (is_exit what) act.answers one (a.writers ∙ e) in
     untouched_on l one three a (untouched_on one two three b (reopened_untouched act.job.conn (is_gone act.job.body) two))
 noted_untouched n l (Tailed tail) e s = heard_free false tail.answers l e
-noted_untouched n l (Begins texts) e s = record { writers = sym e; weaker = record { head = refl; shown = refl; exit = refl; finished = refl; lower = lower_same l.promised } }
+noted_untouched n l (Begins texts) e s = record { writers = sym e; weaker = record { head = refl; sent = refl; shown = refl; exit = refl; finished = refl; lower = lower_same l.promised } }
 
 pub untouched_from : (n : ℕ) (l : Ledger) (h : List Happened) → l.writers ≡ [] → settled_from n l h ≡ false → Untouched l (ledger_from n l h)
 untouched_from n l [] e s = untouched_same l

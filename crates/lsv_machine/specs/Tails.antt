@@ -9,6 +9,10 @@ use Rattle.lsv_machine.specs.Keeping.{Ended, LinesFlushed}
 use Rattle.lsv_machine.specs.Machine.{Machine, Settings}
 use Rattle.lsv_machine.specs.Turns.{FlushesLines, FlushesLog, FlushesLogs, Tail}
 
+-- no answer, and nobody failed
+abbrev pub no_answer : Tail
+no_answer = record { answers = []; failed = [] }
+
 -- two pieces of one tail, the one after the other
 abbrev pub joined : Tail → Tail → Tail
 joined s t = record { answers = s.answers ++ t.answers; failed = s.failed ++ t.failed }

@@ -3,6 +3,9 @@
 
 mod laws;
 mod outcomes;
+mod reading;
+mod runs;
+mod turns;
 
 pub use laws::{
     a_log_has_one_writer, records_are_shown, runs_join, the_invariant_is_kept,
@@ -12,3 +15,6 @@ pub use outcomes::{
     an_accepted_restart_keeps_its_point, no_fault_without_failure, nothing_is_said_after_a_shut,
     one_job_has_one_outcome, who_is_shut_is_dead,
 };
+pub use reading::ReadsStore;
+pub use runs::{a_number_that_was_told_is_drawn, all_runs_recover, runs_recover};
+pub use turns::{a_turn_is_its_jobs, an_end_is_its_pieces, other_logs_stay_good};
