@@ -11,7 +11,7 @@ use Rattle.lsv_machine.specs.Disks.{AllGood, AllWithin, AsBefore, NumbersFit, Pa
 use Rattle.lsv_machine.specs.Durable.{Good, GoodAt, GoodLog, Reading, Recovered, Within}
 use Rattle.lsv_machine.specs.Failures.{Act}
 use Rattle.lsv_machine.specs.History.{Ledger, blank, ledger, ledger_from, noted, settled}
-use Rattle.lsv_machine.specs.InnerSoFar.{SoFar}
+use Rattle.lsv_machine.specs.InnerSoFar.{SoFar, with_turn}
 use Rattle.lsv_machine.specs.Keeping.{Opened, OpensStore, Turned}
 use Rattle.lsv_machine.specs.Machine.{LogState, LogState.Absent, LogState.Damaged, LogState.There, Machine, Settings}
 use Rattle.lsv_machine.specs.Recovery.{AtTheirMoments, GoesOn, Kept, Outside, Ran, Recovers, Spans, Story, Turn, all_turns, ended_at, past_of}
@@ -102,10 +102,6 @@ opening_begins r set texts m found new fit o = record {
 }
 
 -- ---- One turn more
-
--- a run with one turn more
-abbrev pub with_turn : Story → TimeSpec → List Act → Tail → ℕ → Story
-with_turn s now acts tail k = record { opened = s.opened; turns = s.turns ++ record { now = now; acts = acts; tail = tail; ended = k } ∷ [] }
 
 abbrev Earlier : DiskView → DiskView → Type 0
 Earlier old new = (k : ℕ) (image : Image) → k ≤ old.moment → new.crash_images_at k image → old.crash_images_at k image

@@ -16,5 +16,7 @@ pub use outcomes::{
     one_job_has_one_outcome, who_is_shut_is_dead,
 };
 pub use reading::ReadsStore;
-pub use runs::{a_number_that_was_told_is_drawn, all_runs_recover, runs_recover};
+pub use runs::{
+    a_number_that_was_told_is_drawn, a_run_recovers_turn_by_turn, all_runs_recover, runs_recover,
+};
 pub use turns::{a_turn_is_its_jobs, an_end_is_its_pieces, other_logs_stay_good};
