@@ -25,3 +25,4 @@ pub mod Recovering
 pub mod Chains
 pub mod Under
 pub mod Wholes
+pub mod Cases

@@ -18,3 +18,4 @@ pub mod Tails
 pub mod Recovery
 pub mod InnerSoFar
 pub mod Lives
+pub mod Examples
