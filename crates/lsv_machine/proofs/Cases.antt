@@ -1,9 +1,9 @@
 -- The small cases, each by computing what its history says.
-use Rattle.std.proofs.Common.{◌≡◌, ◌≤◌, ◌<◌, ◌+◌, ℕ, List, [], ◌∷◌, ◌++◌, refl, sym, ◌∙◌, ap, subst, inl, inr, arith, zero, suc, Option, Some, None, ◌⊎◌, length, take}
+use Rattle.std.proofs.Common.{◌≡◌, ◌≤◌, ℕ, List, [], ◌∷◌, ◌++◌, refl, sym, ap, subst, inl, inr, arith, zero, suc, ◌⊎◌, take}
 use Rattle.lsv_record.specs.declared.records.Record.{Record}
 use Rattle.lsv_record.specs.declared.records.Record.TheVariants.{Io}
 use Rattle.lsv_machine.specs.Durable.{GoodLog}
-use Rattle.lsv_machine.specs.Examples.{FoundWithin, cut_goes_on, cut_stopped, dropped_restart, one_byte, resumed_longer, resumed_then, two_committed, uncut, was_cut}
+use Rattle.lsv_machine.specs.Examples.{FoundWithin, cut_goes_on, cut_stopped, dropped_restart, one_byte, resumed_longer, resumed_then, uncut, was_cut}
 use Rattle.lsv_machine.specs.History.{ledger}
 use Rattle.lsv_machine.specs.Recovery.{GoesOn}
 use Rattle.lsv_machine.specs.Tails.{no_answer}

@@ -1,14 +1,14 @@
 -- Runs one after another, from an empty store: what each leaves of a log is within what happened.
-use Rattle.std.proofs.Common.{◌≡◌, ◌≤◌, ◌<◌, ◌+◌, ℕ, List, [], ◌∷◌, ◌++◌, refl, sym, ◌∙◌, ap, subst, inl, inr, arith, append_assoc, Option, Some, None, ◌⊎◌, length, take}
+use Rattle.std.proofs.Common.{◌≡◌, ◌≤◌, ◌<◌, ℕ, List, [], ◌∷◌, ◌++◌, refl, ap, inl, inr, arith, Option, Some, None, ◌⊎◌, take}
 use Rattle.std.specs.Prelude.{nat_lt, Bool, true, false}
 use Rattle.std.proofs.lemmas.Bool.Decides.{nat_tests}
 use Rattle.lsv_disk.specs.View.{DiskView, Image, IsCrashImage}
 use Rattle.lsv_machine.specs.Disks.{AllWithin, NumbersFit, Past}
-use Rattle.lsv_machine.specs.Durable.{Good, GoodAt, GoodFor, Reading, Recovered, Within}
-use Rattle.lsv_machine.specs.History.{Ledger, blank, ledger, promised}
-use Rattle.lsv_machine.specs.Lives.{Chained, InTurn, IsEmpty, Life, Lived, Lives, Unsettled, Went, left_by}
+use Rattle.lsv_machine.specs.Durable.{Good, GoodFor, Reading, Recovered}
+use Rattle.lsv_machine.specs.History.{ledger, promised}
+use Rattle.lsv_machine.specs.Lives.{Chained, InTurn, Life, Lived, Lives, left_by}
 use Rattle.lsv_machine.specs.Machine.{IsOfLane}
-use Rattle.lsv_machine.specs.Recovery.{GoesOn, Kept, Outside, Recovers, Story, Turn, all_turns, ended_at, past_of}
+use Rattle.lsv_machine.specs.Recovery.{GoesOn, Turn, ended_at, past_of}
 use Rattle.lsv_machine.specs.Turns.{Happened, Happened.Begins, all_acted}
 use Rattle.lsv_machine.proofs.Splits.{le_or}
 use Rattle.lsv_machine.proofs.Weaken.{good_begun}

@@ -1,6 +1,6 @@
 -- A turn is its jobs, one after another, and its end.
-use Rattle.std.proofs.Common.{◌≡◌, ◌≤◌, ◌<◌, ◌+◌, ◌-◌, ◌^◌, ℕ, List, [], ◌∷◌, ◌++◌, refl, sym, ◌∙◌, ap, subst, inl, inr, arith, append_assoc, Option, Some, None, ◌⊎◌, length, take, map}
-use Rattle.std.specs.Prelude.{Bool, true, false, All, Contains}
+use Rattle.std.proofs.Common.{◌≡◌, ◌≤◌, ℕ, List, [], ◌∷◌, ◌++◌, refl, sym, ◌∙◌, ap, subst, inl, inr, arith, append_assoc, ◌⊎◌, length, take, map}
+use Rattle.std.specs.Prelude.{false, Contains}
 use Rattle.std.specs.List.{flat_map}
 use Rattle.std.proofs.lemmas.Grind.{common_steps}
 use Rattle.std.proofs.lemmas.List.Elements.{All-append, All-nil, All-cons}
@@ -16,18 +16,18 @@ use Rattle.lsv_disk.specs.declared.file.Part.TheVariants.{Slots}
 use Rattle.lsv_session.specs.declared.job.Job.{Job}
 use Rattle.lsv_session.specs.declared.reply.Reply.{Reply}
 use Rattle.lsv_machine.specs.Answers.{Answer, reply_of}
-use Rattle.lsv_machine.specs.Counts.{Counts, IsCounted, all_parts, failures, faults_among, faults_of, marks}
+use Rattle.lsv_machine.specs.Counts.{Counts, IsCounted, all_parts, faults_among}
 use Rattle.lsv_machine.specs.Disks.{AllGood, AllWithin, AsBefore, GoodOr, KeepsNumbers, LinesAs, LinesAsBefore, LinesAsBeforeOr, LinesRest, NumbersFit, Past, Rests, SameLines, SameLog}
-use Rattle.lsv_machine.specs.Durable.{Good, GoodAt, Reading, Recovered, Within}
-use Rattle.lsv_machine.specs.Failures.{Act, Step}
-use Rattle.lsv_machine.specs.History.{Ledger, blank, ledger, ledger_from, noted, settled, settles}
-use Rattle.lsv_machine.specs.Keeping.{Acted, Ended, Going, KeepsLines, KeepsSettled, KeepsUnsettled, LinesFlushed, LinesGood, LinesWithin, TailEnded, Turned}
+use Rattle.lsv_machine.specs.Durable.{Good, GoodAt, Reading, Within}
+use Rattle.lsv_machine.specs.Failures.{Act}
+use Rattle.lsv_machine.specs.History.{Ledger, blank, ledger, noted, settled, settles}
+use Rattle.lsv_machine.specs.Keeping.{Acted, Ended, Going, KeepsLines, KeepsSettled, LinesFlushed, LinesGood, LinesWithin, TailEnded, Turned}
 use Rattle.lsv_machine.specs.Lines.{LinesFrom, MayHold, lines_of}
 use Rattle.lsv_machine.specs.Machine.{Machine, Settings}
-use Rattle.lsv_machine.specs.Stands.{Stands, StandsFor}
+use Rattle.lsv_machine.specs.Stands.{Stands}
 use Rattle.lsv_machine.specs.Turns.{EndOfTurn, Happened, Happened.Did, Happened.Tailed, Happened.Begins, Run, Tail, all_acted, turn_of}
 use Rattle.lsv_machine.proofs.RunLaws.{ledger_append, run_append, stands_more}
-use Rattle.lsv_machine.proofs.Splits.{all_acted_last, append_nil, failures_append, le_or, marks_append, settled_append, settled_last}
+use Rattle.lsv_machine.proofs.Splits.{all_acted_last, append_nil, failures_append, le_or, marks_append, settled_last}
 use Rattle.lsv_machine.proofs.StepLooks.{step_seen}
 use Rattle.lsv_machine.proofs.Untouched.{good_untouched, untouched}
 use Rattle.lsv_machine.proofs.Weaken.{at_same}

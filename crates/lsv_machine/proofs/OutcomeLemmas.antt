@@ -1,6 +1,6 @@
 -- Which restarts are accepted, and that one job and one end of a turn have one outcome where nothing fails.
-use Rattle.std.proofs.Common.{◌≡◌, ◌≢◌, ◌≤◌, ◌<◌, ◌+◌, ◌*◌, ℕ, List, [], ◌∷◌, ◌++◌, length, refl, sym, ◌∙◌, ap, subst, inl, inr, arith, Option, Some, None, ◌⊎◌}
-use Rattle.std.specs.Prelude.{◌==◌, ◌&&◌, ◌||◌, not, Bool, true, false, if◌then◌else◌, is_some, Result, Ok, Err, Contains}
+use Rattle.std.proofs.Common.{◌≡◌, ◌+◌, ◌*◌, ℕ, List, [], ◌∷◌, ◌++◌, refl, sym, ◌∙◌, ap, subst, inl, inr, arith, Option, Some, None, ◌⊎◌}
+use Rattle.std.specs.Prelude.{Bool, true, false, is_some, Result, Err}
 use Rattle.lsv_base.specs.declared.time.TimeSpec.{TimeSpec}
 use Rattle.lsv_disk.specs.declared.file.Owner.{Owner}
 use Rattle.lsv_disk.specs.declared.file.Owner.TheVariants.{Log, Events}
@@ -13,18 +13,18 @@ use Rattle.lsv_request.specs.declared.request.Request.{Request}
 use Rattle.lsv_request.specs.declared.request.Request.TheVariants as request
 use Rattle.lsv_session.specs.declared.connection.ConnId.{ConnId}
 use Rattle.lsv_session.specs.declared.connection.ConnState.{ConnState}
-use Rattle.lsv_session.specs.declared.connection.ConnState.TheVariants.{Running, Dead}
+use Rattle.lsv_session.specs.declared.connection.ConnState.TheVariants.{Running}
 use Rattle.lsv_session.specs.declared.job.Body.{Body}
 use Rattle.lsv_session.specs.declared.job.Body.TheVariants as body
 use Rattle.lsv_session.specs.declared.job.Job.{Job}
 use Rattle.lsv_machine.specs.Answers.{Answer, Saying.CommitPoint, Saying.Shut, refusal, say}
-use Rattle.lsv_machine.specs.Failures.{Act, AsksFor, BreaksOff, Breaks, BrokenOff, Deviates, FailsCut, IsRefused, LetsGo, LosesLog, MayDraw, MeetsFault, Plainly, Step, WantsMemory}
+use Rattle.lsv_machine.specs.Failures.{Act, AsksFor, BreaksOff, Breaks, BrokenOff, FailsCut, IsRefused, LetsGo, LosesLog, MayDraw, MeetsFault, Plainly, Step, WantsMemory}
 use Rattle.lsv_machine.specs.Judgement.{fault_refusal, judged}
-use Rattle.lsv_machine.specs.Machine.{LogState, LogState.Absent, LogState.Damaged, LogState.There, Machine, Settings, is_dead, with_log, with_owner, with_state}
+use Rattle.lsv_machine.specs.Machine.{LogState, LogState.Absent, LogState.Damaged, LogState.There, Machine, Settings, is_dead, with_log, with_owner}
 use Rattle.lsv_machine.specs.Resuming.{CanResume, HasResumed}
-use Rattle.lsv_machine.specs.Turns.{Commits, EndOfTurn, FailsFlush, FlushesLines, FlushesLog, FlushesLogs, Tail, raised, with_lines}
+use Rattle.lsv_machine.specs.Turns.{Commits, EndOfTurn, FlushesLines, FlushesLog, FlushesLogs, Tail, raised}
 use Rattle.lsv_machine.specs.Work.{Done, can_cut, cut_to, next_number, plain, refused, restarted, restarted_at, resumed}
-use Rattle.lsv_machine.proofs.Choices.{EqOr, EqOr.equal, EqOr.unequal, eq_or}
+use Rattle.lsv_machine.proofs.Choices.{EqOr.equal, EqOr.unequal, eq_or}
 use Rattle.lsv_machine.proofs.JobFits.{Last, Last.by_refusal, Last.by_shut, refused_last, wants_last}
 use Rattle.lsv_machine.proofs.Shapes.{its_state}
 use Rattle.lsv_machine.proofs.StepLooks.{none_among}

@@ -1,28 +1,26 @@
 -- A run recovers: its opening, and each turn.
-use Rattle.std.proofs.Common.{◌≡◌, ◌≤◌, ◌<◌, ◌+◌, ℕ, List, [], ◌∷◌, ◌++◌, refl, sym, ◌∙◌, ap, subst, inl, inr, arith, append_assoc, Option, Some, None, ◌⊎◌, length, take, map}
-use Rattle.std.specs.Prelude.{Bool, true, false, All}
+use Rattle.std.proofs.Common.{◌≡◌, ◌≤◌, ℕ, List, [], ◌∷◌, ◌++◌, refl, sym, ◌∙◌, ap, subst, inl, inr, arith, append_assoc, Some, None, ◌⊎◌, take}
+use Rattle.std.specs.Prelude.{false}
 use Rattle.lsv_base.specs.declared.time.TimeSpec.{TimeSpec}
-use Rattle.lsv_disk.specs.Throughout.{Jointly}
 use Rattle.lsv_disk.specs.View.{DiskView, Image, IsCrashImage}
 use Rattle.lsv_session.specs.declared.job.Job.{Job}
 use Rattle.lsv_session.specs.declared.reply.Reply.{Reply}
 use Rattle.lsv_machine.specs.Counts.{Counts}
-use Rattle.lsv_machine.specs.Disks.{AllGood, AllWithin, AsBefore, NumbersFit, Past, Rests, SameLog}
-use Rattle.lsv_machine.specs.Durable.{Good, GoodAt, GoodLog, Reading, Recovered, Within}
-use Rattle.lsv_machine.specs.Failures.{Act}
-use Rattle.lsv_machine.specs.History.{Ledger, blank, ledger, ledger_from, noted, settled}
+use Rattle.lsv_machine.specs.Disks.{AllGood, AllWithin, AsBefore, NumbersFit, Past}
+use Rattle.lsv_machine.specs.Durable.{Good, GoodAt, GoodLog, Reading}
+use Rattle.lsv_machine.specs.History.{Ledger, ledger, noted, settled}
 use Rattle.lsv_machine.specs.InnerSoFar.{SoFar, with_turn}
 use Rattle.lsv_machine.specs.Keeping.{Opened, OpensStore, Turned}
 use Rattle.lsv_machine.specs.Machine.{LogState, LogState.Absent, LogState.Damaged, LogState.There, Machine, Settings}
-use Rattle.lsv_machine.specs.Recovery.{AtTheirMoments, GoesOn, Kept, Outside, Ran, Recovers, Spans, Story, Turn, all_turns, ended_at, past_of}
-use Rattle.lsv_machine.specs.Stands.{Stands, StandsFor}
+use Rattle.lsv_machine.specs.Recovery.{GoesOn, Kept, Recovers, Spans, Story, Turn, all_turns, ended_at, past_of}
+use Rattle.lsv_machine.specs.Stands.{Stands}
 use Rattle.lsv_machine.specs.Starts.{GoodState, ReadsAs, StartsAs}
-use Rattle.lsv_machine.specs.Turns.{Happened, Happened.Begins, Run, Tail, all_acted, turn_of}
+use Rattle.lsv_machine.specs.Turns.{Happened, Happened.Begins, Run, all_acted, turn_of}
 use Rattle.lsv_machine.proofs.Folds.{counts_on, no_counts}
-use Rattle.lsv_machine.proofs.RunLaws.{ledger_append, run_append, stands_begun, stands_more}
+use Rattle.lsv_machine.proofs.RunLaws.{run_append, stands_begun, stands_more}
 use Rattle.lsv_machine.proofs.Splits.{Place, Place.at_end, Place.inside, all_turns_last, append_nil, ended_last, front, le_or, moments_last, placed, settled_last}
 use Rattle.lsv_machine.proofs.Untouched.{good_untouched, untouched}
-use Rattle.lsv_machine.proofs.Weaken.{at_same, at_weaker, begun_ledger, lower_same, weaker_begins}
+use Rattle.lsv_machine.proofs.Weaken.{at_same, at_weaker, begun_ledger, lower_same}
 
 -- what images held before, they hold within what was said of it
 pub as_before_within : (r : Reading) (p : Past) (n : ℕ) (old images : Image → Type 0) → AllWithin r p n old → AsBefore r n old images → AllWithin r p n images

@@ -1,20 +1,17 @@
 -- The end of a turn, and a run, keep machine and history together.
-use Rattle.std.proofs.Common.{◌≡◌, ◌≢◌, ◌≤◌, ◌<◌, ◌+◌, ℕ, List, [], ◌∷◌, ◌++◌, length, refl, sym, ◌∙◌, ap, subst, inl, inr, arith, Option, Some, None, ◌⊎◌}
-use Rattle.std.specs.Prelude.{◌==◌, ◌||◌, take, max, min, Bool, true, false, if◌then◌else◌}
+use Rattle.std.proofs.Common.{◌≡◌, ◌≢◌, ℕ, List, [], ◌∷◌, ◌++◌, refl, ◌∙◌, ap, inl, inr, Some, None}
+use Rattle.std.specs.Prelude.{◌||◌, take, Bool, true, false}
 use Rattle.lsv_disk.specs.declared.file.Owner.{Owner}
-use Rattle.lsv_record.specs.Points.{Stored, first}
+use Rattle.lsv_record.specs.Points.{Stored}
 use Rattle.lsv_record.specs.Records.{elapsed}
-use Rattle.lsv_record.specs.declared.records.Record.{Record}
-use Rattle.lsv_request.specs.declared.refusal.Refusal.TheVariants as refusals
 use Rattle.lsv_session.specs.declared.connection.ConnId.{ConnId}
 use Rattle.lsv_session.specs.declared.connection.ConnState.TheVariants.{Dead}
-use Rattle.lsv_machine.specs.Answers.{Answer, Saying.CommitPoint, Saying.Shut, say, refusal}
-use Rattle.lsv_machine.specs.Failures.{WantsMemory, LosesTail}
+use Rattle.lsv_machine.specs.Answers.{Answer, Saying.Shut}
 use Rattle.lsv_machine.specs.History.{Ledger, heard, heard_all, ledger_from, noted, raised_to, writes}
-use Rattle.lsv_machine.specs.Machine.{LogState, LogState.There, Machine, Settings, leaves, log_of, with_log}
+use Rattle.lsv_machine.specs.Machine.{Machine, Settings, leaves, log_of, with_log}
 use Rattle.lsv_machine.specs.Stands.{HoldsRecords, as_list}
-use Rattle.lsv_machine.specs.Turns.{Commits, EndOfTurn, FailsFlush, FlushesLines, FlushesLog, FlushesLogs, Happened, Happened.Did, Happened.Tailed, Happened.Begins, LosesLines, RefusesAll, RefusesOne, Run, Tail, raised, with_lines}
-use Rattle.lsv_machine.proofs.Choices.{EqOr, EqOr.equal, EqOr.unequal, eq_or}
+use Rattle.lsv_machine.specs.Turns.{Commits, EndOfTurn, FailsFlush, FlushesLines, FlushesLog, FlushesLogs, Happened, Happened.Did, Happened.Tailed, Happened.Begins, RefusesAll, RefusesOne, Run, Tail, raised, with_lines}
+use Rattle.lsv_machine.proofs.Choices.{EqOr.equal, EqOr.unequal, eq_or}
 use Rattle.lsv_machine.proofs.Changing.{fits_log, there_not_above}
 use Rattle.lsv_machine.proofs.Dying.{died_leaving, died_with, holds_loses}
 use Rattle.lsv_machine.proofs.Fits.{Fits, fits_beside, writes_its, writes_none}

@@ -1,15 +1,12 @@
 -- What follows for whole histories: writers, records and promises, over runs and stops.
-use Rattle.std.proofs.Common.{◌≡◌, ◌≢◌, ◌≤◌, ◌<◌, ◌+◌, ℕ, List, [], ◌∷◌, ◌++◌, length, take, refl, sym, ◌∙◌, ap, subst, inl, inr, arith, Option, Some, None, ◌⊎◌}
-use Rattle.std.specs.Prelude.{Bool, true, false}
-use Rattle.std.proofs.lemmas.Grind.{common_steps}
+use Rattle.std.proofs.Common.{◌≡◌, ◌≤◌, ℕ, List, [], ◌∷◌, ◌++◌, length, refl, sym, ◌∙◌, ap, subst, arith, Option, Some, None}
 use Rattle.lsv_record.specs.Points.{Stored}
 use Rattle.lsv_record.specs.declared.records.Record.{Record}
 use Rattle.lsv_session.specs.declared.connection.ConnId.{ConnId}
-use Rattle.lsv_session.specs.declared.connection.ConnState.TheVariants.{Fresh}
-use Rattle.lsv_machine.specs.Durable.{GoodFor, GoodLog, IsPrefix, Keeps}
+use Rattle.lsv_machine.specs.Durable.{GoodFor, IsPrefix}
 use Rattle.lsv_machine.specs.Failures.{Act, Step}
 use Rattle.lsv_machine.specs.History.{Ledger, blank, ledger, ledger_from, noted, promised, shown, writers}
-use Rattle.lsv_machine.specs.Machine.{IsOfLane, LogState, LogState.Absent, LogState.Damaged, LogState.There, Machine, Settings, is_dead, log_of}
+use Rattle.lsv_machine.specs.Machine.{LogState, LogState.Absent, LogState.Damaged, LogState.There, Machine, Settings, log_of}
 use Rattle.lsv_machine.specs.Stands.{HoldsAt, HoldsRecords, Sound, Stands, StandsFor, as_list}
 use Rattle.lsv_machine.specs.Starts.{Continues, GoodState, StartsAs}
 use Rattle.lsv_machine.specs.Turns.{Happened, Happened.Did, Happened.Tailed, Happened.Begins, EndOfTurn, Run, Tail}

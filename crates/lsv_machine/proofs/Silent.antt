@@ -1,26 +1,25 @@
 -- Ends of turns from outside, and that nothing is said to a connection once it was shut.
-use Rattle.std.proofs.Common.{◌≡◌, ◌≢◌, ◌≤◌, ◌<◌, ◌+◌, ℕ, List, [], ◌∷◌, ◌++◌, length, refl, sym, ◌∙◌, ap, subst, inl, inr, arith, Option, Some, None, ◌⊎◌}
-use Rattle.std.specs.Prelude.{◌==◌, ◌&&◌, ◌||◌, Bool, true, false, if◌then◌else◌, Contains}
+use Rattle.std.proofs.Common.{◌≡◌, ◌≢◌, ℕ, List, [], ◌∷◌, ◌++◌, refl, sym, ◌∙◌, ap, subst, inl, inr, Some, None, ◌⊎◌}
+use Rattle.std.specs.Prelude.{◌||◌, Bool, true, false}
 use Rattle.std.specs.List.{list_any}
 use Rattle.lsv_disk.specs.declared.file.Owner.{Owner}
 use Rattle.lsv_disk.specs.declared.file.Owner.TheVariants.{Log, Events}
 use Rattle.lsv_session.specs.declared.connection.ConnId.{ConnId}
 use Rattle.lsv_session.specs.declared.connection.ConnState.{ConnState}
 use Rattle.lsv_session.specs.declared.connection.ConnState.TheVariants.{Fresh, Dead}
-use Rattle.lsv_session.specs.declared.job.Body.TheVariants as body
-use Rattle.lsv_machine.specs.Answers.{Answer, Saying.CommitPoint, Saying.Shut, say}
-use Rattle.lsv_machine.specs.Failures.{Act, IsRefused, Step, WantsMemory}
-use Rattle.lsv_machine.specs.History.{Ledger, blank, heard_all, noted}
+use Rattle.lsv_machine.specs.Answers.{Answer}
+use Rattle.lsv_machine.specs.Failures.{Act, Step}
+use Rattle.lsv_machine.specs.History.{Ledger}
 use Rattle.lsv_machine.specs.Machine.{Machine, Settings, is_dead, leaves, let_go, log_of, same, with_log}
 use Rattle.lsv_machine.specs.Silence.{AllTo, EndsWithGone, NoFault, NoJobs, NoneTo, NothingTo, ShutsAreDead}
 use Rattle.lsv_machine.specs.Stands.{Sound, as_list}
-use Rattle.lsv_machine.specs.Turns.{Commits, EndOfTurn, FailsFlush, FlushesLines, FlushesLog, FlushesLogs, Happened, Happened.Did, Happened.Tailed, Happened.Begins, LosesLines, RefusesAll, RefusesOne, Run, Tail, with_lines}
-use Rattle.lsv_machine.proofs.Choices.{SameOr, SameOr.alike, SameOr.apart, same_or, same_refl}
+use Rattle.lsv_machine.specs.Turns.{EndOfTurn, FlushesLines, FlushesLog, FlushesLogs, Happened, Happened.Did, Happened.Tailed, Happened.Begins, RefusesAll, RefusesOne, Run, Tail, with_lines}
+use Rattle.lsv_machine.proofs.Choices.{SameOr.alike, SameOr.apart, same_or, same_refl}
 use Rattle.lsv_machine.proofs.Fits.{Fits}
 use Rattle.lsv_machine.proofs.JobFits.{Last, Last.by_refusal, Last.by_shut, refused_last, step_together}
 use Rattle.lsv_machine.proofs.RunFits.{flushed_together, lines_together, tail_together}
 use Rattle.lsv_machine.proofs.Shapes.{its_state, state_apart}
-use Rattle.lsv_machine.proofs.StepLooks.{Seen, dead_after, dead_told, leaving_still, none_among, step_seen}
+use Rattle.lsv_machine.proofs.StepLooks.{dead_after, dead_told, leaving_still, none_among, step_seen}
 
 -- ---- A made-up ledger, by which what is sound stays so
 

@@ -1,30 +1,27 @@
 -- The end of a turn is its event lines and then its logs, one after another.
-use Rattle.std.proofs.Common.{◌≡◌, ◌≤◌, ◌<◌, ◌+◌, ℕ, List, [], ◌∷◌, ◌++◌, refl, sym, ◌∙◌, ap, subst, inl, inr, arith, append_assoc, Option, Some, None, ◌⊎◌, length, take}
-use Rattle.std.specs.Prelude.{Bool, true, false, ◌||◌, max, unwrap_or, if◌then◌else◌, Contains}
-use Rattle.std.specs.List.{list_any}
+use Rattle.std.proofs.Common.{◌≡◌, ◌≤◌, ◌+◌, ℕ, List, [], ◌∷◌, ◌++◌, refl, sym, ◌∙◌, ap, subst, inl, inr, arith, append_assoc, Option, Some, None, ◌⊎◌}
+use Rattle.std.specs.Prelude.{Bool, true, false, ◌||◌, if◌then◌else◌, Contains}
 use Rattle.std.proofs.lemmas.List.Folds.{list_any-append}
 use Rattle.std.proofs.lemmas.List.Elements.{Contains-append_cases, Contains-append_left, Contains-append_right}
 use Rattle.lsv_disk.specs.Files.{file_of}
-use Rattle.lsv_disk.specs.Throughout.{Jointly}
 use Rattle.lsv_disk.specs.View.{DiskView, Image, IsCrashImage}
 use Rattle.lsv_disk.specs.declared.file.Owner.{Owner}
 use Rattle.lsv_disk.specs.declared.file.Owner.TheVariants.{Log, Events}
-use Rattle.lsv_record.specs.Points.{first}
 use Rattle.lsv_record.specs.declared.records.Record.{Record}
 use Rattle.lsv_session.specs.declared.connection.ConnId.{ConnId}
 use Rattle.lsv_machine.specs.Answers.{Answer, Saying, Saying.LogId, Saying.CommitPoint, Saying.Error, Saying.Shut}
 use Rattle.lsv_machine.specs.Counts.{Counts, is_among, one_if, same_owner}
-use Rattle.lsv_machine.specs.Disks.{AllGood, AsBefore, LinesAs, LinesAsBefore, LinesAsBeforeOr, LinesRest, NumbersFit, Rests}
+use Rattle.lsv_machine.specs.Disks.{AllGood, AsBefore, LinesAs, LinesAsBefore, LinesAsBeforeOr, LinesRest, NumbersFit}
 use Rattle.lsv_machine.specs.Durable.{GoodAt, Reading}
 use Rattle.lsv_machine.specs.Failures.{Closes, LeavesLog}
 use Rattle.lsv_machine.specs.History.{Ledger, heard, heard_all, noted, raised_to, writes}
-use Rattle.lsv_machine.specs.Keeping.{Ended, LinesFlushed, TailEnded}
+use Rattle.lsv_machine.specs.Keeping.{Ended, TailEnded}
 use Rattle.lsv_machine.specs.Machine.{LogState, Machine, Settings, log_of}
 use Rattle.lsv_machine.specs.Stands.{StandsFor}
 use Rattle.lsv_machine.specs.Tails.{LinesEnded, LogEnded, LogsEnded, NoneFailed, joined, no_answer}
-use Rattle.lsv_machine.specs.Turns.{EndOfTurn, FlushesLines, FlushesLog, FlushesLogs, Happened, Happened.Tailed, RefusesAll, Tail, raised, with_lines}
+use Rattle.lsv_machine.specs.Turns.{EndOfTurn, FlushesLines, FlushesLog, FlushesLogs, Happened.Tailed, RefusesAll, Tail, with_lines}
 use Rattle.lsv_machine.proofs.Fits.{fits_of_stands, stands_of_fits}
-use Rattle.lsv_machine.proofs.Folds.{Down, as_before_on, before_down, each_down, lines_as_on, lines_rest_on, lines_still, moments_on, no_counts, numbers_down, numbers_on, rests_on, rests_still, same_lines_on, still}
+use Rattle.lsv_machine.proofs.Folds.{as_before_on, before_down, each_down, lines_as_on, lines_rest_on, lines_still, moments_on, numbers_down, numbers_on, rests_on, rests_still, same_lines_on, still}
 use Rattle.lsv_machine.proofs.Splits.{append_nil}
 use Rattle.lsv_machine.proofs.RunFits.{all_flushed, heard_append, lines_together}
 use Rattle.lsv_machine.proofs.Untouched.{heard_free}

@@ -1,10 +1,8 @@
 -- Histories whose ledgers differ in what is promised stay so, whatever happens; and whether a log is settled hangs on who was shut alone.
-use Rattle.std.proofs.Common.{◌≡◌, ◌≤◌, ◌<◌, ◌+◌, ℕ, List, [], ◌∷◌, ◌++◌, refl, sym, ◌∙◌, ap, subst, inl, inr, arith, append_assoc, Option, Some, None, ◌⊎◌, length, take, unwrap_or}
+use Rattle.std.proofs.Common.{◌≡◌, ◌≤◌, ℕ, List, [], ◌∷◌, refl, sym, ◌∙◌, ap, subst, arith, Option, Some, None, length, unwrap_or}
 use Rattle.std.specs.Prelude.{◌==◌, ◌&&◌, ◌||◌, min, max, Bool, true, false, if◌then◌else◌, Result, Ok, Err}
-use Rattle.std.specs.List.{list_any}
 use Rattle.lsv_info.specs.Layout.{exit_text, head_text}
-use Rattle.lsv_mask.specs.Masking.{covered}
-use Rattle.lsv_record.specs.Points.{cut, first, kept}
+use Rattle.lsv_record.specs.Points.{first, kept}
 use Rattle.lsv_record.specs.declared.records.Record.{Record}
 use Rattle.lsv_request.specs.declared.refusal.Refusal.{Refusal}
 use Rattle.lsv_request.specs.declared.request.Request.{Request}
@@ -14,7 +12,7 @@ use Rattle.lsv_machine.specs.Answers.{Answer, Saying, Saying.LogId, Saying.Commi
 use Rattle.lsv_machine.specs.History.{Ledger, asked, becomes, heard, heard_all, is_exit, is_gone, ledger_from, lowered_to, noted, opened_by, raised_to, reads_log, reopened, request_in, restarted_by, resumed_by, sent_one, settled_from, settles, tells_log, writes}
 use Rattle.lsv_machine.specs.Machine.{same}
 use Rattle.lsv_machine.specs.Turns.{Happened, Happened.Did, Happened.Tailed, Happened.Begins}
-use Rattle.lsv_machine.proofs.Weaken.{Lower, Weaker, lower_same}
+use Rattle.lsv_machine.proofs.Weaken.{Lower, Weaker}
 
 -- the same, but that no more is promised
 pub record Under (l l' : Ledger) : Type 0 where

@@ -1,9 +1,8 @@
 -- What leaves a log's ledger as it was, but for a smaller promise: a history that doesn't settle a log that nobody writes, and a job of a connection that doesn't write it.
-use Rattle.std.proofs.Common.{◌≡◌, ◌≢◌, ◌≤◌, ◌<◌, ◌+◌, ℕ, List, [], ◌∷◌, ◌++◌, refl, sym, ◌∙◌, ap, subst, inl, inr, arith, Option, Some, None, ◌⊎◌, unwrap_or}
-use Rattle.std.specs.Prelude.{◌==◌, ◌&&◌, ◌||◌, not, min, Bool, true, false, if◌then◌else◌, Result, Ok, Err}
+use Rattle.std.proofs.Common.{◌≡◌, ℕ, List, [], ◌∷◌, ◌++◌, refl, sym, ◌∙◌, ap, subst, arith, Option, Some, None}
+use Rattle.std.specs.Prelude.{◌==◌, ◌&&◌, ◌||◌, not, Bool, true, false, if◌then◌else◌, Result, Ok, Err}
 use Rattle.std.specs.List.{list_any}
 use Rattle.lsv_disk.specs.View.{Image}
-use Rattle.lsv_info.specs.Layout.{exit_text}
 use Rattle.lsv_record.specs.declared.records.Record.{Record}
 use Rattle.lsv_request.specs.declared.refusal.Refusal.{Refusal}
 use Rattle.lsv_request.specs.declared.request.Request.{Request}
@@ -16,7 +15,7 @@ use Rattle.lsv_machine.specs.History.{Ledger, asked, blank, heard, heard_all, is
 use Rattle.lsv_machine.specs.Machine.{same, without_conn}
 use Rattle.lsv_machine.specs.Silence.{AllTo}
 use Rattle.lsv_machine.specs.Turns.{Happened, Happened.Did, Happened.Tailed, Happened.Begins}
-use Rattle.lsv_machine.proofs.Choices.{SameOr, SameOr.alike, SameOr.apart, same_or}
+use Rattle.lsv_machine.proofs.Choices.{SameOr.alike, SameOr.apart, same_or}
 use Rattle.lsv_machine.proofs.RunLaws.{ledger_append}
 use Rattle.lsv_machine.proofs.Weaken.{Lower, Weaker, at_weaker, lower_same, weaker_on, weaker_same}
 

@@ -1,12 +1,10 @@
 -- Ledgers that say the same of a log and promise no more, and that what is good for one is good for the other.
-use Rattle.std.proofs.Common.{◌≡◌, ◌≤◌, ◌<◌, ◌+◌, ℕ, List, [], ◌∷◌, ◌++◌, refl, sym, ◌∙◌, ap, subst, inl, inr, arith, Option, Some, None, ◌⊎◌, length}
-use Rattle.std.specs.Prelude.{nat_lt, Bool, true, false}
+use Rattle.std.proofs.Common.{◌≡◌, ◌≤◌, ℕ, List, [], ◌∷◌, ◌++◌, refl, sym, ◌∙◌, subst, arith, Option, Some, None}
 use Rattle.lsv_disk.specs.View.{Image}
-use Rattle.lsv_record.specs.Points.{Stored}
 use Rattle.lsv_record.specs.declared.records.Record.{Record}
 use Rattle.lsv_machine.specs.Disks.{SameLog}
-use Rattle.lsv_machine.specs.Durable.{ExitIs, Good, GoodAt, GoodFor, GoodLog, Keeps, Reading, Recovered}
-use Rattle.lsv_machine.specs.History.{Ledger, blank, ledger, ledger_from, noted}
+use Rattle.lsv_machine.specs.Durable.{ExitIs, Good, GoodAt, GoodFor, GoodLog, Reading, Recovered}
+use Rattle.lsv_machine.specs.History.{Ledger, blank, ledger, noted}
 use Rattle.lsv_machine.specs.Turns.{Happened, Happened.Begins}
 use Rattle.lsv_machine.proofs.RunLaws.{ledger_append}
 

@@ -1,13 +1,12 @@
 -- Each image that a stop may leave is good for one history of all runs.
-use Rattle.std.proofs.Common.{◌≡◌, ◌≤◌, ◌<◌, ◌+◌, ℕ, List, [], ◌∷◌, ◌++◌, refl, sym, ◌∙◌, ap, subst, inl, inr, arith, append_assoc, Option, Some, None, ◌⊎◌, length, take}
-use Rattle.std.specs.Prelude.{Bool, true, false}
+use Rattle.std.proofs.Common.{◌≡◌, ◌≤◌, ℕ, List, [], ◌∷◌, ◌++◌, refl, sym, ◌∙◌, ap, subst, inl, inr, arith, length, take}
+use Rattle.std.specs.Prelude.{false}
 use Rattle.lsv_disk.specs.View.{DiskView, Image, IsCrashImage}
 use Rattle.lsv_machine.specs.Disks.{Past}
-use Rattle.lsv_machine.specs.Durable.{Good, GoodAt, Reading, Within}
-use Rattle.lsv_machine.specs.Failures.{Act}
-use Rattle.lsv_machine.specs.History.{Ledger, blank, ledger, ledger_from, noted, settled, settled_from}
-use Rattle.lsv_machine.specs.Lives.{Adds, AllRuns, Chained, InTurn, Life, Lived, Unsettled, Went, left_by}
-use Rattle.lsv_machine.specs.Recovery.{GoesOn, Story, Turn, all_turns, past_of}
+use Rattle.lsv_machine.specs.Durable.{Good, Reading}
+use Rattle.lsv_machine.specs.History.{Ledger, blank, ledger, ledger_from, noted, settled}
+use Rattle.lsv_machine.specs.Lives.{AllRuns, Chained, InTurn, Life, Lived, Unsettled, left_by}
+use Rattle.lsv_machine.specs.Recovery.{GoesOn, all_turns, past_of}
 use Rattle.lsv_machine.specs.Turns.{Happened, Happened.Begins, all_acted}
 use Rattle.lsv_machine.proofs.Chains.{chained}
 use Rattle.lsv_machine.proofs.RunLaws.{ledger_append}

@@ -1,17 +1,13 @@
 -- Small cases that show why the definitions are as they are: log 1, its sessions by connections 1 to 4, each record a byte of terminal output after 1 ns.
-use Rattle.std.specs.Prelude.{◌≡◌, ◌≤◌, ℕ, pos, Bool, true, false, List, [], ◌∷◌, ◌++◌, length, take, Option, Some, None}
+use Rattle.std.specs.Prelude.{◌≤◌, ℕ, true, false, List, [], ◌∷◌, ◌++◌, length, take, Some, None}
 use Rattle.lsv_base.specs.Time.{time_of}
-use Rattle.lsv_base.specs.declared.time.TimeSpec.{TimeSpec}
-use Rattle.lsv_disk.specs.declared.file.Owner.TheVariants.{Log}
 use Rattle.lsv_info.specs.Layout.{head_text}
 use Rattle.lsv_info.specs.declared.times.Head.{Head}
-use Rattle.lsv_msg.specs.declared.messages.ClientMessage.{ClientMessage}
 use Rattle.lsv_msg.specs.declared.messages.ClientMessage.TheVariants as client
-use Rattle.lsv_record.specs.Points.{Stored}
 use Rattle.lsv_record.specs.declared.records.Record.{Record}
 use Rattle.lsv_record.specs.declared.records.Record.TheVariants.{Io}
 use Rattle.lsv_record.specs.declared.records.Stream.TheVariants.{Ttyout}
-use Rattle.lsv_request.specs.declared.refusal.Refusal.TheVariants.{MalformedMessage, DeviceFault}
+use Rattle.lsv_request.specs.declared.refusal.Refusal.TheVariants.{MalformedMessage}
 use Rattle.lsv_msg.specs.declared.fault.MsgFault.TheVariants.{Untyped}
 use Rattle.lsv_session.specs.declared.connection.ConnId.{ConnId}
 use Rattle.lsv_session.specs.declared.job.Body.TheVariants.{Msg, Bad, Gone}
@@ -22,8 +18,7 @@ use Rattle.lsv_machine.specs.Disks.{Past}
 use Rattle.lsv_machine.specs.Durable.{GoodLog, Recovered}
 use Rattle.lsv_machine.specs.Failures.{Act}
 use Rattle.lsv_machine.specs.History.{ledger}
-use Rattle.lsv_machine.specs.Tails.{no_answer}
-use Rattle.lsv_machine.specs.Turns.{Happened, Happened.Begins, Tail, all_acted, turn_of}
+use Rattle.lsv_machine.specs.Turns.{Happened, Happened.Begins, all_acted, turn_of}
 
 -- ---- Words
 

@@ -6,7 +6,7 @@ use Rattle.lsv_machine.specs.Disks.{NumbersFit, Past}
 use Rattle.lsv_machine.specs.Durable.{Good, Reading}
 use Rattle.lsv_machine.specs.Failures.{Act}
 use Rattle.lsv_machine.specs.Machine.{Machine, Settings}
-use Rattle.lsv_machine.specs.Recovery.{GoesOn, Outside, Ran, Recovers, Story, Turn, all_turns}
+use Rattle.lsv_machine.specs.Recovery.{GoesOn, Outside, Ran, Recovers, Story, all_turns}
 use Rattle.lsv_machine.specs.Stands.{Stands}
 use Rattle.lsv_machine.specs.Turns.{Happened, Tail}
 

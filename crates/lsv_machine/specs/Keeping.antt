@@ -1,5 +1,5 @@
 -- What a keeper owes: one job, the end of a turn, a turn, and the opening of the store, each as a step of the machine with what it leaves on the disk.
-use Rattle.std.specs.Prelude.{◌≡◌, ◌≤◌, ◌⊎◌, ◌++◌, ℕ, true, false, List, [], ◌∷◌, map, All, Contains}
+use Rattle.std.specs.Prelude.{◌≡◌, ◌≤◌, ◌⊎◌, ◌++◌, ℕ, false, List, [], ◌∷◌, map, All, Contains}
 use Rattle.std.specs.List.{flat_map}
 use Rattle.lsv_base.specs.declared.time.TimeSpec.{TimeSpec}
 use Rattle.lsv_disk.specs.Throughout.{Jointly}

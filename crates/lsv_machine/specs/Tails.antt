@@ -2,7 +2,7 @@
 use Rattle.std.specs.Prelude.{◌≡◌, ℕ, List, [], ◌∷◌, ◌++◌, Contains}
 use Rattle.lsv_disk.specs.View.{DiskView}
 use Rattle.lsv_disk.specs.declared.file.Owner.{Owner}
-use Rattle.lsv_disk.specs.declared.file.Owner.TheVariants.{Log, Events}
+use Rattle.lsv_disk.specs.declared.file.Owner.TheVariants.{Log}
 use Rattle.lsv_machine.specs.Disks.{LinesRest}
 use Rattle.lsv_machine.specs.Durable.{Reading}
 use Rattle.lsv_machine.specs.Keeping.{Ended, LinesFlushed}

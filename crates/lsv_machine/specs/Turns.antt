@@ -5,10 +5,9 @@ use Rattle.lsv_disk.specs.declared.file.Owner.TheVariants.{Log, Events}
 use Rattle.lsv_record.specs.Points.{Stored, first}
 use Rattle.lsv_record.specs.Records.{elapsed}
 use Rattle.lsv_record.specs.declared.records.Record.{Record}
-use Rattle.lsv_request.specs.declared.refusal.Refusal.TheVariants.{DeviceFault}
 use Rattle.lsv_session.specs.declared.connection.ConnId.{ConnId}
 use Rattle.lsv_session.specs.declared.connection.ConnState.TheVariants.{Dead}
-use Rattle.lsv_machine.specs.Answers.{Answer, CommitPoint, say, refusal}
+use Rattle.lsv_machine.specs.Answers.{Answer, CommitPoint, say}
 use Rattle.lsv_machine.specs.Failures.{Act, IsRefused, LeavesLog, LosesTail, Step}
 use Rattle.lsv_machine.specs.Machine.{LogState, LogState.There, Machine, Settings, is_dead, leaves, log_of, with_log}
 
