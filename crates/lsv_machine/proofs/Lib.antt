@@ -26,3 +26,4 @@ pub mod Chains
 pub mod Under
 pub mod Wholes
 pub mod Cases
+pub mod Starters

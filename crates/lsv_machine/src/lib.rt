@@ -9,7 +9,8 @@ mod runs;
 mod turns;
 
 pub use examples::{
-    an_uncut_log_may_come_back, images_of_a_moment_go_together, no_history_serves_both_starts,
+    a_log_above_the_last_number_has_two_writers, a_promise_can_be_lost, an_uncut_log_may_come_back,
+    images_of_a_moment_go_together, no_history_serves_both_starts,
 };
 pub use laws::{
     a_log_has_one_writer, records_are_shown, runs_join, the_invariant_is_kept,
