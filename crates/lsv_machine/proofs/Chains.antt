@@ -43,19 +43,22 @@ lives_on {D} r lane lanes view law first l ls n lives ((p, lived, within), fit) 
     let rec = lives.recovers found_fit in
     let good = good_begun r l.texts (p.history ++ all_acted (take w.done p.acts)) reads n w.good in
     let kept = rec.logs n p g old on good in
-    let within_run : l.stopped ≤ ended_at l.story.opened l.story.turns = let a = lives.to in let b = rec.spans.whole in omega arith in
-    (elim (place l.story.opened l.story.turns l.stopped within_run) [
-      | inl early ↦ (p, (p, g, lived, on, good, inr (inl early, refl)), kept.opening l.stopped lives.from early)
-      | inr i ↦ elim (kept.during i.before i.after i.turn i.is l.stopped i.from i.to) [
-        | inl went ↦ (past_of g i.before i.turn, (p, g, lived, on, good, inl (record { at = i; is = refl })), went)
-        | inr stayed ↦ (p, (p, g, lived, on, good, inr (inr (i, stayed.0), refl)), stayed.1)
-      ]
-    ], rec.numbers found_fit l.stopped lives.from lives.to)
+    let within_run : l.stopped ≤ ended_at l.story.opened l.story.turns = let a = lives.to in let b = rec.spans.whole in omega arith in (
+      elim (place l.story.opened l.story.turns l.stopped within_run) [
+        | inl early ↦ (p, (p, g, lived, on, good, inr (inl early, refl)), kept.opening l.stopped lives.from early)
+        | inr i ↦ elim (kept.during i.before i.after i.turn i.is l.stopped i.from i.to) [
+          | inl went ↦ (past_of g i.before i.turn, (p, g, lived, on, good, inl (record { at = i; is = refl })), went)
+          | inr stayed ↦ (p, (p, g, lived, on, good, inr (inr (i, stayed.0), refl)), stayed.1)
+        ]
+      ],
+      rec.numbers found_fit l.stopped lives.from lives.to,
+    )
 
 pub chained : {D : Type 0} (r : Reading) (lane lanes : ℕ) (view : D → DiskView) (law : (d : D) → IsCrashImage (view d) (view d).reads) (first : D) (ls : List (Life D)) (n : ℕ) → Chained r lane lanes view first ls → Holds r lane lanes view first ls n
-chained {D} r lane lanes view law first [] n empty =
-    ((record { history = []; acts = [] }, refl, λ image is. record { done = 0; some = omega arith; good = record { found = None; is = r.nothing image n (empty.bare image is n); good = tt } }),
-        record { told = λ image is. (0, empty.drawn image is); none_above = λ a b last i x y d lane above. empty.bare b y i })
+chained {D} r lane lanes view law first [] n empty = (
+  (record { history = []; acts = [] }, refl, λ image is. record { done = 0; some = omega arith; good = record { found = None; is = r.nothing image n (empty.bare image is n); good = tt } }),
+  record { told = λ image is. (0, empty.drawn image is); none_above = λ a b last i x y d lane above. empty.bare b y i },
+)
 chained {D} r lane lanes view law first (l ∷ ls) n (lives, rest) = lives_on r lane lanes view law first l ls n lives (chained r lane lanes view law first ls n rest)
 
 pub runs_within : {D : Type 0} (r : Reading) (lane lanes : ℕ) (view : D → DiskView) (law : (d : D) → IsCrashImage (view d) (view d).reads) (first : D) (ls : List (Life D)) (n : ℕ) → Chained r lane lanes view first ls

@@ -129,7 +129,7 @@ module _ (good : Type 0) (set : Settings) (n : ℕ) (k : ConnId) (m : Machine) (
       (λ j. elim (same_or j k) [ alike p u ↦ rw u refl | apart p u ↦ rw u (s j) ])
       (rw w refl)
       (λ p g. let (a, b) = own p in rw (a, b) (holds_failed_cut t.stored t.promised (m.owner n) ((leaves k Dead m).owner n) l.shown l.promised c t.kept t.left t.cuts
-          (holds_there good set n m l t.stored t.promised f (ap m.logs p ∙ t.was) g) t.ends t.enough (nobody_else Dead i free p)))
+      (holds_there good set n m l t.stored t.promised f (ap m.logs p ∙ t.was) g) t.ends t.enough (nobody_else Dead i free p)))
       others)
 
   -- ---- Draws

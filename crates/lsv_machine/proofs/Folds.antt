@@ -134,7 +134,7 @@ within_more r g acts more n image w = record {
   done = w.done;
   some = let a = w.some in grind (arith, common_steps);
   good = let e : take w.done acts ≡ take w.done (acts ++ more) = take_front w.done acts more w.some in
-    subst (λ (xs : List Act). Good r (g ++ all_acted xs) image n) e w.good;
+      subst (λ (xs : List Act). Good r (g ++ all_acted xs) image n) e w.good;
 }
   where
     take_front : (k : ℕ) (xs ys : List Act) → k ≤ length xs → take k xs ≡ take k (xs ++ ys)
@@ -199,10 +199,14 @@ going_none r set now m here is_now fit = record {
   replies_are = refl;
   run = refl;
   counts = no_counts here here (λ file. omega arith);
-  settled_logs = λ g n stands all. (still (AllWithin r (record { history = g; acts = [] }) n) here (λ image is. first g n image (all image (is_now image is))),
-    moved r n (ledger g n) (ledger (g ++ []) n) (IsCrashImage here) (ap (λ (h : List Happened). ledger h n) (sym (append_nil g))) all);
-  unsettled_logs = λ g n stands free good. (still (λ images. AsBefore r n (IsCrashImage here) images ⊎ AllWithin r (record { history = g; acts = [] }) n images) here (inl (λ image is. (image, is_now image is, same_log r n image))),
-    inr (refl, rests_still r n here));
+  settled_logs = λ g n stands all. (
+    still (AllWithin r (record { history = g; acts = [] }) n) here (λ image is. first g n image (all image (is_now image is))),
+    moved r n (ledger g n) (ledger (g ++ []) n) (IsCrashImage here) (ap (λ (h : List Happened). ledger h n) (sym (append_nil g))) all,
+  );
+  unsettled_logs = λ g n stands free good. (
+    still (λ images. AsBefore r n (IsCrashImage here) images ⊎ AllWithin r (record { history = g; acts = [] }) n images) here (inl (λ image is. (image, is_now image is, same_log r n image))),
+    inr (refl, rests_still r n here),
+  );
   numbers = record { moments = still (NumbersFit r set.lane set.lanes) here (numbers_down r set.lane set.lanes (IsCrashImage here) (here.crash_images_at here.moment) is_now fit); now = fit };
   lines = lines_still r here is_now;
 }
@@ -232,10 +236,11 @@ module _ (r : Reading) (set : Settings) (now : TimeSpec) (jobs : List Job) (job 
       → Jointly (AllWithin r (record { history = g; acts = s.acts ++ t.act ∷ [] }) n) one three × AllGood r (ledger (g ++ all_acted (s.acts ++ t.act ∷ [])) n) n (IsCrashImage three)
   more_settled g n stands all =
       let a = s.settled_logs g n stands all in
-      let b = t.settled_logs (ledger (g ++ all_acted s.acts) n) n (stands_mid g n stands) a.1 in
-      (moments_on (AllWithin r (record { history = g; acts = s.acts }) n) (GoodOr r (ledger (g ++ all_acted s.acts) n) (noted n (ledger (g ++ all_acted s.acts) n) (Did t.act)) n)
-      (AllWithin r (record { history = g; acts = s.acts ++ t.act ∷ [] }) n) one two three (within_down r (record { history = g; acts = s.acts ++ t.act ∷ [] }) n) (allows_more g n) (or_within r g s.acts t.act n) a.0 b.0,
-          moved r n (noted n (ledger (g ++ all_acted s.acts) n) (Did t.act)) (ledger (g ++ all_acted (s.acts ++ t.act ∷ [])) n) (IsCrashImage three) (one_ledger g s.acts t.act n) b.1)
+      let b = t.settled_logs (ledger (g ++ all_acted s.acts) n) n (stands_mid g n stands) a.1 in (
+        moments_on (AllWithin r (record { history = g; acts = s.acts }) n) (GoodOr r (ledger (g ++ all_acted s.acts) n) (noted n (ledger (g ++ all_acted s.acts) n) (Did t.act)) n)
+            (AllWithin r (record { history = g; acts = s.acts ++ t.act ∷ [] }) n) one two three (within_down r (record { history = g; acts = s.acts ++ t.act ∷ [] }) n) (allows_more g n) (or_within r g s.acts t.act n) a.0 b.0,
+        moved r n (noted n (ledger (g ++ all_acted s.acts) n) (Did t.act)) (ledger (g ++ all_acted (s.acts ++ t.act ∷ [])) n) (IsCrashImage three) (one_ledger g s.acts t.act n) b.1,
+      )
 
   abbrev Here : (g : List Happened) (n : ℕ) → (Image → Type 0) → Type 0
   Here g n images = AsBefore r n (IsCrashImage one) images ⊎ AllWithin r (record { history = g; acts = s.acts }) n images
@@ -280,18 +285,21 @@ module _ (r : Reading) (set : Settings) (now : TimeSpec) (jobs : List Job) (job 
 
       at_end : AllGood r (noted n (so_far g n) (Did t.act)) n (IsCrashImage three) ⊎ ((settles n (so_far g n) (Did t.act) ≡ false) × Rests r n two three) → After g n
       at_end (inl x) = inl (moved r n (noted n (so_far g n) (Did t.act)) (ledger (g ++ all_acted (s.acts ++ t.act ∷ [])) n) (IsCrashImage three) (one_ledger g s.acts t.act n) x)
-      at_end (inr (q, more_rests)) = inr (subst (λ (h : List Happened). settled n g h ≡ false) (sym (all_acted_last s.acts t.act)) (settled_last n g (all_acted s.acts) (Did t.act ∷ []) e (settle_is g n q)),
-          rests_on r n one two three rests more_rests)
+      at_end (inr (q, more_rests)) = inr (
+        subst (λ (h : List Happened). settled n g h ≡ false) (sym (all_acted_last s.acts t.act)) (settled_last n g (all_acted s.acts) (Did t.act ∷ []) e (settle_is g n q)),
+        rests_on r n one two three rests more_rests,
+      )
 
   more_unsettled : (g : List Happened) (n : ℕ) → Stands set g n m → (ledger g n).writers ≡ [] → GoodAt r (ledger g n) n one.reads → Jointly (Later g n) one three × After g n
   more_unsettled g n stands free good = let a = s.unsettled_logs g n stands free good in go a.0 a.1
     where
       go : Jointly (Here g n) one two → AllGood r (ledger (g ++ all_acted s.acts) n) n (IsCrashImage two) ⊎ ((settled n g (all_acted s.acts) ≡ false) × Rests r n one two) → Jointly (Later g n) one three × After g n
       go moments (inl all) =
-          let b = t.settled_logs (ledger (g ++ all_acted s.acts) n) n (stands_mid g n stands) all in
-          (moments_on (Here g n) (GoodOr r (ledger (g ++ all_acted s.acts) n) (noted n (ledger (g ++ all_acted s.acts) n) (Did t.act)) n) (Later g n) one two three (later_down g n) (here_later g n)
-          (λ images x. inr (or_within r g s.acts t.act n images x)) moments b.0,
-              inl (moved r n (noted n (ledger (g ++ all_acted s.acts) n) (Did t.act)) (ledger (g ++ all_acted (s.acts ++ t.act ∷ [])) n) (IsCrashImage three) (one_ledger g s.acts t.act n) b.1))
+          let b = t.settled_logs (ledger (g ++ all_acted s.acts) n) n (stands_mid g n stands) all in (
+            moments_on (Here g n) (GoodOr r (ledger (g ++ all_acted s.acts) n) (noted n (ledger (g ++ all_acted s.acts) n) (Did t.act)) n) (Later g n) one two three (later_down g n) (here_later g n)
+                (λ images x. inr (or_within r g s.acts t.act n images x)) moments b.0,
+            inl (moved r n (noted n (ledger (g ++ all_acted s.acts) n) (Did t.act)) (ledger (g ++ all_acted (s.acts ++ t.act ∷ [])) n) (IsCrashImage three) (one_ledger g s.acts t.act n) b.1),
+          )
       go moments (inr (e, rests)) = more_rest g n stands free good moments e rests
 
   pub going_more : Going r set now (jobs ++ job ∷ []) (replies ++ its) m after one three
@@ -317,10 +325,11 @@ ends_settled : (r : Reading) (set : Settings) (g : List Happened) (acts : List A
     → Jointly (AllWithin r (record { history = g; acts = acts }) n) one three × AllGood r (ledger (g ++ turn_of acts tail) n) n (IsCrashImage three)
 ends_settled r set g acts tail n m mid after one two three run keeps t stands all =
     let a = keeps g n stands all in
-    let b = t.settled_logs (ledger (g ++ all_acted acts) n) n (stands_more set n g (all_acted acts) m mid stands run) a.1 in
-    (moments_on (AllWithin r (record { history = g; acts = acts }) n) (AllGood r (ledger (g ++ all_acted acts) n) n) (AllWithin r (record { history = g; acts = acts }) n) one two three
-    (within_down r (record { history = g; acts = acts }) n) (λ images x. x) (λ images x image is. within_all r g acts n image (x image is)) a.0 b.0,
-        moved r n (noted n (ledger (g ++ all_acted acts) n) (Tailed tail)) (ledger (g ++ turn_of acts tail) n) (IsCrashImage three) (end_ledger g acts tail n) b.1)
+    let b = t.settled_logs (ledger (g ++ all_acted acts) n) n (stands_more set n g (all_acted acts) m mid stands run) a.1 in (
+      moments_on (AllWithin r (record { history = g; acts = acts }) n) (AllGood r (ledger (g ++ all_acted acts) n) n) (AllWithin r (record { history = g; acts = acts }) n) one two three
+          (within_down r (record { history = g; acts = acts }) n) (λ images x. x) (λ images x image is. within_all r g acts n image (x image is)) a.0 b.0,
+      moved r n (noted n (ledger (g ++ all_acted acts) n) (Tailed tail)) (ledger (g ++ turn_of acts tail) n) (IsCrashImage three) (end_ledger g acts tail n) b.1,
+    )
 
 module _ (r : Reading) (set : Settings) (g : List Happened) (acts : List Act) (tail : Tail) (n : ℕ) (m mid after : Machine) (one two three : DiskView)
     (run : Run set m (all_acted acts) mid) (t : Ended r set tail (λ x y. EndOfTurn set x tail y) mid after two three) (stands : Stands set g n m) (free : (ledger g n).writers ≡ []) where
@@ -338,13 +347,15 @@ module _ (r : Reading) (set : Settings) (g : List Happened) (acts : List Act) (t
 
   ends_unsettled : Jointly Turning one two → AllGood r (ledger (g ++ all_acted acts) n) n (IsCrashImage two) ⊎ ((settled n g (all_acted acts) ≡ false) × Rests r n one two) → Jointly Turning one three × Turned-so
   ends_unsettled moments (inl all) =
-      let b = t.settled_logs (ledger (g ++ all_acted acts) n) n stands_then all in
-      (moments_on Turning (AllGood r (ledger (g ++ all_acted acts) n) n) Turning one two three turning_down (λ images x. x) (λ images x. inr (λ image is. within_all r g acts n image (x image is))) moments b.0,
-          inl (moved r n (noted n (ledger (g ++ all_acted acts) n) (Tailed tail)) (ledger (g ++ turn_of acts tail) n) (IsCrashImage three) (end_ledger g acts tail n) b.1))
+      let b = t.settled_logs (ledger (g ++ all_acted acts) n) n stands_then all in (
+        moments_on Turning (AllGood r (ledger (g ++ all_acted acts) n) n) Turning one two three turning_down (λ images x. x) (λ images x. inr (λ image is. within_all r g acts n image (x image is))) moments b.0,
+        inl (moved r n (noted n (ledger (g ++ all_acted acts) n) (Tailed tail)) (ledger (g ++ turn_of acts tail) n) (IsCrashImage three) (end_ledger g acts tail n) b.1),
+      )
   ends_unsettled moments (inr (e, rests)) =
-      let b = t.unsettled_logs (ledger (g ++ all_acted acts) n) n stands_then ((untouched g (all_acted acts) n free e).writers ∙ free) in
-      (moments_on Turning (AsBefore r n (IsCrashImage two)) Turning one two three turning_down (λ images x. x) (λ images x. inl (as_before_on r n (IsCrashImage one) (IsCrashImage two) images rests.images x)) moments b.0,
-          inr (settled_last n g (all_acted acts) (Tailed tail ∷ []) e refl, rests_on r n one two three rests b.1))
+      let b = t.unsettled_logs (ledger (g ++ all_acted acts) n) n stands_then ((untouched g (all_acted acts) n free e).writers ∙ free) in (
+        moments_on Turning (AsBefore r n (IsCrashImage two)) Turning one two three turning_down (λ images x. x) (λ images x. inl (as_before_on r n (IsCrashImage one) (IsCrashImage two) images rests.images x)) moments b.0,
+        inr (settled_last n g (all_acted acts) (Tailed tail ∷ []) e refl, rests_on r n one two three rests b.1),
+      )
 
 -- ---- Event lines
 
@@ -425,8 +436,11 @@ module _ (r : Reading) (set : Settings) (acts : List Act) (tail : Tail) (m mid a
     at_end (inr (inr x)) image is = with_turn image (x image is)
 
     ends_lines : Jointly (LinesWithin r set.lane g (lines_of acts)) one three × LinesGood r set.lane (g ++ turn_of acts tail) (IsCrashImage three)
-    ends_lines = (moments_on (LinesAsBefore r (IsCrashImage one)) (LinesAsBeforeOr r (IsCrashImage two) (mid.lines ++ mid.fresh)) (LinesWithin r set.lane g (lines_of acts)) one two three
-        (each_down Allowed) at_first at_last rest.moments t.moments, at_end t.now)
+    ends_lines = (
+      moments_on (LinesAsBefore r (IsCrashImage one)) (LinesAsBeforeOr r (IsCrashImage two) (mid.lines ++ mid.fresh)) (LinesWithin r set.lane g (lines_of acts)) one two three
+          (each_down Allowed) at_first at_last rest.moments t.moments,
+      at_end t.now,
+    )
 
   pub keeps_lines : KeepsLines r set acts (turn_of acts tail) m one three
   keeps_lines g none reads good = ends_lines g none reads good

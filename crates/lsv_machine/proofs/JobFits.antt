@@ -311,7 +311,7 @@ module _ (good : Type 0) (set : Settings) (n : ℕ) (m : Machine) (l : Ledger) (
   loses_together =
       let plainly = plain_together good set n act.now act.job t.number m l t.drawn f in
       let at : Fits good set n (plain set act.now act.job t.number m).machine (noted_answer n act.job.conn act.job.body act.answers false l) =
-          subst (λ a. Fits good set n (plain set act.now act.job t.number m).machine (noted_answer n act.job.conn act.job.body a false l)) (sym t.answers) plainly in
+      subst (λ a. Fits good set n (plain set act.now act.job t.number m).machine (noted_answer n act.job.conn act.job.body a false l)) (sym t.answers) plainly in
       rw t.now (loses_beside good set n t.log (plain set act.now act.job t.number m).machine (noted_answer n act.job.conn act.job.body act.answers false l) t.left at (nobody_writes t.lets_go) t.loses)
 
 -- a restart that failed inside its cut

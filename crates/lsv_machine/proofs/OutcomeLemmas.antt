@@ -181,7 +181,7 @@ one_outcome set old x y a b job now none p q =
     let n = number_is set old p.number none p.drawn in
     let i = number_is set old q.number none q.drawn in
     let same : plain set a.now a.job p.number old ≡ plain set b.now b.job q.number old =
-        ap (λ t. plain set t a.job p.number old) now ∙ (ap (λ j. plain set b.now j p.number old) job ∙ ap (λ k. plain set b.now b.job k old) (n ∙ sym i)) in
+    ap (λ t. plain set t a.job p.number old) now ∙ (ap (λ j. plain set b.now j p.number old) job ∙ ap (λ k. plain set b.now b.job k old) (n ∙ sym i)) in
     (p.answers ∙ (ap (λ (d : Done). d.answers) same ∙ sym q.answers), p.line ∙ (ap (λ (d : Done). d.line) same ∙ sym q.line), p.now ∙ (ap (λ (d : Done). d.machine) same ∙ sym q.now))
 
 there_is : (a b : Stored) (p q : ℕ) → There a p ≡ There b q → (a ≡ b) × (p ≡ q)
@@ -191,10 +191,11 @@ commits_once : (failed failed' : List Owner) (n : ℕ) (as' bs : List Answer) (m
 commits_once failed failed' n as' bs m x y s t =
     let w : Some s.writer ≡ Some t.writer = sym s.owned ∙ t.owned in
     let k : s.writer ≡ t.writer = cc in
-    let (a, p) = there_is s.stored t.stored s.promised t.promised (sym s.was ∙ t.was) in
-    (s.told ∙ (ap (λ (j : ConnId). say j (CommitPoint (elapsed s.stored.records)) ∷ []) k ∙ (ap (λ (z : Stored). say t.writer (CommitPoint (elapsed z.records)) ∷ []) a ∙ sym t.told)),
-        s.now ∙ (ap (λ (z : Stored). with_log n (There z (raised s.promised z.records (elapsed z.records))) m) a
-        ∙ (ap (λ (q : ℕ). with_log n (There t.stored (raised q t.stored.records (elapsed t.stored.records))) m) p ∙ sym t.now)))
+    let (a, p) = there_is s.stored t.stored s.promised t.promised (sym s.was ∙ t.was) in (
+      s.told ∙ (ap (λ (j : ConnId). say j (CommitPoint (elapsed s.stored.records)) ∷ []) k ∙ (ap (λ (z : Stored). say t.writer (CommitPoint (elapsed z.records)) ∷ []) a ∙ sym t.told)),
+      s.now ∙ (ap (λ (z : Stored). with_log n (There z (raised s.promised z.records (elapsed z.records))) m) a
+          ∙ (ap (λ (q : ℕ). with_log n (There t.stored (raised q t.stored.records (elapsed t.stored.records))) m) p ∙ sym t.now)),
+    )
 
 flush_once : (failed failed' : List Owner) (n : ℕ) (as' bs : List Answer) (m x y : Machine) → failed ≡ [] → failed' ≡ [] → FlushesLog failed n as' m x → FlushesLog failed' n bs m y → (as' ≡ bs) × (x ≡ y)
 flush_once failed failed' n as' bs m x y e e' (inl s) (inl t) = commits_once failed failed' n as' bs m x y s t

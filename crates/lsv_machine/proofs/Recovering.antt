@@ -48,7 +48,7 @@ start_stands r set texts image m p g n starts reads on good =
     let cut : ledger g n ≡ noted n (ledger h n) (Begins texts) = ap (λ (x : List Happened). ledger x n) on.is ∙ begun_ledger n texts h in
     let at_g : GoodAt r (noted n (ledger h n) (Begins texts)) n image = subst (λ (l : Ledger). GoodAt r l n image) cut good in
     let at_h : GoodAt r (ledger h n) n image = at_weaker r (noted n (ledger h n) (Begins texts)) (ledger h n) n image
-        (record { head = refl; sent = refl; shown = refl; exit = refl; finished = refl; lower = lower_same (ledger h n).promised }) at_g in
+    (record { head = refl; sent = refl; shown = refl; exit = refl; finished = refl; lower = lower_same (ledger h n).promised }) at_g in
     subst (λ (x : List Happened). Stands set x n m) (sym on.is) (stands_begun set n texts h m starts (state_of r image n (ledger h n) (m.logs n) (reads n) at_h))
 
 -- ---- The opening
@@ -65,8 +65,11 @@ only_opened r lane lanes texts found new o = record {
   logs = λ n p g old on good. record {
     opening = λ k from to. as_before_within r p n (IsCrashImage found) (new.crash_images_at k) old ((o.logs n).0.each k from to);
     during = λ before after t e. absurd (nothing before after t e);
-    now = inr (refl, as_before_within r p n (IsCrashImage found) (IsCrashImage new) old (o.logs n).1.images,
-        subst (λ (h : List Happened). Good r h new.reads n) (sym (append_nil g)) (at_same r (ledger g n) n found.reads new.reads (o.logs n).1.reads good));
+    now = inr (
+      refl,
+      as_before_within r p n (IsCrashImage found) (IsCrashImage new) old (o.logs n).1.images,
+      subst (λ (h : List Happened). Good r h new.reads n) (sym (append_nil g)) (at_same r (ledger g n) n found.reads new.reads (o.logs n).1.reads good),
+    );
   };
   numbers = λ fit. (o.numbers fit).moments.each;
 }
@@ -165,7 +168,7 @@ module _ (r : Reading) (set : Settings) (texts : List (List ℕ)) (found : DiskV
       subst (λ (x : List Happened). settled n g x ≡ false) (sym (all_turns_last s.turns turn)) (settled_last n g (all_turns s.turns) (turn_of t.acts t.tail) e rests.0),
       as_before_within r p n (IsCrashImage old) (IsCrashImage new) within rests.1.images,
       subst (λ (x : List Happened). Good r x new.reads n) all_so_far
-      (at_same r (ledger (so_far ++ turn_of t.acts t.tail) n) n old.reads new.reads rests.1.reads (good_untouched r so_far (turn_of t.acts t.tail) old.reads n (free e) rests.0 good)),
+          (at_same r (ledger (so_far ++ turn_of t.acts t.tail) n) n old.reads new.reads rests.1.reads (good_untouched r so_far (turn_of t.acts t.tail) old.reads n (free e) rests.0 good)),
     )
   ]
 
@@ -216,7 +219,7 @@ turn_joins r set texts found s now jobs replies m after old new so t =
         ];
       };
       stands = λ n g p on good. subst (λ (h : List Happened). Stands set h n after) (append_assoc g (all_turns s.turns) (turn_of t.acts t.tail) ∙ ap (λ (x : List Happened). g ++ x) (sym all))
-        (stands_more set n (g ++ all_turns s.turns) (turn_of t.acts t.tail) m after (so.stands n g p on good) t.run);
+          (stands_more set n (g ++ all_turns s.turns) (turn_of t.acts t.tail) m after (so.stands n g p on good) t.run);
       fit = t.numbers.now;
       lines = t.lines_read so.lines;
     }

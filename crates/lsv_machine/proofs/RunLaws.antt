@@ -101,7 +101,7 @@ continues_stands set n h end c =
     let s = starts_stand set n c.texts c.start (ledger c.before n) c.starts c.good in
     let r = stands_on set n c.run c.start end (noted n (ledger c.before n) (Begins c.texts)) s c.runs in
     let e : ledger h n ≡ ledger_from n (noted n (ledger c.before n) (Begins c.texts)) c.run =
-        ap (λ x. ledger x n) c.is ∙ ledger_append n blank c.before (Begins c.texts ∷ c.run) in
+    ap (λ x. ledger x n) c.is ∙ ledger_append n blank c.before (Begins c.texts ∷ c.run) in
     subst (StandsFor set n end) (sym e) r
 
 pub stands_holds : (set : Settings) (n : ℕ) (h : List Happened) (end : Machine) (stored : Stored) (p : ℕ) → Stands set h n end → end.logs n ≡ There stored p → HoldsRecords stored p (end.owner n) (shown h n) (promised h n)

@@ -237,7 +237,7 @@ resumed_looks k n stored None m = refused_looks k refusals.NoSuchResumePoint m (
 resumed_looks k n stored (Some x) m =
     either_looks k m (can_cut x stored) (silently (with_state k (Running (Some n)) (with_owner n (Some k) (with_log n (There (cut_to x stored) x) m)))) (refused k refusals.LogFull m)
     (silent_looks k m (with_state k (Running (Some n)) (with_owner n (Some k) (with_log n (There (cut_to x stored) x) m)))
-        (state_leaves k (Running (Some n)) m (with_owner n (Some k) (with_log n (There (cut_to x stored) x) m)) refl refl refl refl refl))
+    (state_leaves k (Running (Some n)) m (with_owner n (Some k) (with_log n (There (cut_to x stored) x) m)) refl refl refl refl refl))
     (refused_looks k refusals.LogFull m (λ p. cc))
 
 restarted_at_looks : (k : ConnId) (n point : ℕ) (x : LogState) (m : Machine) → Looks k m (restarted_at k n point x m)
@@ -253,7 +253,7 @@ taken_looks k n r Damaged m = silent_looks k m m (stays_leaves k m m refl refl r
 taken_looks k n r (There stored promised) m =
     either_looks k m (takes stored r) (silently (waits n (with_log n (There (with_record (covered m.texts stored.records r) stored) promised) m))) (refused k refusals.LogFull m)
     (silent_looks k m (waits n (with_log n (There (with_record (covered m.texts stored.records r) stored) promised) m))
-        (stays_leaves k m (waits n (with_log n (There (with_record (covered m.texts stored.records r) stored) promised) m)) refl refl refl refl refl))
+    (stays_leaves k m (waits n (with_log n (There (with_record (covered m.texts stored.records r) stored) promised) m)) refl refl refl refl refl))
     (refused_looks k refusals.LogFull m (λ p. cc))
 
 recorded_looks : (k : ConnId) (o : Option ℕ) (r : Record) (m : Machine) → Looks k m (recorded k o r m)

@@ -120,9 +120,10 @@ writer_apart : (set : Settings) (m : Machine) (n : ℕ) (j k : ConnId) → Sound
 writer_apart set m n j k s o e p = let a = s.owns n j o in let b : log_of (m.states k) ≡ Some n = subst (λ i. log_of (m.states i) ≡ Some n) p a in cc
 
 flushed_same : (set : Settings) (failed : List Owner) (n : ℕ) (k : ConnId) (answers : List Answer) (m mid : Machine) → Sound set m → log_of (m.states k) ≡ None → FlushesLog failed n answers m mid → Same k m mid × NoneTo k answers
-flushed_same set failed n k answers m mid s e (inl t) =
-    (record { state = ap (λ (x : Machine). x.states k) t.now; noting = λ h. ap (λ (x : Machine). list_any (same k) x.noting) t.now ∙ h },
-        rw t.told ((λ p. writer_apart set m n t.writer k s t.owned e p), tt))
+flushed_same set failed n k answers m mid s e (inl t) = (
+  record { state = ap (λ (x : Machine). x.states k) t.now; noting = λ h. ap (λ (x : Machine). list_any (same k) x.noting) t.now ∙ h },
+  rw t.told ((λ p. writer_apart set m n t.writer k s t.owned e p), tt),
+)
 flushed_same set failed n k answers m mid s e (inr t) =
     let ne = writer_apart set m n t.writer k s t.owned e in
     (died_same t.writer k m (with_log n t.log m) mid ne refl refl t.now, last_none t.writer k answers ne (refused_last t.writer answers t.told))
@@ -209,7 +210,7 @@ pub tail_shut : (set : Settings) (m : Machine) (tail : Tail) (new : Machine) →
 tail_shut set m tail new s t =
     let s' = lines_sound set tail.failed t.of_lines m t.mid s t.lines in
     let all = shuts_append t.last t.of_lines t.of_logs (shuts_stay t.mid t.last t.of_lines (flushes_stay set tail.failed t.mid.waiting t.of_logs t.mid t.last s' t.logs) (lines_shut set tail.failed t.of_lines m t.mid t.lines))
-        (flushes_shut set tail.failed t.mid.waiting t.of_logs t.mid t.last s' t.logs) in
+    (flushes_shut set tail.failed t.mid.waiting t.of_logs t.mid t.last s' t.logs) in
     let parts = t.answers in
     rw parts (shuts_stay t.last new (t.of_lines ++ t.of_logs) (λ k e. ap (λ (w : Machine). w.states k) t.now ∙ e) all)
 
@@ -252,11 +253,13 @@ hushed_other set k m act new h ne t (inr x) = let s = (step_seen set m act new t
 hushed_its : (set : Settings) (k : ConnId) (m : Machine) (act : Act) (new : Machine) (h : List Happened) → act.job.conn ≡ k → Step set m act new → Hushed k m (Did act ∷ h) → Hushed k new h × (act.answers ≡ [])
 hushed_its set k m act new h e t (inr x) = absurd (x.2.0 e)
 hushed_its set k m act new h e t (inl x) =
-    let d : m.states act.job.conn ≡ Dead = ap m.states e ∙ x.0 in
-    (elim (dead_after set m act new t d) [
-      | inl stays ↦ inl (ap new.states (sym e) ∙ stays.1, x.1.1)
-      | inr goes ↦ inr (ap new.states (sym e) ∙ goes.1, subst (λ j. list_any (same j) new.noting ≡ false) e goes.2, x.1.0 e goes.0)
-    ], dead_told set m act new t d)
+    let d : m.states act.job.conn ≡ Dead = ap m.states e ∙ x.0 in (
+      elim (dead_after set m act new t d) [
+        | inl stays ↦ inl (ap new.states (sym e) ∙ stays.1, x.1.1)
+        | inr goes ↦ inr (ap new.states (sym e) ∙ goes.1, subst (λ j. list_any (same j) new.noting ≡ false) e goes.2, x.1.0 e goes.0)
+      ],
+      dead_told set m act new t d,
+    )
 
 pub silence : (set : Settings) (k : ConnId) (h : List Happened) (m end : Machine) → Sound set m → Hushed k m h → Run set m h end → NothingTo k h
 silence set k [] m end s q r = tt

@@ -20,8 +20,17 @@ five_five = record { head = head_text the_head; records = one_byte 5 ∷ one_byt
 
 pub would_start : StartsAs one_lane [] (starting (promising (one_byte 5 ∷ one_byte 5 ∷ []) 2) 1)
 would_start = record {
-  lane = omega arith; texts_are = refl; promises = promises; drawn = inr (0, refl); none_above = above_one;
-  unknown = λ k. refl; free = λ n. refl; no_failed_draw = refl; none_waits = refl; no_line = refl; nobody_noted = refl
+  lane = omega arith;
+  texts_are = refl;
+  promises = promises;
+  drawn = inr (0, refl);
+  none_above = above_one;
+  unknown = λ k. refl;
+  free = λ n. refl;
+  no_failed_draw = refl;
+  none_waits = refl;
+  no_line = refl;
+  nobody_noted = refl;
 }
   where
     promises : (n : ℕ) (stored : Stored) (promised : ℕ) → (starting (promising (one_byte 5 ∷ one_byte 5 ∷ []) 2) 1).logs n ≡ There stored promised → promised ≡ length stored.records
@@ -33,18 +42,33 @@ would_start = record {
 
     above_one : (n : ℕ) → IsOfLane 0 1 n → 1 < n → (starting (promising (one_byte 5 ∷ one_byte 5 ∷ []) 2) 1).logs n ≡ Absent
     above_one n of_lane lt = elim (eq_or n 1) [
-        | equal e t ↦ absurd (omega arith)
-        | unequal ne e ↦ ap (λ (b : Bool). if b then promising (one_byte 5 ∷ one_byte 5 ∷ []) 2 else Absent) e ]
+      | equal e t ↦ absurd (omega arith)
+      | unequal ne e ↦ ap (λ (b : Bool). if b then promising (one_byte 5 ∷ one_byte 5 ∷ []) 2 else Absent) e
+    ]
 
 pub failed_run : Run one_lane unpromised (Did fails_restart ∷ []) all_lost
 unfolding five_five
-failed_run = (all_lost, inr (record {
-    alive = refl; no_line = refl;
-    how = inr (inr (refl, record {
-      restart = record { log = 1; point = 1 }; asks = refl; free = refl; did = (0, omega arith, refl); log = promising [] 0;
-      fails = record { stored = five_five; promised = 0; was = refl; unfinished = refl; kept = 1; ends = refl; left = 0; enough = omega arith; cuts = 0; counted = inl refl; now = refl };
-      answers = inl refl; now = refl }))
-  }), refl)
+failed_run = (
+  all_lost,
+  inr (record {
+    alive = refl;
+    no_line = refl;
+    how = inr (inr (
+      refl,
+      record {
+        restart = record { log = 1; point = 1 };
+        asks = refl;
+        free = refl;
+        did = (0, omega arith, refl);
+        log = promising [] 0;
+        fails = record { stored = five_five; promised = 0; was = refl; unfinished = refl; kept = 1; ends = refl; left = 0; enough = omega arith; cuts = 0; counted = inl refl; now = refl };
+        answers = inl refl;
+        now = refl;
+      },
+    ));
+  }),
+  refl,
+)
 
 -- the machine after each of the two jobs
 gone_on : Machine
@@ -63,11 +87,23 @@ by_fit_is fits = ap by_fit fits
 second : fits_file (head_text full_head) ≡ true → Step one_lane gone_on (did (accepts_with_keys 2) (say (conn 2) (LogId 1) ∷ [])) (plain one_lane (time_of 0) (accepts_with_keys 2) 1 gone_on).machine
 unfolding gone_on by_fit
 second fits = let e : by_fit true ≡ plain one_lane (time_of 0) (accepts_with_keys 2) 1 gone_on = sym (by_fit_is fits) in
-    inl (record { number = 1; drawn = record { passed = 0; few = omega arith; next = refl };
-      answers = ap (λ (d : Done). d.answers) e; line = ap (λ (d : Done). d.line) e; sound = refl; unmarked = refl; now = refl })
+    inl (record {
+      number = 1;
+      drawn = record { passed = 0; few = omega arith; next = refl };
+      answers = ap (λ (d : Done). d.answers) e;
+      line = ap (λ (d : Done). d.line) e;
+      sound = refl;
+      unmarked = refl;
+      now = refl;
+    })
 
 pub two_run : fits_file (head_text full_head) ≡ true → (end : Machine) × Run one_lane above (all_acted both_write) end
 unfolding gone_on
-two_run fits = ((plain one_lane (time_of 0) (accepts_with_keys 2) 1 gone_on).machine, (gone_on,
+two_run fits = (
+  (plain one_lane (time_of 0) (accepts_with_keys 2) 1 gone_on).machine,
+  (
+    gone_on,
     inl (record { number = 1; drawn = record { passed = 0; few = omega arith; next = refl }; answers = refl; line = refl; sound = refl; unmarked = refl; now = refl }),
-    ((plain one_lane (time_of 0) (accepts_with_keys 2) 1 gone_on).machine, second fits, refl)))
+    ((plain one_lane (time_of 0) (accepts_with_keys 2) 1 gone_on).machine, second fits, refl),
+  ),
+)

@@ -181,7 +181,9 @@ module _ (set : Settings) (m : Machine) (act : Act) (new : Machine) where
         to = shape_to act.job.conn act.answers shape;
         dead = let a = subst (λ x. ShutsAreDead (with_log t.log t.left d.machine) x) (sym t.answers) dead in subst (λ x. ShutsAreDead x act.answers) (sym t.now) a;
         leaves_alone = subst (Leaves act.job.conn m act.line) (sym t.now) (record {
-          others = alone.others; texts = alone.texts; lines = alone.lines;
+          others = alone.others;
+          texts = alone.texts;
+          lines = alone.lines;
           fresh = alone.fresh ∙ ap (λ (x : List ℕ). m.fresh ++ x) (line ∙ sym none);
           noting = alone.noting;
         });
@@ -227,6 +229,8 @@ module _ (set : Settings) (m : Machine) (act : Act) (new : Machine) where
           → ((act.job.body ≢ body.Gone) × (new.states act.job.conn ≡ Dead)) ⊎ ((act.job.body ≡ body.Gone) × (new.states act.job.conn ≡ Fresh) × (list_any (same act.job.conn) new.noting ≡ false))
       go (body.Msg message) u = inl ((λ q. let x : body.Msg message ≡ body.Gone = sym u ∙ q in cc), ap (λ (x : Machine). x.states act.job.conn) (now_is (body.Msg message) u) ∙ e)
       go (body.Bad fault) u = inl ((λ q. let x : body.Bad fault ≡ body.Gone = sym u ∙ q in cc), ap (λ (x : Machine). x.states act.job.conn) (now_is (body.Bad fault) u) ∙ e)
-      go body.Gone u = inr (u,
-          ap (λ (x : Machine). x.states act.job.conn) (now_is body.Gone u) ∙ its_state act.job.conn Fresh (let_go (log_of (m.states act.job.conn)) (record m { noting = without_conn act.job.conn m.noting })),
-          ap (λ (x : Machine). list_any (same act.job.conn) x.noting) (now_is body.Gone u) ∙ without_itself act.job.conn m.noting)
+      go body.Gone u = inr (
+        u,
+        ap (λ (x : Machine). x.states act.job.conn) (now_is body.Gone u) ∙ its_state act.job.conn Fresh (let_go (log_of (m.states act.job.conn)) (record m { noting = without_conn act.job.conn m.noting })),
+        ap (λ (x : Machine). list_any (same act.job.conn) x.noting) (now_is body.Gone u) ∙ without_itself act.job.conn m.noting,
+      )

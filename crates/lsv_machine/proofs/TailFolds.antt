@@ -138,15 +138,18 @@ ended_on r set s t P Q R m mid after one two three stands ends a b = record {
   settled_logs = λ l n here all.
       let x = a.settled_logs l n here all in
       let l' = noted n l (Tailed s) in
-      let y = b.settled_logs l' n (stands n l here) x.1 in
-      (moments_on (AllGood r l n) (AllGood r l' n) (AllGood r l n) one two three (each_down (GoodAt r l n)) (λ images z. z) (all_back r n s.answers l) x.0 y.0,
-          subst (λ k. AllGood r k n (IsCrashImage three)) (sym (heard_append false s.answers t.answers l)) y.1);
+      let y = b.settled_logs l' n (stands n l here) x.1 in (
+        moments_on (AllGood r l n) (AllGood r l' n) (AllGood r l n) one two three (each_down (GoodAt r l n)) (λ images z. z) (all_back r n s.answers l) x.0 y.0,
+        subst (λ k. AllGood r k n (IsCrashImage three)) (sym (heard_append false s.answers t.answers l)) y.1,
+      );
   unsettled_logs = λ l n here free.
       let x = a.unsettled_logs l n here free in
       let l' = noted n l (Tailed s) in
-      let y = b.unsettled_logs l' n (stands n l here) ((heard_free false s.answers l free).writers ∙ free) in
-      (moments_on (AsBefore r n (IsCrashImage one)) (AsBefore r n (IsCrashImage two)) (AsBefore r n (IsCrashImage one)) one two three (before_down r n (IsCrashImage one)) (λ images z. z)
-      (λ images z. as_before_on r n (IsCrashImage one) (IsCrashImage two) images x.1.images z) x.0 y.0, rests_on r n one two three x.1 y.1);
+      let y = b.unsettled_logs l' n (stands n l here) ((heard_free false s.answers l free).writers ∙ free) in (
+        moments_on (AsBefore r n (IsCrashImage one)) (AsBefore r n (IsCrashImage two)) (AsBefore r n (IsCrashImage one)) one two three (before_down r n (IsCrashImage one)) (λ images z. z)
+            (λ images z. as_before_on r n (IsCrashImage one) (IsCrashImage two) images x.1.images z) x.0 y.0,
+        rests_on r n one two three x.1 y.1,
+      );
   numbers = numbers_on r set.lane set.lanes one two three a.numbers b.numbers;
 }
 

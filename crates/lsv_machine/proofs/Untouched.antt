@@ -40,10 +40,10 @@ without_absent k [] e = refl
 without_absent k (j ∷ ws) e = elim (same_or k j) [
   | alike p t ↦ absurd (let f : true || list_any (same k) ws ≡ false = rw t at e in cc)
   | apart p t ↦ let f : false || list_any (same k) ws ≡ false = rw t at e in
-    elim (same_or j k) [
-      | alike q u ↦ absurd (p (sym q))
-      | apart q u ↦ rw u (ap (λ (xs : List ConnId). j ∷ xs) (without_absent k ws f))
-    ]
+      elim (same_or j k) [
+        | alike q u ↦ absurd (p (sym q))
+        | apart q u ↦ rw u (ap (λ (xs : List ConnId). j ∷ xs) (without_absent k ws f))
+      ]
 ]
 
 lowered : (o : Option ℕ) (rs : List Record) (c : ℕ) → Lower (lowered_to o rs c) o

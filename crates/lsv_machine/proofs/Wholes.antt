@@ -53,7 +53,7 @@ told_stayed {D} n l ls before g told on (inr (at, e)) j le =
     let z = y ++ Begins l.texts ∷ [] in
     let x' = before.history ++ all_acted (take on.done before.acts) in
     let same_shut : (ledger g n).shut ≡ (ledger z n).shut =
-        ap (λ (h : List Happened). (ledger h n).shut) on.is ∙ (ap (λ (l : Ledger). l.shut) (begun_ledger n l.texts x') ∙ sym (ap (λ (l : Ledger). l.shut) (begun_ledger n l.texts y))) in
+    ap (λ (h : List Happened). (ledger h n).shut) on.is ∙ (ap (λ (l : Ledger). l.shut) (begun_ledger n l.texts x') ∙ sym (ap (λ (l : Ledger). l.shut) (begun_ledger n l.texts y))) in
     let e' : settled n z (all_turns at.before) ≡ false = sym (settled_shut n (all_turns at.before) (ledger g n) (ledger z n) same_shut) ∙ e in
     let free : (ledger z n).writers ≡ [] = ap (λ (l : Ledger). l.writers) (begun_ledger n l.texts y) in
     let w = weaker_on (ledger x n) (ledger z n) (ledger (z ++ all_turns at.before) n) (then_begun n l.texts x y weak) (untouched z (all_turns at.before) n free e').weaker in

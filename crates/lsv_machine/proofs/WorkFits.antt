@@ -64,10 +64,18 @@ module _ (good : Type 0) (set : Settings) (n : ℕ) (k : ConnId) (m : Machine) (
       begun = elim (eq_or i n) [
         | equal p u ↦ rw u (fits_begins good set n i k (empty_log (head_text accept.head)) 0 m i 0 l (opened_by k (head_text accept.head) l) idle alive (f.sound.none_above i lane above).1 (later set m i lane above) (itself_not_above set i) f
             refl (λ j. refl)
-            (λ q. (rw (not_shut alive) refl, λ g. record {
-              prefix = prefix_all [] [] refl; whole = λ j d. refl; unfinished = λ j d. refl; is_told = λ j d. (0, refl);
-              enough = omega arith; alike = λ p' d. let a : 0 ≡ p' = cc in omega arith; bare = λ d. refl
-            }))
+            (λ q. (
+              rw (not_shut alive) refl,
+              λ g. record {
+                prefix = prefix_all [] [] refl;
+                whole = λ j d. refl;
+                unfinished = λ j d. refl;
+                is_told = λ j d. (0, refl);
+                enough = omega arith;
+                alike = λ p' d. let a : 0 ≡ p' = cc in omega arith;
+                bare = λ d. refl;
+              },
+            ))
             (λ q. absurd (q (sym p))))
         | unequal p u ↦ rw u (fits_begins good set n i k (empty_log (head_text accept.head)) 0 m i 0 l l idle alive (f.sound.none_above i lane above).1 (later set m i lane above) (itself_not_above set i) f
             refl (λ j. refl)
@@ -151,7 +159,7 @@ module _ (good : Type 0) (set : Settings) (n : ℕ) (k : ConnId) (m : Machine) (
       let texts : m.texts ≡ l.texts = sym f.agrees.texts in
       let cover : covered m.texts stored.records r ≡ covered l.texts l.shown r = ap (λ x. covered x stored.records r) texts ∙ ap (λ x. covered l.texts x r) same in
       let eq : stored.records ++ covered m.texts stored.records r ∷ [] ≡ l.shown ++ covered l.texts l.shown r ∷ [] =
-          ap (λ (x : List Record). x ++ covered m.texts stored.records r ∷ []) same ∙ ap (λ (x : Record). l.shown ++ x ∷ []) cover in
+      ap (λ (x : List Record). x ++ covered m.texts stored.records r ∷ []) same ∙ ap (λ (x : Record). l.shown ++ x ∷ []) cover in
       record {
         prefix = prefix_all (stored.records ++ covered m.texts stored.records r ∷ []) (l.shown ++ covered l.texts l.shown r ∷ []) eq;
         whole = λ j o. eq;

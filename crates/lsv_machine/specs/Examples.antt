@@ -113,8 +113,16 @@ promising records promised = There (record { head = head_text the_head; records 
 -- a start but for its log 1, the last number drawn being this
 abbrev pub starting : LogState → ℕ → Machine
 starting log last = record {
-  texts = []; logs = λ n. if n == 1 then log else Absent; states = λ k. Fresh; owner = λ n. None;
-  last = last; failed_draws = 0; waiting = []; lines = []; fresh = []; noting = []
+  texts = [];
+  logs = λ n. if n == 1 then log else Absent;
+  states = λ k. Fresh;
+  owner = λ n. None;
+  last = last;
+  failed_draws = 0;
+  waiting = [];
+  lines = [];
+  fresh = [];
+  noting = [];
 }
 
 -- the log of the first two records that were committed; nothing of it is promised

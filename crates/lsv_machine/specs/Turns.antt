@@ -39,7 +39,7 @@ RefusesAll failed [] answers old new = (answers ≡ []) × (new ≡ old)
 RefusesAll failed (k ∷ conns) answers old new =
     ((is_dead (old.states k) ≡ true) × RefusesAll failed conns answers old new)
     ⊎ ((is_dead (old.states k) ≡ false) × ((mid : Machine) × (its : List Answer) × (rest : List Answer)
-        × (answers ≡ its ++ rest) × RefusesOne failed k its old mid × RefusesAll failed conns rest mid new))
+    × (answers ≡ its ++ rest) × RefusesOne failed k its old mid × RefusesAll failed conns rest mid new))
 
 -- the event log failed: the turn's lines are there wholly or not at all, and who had one is refused
 pub record LosesLines (set : Settings) (failed : List Owner) (answers : List Answer) (old new : Machine) : Type 0 where
