@@ -367,7 +367,7 @@ acts_lines set (act ∷ acts) m mid (next, step, rest) =
     let (a, b) = acts_lines set acts next mid rest in
     (a ∙ seen.lines, b ∙ (ap (λ (x : List ℕ). x ++ lines_of acts) seen.fresh ∙ append_assoc m.fresh act.line (lines_of acts)))
 
-lines_append : (lane : ℕ) (g h : List Happened) (a b t f t' f' : List ℕ) → LinesFrom lane a b g t f → LinesFrom lane t f h t' f' → LinesFrom lane a b (g ++ h) t' f'
+pub lines_append : (lane : ℕ) (g h : List Happened) (a b t f t' f' : List ℕ) → LinesFrom lane a b g t f → LinesFrom lane t f h t' f' → LinesFrom lane a b (g ++ h) t' f'
 lines_append lane [] h a b t f t' f' (p, q) k = subst (λ x. LinesFrom lane x b h t' f') p (subst (λ x. LinesFrom lane t x h t' f') q k)
 lines_append lane (Did act ∷ g) h a b t f t' f' j k = lines_append lane g h a (b ++ act.line) t f t' f' j k
 lines_append lane (Tailed tail ∷ g) h a b t f t' f' (inl j) k = inl (lines_append lane g h (a ++ b) [] t f t' f' j k)

@@ -88,11 +88,21 @@ length_as_list : (o : Option ConnId) → length (as_list o) ≤ 1
 length_as_list None = omega arith
 length_as_list (Some k) = omega arith
 
-pub one_writer : (set : Settings) (n : ℕ) (before run : List Happened) (texts : List (List ℕ)) (start end : Machine) → StartsAs set texts start → Run set start run end → length (writers (before ++ Begins texts ∷ run) n) ≤ 1
-one_writer set n before run texts start end s r =
+writer_at_end : (set : Settings) (n : ℕ) (before run : List Happened) (texts : List (List ℕ)) (start end : Machine) → StartsAs set texts start → Run set start run end → length (writers (before ++ Begins texts ∷ run) n) ≤ 1
+writer_at_end set n before run texts start end s r =
     let f = run_together ⊥ set n run start end (noted n (ledger before n) (Begins texts)) (start_fits ⊥ set n texts start (ledger before n) s (λ x. absurd x)) r in
     let one : length (ledger_from n (noted n (ledger before n) (Begins texts)) run).writers ≤ 1 = rw f.agrees.writers (length_as_list (end.owner n)) in
     subst (λ (l : Ledger). length l.writers ≤ 1) (sym (ledger_append n blank before (Begins texts ∷ run))) one
+
+run_split : (set : Settings) (g h : List Happened) (a c : Machine) → Run set a (g ++ h) c → (b : Machine) × Run set a g b
+run_split set [] h a c r = (a, refl)
+run_split set (Did act ∷ g) h a c (mid, step, rest) = let (b, r) = run_split set g h mid c rest in (b, (mid, step, r))
+run_split set (Tailed tail ∷ g) h a c (mid, ended, rest) = let (b, r) = run_split set g h mid c rest in (b, (mid, ended, r))
+run_split set (Begins texts ∷ g) h a c r = absurd r
+
+pub one_writer : (set : Settings) (n : ℕ) (before run rest : List Happened) (texts : List (List ℕ)) (start end : Machine) → StartsAs set texts start → Run set start (run ++ rest) end
+    → length (writers (before ++ Begins texts ∷ run) n) ≤ 1
+one_writer set n before run rest texts start end s r = let (b, first) = run_split set run rest start end r in writer_at_end set n before run texts start b s first
 
 -- ---- Records and promises
 

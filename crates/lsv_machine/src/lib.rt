@@ -13,8 +13,9 @@ pub use examples::{
     images_of_a_moment_go_together, no_history_serves_both_starts,
 };
 pub use laws::{
-    a_log_has_one_writer, records_are_shown, runs_join, the_invariant_is_kept,
-    what_is_promised_is_held, what_is_promised_was_sent, what_is_shown_is_masked,
+    a_log_has_one_writer, records_are_shown, runs_join, the_event_log_is_of_the_history,
+    the_invariant_is_kept, what_is_promised_is_held, what_is_promised_was_sent,
+    what_is_shown_is_masked,
 };
 pub use outcomes::{
     an_accepted_restart_keeps_its_point, no_fault_without_failure, nothing_is_said_after_a_shut,
