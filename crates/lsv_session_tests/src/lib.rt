@@ -1,5 +1,7 @@
-//! Tests of the crates of sessions, by their public calls alone.
+//! Tests of the crates of sessions and of the load, by their public calls alone.
 #![tactic(auto)]
 
+#[cfg(test)]
+mod load;
 #[cfg(test)]
 mod session;
