@@ -1,6 +1,6 @@
 -- The numbers from 1 on, their sums, and the frames of outputs.
-use Rattle.std.proofs.Common.{◌≡◌, ℕ, zero, suc, ◌+◌, ◌*◌, ◌/◌, ◌<◌, List, [], ◌∷◌, ◌++◌, map, refl, sym, ap, ◌∙◌, append_assoc, add-one, arith, lit<}
-use Rattle.std.specs.List.{sum, sum_by, flat_map}
+use Rattle.std.proofs.Common.{◌≡◌, ℕ, zero, suc, ◌+◌, ◌*◌, ◌/◌, List, [], ◌∷◌, ◌++◌, map, refl, sym, ap, ◌∙◌, append_assoc, add-one, arith, lit<}
+use Rattle.std.specs.List.{sum, sum_by}
 use Rattle.std.proofs.lemmas.List.Sums.{sum-map, sum_by-append}
 use Rattle.std.proofs.lemmas.List.{append-nil, flat_map_more, map-append, map-id}
 use Rattle.std.proofs.lemmas.Grind.{flat_map-append}
@@ -8,7 +8,7 @@ use Rattle.std.proofs.Math.Nat.{mul-div_cancel_left}
 use Rattle.lsv_wire.specs.Frame.{frame_of}
 use Rattle.lsv_msg.specs.Messages.{client_bytes}
 use Rattle.lsv_msg.specs.declared.messages.ClientMessage.{ClientMessage}
-use Rattle.lsv_gen.specs.Load.{accept, conversation, exit, frames, hello, messages, output, outputs_of, up_to}
+use Rattle.lsv_gen.specs.Load.{accept, conversation, exit, frames, hello, output, outputs_of, up_to}
 
 sum_by_itself : (xs : List ℕ) → sum xs ≡ sum_by (λ n. n) xs
 sum_by_itself xs = ap sum (sym (map-id xs)) ∙ sum-map (λ n. n) xs

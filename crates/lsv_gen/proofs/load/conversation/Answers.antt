@@ -1,4 +1,4 @@
-use Rattle.std.proofs.Common.{◌≡◌, List, [], ◌++◌, map, ap, ◌∙◌}
+use Rattle.std.proofs.Common.{List, [], ◌++◌, map, ap, ◌∙◌}
 use Rattle.lsv_wire.specs.Frame.{frame_of}
 use Rattle.lsv_msg.specs.Messages.{client_bytes}
 use Rattle.lsv_gen.specs.Load.{accept, frames, hello, output, outputs_of, up_to}

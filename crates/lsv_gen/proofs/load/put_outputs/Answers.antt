@@ -1,4 +1,4 @@
-use Rattle.std.proofs.Common.{◌≡◌, ap, ◌∙◌, ◌++◌, map}
+use Rattle.std.proofs.Common.{ap, ◌∙◌, ◌++◌, map}
 use Rattle.lsv_wire.specs.Frame.{frame_of}
 use Rattle.lsv_msg.specs.Messages.{client_bytes}
 use Rattle.lsv_gen.specs.Load.{frames, output, up_to}

@@ -1,4 +1,4 @@
-use Rattle.std.proofs.Common.{◌≡◌, ◌<◌, ◌^◌, arith, lit<, lit≤}
+use Rattle.std.proofs.Common.{◌<◌, ◌^◌, arith, lit<, lit≤}
 use Rattle.std.proofs.lemmas.Fmt.{length-decimal-le}
 use Rattle.lsv_gen.proofs.messages.numbered.Goals as goal
 
