@@ -72,12 +72,13 @@ fn a_draw_that_failed_may_pass_a_number_over(rt: HostRuntime) -> Result<(), Fail
     Ok(())
 }
 
-/// The greatest number that was answered, 0 where none was, and whether each was above those before it and of the lane.
-fn greatest(found: &Drawn, above: u32, lane: u32, lanes: u32) -> (u32, bool) {
+/// The greatest number that was answered, or `above` where none was, and whether each was above those before it and lane
+/// 1's of three lanes.
+fn greatest(found: &Drawn, above: u32) -> (u32, bool) {
     let mut last = above;
     let mut fine = true;
     for number in found.iter().copied().filter_map(Result::ok) {
-        fine = fine && last < number && number.checked_rem(lanes) == Some(lane + 1);
+        fine = fine && last < number && number % 3 == 2;
         last = number;
     }
     (last, fine)
@@ -88,16 +89,16 @@ fn greatest(found: &Drawn, above: u32, lane: u32, lanes: u32) -> (u32, bool) {
 fn each_is_drawn_once(alloc: Global, fail: &[u64]) -> Result<bool, Fail> {
     let mut disk = MemDisk::new(alloc, fail)?;
     let (last, mut fine) = match drawn(&mut disk, 1, 3) {
-        Ok(found) => greatest(&found, 0, 1, 3),
+        Ok(found) => greatest(&found, 0),
         Err(fault) => (0, fault == SeqFault::Disk),
     };
     for fill in FILLS {
         let mut image = disk.image(alloc, fill)?;
-        let (_, above) = greatest(&drawn(&mut image, 1, 3)?, last, 1, 3);
+        let (_, above) = greatest(&drawn(&mut image, 1, 3)?, last);
         fine = fine && above;
     }
     if let Ok(found) = drawn(&mut disk, 1, 3) {
-        fine = fine && greatest(&found, last, 1, 3).1;
+        fine = fine && greatest(&found, last).1;
     }
     Ok(fine)
 }

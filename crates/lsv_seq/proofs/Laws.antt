@@ -1,8 +1,6 @@
 -- What a crate above knows of a lane's numbers, over plain values: it cites these lemmas, and no other of this crate.
-use Rattle.std.proofs.Common.{◌≡◌, ℕ, ◌+◌, ◌≤◌, ◌<◌, Bool, true, false, if◌then◌else◌, ◌==◌, ◌&&◌, Option, Some, None, Result, Ok, Err, refl, sym, ap, ◌∙◌, inl, inr, arith}
+use Rattle.std.proofs.Common.{◌≡◌, ℕ, ◌≤◌, ◌<◌, Bool, true, false, if◌then◌else◌, ◌==◌, ◌&&◌, Option, Some, None, Ok, Err, sym, ap, ◌∙◌, inl, inr, arith}
 use Rattle.std.proofs.lemmas.Bool.Decides.{nat_tests}
-use Rattle.std.proofs.lemmas.Bool.{le-leb}
-use Rattle.std.specs.Option.{option_map}
 use Rattle.lsv_disk.specs.declared.file.FileId.{FileId}
 use Rattle.lsv_disk.specs.declared.file.Owner.TheVariants as owners
 use Rattle.lsv_disk.specs.View.{Image, DiskView, IsCrashImage, Elsewhere}
@@ -11,10 +9,9 @@ use Rattle.lsv_seq.specs.declared.entry.Entry.{Entry}
 use Rattle.lsv_seq.specs.declared.fault.SeqFault.{SeqFault}
 use Rattle.lsv_seq.specs.declared.numbers.Numbers.{Numbers}
 use Rattle.lsv_seq.specs.Entry.{is_entry, is_of_lane, next}
-use Rattle.lsv_seq.specs.Drawn.{numbers_file, IsNumbersFile, LastDrawn, entry_at, judged, judged_entry}
+use Rattle.lsv_seq.specs.Drawn.{numbers_file, IsNumbersFile, LastDrawn, entry_at, judged}
 use Rattle.lsv_seq.specs.Value.{lane_of, lanes_of, last_of, pending_of, next_of, HasDrawn}
 use Rattle.lsv_seq.specs.Represents.{Represents}
-use Rattle.lsv_seq.proofs.Entries.{entry_fits}
 use Rattle.lsv_seq.proofs.Images as Images
 
 pub drawn_once : (lane lanes others last other : ℕ) (image : Image) → LastDrawn lane lanes last image → LastDrawn lane others other image → (last ≡ other) × (lanes ≡ others)

@@ -22,7 +22,7 @@ use Rattle.lsv_journal.specs.declared.journal.Journal.{Journal}
 use Rattle.lsv_seq.specs.Sound.{IsSound}
 use Rattle.lsv_seq.specs.Represents.{Represents}
 use Rattle.lsv_seq.proofs.Entries.{next_is_entry}
-use Rattle.lsv_seq.proofs.Images.{represents_pending, represents_settled, now_of_run, drawn_some, drawn_now, last_now, some_crash}
+use Rattle.lsv_seq.proofs.Images.{represents_pending, represents_settled, drawn_some, drawn_now, last_now, some_crash}
 use Rattle.lsv_seq.proofs.Sounds.{read_back}
 
 -- the entry that is kept

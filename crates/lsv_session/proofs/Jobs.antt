@@ -1,5 +1,5 @@
 -- The jobs of bytes, read from the front.
-use Rattle.std.proofs.Common.{◌≡◌, ℕ, ◌+◌, ◌≤◌, ◌<◌, Result, Ok, Err, List, [], ◌∷◌, ◌++◌, length, take, map, refl, sym, ap, subst, ◌∙◌, append_assoc, arith, inl, inr}
+use Rattle.std.proofs.Common.{◌≡◌, ℕ, Result, Ok, Err, List, [], ◌∷◌, ◌++◌, map, refl, sym, ap, subst, ◌∙◌, append_assoc, arith, inl, inr}
 use Rattle.std.specs.Prelude.{◌⊎◌}
 use Rattle.std.specs.List.{flat_map, AllByRecursion}
 use Rattle.std.specs.Int.{w32, from_be_bytes}
@@ -136,20 +136,20 @@ pub cut_piece : (read rest piece : List ℕ) (said : List Body) → HasCut read 
 cut_piece read rest piece said h = record {
   goes_on = λ more later j. subst (λ b. AreJobs b (said ++ later)) (sym (append_assoc read piece more)) (h.goes_on (piece ++ more) later (subst (λ b. AreJobs b later) (append_assoc rest piece more) j));
   began = λ more jobs j.
-    let b = h.began (piece ++ more) jobs (subst (λ b. AreJobs b jobs) (append_assoc read piece more) j) in
-    (b.0, b.1, subst (λ r. AreJobs r b.0) (sym (append_assoc rest piece more)) b.2);
+      let b = h.began (piece ++ more) jobs (subst (λ b. AreJobs b jobs) (append_assoc read piece more) j) in
+      (b.0, b.1, subst (λ r. AreJobs r b.0) (sym (append_assoc rest piece more)) b.2);
 }
 
 pub cut_message : (read rest message behind : List ℕ) (said : List Body) (m : ClientMessage) → HasCut read said rest → InFront message behind rest → client_in message ≡ Ok m
     → HasCut read (said ++ Msg m ∷ []) behind
 cut_message read rest message behind said m h front is = record {
   goes_on = λ more later j.
-    subst (AreJobs (read ++ more)) (sym (append_assoc said (Msg m ∷ []) later))
-    (h.goes_on more (Msg m ∷ later) (Message (rest ++ more) message (behind ++ more) m later (front-more more front) is j));
+      subst (AreJobs (read ++ more)) (sym (append_assoc said (Msg m ∷ []) later))
+      (h.goes_on more (Msg m ∷ later) (Message (rest ++ more) message (behind ++ more) m later (front-more more front) is j));
   began = λ more jobs j.
-    let b = h.began more jobs j in
-    let a = after_message (front-more more front) is b.2 in
-    (a.0, b.1 ∙ ap (λ l. said ++ l) a.1 ∙ sym (append_assoc said (Msg m ∷ []) a.0), a.2);
+      let b = h.began more jobs j in
+      let a = after_message (front-more more front) is b.2 in
+      (a.0, b.1 ∙ ap (λ l. said ++ l) a.1 ∙ sym (append_assoc said (Msg m ∷ []) a.0), a.2);
 }
 
 pub cut_no_message : (read rest message behind : List ℕ) (said : List Body) (fault : MsgFault) → HasCut read said rest → InFront message behind rest → client_in message ≡ Err fault

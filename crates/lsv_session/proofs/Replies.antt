@@ -1,5 +1,5 @@
 -- What is said, in two parts.
-use Rattle.std.proofs.Common.{◌≡◌, ℕ, ◌≤◌, Bool, true, false, if◌then◌else◌, List, [], ◌∷◌, ◌++◌, length, refl, sym, ap, ◌∙◌, append_assoc, lit≤}
+use Rattle.std.proofs.Common.{◌≡◌, ◌≤◌, Bool, true, false, if◌then◌else◌, List, [], ◌∷◌, ◌++◌, length, refl, sym, ap, ◌∙◌, append_assoc, lit≤}
 use Rattle.std.proofs.lemmas.Grind.{flat_map-append}
 use Rattle.lsv_wire.specs.Frame.{frame_of}
 use Rattle.lsv_wire.specs.Varint as wire

@@ -1,8 +1,8 @@
 -- What a table says, point by point.
-use Rattle.std.proofs.Common.{◌≡◌, ℕ, Bool, true, false, ◌==◌, ◌&&◌, cond, nat_eq, not, Option, Some, None, List, [], ◌∷◌, refl, sym, ap, ◌∙◌, arith}
+use Rattle.std.proofs.Common.{◌≡◌, ℕ, Bool, true, false, ◌==◌, ◌&&◌, cond, nat_eq, not, Option, Some, None, refl, ap, ◌∙◌}
 use Rattle.std.specs.Option.{unwrap_or}
 use Rattle.std.proofs.lemmas.Cmp.{nat_eq_equiv}
-use Rattle.std.proofs.lemmas.Map.Entries.{option_filter, lookup-filter-values}
+use Rattle.std.proofs.lemmas.Map.Entries.{option_filter}
 use Rattle.lsv_session.specs.Connections.{same}
 use Rattle.lsv_session.specs.Table.{Sessions, unless}
 use Rattle.lsv_session.specs.declared.connection.ConnId.{ConnId}

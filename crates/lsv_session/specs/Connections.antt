@@ -1,5 +1,5 @@
 -- Connections, and what is said to them.
-use Rattle.std.specs.Prelude.{ℕ, Bool, ◌==◌, ◌&&◌, true, List, [], codes}
+use Rattle.std.specs.Prelude.{Bool, ◌==◌, ◌&&◌, true, [], codes}
 use Rattle.lsv_msg.specs.declared.messages.ServerMessage.{ServerMessage}
 use Rattle.lsv_msg.specs.declared.messages.ServerMessage.TheVariants as server
 use Rattle.lsv_request.specs.Refusals.{refusal_text}

@@ -1,5 +1,5 @@
 -- What a table of connections holds.
-use Rattle.std.specs.Prelude.{ℕ, Bool, if◌then◌else◌, nat_eq, Option, Some, None}
+use Rattle.std.specs.Prelude.{ℕ, if◌then◌else◌, nat_eq, Option, Some, None}
 use Rattle.std.specs.Option.{unwrap_or}
 use Rattle.std.specs.HashMap as hash
 use Rattle.lsv_session.specs.Connections.{same}

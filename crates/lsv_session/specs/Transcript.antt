@@ -1,5 +1,5 @@
 -- What goes over one connection: the jobs of its bytes, and the bytes of its answers (sudo_logsrv.proto(5)).
-use Rattle.std.specs.Prelude.{◌≡◌, ℕ, Bool, if◌then◌else◌, List, [], ◌∷◌, ◌++◌, Ok, Err}
+use Rattle.std.specs.Prelude.{◌≡◌, ℕ, if◌then◌else◌, List, [], ◌∷◌, ◌++◌, Ok, Err}
 use Rattle.std.specs.List.{flat_map}
 use Rattle.lsv_wire.specs.Frame.{frame_of, IsMessage, IsPartial, IsTooLong}
 use Rattle.lsv_msg.specs.Messages.{client_in, server_bytes}

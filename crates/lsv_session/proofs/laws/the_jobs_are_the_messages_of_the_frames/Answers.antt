@@ -1,4 +1,4 @@
-use Rattle.std.proofs.Common.{subst, map}
+use Rattle.std.proofs.Common.{subst}
 use Rattle.std.proofs.lemmas.List.{append-nil}
 use Rattle.lsv_session.specs.Transcript.{AreJobs}
 use Rattle.lsv_session.specs.Transcript.AreJobs.{Rest, TooLong}

@@ -1,4 +1,4 @@
-use Rattle.std.proofs.Common.{◌≡◌, ap, subst, ◌∙◌}
+use Rattle.std.proofs.Common.{◌≡◌, subst}
 use Rattle.lsv_disk.specs.Throughout.{CallsAtMost}
 use Rattle.lsv_seq.specs.Drawn.{numbers_file}
 use Rattle.lsv_seq.specs.Value.{lane_of, pending_of}

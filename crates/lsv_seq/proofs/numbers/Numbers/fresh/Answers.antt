@@ -1,4 +1,4 @@
-use Rattle.std.proofs.Common.{◌≡◌, sym, ap, subst, ◌∙◌, Some, None, refl}
+use Rattle.std.proofs.Common.{ap, ◌∙◌, Some}
 use Rattle.lsv_journal.specs.Value as journals
 use Rattle.lsv_seq.proofs.Images.{represents_settled}
 use Rattle.lsv_seq.proofs.Openings.{first_sound, first_moments}

@@ -1,4 +1,4 @@
-use Rattle.std.proofs.Common.{◌≡◌, sym, ap, subst, ◌∙◌, Some, None, refl, inl, inr, Err}
+use Rattle.std.proofs.Common.{◌≡◌}
 use Rattle.lsv_seq.specs.Drawn.{numbers_file}
 use Rattle.lsv_seq.specs.Inner.{last_in}
 use Rattle.lsv_seq.specs.Value.{HasDrawn, lane_of}

@@ -1,4 +1,4 @@
-use Rattle.std.proofs.Common.{◌≡◌, sym, ap, ◌∙◌, Some}
+use Rattle.std.proofs.Common.{sym, ap, ◌∙◌, Some}
 use Rattle.std.specs.Option.{option_map}
 use Rattle.lsv_seq.specs.Entry.{entry_in}
 use Rattle.lsv_seq.proofs.Sounds.{resumed_sound}

@@ -1,11 +1,11 @@
-use Rattle.std.proofs.Common.{◌≡◌, sym, ap, subst, ◌∙◌, Some, None, refl, inl, inr}
+use Rattle.std.proofs.Common.{◌≡◌, sym, ap, subst, ◌∙◌, Some, refl, inr}
 use Rattle.lsv_seq.specs.Sound.{IsSound}
 use Rattle.std.specs.Prelude.{◌⊎◌}
 use Rattle.lsv_seq.specs.Drawn.{numbers_file}
 use Rattle.lsv_seq.specs.Value.{HasDrawn, HasDrawnOf, lane_of}
 use Rattle.lsv_seq.proofs.Images.{represents_settled, now_of_run}
 use Rattle.lsv_seq.proofs.Runs.{written_moments, failed_draw}
-use Rattle.lsv_seq.proofs.Sounds.{written_sound, failed_sound}
+use Rattle.lsv_seq.proofs.Sounds.{written_sound}
 use Rattle.lsv_seq.proofs.numbers.Numbers.write.Goals as goal
 
 pub invariant_of-self : goal.invariant_of-self

@@ -1,4 +1,4 @@
-use Rattle.std.proofs.Common.{refl, ◌≡◌, ap, ◌∙◌}
+use Rattle.std.proofs.Common.{ap, ◌∙◌}
 use Rattle.lsv_session.specs.Table.{Sessions, unless}
 use Rattle.lsv_session.proofs.table.Table.drop_conn.Goals as goal
 

@@ -1,4 +1,4 @@
-use Rattle.std.proofs.Common.{◌≡◌, refl, ap, ◌∙◌, nat_eq, not, rules}
+use Rattle.std.proofs.Common.{refl, ap, ◌∙◌, nat_eq, not, rules}
 use Rattle.std.proofs.lemmas.Cmp.{nat_eq_equiv}
 use Rattle.std.proofs.lemmas.Map.Entries.{lookup-filter-values}
 use Rattle.std.proofs.lemmas.Map.Made.{filter_same_pairs}

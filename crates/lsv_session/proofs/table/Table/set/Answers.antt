@@ -1,4 +1,4 @@
-use Rattle.std.proofs.Common.{refl, Some, rules}
+use Rattle.std.proofs.Common.{refl, rules}
 use Rattle.std.specs.HashMap as hash
 use Rattle.lsv_session.specs.Connections.{same}
 use Rattle.lsv_session.proofs.Tables.{same_sessions, states_put}
