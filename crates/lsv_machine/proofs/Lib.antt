@@ -1,5 +1,4 @@
 pub mod Choices
-pub mod PointLemmas
 pub mod RecordLemmas
 pub mod Fits
 pub mod Leaving

@@ -13,7 +13,7 @@ use Rattle.lsv_session.specs.declared.connection.ConnId.{ConnId}
 use Rattle.lsv_machine.specs.Answers.{Answer, Saying, Saying.LogId, Saying.CommitPoint, Saying.Error, Saying.Shut, is_silent}
 use Rattle.lsv_machine.specs.History.{Ledger, asked, becomes, blank, heard, heard_all, is_exit, is_gone, ledger_from, lowered_to, noted, opened_by, promised, raised_to, reopened, request_in, restarted_by, resumed_by, sent_one, shown, tells_log, writes}
 use Rattle.lsv_machine.specs.Turns.{Happened, Happened.Did, Happened.Tailed, Happened.Begins}
-use Rattle.lsv_machine.proofs.PointLemmas.{length_cut}
+use Rattle.lsv_record.proofs.Points.{length_cut}
 use Rattle.lsv_machine.proofs.RecordLemmas.{raised_within}
 
 abbrev pub Below : Option ℕ → ℕ → Type 0
