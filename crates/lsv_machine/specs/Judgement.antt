@@ -27,19 +27,19 @@ row fresh greeted alerted no_log log Dead = false
 -- the table: which messages are allowed to a connection that is fresh, greeted, alerted, in a session without a log, in one with a log
 abbrev pub allows : ClientMessage → ConnState → Bool
 --                             Fresh Greeted Alerted Running Running with a log
-allows (client.Hello m)   = row true  false   false   false   false
-allows (client.Accept m)  = row true  true    true    true    true
-allows (client.Reject m)  = row true  true    true    true    true
-allows (client.Alert m)   = row true  true    true    true    true
-allows (client.Restart m) = row true  true    false   false   false
-allows (client.Ttyin m)   = row false false   false   false   true
-allows (client.Ttyout m)  = row false false   false   false   true
-allows (client.Stdin m)   = row false false   false   false   true
-allows (client.Stdout m)  = row false false   false   false   true
-allows (client.Stderr m)  = row false false   false   false   true
-allows (client.Winsize m) = row false false   false   false   true
-allows (client.Suspend m) = row false false   false   false   true
-allows (client.Exit m)    = row false false   false   true    true
+allows (client.Hello m) = row true false false false false
+allows (client.Accept m) = row true true true true true
+allows (client.Reject m) = row true true true true true
+allows (client.Alert m) = row true true true true true
+allows (client.Restart m) = row true true false false false
+allows (client.Ttyin m) = row false false false false true
+allows (client.Ttyout m) = row false false false false true
+allows (client.Stdin m) = row false false false false true
+allows (client.Stdout m) = row false false false false true
+allows (client.Stderr m) = row false false false false true
+allows (client.Winsize m) = row false false false false true
+allows (client.Suspend m) = row false false false false true
+allows (client.Exit m) = row false false false true true
 
 -- a judgement passed on, but that an accept that opens a session is refused where keys are missing
 abbrev pub with_keys : ConnState → Result Request Refusal → Result Request Refusal
