@@ -55,7 +55,9 @@ fn found(disk: &mut MemDisk, lane: u32) -> Result<Found, Fail> {
     let owner = Owner::Events(lane);
     let view = Bundle::view(disk, owner, Shape::Lines)?.ok_or("no entry")?;
     let body = view.body();
-    let text = disk.bytes(FileId::new(owner, Part::Lines)).ok_or("no file")?;
+    let text = disk
+        .bytes(FileId::new(owner, Part::Lines))
+        .ok_or("no file")?;
     let length = body.lens[0];
     if length > 14 || text.get(..length as usize) != LINES.get(..length as usize) {
         return Err("other lines".into());
@@ -139,7 +141,10 @@ fn an_opening_that_is_cut_off_leaves_the_same_lines(rt: HostRuntime) -> Result<(
 }
 
 /// A log of which a flush failed answers so, and goes on once it is opened again, without the line that failed.
-fn goes_on<D: Disk>(alloc: Global, disk: &mut D) -> Result<[Result<(), BundleFault>; 3], BundleFault> {
+fn goes_on<D: Disk>(
+    alloc: Global,
+    disk: &mut D,
+) -> Result<[Result<(), BundleFault>; 3], BundleFault> {
     let mut log = EventLog::open(alloc, disk, 0)?;
     let failed = commit(&mut log, disk, b"lost\n");
     let answers = [failed, log.add(b"lost\n"), flush_broken(&mut log, disk)];
@@ -162,7 +167,11 @@ fn a_log_that_failed_is_broken_until_it_is_opened_again(rt: HostRuntime) -> Resu
         let mut disk = MemDisk::new(rt.alloc(), &[number])?;
         let answers = goes_on(rt.alloc(), &mut disk)?;
         let broken = Err(BundleFault::Broken);
-        assert_eq!(rt; answers, [Err(BundleFault::Disk), broken, broken], "call {number}");
+        assert_eq!(rt;
+            answers,
+            [Err(BundleFault::Disk), broken, broken],
+            "call {number}"
+        );
         assert_eq!(rt; reopen(rt.alloc(), &mut disk, 0)?, ONE, "call {number}");
     }
     Ok(())
