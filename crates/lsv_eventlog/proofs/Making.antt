@@ -74,7 +74,7 @@ module _ (lane : ℕ) (bundle new : BundleView) (body : Body) (lengths : Part �
   left : staged new Lines ≡ []
   left = is.none_staged Lines (subst (λ (s : Shape). IsPart s Lines) (sym (is.shape ∙ fresh.shape_is)) refl)
 
-  pub made_log : IsEventLog (record { lane = lane; lines = 0; added = 0; bundle = new })
+  pub made_log : IsEventLog (record { lane = lane; added = 0; bundle = new })
   made_log = record {
     owner = is.owner ∙ fresh.owner_is;
     shape = is.shape ∙ fresh.shape_is;
@@ -82,7 +82,7 @@ module _ (lane : ℕ) (bundle new : BundleView) (body : Body) (lengths : Part �
     broken = λ e. absurd (false≢true (sym is.whole ∙ e));
     none = λ _. left }
 
-  pub made_opened : IsOpened lane (record { lane = lane; lines = 0; added = 0; bundle = new })
+  pub made_opened : IsOpened lane (record { lane = lane; added = 0; bundle = new })
   made_opened = record { lane_is = refl; whole = is.whole; none_added = refl; none_staged = left }
 
   pub made_empty : (old disk : DiskView) → committed_length bundle Lines ≡ 0 → committed new disk ≡ Some (committed_next bundle old 0 0 0 0) → committed_bytes new disk Lines ≡ []

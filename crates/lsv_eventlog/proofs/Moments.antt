@@ -92,8 +92,8 @@ pub none_left : (old : EventLogView) (bundle : BundleView) (body : Body) (length
 none_left old bundle body lengths is new = new.none_staged Lines (subst (λ (s : Shape). IsPart s Lines) (sym (new.shape ∙ is.shape)) refl)
 
 -- once the added lines are committed, it is an event log with none added
-pub flushed : (old : EventLogView) (bundle : BundleView) (lines : ℕ) (body : Body) (lengths : Part → ℕ) → IsEventLog old → IsCommitted body lengths old.bundle bundle → IsEventLog (record { lane = old.lane; lines = lines; added = 0; bundle = bundle })
-flushed old bundle lines body lengths is new = record {
+pub flushed : (old : EventLogView) (bundle : BundleView) (body : Body) (lengths : Part → ℕ) → IsEventLog old → IsCommitted body lengths old.bundle bundle → IsEventLog (record { lane = old.lane; added = 0; bundle = bundle })
+flushed old bundle body lengths is new = record {
     owner = new.owner ∙ is.owner;
     shape = new.shape ∙ is.shape;
     entry = some_body bundle.last body new.last;

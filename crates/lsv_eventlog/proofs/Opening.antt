@@ -178,16 +178,16 @@ may_be_made lane old new P leaves none same run there = elim (is_absent (journal
 pub none_staged : (lane : ℕ) (bundle : BundleView) → IsFresh (Events lane) shapes.Lines bundle → staged bundle Lines ≡ []
 none_staged lane bundle fresh = fresh.none_staged Lines (subst (λ (s : Shape). IsPart s Lines) (sym fresh.shape_is) refl)
 
-pub opened_log : (lane lines : ℕ) (bundle : BundleView) → IsFresh (Events lane) shapes.Lines bundle → bundle.last ≢ None → IsEventLog (record { lane = lane; lines = lines; added = 0; bundle = bundle })
-opened_log lane lines bundle fresh some = record {
+pub opened_log : (lane : ℕ) (bundle : BundleView) → IsFresh (Events lane) shapes.Lines bundle → bundle.last ≢ None → IsEventLog (record { lane = lane; added = 0; bundle = bundle })
+opened_log lane bundle fresh some = record {
     owner = fresh.owner_is;
     shape = fresh.shape_is;
     entry = some;
     broken = λ e. absurd (false≢true (sym fresh.whole ∙ e));
     none = λ _. none_staged lane bundle fresh }
 
-pub is_opened : (lane lines : ℕ) (bundle : BundleView) → IsFresh (Events lane) shapes.Lines bundle → IsOpened lane (record { lane = lane; lines = lines; added = 0; bundle = bundle })
-is_opened lane lines bundle fresh = record { lane_is = refl; whole = fresh.whole; none_added = refl; none_staged = none_staged lane bundle fresh }
+pub is_opened : (lane : ℕ) (bundle : BundleView) → IsFresh (Events lane) shapes.Lines bundle → IsOpened lane (record { lane = lane; added = 0; bundle = bundle })
+is_opened lane bundle fresh = record { lane_is = refl; whole = fresh.whole; none_added = refl; none_staged = none_staged lane bundle fresh }
 
 -- as the disk reads after it was opened it holds the committed lines, and so it did before
 pub opened_text : (lane : ℕ) (bundle : BundleView) (old new : DiskView) (P : Image → Type 0) → IsFresh (Events lane) shapes.Lines bundle → bundle.last ≢ None → Represents bundle new → IsCrashImage new new.reads

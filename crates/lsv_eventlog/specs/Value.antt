@@ -1,15 +1,15 @@
 -- An event log's value, as contracts see it.
-use Rattle.std.specs.Prelude.{◌≡◌, ℕ, ◌+◌, ◌-◌, ◌^◌, Bool, false, List, [], ◌++◌, min}
+use Rattle.std.specs.Prelude.{◌≡◌, ℕ, ◌+◌, ◌-◌, ◌^◌, Bool, false, List, [], ◌++◌, min, Option, Some, None}
 use Rattle.lsv_disk.specs.declared.file.Part.TheVariants.{Lines}
 use Rattle.lsv_disk.specs.View.{DiskView}
+use Rattle.lsv_bundle.specs.declared.body.Body.{Body}
 use Rattle.lsv_bundle.specs.Value.{BundleView, committed_length, staged, next_length, unstaged}
 use Rattle.lsv_bundle.specs.Committed.{committed_bytes}
 use Rattle.lsv_bundle.specs.Represents as bundles
 
--- an event log: its lane, how many lines are committed and added, and its files
+-- an event log: its lane, how many lines were added and aren't committed, and its files
 pub record EventLogView : Type 0 where
   pub lane : ℕ
-  pub lines : ℕ
   pub added : ℕ
   pub bundle : BundleView
 
@@ -29,6 +29,15 @@ added_text log = staged log.bundle Lines
 abbrev pub text_length : EventLogView → ℕ
 text_length log = next_length log.bundle Lines
 
+-- how many lines the last entry counts
+abbrev pub count_in : Option Body → ℕ
+count_in (Some body) = body.count
+count_in None = 0
+
+-- how many lines are committed
+abbrev pub line_count : EventLogView → ℕ
+line_count log = count_in log.bundle.last
+
 -- a count that stands still at the end of 64 bits
 abbrev pub counted : ℕ → ℕ → ℕ
 counted count more = min (count + more) (2 ^ 64 - 1)
@@ -40,7 +49,6 @@ Represents log disk = bundles.Represents log.bundle disk
 -- one more line is added, and all else is as it was
 pub record IsAdded (line : List ℕ) (old new : EventLogView) : Type 0 where
   pub lane : new.lane ≡ old.lane
-  pub lines : new.lines ≡ old.lines
   pub added : new.added ≡ counted old.added 1
   pub text : added_text new ≡ added_text old ++ line
   pub others : unstaged new.bundle ≡ unstaged old.bundle
@@ -48,14 +56,13 @@ pub record IsAdded (line : List ℕ) (old new : EventLogView) : Type 0 where
 -- the added lines are committed
 pub record IsFlushed (old new : EventLogView) : Type 0 where
   pub lane : new.lane ≡ old.lane
-  pub lines : new.lines ≡ counted old.lines old.added
   pub none_added : new.added ≡ 0
 
 -- the same lines are committed and added
 pub record IsKept (old new : EventLogView) : Type 0 where
   pub lane : new.lane ≡ old.lane
-  pub lines : new.lines ≡ old.lines
   pub added : new.added ≡ old.added
+  pub last : new.bundle.last ≡ old.bundle.last
   pub text : added_text new ≡ added_text old
   pub lengths : committed_length new.bundle Lines ≡ committed_length old.bundle Lines
 

@@ -6,7 +6,7 @@ ghost use Rattle.lsv_bundle.specs.declared.fault.BundleFault.{BundleFault};
 ghost use Rattle.lsv_bundle.specs.Calls.{CallsOfFlush};
 ghost use Rattle.lsv_bundle.specs.Value.{next_body};
 ghost use Rattle.lsv_eventlog.specs.Recovered.{HoldsLines, IsOfEventLog};
-ghost use Rattle.lsv_eventlog.specs.Value.{IsAdded, IsFlushed, IsKept, Represents, added_text, committed_text, is_broken, text_length};
+ghost use Rattle.lsv_eventlog.specs.Value.{IsAdded, IsFlushed, IsKept, Represents, added_text, committed_text, counted, is_broken, line_count, text_length};
 ghost use Rattle.lsv_eventlog.specs.Moments.{IsEither};
 
 use lsv_bundle::{Bundle, BundleFault};
@@ -20,8 +20,7 @@ const FLUSHED: u8 = 1;
 #[derive(Drop)]
 pub struct EventLog {
     pub(crate) lane: u32,
-    /// How many lines are committed, and how many were added since.
-    pub(crate) lines: u64,
+    /// How many lines were added and aren't committed.
     pub(crate) added: u64,
     pub(crate) bundle: Bundle,
 }
@@ -32,9 +31,9 @@ impl Model for EventLog {
 
     ghost Value = { EventLogView };
 
-    ghost view = { λ l. record { lane = l.lane; lines = l.lines; added = l.added; bundle = l.bundle } };
+    ghost view = { λ l. record { lane = l.lane; added = l.added; bundle = l.bundle } };
 
-    ghost invariant = { λ l. IsEventLog (record { lane = l.lane; lines = l.lines; added = l.added; bundle = l.bundle }) };
+    ghost invariant = { λ l. IsEventLog (record { lane = l.lane; added = l.added; bundle = l.bundle }) };
 }
 
 impl EventLog {
@@ -60,7 +59,7 @@ impl EventLog {
         requires represents { D.tells → is_broken self.old ≡ false → Represents self.old (D.view disk.old) }
         ensures nothing { self.old.added ≡ 0 → IsOk result × (self.new ≡ self.old) × (disk.new ≡ disk.old) }
         ensures value { OnOk result (IsFlushed self.old self.new) }
-        ensures entry { OnOk result (self.old.added ≢ 0 → self.new.bundle.last ≡ Some (next_body self.old.bundle 1 self.new.lines 0 0)) }
+        ensures entry { OnOk result (self.old.added ≢ 0 → self.new.bundle.last ≡ Some (next_body self.old.bundle 1 (counted (line_count self.old) self.old.added) 0 0)) }
         ensures none_left { OnOk result (added_text self.new ≡ []) }
         ensures committed { D.tells → OnOk result (committed_text self.new (D.view disk.new) ≡ committed_text self.old (D.view disk.old) ++ added_text self.old) }
         ensures acknowledged { D.tells → OnOk result ((image : Image) → IsCrashImage (D.view disk.new) image → HoldsLines image self.old.lane (committed_text self.old (D.view disk.old) ++ added_text self.old)) }
@@ -79,9 +78,8 @@ impl EventLog {
         if self.added == 0 {
             return Ok(());
         }
-        let lines = self.lines.saturating_add(self.added);
+        let lines = self.bundle.last().count.saturating_add(self.added);
         self.bundle.flush(disk, FLUSHED, lines, 0, 0)?;
-        self.lines = lines;
         self.added = 0;
         Ok(())
     }

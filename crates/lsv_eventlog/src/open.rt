@@ -45,10 +45,8 @@ fn find<D: Disk>(
     let Some(bundle) = Bundle::open(alloc, disk, Owner::Events(lane), Shape::Lines)? else {
         return Ok(None);
     };
-    let lines = bundle.last().count;
     Ok(Some(EventLog {
         lane,
-        lines,
         added: 0,
         bundle,
     }))
@@ -70,7 +68,6 @@ fn make<D: Disk>(alloc: Global, disk: &mut D, lane: u32) -> Result<EventLog, Bun
     bundle.flush(disk, MADE, 0, 0, 0)?;
     Ok(EventLog {
         lane,
-        lines: 0,
         added: 0,
         bundle,
     })

@@ -1,5 +1,7 @@
-//! Tests of the crates of logs by number, by their public calls alone.
+//! Tests of logs by number, their numbers and event logs, by their public calls alone.
 #![tactic(auto)]
 
+#[cfg(test)]
+mod events;
 #[cfg(test)]
 mod numbers;

@@ -16,7 +16,7 @@ pub returns-clause-any_moment : goal.returns-clause-any_moment
 returns-clause-any_moment g c told = opens c.args.lane (g.D.Disk.view c.args.disk.now) (g.D.Disk.view c.open.new.disk) (c.open.ensures.any_moment told)
 
 pub invariant_of-result : goal.invariant_of-result
-invariant_of-result g c = opened_log c.args.lane c.last-lines.result.count c.in-Some.bundle
+invariant_of-result g c = opened_log c.args.lane c.in-Some.bundle
     (of_some c.in_ok-bundle.field-0 c.in-Some.bundle (IsFresh (Events c.args.lane) shapes.Lines) c.in-Some.is c.in_ok-bundle.ensures.fresh)
     (of_some c.in_ok-bundle.field-0 c.in-Some.bundle (λ b. b.last ≢ None) c.in-Some.is c.in_ok-bundle.ensures.entry)
 
@@ -33,7 +33,7 @@ returns-in_default-clause-may_be_made g c told _ =
     may_be_made c.args.lane old new _ (g.met.D.Disk.absent_or_empty told c.args.disk.now) (c.in_ok-bundle.ensures.none told c.in_default.is) (c.open.ensures.reads told) (c.open.ensures.any_moment told) (c.in_ok-bundle.ensures.may_be_made told c.in_default.is)
 
 pub returns-clause-value : goal.returns-clause-value
-returns-clause-value g c = is_opened c.args.lane c.last-lines.result.count c.in-Some.bundle
+returns-clause-value g c = is_opened c.args.lane c.in-Some.bundle
     (of_some c.in_ok-bundle.field-0 c.in-Some.bundle (IsFresh (Events c.args.lane) shapes.Lines) c.in-Some.is c.in_ok-bundle.ensures.fresh)
 
 pub returns-clause-held : goal.returns-clause-held

@@ -33,7 +33,7 @@ returns-then-self-eq0-clause-acknowledged g c told image left =
     with_none c.args.self.now old image (is.none none) (every_image c.args.self.now old is (c.requires.represents told (unbroken c.args.self.now is none)) image left)
 
 pub invariant_of-self-2 : goal.invariant_of-self-2
-invariant_of-self-2 g c = flushed _ c.flush.new.self c.saturating_add-lines.result _ _ c.self.invariant c.in_ok-flush.ensures.value
+invariant_of-self-2 g c = flushed _ c.flush.new.self _ _ c.self.invariant c.in_ok-flush.ensures.value
 
 pub returns-clause-none_left : goal.returns-clause-none_left
 returns-clause-none_left g c = none_left _ c.flush.new.self _ _ c.self.invariant c.in_ok-flush.ensures.value

@@ -1,0 +1,11 @@
+//! Tests of event lines and kept formatters, by their public calls alone.
+#![tactic(auto)]
+
+#[cfg(test)]
+mod dates;
+#[cfg(test)]
+mod lines;
+#[cfg(test)]
+mod rows;
+#[cfg(test)]
+mod texts;
