@@ -4,8 +4,8 @@
 #[cfg(test)]
 mod dates;
 #[cfg(test)]
-mod lines;
+mod events;
 #[cfg(test)]
-mod rows;
+mod lines;
 #[cfg(test)]
 mod texts;
