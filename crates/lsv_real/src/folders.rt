@@ -9,18 +9,15 @@ use std::{fs, io};
 /// Whoever runs the server may look into its folders, and nobody else.
 const MODE: u32 = 0o700;
 
-/// So many folders of each kind are remembered at most.
+/// So many folders are remembered as synced at most.
 const MOST_REMEMBERED: usize = 1024;
 
-/// The folders that this run made something in or synced.
+/// The folders that were synced in this run.
 #[derive(Drop)]
 pub struct Folders {
     rt: HostRuntime,
     alloc: Global,
-    /// Those that were synced since this run last made something in them.
     synced: HashSet<String>,
-    /// Those that are there after a crash.
-    named: HashSet<String>,
 }
 
 impl Folders {
@@ -30,7 +27,6 @@ impl Folders {
             rt,
             alloc,
             synced: HashSet::new(alloc),
-            named: HashSet::new(alloc),
         }
     }
 
@@ -39,13 +35,15 @@ impl Folders {
         let _ = self.synced.remove(folder);
     }
 
-    /// Waits until what was made or named in a folder is on the disk, and the folder itself, with new ones above it:
-    /// they were made before.
+    /// Waits until what was made or named in a folder is on the disk.
     pub fn sync(&mut self, folder: &str) -> io::Result<()> {
         self.change(folder);
         File::open(&self.rt, folder)?.sync_all()?;
-        remember(self.alloc, &mut self.synced, folder)?;
-        remember(self.alloc, &mut self.named, folder)
+        if self.synced.len() >= MOST_REMEMBERED {
+            self.synced.clear();
+        }
+        self.synced.insert(String::from_str(self.alloc, folder)?)?;
+        Ok(())
     }
 
     /// The same of a folder in which this run made nothing since it synced it.
@@ -56,8 +54,8 @@ impl Folders {
         self.sync(folder)
     }
 
-    /// Makes a folder and those above it that are not there. They are on the disk once it is synced. The parent of each
-    /// that was there is synced, once, since it may have been made by a program that was killed before it synced.
+    /// Makes a folder and those above it that are not there. The parent of each that was there is synced too, once,
+    /// since it may have been made by a program that was killed before it synced.
     pub fn make(&mut self, folder: &str) -> io::Result<()> {
         let mut made = String::new(self.alloc);
         for name in folder.split('/') {
@@ -72,24 +70,19 @@ impl Folders {
     }
 
     fn make_one(&mut self, folder: &str, parent: &str) -> io::Result<()> {
-        if self.named.contains(folder) {
-            return Ok(());
-        }
         match DirBuilder::new().mode(MODE).create(&self.rt, folder) {
             Ok(()) => {
                 self.change(parent);
-                fs::set_permissions(&self.rt, folder, Permissions::from_mode(MODE))
+                fs::set_permissions(&self.rt, folder, Permissions::from_mode(MODE))?;
+                self.sync(parent)
             }
-            Err(e) if e.kind() == ErrorKind::AlreadyExists => {
-                self.sync_found(parent)?;
-                remember(self.alloc, &mut self.named, folder)
-            }
+            Err(e) if e.kind() == ErrorKind::AlreadyExists => self.sync_found(parent),
             Err(e) => Err(e),
         }
     }
 
-    /// Syncs the parent of a folder that was there. One that may not be opened is passed over: what is told to be on
-    /// the disk below it has its own folder synced first.
+    /// Syncs the parent of a folder that was there. One that may not be opened is passed over: this program can't
+    /// have made a folder in it, since it would not have gone on without the sync.
     fn sync_found(&mut self, parent: &str) -> io::Result<()> {
         match self.sync_once(parent) {
             Err(e) if e.kind() == ErrorKind::PermissionDenied => Ok(()),
@@ -97,15 +90,6 @@ impl Folders {
             Ok(()) => Ok(()),
         }
     }
-}
-
-/// Remembers a folder. Where too many are remembered they are forgotten, and looked at again.
-fn remember(alloc: Global, folders: &mut HashSet<String>, folder: &str) -> io::Result<()> {
-    if folders.len() >= MOST_REMEMBERED {
-        folders.clear();
-    }
-    folders.insert(String::from_str(alloc, folder)?)?;
-    Ok(())
 }
 
 /// The folder that a path ends in a name of.
