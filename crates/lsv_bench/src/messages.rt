@@ -71,19 +71,19 @@ pub fn points_all(alloc: Global) -> Option<u64> {
     Some(total)
 }
 
-/// Lines of timing, put into a buffer that is kept.
+/// Lines of timing, each of another delay, put into a buffer that is kept.
 pub fn lines_all(alloc: Global) -> Option<u64> {
-    let r = Record::Io {
-        delay: 1_000_000,
-        stream: Stream::Ttyout,
-        bytes: Bytes::of(alloc, b"0123456789").ok()?,
-    };
     let mut total: u64 = 0;
     let mut out = Bytes::new(alloc);
     for i in 0..COUNT {
         if i % BATCH == 0 {
             out.truncate(0);
         }
+        let r = Record::Io {
+            delay: u64::from(i) * 1_000_003,
+            stream: Stream::Ttyout,
+            bytes: Bytes::new(alloc),
+        };
         put_line(&mut out, &r).ok()?;
         total = total.wrapping_add(out.as_slice().len() as u64);
     }
