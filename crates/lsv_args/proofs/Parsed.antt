@@ -41,9 +41,10 @@ numeral_fits ds h small = both (is_numeral ds) (nat_lt (digits_value 10 ds) (2 ^
 
 fits_numeral : (ds : List ℕ) → (is_numeral ds && nat_lt (digits_value 10 ds) (2 ^ 32)) ≡ true → IsNumeral 10 ds × (digits_value 10 ds < 2 ^ 32)
 fits_numeral ds e =
-    let numeral = and_one (is_numeral ds) (nat_lt (digits_value 10 ds) (2 ^ 32)) e in
-    ((ltb-true 0 (length ds) (and_one (nat_lt 0 (length ds)) (list_all (λ x. nat_lt (digit_value x) 10) ds) numeral), all_digits ds (and_two (nat_lt 0 (length ds)) (list_all (λ x. nat_lt (digit_value x) 10) ds) numeral)),
-    ltb-true (digits_value 10 ds) (2 ^ 32) (and_two (is_numeral ds) (nat_lt (digits_value 10 ds) (2 ^ 32)) e))
+    let numeral = and_one (is_numeral ds) (nat_lt (digits_value 10 ds) (2 ^ 32)) e in (
+      (ltb-true 0 (length ds) (and_one (nat_lt 0 (length ds)) (list_all (λ x. nat_lt (digit_value x) 10) ds) numeral), all_digits ds (and_two (nat_lt 0 (length ds)) (list_all (λ x. nat_lt (digit_value x) 10) ds) numeral)),
+      ltb-true (digits_value 10 ds) (2 ^ 32) (and_two (is_numeral ds) (nat_lt (digits_value 10 ds) (2 ^ 32)) e),
+    )
 
 unread : (ds : List ℕ) (t : Bool) → (is_numeral ds && nat_lt (digits_value 10 ds) (2 ^ 32)) ≡ t → (IsNumeral 10 ds × (digits_value 10 ds < 2 ^ 32) → ⊥) → None ≡ cond (is_numeral ds && nat_lt (digits_value 10 ds) (2 ^ 32)) (Some (digits_value 10 ds)) None
 unread ds true e bad = absurd (bad (fits_numeral ds e))

@@ -102,11 +102,14 @@ no_more (x ∷ xs) = ap (λ rest. x ∷ rest) (no_more xs)
 used_push : (a : Rule) (v : Text) (rows : List Row) → action_of a ≡ Set → has_row a.id rows ≡ false → (y : Row) × (used a (v ∷ []) rows ≡ rows ++ y ∷ []) × (y.id ≡ a.id) × (slice_get y.values 0 ≡ Some v)
 used_push a v rows sets fresh =
     let kept : without a.id rows ≡ rows = no_row a.id (λ _. []) [] rows fresh ∙ no_more rows in
-    let row : Row = record { id = a.id; values = v ∷ []; count = None; source = Some CommandLine; reading = reading_by a } in
-    (row,
-    ap (λ (s : ArgAction). used_as s a.id (reading_by a) (v ∷ []) rows) sets
-    ∙ ap (with_values a.id (reading_by a) CommandLine (v ∷ [])) kept
-    ∙ no_row a.id (more_values CommandLine (v ∷ [])) (row ∷ []) rows fresh, refl, refl)
+    let row : Row = record { id = a.id; values = v ∷ []; count = None; source = Some CommandLine; reading = reading_by a } in (
+      row,
+      ap (λ (s : ArgAction). used_as s a.id (reading_by a) (v ∷ []) rows) sets
+          ∙ ap (with_values a.id (reading_by a) CommandLine (v ∷ [])) kept
+          ∙ no_row a.id (more_values CommandLine (v ∷ [])) (row ∷ []) rows fresh,
+      refl,
+      refl,
+    )
 
 used_one : (id : Text) (acc : Text → Bool) (a : Rule) (v : Text) (rows : List Row) → IsPlainRule id acc a → action_fault (action_of a) false a (v ∷ []) rows ≡ [] → HasValue id acc rows → HasValue id acc (used a (v ∷ []) rows)
 used_one id acc a v rows is none good =

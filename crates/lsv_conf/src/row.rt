@@ -22,8 +22,7 @@ pub enum Key {
 fn has_names(section: &[u8], key: &[u8], names: (&str, &str)) -> bool
     ensures { result ≡ (str_eq_ignore_ascii_case section.now names.entry.0.now && str_eq_ignore_ascii_case key.now names.entry.1.now) }
 {
-    section.eq_ignore_ascii_case(names.0.as_bytes())
-        && key.eq_ignore_ascii_case(names.1.as_bytes())
+    section.eq_ignore_ascii_case(names.0.as_bytes()) && key.eq_ignore_ascii_case(names.1.as_bytes())
 }
 
 /// The key of these names, if it is known.

@@ -28,7 +28,7 @@ hello = Hello (record { client_id = codes "load" })
 abbrev pub info : ℕ → Info
 info i = record {
   entries = entry "command" (codes "/bin/job" ++ decimal i) ∷ entry "runuser" (codes "root")
-  ∷ entry "submituser" (codes "user" ++ decimal (i % 10)) ∷ entry "submithost" (codes "gen") ∷ [];
+      ∷ entry "submituser" (codes "user" ++ decimal (i % 10)) ∷ entry "submithost" (codes "gen") ∷ [];
 }
 
 -- the accept of conversation i

@@ -12,41 +12,11 @@ fn text_of(bytes: &Bytes) -> Result<&str, Fail> {
     Ok(str::from_utf8(bytes.as_slice()).ok().ok_or("no text")?)
 }
 
-/// The settings that aren't the defaults.
-fn changes(alloc: Global, conf: &Conf) -> Result<String, Fail> {
-    let mut text = String::new(alloc);
-    let listen = text_of(&conf.listen)?;
-    if listen != "*:30343" {
-        write_setting(&mut text, "listen", listen)?;
+/// Puts a setting, if it isn't the default.
+fn put(text: &mut String, name: &str, value: &str, default: &str) -> Result<(), Fail> {
+    if value == default {
+        return Ok(());
     }
-    if let Some(host) = &conf.relay_host {
-        write_setting(&mut text, "relay", text_of(host)?)?;
-    }
-    if conf.store_first {
-        text.push_str("store_first;")?;
-    }
-    let dir = text_of(&conf.iolog_dir)?;
-    if dir != "/var/log/sudo-io" {
-        write_setting(&mut text, "dir", dir)?;
-    }
-    if !conf.log_passwords {
-        text.push_str("no passwords;")?;
-    }
-    if conf.format == Kind::Json {
-        text.push_str("json;")?;
-    }
-    if conf.log_exit {
-        text.push_str("exits;")?;
-    }
-    let path = text_of(&conf.path)?;
-    if path != "/var/log/sudo.log" {
-        write_setting(&mut text, "path", path)?;
-    }
-    write_lists(alloc, &mut text, conf)?;
-    Ok(text)
-}
-
-fn write_setting(text: &mut String, name: &str, value: &str) -> Result<(), Fail> {
     text.push_str(name)?;
     text.push_str("=")?;
     text.push_str(value)?;
@@ -54,28 +24,79 @@ fn write_setting(text: &mut String, name: &str, value: &str) -> Result<(), Fail>
     Ok(())
 }
 
-/// The prompts that aren't the defaults, and the notes.
-fn write_lists(alloc: Global, text: &mut String, conf: &Conf) -> Result<(), Fail> {
-    let mut prompts = String::new(alloc);
+/// A truth value as it is written.
+fn truth(value: bool) -> &'static str {
+    if value { "true" } else { "false" }
+}
+
+/// The form of event lines as it is written.
+fn form(kind: Kind) -> &'static str {
+    match kind {
+        Kind::Sudo => "sudo",
+        Kind::Json => "json",
+    }
+}
+
+/// The server that logs are sent to, or nothing.
+fn relay_host(conf: &Conf) -> Result<&str, Fail> {
+    match &conf.relay_host {
+        Some(host) => text_of(host),
+        None => Ok(""),
+    }
+}
+
+/// Puts the settings that aren't the defaults.
+fn put_settings(text: &mut String, conf: &Conf) -> Result<(), Fail> {
+    put(text, "listen", text_of(&conf.listen)?, "*:30343")?;
+    put(text, "relay", relay_host(conf)?, "")?;
+    put(text, "store_first", truth(conf.store_first), "false")?;
+    put(text, "dir", text_of(&conf.iolog_dir)?, "/var/log/sudo-io")
+}
+
+/// Puts those of what is stored.
+fn put_others(text: &mut String, conf: &Conf) -> Result<(), Fail> {
+    put(text, "log_passwords", truth(conf.log_passwords), "true")?;
+    put(text, "format", form(conf.format), "sudo")?;
+    put(text, "log_exit", truth(conf.log_exit), "false")?;
+    put(text, "path", text_of(&conf.path)?, "/var/log/sudo.log")
+}
+
+/// Puts each prompt behind a bar.
+fn put_prompts(text: &mut String, conf: &Conf) -> Result<(), Fail> {
     for prompt in conf.prompts.as_slice() {
-        prompts.push_str("<")?;
-        prompts.push_str(text_of(prompt)?)?;
-        prompts.push_str(">")?;
-    }
-    if prompts.as_str() != "<assword:><assword for>" {
-        write_setting(text, "prompts", prompts.as_str())?;
-    }
-    for note in conf.notes.as_slice() {
-        let line = note.line;
-        write_setting(text, format!(in alloc; "note {line}")?.as_str(), text_of(&note.key)?)?;
+        text.push_str("|")?;
+        text.push_str(text_of(prompt)?)?;
     }
     Ok(())
+}
+
+/// Puts the notes.
+fn put_notes(alloc: Global, text: &mut String, conf: &Conf) -> Result<(), Fail> {
+    for note in conf.notes.as_slice() {
+        let name = format!(in alloc; "note {}", note.line)?;
+        put(text, name.as_str(), text_of(&note.key)?, "")?;
+    }
+    Ok(())
+}
+
+/// The settings that aren't the defaults, and the notes.
+fn changes(alloc: Global, text: &mut String, conf: &Conf) -> Result<(), Fail> {
+    put_settings(text, conf)?;
+    put_others(text, conf)?;
+    let mut prompts = String::new(alloc);
+    put_prompts(&mut prompts, conf)?;
+    put(text, "prompts", prompts.as_str(), "|assword:|assword for")?;
+    put_notes(alloc, text, conf)
 }
 
 /// What is made of a settings file.
 fn made(alloc: Global, text: &[u8]) -> Result<String, Fail> {
     match read_conf(alloc, text) {
-        Ok(conf) => changes(alloc, &conf),
+        Ok(conf) => {
+            let mut text = String::new(alloc);
+            changes(alloc, &mut text, &conf)?;
+            Ok(text)
+        }
         Err(ConfFault::Line(line)) => Ok(format!(in alloc; "line {line}")?),
         Err(ConfFault::NoMem) => Err(Fail::from("out of memory")),
     }
@@ -111,18 +132,33 @@ fn lines_are_read_and_the_first_refused_one_is_told(rt: HostRuntime) -> Result<(
     let rows = [
         ("", ""),
         ("\n\n", ""),
-        ("[server]\nlisten_address = *:30343\n[relay]\nstore_first = maybe", "line 4"),
+        (
+            "[server]\nlisten_address = *:30343\n[relay]\nstore_first = maybe",
+            "line 4",
+        ),
         ("[server]\ntimeout = 30\n", "note 2=timeout;"),
-        ("; local\n[Server]\nListen_Address = *:30344", "listen=*:30344;"),
-        ("[server]\nlisten_address=a:1\nLISTEN_ADDRESS=b:2\n", "listen=b:2;"),
-        ("[server]\nlisten_address=a:1\nlisten_address=b:0\n", "line 3"),
+        (
+            "; local\n[Server]\nListen_Address = *:30344",
+            "listen=*:30344;",
+        ),
+        (
+            "[server]\nlisten_address=a:1\nLISTEN_ADDRESS=b:2\n",
+            "listen=b:2;",
+        ),
+        (
+            "[server]\nlisten_address=a:1\nlisten_address=b:0\n",
+            "line 3",
+        ),
         ("[server]\nlisten_address=a:0\nbad\n", "line 2"),
         ("listen_address = a\n[server]\n", "line 1"),
         ("timeout = 3\n", "line 1"),
         ("[server\n", "line 1"),
         ("server]\n", "line 1"),
         ("[server]x\n", "line 1"),
-        ("[server] # the server\nlisten_address = h#:7\n", "listen=h:30343;"),
+        (
+            "[server] # the server\nlisten_address = h#:7\n",
+            "listen=h:30343;",
+        ),
         ("[server]\nlisten_address = #h\n", "line 2"),
         ("[server]\n#listen_address = h\n", ""),
         ("[server]\nlisten#_address = h\n", "line 2"),
@@ -130,11 +166,17 @@ fn lines_are_read_and_the_first_refused_one_is_told(rt: HostRuntime) -> Result<(
         ("[server]\nlisten_address = a;b\n", "listen=a;b:30343;"),
         ("[server]\n = a\n", "line 2"),
         ("[server]\nlisten_address\n", "line 2"),
-        ("\t[server]\t\r\n \tlisten_address\t= \ta \r\n", "listen=a:30343;"),
+        (
+            "\t[server]\t\r\n \tlisten_address\t= \ta \r\n",
+            "listen=a:30343;",
+        ),
         ("[ server ]\nlisten_address = (\n", "note 2=listen_address;"),
         ("[]\nk = \n", "note 2=k;"),
         ("[a] = b]\nk = v\n", "note 2=k;"),
-        ("[other]\nlisten_address = (\n[SERVER]\nlisten_address = c\n", "listen=c:30343;note 2=listen_address;"),
+        (
+            "[other]\nlisten_address = (\n[SERVER]\nlisten_address = c\n",
+            "listen=c:30343;note 2=listen_address;",
+        ),
         ("[server]\nstore_first = maybe\n", "note 2=store_first;"),
         ("[logfile]\nPath = /a=b = c\n", "path=/a=b = c;"),
         ("[iolog]\nprompts = a,,b\n", "line 2"),
@@ -206,10 +248,10 @@ fn addresses_are_hosts_and_ports(rt: HostRuntime) -> Result<(), Fail> {
 fn truth_values_paths_and_words(rt: HostRuntime) -> Result<(), Fail> {
     let alloc = rt.alloc();
     let yes = [
-        ("true", "store_first;"),
-        ("yes", "store_first;"),
-        ("on", "store_first;"),
-        ("1", "store_first;"),
+        ("true", "store_first=true;"),
+        ("yes", "store_first=true;"),
+        ("on", "store_first=true;"),
+        ("1", "store_first=true;"),
         ("false", ""),
         ("no", ""),
         ("off", ""),
@@ -220,17 +262,31 @@ fn truth_values_paths_and_words(rt: HostRuntime) -> Result<(), Fail> {
         ("truee", "line 2"),
     ];
     taken_so(&rt, alloc, "relay", "store_first", yes.as_slice())?;
-    let rows = [("no", "no passwords;"), ("yes", ""), ("nein", "line 2")];
+    let rows = [
+        ("no", "log_passwords=false;"),
+        ("yes", ""),
+        ("nein", "line 2"),
+    ];
     taken_so(&rt, alloc, "iolog", "log_passwords", rows.as_slice())?;
-    let rows = [("on", "exits;"), ("off", ""), ("o", "line 2")];
+    let rows = [("on", "log_exit=true;"), ("off", ""), ("o", "line 2")];
     taken_so(&rt, alloc, "eventlog", "log_exit", rows.as_slice())?;
-    let rows = [("json", "json;"), ("sudo", ""), ("JSON", "line 2"), ("json_pretty", "line 2")];
+    let rows = [
+        ("json", "format=json;"),
+        ("sudo", ""),
+        ("JSON", "line 2"),
+        ("json_pretty", "line 2"),
+    ];
     taken_so(&rt, alloc, "eventlog", "log_format", rows.as_slice())?;
     let rows = [("/x", "dir=/x;"), ("x y", "dir=x y;"), ("", "line 2")];
     taken_so(&rt, alloc, "iolog", "iolog_dir", rows.as_slice())?;
     let rows = [("/x", "path=/x;"), ("", "line 2")];
     taken_so(&rt, alloc, "logfile", "path", rows.as_slice())?;
-    let rows = [("%{seq}", ""), ("%{seq}x", "line 2"), ("%{user}/%{seq}", "line 2"), ("", "line 2")];
+    let rows = [
+        ("%{seq}", ""),
+        ("%{seq}x", "line 2"),
+        ("%{user}/%{seq}", "line 2"),
+        ("", "line 2"),
+    ];
     taken_so(&rt, alloc, "iolog", "iolog_file", rows.as_slice())
 }
 
@@ -252,8 +308,8 @@ fn prompts(alloc: Global, count: u32, len: u32) -> Result<String, Fail> {
 fn one_to_sixteen_prompts_of_1_to_64_bytes(rt: HostRuntime) -> Result<(), Fail> {
     let alloc = rt.alloc();
     let rows = [
-        ("a", "prompts=<a>;"),
-        ("a, b c ,d", "prompts=<a><b c><d>;"),
+        ("a", "prompts=|a;"),
+        ("a, b c ,d", "prompts=|a|b c|d;"),
         ("", "line 2"),
         (",", "line 2"),
         ("a,", "line 2"),
@@ -275,24 +331,69 @@ fn one_to_sixteen_prompts_of_1_to_64_bytes(rt: HostRuntime) -> Result<(), Fail> 
 const DEBIAN: [(&str, &str, &str, &str); 44] = [
     ("server", "listen_address", "*:30343", ""),
     ("server", "listen_address", "*:30344(tls)", "line 2"),
-    ("server", "pid_file", "/run/sudo/sudo_logsrvd.pid", "note 2=pid_file;"),
+    (
+        "server",
+        "pid_file",
+        "/run/sudo/sudo_logsrvd.pid",
+        "note 2=pid_file;",
+    ),
     ("server", "server_log", "syslog", "note 2=server_log;"),
     ("server", "tcp_keepalive", "true", "note 2=tcp_keepalive;"),
     ("server", "timeout", "30", "note 2=timeout;"),
     ("server", "tls_verify", "true", "note 2=tls_verify;"),
     ("server", "tls_checkpeer", "false", "note 2=tls_checkpeer;"),
-    ("server", "tls_cacert", "/etc/ssl/sudo/cacert.pem", "note 2=tls_cacert;"),
-    ("server", "tls_cert", "/etc/ssl/sudo/certs/logsrvd_cert.pem", "note 2=tls_cert;"),
-    ("server", "tls_key", "/etc/ssl/sudo/private/logsrvd_key.pem", "note 2=tls_key;"),
-    ("server", "tls_ciphers_v12", "HIGH:!aNULL", "note 2=tls_ciphers_v12;"),
-    ("server", "tls_ciphers_v13", "TLS_AES_256_GCM_SHA384", "note 2=tls_ciphers_v13;"),
-    ("server", "tls_dhparams", "/etc/ssl/sudo/logsrvd_dhparams.pem", "note 2=tls_dhparams;"),
-    ("relay", "relay_host", "relayhost.dom.ain", "relay=relayhost.dom.ain:30343;"),
+    (
+        "server",
+        "tls_cacert",
+        "/etc/ssl/sudo/cacert.pem",
+        "note 2=tls_cacert;",
+    ),
+    (
+        "server",
+        "tls_cert",
+        "/etc/ssl/sudo/certs/logsrvd_cert.pem",
+        "note 2=tls_cert;",
+    ),
+    (
+        "server",
+        "tls_key",
+        "/etc/ssl/sudo/private/logsrvd_key.pem",
+        "note 2=tls_key;",
+    ),
+    (
+        "server",
+        "tls_ciphers_v12",
+        "HIGH:!aNULL",
+        "note 2=tls_ciphers_v12;",
+    ),
+    (
+        "server",
+        "tls_ciphers_v13",
+        "TLS_AES_256_GCM_SHA384",
+        "note 2=tls_ciphers_v13;",
+    ),
+    (
+        "server",
+        "tls_dhparams",
+        "/etc/ssl/sudo/logsrvd_dhparams.pem",
+        "note 2=tls_dhparams;",
+    ),
+    (
+        "relay",
+        "relay_host",
+        "relayhost.dom.ain",
+        "relay=relayhost.dom.ain:30343;",
+    ),
     ("relay", "relay_host", "relayhost.dom.ain(tls)", "line 2"),
     ("relay", "connect_timeout", "30", "note 2=connect_timeout;"),
-    ("relay", "relay_dir", "/var/log/sudo_logsrvd", "note 2=relay_dir;"),
+    (
+        "relay",
+        "relay_dir",
+        "/var/log/sudo_logsrvd",
+        "note 2=relay_dir;",
+    ),
     ("relay", "retry_interval", "30", "note 2=retry_interval;"),
-    ("relay", "store_first", "true", "store_first;"),
+    ("relay", "store_first", "true", "store_first=true;"),
     ("relay", "tcp_keepalive", "true", "note 2=tcp_keepalive;"),
     ("relay", "timeout", "30", "note 2=timeout;"),
     ("relay", "tls_checkpeer", "false", "note 2=tls_checkpeer;"),
@@ -304,17 +405,42 @@ const DEBIAN: [(&str, &str, &str, &str); 44] = [
     ("iolog", "iolog_user", "root", "note 2=iolog_user;"),
     ("iolog", "iolog_mode", "0600", "note 2=iolog_mode;"),
     ("iolog", "log_passwords", "true", ""),
-    ("iolog", "passprompt_regex", "[Pp]assword[: ]*", "note 2=passprompt_regex;"),
+    (
+        "iolog",
+        "passprompt_regex",
+        "[Pp]assword[: ]*",
+        "note 2=passprompt_regex;",
+    ),
     ("iolog", "maxseq", "2176782336", "note 2=maxseq;"),
     ("eventlog", "log_type", "syslog", "note 2=log_type;"),
-    ("eventlog", "log_exit", "true", "exits;"),
+    ("eventlog", "log_exit", "true", "log_exit=true;"),
     ("eventlog", "log_format", "sudo", ""),
     ("syslog", "maxlen", "960", "note 2=maxlen;"),
     ("syslog", "facility", "authpriv", "note 2=facility;"),
-    ("syslog", "accept_priority", "notice", "note 2=accept_priority;"),
-    ("syslog", "reject_priority", "alert", "note 2=reject_priority;"),
-    ("syslog", "alert_priority", "alert", "note 2=alert_priority;"),
-    ("syslog", "server_facility", "daemon", "note 2=server_facility;"),
+    (
+        "syslog",
+        "accept_priority",
+        "notice",
+        "note 2=accept_priority;",
+    ),
+    (
+        "syslog",
+        "reject_priority",
+        "alert",
+        "note 2=reject_priority;",
+    ),
+    (
+        "syslog",
+        "alert_priority",
+        "alert",
+        "note 2=alert_priority;",
+    ),
+    (
+        "syslog",
+        "server_facility",
+        "daemon",
+        "note 2=server_facility;",
+    ),
     ("logfile", "path", "/var/log/sudo.log", ""),
     ("logfile", "time_format", "%h %e %T", "note 2=time_format;"),
 ];

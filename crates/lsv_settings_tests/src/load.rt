@@ -8,7 +8,8 @@ use std::process::Abort;
 use std::test::Fail;
 
 /// Conversation 1.
-const FIRST: &[u8] = b"\0\0\0\x08\x6a\x06\x0a\x04load\0\0\0\x5b\x0a\x59\x0a\x06\x08\x81\xe2\xcf\xaa\x06\x12\x14\x0a\x07command\x1a\x09/bin/job1\x12\x0f\x0a\x07runuser\x1a\x04root\x12\x13\x0a\x0asubmituser\x1a\x05user1\x12\x11\x0a\x0asubmithost\x1a\x03gen\x18\x01\0\0\0\x0c\x3a\x0a\x0a\x04\x10\xc0\x84\x3d\x12\x02bb\0\0\0\x0d\x3a\x0b\x0a\x04\x10\x80\x89\x7a\x12\x03ccc\0\0\0\x0b\x1a\x09\x0a\x05\x10\xc0\x8d\xb7\x01\x10\x01";
+const FIRST: &[u8] =
+    b"\0\0\0\x08\x6a\x06\x0a\x04load\0\0\0\x5b\x0a\x59\x0a\x06\x08\x81\xe2\xcf\xaa\x06\x12\x14\x0a\x07command\x1a\x09/bin/job1\x12\x0f\x0a\x07runuser\x1a\x04root\x12\x13\x0a\x0asubmituser\x1a\x05user1\x12\x11\x0a\x0asubmithost\x1a\x03gen\x18\x01\0\0\0\x0c\x3a\x0a\x0a\x04\x10\xc0\x84\x3d\x12\x02bb\0\0\0\x0d\x3a\x0b\x0a\x04\x10\x80\x89\x7a\x12\x03ccc\0\0\0\x0b\x1a\x09\x0a\x05\x10\xc0\x8d\xb7\x01\x10\x01";
 
 /// The end of conversation 49, which takes 1.275 seconds.
 const LONGEST_END: &[u8] = b"yy\0\0\0\x0e\x1a\x0c\x0a\x08\x08\x01\x10\xc0\xd5\x90\x83\x01\x10\x31";
@@ -27,21 +28,21 @@ fn conversations_have_these_bytes(rt: HostRuntime) -> Result<(), Fail> {
     Ok(())
 }
 
-/// All conversations as one number, by which another program made them too.
+/// Every ninth conversation as one number, by which another program made them too.
 #[test]
-fn all_conversations_are_those_of_another_program(rt: HostRuntime) -> Result<(), Fail> {
+fn conversations_are_those_of_another_program(rt: HostRuntime) -> Result<(), Fail> {
     let alloc = rt.alloc();
     let mut total = 0usize;
     let mut sum = 0u64;
-    for i in 1..10_001 {
-        let bytes = conversation(alloc, i)?;
+    for k in 0..1_112 {
+        let bytes = conversation(alloc, 9 * k + 1)?;
         total = total.wrapping_add(bytes.as_slice().len());
         for byte in bytes.as_slice() {
             sum = sum.wrapping_mul(31).wrapping_add(u64::from(*byte));
         }
     }
-    assert_eq!(rt; total, 9_740_808);
-    assert_eq!(rt; sum, 1_579_445_975_503_423_582);
+    assert_eq!(rt; total, 1_081_755);
+    assert_eq!(rt; sum, 17_533_644_886_311_268_092);
     Ok(())
 }
 
@@ -100,6 +101,7 @@ fn a_load_has_five_lines(rt: HostRuntime) -> Result<(), Fail> {
     });
     still.add_log(true);
     assert!(rt; still == most);
-    let full = b"logs 18446744073709551615\nrecords 18446744073709551615\nbytes 18446744073709551615\nelapsed 18446744073.709551615\ncomplete 18446744073709551615\n";
+    let full =
+        b"logs 18446744073709551615\nrecords 18446744073709551615\nbytes 18446744073709551615\nelapsed 18446744073.709551615\ncomplete 18446744073709551615\n";
     summed_so(&rt, alloc, &still, full)
 }

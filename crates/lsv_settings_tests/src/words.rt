@@ -103,7 +103,10 @@ fn numbers_are_within_their_ranges(rt: HostRuntime) -> Result<(), Fail> {
         ("serve --lanes 2", "usage"),
         ("serve --stop-after 0", "usage"),
         ("serve --stop-after 1", "serve /etc/sudo_logsrvd.conf 1 1"),
-        ("serve --stop-after 4294967295", "serve /etc/sudo_logsrvd.conf 1 4294967295"),
+        (
+            "serve --stop-after 4294967295",
+            "serve /etc/sudo_logsrvd.conf 1 4294967295",
+        ),
         ("serve --stop-after 4294967296", "usage"),
         ("serve --lanes 01", "serve /etc/sudo_logsrvd.conf 1"),
         ("load +3", "load 3 /etc/sudo_logsrvd.conf 1"),
