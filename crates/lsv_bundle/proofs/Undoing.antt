@@ -64,6 +64,7 @@ bundle_same a b parts same each =
   where
     long : length a.files ≡ length (parts_of a.shape)
     long = sym (length_parts a.files) ∙ ap length parts
+
     at : (i : ℕ) → i < length (parts_of a.shape) → staged_at a.files i ≡ staged_at b.files i
     at i within =
         let p = part_at a.shape i within in
