@@ -23,7 +23,7 @@ returns-in_default-clause-any_moment g c told =
 pub returns-in_default-clause-calls : goal.returns-in_default-clause-calls
 returns-in_default-clause-calls g c told =
     draw_calls 3 5 3 4 c.args.lane c.args.lane (g.D.Disk.view c.args.disk.now) (g.D.Disk.view c.open.new.disk) (g.D.Disk.view c.fresh.new.disk) refl
-    (opened_calls 3 5 c.args.lane c.numbers_file.result (g.D.Disk.view c.args.disk.now) (g.D.Disk.view c.open.new.disk) c.numbers_file.ensures (c.open.ensures.calls told)) (c.fresh.ensures.calls told)
+    (opened_calls 3 5 c.args.lane c.numbers_file.result (g.D.Disk.view c.args.disk.now) (g.D.Disk.view c.open.new.disk) c.numbers_file.ensures ((c.open.ensures.calls told).at_most)) (c.fresh.ensures.calls told)
 
 pub returns-in_default-last-clause-any_moment : goal.returns-in_default-last-clause-any_moment
 returns-in_default-last-clause-any_moment g c told =
@@ -37,7 +37,7 @@ returns-in_default-last-clause-any_moment g c told =
 pub returns-in_default-last-clause-calls : goal.returns-in_default-last-clause-calls
 returns-in_default-last-clause-calls g c told =
     draw_calls 3 5 3 4 c.args.lane c.args.lane (g.D.Disk.view c.args.disk.now) (g.D.Disk.view c.open.new.disk) (g.D.Disk.view c.fresh-in_default-last.new.disk) refl
-    (opened_calls 3 5 c.args.lane c.numbers_file.result (g.D.Disk.view c.args.disk.now) (g.D.Disk.view c.open.new.disk) c.numbers_file.ensures (c.open.ensures.calls told)) (c.fresh-in_default-last.ensures.calls told)
+    (opened_calls 3 5 c.args.lane c.numbers_file.result (g.D.Disk.view c.args.disk.now) (g.D.Disk.view c.open.new.disk) c.numbers_file.ensures ((c.open.ensures.calls told).at_most)) (c.fresh-in_default-last.ensures.calls told)
 
 pub returns-clause-represents : goal.returns-clause-represents
 returns-clause-represents g c told =
