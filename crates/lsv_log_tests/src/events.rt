@@ -34,13 +34,28 @@ fn commit<D: Disk>(log: &mut EventLog, disk: &mut D, line: &[u8]) -> Result<(), 
     log.flush(disk)
 }
 
+/// Adds two lines, and flushes them.
+fn commit_two<D: Disk>(
+    log: &mut EventLog,
+    disk: &mut D,
+    first: &[u8],
+    second: &[u8],
+) -> Result<(), BundleFault>
+    requires whole { is_broken log.old ≡ false }
+    requires represents { D.tells → Represents log.old (D.view disk.old) }
+    ensures whole { OnOk result (is_broken log.new ≡ false) }
+    ensures represents { D.tells → OnOk result (Represents log.new (D.view disk.new)) }
+{
+    log.add(first)?;
+    commit(log, disk, second)
+}
+
 /// Opens an event log, and commits one line and then two.
 fn script<D: Disk>(alloc: Global, disk: &mut D, lane: u32) -> Result<(), BundleFault> {
     let mut log = EventLog::open(alloc, disk, lane)?;
     log.flush(disk)?;
     commit(&mut log, disk, b"one\n")?;
-    log.add(b"two\n")?;
-    commit(&mut log, disk, b"three\n")?;
+    commit_two(&mut log, disk, b"two\n", b"three\n")?;
     log.flush(disk)
 }
 
@@ -191,8 +206,7 @@ fn commits<D: Disk>(alloc: Global, disk: &mut D, times: usize) -> Result<(), Bun
         commit(&mut log, disk, b"one\n")?;
     }
     if times > 1 {
-        log.add(b"two\n")?;
-        commit(&mut log, disk, b"three\n")?;
+        commit_two(&mut log, disk, b"two\n", b"three\n")?;
     }
     Ok(())
 }
