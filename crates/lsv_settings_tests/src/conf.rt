@@ -326,133 +326,118 @@ fn one_to_sixteen_prompts_of_1_to_64_bytes(rt: HostRuntime) -> Result<(), Fail> 
     Ok(())
 }
 
-/// The keys of the settings file that Debian ships with sudo, where each stands behind a comment sign, and what is
-/// made of each without that sign.
-const DEBIAN: [(&str, &str, &str, &str); 44] = [
-    ("server", "listen_address", "*:30343", ""),
-    ("server", "listen_address", "*:30344(tls)", "line 2"),
-    (
-        "server",
-        "pid_file",
-        "/run/sudo/sudo_logsrvd.pid",
-        "note 2=pid_file;",
-    ),
-    ("server", "server_log", "syslog", "note 2=server_log;"),
-    ("server", "tcp_keepalive", "true", "note 2=tcp_keepalive;"),
-    ("server", "timeout", "30", "note 2=timeout;"),
-    ("server", "tls_verify", "true", "note 2=tls_verify;"),
-    ("server", "tls_checkpeer", "false", "note 2=tls_checkpeer;"),
-    (
-        "server",
-        "tls_cacert",
-        "/etc/ssl/sudo/cacert.pem",
-        "note 2=tls_cacert;",
-    ),
-    (
-        "server",
-        "tls_cert",
-        "/etc/ssl/sudo/certs/logsrvd_cert.pem",
-        "note 2=tls_cert;",
-    ),
-    (
-        "server",
-        "tls_key",
-        "/etc/ssl/sudo/private/logsrvd_key.pem",
-        "note 2=tls_key;",
-    ),
-    (
-        "server",
-        "tls_ciphers_v12",
-        "HIGH:!aNULL",
-        "note 2=tls_ciphers_v12;",
-    ),
-    (
-        "server",
-        "tls_ciphers_v13",
-        "TLS_AES_256_GCM_SHA384",
-        "note 2=tls_ciphers_v13;",
-    ),
-    (
-        "server",
-        "tls_dhparams",
-        "/etc/ssl/sudo/logsrvd_dhparams.pem",
-        "note 2=tls_dhparams;",
-    ),
-    (
-        "relay",
-        "relay_host",
-        "relayhost.dom.ain",
-        "relay=relayhost.dom.ain:30343;",
-    ),
-    ("relay", "relay_host", "relayhost.dom.ain(tls)", "line 2"),
-    ("relay", "connect_timeout", "30", "note 2=connect_timeout;"),
-    (
-        "relay",
-        "relay_dir",
-        "/var/log/sudo_logsrvd",
-        "note 2=relay_dir;",
-    ),
-    ("relay", "retry_interval", "30", "note 2=retry_interval;"),
-    ("relay", "store_first", "true", "store_first=true;"),
-    ("relay", "tcp_keepalive", "true", "note 2=tcp_keepalive;"),
-    ("relay", "timeout", "30", "note 2=timeout;"),
-    ("relay", "tls_checkpeer", "false", "note 2=tls_checkpeer;"),
-    ("iolog", "iolog_dir", "/var/log/sudo-io", ""),
-    ("iolog", "iolog_file", "%{seq}", ""),
-    ("iolog", "iolog_compress", "false", "note 2=iolog_compress;"),
-    ("iolog", "iolog_flush", "true", "note 2=iolog_flush;"),
-    ("iolog", "iolog_group", "root", "note 2=iolog_group;"),
-    ("iolog", "iolog_user", "root", "note 2=iolog_user;"),
-    ("iolog", "iolog_mode", "0600", "note 2=iolog_mode;"),
-    ("iolog", "log_passwords", "true", ""),
-    (
-        "iolog",
-        "passprompt_regex",
-        "[Pp]assword[: ]*",
-        "note 2=passprompt_regex;",
-    ),
-    ("iolog", "maxseq", "2176782336", "note 2=maxseq;"),
-    ("eventlog", "log_type", "syslog", "note 2=log_type;"),
-    ("eventlog", "log_exit", "true", "log_exit=true;"),
-    ("eventlog", "log_format", "sudo", ""),
-    ("syslog", "maxlen", "960", "note 2=maxlen;"),
-    ("syslog", "facility", "authpriv", "note 2=facility;"),
-    (
-        "syslog",
-        "accept_priority",
-        "notice",
-        "note 2=accept_priority;",
-    ),
-    (
-        "syslog",
-        "reject_priority",
-        "alert",
-        "note 2=reject_priority;",
-    ),
-    (
-        "syslog",
-        "alert_priority",
-        "alert",
-        "note 2=alert_priority;",
-    ),
-    (
-        "syslog",
-        "server_facility",
-        "daemon",
-        "note 2=server_facility;",
-    ),
-    ("logfile", "path", "/var/log/sudo.log", ""),
-    ("logfile", "time_format", "%h %e %T", "note 2=time_format;"),
-];
+// The keys of the settings file that Debian ships with sudo stand behind comment signs there; here each is given.
 
 #[test]
-fn the_keys_that_debian_ships_are_known_noted_or_refused(rt: HostRuntime) -> Result<(), Fail> {
-    let alloc = rt.alloc();
-    let mut shipped = String::from_str(alloc, "#\n# sudo logsrv daemon configuration\n#\n")?;
-    for (section, key, value, wanted) in DEBIAN {
-        taken_so(&rt, alloc, section, key, [(value, wanted)].as_slice())?;
-        shipped.push_str(format!(in alloc; "[{section}]\n#{key} = {value}\n\n")?.as_str())?;
-    }
-    assert_eq!(rt; made(alloc, shipped.as_bytes())?.as_str(), "");
+fn debian_s_keys_of_the_server(rt: HostRuntime) -> Result<(), Fail> {
+    let rows = [
+        ("[server]\nlisten_address = *:30343", ""),
+        ("[server]\nlisten_address = *:30344(tls)", "line 2"),
+        (
+            "[server]\npid_file = /run/sudo/sudo_logsrvd.pid",
+            "note 2=pid_file;",
+        ),
+        ("[server]\nserver_log = syslog", "note 2=server_log;"),
+        ("[server]\ntcp_keepalive = true", "note 2=tcp_keepalive;"),
+        ("[server]\ntimeout = 30", "note 2=timeout;"),
+        ("[server]\ntls_verify = true", "note 2=tls_verify;"),
+        ("[server]\ntls_checkpeer = false", "note 2=tls_checkpeer;"),
+        (
+            "[server]\ntls_cacert = /etc/ssl/sudo/cacert.pem",
+            "note 2=tls_cacert;",
+        ),
+        (
+            "[server]\ntls_cert = /etc/ssl/sudo/certs/logsrvd_cert.pem",
+            "note 2=tls_cert;",
+        ),
+        (
+            "[server]\ntls_key = /etc/ssl/sudo/private/logsrvd_key.pem",
+            "note 2=tls_key;",
+        ),
+        (
+            "[server]\ntls_ciphers_v12 = HIGH:!aNULL",
+            "note 2=tls_ciphers_v12;",
+        ),
+        (
+            "[server]\ntls_ciphers_v13 = TLS_AES_256_GCM_SHA384",
+            "note 2=tls_ciphers_v13;",
+        ),
+        (
+            "[server]\ntls_dhparams = /etc/ssl/sudo/logsrvd_dhparams.pem",
+            "note 2=tls_dhparams;",
+        ),
+    ];
+    read_so(&rt, rt.alloc(), rows.as_slice())
+}
+
+#[test]
+fn debian_s_keys_of_the_relay_and_of_logs(rt: HostRuntime) -> Result<(), Fail> {
+    let rows = [
+        (
+            "[relay]\nrelay_host = relayhost.dom.ain",
+            "relay=relayhost.dom.ain:30343;",
+        ),
+        ("[relay]\nrelay_host = relayhost.dom.ain(tls)", "line 2"),
+        ("[relay]\nconnect_timeout = 30", "note 2=connect_timeout;"),
+        (
+            "[relay]\nrelay_dir = /var/log/sudo_logsrvd",
+            "note 2=relay_dir;",
+        ),
+        ("[relay]\nretry_interval = 30", "note 2=retry_interval;"),
+        ("[relay]\nstore_first = true", "store_first=true;"),
+        ("[relay]\ntcp_keepalive = true", "note 2=tcp_keepalive;"),
+        ("[relay]\ntimeout = 30", "note 2=timeout;"),
+        ("[relay]\ntls_checkpeer = false", "note 2=tls_checkpeer;"),
+        ("[iolog]\niolog_dir = /var/log/sudo-io", ""),
+        ("[iolog]\niolog_file = %{seq}", ""),
+        ("[iolog]\niolog_compress = false", "note 2=iolog_compress;"),
+        ("[iolog]\niolog_flush = true", "note 2=iolog_flush;"),
+        ("[iolog]\niolog_group = root", "note 2=iolog_group;"),
+        ("[iolog]\niolog_user = root", "note 2=iolog_user;"),
+        ("[iolog]\niolog_mode = 0600", "note 2=iolog_mode;"),
+        ("[iolog]\nlog_passwords = true", ""),
+        (
+            "[iolog]\npassprompt_regex = [Pp]assword[: ]*",
+            "note 2=passprompt_regex;",
+        ),
+        ("[iolog]\nmaxseq = 2176782336", "note 2=maxseq;"),
+    ];
+    read_so(&rt, rt.alloc(), rows.as_slice())
+}
+
+#[test]
+fn debian_s_keys_of_events(rt: HostRuntime) -> Result<(), Fail> {
+    let rows = [
+        ("[eventlog]\nlog_type = syslog", "note 2=log_type;"),
+        ("[eventlog]\nlog_exit = true", "log_exit=true;"),
+        ("[eventlog]\nlog_format = sudo", ""),
+        ("[syslog]\nmaxlen = 960", "note 2=maxlen;"),
+        ("[syslog]\nfacility = authpriv", "note 2=facility;"),
+        (
+            "[syslog]\naccept_priority = notice",
+            "note 2=accept_priority;",
+        ),
+        (
+            "[syslog]\nreject_priority = alert",
+            "note 2=reject_priority;",
+        ),
+        ("[syslog]\nalert_priority = alert", "note 2=alert_priority;"),
+        (
+            "[syslog]\nserver_facility = daemon",
+            "note 2=server_facility;",
+        ),
+        ("[logfile]\npath = /var/log/sudo.log", ""),
+        ("[logfile]\ntime_format = %h %e %T", "note 2=time_format;"),
+    ];
+    read_so(&rt, rt.alloc(), rows.as_slice())
+}
+
+/// The file as it is shipped sets nothing.
+const SHIPPED: &str =
+    "#\n# sudo logsrv daemon configuration\n#\n\n[server]\n#listen_address = *:30343\n#listen_address = *:30344(tls)\n#pid_file = /run/sudo/sudo_logsrvd.pid\n#server_log = syslog\n#tcp_keepalive = true\n#timeout = 30\n#tls_verify = true\n#tls_checkpeer = false\n#tls_cacert = /etc/ssl/sudo/cacert.pem\n#tls_cert = /etc/ssl/sudo/certs/logsrvd_cert.pem\n#tls_key = /etc/ssl/sudo/private/logsrvd_key.pem\n#tls_ciphers_v12 = HIGH:!aNULL\n#tls_ciphers_v13 = TLS_AES_256_GCM_SHA384\n#tls_dhparams = /etc/ssl/sudo/logsrvd_dhparams.pem\n\n[relay]\n#relay_host = relayhost.dom.ain\n#relay_host = relayhost.dom.ain(tls)\n#connect_timeout = 30\n#relay_dir = /var/log/sudo_logsrvd\n#retry_interval = 30\n#store_first = true\n#tcp_keepalive = true\n#timeout = 30\n#tls_checkpeer = false\n\n[iolog]\n#iolog_dir = /var/log/sudo-io\n#iolog_file = %{seq}\n#iolog_compress = false\n#iolog_flush = true\n#iolog_group = root\n#iolog_user = root\n#iolog_mode = 0600\n#log_passwords = true\n#passprompt_regex = [Pp]assword[: ]*\n#maxseq = 2176782336\n\n[eventlog]\n#log_type = syslog\n#log_exit = true\n#log_format = sudo\n\n[syslog]\n#maxlen = 960\n#facility = authpriv\n#accept_priority = notice\n#reject_priority = alert\n#alert_priority = alert\n#server_facility = daemon\n\n[logfile]\n#path = /var/log/sudo.log\n#time_format = %h %e %T\n";
+
+#[test]
+fn debian_s_file_as_it_is_shipped_has_the_defaults(rt: HostRuntime) -> Result<(), Fail> {
+    assert_eq!(rt; made(rt.alloc(), SHIPPED.as_bytes())?.as_str(), "");
     Ok(())
 }

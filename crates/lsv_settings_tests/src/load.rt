@@ -49,8 +49,8 @@ fn conversations_are_those_of_another_program(rt: HostRuntime) -> Result<(), Fai
 /// The sums over the logs that so many conversations leave.
 fn totals_of(alloc: Global, logs: u32) -> Result<Totals, NoMem> {
     let mut totals = Totals::new();
-    for i in 1..logs + 1 {
-        for j in 1..i % 50 + 2 {
+    for before in 0..logs {
+        for j in 1..(before + 1) % 50 + 2 {
             totals.add_record(&Record::Io {
                 delay: u64::from(j) * 1_000_000,
                 stream: Stream::Ttyout,
