@@ -1,0 +1,67 @@
+use lsv_base::{Bytes, LogNo, NoMem, Point};
+use lsv_msg::ServerMessage;
+use lsv_request::Refusal;
+use lsv_session::{ConnId, Reply, ReplyBody};
+use std::alloc::Global;
+
+/// What a job is answered.
+#[derive(Clone, Copy, Debug, PartialEq, Eq)]
+pub enum Told {
+    Nothing,
+    /// A log was opened.
+    Log(LogNo),
+    /// The session is refused, and shut.
+    Refused(Refusal),
+    /// A log ended at this point, and the session with it.
+    Finished(Point),
+    /// The session ended.
+    Shut,
+    /// The connection went.
+    Farewell,
+}
+
+/// The reply that says this to a connection.
+pub fn say(conn: ConnId, message: ServerMessage) -> Reply {
+    Reply {
+        conn,
+        body: ReplyBody::Say(message),
+        last: false,
+    }
+}
+
+/// The reply that ends what is said to a connection.
+fn shut(conn: ConnId, last: bool) -> Reply {
+    Reply {
+        conn,
+        body: ReplyBody::Shut,
+        last,
+    }
+}
+
+/// Puts the replies of an answer at the end.
+pub fn put_replies(
+    alloc: Global,
+    replies: &mut Vec<Reply>,
+    conn: ConnId,
+    told: Told,
+) -> Result<(), NoMem> {
+    match told {
+        Told::Nothing => (),
+        Told::Log(log) => {
+            let id = Bytes::of(alloc, &log.digits())?;
+            replies.push(say(conn, ServerMessage::LogId(id)))?;
+        }
+        Told::Refused(why) => {
+            let text = Bytes::of(alloc, why.text().as_bytes())?;
+            replies.push(say(conn, ServerMessage::Error(text)))?;
+            replies.push(shut(conn, false))?;
+        }
+        Told::Finished(point) => {
+            replies.push(say(conn, ServerMessage::CommitPoint(point.spec())))?;
+            replies.push(shut(conn, false))?;
+        }
+        Told::Shut => replies.push(shut(conn, false))?,
+        Told::Farewell => replies.push(shut(conn, true))?,
+    }
+    Ok(())
+}
