@@ -99,9 +99,13 @@ module _ (good : Type 0) (set : Settings) (n : ℕ) (k : ConnId) (m : Machine) (
         (λ p h. holds_loses t.stored t.promised (m.owner n) ((leaves k Dead m).owner n) l.shown l.promised t.left h t.enough (left_nobody good set n k m l f Dead i e p)))
   ]
 
+  pub died_exiting : (exits : Bool) (i : ℕ) (exit : List ℕ) (stored : Stored) (promised : ℕ) → log_of (m.states k) ≡ Some i → m.logs i ≡ There stored promised
+      → Fits good set n (leaves k Dead (with_log i (There (with_exit exit stored) promised) m)) (heard exits k Shut l)
+  died_exiting exits i exit stored promised e at = died_with exits i stored (with_exit exit stored) promised promised at
+      (λ p h. holds_freed stored promised (m.owner n) ((leaves k Dead m).owner n) l.shown l.promised (Some exit) h (left_nobody good set n k m l f Dead i e p))
+
   pub died_set : (exits : Bool) (i : ℕ) (exit : List ℕ) (x : LogState) → log_of (m.states k) ≡ Some i → IsSet exit (m.logs i) x → Fits good set n (leaves k Dead (with_log i x m)) (heard exits k Shut l)
-  died_set exits i exit x e t = rw t.now (died_with exits i t.stored (with_exit exit t.stored) t.promised t.promised t.was
-      (λ p h. holds_freed t.stored t.promised (m.owner n) ((leaves k Dead m).owner n) l.shown l.promised (Some exit) h (left_nobody good set n k m l f Dead i e p)))
+  died_set exits i exit x e t = rw t.now (died_exiting exits i exit t.stored t.promised e t.was)
 
   -- what may have become of the log that a connection lets go
   pub died_leaving : (exits : Bool) (failed : List Owner) (o : Option ℕ) (exit : Option (List ℕ)) (left : Machine) → log_of (m.states k) ≡ o → LeavesLog failed o exit m left

@@ -27,10 +27,10 @@ use Rattle.lsv_machine.specs.Judgement.{fault_refusal, judged}
 use Rattle.lsv_machine.specs.Machine.{IsOfLane, LogState, LogState.Absent, LogState.Damaged, LogState.There, Machine, Settings, forgets, is_dead, is_running, leaves, log_of, same, with_log, with_state, without_conn}
 use Rattle.lsv_machine.specs.Stands.{as_list}
 use Rattle.lsv_machine.specs.Turns.{Happened, Happened.Did}
-use Rattle.lsv_machine.specs.Work.{Done, adds_line, alive, answered, before_line, draws, dropped, empty_log, has_line, line_fits, line_in, lined, makes, opens, plain, refused, sets_exit, work}
+use Rattle.lsv_machine.specs.Work.{Done, adds_line, alive, answered, before_line, draws, dropped, empty_log, fits_file, has_line, line_fits, line_in, lined, makes, opens, plain, refused, sets_exit, work}
 use Rattle.lsv_machine.proofs.Choices.{SameOr, SameOr.alike, SameOr.apart, same_or, same_refl, EqOr, EqOr.equal, EqOr.unequal, eq_or}
 use Rattle.lsv_machine.proofs.Changing.{drawn_is}
-use Rattle.lsv_machine.proofs.Dying.{cut_failed, died_leaving, died_set, loses_beside, made_fits}
+use Rattle.lsv_machine.proofs.Dying.{cut_failed, died_exiting, died_leaving, died_set, loses_beside, made_fits}
 use Rattle.lsv_machine.proofs.Fits.{Fits, SameNotes, asked_loud, fits_beside, fits_same, writes_none}
 use Rattle.lsv_machine.proofs.JudgedLemmas.{Suits, judged_ok}
 use Rattle.lsv_machine.proofs.Leaving.{fits_dies, fits_goes, fits_state, without_owner, writers_left, without_self}
@@ -86,9 +86,9 @@ module _ (good : Type 0) (set : Settings) (n : ℕ) (k : ConnId) (m : Machine) (
     setting_refused exit j Absent at e = refused_together good set n k (Ok (request.Exit exit)) refusals.LogFull m l f
     setting_refused exit j Damaged at e = refused_together good set n k (Ok (request.Exit exit)) refusals.LogFull m l f
     setting_refused exit j (There stored promised) at e =
-        died_set good set n k m (asked n k (Ok (request.Exit exit)) (refusal k refusals.LogFull) false l)
+        died_exiting good set n k m (asked n k (Ok (request.Exit exit)) (refusal k refusals.LogFull) false l)
         (fits_same good set n m l (asked n k (Ok (request.Exit exit)) (refusal k refusals.LogFull) false l) (asked_loud n k (Ok (request.Exit exit)) (refusal k refusals.LogFull) l refl refl) f)
-        true j (exit_text exit) (There (record stored { exit = Some (exit_text exit) }) promised) e (record { stored = stored; promised = promised; was = at; now = refl })
+        true j (exit_text exit) stored promised e at
 
     exit_refused : (exit : Exit) (s : ConnState) → m.states k ≡ s → Together good set n k (Ok (request.Exit exit)) l (refused k refusals.LogFull (before_line s (request.Exit exit) i m))
     exit_refused exit Fresh e = refused_together good set n k (Ok (request.Exit exit)) refusals.LogFull m l f
@@ -182,7 +182,11 @@ module _ (good : Type 0) (set : Settings) (n : ℕ) (k : ConnId) (m : Machine) (
   died_making : (exits : Bool) (w : Result Request Refusal) (left : Machine) → Makes set (m.states k) w m left → Fits good set n (leaves k Dead left) (heard exits k Shut l)
   died_making exits w left t =
       let (lane, above) = drawn_is set m t.number f.sound t.drawn in
-      rw t.now (fits_dies good set n k (with_log t.number t.log (draws t.number m)) l (made_fits good set n k m l f t.number (head_text t.accept.head) t.log lane above t.made) exits)
+      rw t.now (fits_dies good set n k (with_log t.number t.log (draws t.number m)) l (made_fits good set n k m l f t.number (head_text t.accept.head) t.log lane above (made_of t.made)) exits)
+    where
+      made_of : (t.log ≡ m.logs t.number) ⊎ ((fits_file (head_text t.accept.head) ≡ true) × (t.log ≡ There (empty_log (head_text t.accept.head)) 0)) → (t.log ≡ m.logs t.number) ⊎ (t.log ≡ There (empty_log (head_text t.accept.head)) 0)
+      made_of (inl e) = inl e
+      made_of (inr e) = inr e.1
 
   -- however far the work had come
   died_broken : (exits : Bool) (failed : List Owner) (w : Result Request Refusal) (left : Machine) → BreaksOff set failed (m.states k) w m left

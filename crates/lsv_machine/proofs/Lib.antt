@@ -14,3 +14,8 @@ pub mod Promises
 pub mod Shown
 pub mod Shapes
 pub mod StepLooks
+pub mod Silent
+pub mod OutcomeLemmas
+pub mod Weaken
+pub mod Untouched
+pub mod Splits

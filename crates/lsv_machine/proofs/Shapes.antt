@@ -34,7 +34,7 @@ use Rattle.lsv_session.specs.declared.job.Job.{Job}
 use Rattle.lsv_machine.specs.Answers.{Answer, Saying, Saying.LogId, Saying.CommitPoint, Saying.Error, Saying.Shut, farewell, is_refused, refusal, say}
 use Rattle.lsv_machine.specs.Judgement.{allows, fault_refusal, judged, malformed, with_keys}
 use Rattle.lsv_machine.specs.Machine.{LogState, LogState.Absent, LogState.Damaged, LogState.There, Machine, Settings, forgets, insert_once, is_dead, is_running, leaves, let_go, log_of, note, same, with_log, with_owner, with_state, without_conn}
-use Rattle.lsv_machine.specs.Work.{Done, adds_line, alive, answered, before_line, cut_to, cuts_with, draws, dropped, empty_log, ends, exited, finished, fits_file, has_line, last_number, line_fits, line_in, lined, makes, opened, opens, plain, recorded, refused, restarted, restarted_at, resumed, sets_exit, silently, taken, takes, waits, with_exit, with_record, work}
+use Rattle.lsv_machine.specs.Work.{Done, adds_line, alive, answered, before_line, can_cut, cut_to, draws, dropped, empty_log, ends, exited, finished, fits_file, has_line, last_number, line_fits, line_in, lined, makes, opened, opens, plain, recorded, refused, restarted, restarted_at, resumed, sets_exit, silently, taken, takes, waits, with_exit, with_record, work}
 use Rattle.lsv_machine.proofs.Choices.{SameOr, SameOr.alike, SameOr.apart, same_or}
 
 -- ---- Refusals by judgement tell of no device fault
@@ -235,7 +235,7 @@ opened_looks k head n m =
 resumed_looks : (k : ConnId) (n : ℕ) (stored : Stored) (o : Option ℕ) (m : Machine) → Looks k m (resumed k n stored o m)
 resumed_looks k n stored None m = refused_looks k refusals.NoSuchResumePoint m (λ p. cc)
 resumed_looks k n stored (Some x) m =
-    either_looks k m (nat_lt (cuts_with x stored) (2 ^ 63)) (silently (with_state k (Running (Some n)) (with_owner n (Some k) (with_log n (There (cut_to x stored) x) m)))) (refused k refusals.LogFull m)
+    either_looks k m (can_cut x stored) (silently (with_state k (Running (Some n)) (with_owner n (Some k) (with_log n (There (cut_to x stored) x) m)))) (refused k refusals.LogFull m)
     (silent_looks k m (with_state k (Running (Some n)) (with_owner n (Some k) (with_log n (There (cut_to x stored) x) m)))
         (state_leaves k (Running (Some n)) m (with_owner n (Some k) (with_log n (There (cut_to x stored) x) m)) refl refl refl refl refl))
     (refused_looks k refusals.LogFull m (λ p. cc))
@@ -302,7 +302,7 @@ either_none false x y h g = g
 
 resumed_none : (k : ConnId) (n : ℕ) (stored : Stored) (o : Option ℕ) (m : Machine) → NoLine (resumed k n stored o m)
 resumed_none k n stored None m = refl
-resumed_none k n stored (Some x) m = either_none (nat_lt (cuts_with x stored) (2 ^ 63)) (silently (with_state k (Running (Some n)) (with_owner n (Some k) (with_log n (There (cut_to x stored) x) m)))) (refused k refusals.LogFull m) refl refl
+resumed_none k n stored (Some x) m = either_none (can_cut x stored) (silently (with_state k (Running (Some n)) (with_owner n (Some k) (with_log n (There (cut_to x stored) x) m)))) (refused k refusals.LogFull m) refl refl
 
 restarted_none : (k : ConnId) (n point : ℕ) (x : LogState) (m : Machine) → NoLine (restarted_at k n point x m)
 restarted_none k n point Absent m = refl

@@ -23,7 +23,7 @@ use Rattle.lsv_machine.specs.Answers.{Answer, Saying.LogId, Saying.CommitPoint, 
 use Rattle.lsv_machine.specs.History.{Ledger, asked, becomes, heard, heard_all, is_exit, opened_by, restarted_by, resumed_by, sent_one, writes}
 use Rattle.lsv_machine.specs.Machine.{IsOfLane, LogState, LogState.Absent, LogState.Damaged, LogState.There, Machine, Settings, insert_once, is_dead, is_running, leaves, log_of, with_log, with_owner, with_state}
 use Rattle.lsv_machine.specs.Stands.{HoldsAt, HoldsRecords, as_list}
-use Rattle.lsv_machine.specs.Work.{Done, cut_to, cuts_with, draws, empty_log, ends, exited, finished, fits_file, last_number, makes, opened, recorded, refused, restarted, restarted_at, resumed, silently, taken, takes, waits, with_exit, with_record, work}
+use Rattle.lsv_machine.specs.Work.{Done, can_cut, cut_to, draws, empty_log, ends, exited, finished, fits_file, last_number, makes, opened, recorded, refused, restarted, restarted_at, resumed, silently, taken, takes, waits, with_exit, with_record, work}
 use Rattle.lsv_machine.proofs.Choices.{SameOr, SameOr.alike, SameOr.apart, same_or, EqOr, EqOr.equal, EqOr.unequal, eq_or, SomeOr, SomeOr.nothing, SomeOr.just, some_or}
 use Rattle.lsv_machine.proofs.Changing.{NotAbove, draws_fits, fits_begins, fits_log, holds_cut, itself_not_above, later, same_last, there_not_above}
 use Rattle.lsv_machine.proofs.Fits.{Fits, SameNotes, asked_loud, fits_beside, fits_same, writes_its, writes_none}
@@ -88,7 +88,7 @@ module _ (good : Type 0) (set : Settings) (n : ℕ) (k : ConnId) (m : Machine) (
       → m.logs restart.log ≡ There stored promised → stored.exit ≡ None → first stored.records restart.point ≡ o
       → Together good set n k (Ok (request.Restart restart)) l (resumed k restart.log stored o m)
   resumed_together restart stored promised None idle alive unowned at un e = refused_together good set n k (Ok (request.Restart restart)) refusals.NoSuchResumePoint m l f
-  resumed_together restart stored promised (Some x) idle alive unowned at un e = go (nat_lt (cuts_with x stored) (2 ^ 63)) refl
+  resumed_together restart stored promised (Some x) idle alive unowned at un e = go (can_cut x stored) refl
     where
       begun : Fits good set n (with_state k (Running (Some restart.log)) (with_owner restart.log (Some k) (with_log restart.log (There (cut_to x stored) x) m))) (asked n k (Ok (request.Restart restart)) [] false l)
       begun = elim (eq_or restart.log n) [
@@ -104,7 +104,7 @@ module _ (good : Type 0) (set : Settings) (n : ℕ) (k : ConnId) (m : Machine) (
             (λ q. (refl, refl, refl)))
       ]
 
-      go : (b : Bool) → nat_lt (cuts_with x stored) (2 ^ 63) ≡ b → Together good set n k (Ok (request.Restart restart)) l (resumed k restart.log stored (Some x) m)
+      go : (b : Bool) → can_cut x stored ≡ b → Together good set n k (Ok (request.Restart restart)) l (resumed k restart.log stored (Some x) m)
       go true d = rw d begun
       go false d = rw d (refused_together good set n k (Ok (request.Restart restart)) refusals.LogFull m l f)
 

@@ -28,6 +28,7 @@ same_owner o p = false
 abbrev pub is_among : Owner → List Owner → Bool
 is_among o failed = list_any (same_owner o) failed
 
+-- 1 where it is so, else 0
 abbrev pub one_if : Bool → ℕ
 one_if true = 1
 one_if false = 0
@@ -61,6 +62,7 @@ marks n (x ∷ history) = one_if (is_mark n x) + marks n history
 
 -- ---- On a disk
 
+-- all files that an owner may have
 abbrev pub all_parts : List Part
 all_parts =
     parts.Head ∷ parts.Exit ∷ parts.Timing ∷ parts.Stdin ∷ parts.Stdout ∷ parts.Stderr ∷ parts.Ttyin ∷ parts.Ttyout ∷ parts.Lines ∷ parts.Id ∷ parts.Commit ∷ parts.Slots ∷ []
@@ -82,7 +84,7 @@ IsCounted disk o = (part : Part) → disk.faults (file_of o part) < 2 ^ 64 - 1
 abbrev pub journal_of : ℕ → FileId
 journal_of n = file_of (Log n) parts.Slots
 
--- no count of faults fell; each owner failed in at most as many jobs and ends of turns as its count rose by, and each log inside so many cuts as its journal's did
+-- no count of faults fell; an owner failed in no more jobs and ends of turns than its count rose by, and a log inside no more cuts than its journal's count rose by
 pub record Counts (history : List Happened) (old new : DiskView) : Type 0 where
   pub monotone : (file : FileId) → old.faults file ≤ new.faults file
   pub failed : (o : Owner) → IsCounted new o → faults_of old o + failures o history ≤ faults_of new o

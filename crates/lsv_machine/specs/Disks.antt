@@ -36,7 +36,7 @@ pub record SameLog (r : Reading) (n : ℕ) (was image : Image) : Type 0 where
 abbrev pub AsBefore : Reading → ℕ → (before images : Image → Type 0) → Type 0
 AsBefore r n before images = (image : Image) → images image → (was : Image) × before was × SameLog r n was image
 
--- a log that was not touched but by syncs: each image holds of it what one held before, and it reads as it did
+-- a log of which each image holds what one held before, and which reads as it did: nothing but syncs touched it
 pub record Rests (r : Reading) (n : ℕ) (old new : DiskView) : Type 0 where
   pub images : AsBefore r n (IsCrashImage old) (IsCrashImage new)
   pub reads : SameLog r n old.reads new.reads
@@ -55,9 +55,14 @@ pub record KeepsNumbers (r : Reading) (lane lanes : ℕ) (old new : DiskView) : 
 
 -- ---- The event log
 
+-- of the event log the same is read on two images
+pub record SameLines (r : Reading) (was image : Image) : Type 0 where
+  pub to : (text : List ℕ) → r.lines was text → r.lines image text
+  pub back : (text : List ℕ) → r.lines image text → r.lines was text
+
 -- the event log of an image holds what that of one of those before held
 abbrev pub LinesAs : Reading → (before : Image → Type 0) → Image → Type 0
-LinesAs r before image = (was : Image) × before was × ((text : List ℕ) → r.lines was text → r.lines image text)
+LinesAs r before image = (was : Image) × before was × SameLines r was image
 
 -- each of these images holds of the event log what one of those before held
 abbrev pub LinesAsBefore : Reading → (before images : Image → Type 0) → Type 0
@@ -67,8 +72,8 @@ LinesAsBefore r before images = (image : Image) → images image → LinesAs r b
 abbrev pub LinesAsBeforeOr : Reading → (before : Image → Type 0) → List ℕ → (Image → Type 0) → Type 0
 LinesAsBeforeOr r before text images = (image : Image) → images image → LinesAs r before image ⊎ r.lines image text
 
--- the event log was not touched but by syncs, and reads as it did
+-- each image holds of the event log what one held before, at each moment and at the end, and it reads as it did
 pub record LinesRest (r : Reading) (old new : DiskView) : Type 0 where
   pub moments : Jointly (LinesAsBefore r (IsCrashImage old)) old new
   pub now : LinesAsBefore r (IsCrashImage old) (IsCrashImage new)
-  pub reads : (text : List ℕ) → r.lines old.reads text → r.lines new.reads text
+  pub reads : SameLines r old.reads new.reads

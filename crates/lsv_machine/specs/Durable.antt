@@ -7,11 +7,11 @@ use Rattle.lsv_machine.specs.Failures.{Act}
 use Rattle.lsv_machine.specs.History.{Ledger, ledger}
 use Rattle.lsv_machine.specs.Turns.{Happened, all_acted}
 
--- what is read of a log: nothing, where it is absent, or the log as it is stored. Of a damaged one nothing can be told
+-- what is recovered of a log: nothing, where it is absent, or the log as it is stored
 abbrev pub Recovered : Type 0
 Recovered = Option Stored
 
--- how images are read: of each log what is recovered, and whether no file of it is there; the last number that was drawn in the lane, 0 where none was;
+-- how images are read: of each log what is recovered, which is neither where the log is damaged, and whether no file of it is there; the last number that was drawn in the lane, 0 where none was;
 -- and the text of the lane's event log
 pub record Reading : Type 1 where
   pub replays : Image → ℕ → Recovered → Type 0

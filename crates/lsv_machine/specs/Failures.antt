@@ -1,5 +1,5 @@
--- What else a job may do: end its connection for want of memory or by a failed device. What a step of the machine is.
-use Rattle.std.specs.Prelude.{◌≡◌, ◌≤◌, ◌<◌, ◌+◌, ◌*◌, ◌⊎◌, ℕ, min, Bool, true, false, List, [], ◌∷◌, take, Option, Some, None, Contains, Result, Ok, Err}
+-- What else a job may do than the table says, for want of memory or where a device failed. What a step of the machine is.
+use Rattle.std.specs.Prelude.{◌≡◌, ◌≤◌, ◌<◌, ◌+◌, ◌*◌, ◌^◌, ◌⊎◌, ℕ, min, Bool, true, false, List, [], ◌∷◌, take, Option, Some, None, Contains, Result, Ok, Err}
 use Rattle.lsv_base.specs.declared.time.TimeSpec.{TimeSpec}
 use Rattle.lsv_disk.specs.declared.file.Owner.{Owner}
 use Rattle.lsv_disk.specs.declared.file.Owner.TheVariants.{Log, Events, Numbers, Relay}
@@ -20,7 +20,7 @@ use Rattle.lsv_session.specs.declared.job.Job.{Job}
 use Rattle.lsv_machine.specs.Answers.{Answer, Shut, say, refusal}
 use Rattle.lsv_machine.specs.Judgement.{judged, fault_refusal}
 use Rattle.lsv_machine.specs.Machine.{LogState, LogState.There, Machine, Settings, is_dead, leaves, log_of, with_log}
-use Rattle.lsv_machine.specs.Work.{draws, empty_log, has_line, last_number, makes, next_number, opens, plain, with_exit}
+use Rattle.lsv_machine.specs.Work.{draws, empty_log, fits_file, has_line, last_number, makes, next_number, opens, plain, with_exit}
 
 -- a job with its answers in order, the owners whose files failed in it, whether the log of a refused restart failed inside its cut, the event
 -- line that it left, and the moment of its turn
@@ -61,8 +61,9 @@ pub record LosesTail (old new : LogState) : Type 0 where
 abbrev pub Closes : List Owner → ℕ → LogState → LogState → Type 0
 Closes failed n old new = (new ≡ old) ⊎ (Contains failed (Log n) × LosesTail old new)
 
--- an exit that was set, and not told
+-- a log that was there has this exit now, and no more is promised of it
 pub record IsSet (exit : List ℕ) (old new : LogState) : Type 0 where
+  pub fits : fits_file exit ≡ true
   pub stored : Stored
   pub promised : ℕ
   pub was : old ≡ There stored promised
@@ -79,7 +80,7 @@ pub record FailsInCut (point : ℕ) (old new : LogState) : Type 0 where
   pub left : ℕ
   pub enough : min promised kept ≤ left
   pub cuts : ℕ
-  pub counted : (cuts ≡ stored.cuts) ⊎ (cuts ≡ stored.cuts + 1)
+  pub counted : (cuts ≡ stored.cuts) ⊎ ((cuts ≡ stored.cuts + 1) × (cuts < 2 ^ 63))
   pub now : new ≡ There (record stored { records = take left stored.records; cuts = cuts }) (min promised kept)
 
 -- ---- Jobs that end otherwise
@@ -104,7 +105,7 @@ pub record Makes (set : Settings) (s : ConnState) (asked : Result Request Refusa
   pub drawn : MayDraw set old number
   pub within : number ≤ last_number
   pub log : LogState
-  pub made : (log ≡ old.logs number) ⊎ (log ≡ There (empty_log (head_text accept.head)) 0)
+  pub made : (log ≡ old.logs number) ⊎ ((fits_file (head_text accept.head) ≡ true) × (log ≡ There (empty_log (head_text accept.head)) 0))
   pub now : new ≡ with_log number log (draws number old)
 
 -- whether an accept that opens a log is asked for
@@ -124,6 +125,7 @@ pub record HasMade (set : Settings) (accept : Accept) (old new : Machine) : Type
   pub number : ℕ
   pub drawn : MayDraw set old number
   pub within : number ≤ last_number
+  pub fits : fits_file (head_text accept.head) ≡ true
   pub now : new ≡ makes number (head_text accept.head) old
 
 -- an exit was set, where the connection has a log, when its event line met a fault
@@ -228,7 +230,7 @@ pub record Plainly (set : Settings) (old : Machine) (act : Act) (new : Machine) 
   pub unmarked : act.in_cut ≡ false
   pub now : new ≡ (plain set act.now act.job number old).machine
 
--- a job that ends its connection otherwise. It left no line, and is marked where it failed inside a cut
+-- a job that does otherwise than the table says. It left no line, and is marked where it failed inside a cut
 pub record Deviates (set : Settings) (old : Machine) (act : Act) (new : Machine) : Type 0 where
   pub alive : is_dead (old.states act.job.conn) ≡ false
   pub no_line : act.line ≡ []

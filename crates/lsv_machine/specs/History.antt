@@ -21,7 +21,7 @@ use Rattle.lsv_machine.specs.Turns.{Happened, Happened.Did, Happened.Tailed, Hap
 pub record Ledger : Type 0 where
   -- the texts of the run
   pub texts : List (List ℕ)
-  -- whether a Shut went to a connection since its last Gone and the run's start
+  -- whether a Shut went to a connection since the later of its last Gone and the run's start
   pub shut : ConnId → Bool
   -- who writes the log
   pub writers : List ConnId
@@ -35,7 +35,7 @@ pub record Ledger : Type 0 where
   pub promised : Option ℕ
   -- the last exit of a writer
   pub exit : Option (List ℕ)
-  -- whether a commit point has answered an exit since
+  -- whether a commit point has answered an exit since the log's number was answered
   pub finished : Bool
 
 -- before anything
@@ -59,7 +59,7 @@ is_log_id n Shut = false
 abbrev pub tells_log : ℕ → List Answer → Bool
 tells_log n answers = list_any (λ a. is_log_id n a.says) answers
 
--- where there is a number of promised records, it is this one
+-- if any number of records is promised, it becomes this one
 abbrev pub becomes : Option ℕ → ℕ → Option ℕ
 becomes None n = None
 becomes (Some promised) n = Some n
@@ -99,7 +99,7 @@ restarted_by k point answers in_cut l =
 abbrev pub sent_one : Record → Ledger → Ledger
 sent_one r l = record l { sent = l.sent ++ r ∷ []; shown = l.shown ++ covered l.texts l.shown r ∷ [] }
 
--- what is asked, by its answers
+-- what a request changes, by how it was answered
 abbrev pub asked : ℕ → ConnId → Result Request Refusal → List Answer → Bool → Ledger → Ledger
 asked n k (Ok (request.Accept accept)) answers in_cut l = if tells_log n answers then opened_by k (head_text accept.head) l else l
 asked n k (Ok (request.Restart restart)) answers in_cut l = if restart.log == n then restarted_by k restart.point answers in_cut l else l
@@ -150,7 +150,7 @@ abbrev pub reopened : ConnId → Bool → Ledger → Ledger
 reopened k true l = record l { shut = λ j. if same j k then false else l.shut j }
 reopened k false l = l
 
--- a job: what it asks, what is told, and whether it went
+-- what a job changes: by its request, by what is told, and where the connection went
 abbrev pub answered : ℕ → ConnId → Body → List Answer → Bool → Ledger → Ledger
 answered n k body answers in_cut l = reopened k (is_gone body) (heard_all (is_exit (request_in body)) answers (asked n k (request_in body) answers in_cut l))
 

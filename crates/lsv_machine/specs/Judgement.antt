@@ -41,12 +41,12 @@ allows (client.Winsize m) = row false false   false   false   true
 allows (client.Suspend m) = row false false   false   false   true
 allows (client.Exit m)    = row false false   false   true    true
 
--- an accept that opens a session has its keys
+-- a judgement passed on, but that an accept that opens a session is refused where keys are missing
 abbrev pub with_keys : ConnState → Result Request Refusal → Result Request Refusal
 with_keys s (Ok (request.Accept accept)) = if is_running s || has_keys accept.head.info then Ok (request.Accept accept) else Err MissingKey
 with_keys s asked = asked
 
--- what a message asks of a session in this state, or the first refusal: its state, then its time, then its size, signal or identifier, then its keys
+-- what a message asks of a session in this state, or the first refusal: by its state, then its time, then its size, signal, amount of data or identifier, then its keys
 abbrev pub judged : ConnState → ClientMessage → Result Request Refusal
 judged s m = if allows m s then with_keys s (request_of m) else Err UnexpectedMessage
 
@@ -55,7 +55,7 @@ abbrev pub malformed : MsgFault → Refusal
 malformed message_faults.NoMem = OutOfMemory
 malformed fault = MalformedMessage
 
--- why a connection is refused from which no message comes
+-- why a connection is refused whose bytes go on as no message
 abbrev pub fault_refusal : Fault → Refusal
 fault_refusal (faults.Malformed fault) = malformed fault
 fault_refusal (faults.TooLarge size) = MessageTooLarge

@@ -10,7 +10,7 @@ use Rattle.lsv_session.specs.declared.job.Job.{Job}
 use Rattle.lsv_session.specs.declared.reply.Reply.{Reply}
 use Rattle.lsv_machine.specs.Answers.{reply_of}
 use Rattle.lsv_machine.specs.Counts.{Counts}
-use Rattle.lsv_machine.specs.Disks.{AllGood, AllWithin, AsBefore, GoodOr, KeepsNumbers, LinesAsBeforeOr, LinesRest, Rests}
+use Rattle.lsv_machine.specs.Disks.{AllGood, AllWithin, AsBefore, GoodOr, KeepsNumbers, NumbersFit, LinesAsBeforeOr, LinesRest, Rests}
 use Rattle.lsv_machine.specs.Durable.{GoodAt, Reading}
 use Rattle.lsv_machine.specs.Failures.{Act, Step}
 use Rattle.lsv_machine.specs.History.{Ledger, ledger, noted, settled, settles}
@@ -53,7 +53,7 @@ pub record Ended (r : Reading) (set : Settings) (tail : Tail) (Ends : Machine �
       → Jointly (AsBefore r n (IsCrashImage old)) old new × Rests r n old new
   pub numbers : KeepsNumbers r set.lane set.lanes old new
 
--- the event lines of the turn are flushed: at each moment the event log is as before or has them, and at the end it has them, unless it failed; and then it reads as the machine says
+-- the event lines of the turn are flushed: at each moment the event log is as before or has them, and at the end it has them, unless it failed; and in each case it reads as the machine says
 pub record LinesFlushed (r : Reading) (set : Settings) (tail : Tail) (m after : Machine) (old new : DiskView) : Type 0 where
   pub moments : Jointly (LinesAsBeforeOr r (IsCrashImage old) (m.lines ++ m.fresh)) old new
   pub now : (Contains tail.failed (Events set.lane) × LinesAsBeforeOr r (IsCrashImage old) (m.lines ++ m.fresh) (IsCrashImage new))
@@ -118,11 +118,11 @@ pub record Turned (r : Reading) (set : Settings) (now : TimeSpec) (jobs : List J
 
 -- ---- Opening
 
--- the store was opened, or that failed: no log and no line is touched but by syncs
+-- the store was opened, or that failed: each log and the event log are as some image had them, at each moment, and read as they did
 pub record OpensStore (r : Reading) (lane lanes : ℕ) (found new : DiskView) : Type 0 where
   pub monotone : (file : FileId) → found.faults file ≤ new.faults file
   pub logs : (n : ℕ) → Jointly (AsBefore r n (IsCrashImage found)) found new × Rests r n found new
-  pub numbers : KeepsNumbers r lane lanes found new
+  pub numbers : NumbersFit r lane lanes (IsCrashImage found) → KeepsNumbers r lane lanes found new
   pub lines : LinesRest r found new
 
 -- the store was opened, and the machine is what the disk reads as

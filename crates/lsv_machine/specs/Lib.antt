@@ -11,6 +11,7 @@ pub mod Durable
 pub mod Starts
 pub mod Stands
 pub mod Silence
+pub mod Resuming
 pub mod Disks
 pub mod Keeping
 pub mod Recovery

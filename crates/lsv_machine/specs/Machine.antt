@@ -1,5 +1,5 @@
--- The session machine of one lane: what it knows at a moment. A log is its head, its records and its exit, each as it is stored; no file,
--- no length and no buffer is spoken of.
+-- The session machine of one lane: what it knows at a moment. A log is its head, its records, its exit and the number of its cuts,
+-- as it is stored; no file, no length and no buffer is spoken of.
 use Rattle.std.specs.Prelude.{ℕ, ◌+◌, ◌*◌, ◌≡◌, ◌==◌, ◌&&◌, nat_lt, Bool, true, false, if◌then◌else◌, List, [], ◌∷◌, Option, Some, None}
 use Rattle.lsv_base.specs.declared.time.TimeSpec.{TimeSpec}
 use Rattle.lsv_record.specs.Points.{Stored}
@@ -10,13 +10,13 @@ use Rattle.lsv_session.specs.declared.connection.ConnState.TheVariants.{Fresh, G
 
 -- ---- What is known
 
--- a log: absent, not what was written, or there, with so many of its records promised
+-- a log: absent; damaged; or there, with so many of its records promised
 pub data LogState : Type 0 where
   Absent : LogState
   Damaged : LogState
   There : (stored : Stored) (promised : ℕ) → LogState
 
--- what a lane's machine knows
+-- what a lane's machine knows: of the logs, of the connections and of the number file, and what this turn has left to its end
 pub record Machine : Type 0 where
   -- the prompts behind which what is typed is masked in this run
   pub texts : List (List ℕ)
@@ -32,9 +32,9 @@ pub record Machine : Type 0 where
   pub failed_draws : ℕ
   -- the logs that took a record in this turn from the connection that writes them, rising
   pub waiting : List ℕ
-  -- the text of the event log
+  -- the text of the event log: its lines, one behind the other
   pub lines : List ℕ
-  -- the event lines of this turn
+  -- the text of this turn's event lines, which are not in the event log yet
   pub fresh : List ℕ
   -- who had an event line in this turn after its last Gone, in the order of their first such lines
   pub noting : List ConnId
@@ -122,12 +122,12 @@ with_log n log m = record m { logs = λ i. if i == n then log else m.logs i }
 abbrev pub with_owner : ℕ → Option ConnId → Machine → Machine
 with_owner n o m = record m { owner = λ i. if i == n then o else m.owner i }
 
--- whether this is the log, if there is one
+-- whether a number is that of the log, if there is one
 abbrev pub is_log : Option ℕ → ℕ → Bool
 is_log None i = false
 is_log (Some n) i = i == n
 
--- the machine where nobody writes this log, if there is one
+-- the machine where nobody writes this log, if there is one, and it waits for no commit point
 abbrev pub let_go : Option ℕ → Machine → Machine
 let_go log m = record m { owner = λ i. if is_log log i then None else m.owner i; waiting = without_log log m.waiting }
 

@@ -22,7 +22,7 @@ pub record StartsAs (set : Settings) (texts : List (List ℕ)) (m : Machine) : T
   pub no_line : m.fresh ≡ []
   pub nobody_noted : m.noting ≡ []
 
--- a log of the machine is what is read of it; it is damaged where that is nothing that was written
+-- a log of the machine is what is recovered of it; it is damaged where nothing can be recovered
 abbrev pub ReadsAs : (Recovered → Type 0) → LogState → Type 0
 ReadsAs reads Absent = reads None
 ReadsAs reads Damaged = (found : Recovered) → reads found → ⊥
@@ -34,7 +34,7 @@ GoodState l Absent = GoodLog l None
 GoodState l Damaged = ⊥
 GoodState l (There stored promised) = GoodLog l (Some stored)
 
--- a history in which the last run began with log n good for what happened before it. Before the first run nothing happened
+-- the machine at the end of a history, of which the last run began with log n good for what happened before it
 pub record Continues (set : Settings) (n : ℕ) (history : List Happened) (end : Machine) : Type 0 where
   pub before : List Happened
   pub texts : List (List ℕ)

@@ -1,5 +1,5 @@
 -- What a job does where no device fails and memory is ample: the table of the session's rules, by cases.
-use Rattle.std.specs.Prelude.{ℕ, ◌+◌, ◌^◌, ◌==◌, ◌&&◌, ◌||◌, not, nat_lt, nat_le, Bool, true, false, if◌then◌else◌, List, [], ◌∷◌, ◌++◌, length, take, Option, Some, None, is_some, Result, Ok, Err}
+use Rattle.std.specs.Prelude.{ℕ, ◌+◌, ◌-◌, ◌^◌, ◌==◌, ◌&&◌, ◌||◌, not, nat_lt, nat_le, Bool, true, false, if◌then◌else◌, List, [], ◌∷◌, ◌++◌, length, take, Option, Some, None, is_some, Result, Ok, Err}
 use Rattle.lsv_base.specs.declared.time.TimeSpec.{TimeSpec}
 use Rattle.lsv_info.specs.Layout.{head_text, exit_text}
 use Rattle.lsv_mask.specs.Masking.{covered}
@@ -57,7 +57,7 @@ takes stored r = nat_lt (elapsed stored.records + delay_of r) (2 ^ 63) && files_
 
 -- the last log number that has six digits: 36 ^ 6 - 1
 abbrev pub last_number : ℕ
-last_number = 2176782335
+last_number = 36 ^ 6 - 1
 
 -- ---- An accept
 
@@ -73,7 +73,7 @@ draws n m = record m { last = n; failed_draws = 0 }
 abbrev pub makes : ℕ → List ℕ → Machine → Machine
 makes n head m = with_log n (There (empty_log head) 0) (draws n m)
 
--- a log of this head is made, and the connection writes it
+-- a log of this head is made, and the connection writes it; or the numbers are spent, or the head doesn't fit its file
 abbrev pub opened : ConnId → List ℕ → ℕ → Machine → Done
 opened k head n m =
     if nat_lt last_number n then refused k NumbersSpent m
@@ -82,19 +82,23 @@ opened k head n m =
 
 -- ---- A restart
 
--- one more than the cuts so far, where this one drops a record
-abbrev pub cuts_with : ℕ → Stored → ℕ
-cuts_with kept stored = if nat_lt kept (length stored.records) then stored.cuts + 1 else stored.cuts
+-- whether a cut drops a record
+abbrev pub drops : ℕ → Stored → Bool
+drops kept stored = nat_lt kept (length stored.records)
 
--- a log cut to its first records
+-- a log cut to its first records: a cut that drops one is counted
 abbrev pub cut_to : ℕ → Stored → Stored
-cut_to kept stored = record stored { records = take kept stored.records; cuts = cuts_with kept stored }
+cut_to kept stored = record stored { records = take kept stored.records; cuts = if drops kept stored then stored.cuts + 1 else stored.cuts }
 
--- the connection writes a log from its first records on: a cut that can't be counted is refused
+-- a cut that drops no record, or can be counted: the number of cuts stays below 2 ^ 63
+abbrev pub can_cut : ℕ → Stored → Bool
+can_cut kept stored = not (drops kept stored) || nat_lt (stored.cuts + 1) (2 ^ 63)
+
+-- the log is cut to its first records, and the connection writes it; or no record ends at the point, or the cut can't be counted
 abbrev pub resumed : ConnId → ℕ → Stored → Option ℕ → Machine → Done
 resumed k n stored None m = refused k NoSuchResumePoint m
 resumed k n stored (Some kept) m =
-    if nat_lt (cuts_with kept stored) (2 ^ 63) then silently (with_state k (Running (Some n)) (with_owner n (Some k) (with_log n (There (cut_to kept stored) kept) m)))
+    if can_cut kept stored then silently (with_state k (Running (Some n)) (with_owner n (Some k) (with_log n (There (cut_to kept stored) kept) m)))
     else refused k LogFull m
 
 -- a log that nobody writes is asked for
@@ -117,7 +121,7 @@ with_record r stored = record stored { records = stored.records ++ r ∷ [] }
 abbrev pub waits : ℕ → Machine → Machine
 waits n m = record m { waiting = insert_once n m.waiting }
 
--- a record goes to the end of a log, as it is masked behind the others
+-- a record goes to the end of a log, masked as it is behind the others; or the log doesn't take it
 abbrev pub taken : ConnId → ℕ → Record → LogState → Machine → Done
 taken k n r (There stored promised) m =
     if takes stored r then silently (waits n (with_log n (There (with_record (covered m.texts stored.records r) stored) promised) m)) else refused k LogFull m
@@ -135,7 +139,7 @@ recorded k (Some n) r m = taken k n r (m.logs n) m
 abbrev pub with_exit : List ℕ → Stored → Stored
 with_exit exit stored = record stored { exit = Some exit }
 
--- a log ends: all its records are promised by the commit point
+-- a log ends, and all its records are promised by the commit point; or the exit doesn't fit its file
 abbrev pub finished : ConnId → ℕ → List ℕ → LogState → Machine → Done
 finished k n exit (There stored promised) m =
     if fits_file exit then ends k (say k (CommitPoint (elapsed stored.records)) ∷ say k Shut ∷ []) (with_log n (There (with_exit exit stored) (length stored.records)) m)
