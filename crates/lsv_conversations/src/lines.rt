@@ -2,7 +2,7 @@
 
 use anyhow::{Result, anyhow};
 use lsv_base::{Bytes, List};
-use lsv_model::Settings;
+use lsv_model::RunSettings;
 use lsv_msg::{MsgFault, decode_client};
 use lsv_session::{Body, ConnId, Fault, Job};
 use std::alloc::Global;
@@ -21,8 +21,8 @@ fn number_behind(words: &str, name: &str) -> Result<u32> {
 }
 
 /// The lane of a conversation, and the number of lanes.
-pub fn settings_of(words: &str) -> Result<Settings> {
-    Ok(Settings {
+pub fn settings_of(words: &str) -> Result<RunSettings> {
+    Ok(RunSettings {
         lane: number_behind(words, "lane")?,
         lanes: number_behind(words, "lanes")?,
         log_exit: true,

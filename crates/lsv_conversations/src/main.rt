@@ -10,7 +10,7 @@ use crate::lines::{conn_of, job_of, settings_of, texts_of};
 use crate::show::{show_logs, show_reply};
 use anyhow::{Result, anyhow};
 use lsv_base::{Bytes, List, LogNo, NoMem, TimeSpec};
-use lsv_model::{EventLines, Model, Settings};
+use lsv_model::{EventLines, Model, RunSettings};
 use lsv_request::Request;
 use lsv_session::{ConnId, Job};
 use std::alloc::Global;
@@ -37,7 +37,7 @@ impl EventLines for NoLines {
 /// A conversation that goes on.
 #[derive(Drop)]
 struct Conversation {
-    settings: Settings,
+    settings: RunSettings,
     has_prompts: bool,
     model: Model,
     jobs: Vec<Job>,

@@ -37,7 +37,7 @@ fn show_log(rt: &HostRuntime, log: &Log) -> Result<()> {
     let digits = log.number.digits();
     let number = str::from_utf8(&digits).map_err(|_| anyhow!("digits"))?;
     let count = log.records.as_slice().len();
-    let elapsed = log.records.elapsed().nanos();
+    let elapsed = log.records.elapsed();
     let cuts = log.cuts;
     let end = if log.exit.is_some() { "exit" } else { "open" };
     println!(rt; "log {number} {count} {elapsed} {cuts} {end}")?;
@@ -52,7 +52,7 @@ fn show_log(rt: &HostRuntime, log: &Log) -> Result<()> {
 
 /// Prints the logs, in the order of their numbers.
 pub fn show_logs(rt: &HostRuntime, model: &Model) -> Result<()> {
-    for log in model.logs.as_slice() {
+    for log in model.logs() {
         show_log(rt, log)?;
     }
     Ok(())

@@ -1,4 +1,8 @@
-use lsv_base::NoMem;
+ghost use Rattle.std.specs.Prelude.{◌≡◌, if◌then◌else◌, OnOk};
+ghost use Rattle.lsv_machine.specs.Machine.{is_running, log_of, same};
+ghost use Rattle.lsv_model.specs.Views.{connection_place, state_in};
+
+use lsv_base::{LogNo, NoMem};
 use lsv_session::{ConnId, ConnState};
 
 /// What a connection is doing.
@@ -8,14 +12,33 @@ pub struct Connection {
     pub state: ConnState,
 }
 
-/// What this connection is doing: `Fresh` where it isn't known.
-pub fn state_of(connections: &[Connection], id: ConnId) -> ConnState {
-    for connection in connections {
-        if connection.id == id {
-            return connection.state;
+/// Whether two connections are one.
+fn same(a: ConnId, b: ConnId) -> bool
+    ensures { result ≡ same a b }
+{
+    a.worker == b.worker && a.seq == b.seq
+}
+
+/// The place of a connection.
+fn place_of(connections: &[Connection], id: ConnId) -> Option<usize>
+    ensures { result ≡ connection_place connections.now id }
+{
+    for (place, connection) in connections.iter().enumerate() {
+        if same(id, connection.id) {
+            return Some(place);
         }
     }
-    ConnState::Fresh
+    None
+}
+
+/// What this connection is doing: `Fresh` where it isn't known.
+pub fn state_of(connections: &[Connection], id: ConnId) -> ConnState
+    ensures { result ≡ state_in connections.now id }
+{
+    match place_of(connections, id) {
+        Some(place) => connections[place].state,
+        None => ConnState::Fresh,
+    }
 }
 
 /// Puts this connection into a state.
@@ -23,19 +46,20 @@ pub fn put_state(
     connections: &mut Vec<Connection>,
     id: ConnId,
     state: ConnState,
-) -> Result<(), NoMem> {
-    for connection in connections.iter_mut() {
-        if connection.id == id {
-            connection.state = state;
-            return Ok(());
-        }
+) -> Result<(), NoMem>
+    ensures { OnOk result (state_in connections.new.items ≡ (λ j. if same j id then state else state_in connections.old.items j)) }
+{
+    match place_of(connections, id) {
+        Some(place) => connections[place] = Connection { id, state },
+        None => connections.push(Connection { id, state })?,
     }
-    connections.push(Connection { id, state })?;
     Ok(())
 }
 
 /// The log that a connection in this state writes.
-pub fn log_of(state: ConnState) -> Option<lsv_base::LogNo> {
+pub fn log_of(state: ConnState) -> Option<LogNo>
+    ensures { result ≡ log_of state }
+{
     match state {
         ConnState::Running(log) => log,
         _ => None,
@@ -43,9 +67,8 @@ pub fn log_of(state: ConnState) -> Option<lsv_base::LogNo> {
 }
 
 /// Whether a session runs.
-pub fn is_running(state: ConnState) -> bool {
-    match state {
-        ConnState::Running(_) => true,
-        _ => false,
-    }
+pub fn is_running(state: ConnState) -> bool
+    ensures { result ≡ is_running state }
+{
+    matches!(state, ConnState::Running(_))
 }

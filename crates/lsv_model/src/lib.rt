@@ -18,4 +18,4 @@ mod work;
 pub use logs::Log;
 pub use model::Model;
 pub use records::Records;
-pub use settings::{EventLines, Settings};
+pub use settings::{EventLines, RunSettings};

@@ -1,20 +1,34 @@
+ghost use Rattle.std.specs.Prelude.{◌≡◌, ◌+◌, ◌<◌, ◌^◌, IfOk, SomeIff, IsTrue};
+ghost use Rattle.lsv_machine.specs.Work.{files_take, fits_file, takes};
+ghost use Rattle.lsv_mask.specs.Masking.{covered};
+ghost use Rattle.lsv_model.specs.Views.{bare};
+ghost use Rattle.lsv_record.specs.Layout.{IsLayout};
+ghost use Rattle.lsv_record.specs.Records.{delay_of, elapsed};
+ghost use Rattle.lsv_record.specs.declared.records.Record.{Record};
+
 use crate::Records;
-use lsv_base::{NoMem, Point};
+use lsv_base::{Bytes, List, NoMem};
 use lsv_mask::{Mask, Prompt, TextSearch};
-use lsv_base::{Bytes, List};
 use lsv_record::{Laid, Record, lay};
 use std::alloc::Global;
 
 /// A file has no more bytes.
-const LONGEST_FILE: usize = 1 << 40;
+const LONGEST_FILE: usize = 1_099_511_627_776;
+
+/// No elapsed time reaches this, in nanoseconds: 2^63.
+const TIME_LIMIT: u64 = 9_223_372_036_854_775_808;
 
 /// Whether a file takes this text.
-pub fn fits_file(text: &Bytes) -> bool {
+pub fn fits_file(text: &Bytes) -> bool
+    ensures { result ≡ fits_file text.now }
+{
     text.as_slice().len() <= LONGEST_FILE
 }
 
 /// Whether the files of a log take this layout.
-fn files_take(l: &Laid) -> bool {
+fn files_take(l: &Laid) -> bool
+    ensures { (records : _) → IsLayout l.now records → result ≡ files_take records }
+{
     fits_file(&l.timing)
         && fits_file(&l.stdin)
         && fits_file(&l.stdout)
@@ -25,13 +39,23 @@ fn files_take(l: &Laid) -> bool {
 
 /// The point at which a record would end behind these. None where the elapsed time would reach 2^63 nanoseconds or a file
 /// of the log doesn't take it.
-pub fn end_with(alloc: Global, records: &Records, r: &Record) -> Result<Option<Point>, NoMem> {
-    let Some(end) = records.elapsed().plus(r.delay()) else {
+pub fn end_with(alloc: Global, records: &Records, r: &Record) -> Result<Option<u64>, NoMem>
+    ensures { IfOk result (λ found. SomeIff found (IsTrue (takes (bare records.now) r.now)) (elapsed records.now + delay_of r.now)) }
+{
+    let Some(end) = later(records.elapsed(), r.delay()) else {
         return Ok(None);
     };
     let mut laid = lay(alloc, records.as_slice())?;
     laid.add(r)?;
     Ok(if files_take(&laid) { Some(end) } else { None })
+}
+
+/// The point so many nanoseconds later. None where it reaches 2^63.
+fn later(point: u64, nanos: u64) -> Option<u64>
+    ensures { SomeIff result (point + nanos < 2 ^ 63) (point + nanos) }
+{
+    let later = point.checked_add(nanos)?;
+    if later < TIME_LIMIT { Some(later) } else { None }
 }
 
 /// A record as it is stored behind these.
@@ -40,7 +64,9 @@ pub fn covered(
     texts: &List<Bytes>,
     records: &[Record],
     r: Record,
-) -> Result<Record, NoMem> {
+) -> Result<Record, NoMem>
+    ensures { IfOk result (λ stored. stored ≡ covered texts.now records.now r) }
+{
     let prompt = Prompt::new(TextSearch);
     let mut mask = Mask::new(alloc, texts)?;
     for stored in records {

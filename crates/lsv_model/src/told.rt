@@ -1,4 +1,10 @@
-use lsv_base::{Bytes, LogNo, NoMem, Point};
+ghost use Rattle.std.specs.Prelude.{◌≡◌, [], ◌∷◌, ◌++◌, Bool, true, false, map, OnOk, IfOk};
+ghost use Rattle.lsv_machine.specs.Answers.{reply_of};
+ghost use Rattle.lsv_model.specs.Gives.{answers_of};
+ghost use Rattle.lsv_session.specs.declared.reply.ReplyBody.TheVariants as body;
+
+use crate::points::time_of;
+use lsv_base::{Bytes, LogNo, NoMem};
 use lsv_msg::ServerMessage;
 use lsv_request::Refusal;
 use lsv_session::{ConnId, Reply, ReplyBody};
@@ -12,8 +18,8 @@ pub enum Told {
     Log(LogNo),
     /// The session is refused, and shut.
     Refused(Refusal),
-    /// A log ended at this point, and the session with it.
-    Finished(Point),
+    /// A log ended at this point, in nanoseconds, and the session with it.
+    Finished(u64),
     /// The session ended.
     Shut,
     /// The connection went.
@@ -21,7 +27,9 @@ pub enum Told {
 }
 
 /// The reply that says this to a connection.
-pub fn say(conn: ConnId, message: ServerMessage) -> Reply {
+pub fn say(conn: ConnId, message: ServerMessage) -> Reply
+    ensures { result ≡ record { conn = conn; body = body.Say message; last = false } }
+{
     Reply {
         conn,
         body: ReplyBody::Say(message),
@@ -30,7 +38,9 @@ pub fn say(conn: ConnId, message: ServerMessage) -> Reply {
 }
 
 /// The reply that ends what is said to a connection.
-fn shut(conn: ConnId, last: bool) -> Reply {
+fn shut(conn: ConnId, last: bool) -> Reply
+    ensures { result ≡ record { conn = conn; body = body.Shut; last = last } }
+{
     Reply {
         conn,
         body: ReplyBody::Shut,
@@ -44,7 +54,9 @@ pub fn put_replies(
     replies: &mut Vec<Reply>,
     conn: ConnId,
     told: Told,
-) -> Result<(), NoMem> {
+) -> Result<(), NoMem>
+    ensures { OnOk result (replies.new.items ≡ replies.old.items ++ map reply_of (answers_of conn told)) }
+{
     match told {
         Told::Nothing => (),
         Told::Log(log) => {
@@ -57,7 +69,7 @@ pub fn put_replies(
             replies.push(shut(conn, false))?;
         }
         Told::Finished(point) => {
-            replies.push(say(conn, ServerMessage::CommitPoint(point.spec())))?;
+            replies.push(say(conn, ServerMessage::CommitPoint(time_of(point))))?;
             replies.push(shut(conn, false))?;
         }
         Told::Shut => replies.push(shut(conn, false))?,
