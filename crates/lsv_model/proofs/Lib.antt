@@ -1,1 +1,3 @@
+pub mod RecordLemmas
 pub mod TableLemmas
+pub mod WaitingLemmas

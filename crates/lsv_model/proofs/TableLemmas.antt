@@ -55,10 +55,10 @@ module _ {E K V : Type 0} (eq : K → K → Bool) (key : E → K) (value : E →
 
   -- ---- What a change does
 
-  pub same_at : (xs : List E) (p : ℕ) (y : E) (j : K) → key y ≡ key (get_or xs p y) → value y ≡ value (get_or xs p y) → lookup eq key value none (set xs p y) j ≡ lookup eq key value none xs j
-  same_at [] p y j e f = refl
-  same_at (x ∷ xs) zero y j e f = rw (e, f) refl
-  same_at (x ∷ xs) (suc p) y j e f = ap (λ v. if eq j (key x) then value x else v) (same_at xs p y j e f)
+  pub same_at : (xs : List E) (p : ℕ) (y d : E) (j : K) → key y ≡ key (get_or xs p d) → value y ≡ value (get_or xs p d) → lookup eq key value none (set xs p y) j ≡ lookup eq key value none xs j
+  same_at [] p y d j e f = refl
+  same_at (x ∷ xs) zero y d j e f = rw (e, f) refl
+  same_at (x ∷ xs) (suc p) y d j e f = ap (λ v. if eq j (key x) then value x else v) (same_at xs p y d j e f)
 
   module _ (decides : (a b : K) → eq a b ≡ true → a ≡ b) where
     -- another key than that of the place doesn't count there
@@ -184,8 +184,8 @@ logs_push xs n log h e = ext (λ i. push_at number_eq (λ l. l.number) there Abs
 pub owners_push : (xs : List Log) (n : ℕ) (log : Log) → log_place xs n ≡ None → log.number ≡ n → owner_in (xs ++ log ∷ []) ≡ (λ i. if i == n then log.owner else owner_in xs i)
 owners_push xs n log h e = ext (λ i. push_at number_eq (λ l. l.number) (λ l. l.owner) None number_decides xs n log i h e)
 
-pub logs_same : (xs : List Log) (p : ℕ) (log : Log) → log.number ≡ (get_or xs p log).number → there log ≡ there (get_or xs p log) → logs_in (set xs p log) ≡ logs_in xs
-logs_same xs p log e f = ext (λ i. same_at number_eq (λ l. l.number) there Absent xs p log i e f)
+pub logs_same : (xs : List Log) (p : ℕ) (was log : Log) → was ≡ get_or xs p was → log.number ≡ was.number → there log ≡ there was → logs_in (set xs p log) ≡ logs_in xs
+logs_same xs p was log r e f = ext (λ i. same_at number_eq (λ l. l.number) there Absent xs p log was i (e ∙ ap (λ (l : Log). l.number) r) (f ∙ ap there r))
 
-pub owners_same : (xs : List Log) (p : ℕ) (log : Log) → log.number ≡ (get_or xs p log).number → log.owner ≡ (get_or xs p log).owner → owner_in (set xs p log) ≡ owner_in xs
-owners_same xs p log e f = ext (λ i. same_at number_eq (λ l. l.number) (λ l. l.owner) None xs p log i e f)
+pub owners_same : (xs : List Log) (p : ℕ) (was log : Log) → was ≡ get_or xs p was → log.number ≡ was.number → log.owner ≡ was.owner → owner_in (set xs p log) ≡ owner_in xs
+owners_same xs p was log r e f = ext (λ i. same_at number_eq (λ l. l.number) (λ l. l.owner) None xs p log was i (e ∙ ap (λ (l : Log). l.number) r) (f ∙ ap (λ (l : Log). l.owner) r))

@@ -1,13 +1,16 @@
 -- What the machine in memory stands for.
-use Rattle.std.specs.Prelude.{◌≡◌, ℕ, ◌==◌, List, [], Option, Some, None}
+use Rattle.std.specs.Prelude.{◌≡◌, ℕ, Bool, ◌&&◌, ◌==◌, nat_lt, if◌then◌else◌, List, [], Option, Some, None}
 use Rattle.lsv_base.specs.declared.time.TimeSpec.{TimeSpec}
 use Rattle.lsv_record.specs.Points.{Stored}
+use Rattle.lsv_record.specs.declared.laid.Laid.{Laid}
 use Rattle.lsv_record.specs.declared.records.Record.{Record}
 use Rattle.lsv_request.specs.declared.request.Request.{Request}
+use Rattle.lsv_request.specs.declared.request.Request.TheVariants as request
 use Rattle.lsv_session.specs.declared.connection.ConnId.{ConnId}
 use Rattle.lsv_session.specs.declared.connection.ConnState.{ConnState}
 use Rattle.lsv_session.specs.declared.connection.ConnState.TheVariants.{Fresh}
 use Rattle.lsv_machine.specs.Machine.{LogState, LogState.Absent, LogState.There, Machine, Settings, same}
+use Rattle.lsv_machine.specs.Work.{fits_file, last_number, next_number}
 use Rattle.lsv_model.specs.declared.connections.Connection.{Connection}
 use Rattle.lsv_model.specs.declared.logs.Log.{Log}
 use Rattle.lsv_model.specs.declared.model.Model.{Model}
@@ -73,3 +76,26 @@ bare records = record { head = []; records = records; exit = None; cuts = 0 }
 -- a log of this number is there
 abbrev pub HasLog : Model → ℕ → Type 0
 HasLog m n = (i : ℕ) × (log_place m.logs.items n ≡ Some i)
+
+-- the number that the next accept draws, where all weren't given
+abbrev pub next_of : RunSettings → Machine → ℕ
+next_of set m = next_number (settings_of set (λ now k asked log. [])) m
+
+abbrev pub drawn : RunSettings → Machine → Option ℕ
+drawn set m = if nat_lt last_number (next_of set m) then None else Some (next_of set m)
+
+-- a request that has no event line has none
+abbrev pub IsLineOf : Request → Option (List ℕ) → Type 0
+IsLineOf request.Hello line = line ≡ None
+IsLineOf (request.Restart restart) line = line ≡ None
+IsLineOf (request.Record r) line = line ≡ None
+IsLineOf (request.Accept accept) line = Unit {0}
+IsLineOf (request.Reject report) line = Unit {0}
+IsLineOf (request.Alert report) line = Unit {0}
+IsLineOf (request.Exit exit) line = Unit {0}
+
+-- the files of a log take this layout
+abbrev pub fits_files : Laid → Bool
+fits_files l =
+    fits_file l.timing && fits_file l.stdin && fits_file l.stdout && fits_file l.stderr
+    && fits_file l.ttyin && fits_file l.ttyout

@@ -1,4 +1,4 @@
-ghost use Rattle.std.specs.Prelude.{◌≡◌, if◌then◌else◌, OnOk};
+ghost use Rattle.std.specs.Prelude.{◌≡◌, ◌<◌, length, IfSome, if◌then◌else◌, OnOk};
 ghost use Rattle.lsv_machine.specs.Machine.{is_running, log_of, same};
 ghost use Rattle.lsv_model.specs.Views.{connection_place, state_in};
 
@@ -13,7 +13,7 @@ pub struct Connection {
 }
 
 /// Whether two connections are one.
-fn same(a: ConnId, b: ConnId) -> bool
+pub fn same(a: ConnId, b: ConnId) -> bool
     ensures { result ≡ same a b }
 {
     a.worker == b.worker && a.seq == b.seq
@@ -21,7 +21,8 @@ fn same(a: ConnId, b: ConnId) -> bool
 
 /// The place of a connection.
 fn place_of(connections: &[Connection], id: ConnId) -> Option<usize>
-    ensures { result ≡ connection_place connections.now id }
+    ensures place { result ≡ connection_place connections.now id }
+    ensures within { IfSome result (λ place. place < length connections.now) }
 {
     for (place, connection) in connections.iter().enumerate() {
         if same(id, connection.id) {
@@ -35,10 +36,12 @@ fn place_of(connections: &[Connection], id: ConnId) -> Option<usize>
 pub fn state_of(connections: &[Connection], id: ConnId) -> ConnState
     ensures { result ≡ state_in connections.now id }
 {
-    match place_of(connections, id) {
-        Some(place) => connections[place].state,
-        None => ConnState::Fresh,
+    for connection in connections {
+        if same(id, connection.id) {
+            return connection.state;
+        }
     }
+    ConnState::Fresh
 }
 
 /// Puts this connection into a state.

@@ -1,10 +1,8 @@
-ghost use Rattle.std.specs.Prelude.{◌≡◌, ◌+◌, ◌<◌, ◌^◌, IfOk, SomeIff, IsTrue};
+ghost use Rattle.std.specs.Prelude.{◌≡◌, ◌++◌, [], ◌∷◌, ◌+◌, ◌<◌, ◌^◌, IfOk, SomeIff, IsTrue};
 ghost use Rattle.lsv_machine.specs.Work.{files_take, fits_file, takes};
 ghost use Rattle.lsv_mask.specs.Masking.{covered};
-ghost use Rattle.lsv_model.specs.Views.{bare};
-ghost use Rattle.lsv_record.specs.Layout.{IsLayout};
+ghost use Rattle.lsv_model.specs.Views.{bare, fits_files};
 ghost use Rattle.lsv_record.specs.Records.{delay_of, elapsed};
-ghost use Rattle.lsv_record.specs.declared.records.Record.{Record};
 
 use crate::Records;
 use lsv_base::{Bytes, List, NoMem};
@@ -26,8 +24,8 @@ pub fn fits_file(text: &Bytes) -> bool
 }
 
 /// Whether the files of a log take this layout.
-fn files_take(l: &Laid) -> bool
-    ensures { (records : _) → IsLayout l.now records → result ≡ files_take records }
+fn fits_files(l: &Laid) -> bool
+    ensures { result ≡ fits_files l.now }
 {
     fits_file(&l.timing)
         && fits_file(&l.stdin)
@@ -45,9 +43,20 @@ pub fn end_with(alloc: Global, records: &Records, r: &Record) -> Result<Option<u
     let Some(end) = later(records.elapsed(), r.delay()) else {
         return Ok(None);
     };
-    let mut laid = lay(alloc, records.as_slice())?;
+    if files_take(alloc, records.as_slice(), r)? {
+        return Ok(Some(end));
+    }
+    Ok(None)
+}
+
+/// Whether the files of a log take one more record.
+#[tactic(auto, using(crate::proofs::RecordLemmas::layout_fits))]
+fn files_take(alloc: Global, records: &[Record], r: &Record) -> Result<bool, NoMem>
+    ensures { IfOk result (λ fits. fits ≡ files_take (records.now ++ r.now ∷ [])) }
+{
+    let mut laid = lay(alloc, records)?;
     laid.add(r)?;
-    Ok(if files_take(&laid) { Some(end) } else { None })
+    Ok(fits_files(&laid))
 }
 
 /// The point so many nanoseconds later. None where it reaches 2^63.

@@ -1,4 +1,4 @@
-ghost use Rattle.std.specs.Prelude.{◌≡◌, ◌<◌, ◌^◌, ◌+◌, ◌++◌, [], ◌∷◌, ℕ, ◌==◌, if◌then◌else◌, Option, Some, None, OnOk, slice_set, length};
+ghost use Rattle.std.specs.Prelude.{◌≡◌, ◌<◌, ◌^◌, ◌+◌, ◌++◌, [], ◌∷◌, ℕ, ◌==◌, if◌then◌else◌, Option, Some, None, OnOk, IfSome, length};
 ghost use Rattle.lsv_machine.specs.Work.{cut_to, with_exit, with_record};
 ghost use Rattle.lsv_model.specs.Views.{log_place, logs_in, owner_in, stored_of, there};
 ghost use Rattle.lsv_record.specs.Points.{first};
@@ -24,7 +24,8 @@ pub struct Log {
 
 /// The place of the log with this number.
 pub fn place_of(logs: &[Log], number: LogNo) -> Option<usize>
-    ensures { result ≡ log_place logs.now number }
+    ensures place { result ≡ log_place logs.now number }
+    ensures within { IfSome result (λ place. place < length logs.now) }
 {
     for (place, log) in logs.iter().enumerate() {
         if number == log.number {
@@ -38,8 +39,12 @@ pub fn place_of(logs: &[Log], number: LogNo) -> Option<usize>
 pub fn owner_of(logs: &[Log], number: LogNo) -> Option<ConnId>
     ensures { result ≡ owner_in logs.now number }
 {
-    let place = place_of(logs, number)?;
-    logs[place].owner
+    for log in logs {
+        if number == log.number {
+            return log.owner;
+        }
+    }
+    None
 }
 
 /// Puts a log in the place of that with its number, or at the end.

@@ -1,6 +1,7 @@
 ghost use Rattle.std.specs.Prelude.{◌≡◌, OnOk};
 ghost use Rattle.lsv_machine.specs.Machine.{insert_once, note, without, without_conn};
 
+use crate::connections::same;
 use lsv_base::{LogNo, NoMem};
 use lsv_session::ConnId;
 
@@ -8,37 +9,36 @@ use lsv_session::ConnId;
 pub fn insert_once(numbers: &mut Vec<LogNo>, number: LogNo) -> Result<(), NoMem>
     ensures { OnOk result (numbers.new.items ≡ insert_once number numbers.old.items) }
 {
-    let place = place_in(numbers, number);
-    if place == numbers.len() || numbers[place] != number {
-        numbers.insert(place, number)?;
-    }
-    Ok(())
-}
-
-/// The place of the first of these numbers that isn't below this one, or that behind the last.
-fn place_in(numbers: &[LogNo], number: LogNo) -> usize {
     for (place, other) in numbers.iter().enumerate() {
-        if number <= *other {
-            return place;
+        if number.get() == other.get() {
+            return Ok(());
+        }
+        if number.get() < other.get() {
+            numbers.insert(place, number)?;
+            return Ok(());
         }
     }
-    numbers.len()
+    numbers.push(number)?;
+    Ok(())
 }
 
 /// Takes a number away.
 pub fn remove(numbers: &mut Vec<LogNo>, number: LogNo)
     ensures { numbers.new.items ≡ without number numbers.old.items }
 {
-    numbers.retain(|other| *other != number);
+    numbers.retain(|other| number.get() != other.get());
 }
 
 /// Puts a connection at the end of others, once.
 pub fn note(conns: &mut Vec<ConnId>, conn: ConnId) -> Result<(), NoMem>
     ensures { OnOk result (conns.new.items ≡ note conn conns.old.items) }
 {
-    if !conns.contains(&conn) {
-        conns.push(conn)?;
+    for other in conns.iter() {
+        if same(*other, conn) {
+            return Ok(());
+        }
     }
+    conns.push(conn)?;
     Ok(())
 }
 
@@ -46,5 +46,5 @@ pub fn note(conns: &mut Vec<ConnId>, conn: ConnId) -> Result<(), NoMem>
 pub fn forget(conns: &mut Vec<ConnId>, conn: ConnId)
     ensures { conns.new.items ≡ without_conn conn conns.old.items }
 {
-    conns.retain(|other| *other != conn);
+    conns.retain(|other| !same(*other, conn));
 }

@@ -1,11 +1,11 @@
-ghost use Rattle.std.specs.Prelude.{◌≡◌, ◌≤◌, ◌∷◌, [], ℕ, if◌then◌else◌, Some, None, Ok, IfOk, OnOk, SomeIff, IsTrue};
+ghost use Rattle.std.specs.Prelude.{◌≡◌, ◌+◌, ◌^◌, nat_le, length, ◌∷◌, [], if◌then◌else◌, Some, None, Ok, IfOk, OnOk, SomeIff, IsTrue};
 ghost use Rattle.lsv_info.specs.Layout.{exit_text, head_text};
 ghost use Rattle.lsv_machine.specs.Answers.{Shut, farewell, say};
-ghost use Rattle.lsv_machine.specs.Machine.{LogState.There, forgets, is_dead, with_log, with_owner, with_state};
-ghost use Rattle.lsv_machine.specs.Work.{adds_line, answered, before_line, can_cut, cut_to, dropped, empty_log, ends, finished, has_line, last_number, line_fits, makes, next_number, opened, opens, plain, refused, restarted, sets_exit, silently, taken, work};
+ghost use Rattle.lsv_machine.specs.Machine.{LogState.There, forgets, is_dead, log_of, with_log, with_owner, with_state};
+ghost use Rattle.lsv_machine.specs.Work.{adds_line, answered, before_line, can_cut, cut_to, dropped, empty_log, ends, finished, has_line, line_fits, makes, next_number, opened, opens, plain, refused, restarted, sets_exit, silently, taken, work};
 ghost use Rattle.lsv_model.specs.Gives.{Gives, adds_any, fits_any, noted};
-ghost use Rattle.lsv_model.specs.Views.{HasLog, log_place, machine_of, settings_of, stored_of};
-ghost use Rattle.lsv_request.specs.declared.request.Request.TheVariants.{Accept};
+ghost use Rattle.lsv_model.specs.Views.{HasLog, IsLineOf, drawn, log_place, machine_of, next_of, settings_of, stored_of};
+ghost use Rattle.lsv_request.specs.declared.request.Request.TheVariants as request;
 ghost use Rattle.lsv_session.specs.declared.connection.ConnState.TheVariants.{Running};
 
 use crate::connections::{is_running, log_of};
@@ -21,13 +21,12 @@ use lsv_info::{write_exit, write_head};
 use lsv_record::Record;
 use lsv_request::{Accept, Refusal, Request, Restart};
 use lsv_session::{Body, ConnId, ConnState, Job};
-use std::alloc::Global;
 
 /// So many cuts can't be counted.
 const CUTS_LIMIT: u64 = 9_223_372_036_854_775_808;
 
 /// The event log has no more bytes.
-const LONGEST_LINES: u64 = 1_099_511_627_776;
+const LONGEST_LINES: u128 = 1_099_511_627_776;
 
 impl Model {
     /// What a job does where memory is ample and no device fails.
@@ -100,12 +99,25 @@ impl Model {
         ensures { IfOk result (λ told. Gives (answered (settings_of set (E.line_of events.now)) now conn ((machine_of self.old).states conn) (Ok asked) (next_number (settings_of set (E.line_of events.now)) (machine_of self.old)) (machine_of self.old)) conn told (machine_of self.new)) }
     {
         let state = self.state(conn);
-        let number = self.next_number(set);
-        let log = if opens(state, &asked) { number } else { log_of(state) };
-        let line = event_line(self.alloc, set, events, now, conn, &asked, log)?;
+        let line = self.event_line(set, events, now, conn, &asked)?;
+        self.work(set, conn, state, asked, line)
+    }
+
+    /// The work of a request, and its event line if there is one.
+    fn work(
+        &mut self,
+        set: RunSettings,
+        conn: ConnId,
+        state: ConnState,
+        asked: Request,
+        line: Option<Bytes>,
+    ) -> Result<Told, NoMem>
+        requires { IsLineOf asked line }
+        ensures { IfOk result (λ told. Gives (noted line conn (before_line state asked (next_of set (machine_of self.old)) (machine_of self.old)) (machine_of self.old) (work conn state asked (next_of set (machine_of self.old)) (machine_of self.old))) conn told (machine_of self.new)) }
+    {
         match asked {
             Request::Hello => self.enter(conn, ConnState::Greeted, None),
-            Request::Accept(accept) => self.accept(conn, state, accept, number, line),
+            Request::Accept(accept) => self.accept(set, conn, state, accept, line),
             Request::Reject(_) if is_running(state) => self.stay(conn, line),
             Request::Reject(_) => self.end(conn, line),
             Request::Alert(_) if is_running(state) => self.stay(conn, line),
@@ -116,7 +128,10 @@ impl Model {
                 None => Ok(Told::Nothing),
             },
             Request::Exit(exit) => match log_of(state) {
-                Some(log) => self.finish(conn, log, write_exit(self.alloc, &exit)?, line),
+                Some(log) => {
+                    let text = write_exit(self.alloc, &exit)?;
+                    self.finish(conn, log, text, line)
+                }
                 None => self.end(conn, line),
             },
         }
@@ -124,7 +139,7 @@ impl Model {
 
     /// The number that the next accept draws: of the lane, the first or the next one. None where all were given.
     fn next_number(&self, set: RunSettings) -> Option<LogNo>
-        ensures { (line : _) → SomeIff result (next_number (settings_of set line) (machine_of self.now) ≤ last_number) (next_number (settings_of set line) (machine_of self.now)) }
+        ensures { result ≡ drawn set (machine_of self.now) }
     {
         let number = match self.last {
             None => u64::from(set.lane) + 1,
@@ -133,14 +148,38 @@ impl Model {
         LogNo::new(u32::try_from(number).ok()?)
     }
 
+    /// The event line of a request, where it has one.
+    fn event_line<E: EventLines>(
+        &self,
+        set: RunSettings,
+        events: &E,
+        now: TimeSpec,
+        conn: ConnId,
+        asked: &Request,
+    ) -> Result<Option<Bytes>, NoMem>
+        ensures { IfOk result (λ line. line ≡ (if has_line (settings_of set (E.line_of events.now)) asked.now
+            then Some (E.line_of events.now now conn asked.now (if opens ((machine_of self.now).states conn) asked.now then drawn set (machine_of self.now) else log_of ((machine_of self.now).states conn)))
+            else None)) }
+    {
+        if !has_line(set, asked) {
+            return Ok(None);
+        }
+        let state = self.state(conn);
+        let log = if opens(state, asked) {
+            self.next_number(set)
+        } else {
+            log_of(state)
+        };
+        Ok(Some(events.line(self.alloc, now, conn, asked, log)?))
+    }
+
     /// Adds the event line of a connection, and says whether the event log takes it.
     fn add_line(&mut self, conn: ConnId, line: &Bytes) -> Result<bool, NoMem>
         ensures fits { IfOk result (λ fits. fits ≡ line_fits line.now (machine_of self.old)) }
         ensures machine { IfOk result (λ fits. machine_of self.new ≡ (if fits then adds_line conn line.now (machine_of self.old) else machine_of self.old)) }
     {
         let line = line.as_slice();
-        let len = self.lines.as_slice().len() as u64 + self.fresh.as_slice().len() as u64;
-        if len + line.len() as u64 > LONGEST_LINES {
+        if !takes_line(self.lines.as_slice(), self.fresh.as_slice(), line) {
             return Ok(false);
         }
         self.fresh.add(line)?;
@@ -193,14 +232,13 @@ impl Model {
 
     fn accept(
         &mut self,
+        set: RunSettings,
         conn: ConnId,
         state: ConnState,
         accept: Accept,
-        number: Option<LogNo>,
         line: Option<Bytes>,
     ) -> Result<Told, NoMem>
-        ensures { (n : ℕ) → SomeIff number (n ≤ last_number) n → IfOk result (λ told.
-            Gives (noted line conn (before_line state (Accept accept) n (machine_of self.old)) (machine_of self.old) (work conn state (Accept accept) n (machine_of self.old))) conn told (machine_of self.new)) }
+        ensures { IfOk result (λ told. Gives (noted line conn (before_line state (request.Accept accept) (next_of set (machine_of self.old)) (machine_of self.old)) (machine_of self.old) (work conn state (request.Accept accept) (next_of set (machine_of self.old)) (machine_of self.old))) conn told (machine_of self.new)) }
     {
         if is_running(state) {
             return self.stay(conn, line);
@@ -209,7 +247,7 @@ impl Model {
             return self.enter(conn, ConnState::Running(None), line);
         }
         let head = write_head(self.alloc, &accept.head)?;
-        match number {
+        match self.next_number(set) {
             Some(number) => self.open(conn, head, number, line),
             None => self.refuse(conn, Refusal::NumbersSpent),
         }
@@ -351,6 +389,13 @@ fn cuts_with(log: &Log, kept: usize) -> Option<u64>
     if cuts < CUTS_LIMIT { Some(cuts) } else { None }
 }
 
+/// Whether the event log takes a line behind those of this turn.
+fn takes_line(lines: &[u8], fresh: &[u8], line: &[u8]) -> bool
+    ensures { result ≡ nat_le (length lines.now + length fresh.now + length line.now) (2 ^ 40) }
+{
+    lines.len() as u128 + fresh.len() as u128 + line.len() as u128 <= LONGEST_LINES
+}
+
 /// Whether an accept opens a log.
 fn opens(state: ConnState, asked: &Request) -> bool
     ensures { result ≡ opens state asked.now }
@@ -370,22 +415,4 @@ fn has_line(set: RunSettings, asked: &Request) -> bool
         Request::Exit(_) => set.log_exit,
         Request::Hello | Request::Restart(_) | Request::Record(_) => false,
     }
-}
-
-/// The event line of a request, where it has one.
-fn event_line<E: EventLines>(
-    alloc: Global,
-    set: RunSettings,
-    events: &E,
-    now: TimeSpec,
-    conn: ConnId,
-    asked: &Request,
-    log: Option<LogNo>,
-) -> Result<Option<Bytes>, NoMem>
-    ensures { IfOk result (λ line. line ≡ (if has_line (settings_of set (E.line_of events.now)) asked.now then Some (E.line_of events.now now conn asked.now log) else None)) }
-{
-    if !has_line(set, asked) {
-        return Ok(None);
-    }
-    Ok(Some(events.line(alloc, now, conn, asked, log)?))
 }
