@@ -1,3 +1,4 @@
+pub mod Outcomes
 pub mod RecordLemmas
 pub mod TableLemmas
 pub mod WaitingLemmas

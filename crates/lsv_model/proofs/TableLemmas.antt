@@ -2,13 +2,13 @@
 use Rattle.std.proofs.Common.{◌≡◌, ◌<◌, ◌≤◌, ◌+◌, ℕ, zero, suc, List, [], ◌∷◌, ◌++◌, length, get_or, set, refl, sym, ◌∙◌, ap, subst, arith, Option, Some, None}
 use Rattle.std.specs.Prelude.{◌==◌, Bool, true, false, if◌then◌else◌}
 use Rattle.std.proofs.lemmas.Bool.Decides.{nat_tests}
-use Rattle.lsv_record.specs.Points.{one_more}
+use Rattle.lsv_record.specs.Points.{Stored, one_more}
 use Rattle.lsv_session.specs.declared.connection.ConnId.{ConnId}
 use Rattle.lsv_session.specs.declared.connection.ConnState.{ConnState}
 use Rattle.lsv_session.specs.declared.connection.ConnState.TheVariants.{Fresh}
-use Rattle.lsv_machine.specs.Machine.{LogState, LogState.Absent, same}
+use Rattle.lsv_machine.specs.Machine.{LogState, LogState.Absent, LogState.There, same}
 use Rattle.lsv_model.specs.Tables.{lookup, place}
-use Rattle.lsv_model.specs.Views.{connection_place, log_place, logs_in, owner_in, state_in, there}
+use Rattle.lsv_model.specs.Views.{connection_place, log_place, logs_in, owner_in, state_in, stored_of, there}
 use Rattle.lsv_model.specs.declared.connections.Connection.{Connection}
 use Rattle.lsv_model.specs.declared.logs.Log.{Log}
 
@@ -116,7 +116,7 @@ module _ {E K V : Type 0} (eq : K → K → Bool) (key : E → K) (value : E →
 
 -- ---- Numbers and connections
 
-number_decides : (a b : ℕ) → (a == b) ≡ true → a ≡ b
+pub number_decides : (a b : ℕ) → (a == b) ≡ true → a ≡ b
 number_decides a b e = grind (arith, nat_tests)
 
 conn_decides : (a b : ConnId) → same a b ≡ true → a ≡ b
@@ -189,3 +189,26 @@ logs_same xs p was log r e f = ext (λ i. same_at number_eq (λ l. l.number) the
 
 pub owners_same : (xs : List Log) (p : ℕ) (was log : Log) → was ≡ get_or xs p was → log.number ≡ was.number → log.owner ≡ was.owner → owner_in (set xs p log) ≡ owner_in xs
 owners_same xs p was log r e f = ext (λ i. same_at number_eq (λ l. l.number) (λ l. l.owner) None xs p log was i (e ∙ ap (λ (l : Log). l.number) r) (f ∙ ap (λ (l : Log). l.owner) r))
+
+pub owners_free : (xs : List Log) (n : ℕ) → log_place xs n ≡ None → owner_in xs ≡ (λ i. if i == n then None else owner_in xs i)
+owners_free xs n h = ext (λ i. go i (i == n) refl)
+  where
+    go : (i : ℕ) (t : Bool) → (i == n) ≡ t → owner_in xs i ≡ (if t then None else owner_in xs i)
+    go i true e = let p : i ≡ n = number_decides i n e in rw p (owner_absent xs n h)
+    go i false e = refl
+
+-- the log at a place changes
+pub changed : (xs : List Log) (n p : ℕ) (was log : Log) (stored : Stored) (promised : ℕ) (next : LogState) → log_place xs n ≡ Some p → was ≡ get_or xs p was → log.number ≡ was.number
+    → logs_in xs n ≡ There stored promised → (stored_of was ≡ stored → was.promised ≡ promised → there log ≡ next)
+    → logs_in (set xs p log) ≡ (λ i. if i == n then next else logs_in xs i)
+changed xs n p was log stored promised next h r e t becomes =
+    let at = log_at xs n p was h r in
+    let is : There (stored_of was) was.promised ≡ There stored promised = sym at.has_log ∙ t in
+    let a : stored_of was ≡ stored = cc in
+    let b : was.promised ≡ promised = cc in
+    let put : LogState → ℕ → LogState = λ l i. if i == n then l else logs_in xs i in
+    logs_set xs n p log h (e ∙ at.number) ∙ ap put (becomes a b)
+
+-- where no log stands, none is there
+pub not_there : {A : Type 0} (xs : List Log) (n : ℕ) (stored : Stored) (promised : ℕ) → log_place xs n ≡ None → logs_in xs n ≡ There stored promised → A
+not_there xs n stored promised h t = let a = log_absent xs n h in cc

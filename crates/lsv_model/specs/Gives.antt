@@ -1,9 +1,9 @@
 -- What a job gives: its answers, and the machine then.
-use Rattle.std.specs.Prelude.{◌≡◌, ℕ, Bool, true, if◌then◌else◌, List, [], ◌∷◌, Option, Some, None}
+use Rattle.std.specs.Prelude.{◌≡◌, ℕ, Bool, true, if◌then◌else◌, List, [], ◌∷◌, ◌++◌, Option, Some, None}
 use Rattle.lsv_request.specs.declared.refusal.Refusal.TheVariants.{LogFull}
 use Rattle.lsv_session.specs.declared.connection.ConnId.{ConnId}
 use Rattle.lsv_machine.specs.Answers.{Answer, LogId, CommitPoint, Shut, say, refusal, farewell, is_refused}
-use Rattle.lsv_machine.specs.Machine.{Machine}
+use Rattle.lsv_machine.specs.Machine.{Machine, note}
 use Rattle.lsv_machine.specs.Work.{Done, adds_line, line_fits, refused}
 use Rattle.lsv_model.specs.declared.told.Told.{Told}
 use Rattle.lsv_model.specs.declared.told.Told.TheVariants as told
@@ -35,7 +35,16 @@ abbrev pub fits_any : Option (List ℕ) → Machine → Bool
 fits_any None m = true
 fits_any (Some line) m = line_fits line m
 
+-- the text of this turn's lines with one more, if there is one
+abbrev pub fresh_with : Option (List ℕ) → List ℕ → List ℕ
+fresh_with None fresh = fresh
+fresh_with (Some line) fresh = fresh ++ line
+
+-- those who had a line, and this connection, if it has one
+abbrev pub noting_with : Option (List ℕ) → ConnId → List ConnId → List ConnId
+noting_with None k noting = noting
+noting_with (Some line) k noting = note k noting
+
 -- the connection has left a line, if there is one
 abbrev pub adds_any : ConnId → Option (List ℕ) → Machine → Machine
-adds_any k None m = m
-adds_any k (Some line) m = adds_line k line m
+adds_any k line m = record m { fresh = fresh_with line m.fresh; noting = noting_with line k m.noting }

@@ -56,8 +56,8 @@ flushed (n ∷ numbers) m = flushed numbers (flushes n m)
 
 -- what is told in a turn: the answers of its jobs, and then the commit points
 abbrev pub told_in_turn : Settings → TimeSpec → List Job → Machine → List Answer
-told_in_turn set now jobs m = told set now jobs m ++ commits (with_lines true (after set now jobs m)).waiting (with_lines true (after set now jobs m))
+told_in_turn set now jobs m = told set now jobs m ++ commits (after set now jobs m).waiting (record (with_lines true (after set now jobs m)) { waiting = [] })
 
 -- the machine after a turn: its event lines are lines of the event log, and the logs that waited are promised
 abbrev pub after_turn : Settings → TimeSpec → List Job → Machine → Machine
-after_turn set now jobs m = record (flushed (with_lines true (after set now jobs m)).waiting (with_lines true (after set now jobs m))) { waiting = [] }
+after_turn set now jobs m = flushed (after set now jobs m).waiting (record (with_lines true (after set now jobs m)) { waiting = [] })

@@ -73,10 +73,6 @@ settings_of set line = record { lane = set.lane; lanes = set.lanes; log_exit = s
 abbrev pub bare : List Record → Stored
 bare records = record { head = []; records = records; exit = None; cuts = 0 }
 
--- a log of this number is there
-abbrev pub HasLog : Model → ℕ → Type 0
-HasLog m n = (i : ℕ) × (log_place m.logs.items n ≡ Some i)
-
 -- the number that the next accept draws, where all weren't given
 abbrev pub next_of : RunSettings → Machine → ℕ
 next_of set m = next_number (settings_of set (λ now k asked log. [])) m

@@ -1,10 +1,13 @@
-ghost use Rattle.std.specs.Prelude.{◌≡◌, ◌<◌, ◌^◌, ◌+◌, ◌++◌, [], ◌∷◌, ℕ, ◌==◌, if◌then◌else◌, Option, Some, None, OnOk, IfSome, length};
+ghost use Rattle.std.specs.Prelude.{◌≡◌, ◌<◌, ◌^◌, ◌+◌, ℕ, ◌==◌, if◌then◌else◌, Some, None, OnOk, IfSome, MatchOption, length};
+ghost use Rattle.lsv_machine.specs.Machine.{LogState.Absent, LogState.There};
+ghost use Rattle.lsv_machine.specs.Turns.{raised};
 ghost use Rattle.lsv_machine.specs.Work.{cut_to, with_exit, with_record};
-ghost use Rattle.lsv_model.specs.Views.{log_place, logs_in, owner_in, stored_of, there};
-ghost use Rattle.lsv_record.specs.Points.{first};
+ghost use Rattle.lsv_model.specs.Views.{log_place, logs_in, owner_in, there};
+ghost use Rattle.lsv_record.specs.Points.{Stored, first};
 ghost use Rattle.lsv_record.specs.Records.{delay_of, elapsed};
 
 use crate::Records;
+use crate::points::raised;
 use lsv_base::{Bytes, LogNo, NoMem};
 use lsv_record::Record;
 use lsv_session::ConnId;
@@ -35,6 +38,19 @@ pub fn place_of(logs: &[Log], number: LogNo) -> Option<usize>
     None
 }
 
+/// The log with this number.
+pub fn find_log(logs: &[Log], number: LogNo) -> Option<&Log>
+    ensures log { MatchOption result (logs_in logs.now number ≡ Absent) (λ log. logs_in logs.now number ≡ there log.now) }
+    ensures owner { MatchOption result (owner_in logs.now number ≡ None) (λ log. owner_in logs.now number ≡ log.now.owner) }
+{
+    for log in logs {
+        if number == log.number {
+            return Some(log);
+        }
+    }
+    None
+}
+
 /// The connection that writes a log.
 pub fn owner_of(logs: &[Log], number: LogNo) -> Option<ConnId>
     ensures { result ≡ owner_in logs.now number }
@@ -59,56 +75,95 @@ pub fn put_log(logs: &mut Vec<Log>, log: Log) -> Result<(), NoMem>
     Ok(())
 }
 
-/// This connection, or none, writes the log with this number, if there is one.
-pub fn set_owner(logs: &mut Vec<Log>, number: LogNo, owner: Option<ConnId>)
+/// Nobody writes the log with this number.
+pub fn free(logs: &mut Vec<Log>, number: LogNo)
     ensures logs { logs_in logs.new.items ≡ logs_in logs.old.items }
-    ensures owners { (place : ℕ) → log_place logs.old.items number ≡ Some place → owner_in logs.new.items ≡ (λ i. if i == number then owner else owner_in logs.old.items i) }
-    ensures none { log_place logs.old.items number ≡ None → logs.new.items ≡ logs.old.items }
+    ensures owners { owner_in logs.new.items ≡ (λ i. if i == number then None else owner_in logs.old.items i) }
 {
     if let Some(place) = place_of(logs, number) {
-        logs[place].owner = owner;
+        logs[place].owner = None;
     }
 }
 
-impl Log {
-    /// Cuts it to its first records, which are those through the first that ends at a point, and counts the cut where it
-    /// drops a record. These records are promised, and the connection writes it.
-    pub(crate) fn resume(&mut self, kept: usize, point: u64, cuts: u64, conn: ConnId)
-        requires first { first self.old.records point ≡ Some kept }
-        requires cuts { cuts ≡ (cut_to kept (stored_of self.old)).cuts }
-        ensures number { self.new.number ≡ self.old.number }
-        ensures stored { stored_of self.new ≡ cut_to kept (stored_of self.old) }
-        ensures promised { self.new.promised ≡ kept }
-        ensures owner { self.new.owner ≡ Some conn }
-    {
-        self.records.cut(kept, point);
-        self.cuts = cuts;
-        self.promised = kept;
-        self.owner = Some(conn);
+/// The log with this number is cut to its first records, which are those through the first that ends at a point; these are
+/// promised, and a connection writes it. cuts: how many cuts dropped a record, with this one.
+pub fn resume_log(
+    logs: &mut Vec<Log>,
+    number: LogNo,
+    kept: usize,
+    point: u64,
+    cuts: u64,
+    conn: ConnId,
+)
+    requires { (stored : Stored) (promised : ℕ) → logs_in logs.old.items number ≡ There stored promised → first stored.records point ≡ Some kept }
+    ensures logs { (stored : Stored) (promised : ℕ) → logs_in logs.old.items number ≡ There stored promised → cuts ≡ (cut_to kept stored).cuts →
+        logs_in logs.new.items ≡ (λ i. if i == number then There (cut_to kept stored) kept else logs_in logs.old.items i) }
+    ensures owners { (stored : Stored) (promised : ℕ) → logs_in logs.old.items number ≡ There stored promised →
+        owner_in logs.new.items ≡ (λ i. if i == number then Some conn else owner_in logs.old.items i) }
+{
+    if let Some(place) = place_of(logs, number) {
+        let log = &mut logs[place];
+        log.records.cut(kept, point);
+        log.cuts = cuts;
+        log.promised = kept;
+        log.owner = Some(conn);
     }
+}
 
-    /// Puts a record at the end, which ends at a point.
-    pub(crate) fn add(&mut self, r: Record, end: u64) -> Result<(), NoMem>
-        requires end { end ≡ elapsed self.old.records + delay_of r }
-        requires small { end < 2 ^ 63 }
-        ensures number { OnOk result (self.new.number ≡ self.old.number) }
-        ensures stored { OnOk result (stored_of self.new ≡ with_record r (stored_of self.old)) }
-        ensures promised { OnOk result (self.new.promised ≡ self.old.promised) }
-        ensures owner { OnOk result (self.new.owner ≡ self.old.owner) }
-    {
-        self.records.add(r, end)
+/// The log with this number has one more record, which ends at a point.
+pub fn add_record(
+    logs: &mut Vec<Log>,
+    number: LogNo,
+    r: Record,
+    end: u64,
+) -> Result<(), NoMem>
+    requires end { (stored : Stored) (promised : ℕ) → logs_in logs.old.items number ≡ There stored promised → end ≡ elapsed stored.records + delay_of r }
+    requires small { end < 2 ^ 63 }
+    ensures logs { (stored : Stored) (promised : ℕ) → logs_in logs.old.items number ≡ There stored promised →
+        OnOk result (logs_in logs.new.items ≡ (λ i. if i == number then There (with_record r stored) promised else logs_in logs.old.items i)) }
+    ensures owners { OnOk result (owner_in logs.new.items ≡ owner_in logs.old.items) }
+{
+    let Some(place) = place_of(logs, number) else {
+        return Ok(());
+    };
+    let log = &mut logs[place];
+    log.records.add(r, end)?;
+    Ok(())
+}
+
+/// The exit of the log with this number is set. Where it is told, all records are promised.
+pub fn finish_log(logs: &mut Vec<Log>, number: LogNo, exit: Bytes, is_told: bool)
+    ensures logs { (stored : Stored) (promised : ℕ) → logs_in logs.old.items number ≡ There stored promised →
+        logs_in logs.new.items ≡ (λ i. if i == number then There (with_exit exit stored) (if is_told then length stored.records else promised) else logs_in logs.old.items i) }
+    ensures owners { owner_in logs.new.items ≡ owner_in logs.old.items }
+{
+    if let Some(place) = place_of(logs, number) {
+        let log = &mut logs[place];
+        log.exit = Some(exit);
+        log.promised = promised_then(log, is_told);
     }
+}
 
-    /// Sets its exit. Where it is told, all its records are promised.
-    pub(crate) fn finish(&mut self, exit: Bytes, is_told: bool)
-        ensures number { self.new.number ≡ self.old.number }
-        ensures stored { stored_of self.new ≡ with_exit exit (stored_of self.old) }
-        ensures promised { self.new.promised ≡ (if is_told then length self.old.records else self.old.promised) }
-        ensures owner { self.new.owner ≡ self.old.owner }
-    {
-        self.exit = Some(exit);
-        if is_told {
-            self.promised = self.records.as_slice().len();
-        }
+/// How many records of a log are promised: all, where its exit is told.
+fn promised_then(log: &Log, is_told: bool) -> usize
+    ensures { result ≡ (if is_told then length log.now.records else log.now.promised) }
+{
+    if is_told {
+        log.records.as_slice().len()
+    } else {
+        log.promised
+    }
+}
+
+/// The log with this number is promised up to its commit point.
+pub fn promise_log(logs: &mut Vec<Log>, number: LogNo)
+    ensures logs { (stored : Stored) (promised : ℕ) → logs_in logs.old.items number ≡ There stored promised →
+        logs_in logs.new.items ≡ (λ i. if i == number then There stored (raised promised stored.records (elapsed stored.records)) else logs_in logs.old.items i) }
+    ensures owners { owner_in logs.new.items ≡ owner_in logs.old.items }
+{
+    if let Some(place) = place_of(logs, number) {
+        let log = &mut logs[place];
+        let end = log.records.elapsed();
+        log.promised = raised(log.promised, log.records.as_slice(), end);
     }
 }

@@ -5,7 +5,7 @@ ghost use Rattle.lsv_model.specs.Views.{logs_in, machine_of};
 ghost use Rattle.lsv_session.specs.declared.connection.ConnState.TheVariants.{Fresh};
 
 use crate::connections::{Connection, log_of, put_state, state_of};
-use crate::logs::{Log, set_owner};
+use crate::logs::{Log, free};
 use crate::waiting::{forget, remove};
 use lsv_base::{Bytes, List, LogNo, NoMem};
 use lsv_session::{ConnId, ConnState};
@@ -102,7 +102,7 @@ impl Model {
     {
         if let Some(log) = log {
             remove(&mut self.waiting, log);
-            set_owner(&mut self.logs, log, None);
+            free(&mut self.logs, log);
         }
     }
 

@@ -4,8 +4,8 @@ ghost use Rattle.lsv_machine.specs.Turns.{with_lines};
 ghost use Rattle.lsv_model.specs.Turning.{after_turn, commit, commits, done, flushed, flushes, told_in_turn};
 ghost use Rattle.lsv_model.specs.Views.{machine_of, settings_of};
 
-use crate::logs::place_of;
-use crate::points::{raised, time_of};
+use crate::logs::{find_log, promise_log};
+use crate::points::time_of;
 use crate::told::{put_replies, say};
 use crate::{EventLines, Model, RunSettings};
 use lsv_base::{LogNo, NoMem, TimeSpec};
@@ -63,8 +63,8 @@ impl Model {
 
     /// The logs that wait have their commit points.
     fn flush_logs(&mut self, replies: &mut Vec<Reply>) -> Result<(), NoMem>
-        ensures replies { OnOk result (replies.new.items ≡ replies.old.items ++ map reply_of (commits (machine_of self.old).waiting (machine_of self.old))) }
-        ensures machine { OnOk result (machine_of self.new ≡ record (flushed (machine_of self.old).waiting (machine_of self.old)) { waiting = [] }) }
+        ensures replies { OnOk result (replies.new.items ≡ replies.old.items ++ map reply_of (commits (machine_of self.old).waiting (record (machine_of self.old) { waiting = [] }))) }
+        ensures machine { OnOk result (machine_of self.new ≡ flushed (machine_of self.old).waiting (record (machine_of self.old) { waiting = [] })) }
     {
         let waiting = mem::replace(&mut self.waiting, Vec::new(self.alloc));
         for number in waiting {
@@ -78,15 +78,14 @@ impl Model {
         ensures replies { OnOk result (replies.new.items ≡ replies.old.items ++ map reply_of (commit (machine_of self.old) number)) }
         ensures machine { OnOk result (machine_of self.new ≡ flushes number (machine_of self.old)) }
     {
-        let Some(place) = place_of(&self.logs, number) else {
+        let Some(log) = find_log(&self.logs, number) else {
             return Ok(());
         };
-        let log = &mut self.logs[place];
         let Some(writer) = log.owner else {
             return Ok(());
         };
         let end = log.records.elapsed();
-        log.promised = raised(log.promised, log.records.as_slice(), end);
+        promise_log(&mut self.logs, number);
         replies.push(say(writer, ServerMessage::CommitPoint(time_of(end))))?;
         Ok(())
     }

@@ -1,17 +1,17 @@
-ghost use Rattle.std.specs.Prelude.{◌≡◌, ◌+◌, ◌^◌, nat_le, length, ◌∷◌, [], if◌then◌else◌, Some, None, Ok, IfOk, OnOk, SomeIff, IsTrue};
+ghost use Rattle.std.specs.Prelude.{◌≡◌, ◌+◌, ◌^◌, nat_le, nat_lt, false, length, ◌∷◌, [], if◌then◌else◌, Some, None, Ok, IfOk, OnOk, SomeIff, IsTrue};
 ghost use Rattle.lsv_info.specs.Layout.{exit_text, head_text};
 ghost use Rattle.lsv_machine.specs.Answers.{Shut, farewell, say};
 ghost use Rattle.lsv_machine.specs.Machine.{LogState.There, forgets, is_dead, log_of, with_log, with_owner, with_state};
-ghost use Rattle.lsv_machine.specs.Work.{adds_line, answered, before_line, can_cut, cut_to, dropped, empty_log, ends, finished, has_line, line_fits, makes, next_number, opened, opens, plain, refused, restarted, sets_exit, silently, taken, work};
+ghost use Rattle.lsv_machine.specs.Work.{adds_line, answered, before_line, can_cut, cut_to, dropped, empty_log, ends, finished, has_line, last_number, line_fits, makes, next_number, opened, opens, plain, refused, restarted, sets_exit, silently, taken, work};
 ghost use Rattle.lsv_model.specs.Gives.{Gives, adds_any, fits_any, noted};
-ghost use Rattle.lsv_model.specs.Views.{HasLog, IsLineOf, drawn, log_place, machine_of, next_of, settings_of, stored_of};
+ghost use Rattle.lsv_model.specs.Views.{IsLineOf, drawn, machine_of, next_of, settings_of, stored_of};
 ghost use Rattle.lsv_request.specs.declared.request.Request.TheVariants as request;
 ghost use Rattle.lsv_session.specs.declared.connection.ConnState.TheVariants.{Running};
 
 use crate::connections::{is_running, log_of};
 use crate::judgement::{fault_refusal, judged};
 use crate::limits::{covered, end_with, fits_file};
-use crate::logs::{Log, owner_of, place_of, put_log, set_owner};
+use crate::logs::{Log, add_record, find_log, finish_log, owner_of, put_log, resume_log};
 use crate::points::first;
 use crate::told::Told;
 use crate::waiting::{insert_once, note};
@@ -261,24 +261,26 @@ impl Model {
         number: LogNo,
         line: Option<Bytes>,
     ) -> Result<Told, NoMem>
+        requires { nat_lt last_number number ≡ false }
         ensures { IfOk result (λ told. Gives (noted line conn (makes number head (machine_of self.old)) (machine_of self.old) (opened conn head number (machine_of self.old))) conn told (machine_of self.new)) }
     {
         self.last = Some(number);
         if !fits_file(&head) {
             return self.refuse(conn, Refusal::LogFull);
         }
-        self.make(number, head)?;
         if !self.add_any(conn, line)? {
+            let owner = owner_of(&self.logs, number);
+            self.make(number, head, owner)?;
             return self.refuse(conn, Refusal::LogFull);
         }
-        self.claim(number, conn)?;
+        self.make(number, head, Some(conn))?;
+        self.set_state(conn, ConnState::Running(Some(number)))?;
         Ok(Told::Log(number))
     }
 
-    /// A log without records is there, whose number was drawn.
-    fn make(&mut self, number: LogNo, head: Bytes) -> Result<(), NoMem>
-        ensures machine { OnOk result (machine_of self.new ≡ with_log number (There (empty_log head) 0) (machine_of self.old)) }
-        ensures there { OnOk result (HasLog self.new number) }
+    /// A log without records is there, and this connection, or none, writes it.
+    fn make(&mut self, number: LogNo, head: Bytes, owner: Option<ConnId>) -> Result<(), NoMem>
+        ensures { OnOk result (machine_of self.new ≡ with_owner number owner (with_log number (There (empty_log head) 0) (machine_of self.old))) }
     {
         let log = Log {
             number,
@@ -287,49 +289,32 @@ impl Model {
             exit: None,
             cuts: 0,
             promised: 0,
-            owner: owner_of(&self.logs, number),
+            owner,
         };
         put_log(&mut self.logs, log)
     }
 
-    /// The connection writes a log that is there.
-    fn claim(&mut self, number: LogNo, conn: ConnId) -> Result<(), NoMem>
-        requires { HasLog self.old number }
-        ensures { OnOk result (machine_of self.new ≡ with_state conn (Running (Some number)) (with_owner number (Some conn) (machine_of self.old))) }
-    {
-        set_owner(&mut self.logs, number, Some(conn));
-        self.set_state(conn, ConnState::Running(Some(number)))
-    }
-
-    /// A log is gone on with at a point.
+    /// A log that nobody writes is gone on with at a point; or it is refused.
     fn restart(&mut self, conn: ConnId, restart: Restart) -> Result<Told, NoMem>
         ensures { IfOk result (λ told. Gives (restarted conn restart.log restart.point (machine_of self.old)) conn told (machine_of self.new)) }
     {
-        match place_of(&self.logs, restart.log) {
-            Some(place) => self.restart_at(conn, restart, place),
-            None => self.refuse(conn, Refusal::NoSuchLog),
-        }
-    }
-
-    /// The same of a log that is there.
-    fn restart_at(&mut self, conn: ConnId, restart: Restart, place: usize) -> Result<Told, NoMem>
-        requires { log_place self.old.logs.items restart.log ≡ Some place }
-        ensures { IfOk result (λ told. Gives (restarted conn restart.log restart.point (machine_of self.old)) conn told (machine_of self.new)) }
-    {
-        let log = &self.logs[place];
+        let point = restart.point.nanos();
+        let Some(log) = find_log(&self.logs, restart.log) else {
+            return self.refuse(conn, Refusal::NoSuchLog);
+        };
         if log.owner.is_some() {
             return self.refuse(conn, Refusal::LogInUse);
         }
         if log.exit.is_some() {
             return self.refuse(conn, Refusal::LogComplete);
         }
-        let Some(kept) = first(log.records.as_slice(), restart.point.nanos()) else {
+        let Some(kept) = first(log.records.as_slice(), point) else {
             return self.refuse(conn, Refusal::NoSuchResumePoint);
         };
         let Some(cuts) = cuts_with(log, kept) else {
             return self.refuse(conn, Refusal::LogFull);
         };
-        self.logs[place].resume(kept, restart.point.nanos(), cuts, conn);
+        resume_log(&mut self.logs, restart.log, kept, point, cuts, conn);
         self.set_state(conn, ConnState::Running(Some(restart.log)))?;
         Ok(Told::Nothing)
     }
@@ -338,15 +323,14 @@ impl Model {
     fn take(&mut self, conn: ConnId, number: LogNo, r: Record) -> Result<Told, NoMem>
         ensures { IfOk result (λ told. Gives (taken conn number r ((machine_of self.old).logs number) (machine_of self.old)) conn told (machine_of self.new)) }
     {
-        let Some(place) = place_of(&self.logs, number) else {
+        let Some(log) = find_log(&self.logs, number) else {
             return Ok(Told::Nothing);
         };
-        let log = &mut self.logs[place];
         let Some(end) = end_with(self.alloc, &log.records, &r)? else {
             return self.refuse(conn, Refusal::LogFull);
         };
         let r = covered(self.alloc, &self.texts, log.records.as_slice(), r)?;
-        log.add(r, end)?;
+        add_record(&mut self.logs, number, r, end)?;
         insert_once(&mut self.waiting, number)?;
         Ok(Told::Nothing)
     }
@@ -361,18 +345,18 @@ impl Model {
     ) -> Result<Told, NoMem>
         ensures { IfOk result (λ told. Gives (noted line conn (sets_exit number exit ((machine_of self.old).logs number) (machine_of self.old)) (machine_of self.old) (finished conn number exit ((machine_of self.old).logs number) (machine_of self.old))) conn told (machine_of self.new)) }
     {
-        let Some(place) = place_of(&self.logs, number) else {
+        let Some(log) = find_log(&self.logs, number) else {
             return self.stay(conn, line);
         };
         if !fits_file(&exit) {
             return self.refuse(conn, Refusal::LogFull);
         }
+        let end = log.records.elapsed();
         let is_told = self.add_any(conn, line)?;
-        self.logs[place].finish(exit, is_told);
+        finish_log(&mut self.logs, number, exit, is_told);
         if !is_told {
             return self.refuse(conn, Refusal::LogFull);
         }
-        let end = self.logs[place].records.elapsed();
         self.leave(conn, ConnState::Dead)?;
         Ok(Told::Finished(end))
     }
