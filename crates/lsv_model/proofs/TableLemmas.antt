@@ -198,16 +198,18 @@ owners_free xs n h = ext (λ i. go i (i == n) refl)
     go i false e = refl
 
 -- the log at a place changes
-pub changed : (xs : List Log) (n p : ℕ) (was log : Log) (stored : Stored) (promised : ℕ) (next : LogState) → log_place xs n ≡ Some p → was ≡ get_or xs p was → log.number ≡ was.number
-    → logs_in xs n ≡ There stored promised → (stored_of was ≡ stored → was.promised ≡ promised → there log ≡ next)
-    → logs_in (set xs p log) ≡ (λ i. if i == n then next else logs_in xs i)
+pub changed : (xs : List Log) (n p : ℕ) (was log : Log) (stored : Stored) (promised : ℕ) (next : Stored → ℕ → LogState) → log_place xs n ≡ Some p → was ≡ get_or xs p was → log.number ≡ was.number
+    → logs_in xs n ≡ There stored promised → there log ≡ next (stored_of was) was.promised
+    → logs_in (set xs p log) ≡ (λ i. if i == n then next stored promised else logs_in xs i)
 changed xs n p was log stored promised next h r e t becomes =
     let at = log_at xs n p was h r in
     let is : There (stored_of was) was.promised ≡ There stored promised = sym at.has_log ∙ t in
     let a : stored_of was ≡ stored = cc in
     let b : was.promised ≡ promised = cc in
     let put : LogState → ℕ → LogState = λ l i. if i == n then l else logs_in xs i in
-    logs_set xs n p log h (e ∙ at.number) ∙ ap put (becomes a b)
+    let on_stored : Stored → LogState = λ s. next s was.promised in
+    let on_promised : ℕ → LogState = λ q. next stored q in
+    logs_set xs n p log h (e ∙ at.number) ∙ ap put (becomes ∙ (ap on_stored a ∙ ap on_promised b))
 
 -- where no log stands, none is there
 pub not_there : {A : Type 0} (xs : List Log) (n : ℕ) (stored : Stored) (promised : ℕ) → log_place xs n ≡ None → logs_in xs n ≡ There stored promised → A

@@ -95,8 +95,9 @@ pub fn resume_log(
     cuts: u64,
     conn: ConnId,
 )
-    requires { (stored : Stored) (promised : ℕ) → logs_in logs.old.items number ≡ There stored promised → first stored.records point ≡ Some kept }
-    ensures logs { (stored : Stored) (promised : ℕ) → logs_in logs.old.items number ≡ There stored promised → cuts ≡ (cut_to kept stored).cuts →
+    requires first { (stored : Stored) (promised : ℕ) → logs_in logs.old.items number ≡ There stored promised → first stored.records point ≡ Some kept }
+    requires cuts { (stored : Stored) (promised : ℕ) → logs_in logs.old.items number ≡ There stored promised → cuts ≡ (cut_to kept stored).cuts }
+    ensures logs { (stored : Stored) (promised : ℕ) → logs_in logs.old.items number ≡ There stored promised →
         logs_in logs.new.items ≡ (λ i. if i == number then There (cut_to kept stored) kept else logs_in logs.old.items i) }
     ensures owners { (stored : Stored) (promised : ℕ) → logs_in logs.old.items number ≡ There stored promised →
         owner_in logs.new.items ≡ (λ i. if i == number then Some conn else owner_in logs.old.items i) }
