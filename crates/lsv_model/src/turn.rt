@@ -1,7 +1,7 @@
 ghost use Rattle.std.specs.Prelude.{◌≡◌, ◌++◌, [], true, map, OnOk, IfOk};
 ghost use Rattle.lsv_machine.specs.Answers.{reply_of};
 ghost use Rattle.lsv_machine.specs.Turns.{with_lines};
-ghost use Rattle.lsv_model.specs.Turning.{after_turn, commit, commits, done, flushed, flushes, told_in_turn};
+ghost use Rattle.lsv_model.specs.Turning.{after, after_turn, commit, commits, done, flushed, flushes, told, told_in_turn};
 ghost use Rattle.lsv_model.specs.Views.{machine_of, settings_of};
 
 use crate::logs::{find_log, promise_log};
@@ -26,12 +26,28 @@ impl Model {
         ensures machine { OnOk result (machine_of self.new ≡ after_turn (settings_of set (E.line_of events.now)) now jobs.items (machine_of self.old)) }
     {
         let mut replies = Vec::new(self.alloc);
-        for job in jobs {
-            self.answer_job(set, events, job, now, &mut replies)?;
-        }
+        self.answer_jobs(set, events, jobs, now, &mut replies)?;
         self.flush_lines()?;
         self.flush_logs(&mut replies)?;
         Ok(replies)
+    }
+
+    /// Does jobs, one after another, and puts their replies at the end.
+    fn answer_jobs<E: EventLines>(
+        &mut self,
+        set: RunSettings,
+        events: &E,
+        jobs: Vec<Job>,
+        now: TimeSpec,
+        replies: &mut Vec<Reply>,
+    ) -> Result<(), NoMem>
+        ensures replies { OnOk result (replies.new.items ≡ replies.old.items ++ map reply_of (told (settings_of set (E.line_of events.now)) now jobs.items (machine_of self.old))) }
+        ensures machine { OnOk result (machine_of self.new ≡ after (settings_of set (E.line_of events.now)) now jobs.items (machine_of self.old)) }
+    {
+        for job in jobs {
+            self.answer_job(set, events, job, now, replies)?;
+        }
+        Ok(())
     }
 
     /// Does a job, and puts its replies at the end.

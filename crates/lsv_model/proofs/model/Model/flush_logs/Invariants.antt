@@ -6,6 +6,6 @@ use Rattle.lsv_model.proofs.model.Model.flush_logs.Given as goal
 
 abbrev pub invariant-loop-number : goal.invariant-loop-number
 invariant-loop-number l = record {
-  replies : l.replies.items ≡ l.fn.replies.now.items ++ map reply_of (commits l.yielded (record (machine_of l.fn.self.now) { waiting = [] }));
-  machine : machine_of l.self ≡ flushed l.yielded (record (machine_of l.fn.self.now) { waiting = [] });
+  replies : l.replies.items ≡ l.fn.replies.items ++ map reply_of (commits l.yielded (record (machine_of l.fn.self) { waiting = [] }));
+  machine : machine_of l.self ≡ flushed l.yielded (record (machine_of l.fn.self) { waiting = [] });
 }
