@@ -1,15 +1,14 @@
 -- What follows from an outcome, and what a job gives with its event line.
 use Rattle.std.proofs.Common.{◌≡◌, ℕ, List, refl, sym, ap, ◌∙◌, subst, Option, Some, None, Ok, Err, Result, OnOk, IfOk}
-use Rattle.std.specs.Prelude.{◌==◌, nat_lt, Bool, true, false, if◌then◌else◌}
+use Rattle.std.specs.Prelude.{◌==◌, Bool, true, false, if◌then◌else◌}
 use Rattle.lsv_base.specs.declared.time.TimeSpec.{TimeSpec}
-use Rattle.lsv_request.specs.declared.refusal.Refusal.{Refusal}
 use Rattle.lsv_request.specs.declared.refusal.Refusal.TheVariants.{LogFull}
 use Rattle.lsv_request.specs.declared.request.Request.{Request}
 use Rattle.lsv_session.specs.declared.connection.ConnId.{ConnId}
 use Rattle.lsv_session.specs.declared.connection.ConnState.{ConnState}
 use Rattle.lsv_machine.specs.Answers.{is_refused}
 use Rattle.lsv_machine.specs.Machine.{Machine, Settings, with_owner}
-use Rattle.lsv_machine.specs.Work.{Done, before_line, has_line, line_fits, line_in, lined, refused}
+use Rattle.lsv_machine.specs.Work.{Done, before_line, has_line, line_in, lined, refused}
 use Rattle.lsv_model.specs.Gives.{Gives, adds_any, answers_of, fits_any, noted}
 use Rattle.lsv_model.specs.declared.told.Told.{Told}
 use Rattle.lsv_model.proofs.TableLemmas.{ext, number_decides}

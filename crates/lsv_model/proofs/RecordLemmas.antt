@@ -1,6 +1,6 @@
 -- Records, and the points at which they end.
-use Rattle.std.proofs.Common.{◌≡◌, ◌≤◌, ◌<◌, ◌+◌, ◌-◌, ℕ, zero, suc, List, [], ◌∷◌, ◌++◌, take, refl, sym, ap, ◌∙◌, subst, arith, Option, Some, None}
-use Rattle.std.specs.Prelude.{◌==◌, nat_lt, Bool, true, false, ◌&&◌, if◌then◌else◌}
+use Rattle.std.proofs.Common.{◌≡◌, ◌≤◌, ◌+◌, ◌-◌, ℕ, suc, List, [], ◌∷◌, ◌++◌, take, refl, subst, arith, Option, Some, None}
+use Rattle.std.specs.Prelude.{◌==◌, nat_lt, Bool, true, false, if◌then◌else◌}
 use Rattle.std.proofs.lemmas.Bool.Decides.{nat_tests}
 use Rattle.lsv_record.specs.Layout.{IsLayout}
 use Rattle.lsv_record.specs.Points.{first, one_more}
@@ -8,7 +8,7 @@ use Rattle.lsv_record.specs.Records.{delay_of, elapsed}
 use Rattle.lsv_record.specs.declared.laid.Laid.{Laid}
 use Rattle.lsv_record.specs.declared.records.Record.{Record}
 use Rattle.lsv_record.specs.declared.records.Stream.TheVariants.{Stdin, Stdout, Stderr, Ttyin, Ttyout}
-use Rattle.lsv_machine.specs.Work.{files_take, fits_file}
+use Rattle.lsv_machine.specs.Work.{files_take}
 use Rattle.lsv_model.specs.Views.{fits_files}
 
 pub elapsed_push : (rs : List Record) (r : Record) → elapsed (rs ++ r ∷ []) ≡ elapsed rs + delay_of r

@@ -1,9 +1,6 @@
 -- What a stop leaves.
-use Rattle.std.proofs.Common.{◌≡◌, ◌<◌, ◌≤◌, ℕ, zero, suc, List, [], ◌∷◌, length, map, take, drop, get_or, set, refl, ap, ◌∙◌, arith, Option, Some, None}
+use Rattle.std.proofs.Common.{◌≡◌, ◌<◌, ◌≤◌, ℕ, zero, suc, List, [], ◌∷◌, length, map, take, drop, get_or, set, refl, ap, ◌∙◌, arith, None}
 use Rattle.std.specs.Prelude.{◌==◌, Bool, true, false, if◌then◌else◌}
-use Rattle.lsv_machine.specs.Machine.{LogState.Absent}
-use Rattle.lsv_session.specs.declared.connection.ConnId.{ConnId}
-use Rattle.lsv_machine.specs.Machine.{LogState}
 use Rattle.lsv_model.specs.Starting.{all_promised}
 use Rattle.lsv_model.specs.Views.{logs_in, owner_in, there}
 use Rattle.lsv_model.specs.declared.logs.Log.{Log}

@@ -1,5 +1,5 @@
 -- Turns, one step after another.
-use Rattle.std.proofs.Common.{◌≡◌, ℕ, List, [], ◌∷◌, ◌++◌, map, append-nil, refl, sym, ap, ◌∙◌, append_assoc, Option, Some, None}
+use Rattle.std.proofs.Common.{◌≡◌, ℕ, List, [], ◌∷◌, ◌++◌, map, append-nil, refl, sym, ap, ◌∙◌, append_assoc, Some, None}
 use Rattle.std.specs.Prelude.{true}
 use Rattle.std.proofs.lemmas.List.{map-append}
 use Rattle.lsv_base.specs.declared.time.TimeSpec.{TimeSpec}

@@ -1,5 +1,5 @@
 -- The rows of the table, put together of what each step leaves.
-use Rattle.std.proofs.Common.{◌≡◌, ◌+◌, ◌^◌, ℕ, List, [], ◌∷◌, length, refl, sym, ap, ◌∙◌, subst, Option, Some, None}
+use Rattle.std.proofs.Common.{◌≡◌, ℕ, List, [], ◌∷◌, length, refl, sym, ap, ◌∙◌, subst, Option, Some, None}
 use Rattle.std.specs.Prelude.{◌==◌, ◌&&◌, not, nat_lt, Bool, true, false, if◌then◌else◌, is_some}
 use Rattle.lsv_base.specs.declared.time.TimeSpec.{TimeSpec}
 use Rattle.lsv_info.specs.Layout.{head_text}
@@ -16,9 +16,9 @@ use Rattle.lsv_session.specs.declared.connection.ConnId.{ConnId}
 use Rattle.lsv_session.specs.declared.connection.ConnState.{ConnState}
 use Rattle.lsv_session.specs.declared.connection.ConnState.TheVariants.{Dead, Running}
 use Rattle.lsv_machine.specs.Answers.{Saying.CommitPoint, Saying.LogId, Saying.Shut, is_refused, say}
-use Rattle.lsv_machine.specs.Machine.{LogState, LogState.There, Machine, Settings, insert_once, is_running, leaves, log_of, with_log, with_owner, with_state}
-use Rattle.lsv_machine.specs.Work.{Done, before_line, can_cut, cut_to, draws, empty_log, ends, finished, fits_file, has_line, last_number, line_in, lined, makes, opened, opens, refused, restarted, sets_exit, silently, taken, takes, waits, with_exit, with_record, work}
-use Rattle.lsv_model.specs.Gives.{Gives, adds_any, answers_of, fits_any, noted}
+use Rattle.lsv_machine.specs.Machine.{LogState, LogState.There, Machine, insert_once, is_running, leaves, log_of, with_log, with_owner, with_state}
+use Rattle.lsv_machine.specs.Work.{Done, before_line, can_cut, cut_to, draws, empty_log, ends, finished, fits_file, has_line, last_number, lined, makes, opened, opens, refused, restarted, sets_exit, silently, taken, takes, with_exit, with_record, work}
+use Rattle.lsv_model.specs.Gives.{Gives, adds_any, fits_any, noted}
 use Rattle.lsv_model.specs.Views.{drawn, next_of, settings_of}
 use Rattle.lsv_model.specs.declared.settings.RunSettings.{RunSettings}
 use Rattle.lsv_model.specs.declared.told.Told.{Told}

@@ -1,11 +1,11 @@
 -- A turn where no device fails and memory is ample.
-use Rattle.std.specs.Prelude.{ℕ, true, List, [], ◌∷◌, ◌++◌, Option, Some, None}
+use Rattle.std.specs.Prelude.{ℕ, true, List, [], ◌∷◌, ◌++◌, Option, Some}
 use Rattle.lsv_base.specs.declared.time.TimeSpec.{TimeSpec}
 use Rattle.lsv_record.specs.Records.{elapsed}
 use Rattle.lsv_session.specs.declared.connection.ConnId.{ConnId}
 use Rattle.lsv_session.specs.declared.job.Job.{Job}
 use Rattle.lsv_machine.specs.Answers.{Answer, CommitPoint, say}
-use Rattle.lsv_machine.specs.Machine.{LogState, LogState.Absent, LogState.Damaged, LogState.There, Machine, Settings, with_log}
+use Rattle.lsv_machine.specs.Machine.{LogState, LogState.There, Machine, Settings, with_log}
 use Rattle.lsv_machine.specs.Turns.{raised, with_lines}
 use Rattle.lsv_machine.specs.Work.{Done, next_number, plain}
 

@@ -1,13 +1,10 @@
-use Rattle.std.proofs.Common.{◌≡◌, ℕ, List, [], ◌∷◌, ◌++◌, length, take, refl, sym, ap, ◌∙◌, Some, None}
-use Rattle.std.specs.Prelude.{if◌then◌else◌}
+use Rattle.std.proofs.Common.{◌≡◌, ℕ, List, take, refl, ap, ◌∙◌, Some, None}
 use Rattle.lsv_machine.specs.Machine.{LogState, LogState.There}
-use Rattle.lsv_machine.specs.Turns.{raised}
-use Rattle.lsv_machine.specs.Work.{cut_to, with_exit, with_record}
-use Rattle.lsv_model.specs.Views.{log_place, logs_in, owner_in, stored_of}
+use Rattle.lsv_machine.specs.Work.{cut_to}
+use Rattle.lsv_model.specs.Views.{log_place, stored_of}
 use Rattle.lsv_record.specs.Points.{Stored}
-use Rattle.lsv_record.specs.Records.{elapsed}
 use Rattle.lsv_record.specs.declared.records.Record.{Record}
-use Rattle.lsv_model.proofs.TableLemmas.{changed, log_at, not_there, owners_same, owners_set}
+use Rattle.lsv_model.proofs.TableLemmas.{changed, log_at, not_there, owners_set}
 use Rattle.lsv_model.proofs.logs.resume_log.Goals as goal
 
 pub cut-requires : goal.cut-requires

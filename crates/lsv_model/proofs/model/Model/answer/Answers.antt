@@ -1,4 +1,3 @@
-use Rattle.std.proofs.Common.{◌≡◌, ℕ, refl, sym, ap, ◌∙◌, subst}
 use Rattle.lsv_model.specs.Views.{machine_of, state_in}
 use Rattle.lsv_model.proofs.Outcomes.{if_ok}
 use Rattle.lsv_model.proofs.WorkLemmas.{answer_gives}

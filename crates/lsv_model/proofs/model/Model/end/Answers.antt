@@ -1,9 +1,9 @@
-use Rattle.std.proofs.Common.{◌≡◌, [], ◌∷◌, refl, sym, ap, ◌∙◌, Some, None}
+use Rattle.std.proofs.Common.{◌≡◌, [], ◌∷◌, refl, sym, ap, ◌∙◌}
 use Rattle.std.specs.Prelude.{true, false}
-use Rattle.lsv_session.specs.declared.connection.ConnState.TheVariants.{Dead, Running}
+use Rattle.lsv_session.specs.declared.connection.ConnState.TheVariants.{Dead}
 use Rattle.lsv_machine.specs.Answers.{Saying.Shut, say}
-use Rattle.lsv_machine.specs.Machine.{Machine, leaves, with_state}
-use Rattle.lsv_machine.specs.Work.{ends, silently}
+use Rattle.lsv_machine.specs.Machine.{Machine, leaves}
+use Rattle.lsv_machine.specs.Work.{ends}
 use Rattle.lsv_model.specs.Gives.{adds_any, fits_any}
 use Rattle.lsv_model.specs.Views.{machine_of}
 use Rattle.lsv_model.specs.declared.told.Told.TheVariants as told

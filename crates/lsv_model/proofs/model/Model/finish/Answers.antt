@@ -1,4 +1,4 @@
-use Rattle.std.proofs.Common.{◌≡◌, ℕ, List, refl, sym, ap, ◌∙◌, Some, None}
+use Rattle.std.proofs.Common.{◌≡◌, List, sym, ap, ◌∙◌}
 use Rattle.std.specs.Prelude.{true, false}
 use Rattle.lsv_machine.specs.Machine.{LogState, LogState.There, Machine}
 use Rattle.lsv_machine.specs.Work.{fits_file}

@@ -1,6 +1,5 @@
-use Rattle.std.proofs.Common.{◌≡◌, ℕ, List, Option, refl, sym, ap, ◌∙◌, Some, None}
-use Rattle.std.specs.Prelude.{◌==◌, if◌then◌else◌}
-use Rattle.lsv_machine.specs.Machine.{LogState, LogState.There, Machine}
+use Rattle.std.proofs.Common.{◌≡◌, List, Option, refl, sym, ap, ◌∙◌, Some}
+use Rattle.lsv_machine.specs.Machine.{LogState, LogState.There}
 use Rattle.lsv_machine.specs.Turns.{raised}
 use Rattle.lsv_record.specs.Records.{elapsed}
 use Rattle.lsv_session.specs.declared.connection.ConnId.{ConnId}

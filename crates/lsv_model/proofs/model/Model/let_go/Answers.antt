@@ -1,7 +1,6 @@
-use Rattle.std.proofs.Common.{◌≡◌, ℕ, List, Option, Some, None, ap, ◌∙◌}
-use Rattle.std.specs.Prelude.{◌==◌, if◌then◌else◌}
+use Rattle.std.proofs.Common.{◌≡◌, ℕ, List, Option, Some, ap, ◌∙◌}
 use Rattle.lsv_session.specs.declared.connection.ConnId.{ConnId}
-use Rattle.lsv_machine.specs.Machine.{LogState, Machine, let_go, without}
+use Rattle.lsv_machine.specs.Machine.{LogState, Machine, without}
 use Rattle.lsv_model.specs.Views.{logs_in, machine_of, owner_in}
 use Rattle.lsv_model.proofs.model.Model.let_go.Goals as goal
 

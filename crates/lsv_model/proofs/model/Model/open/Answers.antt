@@ -1,6 +1,5 @@
-use Rattle.std.proofs.Common.{◌≡◌, List, Option, refl, sym, ap, ◌∙◌, Some, None}
+use Rattle.std.proofs.Common.{◌≡◌, List, Option, sym, ap, ◌∙◌}
 use Rattle.std.specs.Prelude.{true, false}
-use Rattle.lsv_machine.specs.Machine.{Machine}
 use Rattle.lsv_machine.specs.Work.{draws, fits_file}
 use Rattle.lsv_model.specs.Gives.{adds_any, fits_any}
 use Rattle.lsv_session.specs.declared.connection.ConnId.{ConnId}

@@ -1,7 +1,6 @@
-use Rattle.std.proofs.Common.{◌≡◌, ℕ, List, Option, refl, sym, ap, ◌∙◌, Some, None}
-use Rattle.std.specs.Prelude.{true, false, is_some}
+use Rattle.std.proofs.Common.{◌≡◌, ℕ, List, Option, sym, ap, ◌∙◌, Some}
+use Rattle.std.specs.Prelude.{false, is_some}
 use Rattle.lsv_machine.specs.Machine.{LogState, LogState.There}
-use Rattle.lsv_machine.specs.Work.{can_cut, cut_to}
 use Rattle.lsv_record.specs.Points.{first}
 use Rattle.lsv_record.specs.declared.records.Record.{Record}
 use Rattle.lsv_session.specs.declared.connection.ConnId.{ConnId}

@@ -1,13 +1,9 @@
-use Rattle.std.proofs.Common.{◌≡◌, [], ◌∷◌, refl, sym, ap, ◌∙◌, Some, None}
-use Rattle.std.specs.Prelude.{true, false}
-use Rattle.lsv_session.specs.declared.connection.ConnState.TheVariants.{Dead, Running}
-use Rattle.lsv_machine.specs.Answers.{Saying.Shut, say}
-use Rattle.lsv_machine.specs.Machine.{Machine, leaves, with_state}
-use Rattle.lsv_machine.specs.Work.{ends, silently}
+use Rattle.std.proofs.Common.{◌≡◌, refl, sym, ◌∙◌}
+use Rattle.std.specs.Prelude.{false}
+use Rattle.lsv_machine.specs.Work.{silently}
 use Rattle.lsv_model.specs.Gives.{adds_any, fits_any}
 use Rattle.lsv_model.specs.Views.{machine_of}
-use Rattle.lsv_model.specs.declared.told.Told.TheVariants as told
-use Rattle.lsv_model.proofs.Outcomes.{fits_gives, full_gives, if_ok, not_added, was_added}
+use Rattle.lsv_model.proofs.Outcomes.{full_gives, if_ok, not_added}
 use Rattle.lsv_model.proofs.model.Model.stay.Goals as goal
 
 pub returns-then-not-branch : goal.returns-then-not-branch

@@ -1,11 +1,11 @@
-use Rattle.std.proofs.Common.{◌≡◌, ◌<◌, ◌≤◌, ℕ, length, get_or, arith, List, [], map, refl, sym, ap, ◌∙◌, add-one, Option, None}
+use Rattle.std.proofs.Common.{◌≡◌, ◌<◌, ◌≤◌, ℕ, length, get_or, arith, List, [], map, ap, ◌∙◌, add-one, Option, None}
 use Rattle.std.specs.Vec.{with_items}
 use Rattle.std.proofs.lemmas.List.{with_items_is}
 use Rattle.lsv_record.specs.declared.records.Record.{Record}
 use Rattle.lsv_session.specs.declared.connection.ConnId.{ConnId}
 use Rattle.lsv_machine.specs.Machine.{LogState, Machine}
 use Rattle.lsv_model.specs.Starting.{all_promised}
-use Rattle.lsv_model.specs.Views.{last_of, logs_in, machine_of, owner_in, state_in}
+use Rattle.lsv_model.specs.Views.{last_of, logs_in, owner_in, state_in}
 use Rattle.lsv_model.specs.declared.connections.Connection.{Connection}
 use Rattle.lsv_model.specs.declared.logs.Log.{Log}
 use Rattle.lsv_model.proofs.StopLemmas.{all_stopped, logs_stopped, owners_stopped, stop_more, stopped}

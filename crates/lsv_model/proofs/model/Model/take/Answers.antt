@@ -1,4 +1,4 @@
-use Rattle.std.proofs.Common.{◌≡◌, ℕ, List, refl, sym, ap, ◌∙◌, Some, None}
+use Rattle.std.proofs.Common.{◌≡◌, List, sym, ap, ◌∙◌}
 use Rattle.std.specs.Prelude.{true}
 use Rattle.lsv_mask.specs.Masking.{covered}
 use Rattle.lsv_machine.specs.Machine.{LogState, LogState.There}
