@@ -130,7 +130,14 @@ def measure_crowds(program):
 
 
 def measure_messages(messages):
-    for word in ("decode", "encode"):
+    measures = [
+        ("decode", "reading terminal output of 10 bytes", 0.09),
+        ("decode-large", "reading terminal output of 1,000 bytes", 0.15),
+        ("encode", "writing terminal output of 10 bytes", 0.15),
+        ("points", "putting a commit point into a kept buffer", 0.03),
+        ("lines", "putting a line of timing into a kept buffer", 0.03),
+    ]
+    for word, what, most in measures:
         times = []
         for _ in range(RUNS):
             child = subprocess.Popen([messages, word], stdout=subprocess.DEVNULL)
@@ -138,7 +145,7 @@ def measure_messages(messages):
             if status != 0:
                 sys.exit(f"bench: {word} ended with status {status}")
             times.append(usage.ru_utime + usage.ru_stime)
-        print(f"{word} of terminal output of 10 bytes: {min(times):.3f} us (at most 0.15)")
+        print(f"{what}: {min(times):.3f} us (at most {most})")
 
 
 def measure_records(messages):
@@ -180,7 +187,7 @@ def measure_making(messages):
     runs = [timed_flushes(messages, "make", ".") for _ in range(RUNS)]
     together, alone, count = min(r[0] for r in runs), min(r[1] for r in runs), runs[0][2]
     print(f"making the nine files of a log and its first entry on disk: {together / count / 1e3:.0f} us, "
-          f"{together / alone:.2f} of the time of making a file after the other (at most 0.33)")
+          f"{together / alone:.2f} of the time of 24 syncs one after the other (at most 0.33)")
 
 
 def main():

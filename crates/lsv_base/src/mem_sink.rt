@@ -1,5 +1,5 @@
-ghost use Rattle.std.specs.Prelude.{◌≡◌, ℕ, ◌≤◌, List, [], ◌++◌, IsErr, OnOk, OnErr};
-ghost use Rattle.lsv_words.specs.Causes.{HasRisen};
+ghost use Rattle.std.specs.Prelude.{◌≡◌, [], ◌++◌, IsErr, OnOk, OnErr};
+ghost use Rattle.lsv_base.specs.Outside.{HasCause};
 ghost use Rattle.lsv_base.specs.Script.{IsListed, script_of, answered, failed, unserved};
 
 use crate::{Bytes, Script, Sink, SinkFault};
@@ -62,8 +62,7 @@ impl Sink for MemSink {
         ensures listed { IsListed self.old.script → IsErr result × (self.new.script ≡ failed self.old.script) }
         ensures answered { OnOk result (self.new.script ≡ answered self.old.script) }
         ensures unserved { ¬ IsListed self.old.script → OnErr result (self.new.script ≡ unserved self.old.script) }
-        ensures faults { self.old.script.faults ≤ self.new.script.faults }
-        ensures cause { OnErr result (HasRisen self.old.script.faults self.new.script.faults) }
+        ensures cause { HasCause (IsErr result) self.old.script.faults self.new.script.faults }
     {
         if self.script.fails() {
             return Err(SinkFault);

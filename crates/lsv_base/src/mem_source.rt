@@ -1,6 +1,6 @@
-ghost use Rattle.std.specs.Prelude.{◌≡◌, ℕ, ◌+◌, ◌-◌, ◌^◌, ◌<◌, ◌≤◌, List, [], ◌∷◌, ◌++◌, length, take, min, IfOk, OnOk, OnErr, IsErr};
+ghost use Rattle.std.specs.Prelude.{◌≡◌, ◌+◌, ◌-◌, ◌^◌, ◌<◌, List, [], ◌∷◌, ◌++◌, length, take, min, IfOk, OnOk, OnErr, IsErr};
 ghost use Rattle.std.specs.List.{concat};
-ghost use Rattle.lsv_words.specs.Causes.{HasRisen};
+ghost use Rattle.lsv_base.specs.Outside.{HasCause};
 ghost use Rattle.lsv_base.specs.Script.{IsListed, script_of, answered, failed, unserved};
 ghost use Rattle.lsv_base.specs.MemSource.{first_piece, from_filled, without_front};
 
@@ -117,8 +117,7 @@ impl Source for MemSource {
         ensures listed { IsListed self.old.script → IsErr result × (self.new.script ≡ failed self.old.script) }
         ensures answered { OnOk result (self.new.script ≡ answered self.old.script) }
         ensures unserved { ¬ IsListed self.old.script → OnErr result (self.new.script ≡ unserved self.old.script) }
-        ensures faults { self.old.script.faults ≤ self.new.script.faults }
-        ensures cause { OnErr result (HasRisen self.old.script.faults self.new.script.faults) }
+        ensures cause { HasCause (IsErr result) self.old.script.faults self.new.script.faults }
     {
         if self.script.fails() {
             return Err(SourceFault);

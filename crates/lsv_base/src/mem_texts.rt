@@ -1,5 +1,5 @@
-ghost use Rattle.std.specs.Prelude.{◌≡◌, ℕ, ◌≤◌, List, Option, IfOk, OnOk, OnErr, IsErr, IsErrOf, find};
-ghost use Rattle.lsv_words.specs.Causes.{HasRisen};
+ghost use Rattle.std.specs.Prelude.{◌≡◌, List, Option, IfOk, IsErrOf, find};
+ghost use Rattle.lsv_base.specs.Outside.{HasCause};
 ghost use Rattle.lsv_base.specs.Script.{IsListed, script_of, answered, failed};
 ghost use Rattle.lsv_base.specs.MemTexts.{text_at};
 ghost use Rattle.std.specs.Option.{option_copied};
@@ -66,8 +66,7 @@ impl Texts for MemTexts {
         ensures listed { IsListed self.old.script → (result ≡ Err TextFault.Failed) × (self.new.script ≡ failed self.old.script) }
         ensures answered { ¬ IsListed self.old.script → self.new.script ≡ answered self.old.script }
         ensures unlisted { IsErrOf result TextFault.Failed → IsListed self.old.script }
-        ensures faults { self.old.script.faults ≤ self.new.script.faults }
-        ensures cause { IsErrOf result TextFault.Failed → HasRisen self.old.script.faults self.new.script.faults }
+        ensures cause { HasCause (IsErrOf result TextFault.Failed) self.old.script.faults self.new.script.faults }
     {
         if self.script.fails() {
             return Err(TextFault::Failed);

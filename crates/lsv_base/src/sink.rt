@@ -1,9 +1,12 @@
-ghost use Rattle.std.specs.Prelude.{◌≡◌, ℕ, ◌≤◌, List, ◌++◌, OnOk, OnErr};
-ghost use Rattle.lsv_words.specs.Causes.{HasRisen};
+ghost use Rattle.std.specs.Prelude.{◌≡◌, ℕ, List, ◌++◌, IsErr, OnOk, OnErr};
 ghost use Rattle.lsv_words.specs.Pieces.{IsPrefix};
+ghost use Rattle.lsv_base.specs.Outside.{HasCause};
+
+use thiserror::Error;
 
 /// A write failed.
-#[derive(Clone, Copy, Debug, PartialEq, Eq)]
+#[derive(Clone, Copy, Debug, PartialEq, Eq, Error)]
+#[error("a write failed")]
 pub struct SinkFault;
 
 /// Where bytes go, as standard output.
@@ -21,6 +24,5 @@ pub trait Sink {
     fn write(&mut self, bytes: &[u8]) -> Result<(), SinkFault>
         ensures put { tells → OnOk result (put self.new ≡ put self.old ++ bytes.now) }
         ensures failed { tells → OnErr result ((front : List ℕ) × IsPrefix front bytes.now × (put self.new ≡ put self.old ++ front)) }
-        ensures faults { faults self.old ≤ faults self.new }
-        ensures cause { OnErr result (HasRisen (faults self.old) (faults self.new)) };
+        ensures cause { HasCause (IsErr result) (faults self.old) (faults self.new) };
 }

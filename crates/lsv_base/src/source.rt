@@ -1,8 +1,11 @@
-ghost use Rattle.std.specs.Prelude.{◌≡◌, ℕ, ◌+◌, ◌-◌, ◌<◌, ◌≤◌, ◌^◌, List, [], ◌∷◌, ◌++◌, length, take, IfOk, OnErr};
-ghost use Rattle.lsv_words.specs.Causes.{HasRisen};
+ghost use Rattle.std.specs.Prelude.{◌≡◌, ℕ, ◌+◌, ◌-◌, ◌<◌, ◌≤◌, ◌^◌, List, [], ◌∷◌, ◌++◌, length, take, IsErr, IfOk, OnErr};
+ghost use Rattle.lsv_base.specs.Outside.{HasCause};
+
+use thiserror::Error;
 
 /// A read failed.
-#[derive(Clone, Copy, Debug, PartialEq, Eq)]
+#[derive(Clone, Copy, Debug, PartialEq, Eq, Error)]
+#[error("a read failed")]
 pub struct SourceFault;
 
 /// Where bytes come from, as standard input.
@@ -33,6 +36,5 @@ pub trait Source {
         ensures counted { IfOk result (λ n. count self.new ≡ count self.old + n) }
         ensures not_counted { OnErr result (count self.new ≡ count self.old) }
         ensures limit { count self.new < 2 ^ 63 }
-        ensures faults { faults self.old ≤ faults self.new }
-        ensures cause { OnErr result (HasRisen (faults self.old) (faults self.new)) };
+        ensures cause { HasCause (IsErr result) (faults self.old) (faults self.new) };
 }

@@ -1,13 +1,16 @@
-ghost use Rattle.std.specs.Prelude.{◌≡◌, ℕ, ◌≤◌, List, Option, IfOk, IsErrOf};
-ghost use Rattle.lsv_words.specs.Causes.{HasRisen};
+ghost use Rattle.std.specs.Prelude.{◌≡◌, ℕ, List, Option, IfOk, IsErrOf};
+ghost use Rattle.lsv_base.specs.Outside.{HasCause};
 
 use crate::{Bytes, NoMem};
 use std::alloc::Global;
+use thiserror::Error;
 
 /// Why a text couldn't be read.
-#[derive(Clone, Copy, Debug, PartialEq, Eq)]
+#[derive(Clone, Copy, Debug, PartialEq, Eq, Error)]
 pub enum TextFault {
+    #[error("a reading of a text failed")]
     Failed,
+    #[error("out of memory")]
     NoMem,
 }
 
@@ -36,6 +39,5 @@ pub trait Texts {
     fn text(&mut self, alloc: Global, path: &str) -> Result<Option<Bytes>, TextFault>
         ensures text { tells → IfOk result (λ t. t ≡ texts self.old path.now) }
         ensures same { tells → (p : List ℕ) → texts self.new p ≡ texts self.old p }
-        ensures faults { faults self.old ≤ faults self.new }
-        ensures cause { IsErrOf result TextFault.Failed → HasRisen (faults self.old) (faults self.new) };
+        ensures cause { HasCause (IsErrOf result TextFault.Failed) (faults self.old) (faults self.new) };
 }

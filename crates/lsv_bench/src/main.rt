@@ -1,46 +1,22 @@
-//! Reads or writes one message a million times, lays and reads a million records, flushes a bundle, or makes logs, so that
-//! `make bench` can measure each alone.
+//! Reads or writes one message, reply or line a million times, lays and reads a million records, flushes a bundle, or
+//! makes logs, so that `make bench` can measure each alone.
 #![tactic(auto)]
 
 mod flushes;
 mod makes;
+mod messages;
 
 use flushes::flushes;
 use lsv_base::{Bytes, List};
-use lsv_msg::{ClientMessage, decode_client, encode_client};
 use lsv_record::{Record, Stream, lay, read_log};
 use makes::makes;
+use messages::{decode_large_all, decode_small_all, encode_all, lines_all, points_all};
 use std::alloc::Global;
 use std::env;
 use std::process::ExitCode;
 use std::time::Instant;
 
 const COUNT: u32 = 1_000_000;
-
-/// Terminal output of ten bytes, a millisecond after the record before.
-const MESSAGE: &[u8] = b"\x3a\x12\x0a\x04\x10\xc0\x84\x3d\x12\x0a0123456789";
-
-/// The bytes of data that were read, so that no reading can be left out.
-fn decode_all(alloc: Global) -> Option<u64> {
-    let mut total: u64 = 0;
-    for _ in 0..COUNT {
-        if let ClientMessage::Ttyout(buffer) = decode_client(alloc, MESSAGE).ok()? {
-            total = total.wrapping_add(buffer.bytes.as_slice().len() as u64);
-        }
-    }
-    Some(total)
-}
-
-/// The bytes that were written.
-fn encode_all(alloc: Global) -> Option<u64> {
-    let message = decode_client(alloc, MESSAGE).ok()?;
-    let mut total: u64 = 0;
-    for _ in 0..COUNT {
-        let bytes = encode_client(alloc, &message).ok()?;
-        total = total.wrapping_add(bytes.as_slice().len() as u64);
-    }
-    Some(total)
-}
 
 /// Terminal output of ten bytes each, a millisecond apart.
 fn records(alloc: Global) -> Option<List<Record>> {
@@ -78,8 +54,11 @@ fn measured(rt: &HostRuntime) -> Option<u64> {
     let alloc = rt.alloc();
     let word = env::args(rt).ok()?.nth(1)?;
     match word.as_str() {
-        "decode" => decode_all(alloc),
+        "decode" => decode_small_all(alloc),
+        "decode-large" => decode_large_all(alloc),
         "encode" => encode_all(alloc),
+        "points" => points_all(alloc),
+        "lines" => lines_all(alloc),
         "records" => lay_and_read(rt),
         "flush" => flushes(*rt, 2_000),
         "make" => makes(*rt, 200),

@@ -1,12 +1,13 @@
 -- What a journal holds on an image of the disk, by the name of its file. All that is said of a journal above it is
 -- said in these words.
-use Rattle.std.specs.Prelude.{◌≡◌, ◌⊎◌, ℕ, List, Option, None}
+use Rattle.std.specs.Prelude.{◌≡◌, ◌≢◌, ◌⊎◌, ℕ, List, Option, None}
 use Rattle.std.specs.Option.{option_or}
 use Rattle.lsv_disk.specs.declared.file.FileId.{FileId}
 use Rattle.lsv_disk.specs.declared.file.Part.TheVariants.{Commit}
 use Rattle.lsv_disk.specs.Bytes.{bytes_of}
 use Rattle.lsv_disk.specs.Files.{file_of}
 use Rattle.lsv_disk.specs.View.{Image, DiskView, IsCrashImage}
+use Rattle.lsv_disk.specs.Throughout.{WritesOneOf}
 use Rattle.lsv_journal.specs.Gates.{count, last_of}
 use Rattle.lsv_journal.specs.Slots.{entry_of, KeepsSlot, SelectsAsBefore, StaysWithin}
 
@@ -53,6 +54,15 @@ SameJournal n f was image = LastAt n f image ≡ LastAt n f was
 -- it has the last entry of some crash image of that disk
 abbrev pub IsSomeCrashOf : ℕ → FileId → DiskView → Image → Type 0
 IsSomeCrashOf n f disk image = (was : Image) × IsCrashImage disk was × SameJournal n f was image
+
+-- its slots have an entry
+unfoldable pub HasSlotsEntry : ℕ → FileId → Image → Type 0
+HasSlotsEntry n f image = slots_last n f image ≢ None
+
+-- opening it wrote its slots three times at most, and not where they have an entry; and synced each of these files five times at most
+pub record OpeningCalls (n : ℕ) (f : FileId) (Own : FileId → Type 0) (old new : DiskView) : Type 0 where
+  pub at_most : WritesOneOf f 3 5 Own old new
+  pub unwritten : HasSlotsEntry n f old.reads → (g : FileId) → new.writes g ≡ old.writes g
 
 -- its old file has no entry in any crash image
 abbrev pub HasNoOldEntry : ℕ → FileId → DiskView → Type 0

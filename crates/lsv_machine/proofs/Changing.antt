@@ -1,20 +1,18 @@
 -- One log changes, or a connection begins to write one.
-use Rattle.std.proofs.Common.{◌≡◌, ◌≢◌, ◌≤◌, ◌<◌, ◌+◌, ◌*◌, ℕ, List, [], ◌∷◌, ◌++◌, length, take, refl, sym, ◌∙◌, ap, subst, inl, inr, arith, Option, Some, None, ◌⊎◌, unwrap_or}
-use Rattle.std.specs.Prelude.{◌==◌, ◌&&◌, nat_lt, max, min, Bool, true, false, if◌then◌else◌}
-use Rattle.std.proofs.lemmas.Bool.Decides.{nat_tests}
+use Rattle.std.proofs.Common.{◌≡◌, ◌≢◌, ◌≤◌, ◌<◌, ◌+◌, ◌*◌, ℕ, List, ◌∷◌, take, refl, sym, ◌∙◌, ap, subst, inl, inr, arith, Option, Some, None, ◌⊎◌}
+use Rattle.std.specs.Prelude.{◌==◌, true, false, if◌then◌else◌}
 use Rattle.std.proofs.lemmas.Grind.{common_steps}
 use Rattle.lsv_record.specs.Points.{Stored, cut, first, kept}
 use Rattle.lsv_record.specs.declared.records.Record.{Record}
 use Rattle.lsv_session.specs.declared.connection.ConnId.{ConnId}
-use Rattle.lsv_session.specs.declared.connection.ConnState.{ConnState}
 use Rattle.lsv_session.specs.declared.connection.ConnState.TheVariants.{Running}
 use Rattle.lsv_machine.specs.History.{Ledger, becomes}
-use Rattle.lsv_machine.specs.Machine.{IsOfLane, LogState, LogState.Absent, LogState.Damaged, LogState.There, Machine, Settings, is_dead, log_of, same, with_log, with_owner, with_state}
-use Rattle.lsv_machine.specs.Stands.{Agrees, HoldsAt, HoldsRecords, Sound, as_list}
+use Rattle.lsv_machine.specs.Machine.{IsOfLane, LogState.There, Machine, Settings, is_dead, log_of, same, with_log, with_owner, with_state}
+use Rattle.lsv_machine.specs.Stands.{HoldsRecords, Sound, as_list}
 use Rattle.lsv_machine.specs.Failures.{MayDraw}
 use Rattle.lsv_machine.specs.Work.{cut_to, draws}
 use Rattle.std.proofs.Math.Nat.{add-mul}
-use Rattle.lsv_machine.proofs.Choices.{SomeOr, SomeOr.nothing, SomeOr.just, some_or, SameOr, SameOr.alike, SameOr.apart, same_or, same_refl, EqOr, EqOr.equal, EqOr.unequal, eq_or}
+use Rattle.lsv_machine.proofs.Choices.{SomeOr.nothing, SomeOr.just, some_or, SameOr.alike, SameOr.apart, same_or, same_refl, EqOr.equal, EqOr.unequal, eq_or}
 use Rattle.lsv_machine.proofs.Fits.{Fits}
 use Rattle.lsv_machine.proofs.RecordLemmas.{becomes_is, becomes_none, becomes_some, cut_alike, prefix_all, take_none}
 

@@ -1,24 +1,24 @@
 -- What stays of machine and history where a connection dies and its log is another one then, or where a number is drawn in vain.
-use Rattle.std.proofs.Common.{◌≡◌, ◌≢◌, ◌≤◌, ◌<◌, ◌+◌, ℕ, List, [], ◌∷◌, ◌++◌, length, take, refl, sym, ◌∙◌, ap, subst, inl, inr, arith, Option, Some, None, ◌⊎◌, unwrap_or}
-use Rattle.std.specs.Prelude.{◌==◌, ◌&&◌, ◌||◌, nat_lt, max, min, Bool, true, false, if◌then◌else◌, Result, Ok, Err, Contains}
+use Rattle.std.proofs.Common.{◌≡◌, ◌≢◌, ◌≤◌, ◌<◌, ℕ, List, [], ◌∷◌, take, refl, sym, ◌∙◌, ap, subst, inl, inr, arith, Option, Some, None, ◌⊎◌}
+use Rattle.std.specs.Prelude.{min, Bool, false}
 use Rattle.std.proofs.lemmas.Grind.{common_steps}
 use Rattle.lsv_disk.specs.declared.file.Owner.{Owner}
 use Rattle.lsv_record.specs.Points.{Stored, first}
 use Rattle.lsv_record.specs.declared.records.Record.{Record}
 use Rattle.lsv_session.specs.declared.connection.ConnId.{ConnId}
 use Rattle.lsv_session.specs.declared.connection.ConnState.{ConnState}
-use Rattle.lsv_session.specs.declared.connection.ConnState.TheVariants.{Fresh, Dead}
+use Rattle.lsv_session.specs.declared.connection.ConnState.TheVariants.{Dead}
 use Rattle.lsv_machine.specs.Answers.{Saying.Shut}
-use Rattle.lsv_machine.specs.Failures.{Closes, FailsInCut, FailsToDraw, IsSet, LeavesLog, LosesTail}
-use Rattle.lsv_machine.specs.History.{Ledger, heard, lowered_to, reopened}
-use Rattle.lsv_machine.specs.Machine.{IsOfLane, LogState, LogState.Absent, LogState.Damaged, LogState.There, Machine, Settings, leaves, log_of, with_log}
+use Rattle.lsv_machine.specs.Failures.{Closes, FailsInCut, IsSet, LeavesLog, LosesTail}
+use Rattle.lsv_machine.specs.History.{Ledger, heard, lowered_to}
+use Rattle.lsv_machine.specs.Machine.{IsOfLane, LogState, LogState.There, Machine, Settings, leaves, log_of, with_log}
 use Rattle.lsv_machine.specs.Stands.{HoldsAt, HoldsRecords, as_list}
-use Rattle.lsv_machine.specs.Work.{draws, empty_log, makes, with_exit}
-use Rattle.lsv_machine.proofs.Choices.{SameOr, SameOr.alike, SameOr.apart, same_or, EqOr, EqOr.equal, EqOr.unequal, eq_or, SomeOr, SomeOr.nothing, SomeOr.just, some_or}
-use Rattle.lsv_machine.proofs.Changing.{NotAbove, fits_log, owned_not_above, there_not_above}
+use Rattle.lsv_machine.specs.Work.{draws, empty_log, with_exit}
+use Rattle.lsv_machine.proofs.Choices.{SameOr.alike, SameOr.apart, same_or, EqOr.equal, EqOr.unequal, eq_or}
+use Rattle.lsv_machine.proofs.Changing.{fits_log, owned_not_above, there_not_above}
 use Rattle.lsv_machine.proofs.Fits.{Fits}
-use Rattle.lsv_machine.proofs.Leaving.{LeftOwner, LeftOwner.its, LeftOwner.another, fits_dies, fits_goes, left_owner}
-use Rattle.lsv_machine.proofs.RecordLemmas.{CutAlike, cut_alike, lowered_is, lowered_none, prefix_trans, take_none, take_prefix}
+use Rattle.lsv_machine.proofs.Leaving.{LeftOwner.its, LeftOwner.another, fits_dies, left_owner}
+use Rattle.lsv_machine.proofs.RecordLemmas.{cut_alike, lowered_is, lowered_none, prefix_trans, take_none, take_prefix}
 use Rattle.lsv_machine.proofs.WorkFits.{holds_there, left_nobody}
 
 -- a log that nobody writes any more, and of which a tail was lost
@@ -129,7 +129,7 @@ module _ (good : Type 0) (set : Settings) (n : ℕ) (k : ConnId) (m : Machine) (
       (λ j. elim (same_or j k) [ alike p u ↦ rw u refl | apart p u ↦ rw u (s j) ])
       (rw w refl)
       (λ p g. let (a, b) = own p in rw (a, b) (holds_failed_cut t.stored t.promised (m.owner n) ((leaves k Dead m).owner n) l.shown l.promised c t.kept t.left t.cuts
-          (holds_there good set n m l t.stored t.promised f (ap m.logs p ∙ t.was) g) t.ends t.enough (nobody_else Dead i free p)))
+      (holds_there good set n m l t.stored t.promised f (ap m.logs p ∙ t.was) g) t.ends t.enough (nobody_else Dead i free p)))
       others)
 
   -- ---- Draws

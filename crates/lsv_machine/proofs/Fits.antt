@@ -1,20 +1,17 @@
 -- The invariant of a run: the machine fits what a history says of one log. good: that the store was good for what was before the run; without it only writers are spoken of.
-use Rattle.std.proofs.Common.{◌≡◌, ◌≢◌, ◌≤◌, ◌<◌, ◌+◌, ℕ, List, [], ◌∷◌, ◌++◌, length, take, refl, sym, ◌∙◌, ap, subst, inl, inr, arith, Option, Some, None, ◌⊎◌, unwrap_or}
-use Rattle.std.specs.Prelude.{◌==◌, ◌&&◌, nat_lt, Bool, true, false, if◌then◌else◌, Result, Ok, Err}
+use Rattle.std.proofs.Common.{◌≡◌, ◌≢◌, ◌<◌, ℕ, List, [], ◌∷◌, refl, sym, ◌∙◌, ap, Option, Some, None}
+use Rattle.std.specs.Prelude.{◌==◌, Bool, true, false, if◌then◌else◌, Result, Ok, Err}
 use Rattle.std.specs.List.{list_any}
 use Rattle.lsv_info.specs.Layout.{exit_text}
-use Rattle.lsv_record.specs.Points.{Stored}
-use Rattle.lsv_record.specs.declared.records.Record.{Record}
 use Rattle.lsv_request.specs.declared.refusal.Refusal.{Refusal}
 use Rattle.lsv_request.specs.declared.request.Request.{Request}
 use Rattle.lsv_request.specs.declared.request.Request.TheVariants as request
 use Rattle.lsv_session.specs.declared.connection.ConnId.{ConnId}
-use Rattle.lsv_session.specs.declared.connection.ConnState.{ConnState}
 use Rattle.lsv_machine.specs.Answers.{Answer, is_silent}
 use Rattle.lsv_machine.specs.History.{Ledger, asked, tells_log, writes}
-use Rattle.lsv_machine.specs.Machine.{IsOfLane, LogState, LogState.Absent, LogState.Damaged, LogState.There, Machine, Settings, is_dead, log_of, same, with_state}
-use Rattle.lsv_machine.specs.Stands.{Agrees, HoldsAt, HoldsRecords, Sound, StandsFor, as_list}
-use Rattle.lsv_machine.proofs.Choices.{SameOr, SameOr.alike, SameOr.apart, same_or, same_refl}
+use Rattle.lsv_machine.specs.Machine.{IsOfLane, Machine, Settings, same}
+use Rattle.lsv_machine.specs.Stands.{Agrees, HoldsAt, Sound, StandsFor, as_list}
+use Rattle.lsv_machine.proofs.Choices.{SameOr.alike, SameOr.apart, same_or, same_refl}
 
 pub record Fits (good : Type 0) (set : Settings) (n : ℕ) (m : Machine) (l : Ledger) : Type 0 where
   pub sound : Sound set m

@@ -1,12 +1,11 @@
 -- One job keeps machine and history together: the table, and each way to end a connection otherwise.
-use Rattle.std.proofs.Common.{◌≡◌, ◌≢◌, ◌≤◌, ◌<◌, ◌+◌, ℕ, List, [], ◌∷◌, ◌++◌, length, take, refl, sym, ◌∙◌, ap, subst, inl, inr, arith, Option, Some, None, ◌⊎◌, unwrap_or}
-use Rattle.std.specs.Prelude.{◌==◌, ◌&&◌, ◌||◌, not, nat_lt, max, min, Bool, true, false, if◌then◌else◌, Result, Ok, Err, Contains}
+use Rattle.std.proofs.Common.{◌≡◌, ◌≢◌, ◌<◌, ◌+◌, ℕ, List, [], ◌∷◌, ◌++◌, refl, sym, ◌∙◌, ap, subst, inl, inr, Option, Some, None, ◌⊎◌}
+use Rattle.std.specs.Prelude.{◌==◌, ◌||◌, not, Bool, true, false, if◌then◌else◌, Result, Ok, Err}
 use Rattle.lsv_base.specs.declared.time.TimeSpec.{TimeSpec}
 use Rattle.lsv_disk.specs.declared.file.Owner.{Owner}
 use Rattle.lsv_disk.specs.declared.file.Owner.TheVariants.{Log, Events, Numbers, Relay}
 use Rattle.lsv_info.specs.Layout.{head_text, exit_text}
 use Rattle.lsv_msg.specs.declared.messages.ClientMessage.{ClientMessage}
-use Rattle.lsv_record.specs.Points.{Stored}
 use Rattle.lsv_request.specs.Requests.{request_of}
 use Rattle.lsv_request.specs.declared.refusal.Refusal.{Refusal}
 use Rattle.lsv_request.specs.declared.refusal.Refusal.TheVariants as refusals
@@ -21,17 +20,17 @@ use Rattle.lsv_session.specs.declared.job.Body.{Body}
 use Rattle.lsv_session.specs.declared.job.Body.TheVariants as body
 use Rattle.lsv_session.specs.declared.job.Job.{Job}
 use Rattle.lsv_machine.specs.Answers.{Answer, Saying.Shut, farewell, is_refused, say, refusal}
-use Rattle.lsv_machine.specs.Failures.{Act, AsksFor, BreaksOff, Breaks, BrokenOff, Deviates, FailsAt, FailsCut, FailsToDraw, HasMade, HasSet, IsRefused, IsSet, LogFails, LosesLine, LeavesLog, LetsGo, LosesLog, Makes, MayDraw, MeetsFault, Plainly, Step, WantsMemory, exit_in}
-use Rattle.lsv_machine.specs.History.{Ledger, answered as noted_answer, asked, heard, heard_all, is_exit, is_gone, lowered_to, noted, reopened, request_in, restarted_by, writes}
+use Rattle.lsv_machine.specs.Failures.{Act, AsksFor, BreaksOff, Breaks, BrokenOff, FailsAt, FailsCut, FailsToDraw, HasMade, HasSet, IsRefused, LogFails, LosesLine, LetsGo, LosesLog, Makes, MayDraw, MeetsFault, Step, WantsMemory, exit_in}
+use Rattle.lsv_machine.specs.History.{Ledger, answered as noted_answer, asked, heard, heard_all, is_exit, is_gone, lowered_to, noted, reopened, writes}
 use Rattle.lsv_machine.specs.Judgement.{fault_refusal, judged}
-use Rattle.lsv_machine.specs.Machine.{IsOfLane, LogState, LogState.Absent, LogState.Damaged, LogState.There, Machine, Settings, forgets, is_dead, is_running, leaves, log_of, same, with_log, with_state, without_conn}
+use Rattle.lsv_machine.specs.Machine.{IsOfLane, LogState, LogState.Absent, LogState.Damaged, LogState.There, Machine, Settings, forgets, is_dead, is_running, leaves, log_of, with_log, with_state, without_conn}
 use Rattle.lsv_machine.specs.Stands.{as_list}
-use Rattle.lsv_machine.specs.Turns.{Happened, Happened.Did}
+use Rattle.lsv_machine.specs.Turns.{Happened.Did}
 use Rattle.lsv_machine.specs.Work.{Done, adds_line, alive, answered, before_line, draws, dropped, empty_log, fits_file, has_line, line_fits, line_in, lined, makes, opens, plain, refused, sets_exit, work}
-use Rattle.lsv_machine.proofs.Choices.{SameOr, SameOr.alike, SameOr.apart, same_or, same_refl, EqOr, EqOr.equal, EqOr.unequal, eq_or}
+use Rattle.lsv_machine.proofs.Choices.{SameOr.alike, SameOr.apart, same_or, EqOr.equal, EqOr.unequal, eq_or}
 use Rattle.lsv_machine.proofs.Changing.{drawn_is}
 use Rattle.lsv_machine.proofs.Dying.{cut_failed, died_exiting, died_leaving, died_set, loses_beside, made_fits}
-use Rattle.lsv_machine.proofs.Fits.{Fits, SameNotes, asked_loud, fits_beside, fits_same, writes_none}
+use Rattle.lsv_machine.proofs.Fits.{Fits, asked_loud, fits_beside, fits_same, writes_none}
 use Rattle.lsv_machine.proofs.JudgedLemmas.{Suits, judged_ok}
 use Rattle.lsv_machine.proofs.Leaving.{fits_dies, fits_goes, fits_state, without_owner, writers_left, without_self}
 use Rattle.lsv_machine.proofs.WorkFits.{Together, exited_together, opened_together, recorded_together, refused_together, restarted_together, shut_together}
@@ -312,7 +311,7 @@ module _ (good : Type 0) (set : Settings) (n : ℕ) (m : Machine) (l : Ledger) (
   loses_together =
       let plainly = plain_together good set n act.now act.job t.number m l t.drawn f in
       let at : Fits good set n (plain set act.now act.job t.number m).machine (noted_answer n act.job.conn act.job.body act.answers false l) =
-          subst (λ a. Fits good set n (plain set act.now act.job t.number m).machine (noted_answer n act.job.conn act.job.body a false l)) (sym t.answers) plainly in
+      subst (λ a. Fits good set n (plain set act.now act.job t.number m).machine (noted_answer n act.job.conn act.job.body a false l)) (sym t.answers) plainly in
       rw t.now (loses_beside good set n t.log (plain set act.now act.job t.number m).machine (noted_answer n act.job.conn act.job.body act.answers false l) t.left at (nobody_writes t.lets_go) t.loses)
 
 -- a restart that failed inside its cut

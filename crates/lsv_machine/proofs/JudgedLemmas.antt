@@ -1,5 +1,5 @@
 -- What a judgement that lets a message through says of the session's state.
-use Rattle.std.proofs.Common.{◌≡◌, ℕ, List, refl, sym, ◌∙◌, ap, subst, Option, Some, None}
+use Rattle.std.proofs.Common.{◌≡◌, ℕ, refl, subst, Some, None}
 use Rattle.std.specs.Prelude.{Bool, true, false, ◌||◌, if◌then◌else◌, Result, Ok, Err}
 use Rattle.lsv_msg.specs.declared.messages.ClientMessage.{ClientMessage}
 use Rattle.lsv_msg.specs.declared.messages.ClientMessage.TheVariants as client
@@ -8,8 +8,6 @@ use Rattle.lsv_record.specs.declared.records.Stream.TheVariants as stream
 use Rattle.lsv_request.specs.Requests.{accept_of, alert_of, and_then, data_of, exit_of, has_keys, reject_of, request_of, restart_of, suspend_of, window_of}
 use Rattle.lsv_request.specs.declared.refusal.Refusal.{Refusal}
 use Rattle.lsv_request.specs.declared.refusal.Refusal.TheVariants as refusals
-use Rattle.lsv_request.specs.declared.request.Accept.{Accept}
-use Rattle.lsv_request.specs.declared.request.Report.{Report}
 use Rattle.lsv_request.specs.declared.request.Request.{Request}
 use Rattle.lsv_request.specs.declared.request.Request.TheVariants as request
 use Rattle.lsv_session.specs.declared.connection.ConnState.{ConnState}

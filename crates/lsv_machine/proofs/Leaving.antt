@@ -1,15 +1,15 @@
 -- What stays of who writes which log where a connection's state changes, or it leaves.
-use Rattle.std.proofs.Common.{◌≡◌, ◌≢◌, ◌≤◌, ◌<◌, ◌+◌, ℕ, List, [], ◌∷◌, refl, sym, ◌∙◌, ap, subst, inl, inr, arith, Option, Some, None, ◌⊎◌}
-use Rattle.std.specs.Prelude.{◌==◌, ◌&&◌, Bool, true, false, if◌then◌else◌}
+use Rattle.std.proofs.Common.{◌≡◌, ◌≢◌, ℕ, List, [], ◌∷◌, refl, sym, ◌∙◌, ap, subst, Option, Some, None}
+use Rattle.std.specs.Prelude.{Bool, true, false}
 use Rattle.lsv_record.specs.declared.records.Record.{Record}
 use Rattle.lsv_session.specs.declared.connection.ConnId.{ConnId}
 use Rattle.lsv_session.specs.declared.connection.ConnState.{ConnState}
-use Rattle.lsv_session.specs.declared.connection.ConnState.TheVariants.{Fresh, Greeted, Alerted, Running, Dead}
+use Rattle.lsv_session.specs.declared.connection.ConnState.TheVariants.{Fresh, Dead}
 use Rattle.lsv_machine.specs.Answers.{Saying.Shut}
 use Rattle.lsv_machine.specs.History.{Ledger, heard, reopened}
-use Rattle.lsv_machine.specs.Machine.{IsOfLane, LogState, LogState.Absent, LogState.Damaged, LogState.There, Machine, Settings, is_dead, is_log, leaves, let_go, log_of, same, with_state, without_conn}
-use Rattle.lsv_machine.specs.Stands.{Agrees, HoldsAt, Sound, as_list}
-use Rattle.lsv_machine.proofs.Choices.{SameOr, SameOr.alike, SameOr.apart, same_or, same_refl, EqOr, EqOr.equal, EqOr.unequal, eq_or}
+use Rattle.lsv_machine.specs.Machine.{LogState, LogState.Absent, LogState.Damaged, LogState.There, Machine, Settings, is_dead, is_log, leaves, log_of, with_state, without_conn}
+use Rattle.lsv_machine.specs.Stands.{HoldsAt, Sound, as_list}
+use Rattle.lsv_machine.proofs.Choices.{SameOr.alike, SameOr.apart, same_or, same_refl, EqOr.equal, EqOr.unequal, eq_or}
 use Rattle.lsv_machine.proofs.Fits.{Fits}
 
 -- a state that says the same of the log that its connection writes

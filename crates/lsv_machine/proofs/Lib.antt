@@ -1,5 +1,4 @@
 pub mod Choices
-pub mod PointLemmas
 pub mod RecordLemmas
 pub mod Fits
 pub mod Leaving
@@ -19,3 +18,12 @@ pub mod OutcomeLemmas
 pub mod Weaken
 pub mod Untouched
 pub mod Splits
+pub mod Folds
+pub mod TailFolds
+pub mod Recovering
+pub mod Chains
+pub mod Under
+pub mod Wholes
+pub mod Cases
+pub mod Starters
+pub mod EventLines

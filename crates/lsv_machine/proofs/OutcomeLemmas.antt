@@ -1,6 +1,6 @@
 -- Which restarts are accepted, and that one job and one end of a turn have one outcome where nothing fails.
-use Rattle.std.proofs.Common.{◌≡◌, ◌≢◌, ◌≤◌, ◌<◌, ◌+◌, ◌*◌, ℕ, List, [], ◌∷◌, ◌++◌, length, refl, sym, ◌∙◌, ap, subst, inl, inr, arith, Option, Some, None, ◌⊎◌}
-use Rattle.std.specs.Prelude.{◌==◌, ◌&&◌, ◌||◌, not, Bool, true, false, if◌then◌else◌, is_some, Result, Ok, Err, Contains}
+use Rattle.std.proofs.Common.{◌≡◌, ◌+◌, ◌*◌, ℕ, List, [], ◌∷◌, ◌++◌, refl, sym, ◌∙◌, ap, subst, inl, inr, arith, Option, Some, None, ◌⊎◌}
+use Rattle.std.specs.Prelude.{Bool, true, false, is_some, Result, Err}
 use Rattle.lsv_base.specs.declared.time.TimeSpec.{TimeSpec}
 use Rattle.lsv_disk.specs.declared.file.Owner.{Owner}
 use Rattle.lsv_disk.specs.declared.file.Owner.TheVariants.{Log, Events}
@@ -13,18 +13,18 @@ use Rattle.lsv_request.specs.declared.request.Request.{Request}
 use Rattle.lsv_request.specs.declared.request.Request.TheVariants as request
 use Rattle.lsv_session.specs.declared.connection.ConnId.{ConnId}
 use Rattle.lsv_session.specs.declared.connection.ConnState.{ConnState}
-use Rattle.lsv_session.specs.declared.connection.ConnState.TheVariants.{Running, Dead}
+use Rattle.lsv_session.specs.declared.connection.ConnState.TheVariants.{Running}
 use Rattle.lsv_session.specs.declared.job.Body.{Body}
 use Rattle.lsv_session.specs.declared.job.Body.TheVariants as body
 use Rattle.lsv_session.specs.declared.job.Job.{Job}
 use Rattle.lsv_machine.specs.Answers.{Answer, Saying.CommitPoint, Saying.Shut, refusal, say}
-use Rattle.lsv_machine.specs.Failures.{Act, AsksFor, BreaksOff, Breaks, BrokenOff, Deviates, FailsCut, IsRefused, LetsGo, LosesLog, MayDraw, MeetsFault, Plainly, Step, WantsMemory}
+use Rattle.lsv_machine.specs.Failures.{Act, AsksFor, BreaksOff, Breaks, BrokenOff, FailsCut, IsRefused, LetsGo, LosesLog, MayDraw, MeetsFault, Plainly, Step, WantsMemory}
 use Rattle.lsv_machine.specs.Judgement.{fault_refusal, judged}
-use Rattle.lsv_machine.specs.Machine.{LogState, LogState.Absent, LogState.Damaged, LogState.There, Machine, Settings, is_dead, with_log, with_owner, with_state}
+use Rattle.lsv_machine.specs.Machine.{LogState, LogState.Absent, LogState.Damaged, LogState.There, Machine, Settings, is_dead, with_log, with_owner}
 use Rattle.lsv_machine.specs.Resuming.{CanResume, HasResumed}
-use Rattle.lsv_machine.specs.Turns.{Commits, EndOfTurn, FailsFlush, FlushesLines, FlushesLog, FlushesLogs, Tail, raised, with_lines}
+use Rattle.lsv_machine.specs.Turns.{Commits, EndOfTurn, FlushesLines, FlushesLog, FlushesLogs, Tail, raised}
 use Rattle.lsv_machine.specs.Work.{Done, can_cut, cut_to, next_number, plain, refused, restarted, restarted_at, resumed}
-use Rattle.lsv_machine.proofs.Choices.{EqOr, EqOr.equal, EqOr.unequal, eq_or}
+use Rattle.lsv_machine.proofs.Choices.{EqOr.equal, EqOr.unequal, eq_or}
 use Rattle.lsv_machine.proofs.JobFits.{Last, Last.by_refusal, Last.by_shut, refused_last, wants_last}
 use Rattle.lsv_machine.proofs.Shapes.{its_state}
 use Rattle.lsv_machine.proofs.StepLooks.{none_among}
@@ -181,7 +181,7 @@ one_outcome set old x y a b job now none p q =
     let n = number_is set old p.number none p.drawn in
     let i = number_is set old q.number none q.drawn in
     let same : plain set a.now a.job p.number old ≡ plain set b.now b.job q.number old =
-        ap (λ t. plain set t a.job p.number old) now ∙ (ap (λ j. plain set b.now j p.number old) job ∙ ap (λ k. plain set b.now b.job k old) (n ∙ sym i)) in
+    ap (λ t. plain set t a.job p.number old) now ∙ (ap (λ j. plain set b.now j p.number old) job ∙ ap (λ k. plain set b.now b.job k old) (n ∙ sym i)) in
     (p.answers ∙ (ap (λ (d : Done). d.answers) same ∙ sym q.answers), p.line ∙ (ap (λ (d : Done). d.line) same ∙ sym q.line), p.now ∙ (ap (λ (d : Done). d.machine) same ∙ sym q.now))
 
 there_is : (a b : Stored) (p q : ℕ) → There a p ≡ There b q → (a ≡ b) × (p ≡ q)
@@ -191,10 +191,11 @@ commits_once : (failed failed' : List Owner) (n : ℕ) (as' bs : List Answer) (m
 commits_once failed failed' n as' bs m x y s t =
     let w : Some s.writer ≡ Some t.writer = sym s.owned ∙ t.owned in
     let k : s.writer ≡ t.writer = cc in
-    let (a, p) = there_is s.stored t.stored s.promised t.promised (sym s.was ∙ t.was) in
-    (s.told ∙ (ap (λ (j : ConnId). say j (CommitPoint (elapsed s.stored.records)) ∷ []) k ∙ (ap (λ (z : Stored). say t.writer (CommitPoint (elapsed z.records)) ∷ []) a ∙ sym t.told)),
-        s.now ∙ (ap (λ (z : Stored). with_log n (There z (raised s.promised z.records (elapsed z.records))) m) a
-        ∙ (ap (λ (q : ℕ). with_log n (There t.stored (raised q t.stored.records (elapsed t.stored.records))) m) p ∙ sym t.now)))
+    let (a, p) = there_is s.stored t.stored s.promised t.promised (sym s.was ∙ t.was) in (
+      s.told ∙ (ap (λ (j : ConnId). say j (CommitPoint (elapsed s.stored.records)) ∷ []) k ∙ (ap (λ (z : Stored). say t.writer (CommitPoint (elapsed z.records)) ∷ []) a ∙ sym t.told)),
+      s.now ∙ (ap (λ (z : Stored). with_log n (There z (raised s.promised z.records (elapsed z.records))) m) a
+          ∙ (ap (λ (q : ℕ). with_log n (There t.stored (raised q t.stored.records (elapsed t.stored.records))) m) p ∙ sym t.now)),
+    )
 
 flush_once : (failed failed' : List Owner) (n : ℕ) (as' bs : List Answer) (m x y : Machine) → failed ≡ [] → failed' ≡ [] → FlushesLog failed n as' m x → FlushesLog failed' n bs m y → (as' ≡ bs) × (x ≡ y)
 flush_once failed failed' n as' bs m x y e e' (inl s) (inl t) = commits_once failed failed' n as' bs m x y s t
@@ -210,11 +211,14 @@ flushes_once failed failed' (n ∷ numbers) as' bs m x y e e' (mid, its, rest, p
     (parts ∙ (ap (λ (z : List Answer). z ++ rest) a ∙ (ap (λ (z : List Answer). its' ++ z) b ∙ sym parts')), q)
 
 pub one_tail : (set : Settings) (old x y : Machine) (s t : Tail) → s.failed ≡ [] → t.failed ≡ [] → EndOfTurn set old s x → EndOfTurn set old t y → (s.answers ≡ t.answers) × (x ≡ y)
-one_tail set old x y s t e e' (mid, its, rest, parts, inl lines, logs) (mid', its', rest', parts', inl lines', logs') =
-    let p : mid ≡ mid' = lines.2 ∙ sym lines'.2 in
-    let a : its ≡ its' = lines.1 ∙ sym lines'.1 in
-    let logs'' : FlushesLogs t.failed mid.waiting rest' mid y = subst (λ z. FlushesLogs t.failed z.waiting rest' z y) (sym p) logs' in
-    let (b, q) = flushes_once s.failed t.failed mid.waiting rest rest' mid x y e e' logs logs'' in
-    (parts ∙ (ap (λ (z : List Answer). z ++ rest) a ∙ (ap (λ (z : List Answer). its' ++ z) b ∙ sym parts')), q)
-one_tail set old x y s t e e' (mid, its, rest, parts, inr lines, logs) u = absurd (none_among (Events set.lane) s.failed e lines.did)
-one_tail set old x y s t e e' (mid, its, rest, parts, inl lines, logs) (mid', its', rest', parts', inr lines', logs') = absurd (none_among (Events set.lane) t.failed e' lines'.did)
+one_tail set old x y s t e e' u v = go u.lines v.lines
+  where
+    go : FlushesLines set s.failed u.of_lines old u.mid → FlushesLines set t.failed v.of_lines old v.mid → (s.answers ≡ t.answers) × (x ≡ y)
+    go (inl a) (inl b) =
+        let p : u.mid ≡ v.mid = a.2 ∙ sym b.2 in
+        let q : u.of_lines ≡ v.of_lines = a.1 ∙ sym b.1 in
+        let logs : FlushesLogs t.failed u.mid.waiting v.of_logs u.mid v.last = subst (λ z. FlushesLogs t.failed z.waiting v.of_logs z v.last) (sym p) v.logs in
+        let (w, z) = flushes_once s.failed t.failed u.mid.waiting u.of_logs v.of_logs u.mid u.last v.last e e' u.logs logs in
+        (u.answers ∙ (ap (λ (k : List Answer). k ++ u.of_logs) q ∙ (ap (λ (k : List Answer). v.of_lines ++ k) w ∙ sym v.answers)), u.now ∙ (ap (λ (k : Machine). record k { waiting = [] }) z ∙ sym v.now))
+    go (inr a) b = absurd (none_among (Events set.lane) s.failed e a.did)
+    go (inl a) (inr b) = absurd (none_among (Events set.lane) t.failed e' b.did)

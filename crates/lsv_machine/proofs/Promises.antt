@@ -1,19 +1,19 @@
 -- No more is promised than was shown, whatever jobs, answers and failures a history has.
-use Rattle.std.proofs.Common.{◌≡◌, ◌≤◌, ◌<◌, ◌+◌, ℕ, List, [], ◌∷◌, ◌++◌, length, refl, sym, ◌∙◌, ap, subst, arith, Option, Some, None, unwrap_or}
-use Rattle.std.specs.Prelude.{◌==◌, ◌&&◌, ◌||◌, min, Bool, true, false, if◌then◌else◌, Result, Ok, Err}
+use Rattle.std.proofs.Common.{◌≡◌, ◌≤◌, ℕ, List, [], ◌∷◌, ◌++◌, length, subst, arith, Option, Some, None}
+use Rattle.std.specs.Prelude.{◌==◌, ◌&&◌, ◌||◌, Bool, true, false, if◌then◌else◌, Result, Ok, Err}
 use Rattle.std.proofs.lemmas.Grind.{common_steps}
 use Rattle.lsv_info.specs.Layout.{head_text, exit_text}
 use Rattle.lsv_mask.specs.Masking.{covered}
-use Rattle.lsv_record.specs.Points.{cut, first, kept}
+use Rattle.lsv_record.specs.Points.{cut, kept}
 use Rattle.lsv_record.specs.declared.records.Record.{Record}
 use Rattle.lsv_request.specs.declared.refusal.Refusal.{Refusal}
 use Rattle.lsv_request.specs.declared.request.Request.{Request}
 use Rattle.lsv_request.specs.declared.request.Request.TheVariants as request
 use Rattle.lsv_session.specs.declared.connection.ConnId.{ConnId}
 use Rattle.lsv_machine.specs.Answers.{Answer, Saying, Saying.LogId, Saying.CommitPoint, Saying.Error, Saying.Shut, is_silent}
-use Rattle.lsv_machine.specs.History.{Ledger, asked, becomes, blank, heard, heard_all, is_exit, is_gone, ledger, ledger_from, lowered_to, noted, opened_by, promised, raised_to, reopened, request_in, restarted_by, resumed_by, sent_one, shown, tells_log, writes}
+use Rattle.lsv_machine.specs.History.{Ledger, asked, becomes, blank, heard, heard_all, is_exit, is_gone, ledger_from, lowered_to, noted, opened_by, promised, raised_to, reopened, request_in, restarted_by, resumed_by, sent_one, shown, tells_log, writes}
 use Rattle.lsv_machine.specs.Turns.{Happened, Happened.Did, Happened.Tailed, Happened.Begins}
-use Rattle.lsv_machine.proofs.PointLemmas.{length_cut}
+use Rattle.lsv_record.proofs.Points.{length_cut}
 use Rattle.lsv_machine.proofs.RecordLemmas.{raised_within}
 
 abbrev pub Below : Option ℕ → ℕ → Type 0

@@ -1,5 +1,5 @@
 -- Prefixes of lists of records, and what a cut keeps of one.
-use Rattle.std.proofs.Common.{◌≡◌, ◌≤◌, ◌<◌, ℕ, zero, suc, List, [], ◌∷◌, ◌++◌, length, take, drop, map, refl, sym, ◌∙◌, ap, subst, arith, Option, Some, None, unwrap_or}
+use Rattle.std.proofs.Common.{◌≡◌, ◌≤◌, ℕ, zero, suc, List, [], ◌++◌, length, take, drop, refl, sym, ◌∙◌, ap, arith, Option, Some, None, unwrap_or}
 use Rattle.std.specs.Prelude.{max, min}
 use Rattle.std.proofs.lemmas.Grind.{common_steps}
 use Rattle.std.proofs.lemmas.List.{take-append-drop}
@@ -8,7 +8,7 @@ use Rattle.lsv_record.specs.declared.records.Record.{Record}
 use Rattle.lsv_machine.specs.Durable.{IsPrefix}
 use Rattle.lsv_machine.specs.History.{becomes, lowered_to, raised_to}
 use Rattle.lsv_machine.specs.Turns.{raised}
-use Rattle.lsv_machine.proofs.PointLemmas.{cut_append, first_append, first_within}
+use Rattle.lsv_record.proofs.Points.{cut_append, first_append, first_some}
 
 pub take_prefix : (n : ℕ) (rs : List Record) → IsPrefix (take n rs) rs
 take_prefix n rs = record { rest = drop n rs; is = take-append-drop n rs }
@@ -57,7 +57,7 @@ raised_within p rs c h = go (first rs c) refl
   where
     go : (o : Option ℕ) → first rs c ≡ o → max p (unwrap_or o p) ≤ length rs
     go None e = omega arith
-    go (Some x) e = let i = first_within rs c x e in omega arith
+    go (Some x) e = let i = (first_some rs c x e).within in omega arith
 
 raised_up : (p q : ℕ) (rs : List Record) (c : ℕ) → p ≤ q → raised p rs c ≤ raised q rs c
 raised_up p q rs c h = go (first rs c)
@@ -93,10 +93,10 @@ pub record CutAlike (rs all : List Record) (c f : ℕ) : Type 0 where
 
 pub cut_alike : (rs all : List Record) (c f : ℕ) → IsPrefix rs all → first rs c ≡ Some f → CutAlike rs all c f
 cut_alike rs all c f h at =
-    let (b, d) = cut_append rs h.rest c f at in
+    let (a, b, d) = cut_append rs h.rest c f at in
     record {
       cut_is = ap (λ x. cut x c) (sym h.is) ∙ b;
       kept_is = ap (λ x. kept x c) (sym h.is) ∙ d;
-      within = first_within rs c f at;
+      within = (first_some rs c f at).within;
       first_is = let e = first_append rs h.rest c f at in ap (λ x. first x c) (sym h.is) ∙ e;
     }

@@ -1,20 +1,17 @@
 -- The end of a turn, and a run, keep machine and history together.
-use Rattle.std.proofs.Common.{◌≡◌, ◌≢◌, ◌≤◌, ◌<◌, ◌+◌, ℕ, List, [], ◌∷◌, ◌++◌, length, refl, sym, ◌∙◌, ap, subst, inl, inr, arith, Option, Some, None, ◌⊎◌}
-use Rattle.std.specs.Prelude.{◌==◌, ◌||◌, take, max, min, Bool, true, false, if◌then◌else◌}
+use Rattle.std.proofs.Common.{◌≡◌, ◌≢◌, ℕ, List, [], ◌∷◌, ◌++◌, refl, ◌∙◌, ap, inl, inr, Some, None}
+use Rattle.std.specs.Prelude.{◌||◌, take, Bool, true, false}
 use Rattle.lsv_disk.specs.declared.file.Owner.{Owner}
-use Rattle.lsv_record.specs.Points.{Stored, first}
+use Rattle.lsv_record.specs.Points.{Stored}
 use Rattle.lsv_record.specs.Records.{elapsed}
-use Rattle.lsv_record.specs.declared.records.Record.{Record}
-use Rattle.lsv_request.specs.declared.refusal.Refusal.TheVariants as refusals
 use Rattle.lsv_session.specs.declared.connection.ConnId.{ConnId}
 use Rattle.lsv_session.specs.declared.connection.ConnState.TheVariants.{Dead}
-use Rattle.lsv_machine.specs.Answers.{Answer, Saying.CommitPoint, Saying.Shut, say, refusal}
-use Rattle.lsv_machine.specs.Failures.{WantsMemory, LosesTail}
+use Rattle.lsv_machine.specs.Answers.{Answer, Saying.Shut}
 use Rattle.lsv_machine.specs.History.{Ledger, heard, heard_all, ledger_from, noted, raised_to, writes}
-use Rattle.lsv_machine.specs.Machine.{LogState, LogState.There, Machine, Settings, leaves, log_of, with_log}
+use Rattle.lsv_machine.specs.Machine.{Machine, Settings, leaves, log_of, with_log}
 use Rattle.lsv_machine.specs.Stands.{HoldsRecords, as_list}
-use Rattle.lsv_machine.specs.Turns.{Commits, EndOfTurn, FailsFlush, FlushesLines, FlushesLog, FlushesLogs, Happened, Happened.Did, Happened.Tailed, Happened.Begins, LosesLines, RefusesAll, RefusesOne, Run, Tail, raised, with_lines}
-use Rattle.lsv_machine.proofs.Choices.{EqOr, EqOr.equal, EqOr.unequal, eq_or}
+use Rattle.lsv_machine.specs.Turns.{Commits, EndOfTurn, FailsFlush, FlushesLines, FlushesLog, FlushesLogs, Happened, Happened.Did, Happened.Tailed, Happened.Begins, RefusesAll, RefusesOne, Run, Tail, raised, with_lines}
+use Rattle.lsv_machine.proofs.Choices.{EqOr.equal, EqOr.unequal, eq_or}
 use Rattle.lsv_machine.proofs.Changing.{fits_log, there_not_above}
 use Rattle.lsv_machine.proofs.Dying.{died_leaving, died_with, holds_loses}
 use Rattle.lsv_machine.proofs.Fits.{Fits, fits_beside, writes_its, writes_none}
@@ -86,7 +83,7 @@ module _ (good : Type 0) (set : Settings) (n : ℕ) (m : Machine) (l : Ledger) (
 
 pub all_flushed : (good : Type 0) (set : Settings) (n : ℕ) (failed : List Owner) (numbers : List ℕ) (answers : List Answer) (m new : Machine) (l : Ledger) → Fits good set n m l → FlushesLogs failed numbers answers m new
     → Fits good set n new (heard_all false answers l)
-all_flushed good set n failed [] answers m new l f t = rw (t.1, t.0) (fits_beside good set n m m.failed_draws [] m.lines m.fresh m.noting l f)
+all_flushed good set n failed [] answers m new l f t = rw (t.1, t.0) f
 all_flushed good set n failed (i ∷ numbers) answers m new l f (mid, its, rest, parts, one, more) =
     rw (parts, heard_append false its rest l) (all_flushed good set n failed numbers rest mid new (heard_all false its l) (flushed_together good set n m l f failed i its mid one) more)
 
@@ -105,8 +102,12 @@ lines_together good set n failed answers m new l f (inl t) = rw (t.2, t.1) (with
 lines_together good set n failed answers m new l f (inr t) = all_refused good set n failed m.noting answers (with_lines t.wrote m) new l (with_lines_together good set n m t.wrote l f) t.refuses
 
 pub tail_together : (good : Type 0) (set : Settings) (n : ℕ) (m : Machine) (l : Ledger) → Fits good set n m l → (tail : Tail) (new : Machine) → EndOfTurn set m tail new → Fits good set n new (noted n l (Tailed tail))
-tail_together good set n m l f tail new (mid, its, rest, parts, lines, logs) =
-    rw (parts, heard_append false its rest l) (all_flushed good set n tail.failed mid.waiting rest mid new (heard_all false its l) (lines_together good set n tail.failed its m mid l f lines) logs)
+tail_together good set n m l f tail new t =
+    let between = lines_together good set n tail.failed t.of_lines m t.mid l f t.lines in
+    let flushed = all_flushed good set n tail.failed t.mid.waiting t.of_logs t.mid t.last (heard_all false t.of_lines l) between t.logs in
+    let parts = t.answers in
+    let last = t.last in
+    rw (t.now, parts, heard_append false t.of_lines t.of_logs l) (fits_beside good set n last last.failed_draws [] last.lines last.fresh last.noting (heard_all false t.of_logs (heard_all false t.of_lines l)) flushed)
 
 -- a run keeps machine and history together
 pub run_together : (good : Type 0) (set : Settings) (n : ℕ) (h : List Happened) (m end : Machine) (l : Ledger) → Fits good set n m l → Run set m h end → Fits good set n end (ledger_from n l h)

@@ -1,15 +1,12 @@
 -- What follows for whole histories: writers, records and promises, over runs and stops.
-use Rattle.std.proofs.Common.{◌≡◌, ◌≢◌, ◌≤◌, ◌<◌, ◌+◌, ℕ, List, [], ◌∷◌, ◌++◌, length, take, refl, sym, ◌∙◌, ap, subst, inl, inr, arith, Option, Some, None, ◌⊎◌}
-use Rattle.std.specs.Prelude.{Bool, true, false}
-use Rattle.std.proofs.lemmas.Grind.{common_steps}
+use Rattle.std.proofs.Common.{◌≡◌, ◌≤◌, ℕ, List, [], ◌∷◌, ◌++◌, length, refl, sym, ◌∙◌, ap, subst, arith, Option, Some, None}
 use Rattle.lsv_record.specs.Points.{Stored}
 use Rattle.lsv_record.specs.declared.records.Record.{Record}
 use Rattle.lsv_session.specs.declared.connection.ConnId.{ConnId}
-use Rattle.lsv_session.specs.declared.connection.ConnState.TheVariants.{Fresh}
-use Rattle.lsv_machine.specs.Durable.{GoodFor, GoodLog, IsPrefix, Keeps}
+use Rattle.lsv_machine.specs.Durable.{GoodFor, IsPrefix}
 use Rattle.lsv_machine.specs.Failures.{Act, Step}
 use Rattle.lsv_machine.specs.History.{Ledger, blank, ledger, ledger_from, noted, promised, shown, writers}
-use Rattle.lsv_machine.specs.Machine.{IsOfLane, LogState, LogState.Absent, LogState.Damaged, LogState.There, Machine, Settings, is_dead, log_of}
+use Rattle.lsv_machine.specs.Machine.{LogState, LogState.Absent, LogState.Damaged, LogState.There, Machine, Settings, log_of}
 use Rattle.lsv_machine.specs.Stands.{HoldsAt, HoldsRecords, Sound, Stands, StandsFor, as_list}
 use Rattle.lsv_machine.specs.Starts.{Continues, GoodState, StartsAs}
 use Rattle.lsv_machine.specs.Turns.{Happened, Happened.Did, Happened.Tailed, Happened.Begins, EndOfTurn, Run, Tail}
@@ -91,11 +88,21 @@ length_as_list : (o : Option ConnId) → length (as_list o) ≤ 1
 length_as_list None = omega arith
 length_as_list (Some k) = omega arith
 
-pub one_writer : (set : Settings) (n : ℕ) (before run : List Happened) (texts : List (List ℕ)) (start end : Machine) → StartsAs set texts start → Run set start run end → length (writers (before ++ Begins texts ∷ run) n) ≤ 1
-one_writer set n before run texts start end s r =
+writer_at_end : (set : Settings) (n : ℕ) (before run : List Happened) (texts : List (List ℕ)) (start end : Machine) → StartsAs set texts start → Run set start run end → length (writers (before ++ Begins texts ∷ run) n) ≤ 1
+writer_at_end set n before run texts start end s r =
     let f = run_together ⊥ set n run start end (noted n (ledger before n) (Begins texts)) (start_fits ⊥ set n texts start (ledger before n) s (λ x. absurd x)) r in
     let one : length (ledger_from n (noted n (ledger before n) (Begins texts)) run).writers ≤ 1 = rw f.agrees.writers (length_as_list (end.owner n)) in
     subst (λ (l : Ledger). length l.writers ≤ 1) (sym (ledger_append n blank before (Begins texts ∷ run))) one
+
+run_split : (set : Settings) (g h : List Happened) (a c : Machine) → Run set a (g ++ h) c → (b : Machine) × Run set a g b
+run_split set [] h a c r = (a, refl)
+run_split set (Did act ∷ g) h a c (mid, step, rest) = let (b, r) = run_split set g h mid c rest in (b, (mid, step, r))
+run_split set (Tailed tail ∷ g) h a c (mid, ended, rest) = let (b, r) = run_split set g h mid c rest in (b, (mid, ended, r))
+run_split set (Begins texts ∷ g) h a c r = absurd r
+
+pub one_writer : (set : Settings) (n : ℕ) (before run rest : List Happened) (texts : List (List ℕ)) (start end : Machine) → StartsAs set texts start → Run set start (run ++ rest) end
+    → length (writers (before ++ Begins texts ∷ run) n) ≤ 1
+one_writer set n before run rest texts start end s r = let (b, first) = run_split set run rest start end r in writer_at_end set n before run texts start b s first
 
 -- ---- Records and promises
 
@@ -104,7 +111,7 @@ continues_stands set n h end c =
     let s = starts_stand set n c.texts c.start (ledger c.before n) c.starts c.good in
     let r = stands_on set n c.run c.start end (noted n (ledger c.before n) (Begins c.texts)) s c.runs in
     let e : ledger h n ≡ ledger_from n (noted n (ledger c.before n) (Begins c.texts)) c.run =
-        ap (λ x. ledger x n) c.is ∙ ledger_append n blank c.before (Begins c.texts ∷ c.run) in
+    ap (λ x. ledger x n) c.is ∙ ledger_append n blank c.before (Begins c.texts ∷ c.run) in
     subst (StandsFor set n end) (sym e) r
 
 pub stands_holds : (set : Settings) (n : ℕ) (h : List Happened) (end : Machine) (stored : Stored) (p : ℕ) → Stands set h n end → end.logs n ≡ There stored p → HoldsRecords stored p (end.owner n) (shown h n) (promised h n)

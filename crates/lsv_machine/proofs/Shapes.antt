@@ -1,6 +1,6 @@
 -- What the table's work looks like from outside: its answers, and what it leaves alone.
-use Rattle.std.proofs.Common.{◌≡◌, ◌≢◌, ◌≤◌, ◌<◌, ◌+◌, ℕ, List, [], ◌∷◌, ◌++◌, length, refl, sym, ◌∙◌, ap, subst, inl, inr, arith, Option, Some, None, ◌⊎◌}
-use Rattle.std.specs.Prelude.{◌==◌, ◌^◌, ◌&&◌, ◌||◌, not, nat_lt, nat_le, Bool, true, false, if◌then◌else◌, is_some, Result, Ok, Err, option_and_then, ℤ, pos, negsuc}
+use Rattle.std.proofs.Common.{◌≡◌, ◌≢◌, ℕ, List, [], ◌∷◌, ◌++◌, length, refl, sym, ◌∙◌, ap, inl, inr, Option, Some, None, ◌⊎◌}
+use Rattle.std.specs.Prelude.{◌||◌, not, nat_lt, nat_le, Bool, true, false, if◌then◌else◌, is_some, Result, Ok, Err, option_and_then, ℤ, pos, negsuc}
 use Rattle.std.specs.List.{list_any}
 use Rattle.lsv_base.specs.LogNo.{log_no_in}
 use Rattle.lsv_base.specs.Time.{nanos_of}
@@ -15,7 +15,7 @@ use Rattle.lsv_msg.specs.declared.messages.IoBuffer.{IoBuffer}
 use Rattle.lsv_record.specs.Points.{Stored, first}
 use Rattle.lsv_record.specs.Records.{elapsed}
 use Rattle.lsv_record.specs.declared.records.Record.{Record}
-use Rattle.lsv_record.specs.declared.records.Record.TheVariants.{Io, Winsize, Suspend}
+use Rattle.lsv_record.specs.declared.records.Record.TheVariants.{Io, Suspend}
 use Rattle.lsv_record.specs.declared.records.Stream.{Stream}
 use Rattle.lsv_record.specs.declared.records.Stream.TheVariants as stream
 use Rattle.lsv_request.specs.Requests.{accept_of, alert_of, and_then, data_of, exit_of, has_keys, is_signal, nanos_in, nanos_told, reject_of, request_of, restart_at, restart_of, run_of, sized, suspend_of, valid_time, window_of}
@@ -33,9 +33,9 @@ use Rattle.lsv_session.specs.declared.job.Fault.TheVariants as faults
 use Rattle.lsv_session.specs.declared.job.Job.{Job}
 use Rattle.lsv_machine.specs.Answers.{Answer, Saying, Saying.LogId, Saying.CommitPoint, Saying.Error, Saying.Shut, farewell, is_refused, refusal, say}
 use Rattle.lsv_machine.specs.Judgement.{allows, fault_refusal, judged, malformed, with_keys}
-use Rattle.lsv_machine.specs.Machine.{LogState, LogState.Absent, LogState.Damaged, LogState.There, Machine, Settings, forgets, insert_once, is_dead, is_running, leaves, let_go, log_of, note, same, with_log, with_owner, with_state, without_conn}
-use Rattle.lsv_machine.specs.Work.{Done, adds_line, alive, answered, before_line, can_cut, cut_to, draws, dropped, empty_log, ends, exited, finished, fits_file, has_line, last_number, line_fits, line_in, lined, makes, opened, opens, plain, recorded, refused, restarted, restarted_at, resumed, sets_exit, silently, taken, takes, waits, with_exit, with_record, work}
-use Rattle.lsv_machine.proofs.Choices.{SameOr, SameOr.alike, SameOr.apart, same_or}
+use Rattle.lsv_machine.specs.Machine.{LogState, LogState.Absent, LogState.Damaged, LogState.There, Machine, Settings, forgets, is_dead, is_running, let_go, log_of, note, same, with_log, with_owner, with_state, without_conn}
+use Rattle.lsv_machine.specs.Work.{Done, adds_line, alive, answered, before_line, can_cut, cut_to, draws, dropped, ends, exited, finished, fits_file, has_line, last_number, line_fits, line_in, lined, makes, opened, opens, plain, recorded, refused, restarted_at, resumed, sets_exit, silently, taken, takes, waits, with_exit, with_record, work}
+use Rattle.lsv_machine.proofs.Choices.{SameOr.alike, SameOr.apart, same_or}
 
 -- ---- Refusals by judgement tell of no device fault
 
@@ -237,7 +237,7 @@ resumed_looks k n stored None m = refused_looks k refusals.NoSuchResumePoint m (
 resumed_looks k n stored (Some x) m =
     either_looks k m (can_cut x stored) (silently (with_state k (Running (Some n)) (with_owner n (Some k) (with_log n (There (cut_to x stored) x) m)))) (refused k refusals.LogFull m)
     (silent_looks k m (with_state k (Running (Some n)) (with_owner n (Some k) (with_log n (There (cut_to x stored) x) m)))
-        (state_leaves k (Running (Some n)) m (with_owner n (Some k) (with_log n (There (cut_to x stored) x) m)) refl refl refl refl refl))
+    (state_leaves k (Running (Some n)) m (with_owner n (Some k) (with_log n (There (cut_to x stored) x) m)) refl refl refl refl refl))
     (refused_looks k refusals.LogFull m (λ p. cc))
 
 restarted_at_looks : (k : ConnId) (n point : ℕ) (x : LogState) (m : Machine) → Looks k m (restarted_at k n point x m)
@@ -253,7 +253,7 @@ taken_looks k n r Damaged m = silent_looks k m m (stays_leaves k m m refl refl r
 taken_looks k n r (There stored promised) m =
     either_looks k m (takes stored r) (silently (waits n (with_log n (There (with_record (covered m.texts stored.records r) stored) promised) m))) (refused k refusals.LogFull m)
     (silent_looks k m (waits n (with_log n (There (with_record (covered m.texts stored.records r) stored) promised) m))
-        (stays_leaves k m (waits n (with_log n (There (with_record (covered m.texts stored.records r) stored) promised) m)) refl refl refl refl refl))
+    (stays_leaves k m (waits n (with_log n (There (with_record (covered m.texts stored.records r) stored) promised) m)) refl refl refl refl refl))
     (refused_looks k refusals.LogFull m (λ p. cc))
 
 recorded_looks : (k : ConnId) (o : Option ℕ) (r : Record) (m : Machine) → Looks k m (recorded k o r m)

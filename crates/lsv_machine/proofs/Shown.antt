@@ -1,7 +1,6 @@
 -- What is shown has the delays of what was sent; with no texts it is that; and with the same texts in all runs it is that masked.
-use Rattle.std.proofs.Common.{◌≡◌, ◌≤◌, ℕ, zero, suc, List, [], ◌∷◌, ◌++◌, length, take, map, refl, sym, ◌∙◌, ap, subst, arith, Option, Some, None, unwrap_or}
+use Rattle.std.proofs.Common.{◌≡◌, ℕ, zero, suc, List, [], ◌∷◌, ◌++◌, length, take, map, refl, sym, ◌∙◌, ap, arith, Some, unwrap_or}
 use Rattle.std.specs.Prelude.{◌==◌, ◌&&◌, ◌||◌, Bool, true, false, if◌then◌else◌, Result, Ok, Err}
-use Rattle.std.proofs.lemmas.Grind.{common_steps}
 use Rattle.lsv_info.specs.Layout.{head_text, exit_text}
 use Rattle.lsv_mask.specs.Masking.{covered, mask}
 use Rattle.lsv_record.specs.Points.{cut, first, kept}
@@ -14,7 +13,7 @@ use Rattle.lsv_request.specs.declared.request.Request.{Request}
 use Rattle.lsv_request.specs.declared.request.Request.TheVariants as request
 use Rattle.lsv_session.specs.declared.connection.ConnId.{ConnId}
 use Rattle.lsv_machine.specs.Answers.{Answer, Saying, Saying.LogId, Saying.CommitPoint, Saying.Error, Saying.Shut, is_silent}
-use Rattle.lsv_machine.specs.History.{Ledger, asked, becomes, blank, heard, heard_all, is_exit, is_gone, ledger, ledger_from, lowered_to, noted, opened_by, promised, raised_to, reopened, request_in, restarted_by, resumed_by, sent, sent_one, shown, tells_log, writes}
+use Rattle.lsv_machine.specs.History.{Ledger, asked, becomes, blank, heard, heard_all, is_exit, is_gone, ledger_from, lowered_to, noted, opened_by, raised_to, reopened, request_in, restarted_by, resumed_by, sent, sent_one, shown, tells_log, writes}
 use Rattle.lsv_machine.specs.Failures.{Act}
 use Rattle.lsv_machine.specs.Turns.{AllBegin, Happened, Happened.Did, Happened.Tailed, Happened.Begins}
 

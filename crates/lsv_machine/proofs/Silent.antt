@@ -1,26 +1,25 @@
 -- Ends of turns from outside, and that nothing is said to a connection once it was shut.
-use Rattle.std.proofs.Common.{◌≡◌, ◌≢◌, ◌≤◌, ◌<◌, ◌+◌, ℕ, List, [], ◌∷◌, ◌++◌, length, refl, sym, ◌∙◌, ap, subst, inl, inr, arith, Option, Some, None, ◌⊎◌}
-use Rattle.std.specs.Prelude.{◌==◌, ◌&&◌, ◌||◌, Bool, true, false, if◌then◌else◌, Contains}
+use Rattle.std.proofs.Common.{◌≡◌, ◌≢◌, ℕ, List, [], ◌∷◌, ◌++◌, refl, sym, ◌∙◌, ap, subst, inl, inr, Some, None, ◌⊎◌}
+use Rattle.std.specs.Prelude.{◌||◌, Bool, true, false}
 use Rattle.std.specs.List.{list_any}
 use Rattle.lsv_disk.specs.declared.file.Owner.{Owner}
 use Rattle.lsv_disk.specs.declared.file.Owner.TheVariants.{Log, Events}
 use Rattle.lsv_session.specs.declared.connection.ConnId.{ConnId}
 use Rattle.lsv_session.specs.declared.connection.ConnState.{ConnState}
 use Rattle.lsv_session.specs.declared.connection.ConnState.TheVariants.{Fresh, Dead}
-use Rattle.lsv_session.specs.declared.job.Body.TheVariants as body
-use Rattle.lsv_machine.specs.Answers.{Answer, Saying.CommitPoint, Saying.Shut, say}
-use Rattle.lsv_machine.specs.Failures.{Act, IsRefused, Step, WantsMemory}
-use Rattle.lsv_machine.specs.History.{Ledger, blank, heard_all, noted}
+use Rattle.lsv_machine.specs.Answers.{Answer}
+use Rattle.lsv_machine.specs.Failures.{Act, Step}
+use Rattle.lsv_machine.specs.History.{Ledger}
 use Rattle.lsv_machine.specs.Machine.{Machine, Settings, is_dead, leaves, let_go, log_of, same, with_log}
 use Rattle.lsv_machine.specs.Silence.{AllTo, EndsWithGone, NoFault, NoJobs, NoneTo, NothingTo, ShutsAreDead}
 use Rattle.lsv_machine.specs.Stands.{Sound, as_list}
-use Rattle.lsv_machine.specs.Turns.{Commits, EndOfTurn, FailsFlush, FlushesLines, FlushesLog, FlushesLogs, Happened, Happened.Did, Happened.Tailed, Happened.Begins, LosesLines, RefusesAll, RefusesOne, Run, Tail, with_lines}
-use Rattle.lsv_machine.proofs.Choices.{SameOr, SameOr.alike, SameOr.apart, same_or, same_refl}
+use Rattle.lsv_machine.specs.Turns.{EndOfTurn, FlushesLines, FlushesLog, FlushesLogs, Happened, Happened.Did, Happened.Tailed, Happened.Begins, RefusesAll, RefusesOne, Run, Tail, with_lines}
+use Rattle.lsv_machine.proofs.Choices.{SameOr.alike, SameOr.apart, same_or, same_refl}
 use Rattle.lsv_machine.proofs.Fits.{Fits}
 use Rattle.lsv_machine.proofs.JobFits.{Last, Last.by_refusal, Last.by_shut, refused_last, step_together}
 use Rattle.lsv_machine.proofs.RunFits.{flushed_together, lines_together, tail_together}
 use Rattle.lsv_machine.proofs.Shapes.{its_state, state_apart}
-use Rattle.lsv_machine.proofs.StepLooks.{Seen, dead_after, dead_told, leaving_still, none_among, step_seen}
+use Rattle.lsv_machine.proofs.StepLooks.{dead_after, dead_told, leaving_still, none_among, step_seen}
 
 -- ---- A made-up ledger, by which what is sound stays so
 
@@ -121,9 +120,10 @@ writer_apart : (set : Settings) (m : Machine) (n : ℕ) (j k : ConnId) → Sound
 writer_apart set m n j k s o e p = let a = s.owns n j o in let b : log_of (m.states k) ≡ Some n = subst (λ i. log_of (m.states i) ≡ Some n) p a in cc
 
 flushed_same : (set : Settings) (failed : List Owner) (n : ℕ) (k : ConnId) (answers : List Answer) (m mid : Machine) → Sound set m → log_of (m.states k) ≡ None → FlushesLog failed n answers m mid → Same k m mid × NoneTo k answers
-flushed_same set failed n k answers m mid s e (inl t) =
-    (record { state = ap (λ (x : Machine). x.states k) t.now; noting = λ h. ap (λ (x : Machine). list_any (same k) x.noting) t.now ∙ h },
-        rw t.told ((λ p. writer_apart set m n t.writer k s t.owned e p), tt))
+flushed_same set failed n k answers m mid s e (inl t) = (
+  record { state = ap (λ (x : Machine). x.states k) t.now; noting = λ h. ap (λ (x : Machine). list_any (same k) x.noting) t.now ∙ h },
+  rw t.told ((λ p. writer_apart set m n t.writer k s t.owned e p), tt),
+)
 flushed_same set failed n k answers m mid s e (inr t) =
     let ne = writer_apart set m n t.writer k s t.owned e in
     (died_same t.writer k m (with_log n t.log m) mid ne refl refl t.now, last_none t.writer k answers ne (refused_last t.writer answers t.told))
@@ -171,10 +171,11 @@ lines_quiet set failed k answers m new q (inr t) =
     shut_or (unknown e h) = inr h
 
 pub tail_quiet : (set : Settings) (k : ConnId) (m : Machine) (tail : Tail) (new : Machine) → Sound set m → Quiet k m → EndOfTurn set m tail new → Same k m new × NoneTo k tail.answers
-tail_quiet set k m tail new s q (mid, its, rest, parts, lines, logs) =
-    let (x, a) = lines_quiet set tail.failed k its m mid q lines in
-    let (y, b) = flushes_quiet set tail.failed mid.waiting k rest mid new (lines_sound set tail.failed its m mid s lines) (quiet_log k mid (quiet_same k m mid x q)) logs in
-    (same_trans k m mid new x y, rw parts (none_append k its rest a b))
+tail_quiet set k m tail new s q t =
+    let (x, a) = lines_quiet set tail.failed k t.of_lines m t.mid q t.lines in
+    let (y, b) = flushes_quiet set tail.failed t.mid.waiting k t.of_logs t.mid t.last (lines_sound set tail.failed t.of_lines m t.mid s t.lines) (quiet_log k t.mid (quiet_same k m t.mid x q)) t.logs in
+    let z : Same k t.last new = record { state = ap (λ (w : Machine). w.states k) t.now; noting = λ h. ap (λ (w : Machine). list_any (same k) w.noting) t.now ∙ h } in
+    (same_trans k m t.last new (same_trans k m t.mid t.last x y) z, let parts = t.answers in rw parts (none_append k t.of_lines t.of_logs a b))
 
 -- ---- Who is shut in a tail is dead
 
@@ -206,9 +207,12 @@ lines_shut set failed answers m new (inl t) = rw t.1 tt
 lines_shut set failed answers m new (inr t) = refuses_shut failed m.noting answers (with_lines t.wrote m) new t.refuses
 
 pub tail_shut : (set : Settings) (m : Machine) (tail : Tail) (new : Machine) → Sound set m → EndOfTurn set m tail new → ShutsAreDead new tail.answers
-tail_shut set m tail new s (mid, its, rest, parts, lines, logs) =
-    let s' = lines_sound set tail.failed its m mid s lines in
-    rw parts (shuts_append new its rest (shuts_stay mid new its (flushes_stay set tail.failed mid.waiting rest mid new s' logs) (lines_shut set tail.failed its m mid lines)) (flushes_shut set tail.failed mid.waiting rest mid new s' logs))
+tail_shut set m tail new s t =
+    let s' = lines_sound set tail.failed t.of_lines m t.mid s t.lines in
+    let all = shuts_append t.last t.of_lines t.of_logs (shuts_stay t.mid t.last t.of_lines (flushes_stay set tail.failed t.mid.waiting t.of_logs t.mid t.last s' t.logs) (lines_shut set tail.failed t.of_lines m t.mid t.lines))
+    (flushes_shut set tail.failed t.mid.waiting t.of_logs t.mid t.last s' t.logs) in
+    let parts = t.answers in
+    rw parts (shuts_stay t.last new (t.of_lines ++ t.of_logs) (λ k e. ap (λ (w : Machine). w.states k) t.now ∙ e) all)
 
 -- ---- Without failures no device fault is told
 
@@ -225,7 +229,8 @@ lines_clean set answers m new failed none (inl t) = rw t.1 tt
 lines_clean set answers m new failed none (inr t) = absurd (none_among (Events set.lane) failed none t.did)
 
 pub tail_clean : (set : Settings) (m : Machine) (tail : Tail) (new : Machine) → EndOfTurn set m tail new → tail.failed ≡ [] → NoFault tail.answers
-tail_clean set m tail new (mid, its, rest, parts, lines, logs) none = rw parts (clean_append its rest (lines_clean set its m mid tail.failed none lines) (flushes_clean mid.waiting rest mid new tail.failed none logs))
+tail_clean set m tail new t none = let parts = t.answers in
+    rw parts (clean_append t.of_lines t.of_logs (lines_clean set t.of_lines m t.mid tail.failed none t.lines) (flushes_clean t.mid.waiting t.of_logs t.mid t.last tail.failed none t.logs))
 
 -- ---- Nothing is said to a connection that is quiet
 
@@ -248,11 +253,13 @@ hushed_other set k m act new h ne t (inr x) = let s = (step_seen set m act new t
 hushed_its : (set : Settings) (k : ConnId) (m : Machine) (act : Act) (new : Machine) (h : List Happened) → act.job.conn ≡ k → Step set m act new → Hushed k m (Did act ∷ h) → Hushed k new h × (act.answers ≡ [])
 hushed_its set k m act new h e t (inr x) = absurd (x.2.0 e)
 hushed_its set k m act new h e t (inl x) =
-    let d : m.states act.job.conn ≡ Dead = ap m.states e ∙ x.0 in
-    (elim (dead_after set m act new t d) [
-      | inl stays ↦ inl (ap new.states (sym e) ∙ stays.1, x.1.1)
-      | inr goes ↦ inr (ap new.states (sym e) ∙ goes.1, subst (λ j. list_any (same j) new.noting ≡ false) e goes.2, x.1.0 e goes.0)
-    ], dead_told set m act new t d)
+    let d : m.states act.job.conn ≡ Dead = ap m.states e ∙ x.0 in (
+      elim (dead_after set m act new t d) [
+        | inl stays ↦ inl (ap new.states (sym e) ∙ stays.1, x.1.1)
+        | inr goes ↦ inr (ap new.states (sym e) ∙ goes.1, subst (λ j. list_any (same j) new.noting ≡ false) e goes.2, x.1.0 e goes.0)
+      ],
+      dead_told set m act new t d,
+    )
 
 pub silence : (set : Settings) (k : ConnId) (h : List Happened) (m end : Machine) → Sound set m → Hushed k m h → Run set m h end → NothingTo k h
 silence set k [] m end s q r = tt

@@ -1,28 +1,26 @@
 -- What any step looks like from outside: to whom its answers go, who is dead then, and what it leaves alone.
-use Rattle.std.proofs.Common.{◌≡◌, ◌≢◌, ◌≤◌, ◌<◌, ◌+◌, ℕ, List, [], ◌∷◌, ◌++◌, length, refl, sym, ◌∙◌, ap, subst, inl, inr, arith, Option, Some, None, ◌⊎◌}
-use Rattle.std.specs.Prelude.{◌==◌, ◌&&◌, ◌||◌, Bool, true, false, if◌then◌else◌, Result, Ok, Err, Contains}
+use Rattle.std.proofs.Common.{◌≡◌, ◌≢◌, ◌+◌, ℕ, List, [], ◌++◌, refl, sym, ◌∙◌, ap, subst, inl, inr, arith, Option, Some, None, ◌⊎◌}
+use Rattle.std.specs.Prelude.{true, false, Result, Err, Contains}
 use Rattle.std.specs.List.{list_any}
 use Rattle.lsv_disk.specs.declared.file.Owner.{Owner}
 use Rattle.lsv_disk.specs.declared.file.Owner.TheVariants.{Log, Events, Numbers, Relay}
 use Rattle.lsv_info.specs.Layout.{exit_text, head_text}
 use Rattle.lsv_request.specs.declared.refusal.Refusal.{Refusal}
-use Rattle.lsv_request.specs.declared.refusal.Refusal.TheVariants as refusals
 use Rattle.lsv_request.specs.declared.request.Request.{Request}
 use Rattle.lsv_request.specs.declared.request.Request.TheVariants as request
 use Rattle.lsv_session.specs.declared.connection.ConnId.{ConnId}
 use Rattle.lsv_session.specs.declared.connection.ConnState.{ConnState}
-use Rattle.lsv_session.specs.declared.connection.ConnState.TheVariants.{Fresh, Greeted, Alerted, Running, Dead}
+use Rattle.lsv_session.specs.declared.connection.ConnState.TheVariants.{Fresh, Dead}
 use Rattle.lsv_session.specs.declared.job.Body.{Body}
 use Rattle.lsv_session.specs.declared.job.Body.TheVariants as body
-use Rattle.lsv_session.specs.declared.job.Job.{Job}
-use Rattle.lsv_machine.specs.Answers.{Answer, Saying, Saying.LogId, Saying.CommitPoint, Saying.Error, Saying.Shut, farewell, is_refused, refusal, say}
-use Rattle.lsv_machine.specs.Failures.{Act, BreaksOff, Breaks, BrokenOff, Deviates, FailsAt, FailsCut, HasSet, IsRefused, LeavesLog, LetsGo, LogFails, LosesLine, LosesLog, MeetsFault, Step, WantsMemory, exit_in}
+use Rattle.lsv_machine.specs.Answers.{Answer, is_refused}
+use Rattle.lsv_machine.specs.Failures.{Act, BreaksOff, Breaks, BrokenOff, FailsAt, FailsCut, HasSet, IsRefused, LeavesLog, LetsGo, LogFails, LosesLine, LosesLog, MeetsFault, Step, WantsMemory, exit_in}
 use Rattle.lsv_machine.specs.Judgement.{fault_refusal, judged}
-use Rattle.lsv_machine.specs.Machine.{LogState, Machine, Settings, forgets, is_dead, leaves, let_go, log_of, same, with_log, without_conn}
-use Rattle.lsv_machine.specs.Silence.{AllTo, NoFault, NoneTo, ShutsAreDead}
-use Rattle.lsv_machine.specs.Work.{Done, dropped, makes, opens, plain}
+use Rattle.lsv_machine.specs.Machine.{LogState, Machine, Settings, is_dead, leaves, let_go, log_of, same, with_log, without_conn}
+use Rattle.lsv_machine.specs.Silence.{AllTo, NoFault, ShutsAreDead}
+use Rattle.lsv_machine.specs.Work.{Done, dropped, makes, plain}
 use Rattle.lsv_machine.proofs.JobFits.{Last, Last.by_refusal, Last.by_shut, refused_last, wants_last}
-use Rattle.lsv_machine.proofs.Shapes.{DeadIfShut, Leaves, Looks, Shape, Shape.quiet, Shape.told_log, Shape.told_end, Shape.refusing, Shape.shutting, Shape.parting, empty_line, its_state, plain_looks, state_leaves, without_itself}
+use Rattle.lsv_machine.proofs.Shapes.{DeadIfShut, Leaves, Shape, Shape.quiet, Shape.told_log, Shape.told_end, Shape.refusing, Shape.shutting, Shape.parting, its_state, plain_looks, state_leaves, without_itself}
 
 -- ---- Answers by their shape
 
@@ -183,7 +181,9 @@ module _ (set : Settings) (m : Machine) (act : Act) (new : Machine) where
         to = shape_to act.job.conn act.answers shape;
         dead = let a = subst (λ x. ShutsAreDead (with_log t.log t.left d.machine) x) (sym t.answers) dead in subst (λ x. ShutsAreDead x act.answers) (sym t.now) a;
         leaves_alone = subst (Leaves act.job.conn m act.line) (sym t.now) (record {
-          others = alone.others; texts = alone.texts; lines = alone.lines;
+          others = alone.others;
+          texts = alone.texts;
+          lines = alone.lines;
           fresh = alone.fresh ∙ ap (λ (x : List ℕ). m.fresh ++ x) (line ∙ sym none);
           noting = alone.noting;
         });
@@ -229,6 +229,8 @@ module _ (set : Settings) (m : Machine) (act : Act) (new : Machine) where
           → ((act.job.body ≢ body.Gone) × (new.states act.job.conn ≡ Dead)) ⊎ ((act.job.body ≡ body.Gone) × (new.states act.job.conn ≡ Fresh) × (list_any (same act.job.conn) new.noting ≡ false))
       go (body.Msg message) u = inl ((λ q. let x : body.Msg message ≡ body.Gone = sym u ∙ q in cc), ap (λ (x : Machine). x.states act.job.conn) (now_is (body.Msg message) u) ∙ e)
       go (body.Bad fault) u = inl ((λ q. let x : body.Bad fault ≡ body.Gone = sym u ∙ q in cc), ap (λ (x : Machine). x.states act.job.conn) (now_is (body.Bad fault) u) ∙ e)
-      go body.Gone u = inr (u,
-          ap (λ (x : Machine). x.states act.job.conn) (now_is body.Gone u) ∙ its_state act.job.conn Fresh (let_go (log_of (m.states act.job.conn)) (record m { noting = without_conn act.job.conn m.noting })),
-          ap (λ (x : Machine). list_any (same act.job.conn) x.noting) (now_is body.Gone u) ∙ without_itself act.job.conn m.noting)
+      go body.Gone u = inr (
+        u,
+        ap (λ (x : Machine). x.states act.job.conn) (now_is body.Gone u) ∙ its_state act.job.conn Fresh (let_go (log_of (m.states act.job.conn)) (record m { noting = without_conn act.job.conn m.noting })),
+        ap (λ (x : Machine). list_any (same act.job.conn) x.noting) (now_is body.Gone u) ∙ without_itself act.job.conn m.noting,
+      )

@@ -1,9 +1,8 @@
 -- What leaves a log's ledger as it was, but for a smaller promise: a history that doesn't settle a log that nobody writes, and a job of a connection that doesn't write it.
-use Rattle.std.proofs.Common.{◌≡◌, ◌≢◌, ◌≤◌, ◌<◌, ◌+◌, ℕ, List, [], ◌∷◌, ◌++◌, refl, sym, ◌∙◌, ap, subst, inl, inr, arith, Option, Some, None, ◌⊎◌, unwrap_or}
-use Rattle.std.specs.Prelude.{◌==◌, ◌&&◌, ◌||◌, not, min, Bool, true, false, if◌then◌else◌, Result, Ok, Err}
+use Rattle.std.proofs.Common.{◌≡◌, ℕ, List, [], ◌∷◌, ◌++◌, refl, sym, ◌∙◌, ap, subst, arith, Option, Some, None}
+use Rattle.std.specs.Prelude.{◌==◌, ◌&&◌, ◌||◌, not, Bool, true, false, if◌then◌else◌, Result, Ok, Err}
 use Rattle.std.specs.List.{list_any}
 use Rattle.lsv_disk.specs.View.{Image}
-use Rattle.lsv_info.specs.Layout.{exit_text}
 use Rattle.lsv_record.specs.declared.records.Record.{Record}
 use Rattle.lsv_request.specs.declared.refusal.Refusal.{Refusal}
 use Rattle.lsv_request.specs.declared.request.Request.{Request}
@@ -16,7 +15,7 @@ use Rattle.lsv_machine.specs.History.{Ledger, asked, blank, heard, heard_all, is
 use Rattle.lsv_machine.specs.Machine.{same, without_conn}
 use Rattle.lsv_machine.specs.Silence.{AllTo}
 use Rattle.lsv_machine.specs.Turns.{Happened, Happened.Did, Happened.Tailed, Happened.Begins}
-use Rattle.lsv_machine.proofs.Choices.{SameOr, SameOr.alike, SameOr.apart, same_or}
+use Rattle.lsv_machine.proofs.Choices.{SameOr.alike, SameOr.apart, same_or}
 use Rattle.lsv_machine.proofs.RunLaws.{ledger_append}
 use Rattle.lsv_machine.proofs.Weaken.{Lower, Weaker, at_weaker, lower_same, weaker_on, weaker_same}
 
@@ -41,10 +40,10 @@ without_absent k [] e = refl
 without_absent k (j ∷ ws) e = elim (same_or k j) [
   | alike p t ↦ absurd (let f : true || list_any (same k) ws ≡ false = rw t at e in cc)
   | apart p t ↦ let f : false || list_any (same k) ws ≡ false = rw t at e in
-    elim (same_or j k) [
-      | alike q u ↦ absurd (p (sym q))
-      | apart q u ↦ rw u (ap (λ (xs : List ConnId). j ∷ xs) (without_absent k ws f))
-    ]
+      elim (same_or j k) [
+        | alike q u ↦ absurd (p (sym q))
+        | apart q u ↦ rw u (ap (λ (xs : List ConnId). j ∷ xs) (without_absent k ws f))
+      ]
 ]
 
 lowered : (o : Option ℕ) (rs : List Record) (c : ℕ) → Lower (lowered_to o rs c) o
@@ -59,7 +58,7 @@ or_false false b e = (refl, e)
 
 heard_untouched : (exits : Bool) (k : ConnId) (says : Saying) (l : Ledger) → writes l k ≡ false → Untouched l (heard exits k says l)
 heard_untouched exits k (CommitPoint c) l e = rw e (untouched_same l)
-heard_untouched exits k Shut l e = record { writers = without_absent k l.writers e; weaker = record { head = refl; shown = refl; exit = refl; finished = refl; lower = lower_same l.promised } }
+heard_untouched exits k Shut l e = record { writers = without_absent k l.writers e; weaker = record { head = refl; sent = refl; shown = refl; exit = refl; finished = refl; lower = lower_same l.promised } }
 heard_untouched exits k (LogId i) l e = untouched_same l
 heard_untouched exits k (Error why) l e = untouched_same l
 
@@ -73,7 +72,7 @@ heard_to exits k (a ∷ answers) l (it, to) e =
     untouched_on l next (heard_all exits answers next) s (heard_to exits k answers next to (still k l next s e))
 
 -- answers to anybody, where nobody writes the log
-heard_free : (exits : Bool) (answers : List Answer) (l : Ledger) → l.writers ≡ [] → Untouched l (heard_all exits answers l)
+pub heard_free : (exits : Bool) (answers : List Answer) (l : Ledger) → l.writers ≡ [] → Untouched l (heard_all exits answers l)
 heard_free exits [] l e = untouched_same l
 heard_free exits (a ∷ answers) l e =
     let s = heard_untouched exits a.conn a.says l (nobody l a.conn e) in
@@ -87,7 +86,7 @@ restart_untouched : (l : Ledger) (k : ConnId) (c : ℕ) (it quiet shut look in_c
 restart_untouched l k c false quiet shut look in_cut s = untouched_same l
 restart_untouched l k c true true true look in_cut s = untouched_same l
 restart_untouched l k c true true false look in_cut s = absurd (cc)
-restart_untouched l k c true false shut look true s = record { writers = refl; weaker = record { head = refl; shown = refl; exit = refl; finished = refl; lower = lowered l.promised l.shown c } }
+restart_untouched l k c true false shut look true s = record { writers = refl; weaker = record { head = refl; sent = refl; shown = refl; exit = refl; finished = refl; lower = lowered l.promised l.shown c } }
 restart_untouched l k c true false shut look false s = untouched_same l
 
 record_untouched : (l : Ledger) (quiet : Bool) (r : Record) → Untouched l (if quiet && false then sent_one r l else l)
@@ -106,7 +105,7 @@ asked_untouched n k (Ok (request.Exit exit)) answers in_cut l e a s = rw e (unto
 asked_untouched n k (Err why) answers in_cut l e a s = untouched_same l
 
 reopened_untouched : (k : ConnId) (b : Bool) (l : Ledger) → Untouched l (reopened k b l)
-reopened_untouched k true l = record { writers = refl; weaker = record { head = refl; shown = refl; exit = refl; finished = refl; lower = lower_same l.promised } }
+reopened_untouched k true l = record { writers = refl; weaker = record { head = refl; sent = refl; shown = refl; exit = refl; finished = refl; lower = lower_same l.promised } }
 reopened_untouched k false l = untouched_same l
 
 -- a job of a connection that doesn't write the log, and doesn't settle it
@@ -134,7 +133,7 @@ noted_untouched n l (Did act) e s =
     let b = heard_free (is_exit what) act.answers one (a.writers ∙ e) in
     untouched_on l one three a (untouched_on one two three b (reopened_untouched act.job.conn (is_gone act.job.body) two))
 noted_untouched n l (Tailed tail) e s = heard_free false tail.answers l e
-noted_untouched n l (Begins texts) e s = record { writers = sym e; weaker = record { head = refl; shown = refl; exit = refl; finished = refl; lower = lower_same l.promised } }
+noted_untouched n l (Begins texts) e s = record { writers = sym e; weaker = record { head = refl; sent = refl; shown = refl; exit = refl; finished = refl; lower = lower_same l.promised } }
 
 pub untouched_from : (n : ℕ) (l : Ledger) (h : List Happened) → l.writers ≡ [] → settled_from n l h ≡ false → Untouched l (ledger_from n l h)
 untouched_from n l [] e s = untouched_same l

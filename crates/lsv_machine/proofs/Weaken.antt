@@ -1,12 +1,10 @@
 -- Ledgers that say the same of a log and promise no more, and that what is good for one is good for the other.
-use Rattle.std.proofs.Common.{◌≡◌, ◌≤◌, ◌<◌, ◌+◌, ℕ, List, [], ◌∷◌, ◌++◌, refl, sym, ◌∙◌, ap, subst, inl, inr, arith, Option, Some, None, ◌⊎◌, length}
-use Rattle.std.specs.Prelude.{nat_lt, Bool, true, false}
+use Rattle.std.proofs.Common.{◌≡◌, ◌≤◌, ℕ, List, [], ◌∷◌, ◌++◌, refl, sym, ◌∙◌, subst, arith, Option, Some, None}
 use Rattle.lsv_disk.specs.View.{Image}
-use Rattle.lsv_record.specs.Points.{Stored}
 use Rattle.lsv_record.specs.declared.records.Record.{Record}
 use Rattle.lsv_machine.specs.Disks.{SameLog}
-use Rattle.lsv_machine.specs.Durable.{ExitIs, Good, GoodAt, GoodFor, GoodLog, Keeps, Reading, Recovered}
-use Rattle.lsv_machine.specs.History.{Ledger, blank, ledger, ledger_from, noted}
+use Rattle.lsv_machine.specs.Durable.{ExitIs, Good, GoodAt, GoodFor, GoodLog, Reading, Recovered}
+use Rattle.lsv_machine.specs.History.{Ledger, blank, ledger, noted}
 use Rattle.lsv_machine.specs.Turns.{Happened, Happened.Begins}
 use Rattle.lsv_machine.proofs.RunLaws.{ledger_append}
 
@@ -31,17 +29,19 @@ lower_on (Some x) (Some y) (Some z) h k = omega arith
 -- l' says the same of a log's content, and promises no more
 pub record Weaker (l l' : Ledger) : Type 0 where
   pub head : l'.head ≡ l.head
+  pub sent : l'.sent ≡ l.sent
   pub shown : l'.shown ≡ l.shown
   pub exit : l'.exit ≡ l.exit
   pub finished : l'.finished ≡ l.finished
   pub lower : Lower l'.promised l.promised
 
 pub weaker_same : (l : Ledger) → Weaker l l
-weaker_same l = record { head = refl; shown = refl; exit = refl; finished = refl; lower = lower_same l.promised }
+weaker_same l = record { head = refl; sent = refl; shown = refl; exit = refl; finished = refl; lower = lower_same l.promised }
 
 pub weaker_on : (a b c : Ledger) → Weaker a b → Weaker b c → Weaker a c
 weaker_on a b c s t = record {
   head = t.head ∙ s.head;
+  sent = t.sent ∙ s.sent;
   shown = t.shown ∙ s.shown;
   exit = t.exit ∙ s.exit;
   finished = t.finished ∙ s.finished;
@@ -76,7 +76,7 @@ pub at_same : (r : Reading) (l : Ledger) (n : ℕ) (a b : Image) → SameLog r n
 at_same r l n a b s g = record { found = g.found; is = s.to g.found g.is; good = g.good }
 
 pub weaker_begins : (n : ℕ) (texts : List (List ℕ)) (l : Ledger) → Weaker l (noted n l (Begins texts))
-weaker_begins n texts l = record { head = refl; shown = refl; exit = refl; finished = refl; lower = lower_same l.promised }
+weaker_begins n texts l = record { head = refl; sent = refl; shown = refl; exit = refl; finished = refl; lower = lower_same l.promised }
 
 pub begun_ledger : (n : ℕ) (texts : List (List ℕ)) (x : List Happened) → ledger (x ++ Begins texts ∷ []) n ≡ noted n (ledger x n) (Begins texts)
 begun_ledger n texts x = ledger_append n blank x (Begins texts ∷ [])

@@ -1,12 +1,10 @@
 -- The table keeps the machine and the history together: a job where no device fails and memory is ample.
-use Rattle.std.proofs.Common.{◌≡◌, ◌≢◌, ◌≤◌, ◌<◌, ◌+◌, ℕ, List, [], ◌∷◌, ◌++◌, length, take, refl, sym, ◌∙◌, ap, subst, inl, inr, arith, Option, Some, None, ◌⊎◌, unwrap_or}
-use Rattle.std.specs.Prelude.{◌==◌, ◌^◌, ◌&&◌, ◌||◌, not, nat_lt, nat_le, max, min, Bool, true, false, if◌then◌else◌, is_some, Result, Ok, Err}
-use Rattle.std.specs.List.{list_any}
+use Rattle.std.proofs.Common.{◌≡◌, ◌≢◌, ◌<◌, ℕ, List, [], ◌∷◌, ◌++◌, length, refl, sym, ◌∙◌, ap, subst, arith, Option, Some, None}
+use Rattle.std.specs.Prelude.{◌||◌, nat_lt, Bool, true, false, is_some, Result, Ok}
 use Rattle.std.proofs.lemmas.Grind.{common_steps}
-use Rattle.lsv_base.specs.declared.time.TimeSpec.{TimeSpec}
 use Rattle.lsv_info.specs.Layout.{head_text, exit_text}
 use Rattle.lsv_mask.specs.Masking.{covered}
-use Rattle.lsv_record.specs.Points.{Stored, cut, first, kept}
+use Rattle.lsv_record.specs.Points.{Stored, first}
 use Rattle.lsv_record.specs.Records.{elapsed}
 use Rattle.lsv_record.specs.declared.records.Record.{Record}
 use Rattle.lsv_request.specs.declared.refusal.Refusal.{Refusal}
@@ -17,17 +15,17 @@ use Rattle.lsv_request.specs.declared.request.Request.{Request}
 use Rattle.lsv_request.specs.declared.request.Request.TheVariants as request
 use Rattle.lsv_session.specs.declared.connection.ConnId.{ConnId}
 use Rattle.lsv_session.specs.declared.connection.ConnState.{ConnState}
-use Rattle.lsv_session.specs.declared.connection.ConnState.TheVariants.{Fresh, Greeted, Alerted, Running, Dead}
+use Rattle.lsv_session.specs.declared.connection.ConnState.TheVariants.{Running, Dead}
 use Rattle.lsv_info.specs.declared.times.Exit.{Exit}
-use Rattle.lsv_machine.specs.Answers.{Answer, Saying.LogId, Saying.CommitPoint, Saying.Error, Saying.Shut, say, refusal}
-use Rattle.lsv_machine.specs.History.{Ledger, asked, becomes, heard, heard_all, is_exit, opened_by, restarted_by, resumed_by, sent_one, writes}
-use Rattle.lsv_machine.specs.Machine.{IsOfLane, LogState, LogState.Absent, LogState.Damaged, LogState.There, Machine, Settings, insert_once, is_dead, is_running, leaves, log_of, with_log, with_owner, with_state}
-use Rattle.lsv_machine.specs.Stands.{HoldsAt, HoldsRecords, as_list}
-use Rattle.lsv_machine.specs.Work.{Done, can_cut, cut_to, draws, empty_log, ends, exited, finished, fits_file, last_number, makes, opened, recorded, refused, restarted, restarted_at, resumed, silently, taken, takes, waits, with_exit, with_record, work}
-use Rattle.lsv_machine.proofs.Choices.{SameOr, SameOr.alike, SameOr.apart, same_or, EqOr, EqOr.equal, EqOr.unequal, eq_or, SomeOr, SomeOr.nothing, SomeOr.just, some_or}
-use Rattle.lsv_machine.proofs.Changing.{NotAbove, draws_fits, fits_begins, fits_log, holds_cut, itself_not_above, later, same_last, there_not_above}
-use Rattle.lsv_machine.proofs.Fits.{Fits, SameNotes, asked_loud, fits_beside, fits_same, writes_its, writes_none}
-use Rattle.lsv_machine.proofs.Leaving.{LeftOwner, LeftOwner.its, LeftOwner.another, fits_dies, fits_state, left_owner}
+use Rattle.lsv_machine.specs.Answers.{Saying.LogId, Saying.CommitPoint, Saying.Shut, say, refusal}
+use Rattle.lsv_machine.specs.History.{Ledger, asked, becomes, heard, heard_all, is_exit, opened_by, resumed_by, sent_one, writes}
+use Rattle.lsv_machine.specs.Machine.{IsOfLane, LogState, LogState.Absent, LogState.Damaged, LogState.There, Machine, Settings, insert_once, is_dead, leaves, log_of, with_log, with_owner, with_state}
+use Rattle.lsv_machine.specs.Stands.{HoldsRecords, as_list}
+use Rattle.lsv_machine.specs.Work.{Done, can_cut, cut_to, draws, empty_log, ends, exited, finished, fits_file, last_number, makes, opened, recorded, refused, restarted, restarted_at, resumed, taken, takes, with_exit, with_record}
+use Rattle.lsv_machine.proofs.Choices.{EqOr.equal, EqOr.unequal, eq_or}
+use Rattle.lsv_machine.proofs.Changing.{draws_fits, fits_begins, fits_log, holds_cut, itself_not_above, later, same_last, there_not_above}
+use Rattle.lsv_machine.proofs.Fits.{Fits, asked_loud, fits_beside, fits_same, writes_its, writes_none}
+use Rattle.lsv_machine.proofs.Leaving.{LeftOwner.its, LeftOwner.another, fits_dies, left_owner}
 use Rattle.lsv_machine.proofs.RecordLemmas.{becomes_is, becomes_none, prefix_all}
 
 -- what is asked, with its answers, keeps the machine and the ledger together
@@ -66,10 +64,18 @@ module _ (good : Type 0) (set : Settings) (n : ℕ) (k : ConnId) (m : Machine) (
       begun = elim (eq_or i n) [
         | equal p u ↦ rw u (fits_begins good set n i k (empty_log (head_text accept.head)) 0 m i 0 l (opened_by k (head_text accept.head) l) idle alive (f.sound.none_above i lane above).1 (later set m i lane above) (itself_not_above set i) f
             refl (λ j. refl)
-            (λ q. (rw (not_shut alive) refl, λ g. record {
-              prefix = prefix_all [] [] refl; whole = λ j d. refl; unfinished = λ j d. refl; is_told = λ j d. (0, refl);
-              enough = omega arith; alike = λ p' d. let a : 0 ≡ p' = cc in omega arith; bare = λ d. refl
-            }))
+            (λ q. (
+              rw (not_shut alive) refl,
+              λ g. record {
+                prefix = prefix_all [] [] refl;
+                whole = λ j d. refl;
+                unfinished = λ j d. refl;
+                is_told = λ j d. (0, refl);
+                enough = omega arith;
+                alike = λ p' d. let a : 0 ≡ p' = cc in omega arith;
+                bare = λ d. refl;
+              },
+            ))
             (λ q. absurd (q (sym p))))
         | unequal p u ↦ rw u (fits_begins good set n i k (empty_log (head_text accept.head)) 0 m i 0 l l idle alive (f.sound.none_above i lane above).1 (later set m i lane above) (itself_not_above set i) f
             refl (λ j. refl)
@@ -153,7 +159,7 @@ module _ (good : Type 0) (set : Settings) (n : ℕ) (k : ConnId) (m : Machine) (
       let texts : m.texts ≡ l.texts = sym f.agrees.texts in
       let cover : covered m.texts stored.records r ≡ covered l.texts l.shown r = ap (λ x. covered x stored.records r) texts ∙ ap (λ x. covered l.texts x r) same in
       let eq : stored.records ++ covered m.texts stored.records r ∷ [] ≡ l.shown ++ covered l.texts l.shown r ∷ [] =
-          ap (λ (x : List Record). x ++ covered m.texts stored.records r ∷ []) same ∙ ap (λ (x : Record). l.shown ++ x ∷ []) cover in
+      ap (λ (x : List Record). x ++ covered m.texts stored.records r ∷ []) same ∙ ap (λ (x : Record). l.shown ++ x ∷ []) cover in
       record {
         prefix = prefix_all (stored.records ++ covered m.texts stored.records r ∷ []) (l.shown ++ covered l.texts l.shown r ∷ []) eq;
         whole = λ j o. eq;

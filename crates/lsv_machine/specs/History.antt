@@ -78,14 +78,21 @@ lowered_to (Some promised) records point = Some (min promised (unwrap_or (first 
 abbrev pub opened_by : ConnId → List ℕ → Ledger → Ledger
 opened_by k head l = record l {
   writers = if l.shut k then l.writers else k ∷ l.writers;
-  head = head; sent = []; shown = []; promised = Some 0; exit = None; finished = false
+  head = head;
+  sent = [];
+  shown = [];
+  promised = Some 0;
+  exit = None;
+  finished = false;
 }
 
 -- a connection writes the log from a point on: what was sent is cut there
 abbrev pub resumed_by : ConnId → ℕ → Ledger → Ledger
 resumed_by k point l = record l {
   writers = k ∷ l.writers;
-  sent = cut l.sent point; shown = cut l.shown point; promised = becomes l.promised (kept l.shown point)
+  sent = cut l.sent point;
+  shown = cut l.shown point;
+  promised = becomes l.promised (kept l.shown point);
 }
 
 -- a restart of the log: accepted where it has no answer and the connection wasn't shut, or marked as failed inside its cut
@@ -134,7 +141,7 @@ abbrev pub heard : Bool → ConnId → Saying → Ledger → Ledger
 heard exits k (CommitPoint point) l =
     if writes l k then record l {
       promised = if exits then becomes l.promised (length l.shown) else raised_to l.promised l.shown point;
-      finished = l.finished || exits
+      finished = l.finished || exits;
     } else l
 heard exits k Shut l = record l { shut = λ j. if same j k then true else l.shut j; writers = without_conn k l.writers }
 heard exits k (LogId i) l = l

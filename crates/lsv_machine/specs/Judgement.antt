@@ -24,7 +24,7 @@ row fresh greeted alerted no_log log (Running None) = no_log
 row fresh greeted alerted no_log log (Running (Some n)) = log
 row fresh greeted alerted no_log log Dead = false
 
--- the table: which messages are allowed in which states
+-- the table: which messages are allowed to a connection that is fresh, greeted, alerted, in a session without a log, in one with a log
 abbrev pub allows : ClientMessage → ConnState → Bool
 --                             Fresh Greeted Alerted Running Running with a log
 allows (client.Hello m)   = row true  false   false   false   false

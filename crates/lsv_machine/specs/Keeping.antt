@@ -1,5 +1,5 @@
 -- What a keeper owes: one job, the end of a turn, a turn, and the opening of the store, each as a step of the machine with what it leaves on the disk.
-use Rattle.std.specs.Prelude.{◌≡◌, ◌≤◌, ◌⊎◌, ◌++◌, ℕ, true, false, List, [], ◌∷◌, map, All, Contains}
+use Rattle.std.specs.Prelude.{◌≡◌, ◌≤◌, ◌⊎◌, ◌++◌, ℕ, false, List, [], ◌∷◌, map, All, Contains}
 use Rattle.std.specs.List.{flat_map}
 use Rattle.lsv_base.specs.declared.time.TimeSpec.{TimeSpec}
 use Rattle.lsv_disk.specs.Throughout.{Jointly}
@@ -18,7 +18,7 @@ use Rattle.lsv_machine.specs.Lines.{MayHold, lines_of}
 use Rattle.lsv_machine.specs.Machine.{Machine, Settings}
 use Rattle.lsv_machine.specs.Stands.{Stands, StandsFor}
 use Rattle.lsv_machine.specs.Starts.{ReadsAs, StartsAs}
-use Rattle.lsv_machine.specs.Turns.{Happened, Happened.Did, Happened.Tailed, Run, Tail, all_acted, turn_of}
+use Rattle.lsv_machine.specs.Turns.{EndOfTurn, Happened, Happened.Did, Happened.Tailed, Run, Tail, all_acted, turn_of}
 
 -- ---- One job
 
@@ -60,6 +60,11 @@ pub record LinesFlushed (r : Reading) (set : Settings) (tail : Tail) (m after : 
       ⊎ ((m.fresh ≡ []) × LinesRest r old new)
       ⊎ ((image : Image) → IsCrashImage new image → r.lines image (m.lines ++ m.fresh))
   pub reads : r.lines old.reads m.lines → r.lines new.reads after.lines
+
+-- the whole end of a turn
+pub record TailEnded (r : Reading) (set : Settings) (tail : Tail) (m after : Machine) (old new : DiskView) : Type 0 where
+  pub ended : Ended r set tail (λ x y. EndOfTurn set x tail y) m after old new
+  pub lines : LinesFlushed r set tail m after old new
 
 -- ---- A turn
 

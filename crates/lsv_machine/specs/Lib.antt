@@ -14,5 +14,8 @@ pub mod Silence
 pub mod Resuming
 pub mod Disks
 pub mod Keeping
+pub mod Tails
 pub mod Recovery
+pub mod InnerSoFar
 pub mod Lives
+pub mod Examples

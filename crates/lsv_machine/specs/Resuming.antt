@@ -1,5 +1,5 @@
 -- When a restart is accepted, and what it leaves.
-use Rattle.std.specs.Prelude.{◌≡◌, ℕ, true, Option, Some, None}
+use Rattle.std.specs.Prelude.{◌≡◌, ℕ, true, Some, None}
 use Rattle.lsv_record.specs.Points.{Stored, first}
 use Rattle.lsv_request.specs.declared.request.Restart.{Restart}
 use Rattle.lsv_session.specs.declared.connection.ConnId.{ConnId}

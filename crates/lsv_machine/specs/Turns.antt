@@ -5,10 +5,9 @@ use Rattle.lsv_disk.specs.declared.file.Owner.TheVariants.{Log, Events}
 use Rattle.lsv_record.specs.Points.{Stored, first}
 use Rattle.lsv_record.specs.Records.{elapsed}
 use Rattle.lsv_record.specs.declared.records.Record.{Record}
-use Rattle.lsv_request.specs.declared.refusal.Refusal.TheVariants.{DeviceFault}
 use Rattle.lsv_session.specs.declared.connection.ConnId.{ConnId}
 use Rattle.lsv_session.specs.declared.connection.ConnState.TheVariants.{Dead}
-use Rattle.lsv_machine.specs.Answers.{Answer, CommitPoint, say, refusal}
+use Rattle.lsv_machine.specs.Answers.{Answer, CommitPoint, say}
 use Rattle.lsv_machine.specs.Failures.{Act, IsRefused, LeavesLog, LosesTail, Step}
 use Rattle.lsv_machine.specs.Machine.{LogState, LogState.There, Machine, Settings, is_dead, leaves, log_of, with_log}
 
@@ -40,7 +39,7 @@ RefusesAll failed [] answers old new = (answers ≡ []) × (new ≡ old)
 RefusesAll failed (k ∷ conns) answers old new =
     ((is_dead (old.states k) ≡ true) × RefusesAll failed conns answers old new)
     ⊎ ((is_dead (old.states k) ≡ false) × ((mid : Machine) × (its : List Answer) × (rest : List Answer)
-        × (answers ≡ its ++ rest) × RefusesOne failed k its old mid × RefusesAll failed conns rest mid new))
+    × (answers ≡ its ++ rest) × RefusesOne failed k its old mid × RefusesAll failed conns rest mid new))
 
 -- the event log failed: the turn's lines are there wholly or not at all, and who had one is refused
 pub record LosesLines (set : Settings) (failed : List Owner) (answers : List Answer) (old new : Machine) : Type 0 where
@@ -81,16 +80,22 @@ FlushesLog failed n answers old new = Commits failed n answers old new ⊎ Fails
 
 -- these logs are flushed, one after another
 abbrev pub FlushesLogs : List Owner → List ℕ → List Answer → Machine → Machine → Type 0
-FlushesLogs failed [] answers old new = (answers ≡ []) × (new ≡ record old { waiting = [] })
+FlushesLogs failed [] answers old new = (answers ≡ []) × (new ≡ old)
 FlushesLogs failed (n ∷ numbers) answers old new = (mid : Machine) × (its : List Answer) × (rest : List Answer)
     × (answers ≡ its ++ rest) × FlushesLog failed n its old mid × FlushesLogs failed numbers rest mid new
 
 -- ---- Turns and runs
 
--- the event lines are flushed, and then the logs that wait
-abbrev pub EndOfTurn : Settings → Machine → Tail → Machine → Type 0
-EndOfTurn set old tail new = (mid : Machine) × (its : List Answer) × (rest : List Answer)
-    × (tail.answers ≡ its ++ rest) × FlushesLines set tail.failed its old mid × FlushesLogs tail.failed mid.waiting rest mid new
+-- the event lines are flushed, and then the logs that wait; none waits any more
+pub record EndOfTurn (set : Settings) (old : Machine) (tail : Tail) (new : Machine) : Type 0 where
+  pub mid : Machine
+  pub last : Machine
+  pub of_lines : List Answer
+  pub of_logs : List Answer
+  pub answers : tail.answers ≡ of_lines ++ of_logs
+  pub lines : FlushesLines set tail.failed of_lines old mid
+  pub logs : FlushesLogs tail.failed mid.waiting of_logs mid last
+  pub now : new ≡ record last { waiting = [] }
 
 -- what happens: a job, the end of a turn, or that a run with these texts begins, where all that ran before has stopped
 pub data Happened : Type 0 where

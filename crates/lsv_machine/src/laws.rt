@@ -8,16 +8,18 @@ ghost use Rattle.lsv_session.specs.declared.connection.ConnId.{ConnId};
 ghost use Rattle.lsv_machine.specs.Durable.{IsPrefix};
 ghost use Rattle.lsv_machine.specs.Failures.{Act, Step};
 ghost use Rattle.lsv_machine.specs.History.{Ledger, ledger, noted, promised, sent, shown, writers};
+ghost use Rattle.lsv_machine.specs.Lines.{MayHold};
 ghost use Rattle.lsv_machine.specs.Machine.{LogState.There, Machine, Settings};
 ghost use Rattle.lsv_machine.specs.Stands.{Stands, StandsFor};
 ghost use Rattle.lsv_machine.specs.Starts.{Continues, GoodState, StartsAs};
 ghost use Rattle.lsv_machine.specs.Turns.{AllBegin, EndOfTurn, Happened, Happened.Begins, Happened.Did, Happened.Tailed, Run, Tail};
 
-/// No log has two writers at the end of any run, and so after each job of it: whatever happened before the run, whatever
-/// fails in it, and whatever the store held, if no log of the lane was above the last number drawn.
+/// No log has two writers at any moment of any run, so after each job of it: whatever happened before the run, whatever fails
+/// in it, and whatever the store held, if no log of the lane was above the last number drawn. `run` is what of the run has
+/// happened, and `rest` what is still to come.
 pub fn a_log_has_one_writer()
-    ensures { (set : Settings) (n : ℕ) (before run : List Happened) (texts : List (List ℕ)) (start end : Machine) →
-        StartsAs set texts start → Run set start run end → length (writers (before ++ Begins texts ∷ run) n) ≤ 1 }
+    ensures { (set : Settings) (n : ℕ) (before run rest : List Happened) (texts : List (List ℕ)) (start end : Machine) →
+        StartsAs set texts start → Run set start (run ++ rest) end → length (writers (before ++ Begins texts ∷ run) n) ≤ 1 }
 {}
 
 /// No more is promised of a log than was sent and shown, whatever jobs, answers and failures a history has.
@@ -68,4 +70,12 @@ pub fn the_invariant_is_kept()
 /// Two stretches of a run, as two turns, are one.
 pub fn runs_join()
     ensures { (set : Settings) (g h : List Happened) (a b c : Machine) → Run set a g b → Run set b h c → Run set a (g ++ h) c }
+{}
+
+/// The event log that a machine has is one that its history allows. Where a run begins, the lines of a turn that was cut may
+/// be there or not.
+pub fn the_event_log_is_of_the_history()
+    ensures run { (set : Settings) (g h : List Happened) (m end : Machine) → MayHold set.lane g m.lines m.fresh → Run set m h end → MayHold set.lane (g ++ h) end.lines end.fresh }
+    ensures lost { (lane : ℕ) (g : List Happened) (texts : List (List ℕ)) (text fresh : List ℕ) → MayHold lane g text fresh → MayHold lane (g ++ Begins texts ∷ []) text [] }
+    ensures kept { (lane : ℕ) (g : List Happened) (texts : List (List ℕ)) (text fresh : List ℕ) → MayHold lane g text fresh → MayHold lane (g ++ Begins texts ∷ []) (text ++ fresh) [] }
 {}

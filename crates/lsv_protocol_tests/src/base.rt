@@ -46,32 +46,6 @@ fn source_of(alloc: Global, fail: Vec<u64>) -> Result<MemSource, NoMem> {
 }
 
 #[test]
-fn times_are_valid_up_to_the_last_nanosecond_below_two_to_the_63(rt: HostRuntime) {
-    let cases = [
-        (0, 0, Some(0)),
-        (1, 500_000_000, Some(1_500_000_000)),
-        (0, 999_999_999, Some(999_999_999)),
-        (9_223_372_036, 854_775_807, Some(9_223_372_036_854_775_807)),
-        (9_223_372_036, 854_775_808, None),
-        (9_223_372_037, 0, None),
-        (i64::MAX, 0, None),
-        (0, 1_000_000_000, None),
-        (0, -1, None),
-        (-1, 0, None),
-        (-1, 1_000_000_000, None),
-    ];
-    for (sec, nsec, nanos) in cases {
-        let time = TimeSpec { sec, nsec };
-        assert_eq!(rt; time.delay(), nanos, "at {sec} s {nsec} ns");
-        assert_eq!(rt;
-            time.point().map(|point| point.nanos()),
-            nanos,
-            "at {sec} s {nsec} ns"
-        );
-    }
-}
-
-#[test]
 fn points_are_below_two_to_the_63(rt: HostRuntime) -> Result<(), Fail> {
     let last = Point::new(9_223_372_036_854_775_807).ok_or("no last point")?;
     assert_eq!(rt; last.nanos(), 9_223_372_036_854_775_807);
@@ -115,25 +89,6 @@ fn log_numbers_have_six_digits(rt: HostRuntime) -> Result<(), Fail> {
 }
 
 #[test]
-fn other_texts_are_no_log_number(rt: HostRuntime) {
-    let texts = [
-        &b"000000"[..],
-        &b"00000a"[..],
-        &b"00001"[..],
-        &b"0000001"[..],
-        &b""[..],
-        &b"00000/"[..],
-        &b"00000:"[..],
-        &b"00000@"[..],
-        &b"00000["[..],
-        &b" 00001"[..],
-    ];
-    for text in texts {
-        assert_eq!(rt; LogNo::read(text), None, "at {text:?}");
-    }
-}
-
-#[test]
 fn bytes_and_lists_grow_at_their_end(rt: HostRuntime) -> Result<(), Fail> {
     let mut bytes = Bytes::of(rt.alloc(), b"ab")?;
     bytes.add(b"c")?;
@@ -153,10 +108,14 @@ fn bytes_and_lists_grow_at_their_end(rt: HostRuntime) -> Result<(), Fail> {
 }
 
 #[test]
-fn want_of_memory_has_a_text(rt: HostRuntime) -> Result<(), Fail> {
+fn faults_have_texts(rt: HostRuntime) -> Result<(), Fail> {
     assert_eq!(rt;
         format!(in rt.alloc(); "{NoMem}")?.as_str(),
         "out of memory"
+    );
+    assert_eq!(rt;
+        format!(in rt.alloc(); "{SourceFault}, {SinkFault}")?.as_str(),
+        "a read failed, a write failed"
     );
     assert!(rt; matches!(TextFault::from(NoMem), TextFault::NoMem));
     Ok(())

@@ -1,4 +1,4 @@
-//! Tests of the crates of the protocol and of a log's content, by their public calls alone.
+//! Tests of the foundation and of the crates of the protocol, by their public calls alone.
 #![tactic(auto)]
 
 #[cfg(test)]
@@ -6,12 +6,6 @@ mod base;
 #[cfg(test)]
 mod info;
 #[cfg(test)]
-mod mask;
-#[cfg(test)]
 mod msg;
-#[cfg(test)]
-mod record;
-#[cfg(test)]
-mod request;
 #[cfg(test)]
 mod wire;

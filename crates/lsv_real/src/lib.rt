@@ -4,6 +4,7 @@
 mod call;
 mod disk;
 mod folders;
+mod limit;
 mod path;
 mod span;
 mod store;

@@ -2,6 +2,7 @@
 ghost use Rattle.std.specs.Prelude.{◌≤◌, IfOk, length};
 
 use crate::folders::Folders;
+use crate::limit::SizeLimit;
 use crate::path::{Place, Places};
 use crate::unsynced::Unsynced;
 use lru::LruCache;
@@ -48,6 +49,7 @@ pub struct Store {
     folders: Folders,
     handles: LruCache<FileId, File>,
     unsynced: Unsynced,
+    limit: SizeLimit,
     _lock: File,
 }
 
@@ -73,6 +75,7 @@ impl Store {
             folders,
             handles,
             unsynced: Unsynced::new(alloc),
+            limit: SizeLimit::now(),
             _lock: lock,
         })
     }
@@ -85,19 +88,13 @@ impl Store {
         }
     }
 
-    /// Makes an empty file, and waits until it is on the disk with its name.
+    /// Makes an empty file, and waits until its folder is on the disk with it.
     pub fn make(&mut self, f: FileId) -> io::Result<()> {
-        let place = self.place_of(f)?;
-        self.folders.make(place.folder.as_str())?;
-        self.folders.change(place.folder.as_str());
-        let file = make_file(&self.rt, place.path.as_str())?;
-        file.sync_all()?;
-        self.folders.sync(place.folder.as_str())?;
-        self.keep(f, file)
+        self.make_all(f.owner, &[f.part])
     }
 
-    /// Makes empty files of one owner, and waits until they are on the disk with their names, which all stand in
-    /// one folder.
+    /// Makes empty files of one owner, which all stand in one folder, and waits until that folder is on the disk with
+    /// them. A new file that is empty is there once its folder was synced after it was made, so none is synced itself.
     pub fn make_all(&mut self, owner: Owner, parts: &[Part]) -> io::Result<()> {
         let [first, ..] = parts else {
             return Ok(());
@@ -111,21 +108,7 @@ impl Store {
             let file = make_file(&self.rt, place.path.as_str())?;
             self.keep(f, file)?;
         }
-        self.folders.sync(folder.as_str())?;
-        for part in parts {
-            self.sync_made(FileId::new(owner, *part))?;
-        }
-        Ok(())
-    }
-
-    fn sync_made(&mut self, f: FileId) -> io::Result<()> {
-        if !self.is_open(f)? {
-            return Err(ErrorKind::NotFound.into());
-        }
-        match self.handles.get(&f) {
-            Some(file) => file.sync_all(),
-            None => Err(ErrorKind::NotFound.into()),
-        }
+        self.folders.sync(folder.as_str())
     }
 
     /// How many bytes a file has, None where there is none.
@@ -157,6 +140,7 @@ impl Store {
         if !self.is_open(f)? {
             return Err(ErrorKind::NotFound.into());
         }
+        self.limit.check(at, bytes.len())?;
         self.unsynced.note(f, at, bytes.len())?;
         match self.handles.get(&f) {
             Some(file) => file.write_all_at(bytes, at),

@@ -4,7 +4,7 @@ mod Lengths
 mod Lines
 mod Numerals
 mod Once
-mod Points
+pub mod Points
 mod Readers
 mod Signals
 mod Splits

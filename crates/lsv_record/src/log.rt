@@ -10,17 +10,22 @@ use crate::read::TIME_LIMIT;
 use crate::{Laid, LineFault, Record, Shaped, Stream, read_line};
 use lsv_base::{Bytes, List, NoMem};
 use std::alloc::Global;
+use thiserror::Error;
 
 /// Why a layout couldn't be read.
-#[derive(Clone, Copy, Debug, PartialEq, Eq)]
+#[derive(Clone, Copy, Debug, PartialEq, Eq, Error)]
 pub enum LayFault {
     /// No line of timing stands at this offset.
+    #[error("no line of timing stands at offset {0}")]
     BadLine(usize),
     /// The stream has fewer bytes than the lines of timing tell.
+    #[error("{0:?} has fewer bytes than the timing tells")]
     Short(Stream),
     /// The elapsed time reaches 2^63 nanoseconds.
+    #[error("the elapsed time reaches 2^63 nanoseconds")]
     TooLong,
     /// Out of memory.
+    #[error("out of memory")]
     NoMem,
 }
 

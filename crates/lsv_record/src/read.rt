@@ -11,6 +11,7 @@ use crate::write::NANOS_PER_SEC;
 use crate::{Shaped, Stream, is_signal};
 use lsv_base::{Bytes, NoMem};
 use std::alloc::Global;
+use thiserror::Error;
 
 /// Delays and elapsed times stay below this, in nanoseconds.
 pub(crate) const TIME_LIMIT: u64 = 1 << 63;
@@ -22,11 +23,13 @@ const DATA_LIMIT: u64 = 2_097_152;
 const WINDOW_LIMIT: u64 = 1 << 31;
 
 /// Why a line of timing couldn't be read.
-#[derive(Clone, Copy, Debug, PartialEq, Eq)]
+#[derive(Clone, Copy, Debug, PartialEq, Eq, Error)]
 pub enum LineFault {
     /// No line of timing stands at this offset.
+    #[error("no line of timing stands at offset {0}")]
     BadLine(usize),
     /// Out of memory.
+    #[error("out of memory")]
     NoMem,
 }
 

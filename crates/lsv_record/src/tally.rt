@@ -11,15 +11,19 @@ use crate::{LineFault, Shaped, Stream, read_line};
 use lsv_base::NoMem;
 use std::alloc::Global;
 use std::marker::Model;
+use thiserror::Error;
 
 /// Why the next line of timing couldn't be read.
-#[derive(Clone, Copy, Debug, PartialEq, Eq)]
+#[derive(Clone, Copy, Debug, PartialEq, Eq, Error)]
 pub enum TimingFault {
     /// No line of timing stands there.
+    #[error("no line of timing stands there")]
     BadLine,
     /// The elapsed time reaches 2^63 nanoseconds with it.
+    #[error("the elapsed time reaches 2^63 nanoseconds")]
     TooLong,
     /// Out of memory.
+    #[error("out of memory")]
     NoMem,
 }
 

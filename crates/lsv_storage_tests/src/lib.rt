@@ -6,6 +6,8 @@ mod together;
 pub use together::flush_both;
 
 #[cfg(test)]
+mod both;
+#[cfg(test)]
 mod bundle;
 #[cfg(test)]
 mod disk;

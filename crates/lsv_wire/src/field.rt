@@ -3,6 +3,8 @@ ghost use Rattle.std.specs.Int.{w32, w64};
 ghost use Rattle.lsv_wire.specs.Fields as spelled;
 ghost use Rattle.lsv_wire.specs.Fields.{fixed_at, fields_from, with_field, IsWithin};
 
+use thiserror::Error;
+
 /// The last number that a field may have.
 pub const LAST_FIELD_NUMBER: u32 = 536_870_911;
 
@@ -28,17 +30,21 @@ pub enum FieldValue {
 }
 
 /// Why there is no field at a place. Each tells the place of the field's key.
-#[derive(Clone, Copy, Debug, PartialEq, Eq)]
+#[derive(Clone, Copy, Debug, PartialEq, Eq, Error)]
 pub enum WireFault {
     /// The bytes end inside the key or the value.
+    #[error("the bytes end inside the field at offset {0}")]
     Truncated(usize),
     /// The tenth byte of a varint says that another follows.
+    #[error("a varint of the field at offset {0} has more than ten bytes")]
     LongVarint(usize),
     /// The number is 0 or above 536,870,911, or the type is none of 0, 1, 2 and 5.
+    #[error("no key of a field stands at offset {0}")]
     BadKey(usize),
 }
 
 /// The field at a place, and the place after it. None at the end.
+#[inline(always)]
 pub fn read_field(bytes: &[u8], at: usize) -> Result<Option<(Field, usize)>, WireFault>
     requires { at ≤ length bytes.now }
     ensures exact { result ≡ spelled.next_field bytes.now at }
@@ -55,6 +61,7 @@ pub fn read_field(bytes: &[u8], at: usize) -> Result<Option<(Field, usize)>, Wir
     next_field(bytes, at)
 }
 
+#[inline(always)]
 #[tactic(auto, unfolding(crate::specs::Fields::next_field))]
 fn next_field(bytes: &[u8], at: usize) -> Result<Option<(Field, usize)>, WireFault>
     requires { at ≤ length bytes.now }
@@ -67,6 +74,7 @@ fn next_field(bytes: &[u8], at: usize) -> Result<Option<(Field, usize)>, WireFau
     Ok(Some((field, next)))
 }
 
+#[inline(always)]
 #[tactic(auto, unfolding(crate::specs::Fields::field_at))]
 fn field_at(bytes: &[u8], at: usize) -> Result<(Field, usize), WireFault>
     requires { at ≤ length bytes.now }
@@ -82,6 +90,7 @@ fn field_at(bytes: &[u8], at: usize) -> Result<(Field, usize), WireFault>
     Ok((Field { number, value }, next))
 }
 
+#[inline(always)]
 #[tactic(auto, unfolding(crate::specs::Fields::value_at))]
 fn value_at(
     kind: u64,
@@ -114,6 +123,8 @@ fn value_at(
     }
 }
 
+#[cold]
+#[inline(never)]
 #[tactic(auto, unfolding(crate::specs::Fields::fixed_at))]
 fn eight_at(bytes: &[u8], key: usize, at: usize) -> Result<(u64, usize), WireFault>
     requires { at ≤ length bytes.now }
@@ -129,6 +140,8 @@ fn eight_at(bytes: &[u8], key: usize, at: usize) -> Result<(u64, usize), WireFau
     Ok((n, at + 8))
 }
 
+#[cold]
+#[inline(never)]
 #[tactic(auto, unfolding(crate::specs::Fields::fixed_at))]
 fn four_at(bytes: &[u8], key: usize, at: usize) -> Result<(u32, usize), WireFault>
     requires { at ≤ length bytes.now }
@@ -156,6 +169,7 @@ fn after_bytes(n: u64, bytes: &[u8], key: usize, at: usize) -> Result<usize, Wir
 
 /// The varint at a place, and the place after it. A fault tells `key`, the place of the key of the field that the
 /// varint stands in.
+#[inline(always)]
 #[tactic(auto, using(crate::proofs::Varints::one_byte))]
 pub fn varint_at(bytes: &[u8], key: usize, at: usize) -> Result<(u64, usize), WireFault>
     requires { at ≤ length bytes.now }
@@ -169,6 +183,8 @@ pub fn varint_at(bytes: &[u8], key: usize, at: usize) -> Result<(u64, usize), Wi
     long_varint_at(bytes, key, at)
 }
 
+#[cold]
+#[inline(never)]
 fn long_varint_at(bytes: &[u8], key: usize, at: usize) -> Result<(u64, usize), WireFault>
     requires { at ≤ length bytes.now }
     ensures exact { result ≡ spelled.varint_at bytes.now key at }

@@ -4,15 +4,18 @@ ghost use Rattle.lsv_wire.specs.declared.framing.FrameFault.TheVariants as fault
 
 use lsv_base::{Bytes, NoMem};
 use std::alloc::{AllocError, Global};
+use thiserror::Error;
 
 /// The longest message, in bytes.
 pub const FRAME_LIMIT: usize = 2_097_152;
 
 /// Why there is no frame.
-#[derive(Clone, Copy, Debug, PartialEq, Eq)]
+#[derive(Clone, Copy, Debug, PartialEq, Eq, Error)]
 pub enum FrameFault {
     /// A length above the limit: the one that is stated, or at `frame` the body's, at most 2^32 - 1.
+    #[error("a message of {0} bytes is longer than {limit}", limit = FRAME_LIMIT)]
     TooLarge(u32),
+    #[error("out of memory")]
     NoMem,
 }
 

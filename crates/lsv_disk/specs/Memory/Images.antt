@@ -1,5 +1,6 @@
 -- Three of the disks that a crash may leave, by what became of the bytes that it may leave in any way.
-use Rattle.std.specs.Prelude.{◌≡◌, ◌⊎◌, ℕ, ◌+◌, ◌<◌, ◌≤◌, ◌&&◌, Bool, true, false, slice_index_or, List, [], ◌∷◌, length, replicate, Option, Some, None}
+use Rattle.std.specs.Prelude.{◌≡◌, ◌⊎◌, ℕ, ◌+◌, ◌<◌, ◌≤◌, ◌&&◌, ◌≢◌, if◌then◌else◌, Bool, true, false, slice_index_or, List, [], ◌∷◌, length, replicate, Option, Some, None}
+use Rattle.std.specs.Option.{option_or}
 use Rattle.std.specs.declared.alloc.Global.{Global}
 use Rattle.std.specs.declared.vec.Vec.{Vec}
 use Rattle.lsv_disk.specs.declared.file.FileId.{FileId}
@@ -10,6 +11,7 @@ use Rattle.lsv_disk.specs.declared.memory.fill.Fill.{Fill}
 use Rattle.lsv_disk.specs.declared.memory.fill.Fill.TheVariants.{Old, Read, Byte}
 use Rattle.lsv_disk.specs.Files.{same_file}
 use Rattle.lsv_disk.specs.Bytes.{written, bytes_of}
+use Rattle.lsv_disk.specs.View.{Image}
 use Rattle.lsv_disk.specs.Memory.Calls.{past_of, reads_after, Noted}
 
 -- a crash leaves one content of the file after the call
@@ -93,6 +95,11 @@ pub record IsDurableAt (calls : List Call) (file : FileId) (end : ℕ) : Type 0 
   pub within : end ≤ length calls
   pub durable : (before : ℕ) → end ≡ before + 1 → (d : Call) → (same_file (slice_index_or calls before d).file file && makes_durable (slice_index_or calls before d).effect) ≡ true
   pub after : (i : ℕ) → end ≤ i → i < length calls → (d : Call) → (same_file (slice_index_or calls i d).file file && makes_durable (slice_index_or calls i d).effect) ≡ false
+
+-- what is left of the call's file is taken over, where the file may be there by the call and isn't here yet; no other is
+pub record IsTakenOver (left : Image) (call : Call) (old new : Image) : Type 0 where
+  pub here : new call.file ≡ (if may_make call.effect then option_or (old call.file) (left call.file) else old call.file)
+  pub others : (g : FileId) → g ≢ call.file → new g ≡ old g
 
 -- nothing is known of the file but what it held from the start, if anything
 abbrev pub IsHeld : List Effect → Type 0

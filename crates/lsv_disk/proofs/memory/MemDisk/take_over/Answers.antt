@@ -11,13 +11,13 @@ returns-in-Some-clause-held c =
     let absent : reads_of c.args.self.now.calls.items c.args.call.now.file ≡ None = search rules in
     on_ok_weaker c.hold.result (λ noted. held_noted c.args.self.now.calls.items c.hold.new.calls.items c.args.call.now.file c.in-Some.bytes.now noted c.requires.held absent) c.hold.ensures.ok
 
-pub returns-in-Some-clause-here : goal.returns-in-Some-clause-here
-returns-in-Some-clause-here c =
+pub returns-in-Some-clause-taken : goal.returns-in-Some-clause-taken
+returns-in-Some-clause-taken c =
     let absent : reads_of c.args.self.now.calls.items c.args.call.now.file ≡ None = search rules in
     let makes : may_make c.args.call.now.effect ≡ true = sym c.may_make.ensures ∙ c.if-not-may_make.false in
     on_ok_weaker c.hold.result
-    (λ noted. held_here c.args.self.now.calls.items c.hold.new.calls.items c.args.call.now.file c.in-Some.bytes.now noted (may_make c.args.call.now.effect) (content_of c.args.left.now c.args.call.now.file) makes absent c.in-Some.ensures)
+    (λ noted. record {
+      here = held_here c.args.self.now.calls.items c.hold.new.calls.items c.args.call.now.file c.in-Some.bytes.now noted (may_make c.args.call.now.effect) (content_of c.args.left.now c.args.call.now.file) makes absent c.in-Some.ensures;
+      others = held_others c.args.self.now.calls.items c.hold.new.calls.items c.args.call.now.file c.in-Some.bytes.now noted;
+    })
     c.hold.ensures.ok
-
-pub returns-in-Some-clause-others : goal.returns-in-Some-clause-others
-returns-in-Some-clause-others c = on_ok_weaker c.hold.result (λ noted. held_others c.args.self.now.calls.items c.hold.new.calls.items c.args.call.now.file c.in-Some.bytes.now noted) c.hold.ensures.ok

@@ -1,0 +1,5 @@
+mod Asked
+mod Building
+mod Numbers
+mod Parsed
+mod Walks

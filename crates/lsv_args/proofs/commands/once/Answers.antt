@@ -1,0 +1,12 @@
+use Rattle.std.proofs.lemmas.Result.{IfOk-weaker}
+use Rattle.clap.specs.Simple.{new_app, with_rule}
+use Rattle.std.proofs.Common.{codes}
+use Rattle.lsv_args.specs.Commands.{commands, conf, count, lanes, load, once, program, serve, stop_after}
+use Rattle.lsv_args.specs.Commands as app
+use Rattle.lsv_args.proofs.Building.{IsMade, set_up, with_arg, with_sub}
+use Rattle.lsv_args.proofs.commands.once.Goals as goal
+
+pub returns : goal.returns
+returns c =
+    let made : IsMade c.new.result (new_app (codes "once")) = record { app = c.new.ensures.app; local = c.new.ensures.local } in
+    IfOk-weaker c.arg.result _ _ (λ r h. let m = with_arg c.new.result r c.conf.result (new_app (codes "once")) conf made c.conf.ensures.rule c.conf.ensures.local h in (m.app, m.local)) c.arg.ensures

@@ -1,0 +1,14 @@
+use Rattle.std.proofs.lemmas.Result.{IfOk-weaker}
+use Rattle.clap.specs.Simple.{new_app, with_rule}
+use Rattle.std.proofs.Common.{codes}
+use Rattle.lsv_args.specs.Commands.{commands, conf, count, lanes, load, once, program, serve, stop_after}
+use Rattle.lsv_args.specs.Commands as app
+use Rattle.lsv_args.proofs.Building.{IsMade, set_up, with_arg, with_sub}
+use Rattle.lsv_args.proofs.commands.serve.Goals as goal
+
+pub returns : goal.returns
+returns c =
+    let made : IsMade c.new.result (new_app (codes "serve")) = record { app = c.new.ensures.app; local = c.new.ensures.local } in
+    let first = with_arg c.new.result c.in_ok-arg.field-0 c.conf.result (new_app (codes "serve")) conf made c.conf.ensures.rule c.conf.ensures.local c.in_ok-arg.ensures in
+    let second = with_arg c.in_ok-arg.field-0 c.in_ok-arg-2.field-0 c.lanes.result _ lanes first c.lanes.ensures.rule c.lanes.ensures.local c.in_ok-arg-2.ensures in
+    IfOk-weaker c.arg-3.result _ _ (λ r h. let m = with_arg c.in_ok-arg-2.field-0 r c.stop_after.result _ stop_after second c.stop_after.ensures.rule c.stop_after.ensures.local h in (m.app, m.local)) c.arg-3.ensures

@@ -1,0 +1,8 @@
+use Rattle.std.proofs.Common.{◌≡◌, map, take, true}
+use Rattle.std.specs.List.{list_all}
+use Rattle.std.specs.Str.{is_utf8}
+use Rattle.lsv_args.proofs.read.texts_of.Given as goal
+
+-- the texts so far are the words so far
+abbrev pub invariant-loop-word : goal.invariant-loop-word
+invariant-loop-word l = map (λ t. t.now) l.texts.items ≡ take l.word-index l.words

@@ -1,0 +1,6 @@
+pub mod Inner
+pub mod Lines
+pub mod Settings
+pub mod Table
+pub mod Texts
+pub mod Values

@@ -1,0 +1,272 @@
+-- No control byte stands in a line before its line feed.
+use Rattle.std.proofs.Common.{◌≡◌, ℕ, zero, suc, ◌+◌, ◌/◌, ◌%◌, ◌<◌, ◌≤◌, ◌⊎◌, inl, inr, ℤ, pos, negsuc, List, [], ◌∷◌, ◌++◌, Bool, true, false, refl, ap, ◌∙◌, arith, Option, Some, None, codes, cond}
+use Rattle.std.specs.Prelude.{if◌then◌else◌, nat_le, nat_lt, ◌&&◌, ◌||◌, ◌==◌, decimal, All, unsigned_abs}
+use Rattle.std.specs.Fmt.{signed_decimal, digits, digits_onto, digit_glyph}
+use Rattle.std.specs.Char.{digit_char}
+use Rattle.std.specs.List.{flat_map, list_all}
+use Rattle.std.proofs.lemmas.Bool.{and_parts, le-leb, lt-ltb, leb-true, ltb-false, or_cases, eqb-true}
+use Rattle.std.proofs.lemmas.List.Elements.{All-cons, All-nil}
+use Rattle.std.proofs.lemmas.List.Folds.{list_all-append}
+use Rattle.json.specs.Print.{escape_byte, escape_letter, quoted}
+use Rattle.lsv_base.specs.declared.time.TimeSpec.{TimeSpec}
+use Rattle.serde_json.specs.Data.{unsigned, negative, float, Data, null, boolean, number, string, array, object, Items, no_items, item, Members, no_members, member}
+use Rattle.serde_json.specs.Written.{compact_text, items_text, members_text, comma_if}
+use Rattle.lsv_info.specs.declared.times.Exit.{Exit as Ended}
+use Rattle.lsv_info.specs.declared.info.Info.{Info}
+use Rattle.lsv_event.specs.Events.{IsOneLine, IsVisible}
+use Rattle.lsv_event.specs.Escapes.{escaped, escaped_byte, is_plain, octal}
+use Rattle.lsv_event.specs.Dates.{Day, clock_text, date_of, day_of, day_text, two_digits}
+use Rattle.lsv_event.specs.SudoLine.{sudo_line, joined, part, part_if, part_unless_empty, parts_of, command_parts, exit_parts, core_part, line_start, dated, who_of}
+use Rattle.lsv_event.specs.JsonLine.{json_line, event_value}
+use Rattle.lsv_event.specs.declared.event.Event.{Event}
+use Rattle.lsv_event.specs.declared.event.Event.TheVariants.{Accept, Reject, Alert, Exit}
+
+-- a visible byte or a space
+abbrev clean : ℕ → Bool
+clean byte = nat_le 32 byte && nat_le byte 126
+
+-- no control byte of ASCII
+abbrev calm : ℕ → Bool
+calm byte = nat_le 32 byte
+
+-- each byte is so
+record Each (p : ℕ → Bool) (text : List ℕ) : Type 0 where
+  holds : list_all p text ≡ true
+
+-- each part is clean
+record AllClean (parts : List (List ℕ)) : Type 0 where
+  holds : list_all (list_all clean) parts ≡ true
+
+both : {x y : Bool} → x ≡ true → y ≡ true → (x && y) ≡ true
+both {x} {y} e f = ap (λ (b : Bool). b && y) e ∙ f
+
+join : {p : ℕ → Bool} {a b : List ℕ} → Each p a → Each p b → Each p (a ++ b)
+join {p} {a} {b} e f = record { holds = list_all-append p a b ∙ both e.holds f.holds }
+
+then_each : {p : ℕ → Bool} {x : ℕ} {text : List ℕ} → p x ≡ true → Each p text → Each p (x ∷ text)
+then_each e f = record { holds = both e f.holds }
+
+each_of : (p : ℕ → Bool) (f : ℕ → List ℕ) → ((x : ℕ) → Each p (f x)) → (xs : List ℕ) → Each p (flat_map f xs)
+each_of p f e [] = record { holds = refl }
+each_of p f e (x ∷ xs) = join (e x) (each_of p f e xs)
+
+-- ---- digits
+
+digit_clean : (d : ℕ) → d ≤ 9 → clean (48 + d) ≡ true
+digit_clean d few = both (le-leb 32 (48 + d) (omega arith)) (le-leb (48 + d) 126 (omega arith))
+
+two_clean : (n : ℕ) → Each clean (two_digits n)
+two_clean n = record { holds = both (digit_clean (n / 10 % 10) (omega arith)) (both (digit_clean (n % 10) (omega arith)) refl) }
+
+glyph_is : (d : ℕ) → d < 10 → digit_glyph false d ≡ 48 + d
+glyph_is d few = ap (λ (b : Bool). if b then 48 + d else (87 + d)) (lt-ltb d 10 few)
+
+glyph_clean : (n : ℕ) → clean (digit_glyph false (n % 10)) ≡ true
+glyph_clean n = ap clean (glyph_is (n % 10) (omega arith)) ∙ digit_clean (n % 10) (omega arith)
+
+onto_clean : (k n : ℕ) (acc : List ℕ) → Each clean acc → Each clean (digits_onto k 10 false n acc)
+onto_clean zero n acc e = e
+onto_clean (suc k) n acc e = go (n / 10 == 0) (then_each (glyph_clean n) e) (onto_clean k (n / 10) (digit_glyph false (n % 10) ∷ acc) (then_each (glyph_clean n) e))
+  where
+    go : (b : Bool) → Each clean (digit_glyph false (n % 10) ∷ acc) → Each clean (digits_onto k 10 false (n / 10) (digit_glyph false (n % 10) ∷ acc))
+        → Each clean (if b then digit_glyph false (n % 10) ∷ acc else digits_onto k 10 false (n / 10) (digit_glyph false (n % 10) ∷ acc))
+    go true e f = e
+    go false e f = f
+
+decimal_clean : (n : ℕ) → Each clean (decimal n)
+unfolding digits
+decimal_clean n = onto_clean 64 n [] (record { holds = refl })
+
+-- ---- lines in sudo's style
+
+octal_clean : (byte : ℕ) → Each clean (octal byte)
+octal_clean byte = record { holds = both (digit_clean (byte / 64 % 8) (omega arith)) (both (digit_clean (byte / 8 % 8) (omega arith)) (both (digit_clean (byte % 8) (omega arith)) refl)) }
+
+byte_clean : (byte : ℕ) → Each clean (escaped_byte byte)
+byte_clean byte = go (is_plain byte) refl
+  where
+    go : (b : Bool) → is_plain byte ≡ b → Each clean (if b then byte ∷ [] else 35 ∷ octal byte)
+    go true e = record { holds = both (and_parts _ _ e).0 refl }
+    go false e = then_each refl (octal_clean byte)
+
+escaped_clean : (text : List ℕ) → Each clean (escaped text)
+escaped_clean text = each_of clean escaped_byte byte_clean text
+
+also : {a b : List (List ℕ)} → AllClean a → AllClean b → AllClean (a ++ b)
+also {a} {b} e f = record { holds = list_all-append (list_all clean) a b ∙ both e.holds f.holds }
+
+part_clean : (name text : List ℕ) → Each clean name → AllClean (part name text)
+part_clean name text e = record { holds = both (join e (escaped_clean text)).holds refl }
+
+if_clean : (name : List ℕ) (text : Option (List ℕ)) → Each clean name → AllClean (part_if name text)
+if_clean name (Some text) e = part_clean name text e
+if_clean name None e = record { holds = refl }
+
+unless_clean : (name text : List ℕ) → Each clean name → AllClean (part_unless_empty name text)
+unless_clean name [] e = record { holds = refl }
+unless_clean name (byte ∷ text) e = part_clean name (byte ∷ text) e
+
+core_clean : (dumped : Bool) → AllClean (core_part dumped)
+core_clean true = record { holds = refl }
+core_clean false = record { holds = refl }
+
+command_clean : (log : Option ℕ) (info : Info) → AllClean (command_parts log info)
+command_clean log info =
+    also (also (also (also (also
+    (if_clean (codes "HOST=") _ (record { holds = refl }))
+    (if_clean (codes "TTY=") _ (record { holds = refl })))
+    (if_clean (codes "PWD=") _ (record { holds = refl })))
+    (if_clean (codes "USER=") _ (record { holds = refl })))
+    (if_clean (codes "TSID=") _ (record { holds = refl })))
+    (if_clean (codes "COMMAND=") _ (record { holds = refl }))
+
+exit_clean : (log : Option ℕ) (exit : Ended) → AllClean (exit_parts log exit)
+exit_clean log exit =
+    also (also (also (also
+    (if_clean (codes "TSID=") _ (record { holds = refl }))
+    (part_clean (codes "EXIT=") (signed_decimal exit.value) (record { holds = refl })))
+    (unless_clean (codes "SIGNAL=") exit.signal (record { holds = refl })))
+    (unless_clean (codes "ERROR=") exit.error (record { holds = refl })))
+    (core_clean exit.dumped)
+
+parts_clean : (event : Event) → AllClean (parts_of event)
+parts_clean (Accept at peer log head) = command_clean log head.info
+parts_clean (Reject at peer reason head) = also (unless_clean [] reason (record { holds = refl })) (command_clean None head.info)
+parts_clean (Alert at peer reason head) = also (unless_clean [] reason (record { holds = refl })) (command_clean None head.info)
+parts_clean (Exit at peer log exit) = exit_clean log exit
+
+first_part : (p : List ℕ) (parts : List (List ℕ)) → AllClean (p ∷ parts) → Each clean p × AllClean parts
+first_part p parts e =
+    let at = and_parts (list_all clean p) (list_all (list_all clean) parts) e.holds in
+    (record { holds = at.0 }, record { holds = at.1 })
+
+rest_clean : (parts : List (List ℕ)) → AllClean parts → Each clean (flat_map (λ part. codes " ; " ++ part) parts)
+rest_clean [] e = record { holds = refl }
+rest_clean (p ∷ parts) e =
+    let at = first_part p parts e in
+    join (join {a = codes " ; "} (record { holds = refl }) at.0) (rest_clean parts at.1)
+
+joined_clean : (parts : List (List ℕ)) → AllClean parts → Each clean (joined parts)
+joined_clean [] e = record { holds = refl }
+joined_clean (p ∷ parts) e =
+    let at = first_part p parts e in
+    join at.0 (rest_clean parts at.1)
+
+day_clean : (d : Day) → Each clean (day_text d)
+day_clean d = join (join (join (two_clean (d.year / 100)) (two_clean d.year)) (then_each refl (two_clean d.month))) (then_each refl (two_clean d.day))
+
+clock_clean : (seconds : ℕ) → Each clean (clock_text seconds)
+clock_clean seconds = join (join (two_clean (seconds / 3600)) (then_each refl (two_clean (seconds / 60 % 60)))) (then_each refl (two_clean (seconds % 60)))
+
+date_clean : (time : TimeSpec) → Each clean (date_of time)
+date_clean time = join (join (day_clean (day_of (unsigned_abs time.sec / 86400))) (then_each refl (clock_clean (unsigned_abs time.sec % 86400)))) (record { holds = refl })
+
+start_clean : (time : TimeSpec) (who : List ℕ) → Each clean (line_start time who)
+start_clean time who = join {b = codes " : "} (join (join {b = codes " : "} (date_clean time) (record { holds = refl })) (escaped_clean who)) (record { holds = refl })
+
+sudo_clean : (event : Event) → Each clean (line_start (dated event) (who_of event) ++ joined (parts_of event))
+sudo_clean event = join (start_clean (dated event) (who_of event)) (joined_clean (parts_of event) (parts_clean event))
+
+every : (p : ℕ → Bool) (P : ℕ → Type 0) → ((x : ℕ) → p x ≡ true → P x) → (text : List ℕ) → list_all p text ≡ true → All P text
+every p P e [] h = All-nil P
+every p P e (x ∷ text) h =
+    let at = and_parts (p x) (list_all p text) h in
+    All-cons P x text (e x at.0) (every p P e text at.1)
+
+visible : (x : ℕ) → clean x ≡ true → (32 ≤ x) × (x ≤ 126)
+visible x e =
+    let at = and_parts (nat_le 32 x) (nat_le x 126) e in
+    (leb-true 32 x at.0, leb-true x 126 at.1)
+
+pub sudo_visible : (event : Event) → IsVisible (sudo_line event)
+unfolding sudo_line
+sudo_visible event = (line_start (dated event) (who_of event) ++ joined (parts_of event), refl, every clean (λ byte. (32 ≤ byte) × (byte ≤ 126)) visible (line_start (dated event) (who_of event) ++ joined (parts_of event)) (sudo_clean event).holds)
+
+pub sudo_one : (event : Event) → IsOneLine (sudo_line event)
+unfolding sudo_line
+sudo_one event = (line_start (dated event) (who_of event) ++ joined (parts_of event), refl, every clean (λ byte. 32 ≤ byte) (λ x e. (visible x e).0) (line_start (dated event) (who_of event) ++ joined (parts_of event)) (sudo_clean event).holds)
+
+-- ---- lines of JSON
+
+calmer : (text : List ℕ) → list_all clean text ≡ true → list_all calm text ≡ true
+calmer [] e = refl
+calmer (x ∷ text) e =
+    let at = and_parts (clean x) (list_all clean text) e in
+    both (and_parts (nat_le 32 x) (nat_le x 126) at.0).0 (calmer text at.1)
+
+decimal_calm : (n : ℕ) → Each calm (decimal n)
+decimal_calm n = record { holds = calmer (decimal n) (decimal_clean n).holds }
+
+signed_calm : (z : ℤ) → Each calm (signed_decimal z)
+signed_calm (pos n) = decimal_calm n
+signed_calm (negsuc n) = then_each refl (decimal_calm (suc n))
+
+letter_of : (x : ℕ) (is_plain form back feed return tab : Bool) → (is_plain ≡ true → 32 ≤ x)
+    → (cond is_plain x (cond back 98 (cond form 102 (cond feed 110 (cond return 114 (cond tab 116 0))))) ≡ 0) ⊎ (32 ≤ cond is_plain x (cond back 98 (cond form 102 (cond feed 110 (cond return 114 (cond tab 116 0))))))
+letter_of x true form back feed return tab h = inr (h refl)
+letter_of x false form true feed return tab h = inr (omega arith)
+letter_of x false true false feed return tab h = inr (omega arith)
+letter_of x false false false true return tab h = inr (omega arith)
+letter_of x false false false false true tab h = inr (omega arith)
+letter_of x false false false false false true h = inr (omega arith)
+letter_of x false false false false false false h = inl refl
+
+letter_is : (x : ℕ) → (escape_letter x ≡ 0) ⊎ (32 ≤ escape_letter x)
+letter_is x = letter_of x ((x == 34) || (x == 92)) (x == 12) (x == 8) (x == 10) (x == 13) (x == 9) (λ e. large (or_cases (x == 34) (x == 92) e))
+  where
+    large : ((x == 34) ≡ true) ⊎ ((x == 92) ≡ true) → 32 ≤ x
+    large (inl e) = omega (arith, eqb-true x 34 e)
+    large (inr e) = omega (arith, eqb-true x 92 e)
+
+char_calm : (d : ℕ) → calm (digit_char d) ≡ true
+char_calm d = go (nat_lt d 10)
+  where
+    go : (b : Bool) → calm (cond b (48 + d) (87 + d)) ≡ true
+    go true = le-leb 32 (48 + d) (omega arith)
+    go false = le-leb 32 (87 + d) (omega arith)
+
+control_calm : (x : ℕ) → Each calm (cond (nat_lt x 32) (92 ∷ 117 ∷ 48 ∷ 48 ∷ digit_char (x / 16) ∷ digit_char (x % 16) ∷ []) (x ∷ []))
+control_calm x = go (nat_lt x 32) refl
+  where
+    go : (b : Bool) → nat_lt x 32 ≡ b → Each calm (cond b (92 ∷ 117 ∷ 48 ∷ 48 ∷ digit_char (x / 16) ∷ digit_char (x % 16) ∷ []) (x ∷ []))
+    go true e = record { holds = both (char_calm (x / 16)) (both (char_calm (x % 16)) refl) }
+    go false e = record { holds = both (le-leb 32 x (ltb-false x 32 e)) refl }
+
+by_letter : (x letter : ℕ) → (letter ≡ 0) ⊎ (32 ≤ letter) → Each calm (cond (nat_lt 0 letter) (92 ∷ letter ∷ []) (cond (nat_lt x 32) (92 ∷ 117 ∷ 48 ∷ 48 ∷ digit_char (x / 16) ∷ digit_char (x % 16) ∷ []) (x ∷ [])))
+by_letter x letter (inl e) = rw e (control_calm x)
+by_letter x letter (inr some) = rw (lt-ltb 0 letter (omega arith)) (record { holds = both (le-leb 32 letter some) refl })
+
+escape_calm : (x : ℕ) → Each calm (escape_byte x)
+unfolding escape_byte
+escape_calm x = by_letter x (escape_letter x) (letter_is x)
+
+quoted_calm : (text : List ℕ) → Each calm (quoted text)
+quoted_calm text = then_each refl (join (each_of calm escape_byte escape_calm text) (record { holds = refl }))
+
+comma_calm : (later : Bool) → Each calm (comma_if later)
+comma_calm true = record { holds = refl }
+comma_calm false = record { holds = refl }
+
+mutual
+  text_calm : (json : Data) → Each calm (compact_text json)
+  text_calm null = record { holds = refl }
+  text_calm (boolean true) = record { holds = refl }
+  text_calm (boolean false) = record { holds = refl }
+  text_calm (number (unsigned n)) = decimal_calm n
+  text_calm (number (negative z)) = signed_calm z
+  text_calm (number (float x)) = record { holds = refl }
+  text_calm (string s) = quoted_calm s
+  text_calm (array ds) = then_each refl (items_calm false ds)
+  text_calm (object ms) = then_each refl (members_calm false ms)
+
+  items_calm : (later : Bool) (ds : Items) → Each calm (items_text later ds)
+  items_calm later no_items = record { holds = refl }
+  items_calm later (item d ds) = join (comma_calm later) (join (text_calm d) (items_calm true ds))
+
+  members_calm : (later : Bool) (ms : Members) → Each calm (members_text later ms)
+  members_calm later no_members = record { holds = refl }
+  members_calm later (member k d ms) = join (comma_calm later) (join (quoted_calm k) (then_each refl (join (text_calm d) (members_calm true ms))))
+
+pub json_calm : (event : Event) → IsOneLine (json_line event)
+unfolding json_line
+json_calm event = (compact_text (event_value event), refl, every calm (λ byte. 32 ≤ byte) (λ x e. leb-true 32 x e) (compact_text (event_value event)) (text_calm (event_value event)).holds)

@@ -1,0 +1,4 @@
+pub mod Laws
+mod Making
+mod Moments
+mod Opening

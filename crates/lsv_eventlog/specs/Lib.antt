@@ -1,0 +1,5 @@
+pub mod Calls
+pub mod Inner
+pub mod Moments
+pub mod Recovered
+pub mod Value

@@ -1,0 +1,228 @@
+-- A run recovers: its opening, and each turn.
+use Rattle.std.proofs.Common.{◌≡◌, ◌≤◌, ℕ, List, [], ◌∷◌, ◌++◌, refl, sym, ◌∙◌, ap, subst, inl, inr, arith, append_assoc, Some, None, ◌⊎◌, take}
+use Rattle.std.specs.Prelude.{false}
+use Rattle.lsv_base.specs.declared.time.TimeSpec.{TimeSpec}
+use Rattle.lsv_disk.specs.View.{DiskView, Image, IsCrashImage}
+use Rattle.lsv_session.specs.declared.job.Job.{Job}
+use Rattle.lsv_session.specs.declared.reply.Reply.{Reply}
+use Rattle.lsv_machine.specs.Counts.{Counts}
+use Rattle.lsv_machine.specs.Disks.{AllGood, AllWithin, AsBefore, NumbersFit, Past}
+use Rattle.lsv_machine.specs.Durable.{Good, GoodAt, GoodLog, Reading}
+use Rattle.lsv_machine.specs.History.{Ledger, ledger, noted, settled}
+use Rattle.lsv_machine.specs.InnerSoFar.{SoFar, with_turn}
+use Rattle.lsv_machine.specs.Keeping.{Opened, OpensStore, Turned}
+use Rattle.lsv_machine.specs.Machine.{LogState, LogState.Absent, LogState.Damaged, LogState.There, Machine, Settings}
+use Rattle.lsv_machine.specs.Recovery.{GoesOn, Kept, Recovers, Spans, Story, Turn, all_turns, ended_at, past_of}
+use Rattle.lsv_machine.specs.Stands.{Stands}
+use Rattle.lsv_machine.specs.Starts.{GoodState, ReadsAs, StartsAs}
+use Rattle.lsv_machine.specs.Turns.{Happened, Happened.Begins, Run, all_acted, turn_of}
+use Rattle.lsv_machine.proofs.Folds.{counts_on, no_counts}
+use Rattle.lsv_machine.proofs.RunLaws.{run_append, stands_begun, stands_more}
+use Rattle.lsv_machine.proofs.Splits.{Place, Place.at_end, Place.inside, all_turns_last, append_nil, ended_last, front, le_or, moments_last, placed, settled_last}
+use Rattle.lsv_machine.proofs.Untouched.{good_untouched, untouched}
+use Rattle.lsv_machine.proofs.Weaken.{at_same, at_weaker, begun_ledger, lower_same}
+
+-- what images held before, they hold within what was said of it
+pub as_before_within : (r : Reading) (p : Past) (n : ℕ) (old images : Image → Type 0) → AllWithin r p n old → AsBefore r n old images → AllWithin r p n images
+as_before_within r p n old images within before image is =
+    let b = before image is in
+    let w = within b.0 b.1 in
+    record { done = w.done; some = w.some; good = at_same r (ledger (p.history ++ all_acted (take w.done p.acts)) n) n b.0 image b.2 w.good }
+
+goes_on_free : (texts : List (List ℕ)) (p : Past) (g : List Happened) (n : ℕ) → GoesOn texts p g → (ledger g n).writers ≡ []
+goes_on_free texts p g n on =
+    let h = p.history ++ all_acted (take on.done p.acts) in
+    ap (λ (x : List Happened). (ledger x n).writers) on.is ∙ ap (λ (l : Ledger). l.writers) (begun_ledger n texts h)
+
+-- what is read of a log, as a state of it
+state_of : (r : Reading) (image : Image) (n : ℕ) (l : Ledger) (x : LogState) → ReadsAs (r.replays image n) x → GoodAt r l n image → GoodState l x
+state_of r image n l Absent is good = subst (GoodLog l) (r.one image n good.found None good.is is) good.good
+state_of r image n l Damaged is good = is good.found good.is
+state_of r image n l (There stored promised) is good = subst (GoodLog l) (r.one image n good.found (Some stored) good.is is) good.good
+
+-- a machine that starts as the disk reads stands for each history that goes on from what happened before
+pub start_stands : (r : Reading) (set : Settings) (texts : List (List ℕ)) (image : Image) (m : Machine) (p : Past) (g : List Happened) (n : ℕ) → StartsAs set texts m → ((i : ℕ) → ReadsAs (r.replays image i) (m.logs i))
+    → GoesOn texts p g → Good r g image n → Stands set g n m
+start_stands r set texts image m p g n starts reads on good =
+    let h = p.history ++ all_acted (take on.done p.acts) in
+    let cut : ledger g n ≡ noted n (ledger h n) (Begins texts) = ap (λ (x : List Happened). ledger x n) on.is ∙ begun_ledger n texts h in
+    let at_g : GoodAt r (noted n (ledger h n) (Begins texts)) n image = subst (λ (l : Ledger). GoodAt r l n image) cut good in
+    let at_h : GoodAt r (ledger h n) n image = at_weaker r (noted n (ledger h n) (Begins texts)) (ledger h n) n image
+    (record { head = refl; sent = refl; shown = refl; exit = refl; finished = refl; lower = lower_same (ledger h n).promised }) at_g in
+    subst (λ (x : List Happened). Stands set x n m) (sym on.is) (stands_begun set n texts h m starts (state_of r image n (ledger h n) (m.logs n) (reads n) at_h))
+
+-- ---- The opening
+
+-- a run that only opened its store, or failed to
+pub only_opened : (r : Reading) (lane lanes : ℕ) (texts : List (List ℕ)) (found new : DiskView) → OpensStore r lane lanes found new → Recovers r lane lanes texts (record { found = found; left = new }) (record { opened = new.moment; turns = [] })
+only_opened r lane lanes texts found new o = record {
+  spans = record {
+    first = (o.logs 0).0.later;
+    rising = λ before after t e. absurd (nothing before after t e);
+    within = λ before after e. none before after e;
+    whole = refl;
+  };
+  logs = λ n p g old on good. record {
+    opening = λ k from to. as_before_within r p n (IsCrashImage found) (new.crash_images_at k) old ((o.logs n).0.each k from to);
+    during = λ before after t e. absurd (nothing before after t e);
+    now = inr (
+      refl,
+      as_before_within r p n (IsCrashImage found) (IsCrashImage new) old (o.logs n).1.images,
+      subst (λ (h : List Happened). Good r h new.reads n) (sym (append_nil g)) (at_same r (ledger g n) n found.reads new.reads (o.logs n).1.reads good),
+    );
+  };
+  numbers = λ fit. (o.numbers fit).moments.each;
+}
+  where
+    none : (before after : List Turn) → [] ≡ before ++ after → ended_at new.moment before ≤ new.moment
+    none [] after e = omega arith
+    none (b ∷ before) after e = absurd (cc)
+
+    nothing : (before after : List Turn) (t : Turn) → [] ≡ before ++ t ∷ after → ⊥
+    nothing [] after t e = cc
+    nothing (b ∷ before) after t e = cc
+
+-- the opening, before the first turn
+pub opening_begins : (r : Reading) (set : Settings) (texts : List (List ℕ)) (m : Machine) (found new : DiskView) → NumbersFit r set.lane set.lanes (IsCrashImage found) → Opened r set texts m found new
+    → SoFar r set texts (record { found = found; left = new }) m (record { opened = new.moment; turns = [] })
+opening_begins r set texts m found new fit o = record {
+  ran = record {
+    start = m;
+    starts = o.starts;
+    reads_as = o.reads_as;
+    drawn = o.drawn;
+    lines = o.lines;
+    run = refl;
+    moments = tt;
+    counts = no_counts found new o.store.monotone;
+  };
+  recovers = only_opened r set.lane set.lanes texts found new o.store;
+  stands = λ n g p on good. subst (λ (h : List Happened). Stands set h n m) (sym (append_nil g)) (start_stands r set texts found.reads m p g n o.starts o.reads_as on good);
+  fit = (o.store.numbers fit).now;
+  lines = o.store.lines.reads.to m.lines o.lines;
+}
+
+-- ---- One turn more
+
+abbrev Earlier : DiskView → DiskView → Type 0
+Earlier old new = (k : ℕ) (image : Image) → k ≤ old.moment → new.crash_images_at k image → old.crash_images_at k image
+
+-- the images of one moment of a turn
+abbrev Allowed : Reading → Past → List Happened → List Turn → ℕ → Turn → (Image → Type 0) → Type 0
+Allowed r p g before n t images = AllWithin r (past_of g before t) n images ⊎ ((settled n g (all_turns before) ≡ false) × AllWithin r p n images)
+
+-- what a turn makes of one log
+module _ (r : Reading) (set : Settings) (texts : List (List ℕ)) (found : DiskView) (s : Story) (now : TimeSpec) (jobs : List Job) (replies : List Reply) (m after : Machine) (old new : DiskView)
+    (t : Turned r set now jobs replies m after old new) (n : ℕ) (p : Past) (g : List Happened) (on : GoesOn texts p g) (stands : Stands set (g ++ all_turns s.turns) n m)
+    (spans : Spans (record { found = found; left = old }) s) (past : Earlier old new) where
+  abbrev turn : Turn
+  turn = record { now = now; acts = t.acts; tail = t.tail; ended = new.moment }
+
+  abbrev so_far : List Happened
+  so_far = g ++ all_turns s.turns
+
+  abbrev AtEnd : Type 0
+  AtEnd = AllGood r (ledger so_far n) n (IsCrashImage old) ⊎ ((settled n g (all_turns s.turns) ≡ false) × AllWithin r p n (IsCrashImage old) × Good r so_far old.reads n)
+
+  free : settled n g (all_turns s.turns) ≡ false → (ledger so_far n).writers ≡ []
+  free e = let f = goes_on_free texts p g n on in (untouched g (all_turns s.turns) n f e).writers ∙ f
+
+  all_so_far : so_far ++ turn_of t.acts t.tail ≡ g ++ all_turns (s.turns ++ turn ∷ [])
+  all_so_far = append_assoc g (all_turns s.turns) (turn_of t.acts t.tail) ∙ ap (λ (x : List Happened). g ++ x) (sym (all_turns_last s.turns turn))
+
+  moved : (images : Image → Type 0) → AllGood r (ledger (so_far ++ turn_of t.acts t.tail) n) n images → AllGood r (ledger (g ++ all_turns (s.turns ++ turn ∷ [])) n) n images
+  moved images all = subst (λ (x : List Happened). AllGood r (ledger x n) n images) all_so_far all
+
+  -- the moments of the turn itself
+  last_turn : (k : ℕ) → old.moment ≤ k → k ≤ new.moment → AtEnd → Allowed r p g s.turns n turn (new.crash_images_at k)
+  last_turn k from to (inl all) = inl ((t.settled_logs so_far n stands all).0.each k from to)
+  last_turn k from to (inr (e, within, good)) = elim ((t.unsettled_logs so_far n stands (free e) good).0.each k from to) [
+    | inl before ↦ inr (e, as_before_within r p n (IsCrashImage old) (new.crash_images_at k) within before)
+    | inr all ↦ inl all
+  ]
+
+  early : (before : List Turn) (u : Turn) (k : ℕ) → k ≤ u.ended → u.ended ≤ old.moment → Allowed r p g before n u (old.crash_images_at k) → Allowed r p g before n u (new.crash_images_at k)
+  early before u k to by (inl all) = inl (λ image is. all image (past k image (omega arith) is))
+  early before u k to by (inr (e, within)) = inr (e, λ image is. within image (past k image (omega arith) is))
+
+  during : Kept r (record { found = found; left = old }) s n p g → (before after : List Turn) (u : Turn) (k : ℕ) → ended_at s.opened before ≤ k → k ≤ u.ended → Place before after s.turns u turn → Allowed r p g before n u (new.crash_images_at k)
+  during kept before after u k from to (at_end b e) =
+      let from' : old.moment ≤ k = subst (λ (x : ℕ). x ≤ k) (ap (ended_at s.opened) b ∙ spans.whole) from in
+      let to' : k ≤ new.moment = subst (λ (x : Turn). k ≤ x.ended) e to in
+      subst (λ (x : Turn). Allowed r p g before n x (new.crash_images_at k)) (sym e)
+      (subst (λ (x : List Turn). Allowed r p g x n turn (new.crash_images_at k)) (sym b) (last_turn k from' to' kept.now))
+  during kept before after u k from to (inside rest e) =
+      let whole : s.turns ≡ (before ++ u ∷ []) ++ rest = e ∙ sym (append_assoc before (u ∷ []) rest) in
+      let by : u.ended ≤ old.moment = subst (λ (x : ℕ). x ≤ old.moment) (ended_last s.opened before u) (spans.within (before ++ u ∷ []) rest whole) in
+      early before u k to by (kept.during before rest u e k from to)
+
+  abbrev Then : Type 0
+  Then = AllGood r (ledger (g ++ all_turns (s.turns ++ turn ∷ [])) n) n (IsCrashImage new)
+      ⊎ ((settled n g (all_turns (s.turns ++ turn ∷ [])) ≡ false) × AllWithin r p n (IsCrashImage new) × Good r (g ++ all_turns (s.turns ++ turn ∷ [])) new.reads n)
+
+  at_last : AtEnd → Then
+  at_last (inl all) = inl (moved (IsCrashImage new) (t.settled_logs so_far n stands all).1)
+  at_last (inr (e, within, good)) = elim ((t.unsettled_logs so_far n stands (free e) good).1) [
+    | inl all ↦ inl (moved (IsCrashImage new) all)
+    | inr rests ↦ inr (
+      subst (λ (x : List Happened). settled n g x ≡ false) (sym (all_turns_last s.turns turn)) (settled_last n g (all_turns s.turns) (turn_of t.acts t.tail) e rests.0),
+      as_before_within r p n (IsCrashImage old) (IsCrashImage new) within rests.1.images,
+      subst (λ (x : List Happened). Good r x new.reads n) all_so_far
+          (at_same r (ledger (so_far ++ turn_of t.acts t.tail) n) n old.reads new.reads rests.1.reads (good_untouched r so_far (turn_of t.acts t.tail) old.reads n (free e) rests.0 good)),
+    )
+  ]
+
+  log_on : Kept r (record { found = found; left = old }) s n p g → Kept r (record { found = found; left = new }) (with_turn s now t.acts t.tail new.moment) n p g
+  log_on kept = record {
+    opening = λ k from to image is. kept.opening k from to image (past k image (let a = spans.within [] s.turns refl in omega arith) is);
+    during = λ before after u e k from to. during kept before after u k from to (placed before after s.turns u turn e);
+    now = at_last kept.now;
+  }
+
+-- one turn more
+pub turn_joins : (r : Reading) (set : Settings) (texts : List (List ℕ)) (found : DiskView) (s : Story) (now : TimeSpec) (jobs : List Job) (replies : List Reply) (m after : Machine) (old new : DiskView)
+    → SoFar r set texts (record { found = found; left = old }) m s → (t : Turned r set now jobs replies m after old new)
+    → SoFar r set texts (record { found = found; left = new }) after (with_turn s now t.acts t.tail new.moment)
+turn_joins r set texts found s now jobs replies m after old new so t =
+    let next : Turn = record { now = now; acts = t.acts; tail = t.tail; ended = new.moment } in
+    let all = all_turns_last s.turns next in
+    let moments = t.numbers.moments in
+    let later = moments.later in
+    record {
+      ran = record {
+        start = so.ran.start;
+        starts = so.ran.starts;
+        reads_as = so.ran.reads_as;
+        drawn = so.ran.drawn;
+        lines = so.ran.lines;
+        run = subst (λ (h : List Happened). Run set so.ran.start h after) (sym all) (run_append set (all_turns s.turns) (turn_of t.acts t.tail) so.ran.start m after so.ran.run t.run);
+        moments = moments_last s.turns next so.ran.moments (t.moment, tt);
+        counts = subst (λ (h : List Happened). Counts h found new) (sym all) (counts_on (all_turns s.turns) (turn_of t.acts t.tail) found old new so.ran.counts t.counts);
+      };
+      recovers = record {
+        spans = record {
+          first = so.recovers.spans.first;
+          rising = λ before rest u e. elim (placed before rest s.turns u next e) [
+            | at_end b d ↦ let a : ended_at s.opened before ≡ old.moment = ap (ended_at s.opened) b ∙ so.recovers.spans.whole in let c : u.ended ≡ new.moment = ap (λ (x : Turn). x.ended) d in omega arith
+            | inside more d ↦ so.recovers.spans.rising before more u d
+          ];
+          within = λ before rest e. elim (front before rest s.turns next e) [
+            | inl whole ↦ let a : ended_at s.opened before ≡ new.moment = ap (ended_at s.opened) whole ∙ ended_last s.opened s.turns next in omega arith
+            | inr part ↦ let a = so.recovers.spans.within before part.0 part.1 in omega arith
+          ];
+          whole = ended_last s.opened s.turns next;
+        };
+        logs = λ n p g old_within on good. log_on r set texts found s now jobs replies m after old new t n p g on (so.stands n g p on good) so.recovers.spans moments.past (so.recovers.logs n p g old_within on good);
+        numbers = λ fit k from to. elim (le_or k old.moment) [
+          | inl early_on ↦ fewer k (λ image is. moments.past k image early_on is) (so.recovers.numbers fit k from early_on)
+          | inr late ↦ moments.each k late to
+        ];
+      };
+      stands = λ n g p on good. subst (λ (h : List Happened). Stands set h n after) (append_assoc g (all_turns s.turns) (turn_of t.acts t.tail) ∙ ap (λ (x : List Happened). g ++ x) (sym all))
+          (stands_more set n (g ++ all_turns s.turns) (turn_of t.acts t.tail) m after (so.stands n g p on good) t.run);
+      fit = t.numbers.now;
+      lines = t.lines_read so.lines;
+    }
+  where
+    fewer : (k : ℕ) → ((image : Image) → new.crash_images_at k image → old.crash_images_at k image) → NumbersFit r set.lane set.lanes (old.crash_images_at k) → NumbersFit r set.lane set.lanes (new.crash_images_at k)
+    fewer k less fit = record { told = λ image is. fit.told image (less image is); none_above = λ a b last n is it. fit.none_above a b last n (less a is) (less b it) }

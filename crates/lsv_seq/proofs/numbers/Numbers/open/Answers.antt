@@ -1,0 +1,48 @@
+use Rattle.std.proofs.Common.{◌≡◌, sym, ap, ◌∙◌, refl}
+use Rattle.std.specs.Option.{option_map}
+use Rattle.lsv_seq.specs.Entry.{entry_in}
+use Rattle.lsv_seq.specs.Inner.{last_in}
+use Rattle.lsv_seq.proofs.Openings.{made_reads, made_moments, opened_moments, opened_calls, resumed_represents}
+use Rattle.lsv_seq.proofs.Runs.{draw_calls, reopened_entry}
+use Rattle.lsv_seq.proofs.numbers.Numbers.open.Goals as goal
+
+pub returns-in_default-clause-read : goal.returns-in_default-clause-read
+returns-in_default-clause-read g c told =
+    let reads = (g.D.Disk.view c.args.disk.now).reads in
+    let found = reopened_entry c.args.lane c.numbers_file.result reads c.in_ok-journal.field-0 c.numbers_file.ensures (c.in_ok-journal.ensures.absent told).0 (c.in_ok-journal.ensures.last told) in
+    made_reads c.args.lane c.args.lanes reads c.fresh.result c.fresh.ensures.opened (sym found ∙ ap (λ o. option_map entry_in (last_in o)) c.in_default.is)
+
+pub returns-in_default-clause-any_moment : goal.returns-in_default-clause-any_moment
+returns-in_default-clause-any_moment g c told =
+    let reads = (g.D.Disk.view c.args.disk.now).reads in
+    let found = reopened_entry c.args.lane c.numbers_file.result reads c.in_ok-journal.field-0 c.numbers_file.ensures (c.in_ok-journal.ensures.absent told).0 (c.in_ok-journal.ensures.last told) in
+    made_moments c.args.lane c.args.lanes c.numbers_file.result c.numbers_file.ensures (g.D.Disk.view c.args.disk.now) (g.D.Disk.view c.open.new.disk) (g.D.Disk.view c.fresh.new.disk)
+    (g.met.D.Disk.reads_itself told c.args.disk.now) (g.met.D.Disk.is_now told c.open.new.disk) (sym found ∙ ap (λ o. option_map entry_in (last_in o)) c.in_default.is)
+    (c.open.ensures.any_moment told) (c.fresh.ensures.any_moment told)
+
+pub returns-in_default-clause-calls : goal.returns-in_default-clause-calls
+returns-in_default-clause-calls g c told =
+    draw_calls 3 5 3 4 c.args.lane c.args.lane (g.D.Disk.view c.args.disk.now) (g.D.Disk.view c.open.new.disk) (g.D.Disk.view c.fresh.new.disk) refl
+    (opened_calls 3 5 c.args.lane c.numbers_file.result (g.D.Disk.view c.args.disk.now) (g.D.Disk.view c.open.new.disk) c.numbers_file.ensures (c.open.ensures.calls told)) (c.fresh.ensures.calls told)
+
+pub returns-in_default-last-clause-any_moment : goal.returns-in_default-last-clause-any_moment
+returns-in_default-last-clause-any_moment g c told =
+    let reads = (g.D.Disk.view c.args.disk.now).reads in
+    let found = reopened_entry c.args.lane c.numbers_file.result reads c.in_ok-journal.field-0 c.numbers_file.ensures (c.in_ok-journal.ensures.absent told).0 (c.in_ok-journal.ensures.last told) in
+    made_moments c.args.lane c.args.lanes c.numbers_file.result c.numbers_file.ensures (g.D.Disk.view c.args.disk.now) (g.D.Disk.view c.open.new.disk) (g.D.Disk.view c.fresh-in_default-last.new.disk)
+    (g.met.D.Disk.reads_itself told c.args.disk.now) (g.met.D.Disk.is_now told c.open.new.disk)
+    (sym found ∙ ap (λ o. option_map entry_in (last_in o)) c.in-Some.is ∙ ap (option_map entry_in) (sym c.last.ensures ∙ c.in_default-last.is))
+    (c.open.ensures.any_moment told) (c.fresh-in_default-last.ensures.any_moment told)
+
+pub returns-in_default-last-clause-calls : goal.returns-in_default-last-clause-calls
+returns-in_default-last-clause-calls g c told =
+    draw_calls 3 5 3 4 c.args.lane c.args.lane (g.D.Disk.view c.args.disk.now) (g.D.Disk.view c.open.new.disk) (g.D.Disk.view c.fresh-in_default-last.new.disk) refl
+    (opened_calls 3 5 c.args.lane c.numbers_file.result (g.D.Disk.view c.args.disk.now) (g.D.Disk.view c.open.new.disk) c.numbers_file.ensures (c.open.ensures.calls told)) (c.fresh-in_default-last.ensures.calls told)
+
+pub returns-clause-represents : goal.returns-clause-represents
+returns-clause-represents g c told =
+    resumed_represents c.args.lane c.args.lanes c.in-Some.journal (g.D.Disk.view c.open.new.disk) c.resumed.result c.resumed.ensures.opened (rw c.in-Some.is at (c.in_ok-journal.ensures.represents told))
+
+pub returns-clause-any_moment : goal.returns-clause-any_moment
+returns-clause-any_moment g c told =
+    opened_moments c.args.lane c.args.lanes c.numbers_file.result c.numbers_file.ensures (g.D.Disk.view c.args.disk.now) (g.D.Disk.view c.open.new.disk) (c.open.ensures.any_moment told)
