@@ -34,8 +34,7 @@ pub fn texts_of(alloc: Global, has_prompts: bool) -> Result<List<Bytes>> {
     let mut texts = Vec::new(alloc);
     if has_prompts {
         for text in ["assword:", "assword for"] {
-            let text = Bytes::of(alloc, text.as_bytes()).map_err(|_| anyhow!("out of memory"))?;
-            texts.push(text)?;
+            texts.push(Bytes::of(alloc, text.as_bytes())?)?;
         }
     }
     Ok(List::from_vec(texts))

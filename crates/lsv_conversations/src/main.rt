@@ -3,6 +3,8 @@
 //! says what the lines are.
 #![tactic(auto)]
 
+ghost use Rattle.std.specs.Prelude.{[]};
+
 mod lines;
 mod show;
 
@@ -22,6 +24,8 @@ use std::process::ExitCode;
 struct NoLines;
 
 impl EventLines for NoLines {
+    ghost line_of = { λ _ _ _ _ _. [] };
+
     fn line(
         &self,
         alloc: Global,
@@ -60,11 +64,7 @@ impl Conversation {
     fn turn(&mut self, rt: &HostRuntime) -> Result<()> {
         let jobs = mem::replace(&mut self.jobs, Vec::new(rt.alloc()));
         let now = TimeSpec { sec: 0, nsec: 0 };
-        let replies = self
-            .model
-            .turn(self.settings, &NoLines, jobs, now)
-            .map_err(|_| anyhow!("out of memory"))?;
-        for reply in replies {
+        for reply in self.model.turn(self.settings, &NoLines, jobs, now)? {
             show_reply(rt, &reply)?;
         }
         Ok(())

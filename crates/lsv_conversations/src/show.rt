@@ -15,7 +15,7 @@ pub fn show_reply(rt: &HostRuntime, reply: &Reply) -> Result<()> {
     match &reply.body {
         ReplyBody::Say(message) => {
             let mut framed = Bytes::new(alloc);
-            put_server(alloc, &mut framed, message).map_err(|_| anyhow!("a frame"))?;
+            put_server(alloc, &mut framed, message)?;
             println!(rt; "> {worker}.{seq} {}", hex::encode(alloc, framed.as_slice())?)?;
         }
         ReplyBody::Shut if reply.last => println!(rt; "> {worker}.{seq} shut last")?,
@@ -41,7 +41,7 @@ fn show_log(rt: &HostRuntime, log: &Log) -> Result<()> {
     let cuts = log.cuts;
     let end = if log.exit.is_some() { "exit" } else { "open" };
     println!(rt; "log {number} {count} {elapsed} {cuts} {end}")?;
-    let laid = lay(alloc, log.records.as_slice()).map_err(|_| anyhow!("out of memory"))?;
+    let laid = lay(alloc, log.records.as_slice())?;
     show_text(rt, "timing", &laid.timing)?;
     show_text(rt, "stdin", &laid.stdin)?;
     show_text(rt, "stdout", &laid.stdout)?;
