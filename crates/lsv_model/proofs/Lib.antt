@@ -1,0 +1,7 @@
+pub mod Outcomes
+pub mod RecordLemmas
+pub mod StopLemmas
+pub mod TableLemmas
+pub mod TurnLemmas
+pub mod WaitingLemmas
+pub mod WorkLemmas

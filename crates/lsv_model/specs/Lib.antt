@@ -1,0 +1,5 @@
+pub mod Gives
+pub mod Starting
+pub mod Tables
+pub mod Turning
+pub mod Views
