@@ -1,0 +1,3 @@
+-- What proofs alone need: no public clause cites it.
+pub mod Invariant
+pub mod Scanning

@@ -1,0 +1,17 @@
+//! Logs by number: a log is a head, a list of records, an exit or none, and a count of cuts, of which a crash leaves
+//! what stood before a call or what stands after it.
+#![tactic(auto)]
+
+mod append;
+mod commit;
+mod cut;
+mod fault;
+mod laws;
+mod lines;
+mod log;
+mod open;
+mod view;
+
+pub use fault::LogFault;
+pub use log::IoLog;
+pub use view::{LogView, Renewed};
