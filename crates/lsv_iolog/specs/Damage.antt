@@ -21,7 +21,7 @@ pub record AreLines (entry : Committed) (lines : List Shaped) : Type 0 where
   pub good : All IsGood lines
   pub text : entry.bytes Timing ≡ lines_of lines
   pub count : entry.body.count ≡ length lines
-  pub elapsed : entry.body.elapsed ≡ told_elapsed lines
+  pub time : entry.body.elapsed ≡ told_elapsed lines
   pub in_time : told_elapsed lines < 2 ^ 63
   pub small : length (entry.bytes Timing) ≤ 2 ^ 40
 

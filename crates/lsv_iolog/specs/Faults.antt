@@ -12,3 +12,27 @@ fault_of bundles.Broken = logs.Broken
 fault_of (bundles.Damaged part) = logs.Damaged part
 fault_of (bundles.Full part) = logs.Full part
 fault_of bundles.NoMem = logs.NoMem
+
+-- the faults of a log that is opened or viewed
+abbrev pub IsOpenFault : LogFault → Type 0
+IsOpenFault logs.Absent = Unit {0}
+IsOpenFault (logs.Damaged part) = Unit {0}
+IsOpenFault logs.Disk = Unit {0}
+IsOpenFault logs.NoMem = Unit {0}
+IsOpenFault logs.Complete = ⊥
+IsOpenFault (logs.NoPoint point) = ⊥
+IsOpenFault logs.Broken = ⊥
+IsOpenFault (logs.Full part) = ⊥
+IsOpenFault (logs.TooLong point) = ⊥
+
+-- the faults of reading the next record
+abbrev pub IsNextFault : LogFault → Type 0
+IsNextFault (logs.Damaged part) = Unit {0}
+IsNextFault logs.Disk = Unit {0}
+IsNextFault logs.NoMem = Unit {0}
+IsNextFault logs.Absent = ⊥
+IsNextFault logs.Complete = ⊥
+IsNextFault (logs.NoPoint point) = ⊥
+IsNextFault logs.Broken = ⊥
+IsNextFault (logs.Full part) = ⊥
+IsNextFault (logs.TooLong point) = ⊥

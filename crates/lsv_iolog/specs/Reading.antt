@@ -60,19 +60,19 @@ pub record IsBehind (view : ViewState) (records : List Record) (disk : DiskView)
 pub record IsWhole (view : ViewState) (records : List Record) (disk : DiskView) : Type 0 where
   pub layout : IsLayout (committed_laid view.number view.body disk) records
   pub count : view.body.count ≡ length records
-  pub elapsed : view.body.elapsed ≡ elapsed records
+  pub time : view.body.elapsed ≡ elapsed records
 
 -- the line behind these records goes on as the entry says: it is among its count, and within its elapsed time
 pub record GoesOn (body : Body) (records : List Record) (told : Shaped) : Type 0 where
   pub count : length records < body.count
-  pub elapsed : elapsed records + told_delay told ≤ body.elapsed
+  pub time : elapsed records + told_delay told ≤ body.elapsed
   pub in_time : elapsed records + told_delay told < 2 ^ 63
 
 -- the lines end with these records, as the entry says
 pub record EndsThere (l : Laid) (body : Body) (records : List Record) : Type 0 where
   pub timing : l.timing ≡ timing_of records
   pub count : body.count ≡ length records
-  pub elapsed : body.elapsed ≡ elapsed records
+  pub time : body.elapsed ≡ elapsed records
 
 -- of the next line's stream too few bytes are committed
 abbrev pub LacksData : Laid → Body → List Record → Stream → Type 0

@@ -62,7 +62,7 @@ pub record IsLog (entry : Committed) (log : Stored) : Type 0 where
   pub valid : All IsValid log.records
   pub layout : laid_in entry.bytes ≡ layout_of log.records
   pub count : entry.body.count ≡ length log.records
-  pub elapsed : entry.body.elapsed ≡ elapsed log.records
+  pub time : entry.body.elapsed ≡ elapsed log.records
   pub in_time : elapsed log.records < 2 ^ 63
   -- no file of a log has more bytes
   pub small : length (entry.bytes Timing) ≤ 2 ^ 40

@@ -37,7 +37,7 @@ pub record Represents (log : IoLogView) (value : LogValue) (disk : DiskView) : T
   pub ends : value.stored.exit ≢ None → value.staged ≡ []
   pub head : head_of value.stored.head ≡ Ok log.head
   pub count : log.count ≡ length (all_of value)
-  pub elapsed : log.elapsed ≡ elapsed (all_of value)
+  pub time : log.elapsed ≡ elapsed (all_of value)
   pub in_time : elapsed (all_of value) < 2 ^ 63
 
 -- this record is staged behind what was, and nothing else is otherwise

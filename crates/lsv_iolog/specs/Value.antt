@@ -22,7 +22,7 @@ pub record IoLogView : Type 0 where
 
 -- its last entry is that of a finished log
 abbrev pub is_complete : IoLogView → Bool
-is_complete log = option_map_or (λ (body : Body). body.kind == 3) false log.bundle.last
+is_complete log = option_map_or (λ (body : Body). body.kind == 3) log.bundle.last false
 
 -- what a log's value stands for: a stored log, and records that are staged behind its own
 pub record LogValue : Type 0 where

@@ -1,4 +1,4 @@
-ghost use Rattle.std.specs.Prelude.{◌≡◌, ◌⊎◌, ◌+◌, ◌<◌, ◌≤◌, ◌^◌, true, false, length, IfOk, IfErr, OnOk, OnErr, IsErrOf};
+ghost use Rattle.std.specs.Prelude.{◌≡◌, ◌⊎◌, ℕ, ◌+◌, ◌<◌, ◌≤◌, ◌^◌, true, false, IfOk, IfErr, OnOk, OnErr, IsErrOf};
 ghost use Rattle.lsv_disk.specs.declared.file.Part.{Part};
 ghost use Rattle.lsv_record.specs.Records.{IsValid, delay_of};
 ghost use Rattle.lsv_iolog.specs.declared.fault.LogFault.{LogFault};
@@ -56,21 +56,6 @@ impl IoLog {
         Ok(elapsed)
     }
 }
-
-/// The stages of a record: its line, and its data behind it.
-impl IoLog {
-    /// Stages the line of a record, and its data. Where either is refused, nothing is.
-    fn stage(&mut self, r: &Record) -> Result<(), LogFault> {
-        self.line.truncate(0);
-        put_line(&mut self.line, r)?;
-        self.bundle.stage(Part::Timing, self.line.as_slice())?;
-        if let Err(fault) = self.stage_data(r) {
-            self.bundle.unstage(Part::Timing, self.staged_timing);
-            return Err(fault);
-        }
-        self.staged_timing += self.line.as_slice().len();
-        Ok(())
-    }
 
     fn stage_data(&mut self, r: &Record) -> Result<(), LogFault> {
         if let Record::Io { stream, bytes, .. } = r {

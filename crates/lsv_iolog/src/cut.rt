@@ -14,7 +14,7 @@ ghost use Rattle.lsv_iolog.specs.Moments.{IsEither, IsThereLater, IsCutFault};
 use crate::lines::Lines;
 use crate::{IoLog, LogFault};
 use lsv_base::Point;
-use lsv_bundle::{Shape, View};
+use lsv_bundle::{Body, Shape, View};
 use lsv_disk::{Disk, Owner, Part};
 use lsv_record::{Stream, Tally};
 use std::alloc::Global;
@@ -69,4 +69,81 @@ impl IoLog {
         };
         self.cut_behind(disk, &kept)
     }
+}
+
+impl IoLog {
+    /// What the timing comes to through the first line that ends at this point. None where none does.
+    fn find<D: Disk>(&mut self, disk: &mut D, point: Point) -> Result<Option<Tally>, LogFault> {
+        let view = View {
+            owner: Owner::Log(self.number.get()),
+            shape: Shape::Log,
+            body: self.bundle.last(),
+        };
+        match first_end(self.alloc, disk, view, point) {
+            Ok(found) => Ok(found),
+            Err(LogFault::Damaged(_)) => Err(LogFault::NoPoint(point)),
+            Err(fault) => {
+                self.is_broken = fault == LogFault::Disk;
+                Err(fault)
+            }
+        }
+    }
+
+    /// Cuts the log behind the lines that come to this.
+    fn cut_behind<D: Disk>(&mut self, disk: &mut D, kept: &Tally) -> Result<(), LogFault> {
+        let body = self.bundle.last();
+        let mut cuts = body.extra;
+        if kept.count() < self.count {
+            if cuts >= MOST_CUTS {
+                return Err(LogFault::Full(Part::Slots));
+            }
+            cuts += 1;
+        }
+        let lens = lengths_behind(&body, kept);
+        if let Err(fault) = self
+            .bundle
+            .cut(disk, lens, kept.count(), kept.elapsed(), cuts)
+        {
+            self.is_broken = true;
+            return Err(LogFault::from(fault));
+        }
+        self.count = kept.count();
+        self.elapsed = kept.elapsed();
+        Ok(())
+    }
+}
+
+/// The lengths of the files of a log that ends behind these lines: the head's and the exit's are as they were.
+fn lengths_behind(body: &Body, kept: &Tally) -> [u64; 8] {
+    let [head, exit, timing, stdin, stdout, stderr, ttyin, ttyout] = body.lens;
+    [
+        head,
+        exit,
+        kept.timing().min(timing),
+        kept.data_bytes(Stream::Stdin).min(stdin),
+        kept.data_bytes(Stream::Stdout).min(stdout),
+        kept.data_bytes(Stream::Stderr).min(stderr),
+        kept.data_bytes(Stream::Ttyin).min(ttyin),
+        kept.data_bytes(Stream::Ttyout).min(ttyout),
+    ]
+}
+
+/// What the timing of a view comes to through the first line that ends at this point. None where no line does.
+fn first_end<D: Disk>(
+    alloc: Global,
+    disk: &mut D,
+    view: View,
+    point: Point,
+) -> Result<Option<Tally>, LogFault> {
+    let mut lines = Lines::new(alloc, view)?;
+    while lines.next(alloc, disk)?.is_some() {
+        let elapsed = lines.tally().elapsed();
+        if elapsed == point.nanos() {
+            return Ok(Some(lines.tally()));
+        }
+        if elapsed > point.nanos() {
+            return Ok(None);
+        }
+    }
+    Ok(None)
 }

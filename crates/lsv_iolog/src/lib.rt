@@ -6,7 +6,6 @@ mod append;
 mod commit;
 mod cut;
 mod fault;
-mod laws;
 mod lines;
 mod log;
 mod open;

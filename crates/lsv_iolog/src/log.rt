@@ -1,9 +1,13 @@
-ghost use Rattle.std.specs.Prelude.{◌≡◌, ◌≢◌, ◌⊎◌, ◌≤◌, ◌<◌, ◌^◌, true, false, Some, None, length, IsSome, IsTrue, IfOk, IfErr, OnOk, IsErrOf};
+ghost use Rattle.std.specs.Prelude.{◌≡◌, ◌≢◌, ◌⊎◌, ◌≤◌, ◌<◌, ◌^◌, true, false, Ok, Some, None, length, IsSome, FitsSigned, IfOk, IfErr, OnOk, IsErrOf};
 ghost use Rattle.lsv_base.specs.Time.{nanos_of};
 ghost use Rattle.lsv_disk.specs.View.{HasOwnCause};
 ghost use Rattle.lsv_disk.specs.Throughout.{Throughout, SyncsAtMost};
 ghost use Rattle.lsv_disk.specs.declared.file.Part.{Part};
+ghost use Rattle.lsv_info.specs.Fitting.{FitsEntry};
 ghost use Rattle.lsv_info.specs.Layout.{head_text};
+ghost use Rattle.lsv_info.specs.Reading.{head_of};
+ghost use Rattle.std.specs.List.{AllByRecursion};
+ghost use Rattle.std.specs.Int.{w64};
 ghost use Rattle.lsv_iolog.specs.declared.fault.LogFault.{LogFault};
 ghost use Rattle.lsv_iolog.specs.Recovered.{IsOfLog, IsUnmade};
 ghost use Rattle.lsv_iolog.specs.Value.{is_complete, bare, made, IsFlushed};
@@ -14,7 +18,7 @@ use crate::LogFault;
 use lsv_base::{Bytes, LogNo, Point};
 use lsv_bundle::{Bundle, Shape};
 use lsv_disk::{Disk, Owner, Part};
-use lsv_info::{Head, write_head};
+use lsv_info::{Entry, Head, Value, a_written_text_is_read_back, read_head, write_head};
 use std::alloc::Global;
 use std::marker::Model;
 
@@ -57,6 +61,68 @@ impl Model for IoLog {
     ghost invariant = { λ l. IsIoLog (record { number = l.number; head = l.head; count = l.count; elapsed = l.elapsed; is_broken = l.is_broken; bundle = l.bundle }) × (length (staged l.bundle Timing) ≡ l.staged_timing) };
 }
 
+/// The numbers of a head are of 64 bits, which only their reading shows.
+fn numbers_fit(head: &Head)
+    ensures { AllByRecursion FitsEntry head.now.info.entries }
+{
+    entries_fit(head.info.entries.as_slice());
+}
+
+fn entries_fit(entries: &[Entry])
+    ensures { AllByRecursion FitsEntry entries.now }
+{
+    let [first, rest @ ..] = entries else {
+        return;
+    };
+    match &first.value {
+        Value::Num(number) => {
+            let _number = *number;
+        }
+        Value::Nums(numbers) => list_fits(numbers.as_slice()),
+        _ => {}
+    }
+    entries_fit(rest);
+}
+
+fn list_fits(numbers: &[i64])
+    ensures { AllByRecursion (FitsSigned w64) numbers.now }
+{
+    let [first, rest @ ..] = numbers else {
+        return;
+    };
+    let _first = *first;
+    list_fits(rest);
+}
+
+/// The head that a written text reads as.
+fn written_head(alloc: Global, head: &Head, text: &Bytes) -> Result<Head, LogFault>
+    requires timed { IsSome (nanos_of head.now.submit) }
+    requires text { text.now ≡ head_text head.now }
+    ensures read { IfOk result (λ read. head_of text.now ≡ Ok read) }
+    ensures fault { IfErr result (λ e. e ≡ LogFault.NoMem) }
+{
+    numbers_fit(head);
+    a_written_text_is_read_back();
+    match read_head(alloc, text.as_slice()) {
+        Ok(head) => Ok(head),
+        Err(_) => Err(LogFault::NoMem),
+    }
+}
+
+/// The files of a log with this text of a head alone.
+fn make_files<D: Disk>(
+    alloc: Global,
+    disk: &mut D,
+    number: LogNo,
+    text: &Bytes,
+) -> Result<Bundle, LogFault>
+{
+    let mut bundle = Bundle::create(alloc, disk, Owner::Log(number.get()), Shape::Log)?;
+    bundle.stage(Part::Head, text.as_slice())?;
+    bundle.flush(disk, MADE, 0, 0, 0)?;
+    Ok(bundle)
+}
+
 impl IoLog {
     /// Makes a log of this head, with no record. None of its files is there, and its head's time is valid. At every
     /// moment a crash leaves nothing of it or the whole log, and after Ok the log. `Disk` only where a device call on
@@ -84,7 +150,7 @@ impl IoLog {
     {
         let text = write_head(alloc, head)?;
         let head = written_head(alloc, head, &text)?;
-        let bundle = made_bundle(alloc, disk, Owner::Log(number.get()), &text)?;
+        let bundle = make_files(alloc, disk, number, &text)?;
         Ok(IoLog {
             alloc,
             number,

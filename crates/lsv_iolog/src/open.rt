@@ -2,20 +2,22 @@ ghost use Rattle.std.specs.Prelude.{◌≡◌, ◌≢◌, ◌⊎◌, ◌+◌, �
 ghost use Rattle.lsv_disk.specs.View.{HasOwnCause};
 ghost use Rattle.lsv_disk.specs.Throughout.{Throughout, OnlyReads, SyncsAtMost};
 ghost use Rattle.lsv_disk.specs.declared.file.Part.{Part};
+ghost use Rattle.lsv_bundle.specs.Body.{length_of};
 ghost use Rattle.lsv_record.specs.Points.{Stored};
 ghost use Rattle.lsv_iolog.specs.declared.fault.LogFault.{LogFault};
 ghost use Rattle.lsv_iolog.specs.Recovered.{IsOfLog, IsUnmade, Replays, SameLog};
 ghost use Rattle.lsv_iolog.specs.Damage.{IsDamagedAt};
 ghost use Rattle.lsv_iolog.specs.Value.{bare, IsFlushed};
 ghost use Rattle.lsv_iolog.specs.Represents.{Represents};
-ghost use Rattle.lsv_iolog.specs.Moments.{IsAsBefore, IsOpenFault};
+ghost use Rattle.lsv_iolog.specs.Moments.{IsAsBefore};
+ghost use Rattle.lsv_iolog.specs.Faults.{IsOpenFault};
 
 use crate::append::part_of;
 use crate::lines::Lines;
 use crate::log::COMPLETE;
 use crate::{IoLog, LogFault};
 use lsv_base::{Bytes, LogNo};
-use lsv_bundle::{Body, Bundle, Shape, View, index_of};
+use lsv_bundle::{Body, Bundle, Shape, View};
 use lsv_disk::{Disk, FileId, Owner, Part};
 use lsv_info::{Head, InfoFault, read_head};
 use lsv_journal::Journal;
@@ -112,7 +114,7 @@ pub(crate) fn read_part<D: Disk>(
     view: &View,
     part: Part,
 ) -> Result<Bytes, LogFault> {
-    let mut bytes = vec![in alloc; 0; view.body.lens[index_of(part)] as usize]?;
+    let mut bytes = vec![in alloc; 0; committed(&view.body, part) as usize]?;
     let count = view.read(disk, part, 0, &mut bytes)?;
     bytes.truncate(count);
     Ok(Bytes::from_vec(bytes))
@@ -134,7 +136,7 @@ pub(crate) fn read_log_head<D: Disk>(
 
 /// There is a text of an exit exactly where the entry is of a log that is complete.
 fn check_exit(body: &Body) -> Result<(), LogFault> {
-    if (body.kind == COMPLETE) == (body.lens[index_of(Part::Exit)] == 0) {
+    if (body.kind == COMPLETE) == (committed(body, Part::Exit) == 0) {
         return Err(LogFault::Damaged(Part::Exit));
     }
     Ok(())
@@ -144,11 +146,11 @@ fn check_exit(body: &Body) -> Result<(), LogFault> {
 fn read_timing<D: Disk>(alloc: Global, disk: &mut D, view: View) -> Result<Tally, LogFault> {
     let mut lines = Lines::new(alloc, view)?;
     while lines.next(alloc, disk)?.is_some() {}
-    Ok(lines.into_tally())
+    Ok(lines.tally())
 }
 
 /// The lines are as many, and of as much time, as the entry says.
-fn check_counts(body: &Body, tally: &Tally) -> Result<(), LogFault> {
+pub(crate) fn check_counts(body: &Body, tally: &Tally) -> Result<(), LogFault> {
     if body.count != tally.count() || body.elapsed != tally.elapsed() {
         return Err(LogFault::Damaged(Part::Timing));
     }
@@ -156,12 +158,29 @@ fn check_counts(body: &Body, tally: &Tally) -> Result<(), LogFault> {
 }
 
 /// Of each stream as many bytes are committed as the lines tell.
-fn check_streams(body: &Body, tally: &Tally) -> Result<(), LogFault> {
+pub(crate) fn check_streams(body: &Body, tally: &Tally) -> Result<(), LogFault> {
     for stream in STREAMS {
         let part = part_of(stream);
-        if body.lens[index_of(part)] != tally.data_bytes(stream) {
+        if committed(body, part) != tally.data_bytes(stream) {
             return Err(LogFault::Damaged(part));
         }
     }
     Ok(())
+}
+
+/// How many bytes of a part are committed.
+pub(crate) fn committed(body: &Body, part: Part) -> u64
+    ensures { result ≡ length_of body.now part }
+{
+    let [head, exit, timing, stdin, stdout, stderr, ttyin, ttyout] = body.lens;
+    match part {
+        Part::Exit => exit,
+        Part::Timing => timing,
+        Part::Stdin => stdin,
+        Part::Stdout => stdout,
+        Part::Stderr => stderr,
+        Part::Ttyin => ttyin,
+        Part::Ttyout => ttyout,
+        Part::Head | Part::Lines | Part::Id | Part::Commit | Part::Slots => head,
+    }
 }

@@ -7,24 +7,25 @@ ghost use Rattle.lsv_info.specs.Reading.{head_of, exit_of};
 ghost use Rattle.lsv_info.specs.declared.times.Exit.{Exit};
 ghost use Rattle.lsv_record.specs.declared.records.Record.{Record};
 ghost use Rattle.lsv_record.specs.Points.{Stored};
-ghost use Rattle.lsv_record.specs.Records.{IsValid};
+ghost use Rattle.lsv_record.specs.Records.{IsValid, shape_of};
+ghost use Rattle.lsv_record.specs.Tally.{totals_of};
 ghost use Rattle.lsv_iolog.specs.declared.fault.LogFault.{LogFault};
 ghost use Rattle.lsv_iolog.specs.Recovered.{owner_of, IsOfLog, Replays};
 ghost use Rattle.lsv_iolog.specs.Later.{IsLater};
 ghost use Rattle.lsv_iolog.specs.Damage.{IsViewDamage};
-ghost use Rattle.lsv_iolog.specs.Moments.{IsOpenFault};
+ghost use Rattle.lsv_iolog.specs.Faults.{IsOpenFault, IsNextFault};
 ghost use Rattle.lsv_iolog.specs.Reading.{committed_text, committed_laid, IsBehind, IsWhole, IsFaultBehind};
 
 use crate::append::part_of;
 use crate::lines::Lines;
 use crate::log::COMPLETE;
-use crate::open::{read_log_head, read_part};
-use crate::{LogFault};
+use crate::open::{check_counts, check_streams, committed, read_log_head, read_part};
+use crate::LogFault;
 use lsv_base::{Bytes, LogNo};
-use lsv_bundle::{Body, Bundle, Shape, View, index_of};
+use lsv_bundle::{Body, Bundle, Shape, View};
 use lsv_disk::{Disk, Owner, Part};
 use lsv_info::{Exit, Head, InfoFault, read_exit};
-use lsv_record::{Record, Shaped, Stream};
+use lsv_record::{Record, Shaped, Stream, Tally};
 use std::alloc::Global;
 use std::marker::Model;
 
@@ -48,15 +49,14 @@ pub struct LogView {
 }
 
 impl Model for LogView {
-    ghost use Rattle.std.specs.Prelude.{take};
     ghost use Rattle.lsv_iolog.specs.Reading.{ViewState};
     ghost use Rattle.lsv_iolog.specs.Inner.Scanning.{IsViewOf};
 
     ghost Value = { ViewState };
 
-    ghost view = { λ v. record { number = v.number; head = v.head; body = v.lines.view.body; given = v.lines.tally; start = v.lines.start; window = take v.lines.len v.lines.buffer.items } };
+    ghost view = { λ v. record { number = v.number; head = v.head; body = v.lines.view.body; given = v.lines.tally; start = v.lines.start; window = v.lines.window } };
 
-    ghost invariant = { λ v. IsViewOf v.number v.lines };
+    ghost invariant = { λ v. IsViewOf v.number v.lines.view };
 }
 
 impl LogView {
@@ -99,7 +99,7 @@ impl LogView {
     pub fn body(&self) -> Body
         ensures { result ≡ self.now.body }
     {
-        self.lines.view.body
+        self.lines.view().body
     }
 
     /// How the command ended. None exactly where the log is incomplete, `Damaged(Exit)` exactly where what is committed
@@ -115,10 +115,10 @@ impl LogView {
         ensures fault { IfErr result (λ e. (e ≡ LogFault.Disk) ⊎ (e ≡ LogFault.Damaged Part.Exit) ⊎ (e ≡ LogFault.NoMem)) }
         ensures cause { HasOwnCause (IsOfLog self.old.number) (IsErrOf result LogFault.Disk) (D.view disk.old) (D.view disk.new) }
     {
-        if self.lines.view.body.kind != COMPLETE {
+        if self.lines.view().body.kind != COMPLETE {
             return Ok(None);
         }
-        let text = read_part(self.alloc, disk, &self.lines.view, Part::Exit)?;
+        let text = read_part(self.alloc, disk, &self.lines.view(), Part::Exit)?;
         match read_exit(self.alloc, text.as_slice()) {
             Ok(exit) => Ok(Some(exit)),
             Err(InfoFault::NoMem) => Err(LogFault::NoMem),
@@ -142,10 +142,10 @@ impl LogView {
         ensures fault { IfErr result IsNextFault }
         ensures cause { HasOwnCause (IsOfLog self.old.number) (IsErrOf result LogFault.Disk) (D.view disk.old) (D.view disk.new) }
     {
-        let before = self.lines.tally;
+        let before = self.lines.tally();
         let next = self.next_record(disk);
         if next.is_err() {
-            self.lines.tally = before;
+            self.lines.back_to(before);
         }
         next
     }
@@ -167,13 +167,85 @@ impl LogView {
         ensures cause { HasOwnCause (IsOfLog self.old.number) (IsErrOf result LogFault.Disk) (D.view disk.old) (D.view disk.new) }
     {
         let (view, head) = view_log(self.alloc, disk, self.number)?;
-        if view.body.extra != self.lines.view.body.extra {
+        if view.body.extra != self.lines.view().body.extra {
             return Ok(Renewed::Cut(view.body.extra));
         }
         self.head = head;
-        if view.body != self.lines.view.body {
+        if view.body != self.lines.view().body {
             self.lines.renew(view);
         }
         Ok(Renewed::Same)
     }
+}
+
+impl LogView {
+    /// Gives the next record, or fails and may stand behind its line.
+    fn next_record<D: Disk>(&mut self, disk: &mut D) -> Result<Option<Record>, LogFault> {
+        let body = self.body();
+        let Some(told) = self.lines.next(self.alloc, disk)? else {
+            check_counts(&body, &self.lines.tally())?;
+            check_streams(&body, &self.lines.tally())?;
+            return Ok(None);
+        };
+        check_within(&body, &self.lines.tally())?;
+        Ok(Some(self.with_data(disk, told)?))
+    }
+
+    /// The record that the line tells which was read last, with its data.
+    fn with_data<D: Disk>(&self, disk: &mut D, told: Shaped) -> Result<Record, LogFault> {
+        match told {
+            Shaped::Io(delay, stream, count) => {
+                let bytes = self.last_data(disk, stream, count)?;
+                Ok(Record::Io {
+                    delay,
+                    stream,
+                    bytes,
+                })
+            }
+            Shaped::Winsize(delay, rows, cols) => Ok(Record::Winsize { delay, rows, cols }),
+            Shaped::Suspend(delay, signal) => Ok(Record::Suspend { delay, signal }),
+        }
+    }
+
+    /// The last bytes of a stream that the lines so far tell.
+    fn last_data<D: Disk>(
+        &self,
+        disk: &mut D,
+        stream: Stream,
+        count: u32,
+    ) -> Result<Bytes, LogFault> {
+        let view = self.lines.view();
+        let part = part_of(stream);
+        let end = self.lines.tally().data_bytes(stream);
+        if end > committed(&view.body, part) {
+            return Err(LogFault::Damaged(part));
+        }
+        let mut bytes = vec![in self.alloc; 0; count as usize]?;
+        let read = view.read(disk, part, end - u64::from(count), &mut bytes)?;
+        if read < bytes.len() {
+            return Err(LogFault::Damaged(part));
+        }
+        Ok(Bytes::from_vec(bytes))
+    }
+}
+
+/// The view of a log, and its head.
+fn view_log<D: Disk>(
+    alloc: Global,
+    disk: &mut D,
+    number: LogNo,
+) -> Result<(View, Head), LogFault> {
+    let Some(view) = Bundle::view(disk, Owner::Log(number.get()), Shape::Log)? else {
+        return Err(LogFault::Absent);
+    };
+    let head = read_log_head(alloc, disk, &view)?;
+    Ok((view, head))
+}
+
+/// The lines so far are among those of which the entry tells.
+fn check_within(body: &Body, tally: &Tally) -> Result<(), LogFault> {
+    if body.count < tally.count() || body.elapsed < tally.elapsed() {
+        return Err(LogFault::Damaged(Part::Timing));
+    }
+    Ok(())
 }

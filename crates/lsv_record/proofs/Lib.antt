@@ -1,14 +1,14 @@
 mod Digits
-mod Layouts
+pub mod Layouts
 mod Lengths
 mod Lines
 mod Numerals
-mod Once
-mod Points
+pub mod Once
+pub mod Points
 mod Readers
 mod Signals
 mod Splits
 mod Times
-mod Tallies
+pub mod Tallies
 mod Told
-mod Windows
+pub mod Windows

@@ -25,7 +25,7 @@ pub enum TimingFault {
 
 /// A text of timing that is read line by line, without the data that its lines tell of. It keeps what the lines
 /// so far come to, and none of them. Contracts see these totals.
-#[derive(Debug, Drop)]
+#[derive(Clone, Copy, Debug)]
 pub struct Tally {
     timing: u64,
     count: u64,
@@ -41,6 +41,8 @@ impl Model for Tally {
     ghost view = { λ t. record { timing = t.timing; count = t.count; elapsed = t.elapsed; data_bytes = t.data_bytes } };
 
     ghost invariant = { λ t. IsBounded (record { timing = t.timing; count = t.count; elapsed = t.elapsed; data_bytes = t.data_bytes }) };
+
+    ghost inverse = { λ t. record { timing = t.timing; count = t.count; elapsed = t.elapsed; data_bytes = t.data_bytes } };
 }
 
 impl Tally {
