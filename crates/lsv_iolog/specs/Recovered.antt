@@ -1,5 +1,5 @@
 -- What an image of the disk holds of a log: it is absent, or a stored log is there, or neither, and then it is damaged.
-use Rattle.std.specs.Prelude.{◌≡◌, ◌≢◌, ℕ, ◌<◌, ◌≤◌, ◌^◌, List, [], length, All, Option, Some, None, Ok}
+use Rattle.std.specs.Prelude.{◌≡◌, ◌≢◌, ◌⊎◌, ℕ, ◌<◌, ◌≤◌, ◌^◌, List, [], length, All, Option, Some, None, Ok}
 use Rattle.lsv_disk.specs.declared.file.FileId.{FileId}
 use Rattle.lsv_disk.specs.declared.file.Owner.{Owner}
 use Rattle.lsv_disk.specs.declared.file.Owner.TheVariants as owners
@@ -84,10 +84,8 @@ abbrev pub ReplaysNothing : Image → ℕ → Type 0
 ReplaysNothing image n = (found : Option Stored) → Replays image n found → ⊥
 
 -- which of the three holds
-pub data Decided (image : Image) (n : ℕ) : Type 0 where
-  absent : Replays image n None → Decided image n
-  there : (log : Stored) → Replays image n (Some log) → Decided image n
-  damaged : ReplaysNothing image n → Decided image n
+abbrev pub Decided : Image → ℕ → Type 0
+Decided image n = Replays image n None ⊎ ((log : Stored) × Replays image n (Some log)) ⊎ ReplaysNothing image n
 
 -- two images agree on the files of the log
 abbrev pub SameFiles : ℕ → Image → Image → Type 0

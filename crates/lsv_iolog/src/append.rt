@@ -57,6 +57,20 @@ impl IoLog {
     }
 }
 
+impl IoLog {
+    /// Stages the line of a record, and its data. Where either is refused, nothing is.
+    fn stage(&mut self, r: &Record) -> Result<(), LogFault> {
+        self.line.truncate(0);
+        put_line(&mut self.line, r)?;
+        self.bundle.stage(Part::Timing, self.line.as_slice())?;
+        if let Err(fault) = self.stage_data(r) {
+            self.bundle.unstage(Part::Timing, self.staged_timing);
+            return Err(fault);
+        }
+        self.staged_timing += self.line.as_slice().len();
+        Ok(())
+    }
+
     fn stage_data(&mut self, r: &Record) -> Result<(), LogFault> {
         if let Record::Io { stream, bytes, .. } = r {
             self.bundle.stage(part_of(*stream), bytes.as_slice())?;
