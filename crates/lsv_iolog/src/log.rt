@@ -1,4 +1,4 @@
-ghost use Rattle.std.specs.Prelude.{◌≡◌, ◌≢◌, ◌⊎◌, ◌≤◌, ◌<◌, ◌^◌, true, false, Ok, Some, None, length, IsSome, FitsSigned, IfOk, IfErr, OnOk, IsErrOf};
+ghost use Rattle.std.specs.Prelude.{◌≡◌, ◌⊎◌, ℕ, List, ◌≤◌, ◌<◌, ◌^◌, true, false, Ok, Some, None, length, IsSome, FitsSigned, IfOk, IfErr, OnOk, IsErrOf};
 ghost use Rattle.lsv_base.specs.Time.{nanos_of};
 ghost use Rattle.lsv_disk.specs.View.{HasOwnCause};
 ghost use Rattle.lsv_disk.specs.Throughout.{Throughout, SyncsAtMost};
@@ -9,7 +9,9 @@ ghost use Rattle.lsv_info.specs.Reading.{head_of};
 ghost use Rattle.std.specs.List.{AllByRecursion};
 ghost use Rattle.std.specs.Int.{w64};
 ghost use Rattle.lsv_iolog.specs.declared.fault.LogFault.{LogFault};
-ghost use Rattle.lsv_iolog.specs.Recovered.{IsOfLog, IsUnmade};
+ghost use Rattle.lsv_bundle.specs.Value.{committed_length};
+ghost use Rattle.lsv_iolog.specs.Recovered.{IsOfLog, IsUnmade, IsHeadText};
+ghost use Rattle.lsv_iolog.specs.Inner.Invariant.{IsSettled, HasCommitted};
 ghost use Rattle.lsv_iolog.specs.Value.{is_complete, bare, made, IsFlushed};
 ghost use Rattle.lsv_iolog.specs.Represents.{Represents};
 ghost use Rattle.lsv_iolog.specs.Moments.{IsEither};
@@ -116,6 +118,17 @@ fn make_files<D: Disk>(
     number: LogNo,
     text: &Bytes,
 ) -> Result<Bundle, LogFault>
+    requires unmade { D.tells → IsUnmade number (D.view disk.old) }
+    requires head { IsHeadText text.now }
+    ensures settled { IfOk result (λ b. (lens : List ℕ) × IsSettled number (record { kind = 0; count = 0; elapsed = 0; lens = lens; extra = 0 }) b) }
+    ensures empty { IfOk result (λ b. committed_length b Part.Timing ≡ 0) }
+    ensures holds { D.tells → IfOk result (λ b. HasCommitted b (made text.now) (D.view disk.new)) }
+    ensures any_moment { D.tells → Throughout (IsOfLog number) (IsEither number None (Some (made text.now))) (D.view disk.old) (D.view disk.new) }
+    ensures syncs { D.tells → SyncsAtMost 4 (IsOfLog number) (D.view disk.old) (D.view disk.new) }
+    ensures fault { IfErr result (λ e. (e ≡ LogFault.Disk) ⊎ (e ≡ LogFault.Full Part.Head) ⊎ (e ≡ LogFault.NoMem)) }
+    ensures full { IsErrOf result (LogFault.Full Part.Head) → 2 ^ 40 < length text.now }
+    ensures fits { OnOk result (length text.now ≤ 2 ^ 40) }
+    ensures cause { HasOwnCause (IsOfLog number) (IsErrOf result LogFault.Disk) (D.view disk.old) (D.view disk.new) }
 {
     let mut bundle = Bundle::create(alloc, disk, Owner::Log(number.get()), Shape::Log)?;
     bundle.stage(Part::Head, text.as_slice())?;
