@@ -7,9 +7,10 @@ use Rattle.lsv_disk.specs.declared.file.Owner.{Owner}
 use Rattle.lsv_disk.specs.declared.file.Part.{Part}
 use Rattle.lsv_disk.specs.Bytes.{bytes_of, written, overwritten, Torn}
 use Rattle.lsv_disk.specs.Files.{file_of}
-use Rattle.lsv_disk.specs.View.{Image, DiskView, IsCrashImage, IsSynced, Follows, OneWrite, Unsynced, Elsewhere}
-use Rattle.lsv_disk.specs.Throughout.{Throughout, Unchanged, SyncsAtMost}
-use Rattle.lsv_disk.proofs.Composition.{OnlyNow, started, followed, widened, one_write, unchanged_throughout}
+use Rattle.lsv_disk.specs.View.{Image, DiskView, IsCrashImage, IsSynced, Follows, OneWrite, Elsewhere}
+use Rattle.lsv_disk.specs.Throughout.{Throughout, Unchanged, RoseAtMost, CallsAtMost}
+use Rattle.lsv_disk.proofs.Composition.{OnlyNow, started, followed, widened, one_write, unchanged_throughout, rose_nothing, stayed_rose, uncounted_at_most}
+use Rattle.lsv_disk.proofs.Same.{same_or_other}
 use Rattle.lsv_bundle.specs.Value.{FileView}
 use Rattle.lsv_bundle.specs.Committed.{HasPrefix, prefix_at}
 use Rattle.lsv_bundle.specs.Represents.{Each, IsDurable, IsDurableFile, IsWritten}
@@ -119,6 +120,17 @@ module _ (owner : Owner) (file : FileView) (g : FileId) (at : ℕ) (bytes : List
   pub same_frame : OneWrite g old new → OneWrite (file_of owner file.part) old new
   same_frame frame = subst (λ (h : FileId). OneWrite h old new) is frame
 
+  -- it is one write, of what is staged
+  pub write_calls : bytes ≢ [] → OneWrite g old new → CallsAtMost 1 0 (λ h. (h ≡ file_of owner file.part) × (file.staged ≢ [])) old new
+  write_calls some frame = record {
+    writes = record {
+      never_fell = frame.writes.never_fell;
+      own = λ h here. subst (λ (k : FileId). new.writes k ≤ old.writes k + 1) (is ∙ sym here.0) frame.writes.at_most;
+      others = λ h other. frame.writes.others h (λ e. other (e ∙ is, subst (λ (l : List ℕ). l ≢ []) same some));
+    };
+    syncs = stayed_rose 0 (λ h. (h ≡ file_of owner file.part) × (file.staged ≢ [])) old.syncs new.syncs frame.syncs;
+  }
+
 -- each of the files differs from this one
 pub not_among : (owner : Owner) (part : Part) (files : List FileView) → Each (λ other. other.part ≢ part) files → IsAmong owner files (file_of owner part) → ⊥
 not_among owner part [] each among = among
@@ -210,7 +222,7 @@ module _ (owner : Owner) (files : List FileView) (first : FileView) (rest : List
 
 -- the first of the files is synced, and then the rest
 module _ (owner : Owner) (files : List FileView) (first : FileView) (rest : List FileView) (split : files ≡ first ∷ rest) (old mid new : DiskView) (differ : Differ files)
-    (first_syncs : SyncsAtMost 1 (λ g. (g ≡ file_of owner first.part) × (first.staged ≢ [])) old mid) (rest_syncs : SyncsAtMost 1 (IsStagedAmong owner rest) mid new) where
+    (first_syncs : RoseAtMost 1 (λ g. (g ≡ file_of owner first.part) × (first.staged ≢ [])) old.syncs mid.syncs) (rest_syncs : RoseAtMost 1 (IsStagedAmong owner rest) mid.syncs new.syncs) where
   abbrev file2 : FileId
   file2 = file_of owner first.part
 
@@ -232,23 +244,53 @@ module _ (owner : Owner) (files : List FileView) (first : FileView) (rest : List
         differs.0 others,
   )
 
-  among_other : (fs : List FileView) → Each (λ other. other.part ≢ first.part) fs → (g : FileId) → IsAmong owner fs g → g ≢ file2
+-- a count that rose for the first, and then for the rest
+module _ (owner : Owner) (files : List FileView) (first : FileView) (rest : List FileView) (split : files ≡ first ∷ rest) (differ : Differ files) where
+  first_differs : Differ (first ∷ rest)
+  first_differs = subst Differ split differ
+
+  among_other : (fs : List FileView) → Each (λ other. other.part ≢ first.part) fs → (g : FileId) → IsAmong owner fs g → g ≢ file_of owner first.part
   among_other fs each g among e = not_among owner first.part fs each (subst (λ (h : FileId). IsAmong owner fs h) e among)
 
-  pub both_syncs : SyncsAtMost 1 (IsStagedAmong owner files) old new
-  both_syncs = subst (λ (fs : List FileView). SyncsAtMost 1 (IsStagedAmong owner fs) old new) (sym split) (record {
+  both_rose : (n : ℕ) (old mid new : FileId → ℕ) → RoseAtMost n (λ g. (g ≡ file_of owner first.part) × (first.staged ≢ [])) old mid → RoseAtMost n (IsStagedAmong owner rest) mid new → RoseAtMost n (IsStagedAmong owner files) old new
+  both_rose n old mid new first_rose rest_rose = subst (λ (fs : List FileView). RoseAtMost n (IsStagedAmong owner fs) old new) (sym split) (record {
+    never_fell = λ g. omega (arith, first_rose.never_fell g, rest_rose.never_fell g);
     own = λ g staged. elim staged [
       | inl here ↦
-          let e = rest_syncs.others g (λ there. among_other rest differs.0 g (staged_among owner rest g there) here.0) in
-          let n = first_syncs.own g here in
-          omega (arith, e, n)
+          let e = rest_rose.others g (λ there. among_other rest first_differs.0 g (staged_among owner rest g there) here.0) in
+          let k = first_rose.own g here in
+          omega (arith, e, k)
       | inr there ↦
-          let e = first_syncs.others g (λ here. among_other rest differs.0 g (staged_among owner rest g there) here.0) in
-          let n = rest_syncs.own g there in
-          omega (arith, e, n)
+          let e = first_rose.others g (λ here. among_other rest first_differs.0 g (staged_among owner rest g there) here.0) in
+          let k = rest_rose.own g there in
+          omega (arith, e, k)
     ];
-    others = λ g other. rest_syncs.others g (λ there. other (inr there)) ∙ first_syncs.others g (λ here. other (inl here));
+    others = λ g other. rest_rose.others g (λ there. other (inr there)) ∙ first_rose.others g (λ here. other (inl here));
   })
+
+  pub both_calls : (m n : ℕ) (old mid new : DiskView) → CallsAtMost m n (λ g. (g ≡ file_of owner first.part) × (first.staged ≢ [])) old mid → CallsAtMost m n (IsStagedAmong owner rest) mid new → CallsAtMost m n (IsStagedAmong owner files) old new
+  both_calls m n old mid new first_calls rest_calls = record {
+    writes = both_rose m old.writes mid.writes new.writes first_calls.writes rest_calls.writes;
+    syncs = both_rose n old.syncs mid.syncs new.syncs first_calls.syncs rest_calls.syncs;
+  }
+
+  -- and of the first alone
+  pub first_calls : (m n : ℕ) (old mid : DiskView) → CallsAtMost m n (λ g. (g ≡ file_of owner first.part) × (first.staged ≢ [])) old mid → CallsAtMost m n (IsStagedAmong owner files) old mid
+  first_calls m n old mid calls = both_calls m n old mid mid calls (uncounted_at_most m n (IsStagedAmong owner rest) mid mid (record { writes = λ f. refl; syncs = λ f. refl }))
+
+-- a file is one of these of which something is staged, or it isn't
+staged_either : (owner : Owner) (files : List FileView) (g : FileId) → IsStagedAmong owner files g ⊎ (IsStagedAmong owner files g → ⊥)
+staged_either owner [] g = inr (λ none. none)
+staged_either owner (file ∷ files) g = elim (staged_either owner files g) [
+  | inl there ↦ inl (inr there)
+  | inr apart ↦ elim (same_or_other g (file_of owner file.part)) [
+    | inr other ↦ inr (λ is. elim is [ inl here ↦ other here.0 | inr there ↦ apart there ])
+    | inl same ↦ elim (none_or_some file.staged) [
+      | inr some ↦ inl (inl (same, some))
+      | inl none ↦ inr (λ is. elim is [ inl here ↦ here.1 none | inr there ↦ apart there ])
+    ]
+  ]
+]
 
 -- the first of the first bytes
 prefix_same : (n m : ℕ) (all prefix more : List ℕ) → length prefix ≡ n → take (n + m) all ≡ prefix ++ more → take n all ≡ prefix
@@ -282,6 +324,6 @@ module _ (owner : Owner) (files : List FileView) (old mid new : DiskView) (uncha
       })
       (each_both (IsDurableFile owner old) (IsAppended owner old mid) (λ file. IsDurableFile owner old file × IsAppended owner old mid file) files (λ file d a. (d, a)) durable appended) synced
 
-  pub all_once : Unsynced old mid → Each (IsSyncedOnce owner mid new) files → Each (IsSyncedOnce owner old new) files
-  all_once unsynced once = each_map (IsSyncedOnce owner mid new) (IsSyncedOnce owner old new) files
-      (λ file is some. is some ∙ ap (λ (n : ℕ). n + 1) (unsynced (file_of owner file.part))) once
+  pub all_once : CallsAtMost 1 0 (IsStagedAmong owner files) old mid → Each (IsSyncedOnce owner mid new) files → Each (IsSyncedOnce owner old new) files
+  all_once calls once = each_map (IsSyncedOnce owner mid new) (IsSyncedOnce owner old new) files
+      (λ file is some. is some ∙ ap (λ (n : ℕ). n + 1) (rose_nothing (IsStagedAmong owner files) old.syncs mid.syncs (staged_either owner files) calls.syncs (file_of owner file.part))) once

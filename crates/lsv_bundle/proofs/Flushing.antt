@@ -5,7 +5,7 @@ use Rattle.lsv_disk.specs.declared.file.Owner.{Owner}
 use Rattle.lsv_disk.specs.declared.file.Part.{Part}
 use Rattle.lsv_disk.specs.Files.{file_of}
 use Rattle.lsv_disk.specs.View.{Image, DiskView}
-use Rattle.lsv_disk.specs.Throughout.{Throughout, SyncsAtMost}
+use Rattle.lsv_disk.specs.Throughout.{Throughout, RoseAtMost, CallsAtMost}
 use Rattle.lsv_disk.proofs.Composition.{followed, widened}
 use Rattle.lsv_bundle.specs.declared.shape.Shape.{Shape}
 use Rattle.lsv_bundle.specs.declared.body.Body.{Body}
@@ -13,7 +13,7 @@ use Rattle.lsv_bundle.specs.Shape.{IsPart, journal_of, IsDataFile, IsWritable}
 use Rattle.lsv_bundle.specs.Value.{BundleView, committed_length, staged, IsStagedFile, IsKept}
 use Rattle.lsv_bundle.specs.Committed.{Committed, HasPrefix, IsOwnImage, KeepsBytes, HoldsEntry, BundleHolds, IsBeforeOrAfter, KeepsCommitted, committed_bytes, committed, committed_as}
 use Rattle.lsv_bundle.specs.Represents.{Represents}
-use Rattle.lsv_bundle.specs.Calls.{SyncsStaged, SyncsOfFlush}
+use Rattle.lsv_bundle.specs.Calls.{SyncsStaged, RoseByFlush, CallsOfFlush}
 use Rattle.lsv_bundle.proofs.Shapes.{on_same}
 use Rattle.lsv_bundle.proofs.Journals.{part_not_journal}
 use Rattle.lsv_bundle.proofs.Steps.{data_stays, at_holds}
@@ -105,8 +105,8 @@ module _ (bundle : BundleView) (old two new : DiskView) (body : Body)
 staged_not_journal : (bundle : BundleView) (g : FileId) → IsStagedFile bundle g → g ≢ journal_of bundle.owner
 staged_not_journal bundle g is e = part_not_journal bundle.owner bundle.shape is.0 is.1 (sym is.3 ∙ e)
 
-pub two_syncs : (bundle : BundleView) (old one two : DiskView) → SyncsAtMost 1 (IsStagedFile bundle) old one → SyncsAtMost 1 (λ g. g ≡ journal_of bundle.owner) one two → SyncsOfFlush bundle old two
-two_syncs bundle old one two first second = record {
+two_rose : (bundle : BundleView) (old one two : FileId → ℕ) → RoseAtMost 1 (IsStagedFile bundle) old one → RoseAtMost 1 (λ g. g ≡ journal_of bundle.owner) one two → RoseByFlush bundle old two
+two_rose bundle old one two first second = record {
   files = λ g is. let e = second.others g (staged_not_journal bundle g is) in let n = first.own g is in omega (arith, e, n);
   journal =
       let e = first.others (journal_of bundle.owner) (λ is. staged_not_journal bundle (journal_of bundle.owner) is refl) in
@@ -115,10 +115,16 @@ two_syncs bundle old one two first second = record {
   others = λ g other not_journal. second.others g not_journal ∙ first.others g other;
 }
 
-pub staged_stays : (bundle : BundleView) (old one two new : DiskView) → SyncsAtMost 1 (λ g. g ≡ journal_of bundle.owner) one two → SyncsAtMost 1 (λ g. g ≡ journal_of bundle.owner) two new → SyncsStaged bundle old one → SyncsStaged bundle old new
+pub two_calls : (bundle : BundleView) (old one two : DiskView) → CallsAtMost 1 1 (IsStagedFile bundle) old one → CallsAtMost 1 1 (λ g. g ≡ journal_of bundle.owner) one two → CallsOfFlush bundle old two
+two_calls bundle old one two first second = record {
+  writes = two_rose bundle old.writes one.writes two.writes first.writes second.writes;
+  syncs = two_rose bundle old.syncs one.syncs two.syncs first.syncs second.syncs;
+}
+
+pub staged_stays : (bundle : BundleView) (old one two new : DiskView) → CallsAtMost 1 1 (λ g. g ≡ journal_of bundle.owner) one two → CallsAtMost 1 1 (λ g. g ≡ journal_of bundle.owner) two new → SyncsStaged bundle old one → SyncsStaged bundle old new
 staged_stays bundle old one two new second third once part is some =
-    third.others (file_of bundle.owner part) (part_not_journal bundle.owner bundle.shape part is)
-    ∙ second.others (file_of bundle.owner part) (part_not_journal bundle.owner bundle.shape part is)
+    third.syncs.others (file_of bundle.owner part) (part_not_journal bundle.owner bundle.shape part is)
+    ∙ second.syncs.others (file_of bundle.owner part) (part_not_journal bundle.owner bundle.shape part is)
     ∙ once part is some
 
 -- what is committed is held
@@ -137,8 +143,8 @@ pub one_either : (bundle : BundleView) (old one : DiskView) (next : Option Commi
 one_either bundle old one next first =
     widened (IsDataFile bundle.owner bundle.shape) (IsWritable bundle.owner bundle.shape) (KeepsCommitted bundle old) (IsBeforeOrAfter bundle.owner bundle.shape (committed bundle old) next) old one (λ g is. inl is) (λ image has _. inl has.holds) first
 
-pub three_syncs : (bundle : BundleView) (old one two new : DiskView) → SyncsAtMost 1 (IsStagedFile bundle) old one → SyncsAtMost 1 (λ g. g ≡ journal_of bundle.owner) one two → SyncsAtMost 1 (λ g. g ≡ journal_of bundle.owner) two new → SyncsOfFlush bundle old new
-three_syncs bundle old one two new first second third = record {
+three_rose : (bundle : BundleView) (old one two new : FileId → ℕ) → RoseAtMost 1 (IsStagedFile bundle) old one → RoseAtMost 1 (λ g. g ≡ journal_of bundle.owner) one two → RoseAtMost 1 (λ g. g ≡ journal_of bundle.owner) two new → RoseByFlush bundle old new
+three_rose bundle old one two new first second third = record {
   files = λ g is.
       let d = third.others g (staged_not_journal bundle g is) in
       let e = second.others g (staged_not_journal bundle g is) in
@@ -150,4 +156,10 @@ three_syncs bundle old one two new first second third = record {
       let m = third.own (journal_of bundle.owner) refl in
       omega (arith, e, n, m);
   others = λ g other not_journal. third.others g not_journal ∙ second.others g not_journal ∙ first.others g other;
+}
+
+pub three_calls : (bundle : BundleView) (old one two new : DiskView) → CallsAtMost 1 1 (IsStagedFile bundle) old one → CallsAtMost 1 1 (λ g. g ≡ journal_of bundle.owner) one two → CallsAtMost 1 1 (λ g. g ≡ journal_of bundle.owner) two new → CallsOfFlush bundle old new
+three_calls bundle old one two new first second third = record {
+  writes = three_rose bundle old.writes one.writes two.writes new.writes first.writes second.writes third.writes;
+  syncs = three_rose bundle old.syncs one.syncs two.syncs new.syncs first.syncs second.syncs third.syncs;
 }

@@ -1,5 +1,5 @@
 -- Making a bundle: its data files, and then its journal.
-use Rattle.std.proofs.Common.{◌≡◌, ◌≢◌, ◌⊎◌, inl, inr, ℕ, ◌≤◌, List, [], ◌∷◌, map, Option, Some, None, refl, sym, ◌∙◌, ap, subst, arith}
+use Rattle.std.proofs.Common.{◌≡◌, ◌≢◌, ◌⊎◌, inl, inr, ℕ, ◌+◌, ◌≤◌, List, [], ◌∷◌, map, Option, Some, None, refl, sym, ◌∙◌, ap, subst, arith}
 use Rattle.std.specs.Prelude.{slice_index}
 use Rattle.lsv_disk.specs.declared.file.FileId.{FileId}
 use Rattle.lsv_disk.specs.declared.file.Owner.{Owner}
@@ -7,8 +7,9 @@ use Rattle.lsv_disk.specs.declared.file.Part.{Part}
 use Rattle.lsv_disk.specs.declared.file.Part.TheVariants.{Head, Exit, Timing, Stdin, Stdout, Stderr, Ttyin, Ttyout, Lines, Id, Commit, Slots}
 use Rattle.lsv_disk.specs.Files.{file_of, IsOneOf}
 use Rattle.lsv_disk.specs.View.{Image, DiskView, IsCrashImage}
-use Rattle.lsv_disk.specs.Throughout.{Throughout, SyncsAtMost}
-use Rattle.lsv_disk.proofs.Composition.{followed, widened}
+use Rattle.lsv_disk.specs.Throughout.{Throughout, RoseAtMost, CallsAtMost, WritesOneOf}
+use Rattle.lsv_disk.proofs.Composition.{followed, widened, rose_nothing, rose_trans, stayed_rose, uncounted_at_most}
+use Rattle.lsv_disk.proofs.Same.{same_or_other}
 use Rattle.lsv_journal.specs.Last.{IsOwn, JournalHolds, IsSomeCrashOf, MayBeMade}
 use Rattle.lsv_journal.proofs.Laws.{own_cases, own_alone, may_be_made_stays}
 use Rattle.lsv_bundle.specs.declared.shape.Shape.{Shape}
@@ -192,43 +193,70 @@ fresh_lengths lengths shape.Log Slots is = elim is [ ]
 fresh_lengths lengths shape.Lines part is = subst (λ (p : Part). slice_index (map (λ f. f.committed) (map (fresh lengths) (parts_of shape.Lines))) (index_of p) ≡ slice_index lengths (index_of p)) (sym is) refl
 fresh_lengths lengths shape.Relay part is = subst (λ (p : Part). slice_index (map (λ f. f.committed) (map (fresh lengths) (parts_of shape.Relay))) (index_of p) ≡ slice_index lengths (index_of p)) (sym is) refl
 
--- how often the files are synced: the data files once, and the journal's so often
-module _ (owner : Owner) (s : Shape) (n : ℕ) (old mid new : DiskView) (more : 1 ≤ n) where
-  pub files_then_journal : SyncsAtMost 1 (IsOneOf owner (parts_of s)) old mid → SyncsAtMost n (IsOwn (journal_of owner)) mid new → SyncsAtMost n (IsOwnFile owner s) old new
-  files_then_journal first second = record {
+-- a file is one of these parts', or it isn't
+pub one_of_either : (owner : Owner) (parts : List Part) (g : FileId) → IsOneOf owner parts g ⊎ (IsOneOf owner parts g → ⊥)
+one_of_either owner [] g = inr (λ none. none)
+one_of_either owner (part ∷ parts) g = elim (same_or_other g (file_of owner part)) [
+  | inl is ↦ inl (inl is)
+  | inr other ↦ elim (one_of_either owner parts g) [ inl there ↦ inl (inr there) | inr apart ↦ inr (λ is. elim is [ inl here ↦ other here | inr there ↦ apart there ]) ]
+]
+
+-- a count that rose for the data files once, and for a journal's files so often
+module _ (owner : Owner) (s : Shape) (J : FileId → Type 0) (apart : (f : FileId) → IsDataFile owner s f → J f → ⊥) (n : ℕ) (old mid new : FileId → ℕ) (more : 1 ≤ n) where
+  pub files_then : RoseAtMost 1 (IsOneOf owner (parts_of s)) old mid → RoseAtMost n J mid new → RoseAtMost n (λ f. IsDataFile owner s f ⊎ J f) old new
+  files_then first second = record {
+    never_fell = λ f. omega (arith, first.never_fell f, second.never_fell f);
     own = λ f is. elim is [
       | inl file ↦
-          let e = second.others f (data_not_own owner s f file) in
+          let e = second.others f (apart f file) in
           let k = first.own f (subst (λ (g : FileId). IsOneOf owner (parts_of s) g) (sym file.2) (part_one_of owner s file.0 file.1)) in
           omega (arith, e, k, more)
       | inr own ↦
-          let e = first.others f (λ one. data_not_own owner s f (one_of_is_data owner s f one) own) in
+          let e = first.others f (λ one. apart f (one_of_is_data owner s f one) own) in
           let k = second.own f own in
           omega (arith, e, k)
     ];
     others = λ f other. second.others f (λ own. other (inr own)) ∙ first.others f (λ one. other (inl (one_of_is_data owner s f one)));
   }
 
-  pub journal_then_files : SyncsAtMost n (IsOwn (journal_of owner)) old mid → SyncsAtMost 1 (IsOneOf owner (parts_of s)) mid new → SyncsAtMost n (IsOwnFile owner s) old new
-  journal_then_files first second = record {
+  pub then_files : RoseAtMost n J old mid → RoseAtMost 1 (IsOneOf owner (parts_of s)) mid new → RoseAtMost n (λ f. IsDataFile owner s f ⊎ J f) old new
+  then_files first second = record {
+    never_fell = λ f. omega (arith, first.never_fell f, second.never_fell f);
     own = λ f is. elim is [
       | inl file ↦
-          let e = first.others f (data_not_own owner s f file) in
+          let e = first.others f (apart f file) in
           let k = second.own f (subst (λ (g : FileId). IsOneOf owner (parts_of s) g) (sym file.2) (part_one_of owner s file.0 file.1)) in
           omega (arith, e, k, more)
       | inr own ↦
-          let e = second.others f (λ one. data_not_own owner s f (one_of_is_data owner s f one) own) in
+          let e = second.others f (λ one. apart f (one_of_is_data owner s f one) own) in
           let k = first.own f own in
           omega (arith, e, k)
     ];
     others = λ f other. second.others f (λ one. other (inl (one_of_is_data owner s f one))) ∙ first.others f (λ own. other (inr own));
   }
 
--- one of the two alone
-pub files_alone : (owner : Owner) (s : Shape) (n : ℕ) (old new : DiskView) → 1 ≤ n → SyncsAtMost 1 (IsOneOf owner (parts_of s)) old new → SyncsAtMost n (IsOwnFile owner s) old new
-files_alone owner s n old new more syncs =
-    files_then_journal owner s n old new new more syncs (record { own = λ f is. omega arith; others = λ f other. refl })
+-- what is synced alone isn't written
+pub files_unwritten : (owner : Owner) (parts : List Part) (old new : DiskView) → CallsAtMost 0 1 (IsOneOf owner parts) old new → (f : FileId) → new.writes f ≡ old.writes f
+files_unwritten owner parts old new calls = rose_nothing (IsOneOf owner parts) old.writes new.writes (one_of_either owner parts) calls.writes
 
-pub journal_alone : (owner : Owner) (s : Shape) (n : ℕ) (old new : DiskView) → SyncsAtMost n (IsOwn (journal_of owner)) old new → 1 ≤ n → SyncsAtMost n (IsOwnFile owner s) old new
-journal_alone owner s n old new syncs more =
-    journal_then_files owner s n old new new more syncs (record { own = λ f is. omega arith; others = λ f other. refl })
+module _ (owner : Owner) (s : Shape) (old mid new : DiskView) where
+  -- the data files are made, and then the journal
+  pub made_calls : CallsAtMost 0 1 (IsOneOf owner (parts_of s)) old mid → CallsAtMost 1 2 (λ g. g ≡ journal_of owner) mid new → WritesOneOf (journal_of owner) 1 2 (IsWritable owner s) old new
+  made_calls first second = record {
+    writes = rose_trans 0 1 (λ g. g ≡ journal_of owner) old.writes mid.writes new.writes (stayed_rose 0 (λ g. g ≡ journal_of owner) old.writes mid.writes (files_unwritten owner (parts_of s) old mid first)) second.writes;
+    syncs = files_then owner s (λ g. g ≡ journal_of owner) (data_not_journal owner s) 2 old.syncs mid.syncs new.syncs (omega arith) first.syncs second.syncs;
+  }
+
+  -- the journal is opened, and then the data files are synced
+  pub opened_calls : WritesOneOf (journal_of owner) 3 5 (IsOwn (journal_of owner)) old mid → CallsAtMost 0 1 (IsOneOf owner (parts_of s)) mid new → WritesOneOf (journal_of owner) 3 5 (IsOwnFile owner s) old new
+  opened_calls first second = record {
+    writes = rose_trans 3 0 (λ g. g ≡ journal_of owner) old.writes mid.writes new.writes first.writes (stayed_rose 0 (λ g. g ≡ journal_of owner) mid.writes new.writes (files_unwritten owner (parts_of s) mid new second));
+    syncs = then_files owner s (IsOwn (journal_of owner)) (data_not_own owner s) 5 old.syncs mid.syncs new.syncs (omega arith) first.syncs second.syncs;
+  }
+
+-- one of the two alone
+pub files_alone : (owner : Owner) (s : Shape) (old new : DiskView) → CallsAtMost 0 1 (IsOneOf owner (parts_of s)) old new → WritesOneOf (journal_of owner) 1 2 (IsWritable owner s) old new
+files_alone owner s old new calls = made_calls owner s old new new calls (uncounted_at_most 1 2 (λ g. g ≡ journal_of owner) new new (record { writes = λ f. refl; syncs = λ f. refl }))
+
+pub journal_alone : (owner : Owner) (s : Shape) (old new : DiskView) → WritesOneOf (journal_of owner) 3 5 (IsOwn (journal_of owner)) old new → WritesOneOf (journal_of owner) 3 5 (IsOwnFile owner s) old new
+journal_alone owner s old new calls = opened_calls owner s old new new calls (uncounted_at_most 0 1 (IsOneOf owner (parts_of s)) new new (record { writes = λ f. refl; syncs = λ f. refl }))

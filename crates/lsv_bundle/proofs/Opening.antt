@@ -7,8 +7,8 @@ use Rattle.lsv_disk.specs.declared.file.Owner.{Owner}
 use Rattle.lsv_disk.specs.declared.file.Part.{Part}
 use Rattle.lsv_disk.specs.Bytes.{bytes_of}
 use Rattle.lsv_disk.specs.Files.{file_of, IsOneOf}
-use Rattle.lsv_disk.specs.View.{Image, DiskView, IsCrashImage, Unsynced}
-use Rattle.lsv_disk.specs.Throughout.{Throughout, Unchanged, SyncsAtMost}
+use Rattle.lsv_disk.specs.View.{Image, DiskView, IsCrashImage}
+use Rattle.lsv_disk.specs.Throughout.{Throughout, Unchanged}
 use Rattle.lsv_disk.proofs.Composition.{followed, unchanged_throughout}
 use Rattle.lsv_journal.specs.Last.{SameJournal, IsSomeCrashOf}
 use Rattle.lsv_journal.proofs.Laws.{own_alone}
@@ -102,13 +102,6 @@ pub one_reads : (owner : Owner) (s : Shape) (old mid new : DiskView) → Through
     → (f : FileId) → IsOneOf owner (parts_of s) f → new.reads f ≡ old.reads f
 one_reads owner s old mid new run unchanged f one =
     unchanged.elsewhere.same f (λ none. none) ∙ run.elsewhere.same f (data_not_journal owner s f (one_of_is_data owner s f one))
-
--- some calls that sync, and others that read
-pub syncs_then_reads : (n : ℕ) (Own : FileId → Type 0) (old mid new : DiskView) → SyncsAtMost n Own old mid → Unsynced mid new → SyncsAtMost n Own old new
-syncs_then_reads n Own old mid new syncs unsynced = record {
-  own = λ f is. let e = unsynced f in let k = syncs.own f is in omega (arith, e, k);
-  others = λ f other. unsynced f ∙ syncs.others f other;
-}
 
 -- nothing is staged of files that were just named
 pub fresh_staged : (lengths : List ℕ) (parts : List Part) (i : ℕ) → slice_index_or (map (λ f. f.staged) (map (fresh lengths) parts)) i [] ≡ []

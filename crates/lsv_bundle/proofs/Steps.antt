@@ -7,7 +7,7 @@ use Rattle.lsv_disk.specs.declared.file.Part.{Part}
 use Rattle.lsv_disk.specs.Bytes.{bytes_of}
 use Rattle.lsv_disk.specs.Files.{file_of}
 use Rattle.lsv_disk.specs.View.{Image, DiskView, Elsewhere, HasOwnCause}
-use Rattle.lsv_disk.specs.Throughout.{Throughout, SyncsAtMost}
+use Rattle.lsv_disk.specs.Throughout.{Throughout, RoseAtMost, CallsAtMost}
 use Rattle.lsv_disk.proofs.Composition.{widened, cause_widened}
 use Rattle.lsv_journal.specs.Last.{IsOwn, JournalHolds}
 use Rattle.lsv_journal.specs.Last as lasts
@@ -89,10 +89,17 @@ module _ (bundle : BundleView) (parts : map (λ f. f.part) bundle.files ≡ part
       let f = found (IsSyncedOnce bundle.owner old new) bundle.shape bundle.files parts each part is in
       subst (λ (p : Part). new.syncs (file_of bundle.owner p) ≡ old.syncs (file_of bundle.owner p) + 1) f.part_is (f.has (λ none. some (f.staged_is ∙ none)))
 
-  pub staged_syncs : (old new : DiskView) → SyncsAtMost 1 (IsStagedAmong bundle.owner bundle.files) old new → SyncsAtMost 1 (IsStagedFile bundle) old new
-  staged_syncs old new syncs = record {
-    own = λ g is. syncs.own g (subst (λ (h : FileId). IsStagedAmong bundle.owner bundle.files h) (sym is.3) (data_is_staged bundle.owner bundle.shape bundle.files parts is.0 is.1 is.2));
-    others = λ g other. syncs.others g (λ staged. other (staged_is_data bundle.owner bundle.shape bundle.files parts g staged));
+  staged_rose : (n : ℕ) (old new : FileId → ℕ) → RoseAtMost n (IsStagedAmong bundle.owner bundle.files) old new → RoseAtMost n (IsStagedFile bundle) old new
+  staged_rose n old new rose = record {
+    never_fell = rose.never_fell;
+    own = λ g is. rose.own g (subst (λ (h : FileId). IsStagedAmong bundle.owner bundle.files h) (sym is.3) (data_is_staged bundle.owner bundle.shape bundle.files parts is.0 is.1 is.2));
+    others = λ g other. rose.others g (λ staged. other (staged_is_data bundle.owner bundle.shape bundle.files parts g staged));
+  }
+
+  pub staged_calls : (m n : ℕ) (old new : DiskView) → CallsAtMost m n (IsStagedAmong bundle.owner bundle.files) old new → CallsAtMost m n (IsStagedFile bundle) old new
+  staged_calls m n old new calls = record {
+    writes = staged_rose m old.writes new.writes calls.writes;
+    syncs = staged_rose n old.syncs new.syncs calls.syncs;
   }
 
 -- a bundle that is represented
@@ -299,9 +306,9 @@ module _ (bundle : BundleView) (owner : Owner) (files : List FileView) (owner_is
   bundle_once parts each = staged_once bundle parts old new
       (subst (λ (o : Owner). Each (IsSyncedOnce o old new) bundle.files) owner_is (subst (λ (fs : List FileView). Each (IsSyncedOnce owner old new) fs) files_are each))
 
-  pub bundle_syncs : map (λ f. f.part) bundle.files ≡ parts_of bundle.shape → SyncsAtMost 1 (IsStagedAmong owner files) old new → SyncsAtMost 1 (IsStagedFile bundle) old new
-  bundle_syncs parts syncs = staged_syncs bundle parts old new
-      (subst (λ (o : Owner). SyncsAtMost 1 (IsStagedAmong o bundle.files) old new) owner_is (subst (λ (fs : List FileView). SyncsAtMost 1 (IsStagedAmong owner fs) old new) files_are syncs))
+  pub bundle_calls : map (λ f. f.part) bundle.files ≡ parts_of bundle.shape → CallsAtMost 1 1 (IsStagedAmong owner files) old new → CallsAtMost 1 1 (IsStagedFile bundle) old new
+  bundle_calls parts calls = staged_calls bundle parts 1 1 old new
+      (subst (λ (o : Owner). CallsAtMost 1 1 (IsStagedAmong o bundle.files) old new) owner_is (subst (λ (fs : List FileView). CallsAtMost 1 1 (IsStagedAmong owner fs) old new) files_are calls))
 
   pub bundle_cause : (failed wider : Type 0) → map (λ f. f.part) bundle.files ≡ parts_of bundle.shape → (wider → failed) → HasOwnCause (IsAmong owner files) failed old new → HasOwnCause (IsDataFile bundle.owner bundle.shape) wider old new
   bundle_cause failed wider parts fails cause = cause_widened (IsAmong owner files) (IsDataFile bundle.owner bundle.shape) failed wider old new

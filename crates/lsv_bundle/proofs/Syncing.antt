@@ -8,13 +8,14 @@ use Rattle.lsv_disk.specs.declared.file.Part.{Part}
 use Rattle.lsv_disk.specs.Bytes.{size_of}
 use Rattle.lsv_disk.specs.Files.{file_of, IsOneOf, AreDistinct}
 use Rattle.lsv_disk.specs.View.{Image, DiskView, IsSynced, OneRead, OneSync}
-use Rattle.lsv_disk.specs.Throughout.{Throughout, Unchanged, SyncsAtMost}
-use Rattle.lsv_disk.proofs.Composition.{OnlyNow, one_read, one_sync, unchanged_trans, followed, widened, unchanged_throughout}
+use Rattle.lsv_disk.specs.Throughout.{Throughout, Unchanged, CallsAtMost}
+use Rattle.lsv_disk.proofs.Composition.{OnlyNow, one_read, one_sync, unchanged_trans, followed, widened, unchanged_throughout, rose_nothing, stayed_rose}
 use Rattle.lsv_bundle.specs.Shape.{index_of}
 use Rattle.lsv_bundle.specs.Committed.{IsShort, IsFirstShort}
 use Rattle.lsv_bundle.specs.Represents.{IsDurable}
 use Rattle.lsv_bundle.specs.InnerFiles.{EachPart, AreSomeOf}
 use Rattle.lsv_bundle.proofs.DataFiles.{durable_stays}
+use Rattle.lsv_bundle.proofs.Making.{one_of_either}
 use Rattle.lsv_bundle.proofs.Opening.{short_reads}
 
 -- a list that is not empty is its first and the rest
@@ -65,21 +66,25 @@ module _ (owner : Owner) (first : Part) (f : FileId) (is : f ≡ file_of owner f
       (durable_stays (λ _. ⊥) mid new f 0 unchanged.elsewhere (λ none. none)
       (record { content = there.0; there = sync.quiet.same f ∙ read.quiet.same f ∙ there.1; enough = omega arith; synced = synced }))
 
-  pub sync_syncs : (parts rest : List Part) → parts ≡ first ∷ rest → AreDistinct owner parts → SyncsAtMost 1 (IsOneOf owner rest) mid new → SyncsAtMost 1 (IsOneOf owner parts) old new
-  sync_syncs parts rest split distinct syncs = subst (λ (ps : List Part). SyncsAtMost 1 (IsOneOf owner ps) old new) (sym split) (record {
-    own = λ g listed. elim listed [
-      | inl here ↦
-          let e = syncs.others g (λ there. differs (subst (λ (h : FileId). IsOneOf owner rest h) here there)) in
-          let n : mid.syncs g ≤ one.syncs g + 1 = subst (λ (h : FileId). mid.syncs h ≤ one.syncs h + 1) (is ∙ sym here) sync.at_most in
-          let k = read.syncs g in
-          omega (arith, e, n, k)
-      | inr there ↦
-          let e = sync.others g (λ e. differs (subst (λ (h : FileId). IsOneOf owner rest h) (e ∙ is) there)) in
-          let n = syncs.own g there in
-          let k = read.syncs g in
-          omega (arith, e, n, k)
-    ];
-    others = λ g other. syncs.others g (λ there. other (inr there)) ∙ sync.others g (λ e. other (inl (e ∙ is))) ∙ read.syncs g;
+  pub sync_calls : (parts rest : List Part) → parts ≡ first ∷ rest → AreDistinct owner parts → CallsAtMost 0 1 (IsOneOf owner rest) mid new → CallsAtMost 0 1 (IsOneOf owner parts) old new
+  sync_calls parts rest split distinct calls = subst (λ (ps : List Part). CallsAtMost 0 1 (IsOneOf owner ps) old new) (sym split) (record {
+    writes = stayed_rose 0 (IsOneOf owner (first ∷ rest)) old.writes new.writes (λ g. rose_nothing (IsOneOf owner rest) mid.writes new.writes (one_of_either owner rest) calls.writes g ∙ sync.writes g ∙ read.counts.writes g);
+    syncs = record {
+      never_fell = λ g. let a = calls.syncs.never_fell g in let b = sync.syncs.never_fell g in let k = read.counts.syncs g in omega (arith, a, b, k);
+      own = λ g listed. elim listed [
+        | inl here ↦
+            let e = calls.syncs.others g (λ there. differs (subst (λ (h : FileId). IsOneOf owner rest h) here there)) in
+            let n : mid.syncs g ≤ one.syncs g + 1 = subst (λ (h : FileId). mid.syncs h ≤ one.syncs h + 1) (is ∙ sym here) sync.syncs.at_most in
+            let k = read.counts.syncs g in
+            omega (arith, e, n, k)
+        | inr there ↦
+            let e = sync.syncs.others g (λ e. differs (subst (λ (h : FileId). IsOneOf owner rest h) (e ∙ is) there)) in
+            let n = calls.syncs.own g there in
+            let k = read.counts.syncs g in
+            omega (arith, e, n, k)
+      ];
+      others = λ g other. calls.syncs.others g (λ there. other (inr there)) ∙ sync.syncs.others g (λ e. other (inl (e ∙ is))) ∙ read.counts.syncs g;
+    };
   }) where
     differs : IsOneOf owner rest (file_of owner first) → ⊥
     differs = (subst (AreDistinct owner) split distinct).0

@@ -1,4 +1,4 @@
--- What calls of a bundle sync, and why staging may fail.
+-- What calls of a bundle write and sync, and why staging may fail.
 use Rattle.std.specs.Prelude.{◌≡◌, ◌≢◌, ℕ, ◌+◌, ◌≤◌, ◌<◌, ◌^◌, []}
 use Rattle.lsv_disk.specs.declared.file.FileId.{FileId}
 use Rattle.lsv_disk.specs.declared.file.Part.{Part}
@@ -18,11 +18,16 @@ abbrev pub SyncsStaged : BundleView → DiskView → DiskView → Type 0
 SyncsStaged bundle old new = (part : Part) → IsPart bundle.shape part → staged bundle part ≢ []
     → new.syncs (file_of bundle.owner part) ≡ old.syncs (file_of bundle.owner part) + 1
 
--- each data file of which something is staged was synced once at most, the journal twice at most, and no other file
-pub record SyncsOfFlush (bundle : BundleView) (old new : DiskView) : Type 0 where
-  pub files : (file : FileId) → IsStagedFile bundle file → new.syncs file ≤ old.syncs file + 1
-  pub journal : new.syncs (journal_of bundle.owner) ≤ old.syncs (journal_of bundle.owner) + 2
-  pub others : (file : FileId) → (IsStagedFile bundle file → ⊥) → file ≢ journal_of bundle.owner → new.syncs file ≡ old.syncs file
+-- a count rose by one at most for each data file of which something is staged, by two at most for the journal, and for no other file
+pub record RoseByFlush (bundle : BundleView) (old new : FileId → ℕ) : Type 0 where
+  pub files : (file : FileId) → IsStagedFile bundle file → new file ≤ old file + 1
+  pub journal : new (journal_of bundle.owner) ≤ old (journal_of bundle.owner) + 2
+  pub others : (file : FileId) → (IsStagedFile bundle file → ⊥) → file ≢ journal_of bundle.owner → new file ≡ old file
+
+-- each data file of which something is staged was written once and synced once at most, the journal twice each at most, and no other file
+pub record CallsOfFlush (bundle : BundleView) (old new : DiskView) : Type 0 where
+  pub writes : RoseByFlush bundle old.writes new.writes
+  pub syncs : RoseByFlush bundle old.syncs new.syncs
 
 -- the faults of a bundle that is viewed
 abbrev pub IsViewFault : BundleFault → Type 0

@@ -94,6 +94,28 @@ pub record IsKept (old new : BundleView) : Type 0 where
   pub last : new.last ≡ old.last
   pub files : new.files ≡ old.files
 
+-- it keeps what is committed and staged, and where the call succeeded it is as it was
+pub record KeptBy (succeeded : Type 0) (old new : BundleView) : Type 0 where
+  pub same : succeeded → new ≡ old
+  pub kept : IsKept old new
+
+-- where the call failed what is committed and staged is as it was, and where it was refused nothing was done
+pub record KeptAtError {D : Type 0} (failed refused : Type 0) (old new : BundleView) (disk disk_now : D) : Type 0 where
+  pub kept : failed → IsKept old new
+  pub untouched : refused → (new ≡ old) × (disk_now ≡ disk)
+
+-- these bytes are staged of a part, and all else is as it was
+pub record IsStaged (part : Part) (bytes : List ℕ) (old new : BundleView) : Type 0 where
+  pub staged_is : staged new part ≡ bytes
+  pub others : (other : Part) → IsPart old.shape other → other ≢ part → staged new other ≡ staged old other
+  pub same : unstaged new ≡ unstaged old
+
+-- this entry is prepared; what is committed and staged is as it was, and it isn't broken
+pub record IsEntryWritten (body : Body) (old new : BundleView) : Type 0 where
+  pub prepared_is : new.prepared ≡ Some body
+  pub kept : IsKept old new
+  pub whole : new.is_broken ≡ false
+
 -- this entry is the last one, with these lengths; nothing is staged nor prepared, and it isn't broken
 pub record IsCommitted (body : Body) (lengths : Part → ℕ) (old new : BundleView) : Type 0 where
   pub owner : new.owner ≡ old.owner

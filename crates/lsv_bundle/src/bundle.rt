@@ -1,17 +1,17 @@
-ghost use Rattle.std.specs.Prelude.{◌≡◌, ◌≢◌, ◌⊎◌, ℕ, ◌+◌, ◌-◌, ◌≤◌, ◌<◌, true, false, Option, Some, None, [], ◌++◌, length, take, drop, map, replicate, IsErr, IfOk, IfErr, OnOk, OnErr, IsErrOf, ◌↔◌};
+ghost use Rattle.std.specs.Prelude.{◌≡◌, ◌≢◌, ◌⊎◌, ℕ, ◌+◌, ◌-◌, ◌≤◌, ◌<◌, true, false, Option, Some, None, [], ◌++◌, length, take, drop, map, replicate, IsErr, IsOk, IfOk, IfErr, OnOk, OnErr, IsErrOf, ◌↔◌};
 ghost use Rattle.lsv_words.specs.Pieces.{piece};
 ghost use Rattle.lsv_disk.specs.declared.file.FileId.{FileId};
 ghost use Rattle.lsv_disk.specs.declared.file.Part.{Part};
 ghost use Rattle.lsv_disk.specs.Files.{file_of};
 ghost use Rattle.lsv_disk.specs.View.{HasCause, HasOwnCause};
-ghost use Rattle.lsv_disk.specs.Throughout.{Throughout, OnlyReads, SyncsAtMost};
+ghost use Rattle.lsv_disk.specs.Throughout.{Throughout, OnlyReads, CallsAtMost, WritesOneOf};
 ghost use Rattle.lsv_journal.specs.Last.{IsOwn, IsSomeCrashOf, JournalHolds, MayBeMade};
 ghost use Rattle.lsv_journal.specs.Value as journals;
 ghost use Rattle.lsv_journal.specs.Represents as represents;
 ghost use Rattle.lsv_bundle.specs.declared.fault.BundleFault.{BundleFault};
 ghost use Rattle.lsv_bundle.specs.Shape.{IsPart, journal_of, IsWritable, IsOwnFile};
 ghost use Rattle.lsv_bundle.specs.Body.{IsBody};
-ghost use Rattle.lsv_bundle.specs.Value.{committed_length, staged, next_body, unstaged, IsFresh, IsKept};
+ghost use Rattle.lsv_bundle.specs.Value.{committed_length, staged, next_body, IsStaged, IsFresh, KeptBy};
 ghost use Rattle.lsv_bundle.specs.Committed.{IsBeingMade, committed_bytes};
 ghost use Rattle.lsv_bundle.specs.Represents.{Represents};
 ghost use Rattle.lsv_bundle.specs.Calls.{IsFull};
@@ -78,7 +78,7 @@ fn make_journal<D: Disk>(disk: &mut D, owner: Owner) -> Result<Journal<89>, Bund
     ensures represents { D.tells → IfOk result (λ j. represents.Represents j (D.view disk.new)) }
     ensures again { D.tells → MayBeMade 89 (journal_of owner) (D.view disk.new) }
     ensures any_moment { D.tells → Throughout (λ g. g ≡ journal_of owner) (λ image. IsSomeCrashOf 89 (journal_of owner) (D.view disk.old) image ⊎ JournalHolds 89 (journal_of owner) None image) (D.view disk.old) (D.view disk.new) }
-    ensures syncs { D.tells → SyncsAtMost 2 (IsOwn (journal_of owner)) (D.view disk.old) (D.view disk.new) }
+    ensures calls { D.tells → CallsAtMost 1 2 (λ g. g ≡ journal_of owner) (D.view disk.old) (D.view disk.new) }
     ensures fault { IfErr result (λ e. e ≡ BundleFault.Disk) }
     ensures cause { HasOwnCause (IsOwn (journal_of owner)) (IsErr result) (D.view disk.old) (D.view disk.new) }
 {
@@ -105,7 +105,7 @@ impl Bundle {
         ensures represents { D.tells → IfOk result (λ b. Represents b (D.view disk.new)) }
         ensures again { D.tells → MayBeMade 89 (journal_of owner) (D.view disk.new) }
         ensures any_moment { D.tells → Throughout (IsWritable owner shape) (IsBeingMade owner shape (D.view disk.old)) (D.view disk.old) (D.view disk.new) }
-        ensures syncs { D.tells → SyncsAtMost 2 (IsOwnFile owner shape) (D.view disk.old) (D.view disk.new) }
+        ensures calls { D.tells → WritesOneOf (journal_of owner) 1 2 (IsWritable owner shape) (D.view disk.old) (D.view disk.new) }
         ensures fault { IfErr result (λ e. (e ≡ BundleFault.Disk) ⊎ (e ≡ BundleFault.NoMem)) }
         ensures cause { HasOwnCause (IsOwnFile owner shape) (IsErrOf result BundleFault.Disk) (D.view disk.old) (D.view disk.new) }
     {
@@ -144,9 +144,7 @@ impl Bundle {
     /// bytes with them, `Broken` exactly where the bundle is: where it fails, it is unchanged.
     pub fn stage(&mut self, part: Part, bytes: &[u8]) -> Result<(), BundleFault>
         requires part { IsPart self.old.shape part }
-        ensures staged { OnOk result (staged self.new part ≡ staged self.old part ++ bytes.now) }
-        ensures others { OnOk result ((other : Part) → IsPart self.old.shape other → other ≢ part → staged self.new other ≡ staged self.old other) }
-        ensures same { OnOk result (unstaged self.new ≡ unstaged self.old) }
+        ensures value { OnOk result (IsStaged part (staged self.old part ++ bytes.now) self.old self.new) }
         ensures refused { OnErr result (self.new ≡ self.old) }
         ensures room { OnOk result ((self.old.is_broken ≡ false) × (IsFull self.old part (length bytes.now) → ⊥)) }
         ensures broken { IsErrOf result BundleFault.Broken ↔ (self.old.is_broken ≡ true) }
@@ -167,9 +165,7 @@ impl Bundle {
     /// Keeps of a part so many of the staged bytes, and forgets those behind them. It takes no memory.
     pub fn unstage(&mut self, part: Part, keep: usize)
         requires part { IsPart self.old.shape part }
-        ensures staged { staged self.new part ≡ take keep (staged self.old part) }
-        ensures others { (other : Part) → IsPart self.old.shape other → other ≢ part → staged self.new other ≡ staged self.old other }
-        ensures same { unstaged self.new ≡ unstaged self.old }
+        ensures { IsStaged part (take keep (staged self.old part)) self.old self.new }
     {
         self.files[index_of(part)].unstage(keep);
     }
@@ -188,8 +184,7 @@ impl Bundle {
         ensures within { IfOk result (λ n. n ≤ length buf.old) }
         ensures count { D.tells → IfOk result (λ n. n ≡ length (piece (committed_bytes self.old (D.view disk.old) part) at (length buf.old))) }
         ensures bytes { D.tells → IfOk result (λ n. buf.new ≡ piece (committed_bytes self.old (D.view disk.old) part) at (length buf.old) ++ drop n buf.old) }
-        ensures same { OnOk result (self.new ≡ self.old) }
-        ensures kept { IsKept self.old self.new }
+        ensures kept { KeptBy (IsOk result) self.old self.new }
         ensures reads { D.tells → OnlyReads (D.view disk.old) (D.view disk.new) }
         ensures represents { D.tells → self.new.is_broken ≡ false → Represents self.new (D.view disk.new) }
         ensures fault { IfErr result (λ e. (e ≡ BundleFault.Disk) × (self.new.is_broken ≡ true)) }

@@ -1,15 +1,15 @@
-ghost use Rattle.std.specs.Prelude.{◌≡◌, ◌⊎◌, ◌↔◌, ℕ, ◌+◌, ◌≤◌, true, false, Some, IfErr, OnOk, OnErr, IsErrOf, length, map, slice_index};
+ghost use Rattle.std.specs.Prelude.{◌≡◌, ◌⊎◌, ◌↔◌, ℕ, ◌+◌, ◌≤◌, true, false, Some, IsErr, IfErr, OnOk, IsErrOf, length, map, slice_index};
 ghost use Rattle.lsv_disk.specs.declared.file.Part.{Part};
 ghost use Rattle.lsv_disk.specs.View.{Image, HasOwnCause};
-ghost use Rattle.lsv_disk.specs.Throughout.{Throughout, SyncsAtMost};
+ghost use Rattle.lsv_disk.specs.Throughout.{Throughout, CallsAtMost};
 ghost use Rattle.lsv_journal.specs.Last.{IsOwn};
 ghost use Rattle.lsv_bundle.specs.declared.body.Body.{Body};
 ghost use Rattle.lsv_bundle.specs.declared.fault.BundleFault.{BundleFault};
 ghost use Rattle.lsv_bundle.specs.Shape.{IsPart, index_of, journal_of, IsDataFile, IsWritable, IsOwnFile};
-ghost use Rattle.lsv_bundle.specs.Value.{next_length, next_body, lengths_of, cut_body, IsStagedFile, NoneStaged, IsKept, IsCommitted, IsPrepared};
+ghost use Rattle.lsv_bundle.specs.Value.{next_length, next_body, lengths_of, cut_body, IsStagedFile, NoneStaged, KeptAtError, IsEntryWritten, IsCommitted, IsPrepared};
 ghost use Rattle.lsv_bundle.specs.Committed.{KeepsBytes, IsOwnImage, HoldsEntry, IsBeforeOrAfter, KeepsCommitted, committed_bytes, committed, committed_as, committed_next, committed_cut};
 ghost use Rattle.lsv_bundle.specs.Represents.{Represents, DataIsWritten};
-ghost use Rattle.lsv_bundle.specs.Calls.{SyncsStaged, SyncsOfFlush};
+ghost use Rattle.lsv_bundle.specs.Calls.{SyncsStaged, CallsOfFlush};
 ghost use Rattle.lsv_bundle.specs.InnerFiles.{commit_file, cut_to, with_files};
 
 use crate::data_file::{commit, cut, write_staged};
@@ -51,7 +51,6 @@ impl Bundle {
     pub fn write_data<D: Disk>(&mut self, disk: &mut D) -> Result<(), BundleFault>
         requires represents { D.tells → self.old.is_broken ≡ false → Represents self.old (D.view disk.old) }
         ensures same { OnOk result (self.new ≡ self.old) }
-        ensures kept { IsKept self.old self.new }
         ensures whole { OnOk result (self.new.is_broken ≡ false) }
         ensures any_moment { D.tells → self.old.is_broken ≡ false → Throughout (IsDataFile self.old.owner self.old.shape) (KeepsCommitted self.old (D.view disk.old)) (D.view disk.old) (D.view disk.new) }
         ensures written { D.tells → OnOk result (DataIsWritten self.new (D.view disk.new)) }
@@ -59,12 +58,12 @@ impl Bundle {
             → committed_bytes self.old (D.view disk.new) part ≡ committed_bytes self.old (D.view disk.old) part }
         ensures represents { D.tells → self.new.is_broken ≡ false → Represents self.new (D.view disk.new) }
         ensures synced { D.tells → OnOk result (SyncsStaged self.old (D.view disk.old) (D.view disk.new)) }
-        ensures syncs { D.tells → SyncsAtMost 1 (IsStagedFile self.old) (D.view disk.old) (D.view disk.new) }
+        ensures calls { D.tells → CallsAtMost 1 1 (IsStagedFile self.old) (D.view disk.old) (D.view disk.new) }
         ensures disk { IsErrOf result BundleFault.Disk → self.new.is_broken ≡ true }
         ensures fault { IfErr result (λ e. (e ≡ BundleFault.Disk) ⊎ (e ≡ BundleFault.Broken)) }
         ensures cause { HasOwnCause (IsDataFile self.old.owner self.old.shape) (IsErrOf result BundleFault.Disk) (D.view disk.old) (D.view disk.new) }
         ensures broken { IsErrOf result BundleFault.Broken ↔ (self.old.is_broken ≡ true) }
-        ensures unchanged { IsErrOf result BundleFault.Broken → (self.new ≡ self.old) × (disk.new ≡ disk.old) }
+        ensures kept { KeptAtError (IsErr result) (IsErrOf result BundleFault.Broken) self.old self.new disk.old disk.new }
     {
         self.check_whole()?;
         if write_staged(disk, self.owner, &self.files).is_err() {
@@ -85,19 +84,17 @@ impl Bundle {
         extra: u64,
     ) -> Result<(), BundleFault>
         requires represents { D.tells → self.old.is_broken ≡ false → Represents self.old (D.view disk.old) }
-        ensures prepared { OnOk result (self.new.prepared ≡ Some (next_body self.old kind count elapsed extra)) }
-        ensures kept { IsKept self.old self.new }
-        ensures whole { OnOk result (self.new.is_broken ≡ false) }
+        ensures value { OnOk result (IsEntryWritten (next_body self.old kind count elapsed extra) self.old self.new) }
         ensures any_moment { D.tells → self.old.is_broken ≡ false → Throughout (λ g. g ≡ journal_of self.old.owner) (KeepsCommitted self.old (D.view disk.old)) (D.view disk.old) (D.view disk.new) }
         ensures written { D.tells → OnOk result (DataIsWritten self.old (D.view disk.old) → DataIsWritten self.new (D.view disk.new)) }
         ensures represents { D.tells → self.new.is_broken ≡ false → Represents self.new (D.view disk.new) }
         ensures synced { D.tells → OnOk result ((D.view disk.new).syncs (journal_of self.old.owner) ≡ (D.view disk.old).syncs (journal_of self.old.owner) + 1) }
-        ensures syncs { D.tells → SyncsAtMost 1 (λ g. g ≡ journal_of self.old.owner) (D.view disk.old) (D.view disk.new) }
+        ensures calls { D.tells → CallsAtMost 1 1 (λ g. g ≡ journal_of self.old.owner) (D.view disk.old) (D.view disk.new) }
         ensures disk { IsErrOf result BundleFault.Disk → self.new.is_broken ≡ true }
         ensures fault { IfErr result (λ e. (e ≡ BundleFault.Disk) ⊎ (e ≡ BundleFault.Broken)) }
         ensures cause { HasOwnCause (IsOwn (journal_of self.old.owner)) (IsErrOf result BundleFault.Disk) (D.view disk.old) (D.view disk.new) }
         ensures broken { IsErrOf result BundleFault.Broken ↔ (self.old.is_broken ≡ true) }
-        ensures unchanged { IsErrOf result BundleFault.Broken → (self.new ≡ self.old) × (disk.new ≡ disk.old) }
+        ensures kept { KeptAtError (IsErr result) (IsErrOf result BundleFault.Broken) self.old self.new disk.old disk.new }
     {
         self.check_whole()?;
         let body = self.next_body(kind, count, elapsed, extra);
@@ -117,7 +114,6 @@ impl Bundle {
         requires prepared { self.old.is_broken ≡ false → IsPrepared self.old }
         requires written { D.tells → self.old.is_broken ≡ false → DataIsWritten self.old (D.view disk.old) }
         ensures value { OnOk result ((body : Body) → self.old.prepared ≡ Some body → IsCommitted body (next_length self.old) self.old self.new) }
-        ensures kept { OnErr result (IsKept self.old self.new) }
         ensures committed { D.tells → OnOk result ((body : Body) → self.old.prepared ≡ Some body → committed self.new (D.view disk.new) ≡ Some (committed_as self.old (D.view disk.old) body)) }
         ensures any_moment { D.tells → self.old.is_broken ≡ false → (body : Body) → self.old.prepared ≡ Some body → Throughout (λ g. g ≡ journal_of self.old.owner)
             (IsBeforeOrAfter self.old.owner self.old.shape (committed self.old (D.view disk.old)) (Some (committed_as self.old (D.view disk.old) body)))
@@ -126,12 +122,12 @@ impl Bundle {
             (KeepsBytes self.old.owner self.old.shape (committed_bytes self.old (D.view disk.old))) (D.view disk.old) (D.view disk.new) }
         ensures represents { D.tells → self.new.is_broken ≡ false → Represents self.new (D.view disk.new) }
         ensures synced { D.tells → OnOk result ((D.view disk.new).syncs (journal_of self.old.owner) ≡ (D.view disk.old).syncs (journal_of self.old.owner) + 1) }
-        ensures syncs { D.tells → SyncsAtMost 1 (λ g. g ≡ journal_of self.old.owner) (D.view disk.old) (D.view disk.new) }
+        ensures calls { D.tells → CallsAtMost 1 1 (λ g. g ≡ journal_of self.old.owner) (D.view disk.old) (D.view disk.new) }
         ensures disk { IsErrOf result BundleFault.Disk → self.new.is_broken ≡ true }
         ensures fault { IfErr result (λ e. (e ≡ BundleFault.Disk) ⊎ (e ≡ BundleFault.Broken)) }
         ensures cause { HasOwnCause (IsOwn (journal_of self.old.owner)) (IsErrOf result BundleFault.Disk) (D.view disk.old) (D.view disk.new) }
         ensures broken { IsErrOf result BundleFault.Broken ↔ (self.old.is_broken ≡ true) }
-        ensures unchanged { IsErrOf result BundleFault.Broken → (self.new ≡ self.old) × (disk.new ≡ disk.old) }
+        ensures kept { KeptAtError (IsErr result) (IsErrOf result BundleFault.Broken) self.old self.new disk.old disk.new }
     {
         self.check_whole()?;
         if self.journal.select(disk).is_err() {
@@ -158,7 +154,6 @@ impl Bundle {
     ) -> Result<(), BundleFault>
         requires represents { D.tells → self.old.is_broken ≡ false → Represents self.old (D.view disk.old) }
         ensures value { OnOk result (IsCommitted (next_body self.old kind count elapsed extra) (next_length self.old) self.old self.new) }
-        ensures kept { OnErr result (IsKept self.old self.new) }
         ensures committed { D.tells → OnOk result (committed self.new (D.view disk.new) ≡ Some (committed_next self.old (D.view disk.old) kind count elapsed extra)) }
         ensures acknowledged { D.tells → OnOk result ((image : Image) → IsOwnImage self.old.owner self.old.shape (D.view disk.new) image
             → HoldsEntry self.old.owner self.old.shape (committed_next self.old (D.view disk.old) kind count elapsed extra) image) }
@@ -172,12 +167,12 @@ impl Bundle {
         ensures represents { D.tells → self.new.is_broken ≡ false → Represents self.new (D.view disk.new) }
         ensures synced { D.tells → OnOk result (SyncsStaged self.old (D.view disk.old) (D.view disk.new)) }
         ensures journal_synced { D.tells → OnOk result ((D.view disk.new).syncs (journal_of self.old.owner) ≡ (D.view disk.old).syncs (journal_of self.old.owner) + 2) }
-        ensures syncs { D.tells → SyncsOfFlush self.old (D.view disk.old) (D.view disk.new) }
+        ensures calls { D.tells → CallsOfFlush self.old (D.view disk.old) (D.view disk.new) }
         ensures disk { IsErrOf result BundleFault.Disk → self.new.is_broken ≡ true }
         ensures fault { IfErr result (λ e. (e ≡ BundleFault.Disk) ⊎ (e ≡ BundleFault.Broken)) }
         ensures cause { HasOwnCause (IsOwnFile self.old.owner self.old.shape) (IsErrOf result BundleFault.Disk) (D.view disk.old) (D.view disk.new) }
         ensures broken { IsErrOf result BundleFault.Broken ↔ (self.old.is_broken ≡ true) }
-        ensures unchanged { IsErrOf result BundleFault.Broken → (self.new ≡ self.old) × (disk.new ≡ disk.old) }
+        ensures kept { KeptAtError (IsErr result) (IsErrOf result BundleFault.Broken) self.old self.new disk.old disk.new }
     {
         self.write_data(disk)?;
         self.write_entry(disk, kind, count, elapsed, extra)?;
@@ -200,7 +195,6 @@ impl Bundle {
         requires none_staged { NoneStaged self.old }
         requires none_grows { (index : ℕ) → slice_index lens index ≤ slice_index (lengths_of self.old) index }
         ensures value { OnOk result (IsCommitted (cut_body lens count elapsed extra) (λ part. slice_index lens (index_of part)) self.old self.new) }
-        ensures kept { OnErr result (IsKept self.old self.new) }
         ensures committed { D.tells → OnOk result (committed self.new (D.view disk.new) ≡ Some (committed_cut self.old (D.view disk.old) lens count elapsed extra)) }
         ensures acknowledged { D.tells → OnOk result ((image : Image) → IsOwnImage self.old.owner self.old.shape (D.view disk.new) image
             → HoldsEntry self.old.owner self.old.shape (committed_cut self.old (D.view disk.old) lens count elapsed extra) image) }
@@ -211,12 +205,12 @@ impl Bundle {
             (KeepsBytes self.old.owner self.old.shape (committed_bytes self.old (D.view disk.old))) (D.view disk.old) (D.view disk.new) }
         ensures represents { D.tells → self.new.is_broken ≡ false → Represents self.new (D.view disk.new) }
         ensures synced { D.tells → OnOk result ((D.view disk.new).syncs (journal_of self.old.owner) ≡ (D.view disk.old).syncs (journal_of self.old.owner) + 2) }
-        ensures syncs { D.tells → SyncsAtMost 2 (λ g. g ≡ journal_of self.old.owner) (D.view disk.old) (D.view disk.new) }
+        ensures calls { D.tells → CallsAtMost 2 2 (λ g. g ≡ journal_of self.old.owner) (D.view disk.old) (D.view disk.new) }
         ensures disk { IsErrOf result BundleFault.Disk → self.new.is_broken ≡ true }
         ensures fault { IfErr result (λ e. (e ≡ BundleFault.Disk) ⊎ (e ≡ BundleFault.Broken)) }
         ensures cause { HasOwnCause (IsOwn (journal_of self.old.owner)) (IsErrOf result BundleFault.Disk) (D.view disk.old) (D.view disk.new) }
         ensures broken { IsErrOf result BundleFault.Broken ↔ (self.old.is_broken ≡ true) }
-        ensures unchanged { IsErrOf result BundleFault.Broken → (self.new ≡ self.old) × (disk.new ≡ disk.old) }
+        ensures kept { KeptAtError (IsErr result) (IsErrOf result BundleFault.Broken) self.old self.new disk.old disk.new }
     {
         self.check_whole()?;
         let body = Body::new(CUT, count, elapsed, lens, extra);

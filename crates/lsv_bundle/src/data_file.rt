@@ -1,8 +1,8 @@
 ghost use Rattle.std.specs.Prelude.{◌≡◌, ◌≢◌, ◌↔◌, ◌⊎◌, ℕ, ◌+◌, ◌-◌, ◌≤◌, ◌<◌, ◌^◌, List, [], ◌++◌, Option, length, take, map, slice_index, IsErr, IfOk, IfErr, OnOk, OnErr};
 ghost use Rattle.lsv_disk.specs.declared.file.FileId.{FileId};
 ghost use Rattle.lsv_disk.specs.Files.{file_of};
-ghost use Rattle.lsv_disk.specs.View.{Unsynced, HasCause, HasOwnCause, IsSynced};
-ghost use Rattle.lsv_disk.specs.Throughout.{Throughout, Unchanged, SyncsAtMost};
+ghost use Rattle.lsv_disk.specs.View.{HasCause, HasOwnCause, IsSynced};
+ghost use Rattle.lsv_disk.specs.Throughout.{Throughout, Unchanged, CallsAtMost};
 ghost use Rattle.lsv_bundle.specs.declared.fault.BundleFault.{BundleFault};
 ghost use Rattle.lsv_bundle.specs.Shape.{parts_of, index_of};
 ghost use Rattle.lsv_bundle.specs.Committed.{HasPrefix, prefix_at};
@@ -109,7 +109,7 @@ impl DataFile {
         ensures any_moment { D.tells → Throughout (λ g. g ≡ file_of owner self.now.part) (λ image. KeepsPrefix owner (D.view disk.old) image self.now) (D.view disk.old) (D.view disk.new) }
         ensures crash { D.tells → (c : Option (List ℕ)) → (D.view disk.new).crash_states (file_of owner self.now.part) c → HasPrefix (prefix_at (D.view disk.old) (file_of owner self.now.part) self.now.committed) c }
         ensures appended { D.tells → OnOk result (IsAppended owner (D.view disk.old) (D.view disk.new) self.now) }
-        ensures unsynced { D.tells → Unsynced (D.view disk.old) (D.view disk.new) }
+        ensures calls { D.tells → CallsAtMost 1 0 (λ g. (g ≡ file_of owner self.now.part) × (self.now.staged ≢ [])) (D.view disk.old) (D.view disk.new) }
         ensures cause { HasCause (file_of owner self.now.part) (IsErr result) (D.view disk.old) (D.view disk.new) }
     {
         if self.staged.is_empty() {
@@ -123,7 +123,7 @@ impl DataFile {
         ensures durable { D.tells → OnOk result (IsSyncedFile owner (D.view disk.new) self.now) }
         ensures unchanged { D.tells → Unchanged (D.view disk.old) (D.view disk.new) }
         ensures once { D.tells → OnOk result (IsSyncedOnce owner (D.view disk.old) (D.view disk.new) self.now) }
-        ensures syncs { D.tells → SyncsAtMost 1 (λ g. (g ≡ file_of owner self.now.part) × (self.now.staged ≢ [])) (D.view disk.old) (D.view disk.new) }
+        ensures calls { D.tells → CallsAtMost 0 1 (λ g. (g ≡ file_of owner self.now.part) × (self.now.staged ≢ [])) (D.view disk.old) (D.view disk.new) }
         ensures cause { HasCause (file_of owner self.now.part) (IsErr result) (D.view disk.old) (D.view disk.new) }
     {
         if self.staged.is_empty() {
@@ -151,7 +151,7 @@ fn write_all<D: Disk>(disk: &mut D, owner: Owner, files: &[DataFile]) -> Result<
     requires differ { Differ files.now }
     ensures any_moment { D.tells → Throughout (IsAmong owner files.now) (λ image. Each (KeepsPrefix owner (D.view disk.old) image) files.now) (D.view disk.old) (D.view disk.new) }
     ensures appended { D.tells → OnOk result (Each (IsAppended owner (D.view disk.old) (D.view disk.new)) files.now) }
-    ensures unsynced { D.tells → Unsynced (D.view disk.old) (D.view disk.new) }
+    ensures calls { D.tells → CallsAtMost 1 0 (IsStagedAmong owner files.now) (D.view disk.old) (D.view disk.new) }
     ensures cause { HasOwnCause (IsAmong owner files.now) (IsErr result) (D.view disk.old) (D.view disk.new) }
 {
     let [first, rest @ ..] = files else {
@@ -167,7 +167,7 @@ fn sync_all<D: Disk>(disk: &mut D, owner: Owner, files: &[DataFile]) -> Result<(
     ensures durable { D.tells → OnOk result (Each (IsSyncedFile owner (D.view disk.new)) files.now) }
     ensures unchanged { D.tells → Unchanged (D.view disk.old) (D.view disk.new) }
     ensures once { D.tells → OnOk result (Each (IsSyncedOnce owner (D.view disk.old) (D.view disk.new)) files.now) }
-    ensures syncs { D.tells → SyncsAtMost 1 (IsStagedAmong owner files.now) (D.view disk.old) (D.view disk.new) }
+    ensures calls { D.tells → CallsAtMost 0 1 (IsStagedAmong owner files.now) (D.view disk.old) (D.view disk.new) }
     ensures cause { HasOwnCause (IsAmong owner files.now) (IsErr result) (D.view disk.old) (D.view disk.new) }
 {
     let [first, rest @ ..] = files else {
@@ -188,7 +188,7 @@ pub(crate) fn write_staged<D: Disk>(
     ensures any_moment { D.tells → Throughout (IsAmong owner files.now) (λ image. Each (KeepsPrefix owner (D.view disk.old) image) files.now) (D.view disk.old) (D.view disk.new) }
     ensures written { D.tells → OnOk result (Each (IsWritten owner (D.view disk.new)) files.now) }
     ensures once { D.tells → OnOk result (Each (IsSyncedOnce owner (D.view disk.old) (D.view disk.new)) files.now) }
-    ensures syncs { D.tells → SyncsAtMost 1 (IsStagedAmong owner files.now) (D.view disk.old) (D.view disk.new) }
+    ensures calls { D.tells → CallsAtMost 1 1 (IsStagedAmong owner files.now) (D.view disk.old) (D.view disk.new) }
     ensures cause { HasOwnCause (IsAmong owner files.now) (IsErr result) (D.view disk.old) (D.view disk.new) }
 {
     write_all(disk, owner, files)?;

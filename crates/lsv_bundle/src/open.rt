@@ -3,8 +3,8 @@ ghost use Rattle.lsv_disk.specs.declared.file.FileId.{FileId};
 ghost use Rattle.lsv_disk.specs.declared.file.Part.{Part};
 ghost use Rattle.lsv_disk.specs.Files.{file_of, IsOneOf, AreDistinct};
 ghost use Rattle.lsv_disk.specs.View.{Image, IsCrashImage, HasOwnCause};
-ghost use Rattle.lsv_disk.specs.Throughout.{Throughout, Unchanged, OnlyReads, SyncsAtMost};
-ghost use Rattle.lsv_journal.specs.Last.{IsOwn, IsAbsent, LastAt, SameJournal, IsSomeCrashOf, MayBeMade};
+ghost use Rattle.lsv_disk.specs.Throughout.{Throughout, Unchanged, OnlyReads, CallsAtMost, WritesOneOf};
+ghost use Rattle.lsv_journal.specs.Last.{IsOwn, IsAbsent, LastAt, SameJournal, IsSomeCrashOf, HasSlotsEntry, MayBeMade};
 ghost use Rattle.lsv_journal.specs.Value as journals;
 ghost use Rattle.lsv_journal.specs.Represents as represents;
 ghost use Rattle.lsv_bundle.specs.declared.body.Body.{Body};
@@ -39,7 +39,7 @@ fn sync_present<D: Disk>(
     ensures there { D.tells → IfOk result (λ n. EachPart (λ part. IsOneOf owner (take n absent.new) (file_of owner part) ⊎ IsDurable (D.view disk.new) (file_of owner part) 0) parts.now) }
     ensures absent { D.tells → IfOk result (λ n. (f : FileId) → IsOneOf owner (take n absent.new) f → (D.view disk.new).reads f ≡ None) }
     ensures unchanged { D.tells → Unchanged (D.view disk.old) (D.view disk.new) }
-    ensures syncs { D.tells → SyncsAtMost 1 (IsOneOf owner parts.now) (D.view disk.old) (D.view disk.new) }
+    ensures calls { D.tells → CallsAtMost 0 1 (IsOneOf owner parts.now) (D.view disk.old) (D.view disk.new) }
     ensures cause { HasOwnCause (IsOneOf owner parts.now) (IsErr result) (D.view disk.old) (D.view disk.new) }
 {
     let [first, rest @ ..] = parts else {
@@ -67,7 +67,7 @@ pub(crate) fn make_files<D: Disk>(
     ensures there { D.tells → OnOk result (EachPart (λ part. IsDurable (D.view disk.new) (file_of owner part) 0) parts.now) }
     ensures any_moment { D.tells → Throughout (IsOneOf owner parts.now)
         (λ image. (f : FileId) → IsOneOf owner parts.now f → (D.view disk.old).crash_states f (image f) ⊎ (image f ≡ Some [])) (D.view disk.old) (D.view disk.new) }
-    ensures syncs { D.tells → SyncsAtMost 1 (IsOneOf owner parts.now) (D.view disk.old) (D.view disk.new) }
+    ensures calls { D.tells → CallsAtMost 0 1 (IsOneOf owner parts.now) (D.view disk.old) (D.view disk.new) }
     ensures cause { HasOwnCause (IsOneOf owner parts.now) (IsErr result) (D.view disk.old) (D.view disk.new) }
 {
     let mut absent = [Part::Head; 8];
@@ -114,7 +114,8 @@ fn open_journal<D: Disk>(
     ensures represents { D.tells → IfOk result (λ o. IfSome o (λ opened. represents.Represents opened.0 (D.view disk.new))) }
     ensures reads { D.tells → SameJournal 89 (journal_of owner) (D.view disk.old).reads (D.view disk.new).reads }
     ensures any_moment { D.tells → Throughout (λ g. g ≡ journal_of owner) (IsSomeCrashOf 89 (journal_of owner) (D.view disk.old)) (D.view disk.old) (D.view disk.new) }
-    ensures syncs { D.tells → SyncsAtMost 5 (IsOwn (journal_of owner)) (D.view disk.old) (D.view disk.new) }
+    ensures calls { D.tells → WritesOneOf (journal_of owner) 3 5 (IsOwn (journal_of owner)) (D.view disk.old) (D.view disk.new) }
+    ensures unwritten { D.tells → HasSlotsEntry 89 (journal_of owner) (D.view disk.old).reads → (g : FileId) → (D.view disk.new).writes g ≡ (D.view disk.old).writes g }
     ensures fault { IfErr result (λ e. e ≡ BundleFault.Disk) }
     ensures cause { HasOwnCause (IsOwn (journal_of owner)) (IsErr result) (D.view disk.old) (D.view disk.new) }
 {
@@ -154,7 +155,8 @@ impl Bundle {
         ensures represents { D.tells → IfOk result (λ o. IfSome o (λ b. Represents b (D.view disk.new))) }
         ensures reads { D.tells → SameJournal 89 (journal_of owner) (D.view disk.old).reads (D.view disk.new).reads }
         ensures any_moment { D.tells → Throughout (λ g. g ≡ journal_of owner) (IsSomeCrashOf 89 (journal_of owner) (D.view disk.old)) (D.view disk.old) (D.view disk.new) }
-        ensures syncs { D.tells → SyncsAtMost 5 (IsOwnFile owner shape) (D.view disk.old) (D.view disk.new) }
+        ensures calls { D.tells → WritesOneOf (journal_of owner) 3 5 (IsOwnFile owner shape) (D.view disk.old) (D.view disk.new) }
+        ensures unwritten { D.tells → HasSlotsEntry 89 (journal_of owner) (D.view disk.old).reads → (g : FileId) → (D.view disk.new).writes g ≡ (D.view disk.old).writes g }
         ensures damaged { D.tells → (part : Part) → IsErrOf result (BundleFault.Damaged part) → IsDamaged owner shape (D.view disk.old).reads part }
         ensures fault { IfErr result IsOpenFault }
         ensures cause { HasOwnCause (IsOwnFile owner shape) (IsErrOf result BundleFault.Disk) (D.view disk.old) (D.view disk.new) }

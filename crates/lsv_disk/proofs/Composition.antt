@@ -1,11 +1,11 @@
 -- How calls compose: each lemma is over the views alone, so that a caller cites one a device call. Crates above cite
 -- these lemmas, and no other of this crate.
-use Rattle.std.proofs.Common.{◌≡◌, ℕ, ◌+◌, ◌≤◌, ◌<◌, ◌⊎◌, inl, inr, Result, Ok, Err, OnOk, arith, refl, ◌∙◌, subst}
+use Rattle.std.proofs.Common.{◌≡◌, ℕ, ◌+◌, ◌≤◌, ◌<◌, ◌⊎◌, inl, inr, Result, Ok, Err, OnOk, arith, refl, sym, ◌∙◌, subst}
 use Rattle.std.proofs.lemmas.Bool.{cases_lt}
 use Rattle.lsv_words.specs.Causes.{HasRisen}
 use Rattle.lsv_disk.specs.declared.file.FileId.{FileId}
-use Rattle.lsv_disk.specs.View.{Image, DiskView, IsCrashImage, Elapses, Elsewhere, Quiet, Unsynced, OneRead, OneWrite, OneSync, HasCause, HasOwnCause}
-use Rattle.lsv_disk.specs.Throughout.{Throughout, Unchanged, OnlyReads, SyncsAtMost, Jointly}
+use Rattle.lsv_disk.specs.View.{Image, DiskView, IsCrashImage, Elapses, Elsewhere, Quiet, Uncounted, OneRead, OneMaking, RoseByOne, OneWrite, OneSync, HasCause, HasOwnCause}
+use Rattle.lsv_disk.specs.Throughout.{Throughout, Unchanged, OnlyReads, RoseAtMost, CallsAtMost, Jointly}
 
 -- a crash at the moment that is now leaves what it may leave now, and nothing else
 abbrev pub OnlyNow : DiskView → Type 0
@@ -43,7 +43,13 @@ one_call Touched P old new time elsewhere places only_old only_new before after 
   places = places;
 }
 
--- one call that creates or writes
+-- one call that makes a file
+pub one_making : (f : FileId) (P : Image → Type 0) (old new : DiskView) → OneMaking f old new → OnlyNow old → OnlyNow new
+    → ((image : Image) → IsCrashImage old image → P image) → ((image : Image) → IsCrashImage new image → P image) → Throughout (λ g. g ≡ f) P old new
+one_making f P old new making only_old only_new before after =
+    one_call (λ g. g ≡ f) P old new making.time making.elsewhere making.places only_old only_new before after
+
+-- one call that writes
 pub one_write : (f : FileId) (P : Image → Type 0) (old new : DiskView) → OneWrite f old new → OnlyNow old → OnlyNow new
     → ((image : Image) → IsCrashImage old image → P image) → ((image : Image) → IsCrashImage new image → P image) → Throughout (λ g. g ≡ f) P old new
 one_write f P old new write only_old only_new before after =
@@ -100,7 +106,7 @@ quiet_unchanged old new quiet time places only_old only_new =
 
 -- one call that reads
 pub one_read : (old new : DiskView) → OneRead old new → OnlyNow old → OnlyNow new → OnlyReads old new
-one_read old new read only_old only_new = record { unchanged = quiet_unchanged old new read.quiet read.time read.places only_old only_new; syncs = read.syncs }
+one_read old new read only_old only_new = record { unchanged = quiet_unchanged old new read.quiet read.time read.places only_old only_new; counts = read.counts }
 
 -- one call that syncs
 pub one_sync : (f : FileId) (old new : DiskView) → OneSync f old new → OnlyNow old → OnlyNow new → Unchanged old new
@@ -114,7 +120,10 @@ unchanged_trans old mid new first second = followed (λ _. ⊥) (λ _. Unit {0})
 pub reads_trans : (old mid new : DiskView) → OnlyReads old mid → OnlyReads mid new → OnlyReads old new
 reads_trans old mid new first second = record {
   unchanged = unchanged_trans old mid new first.unchanged second.unchanged;
-  syncs = λ f. second.syncs f ∙ first.syncs f;
+  counts = record {
+    writes = λ f. second.counts.writes f ∙ first.counts.writes f;
+    syncs = λ f. second.counts.syncs f ∙ first.counts.syncs f;
+  };
 }
 
 -- where nothing is touched, each moment has what could be left at first
@@ -204,18 +213,71 @@ cause_widened Own Wider failed wider old new more fails cause = record {
   risen = λ is. let r : (g : FileId) × Own g × HasRisen (old.faults g) (new.faults g) = cause.risen (fails is) in (r.0, more r.0 r.1, r.2);
 }
 
--- some calls that sync each of these files at most so often, and then others
-pub syncs_trans : (m n : ℕ) (Own : FileId → Type 0) (old mid new : DiskView) → SyncsAtMost m Own old mid → SyncsAtMost n Own mid new → SyncsAtMost (m + n) Own old new
-syncs_trans m n Own old mid new first second = record {
+-- a count that rose by so much at most, and then by so much more at most
+pub rose_trans : (m n : ℕ) (Own : FileId → Type 0) (old mid new : FileId → ℕ) → RoseAtMost m Own old mid → RoseAtMost n Own mid new → RoseAtMost (m + n) Own old new
+rose_trans m n Own old mid new first second = record {
+  never_fell = λ f. omega (arith, first.never_fell f, second.never_fell f);
   own = λ f is. omega (arith, first.own f is, second.own f is);
   others = λ f other. second.others f other ∙ first.others f other;
 }
 
--- calls that sync nothing sync each file at most so often
-pub unsynced_at_most : (n : ℕ) (Own : FileId → Type 0) (old new : DiskView) → Unsynced old new → SyncsAtMost n Own old new
-unsynced_at_most n Own old new unsynced = record {
-  own = λ f is. omega (arith, unsynced f);
-  others = λ f other. unsynced f;
+-- a count that stayed rose by so much at most
+pub stayed_rose : (n : ℕ) (Own : FileId → Type 0) (old new : FileId → ℕ) → ((f : FileId) → new f ≡ old f) → RoseAtMost n Own old new
+stayed_rose n Own old new same = record {
+  never_fell = λ f. omega (arith, same f);
+  own = λ f is. omega (arith, same f);
+  others = λ f other. same f;
+}
+
+-- a count that rose by nothing stayed, where the files can be told apart
+pub rose_nothing : (Own : FileId → Type 0) (old new : FileId → ℕ) → ((f : FileId) → Own f ⊎ (Own f → ⊥)) → RoseAtMost 0 Own old new → (f : FileId) → new f ≡ old f
+rose_nothing Own old new either rose f = elim (either f) [
+  | inl own ↦ omega (arith, rose.own f own, rose.never_fell f)
+  | inr other ↦ rose.others f other
+]
+
+-- by more at most
+pub rose_more : (m n : ℕ) (Own : FileId → Type 0) (old new : FileId → ℕ) → m ≤ n → RoseAtMost m Own old new → RoseAtMost n Own old new
+rose_more m n Own old new more rose = record {
+  never_fell = rose.never_fell;
+  own = λ f is. omega (arith, more, rose.own f is);
+  others = rose.others;
+}
+
+-- a count that rose for one file by one at most
+pub rose_of_one : (f : FileId) (old new : FileId → ℕ) → RoseByOne f old new → RoseAtMost 1 (λ g. g ≡ f) old new
+rose_of_one f old new rose = record {
+  never_fell = rose.never_fell;
+  own = λ g is. subst (λ (h : FileId). new h ≤ old h + 1) (sym is) rose.at_most;
+  others = rose.others;
+}
+
+-- some calls, each file written and synced so often at most, and then others
+pub calls_trans : (m n p q : ℕ) (Own : FileId → Type 0) (old mid new : DiskView) → CallsAtMost m n Own old mid → CallsAtMost p q Own mid new → CallsAtMost (m + p) (n + q) Own old new
+calls_trans m n p q Own old mid new first second = record {
+  writes = rose_trans m p Own old.writes mid.writes new.writes first.writes second.writes;
+  syncs = rose_trans n q Own old.syncs mid.syncs new.syncs first.syncs second.syncs;
+}
+
+-- calls that write and sync nothing do so for each file so often at most
+pub uncounted_at_most : (m n : ℕ) (Own : FileId → Type 0) (old new : DiskView) → Uncounted old new → CallsAtMost m n Own old new
+uncounted_at_most m n Own old new none = record {
+  writes = stayed_rose m Own old.writes new.writes none.writes;
+  syncs = stayed_rose n Own old.syncs new.syncs none.syncs;
+}
+
+-- one write
+pub write_calls : (f : FileId) (old new : DiskView) → OneWrite f old new → CallsAtMost 1 0 (λ g. g ≡ f) old new
+write_calls f old new write = record {
+  writes = rose_of_one f old.writes new.writes write.writes;
+  syncs = stayed_rose 0 (λ g. g ≡ f) old.syncs new.syncs write.syncs;
+}
+
+-- one sync
+pub sync_calls : (f : FileId) (old new : DiskView) → OneSync f old new → CallsAtMost 0 1 (λ g. g ≡ f) old new
+sync_calls f old new sync = record {
+  writes = stayed_rose 0 (λ g. g ≡ f) old.writes new.writes sync.writes;
+  syncs = rose_of_one f old.syncs new.syncs sync.syncs;
 }
 
 -- what follows from what an answer says at Ok is so at Ok

@@ -1,3 +1,4 @@
+pub mod Same
 pub mod Composition
 pub mod Tearing
 pub mod MemoryLemmas

@@ -1,5 +1,4 @@
 -- The disk in memory.
-pub mod Same
 pub mod Found
 pub mod Past
 pub mod Noting

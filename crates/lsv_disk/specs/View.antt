@@ -25,7 +25,9 @@ pub record DiskView : Type 1 where
   pub crash_images_at : ℕ → Image → Type 0
   -- how often calls on a file have failed
   pub faults : FileId → ℕ
-  -- how often `sync` was called on a file
+  -- how often a file was written by `write_at`, well or not
+  pub writes : FileId → ℕ
+  -- how often a file was synced
   pub syncs : FileId → ℕ
   -- the places that the disk was given, where it was given some
   pub places : Option Places
@@ -63,40 +65,54 @@ pub record Quiet (old new : DiskView) : Type 0 where
   pub same : (file : FileId) → new.reads file ≡ old.reads file
   pub crash : (file : FileId) (c : Option (List ℕ)) → new.crash_states file c → old.crash_states file c
 
--- `sync` was called on no file
-abbrev pub Unsynced : DiskView → DiskView → Type 0
-Unsynced old new = (file : FileId) → new.syncs file ≡ old.syncs file
+-- no file was written, and none was synced
+pub record Uncounted (old new : DiskView) : Type 0 where
+  pub writes : (file : FileId) → new.writes file ≡ old.writes file
+  pub syncs : (file : FileId) → new.syncs file ≡ old.syncs file
 
--- one call that changes no file and syncs none
+-- one call that changes, writes and syncs no file
 pub record OneRead (old new : DiskView) : Type 0 where
   pub quiet : Quiet old new
   pub time : Elapses old new
-  pub syncs : Unsynced old new
+  pub counts : Uncounted old new
   pub places : new.places ≡ old.places
 
--- one call that touches this file alone and syncs none
+-- one call that makes this file, or fails to; it touches no other, and writes and syncs none
+pub record OneMaking (f : FileId) (old new : DiskView) : Type 0 where
+  pub elsewhere : Elsewhere (λ g. g ≡ f) old new
+  pub time : Elapses old new
+  pub counts : Uncounted old new
+  pub places : new.places ≡ old.places
+
+-- a count rose for this file by one at most, and for no other, and fell for none
+pub record RoseByOne (f : FileId) (old new : FileId → ℕ) : Type 0 where
+  pub never_fell : (g : FileId) → old g ≤ new g
+  pub at_most : new f ≤ old f + 1
+  pub others : (g : FileId) → g ≢ f → new g ≡ old g
+
+-- one call that touches this file alone, writes it once at most, and syncs none
 pub record OneWrite (f : FileId) (old new : DiskView) : Type 0 where
   pub elsewhere : Elsewhere (λ g. g ≡ f) old new
   pub time : Elapses old new
-  pub syncs : Unsynced old new
+  pub writes : RoseByOne f old.writes new.writes
+  pub syncs : (g : FileId) → new.syncs g ≡ old.syncs g
   pub places : new.places ≡ old.places
 
--- one call that changes no file and syncs this one, at most once
+-- one call that changes and writes no file, and syncs this one at most once
 pub record OneSync (f : FileId) (old new : DiskView) : Type 0 where
   pub quiet : Quiet old new
   pub time : Elapses old new
-  pub at_least : old.syncs f ≤ new.syncs f
-  pub at_most : new.syncs f ≤ old.syncs f + 1
-  pub others : (g : FileId) → g ≢ f → new.syncs g ≡ old.syncs g
+  pub writes : (g : FileId) → new.writes g ≡ old.writes g
+  pub syncs : RoseByOne f old.syncs new.syncs
   pub places : new.places ≡ old.places
 
--- of the files, the moment and the syncs nothing is otherwise
+-- of the files, the moment and the counts nothing is otherwise
 pub record IsUntouched (old new : DiskView) : Type 0 where
   pub quiet : Quiet old new
   pub moment : new.moment ≡ old.moment
   pub past : (k : ℕ) (image : Image) → new.crash_images_at k image → old.crash_images_at k image
   pub keeps : (k : ℕ) (image : Image) → old.crash_images_at k image → new.crash_images_at k image
-  pub syncs : Unsynced old new
+  pub counts : Uncounted old new
 
 -- no count of faults fell, and where the call failed that of this file rose
 pub record HasCause (f : FileId) (failed : Type 0) (old new : DiskView) : Type 0 where

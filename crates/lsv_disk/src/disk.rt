@@ -3,7 +3,7 @@ ghost use Rattle.lsv_words.specs.Pieces.{piece};
 ghost use Rattle.lsv_disk.specs.declared.file.FileId.{FileId};
 ghost use Rattle.lsv_disk.specs.Files.{AreDistinct, IsOneOf};
 ghost use Rattle.lsv_disk.specs.Bytes.{written, bytes_of, size_of, Reaches, Torn};
-ghost use Rattle.lsv_disk.specs.View.{Image, DiskView, IsCrashImage, IsSynced, Follows, OneRead, OneWrite, OneSync, Unsynced, IsUntouched, HasCause, HasOwnCause};
+ghost use Rattle.lsv_disk.specs.View.{Image, DiskView, IsCrashImage, IsSynced, Follows, OneRead, OneMaking, OneWrite, OneSync, Uncounted, IsUntouched, HasCause, HasOwnCause};
 ghost use Rattle.lsv_disk.specs.Throughout.{Throughout};
 
 use crate::{FileId, Owner, Part};
@@ -36,7 +36,7 @@ pub trait Disk {
         ensures durable { tells → OnOk result (IsSynced (view self.new) f) }
         ensures failed { tells → OnErr result (((view self.new).reads f ≡ None) ⊎ ((view self.new).reads f ≡ Some [])) }
         ensures crash { tells → (c : Option (List ℕ)) → (view self.new).crash_states f c → (view self.old).crash_states f c ⊎ (c ≡ Some []) }
-        ensures frame { tells → OneWrite f (view self.old) (view self.new) }
+        ensures frame { tells → OneMaking f (view self.old) (view self.new) }
         ensures cause { HasCause f (IsErr result) (view self.old) (view self.new) };
 
     /// Makes several empty files of one owner, together. At Ok a crash leaves all of them there; else each is there
@@ -50,7 +50,7 @@ pub trait Disk {
         ensures any_moment { tells → Throughout (IsOneOf owner parts.now)
             (λ image. (f : FileId) → IsOneOf owner parts.now f → (view self.old).crash_states f (image f) ⊎ (image f ≡ Some []))
             (view self.old) (view self.new) }
-        ensures unsynced { tells → Unsynced (view self.old) (view self.new) }
+        ensures counts { tells → Uncounted (view self.old) (view self.new) }
         ensures cause { HasOwnCause (IsOneOf owner parts.now) (IsErr result) (view self.old) (view self.new) };
 
     /// How many bytes the file has, None where it is absent.
@@ -74,6 +74,7 @@ pub trait Disk {
         ensures written { tells → OnOk result ((view self.new).reads f ≡ written at bytes.now ((view self.old).reads f)) }
         ensures torn { tells → Torn at (length bytes.now) ((view self.old).reads f) ((view self.new).reads f) }
         ensures crash { tells → Follows (Torn at (length bytes.now)) ((view self.old).crash_states f) ((view self.new).crash_states f) }
+        ensures counted { tells → OnOk result ((view self.new).writes f ≡ (view self.old).writes f + 1) }
         ensures frame { tells → OneWrite f (view self.old) (view self.new) }
         ensures cause { HasCause f (IsErr result) (view self.old) (view self.new) };
 

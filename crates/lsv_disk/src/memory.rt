@@ -46,7 +46,7 @@ pub struct MemDisk {
 }
 
 impl MemDisk {
-    ghost use Rattle.lsv_disk.specs.Memory.Value.{refusals, failing, SameSettings, asked, next_number, NextFails, image_by, IsLeftOf};
+    ghost use Rattle.lsv_disk.specs.Memory.Value.{refusals, failing, asked, next_number, AskedOnce, AskedNone, SameBesideNumber, SameCalls, SameBesideCalls, NextFails, image_by, IsLeftOf};
     ghost use Rattle.lsv_disk.specs.View.{IsCrashImage};
     ghost use Rattle.lsv_disk.specs.Memory.Images.{may_make, AreHeld};
 
@@ -75,6 +75,7 @@ impl MemDisk {
         ensures durable { IfOk result (λ d. (f : FileId) → Only None ((⟦<MemDisk as Disk>⟧.view d).crash_states f)) }
         ensures moment { IfOk result (λ d. (⟦<MemDisk as Disk>⟧.view d).moment ≡ 0) }
         ensures faults { IfOk result (λ d. (f : FileId) → (⟦<MemDisk as Disk>⟧.view d).faults f ≡ 0) }
+        ensures writes { IfOk result (λ d. (f : FileId) → (⟦<MemDisk as Disk>⟧.view d).writes f ≡ 0) }
         ensures syncs { IfOk result (λ d. (f : FileId) → (⟦<MemDisk as Disk>⟧.view d).syncs f ≡ 0) }
         ensures refused { IfOk result (λ d. refusals d ≡ 0) }
         ensures failing { IfOk result (λ d. failing d ≡ fail.now) }
@@ -89,9 +90,7 @@ impl MemDisk {
         ensures held { OnOk result (AreHeld self.new.calls.items) }
         ensures here { OnOk result (reads_of self.new.calls.items call.now.file ≡ (if may_make call.now.effect then option_or (reads_of self.old.calls.items call.now.file) (content_of left.now call.now.file) else reads_of self.old.calls.items call.now.file)) }
         ensures others { OnOk result ((g : FileId) → g ≢ call.now.file → reads_of self.new.calls.items g ≡ reads_of self.old.calls.items g) }
-        ensures refused { self.new.refused ≡ self.old.refused }
-        ensures number { asked self.new ≡ asked self.old }
-        ensures settings { SameSettings self.old self.new }
+        ensures same { SameBesideCalls self.old self.new }
     {
         if !call.effect.may_make() || content(&self.files, call.file).is_some() {
             return Ok(());
@@ -109,6 +108,7 @@ impl MemDisk {
         ensures content { IfOk result (λ d. (f : FileId) → (⟦<MemDisk as Disk>⟧.view d).reads f ≡ image_by fill self.now f) }
         ensures durable { IfOk result (λ d. (f : FileId) → Only ((⟦<MemDisk as Disk>⟧.view d).reads f) ((⟦<MemDisk as Disk>⟧.view d).crash_states f)) }
         ensures faults { IfOk result (λ d. (f : FileId) → (⟦<MemDisk as Disk>⟧.view d).faults f ≡ 0) }
+        ensures writes { IfOk result (λ d. (f : FileId) → (⟦<MemDisk as Disk>⟧.view d).writes f ≡ 0) }
         ensures syncs { IfOk result (λ d. (f : FileId) → (⟦<MemDisk as Disk>⟧.view d).syncs f ≡ 0) }
         ensures refused { IfOk result (λ d. refusals d ≡ 0) }
         ensures failing { IfOk result (λ d. failing d ≡ []) }
@@ -160,10 +160,7 @@ impl MemDisk {
     fn next_fails(&mut self) -> bool
         ensures listed { IsTrue result ↔ NextFails self.old }
         ensures number { asked self.new ≡ next_number self.old }
-        ensures settings { SameSettings self.old self.new }
-        ensures calls { self.new.calls ≡ self.old.calls }
-        ensures files { self.new.files ≡ self.old.files }
-        ensures refused { self.new.refused ≡ self.old.refused }
+        ensures same { SameBesideNumber self.old self.new }
     {
         self.asked = self.asked.saturating_add(1);
         self.listed.contains(&self.asked)
@@ -171,11 +168,9 @@ impl MemDisk {
 
     /// Memory was wanting for a call.
     fn refuse(&mut self) -> DiskFault
-        ensures calls { self.new.calls ≡ self.old.calls }
         ensures risen { self.old.refused ≤ self.new.refused }
         ensures rose { HasRisen self.old.refused self.new.refused }
-        ensures number { asked self.new ≡ asked self.old }
-        ensures settings { SameSettings self.old self.new }
+        ensures same { SameCalls self.old self.new }
     {
         self.refused = self.refused.saturating_add(1);
         DiskFault
@@ -187,8 +182,7 @@ impl MemDisk {
         requires legal { is_legal (effect ∷ past_of self.old.calls.items file) ≡ is_legal (past_of self.old.calls.items file) }
         ensures ok { OnOk result (Noted self.old.calls.items self.new.calls.items file effect × (self.new.refused ≡ self.old.refused)) }
         ensures err { OnErr result ((self.new.calls.items ≡ self.old.calls.items) × (self.old.refused ≤ self.new.refused) × HasRisen self.old.refused self.new.refused) }
-        ensures number { asked self.new ≡ asked self.old }
-        ensures settings { SameSettings self.old self.new }
+        ensures same { AskedNone self.old self.new }
     {
         match self.calls.push(Call { file, effect }) {
             Ok(()) => Ok(()),
@@ -201,8 +195,7 @@ impl MemDisk {
         requires quiet { (past : List Effect) → reads_after (effect ∷ past) ≡ reads_after past }
         requires legal { is_legal (effect ∷ past_of self.old.calls.items file) ≡ is_legal (past_of self.old.calls.items file) }
         ensures failed { Failed self.old.calls.items self.new.calls.items file effect self.old.refused self.new.refused }
-        ensures number { asked self.new ≡ asked self.old }
-        ensures settings { SameSettings self.old self.new }
+        ensures same { AskedNone self.old self.new }
     {
         let _ = self.note(file, effect);
         DiskFault
@@ -214,8 +207,7 @@ impl MemDisk {
         ensures err { OnErr result (Failed self.old.calls.items self.new.calls.items f NotMade self.old.refused self.new.refused) }
         ensures listed { NextFails self.old → IsErr result }
         ensures wanting { OnErr result (NextFails self.old ⊎ HasRisen (refusals self.old) (refusals self.new)) }
-        ensures number { asked self.new ≡ next_number self.old }
-        ensures settings { SameSettings self.old self.new }
+        ensures asked { AskedOnce self.old self.new }
     {
         if self.next_fails() {
             return Err(self.fail(f, Effect::NotMade));
@@ -233,8 +225,7 @@ impl MemDisk {
         ensures err { OnErr result (Failed self.old.calls.items self.new.calls.items f NotRead self.old.refused self.new.refused) }
         ensures listed { NextFails self.old → IsErr result }
         ensures listed_alone { OnErr result (NextFails self.old) }
-        ensures number { asked self.new ≡ next_number self.old }
-        ensures settings { SameSettings self.old self.new }
+        ensures asked { AskedOnce self.old self.new }
     {
         if self.next_fails() {
             return Err(self.fail(f, Effect::NotRead));
@@ -251,8 +242,7 @@ impl MemDisk {
         ensures err { OnErr result (Failed self.old.calls.items self.new.calls.items f (NotWritten at (length bytes.now)) self.old.refused self.new.refused) }
         ensures listed { NextFails self.old → IsErr result }
         ensures wanting { OnErr result (NextFails self.old ⊎ HasRisen (refusals self.old) (refusals self.new)) }
-        ensures number { asked self.new ≡ next_number self.old }
-        ensures settings { SameSettings self.old self.new }
+        ensures asked { AskedOnce self.old self.new }
     {
         if self.next_fails() {
             return Err(self.fail(f, Effect::NotWritten(at, bytes.len())));
@@ -268,8 +258,7 @@ impl MemDisk {
         ensures err { OnErr result (Failed self.old.calls.items self.new.calls.items f NotSynced self.old.refused self.new.refused) }
         ensures listed { NextFails self.old → IsErr result }
         ensures wanting { OnErr result (NextFails self.old ⊎ HasRisen (refusals self.old) (refusals self.new)) }
-        ensures number { asked self.new ≡ next_number self.old }
-        ensures settings { SameSettings self.old self.new }
+        ensures asked { AskedOnce self.old self.new }
     {
         if self.next_fails() {
             return Err(self.fail(f, Effect::NotSynced));

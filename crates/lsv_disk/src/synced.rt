@@ -2,7 +2,7 @@ ghost use Rattle.std.specs.Prelude.{◌≡◌, ℕ, ◌+◌, ◌<◌, ◌^◌, l
 ghost use Rattle.lsv_disk.specs.declared.file.FileId.{FileId};
 ghost use Rattle.lsv_disk.specs.Bytes.{written, Reaches, Torn};
 ghost use Rattle.lsv_disk.specs.View.{IsSynced, HasCause};
-ghost use Rattle.lsv_disk.specs.Throughout.{Throughout, SyncsAtMost};
+ghost use Rattle.lsv_disk.specs.Throughout.{Throughout, CallsAtMost};
 
 use crate::{Disk, DiskFault, FileId};
 
@@ -20,7 +20,7 @@ pub fn write_synced<D: Disk>(
     ensures written { D.tells → OnOk result ((D.view disk.new).reads f ≡ written at bytes.now ((D.view disk.old).reads f)) }
     ensures durable { D.tells → OnOk result (IsSynced (D.view disk.new) f) }
     ensures any_moment { D.tells → Throughout (λ g. g ≡ f) (λ image. Torn at (length bytes.now) ((D.view disk.old).reads f) (image f)) (D.view disk.old) (D.view disk.new) }
-    ensures syncs { D.tells → SyncsAtMost 1 (λ g. g ≡ f) (D.view disk.old) (D.view disk.new) }
+    ensures calls { D.tells → CallsAtMost 1 1 (λ g. g ≡ f) (D.view disk.old) (D.view disk.new) }
     ensures synced { D.tells → OnOk result ((D.view disk.new).syncs f ≡ (D.view disk.old).syncs f + 1) }
     ensures cause { HasCause f (IsErr result) (D.view disk.old) (D.view disk.new) }
 {

@@ -1,6 +1,6 @@
 ghost use Rattle.std.specs.Prelude.{◌≡◌, ℕ, ◌≤◌};
 ghost use Rattle.lsv_disk.specs.declared.file.FileId.{FileId};
-ghost use Rattle.lsv_disk.specs.View.{Image, IsCrashImage, Elsewhere, OneRead, OneWrite, OneSync};
+ghost use Rattle.lsv_disk.specs.View.{Image, IsCrashImage, Elsewhere, OneRead, OneMaking, OneWrite, OneSync};
 ghost use Rattle.lsv_disk.specs.Throughout.{Throughout, Unchanged, OnlyReads, Jointly};
 
 use crate::Disk;
@@ -19,6 +19,9 @@ pub trait Claim {
 /// said of each crash image of a moment is said of the moment's images together, and the other way round.
 pub fn throughout_composes<D: Disk, C: Claim>(old: &D, mid: &D, new: &D, claim: PhantomData<C>)
     ensures started { D.tells → ((image : Image) → IsCrashImage (D.view old.now) image → C.holds image) → Throughout C.touched C.holds (D.view old.now) (D.view old.now) }
+    ensures one_making { (f : FileId) → D.tells → OneMaking f (D.view old.now) (D.view new.now)
+        → ((image : Image) → IsCrashImage (D.view old.now) image → C.holds image) → ((image : Image) → IsCrashImage (D.view new.now) image → C.holds image)
+        → Throughout (λ g. g ≡ f) C.holds (D.view old.now) (D.view new.now) }
     ensures one_write { (f : FileId) → D.tells → OneWrite f (D.view old.now) (D.view new.now)
         → ((image : Image) → IsCrashImage (D.view old.now) image → C.holds image) → ((image : Image) → IsCrashImage (D.view new.now) image → C.holds image)
         → Throughout (λ g. g ≡ f) C.holds (D.view old.now) (D.view new.now) }

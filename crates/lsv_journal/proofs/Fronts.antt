@@ -113,7 +113,7 @@ whole_past n end bytes to past = to.1 ∙ ap (place n) (sym (count_is n bytes to
 
 -- no call
 pub reads_none : (disk : DiskView) → OnlyNow disk → OnlyReads disk disk
-reads_none disk only_now = record { unchanged = started (λ _. ⊥) (λ _. Unit {0}) disk only_now (λ _ _. tt); syncs = λ f. refl }
+reads_none disk only_now = record { unchanged = started (λ _. ⊥) (λ _. Unit {0}) disk only_now (λ _ _. tt); counts = record { writes = λ f. refl; syncs = λ f. refl } }
 
 -- calls that read, and one more
 pub reads_more : (old mid new : DiskView) → OnlyNow mid → OnlyNow new → OnlyReads old mid → OneRead mid new → OnlyReads old new

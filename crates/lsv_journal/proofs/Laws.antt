@@ -9,7 +9,7 @@ use Rattle.lsv_journal.specs.declared.journal.Journal.{Journal}
 use Rattle.lsv_journal.specs.Slots.{entry_of}
 use Rattle.lsv_journal.specs.Last.{old_file, last_gated, IsOwn, IsAbsent, LastAt, JournalHolds, MayBeMade}
 use Rattle.lsv_journal.specs.Represents.{Stands, IsPrepared, Represents}
-use Rattle.lsv_journal.proofs.Same.{same_is, same_itself}
+use Rattle.lsv_disk.proofs.Same.{same_is, same_itself}
 use Rattle.lsv_journal.proofs.Appending as Appending
 use Rattle.lsv_journal.proofs.Words as Words
 

@@ -5,6 +5,5 @@ pub mod Overwriting
 pub mod Writing
 pub mod Appending
 pub mod Making
-pub mod Same
 pub mod Words
 pub mod Laws

@@ -2,9 +2,9 @@
 use Rattle.std.proofs.Common.{◌≡◌, ◌≢◌, ◌⊎◌, inl, inr, ℕ, ◌<◌, ◌≤◌, List, [], ◌∷◌, length, get_or, Option, Some, None, refl, sym, ◌∙◌, ap, subst, arith}
 use Rattle.lsv_disk.specs.declared.file.FileId.{FileId}
 use Rattle.lsv_disk.specs.Bytes.{overwritten, written, bytes_of, Reaches, Torn, TornBytes}
-use Rattle.lsv_disk.specs.View.{Image, DiskView, IsCrashImage, OneRead, OneWrite, OneSync}
+use Rattle.lsv_disk.specs.View.{Image, DiskView, IsCrashImage, OneRead, OneMaking, OneSync}
 use Rattle.lsv_disk.specs.Throughout.{Throughout, Unchanged}
-use Rattle.lsv_disk.proofs.Composition.{OnlyNow, one_write, followed, widened, one_sync, one_read, unchanged_trans, unchanged_throughout, unchanged_reads}
+use Rattle.lsv_disk.proofs.Composition.{OnlyNow, one_making, followed, widened, one_sync, one_read, unchanged_trans, unchanged_throughout, unchanged_reads}
 use Rattle.lsv_journal.specs.Slots.{entry_of}
 use Rattle.lsv_journal.specs.Represents.{Stands}
 use Rattle.lsv_journal.specs.Reading.{IsEmptyOrAsBefore}
@@ -83,12 +83,12 @@ module _ (n : ℕ) (f : FileId) where
         (torn_bytes 0 1 (old.reads f) (new.reads f) (reads_of_run (λ g. g ≡ f) (λ image. Torn 0 1 (old.reads f) (image f)) old new itself now run))
 
   -- the making of an absent file
-  pub create_run : (old new : DiskView) → OnlyNow old → OnlyNow new → ((c : Option (List ℕ)) → new.crash_states f c → old.crash_states f c ⊎ (c ≡ Some [])) → OneWrite f old new → Throughout (λ g. g ≡ f) (May old) old new
-  create_run old new only_old only_new crash write = one_write f (May old) old new write only_old only_new (λ image is. inl (is f))
+  pub create_run : (old new : DiskView) → OnlyNow old → OnlyNow new → ((c : Option (List ℕ)) → new.crash_states f c → old.crash_states f c ⊎ (c ≡ Some [])) → OneMaking f old new → Throughout (λ g. g ≡ f) (May old) old new
+  create_run old new only_old only_new crash write = one_making f (May old) old new write only_old only_new (λ image is. inl (is f))
       (λ image is. elim (crash (image f) (is f)) [ inl was ↦ inl was | inr made ↦ inr (short_file n (image f) (inr made)) ])
 
   -- and the closing of its gate
-  pub made_run : (old mid new : DiskView) → OnlyNow old → OnlyNow mid → ((c : Option (List ℕ)) → mid.crash_states f c → old.crash_states f c ⊎ (c ≡ Some [])) → OneWrite f old mid → mid.reads f ≡ Some []
+  pub made_run : (old mid new : DiskView) → OnlyNow old → OnlyNow mid → ((c : Option (List ℕ)) → mid.crash_states f c → old.crash_states f c ⊎ (c ≡ Some [])) → OneMaking f old mid → mid.reads f ≡ Some []
       → Throughout (λ g. g ≡ f) (λ image. Torn 0 1 (mid.reads f) (image f)) mid new → Throughout (λ g. g ≡ f) (May old) old new
   made_run old mid new only_old only_mid crash write made run = followed (λ g. g ≡ f) (May old) old mid new (create_run old mid only_old only_mid crash write)
       (widened (λ g. g ≡ f) (λ g. g ≡ f) (May mid) (May old) mid new (λ g own. own)

@@ -7,21 +7,21 @@ use Rattle.lsv_words.specs.Causes.{HasRisen}
 use Rattle.lsv_disk.specs.declared.file.FileId.{FileId}
 use Rattle.lsv_disk.specs.declared.file.Part.TheVariants.{Commit, Slots}
 use Rattle.lsv_disk.specs.Bytes.{bytes_of, size_of}
-use Rattle.lsv_disk.specs.View.{Image, DiskView, IsCrashImage, IsSynced, Elsewhere, OneSync, Unsynced, HasCause, HasOwnCause}
-use Rattle.lsv_disk.specs.Throughout.{Throughout, Unchanged, SyncsAtMost}
-use Rattle.lsv_disk.proofs.Composition.{followed, widened, unchanged_throughout, unchanged_reads, cause_of_file, syncs_trans, unsynced_at_most}
+use Rattle.lsv_disk.specs.View.{Image, DiskView, IsCrashImage, IsSynced, Elsewhere, Uncounted, RoseByOne, OneSync, HasCause, HasOwnCause}
+use Rattle.lsv_disk.specs.Throughout.{Throughout, Unchanged, RoseAtMost, CallsAtMost, WritesOneOf}
+use Rattle.lsv_disk.proofs.Composition.{followed, widened, unchanged_throughout, unchanged_reads, cause_of_file, rose_nothing, rose_trans, rose_more, stayed_rose, rose_of_one}
 use Rattle.lsv_journal.specs.declared.slot.Slot.{Slot}
 use Rattle.lsv_journal.specs.declared.slot.Slot.TheVariants.{First, Second}
 use Rattle.lsv_journal.specs.declared.journal.Journal.{Journal}
 use Rattle.lsv_journal.specs.Slots.{entry_of}
-use Rattle.lsv_journal.specs.Last.{old_file, IsOwn, IsAbsent, slots_last, last_gated, LastAt, JournalHolds, IsBeforeOrAfter, SameJournal, IsSomeCrashOf, HasNoOldEntry, MayBeMade, KeepsSelected, SelectsSame, IsNoLonger}
+use Rattle.lsv_journal.specs.Last.{old_file, IsOwn, IsAbsent, slots_last, last_gated, LastAt, JournalHolds, IsBeforeOrAfter, SameJournal, IsSomeCrashOf, HasSlotsEntry, HasNoOldEntry, MayBeMade, KeepsSelected, SelectsSame, IsNoLonger}
 use Rattle.lsv_journal.specs.Represents.{free, IsReady, IsPrepared, Represents}
 use Rattle.lsv_journal.specs.Reading.{IsEmptyOrAsBefore}
 use Rattle.lsv_journal.specs.Writing.{Keeps, Selects}
 use Rattle.lsv_journal.proofs.Slots.{empty_none}
 use Rattle.lsv_journal.proofs.Counting.{count_short}
 use Rattle.lsv_journal.proofs.Appending.{reads_of_run}
-use Rattle.lsv_journal.proofs.Same.{same_or_other}
+use Rattle.lsv_disk.proofs.Same.{same_or_other}
 
 -- an answer that isn't an error is one that is Ok
 pub ok_of : {T E : Type 0} (r : Result T E) (P : Type 0) → is_err r ≡ false → OnOk r P → P
@@ -54,14 +54,15 @@ own_cause f failed old new cause = cause_of_file (IsOwn f) f failed old new (own
 pub old_cause : (f : FileId) (failed : Type 0) (old new : DiskView) → HasCause (old_file f) failed old new → HasOwnCause (IsOwn f) failed old new
 old_cause f failed old new cause = cause_of_file (IsOwn f) (old_file f) failed old new (own_old f) cause
 
--- syncs of the file alone are ones of its own files
-pub own_syncs : (n : ℕ) (f : FileId) (old new : DiskView) → f.part ≡ Slots → SyncsAtMost n (λ g. g ≡ f) old new → SyncsAtMost n (IsOwn f) old new
-own_syncs n f old new slots syncs = record {
+-- a count that rose for the file alone rose for its own files alone
+pub own_rose : (n : ℕ) (f : FileId) (old new : FileId → ℕ) → f.part ≡ Slots → RoseAtMost n (λ g. g ≡ f) old new → RoseAtMost n (IsOwn f) old new
+own_rose n f old new slots rose = record {
+  never_fell = rose.never_fell;
   own = λ g own. elim (own_cases f g own) [
-    | inl is ↦ syncs.own g is
-    | inr is ↦ let e : new.syncs g ≡ old.syncs g = syncs.others g (λ same. old_other f slots (sym is ∙ same)) in omega (arith, e)
+    | inl is ↦ rose.own g is
+    | inr is ↦ let e : new g ≡ old g = rose.others g (λ same. old_other f slots (sym is ∙ same)) in omega (arith, e)
   ];
-  others = λ g other. syncs.others g (λ is. other (subst (λ (h : FileId). IsOwn f h) (sym is) (own_itself f)));
+  others = λ g other. rose.others g (λ is. other (subst (λ (h : FileId). IsOwn f h) (sym is) (own_itself f)));
 }
 
 -- the last entry, by what its files hold
@@ -295,29 +296,36 @@ no_size (Some bytes) is = absurd (let none : ⊥ = cc in none)
 pub own_by : (f g : FileId) → g ≡ old_file f → IsOwn f g
 own_by f g is = subst (λ (h : FileId). IsOwn f h) (sym is) (own_old f)
 
--- one sync, and one of each file
-pub one_sync_syncs : (f : FileId) (old new : DiskView) → OneSync f old new → SyncsAtMost 1 (λ g. g ≡ f) old new
-one_sync_syncs f old new sync = record {
-  own = λ g is. subst (λ (h : FileId). new.syncs h ≤ old.syncs h + 1) (sym is) sync.at_most;
-  others = λ g other. sync.others g other;
+-- a sync of the file, and one of each file
+pub sync_calls : (f : FileId) (old new : DiskView) → f.part ≡ Slots → OneSync f old new → CallsAtMost 0 1 (IsOwn f) old new
+sync_calls f old new slots sync = record {
+  writes = stayed_rose 0 (IsOwn f) old.writes new.writes sync.writes;
+  syncs = own_rose 1 f old.syncs new.syncs slots (rose_of_one f old.syncs new.syncs sync.syncs);
 }
 
-pub both_syncs : (f o : FileId) (old mid new : DiskView) → o ≡ old_file f → f.part ≡ Slots → OneSync f old mid → OneSync o mid new → SyncsAtMost 1 (IsOwn f) old new
-both_syncs f o old mid new old_is slots first second = record {
+pub both_rose : (f o : FileId) (old mid new : FileId → ℕ) → o ≡ old_file f → f.part ≡ Slots → RoseByOne f old mid → RoseByOne o mid new → RoseAtMost 1 (IsOwn f) old new
+both_rose f o old mid new old_is slots first second = record {
+  never_fell = λ g. omega (arith, first.never_fell g, second.never_fell g);
   own = λ g own. elim (own_cases f g own) [
     | inl is ↦
-        let a : new.syncs g ≡ mid.syncs g = second.others g (λ same. other (sym (sym is ∙ same))) in
-        let b : mid.syncs g ≤ old.syncs g + 1 = subst (λ (h : FileId). mid.syncs h ≤ old.syncs h + 1) (sym is) first.at_most in
+        let a : new g ≡ mid g = second.others g (λ same. other (sym (sym is ∙ same))) in
+        let b : mid g ≤ old g + 1 = subst (λ (h : FileId). mid h ≤ old h + 1) (sym is) first.at_most in
         omega (arith, a, b)
     | inr is ↦
-        let a : new.syncs g ≤ mid.syncs g + 1 = subst (λ (h : FileId). new.syncs h ≤ mid.syncs h + 1) (old_is ∙ sym is) second.at_most in
-        let b : mid.syncs g ≡ old.syncs g = first.others g (λ same. other (old_is ∙ sym is ∙ same)) in
+        let a : new g ≤ mid g + 1 = subst (λ (h : FileId). new h ≤ mid h + 1) (old_is ∙ sym is) second.at_most in
+        let b : mid g ≡ old g = first.others g (λ same. other (old_is ∙ sym is ∙ same)) in
         omega (arith, a, b)
   ];
   others = λ g apart. second.others g (λ is. apart (own_by f g (is ∙ old_is))) ∙ first.others g (λ is. apart (subst (λ (h : FileId). IsOwn f h) (sym is) (own_itself f)));
 } where
   other : o ≢ f
   other is = old_other f slots (sym old_is ∙ is)
+
+pub both_calls : (f o : FileId) (old mid new : DiskView) → o ≡ old_file f → f.part ≡ Slots → OneSync f old mid → OneSync o mid new → CallsAtMost 0 1 (IsOwn f) old new
+both_calls f o old mid new old_is slots first second = record {
+  writes = stayed_rose 0 (IsOwn f) old.writes new.writes (λ g. second.writes g ∙ first.writes g);
+  syncs = both_rose f o old.syncs mid.syncs new.syncs old_is slots first.syncs second.syncs;
+}
 
 -- what follows from what an answer holds
 pub if_ok_weaker : {T E : Type 0} {P Q : T → Type 0} (r : Result T E) → ((x : T) → P x → Q x) → IfOk r P → IfOk r Q
@@ -330,10 +338,47 @@ pub settled_run : (n : ℕ) (f : FileId) (old mid new : DiskView) → f.part ≡
 settled_run n f old mid new slots synced old_synced unchanged run = followed (λ g. g ≡ f) (JournalHolds n f (LastAt n f old.reads)) old mid new (reads_hold n f old slots synced old_synced mid unchanged)
     (widened (λ g. g ≡ f) (λ g. g ≡ f) (JournalHolds n f (LastAt n f mid.reads)) (JournalHolds n f (LastAt n f old.reads)) mid new (λ g own. own) (λ image holds _. holds ∙ unchanged_last n f old mid unchanged) run)
 
--- the syncs of both files, and then of the slots
-pub opening_syncs : (f : FileId) (old mid done new : DiskView) → f.part ≡ Slots → Unsynced old mid → SyncsAtMost 1 (IsOwn f) mid done → SyncsAtMost 4 (λ g. g ≡ f) done new → SyncsAtMost 5 (IsOwn f) old new
-opening_syncs f old mid done new slots none first second = syncs_trans 0 5 (IsOwn f) old mid new (unsynced_at_most 0 (IsOwn f) old mid none)
-    (syncs_trans 1 4 (IsOwn f) mid done new first (own_syncs 4 f done new slots second))
+-- a file is one of its own, or it isn't
+own_either : (f g : FileId) → IsOwn f g ⊎ (IsOwn f g → ⊥)
+own_either f g = elim (same_or_other g f) [
+  | inl is ↦ inl (subst (λ (h : FileId). IsOwn f h) (sym is) (own_itself f))
+  | inr other ↦ elim (same_or_other g (old_file f)) [
+    | inl is ↦ inl (own_by f g is)
+    | inr apart ↦ inr (λ own. elim (own_cases f g own) [ inl is ↦ other is | inr is ↦ apart is ])
+  ]
+]
+
+-- both files are synced, and then the slots are settled
+module _ (f : FileId) (old mid done new : DiskView) (none : Uncounted old mid) (synced : CallsAtMost 0 1 (IsOwn f) mid done) where
+  before_unwritten : (g : FileId) → done.writes g ≡ old.writes g
+  before_unwritten g = rose_nothing (IsOwn f) mid.writes done.writes (own_either f) synced.writes g ∙ none.writes g
+
+  pub opening_calls : f.part ≡ Slots → CallsAtMost 3 4 (λ g. g ≡ f) done new → WritesOneOf f 3 5 (IsOwn f) old new
+  opening_calls slots settled = record {
+    writes = rose_trans 0 3 (λ g. g ≡ f) old.writes done.writes new.writes (stayed_rose 0 (λ g. g ≡ f) old.writes done.writes before_unwritten) settled.writes;
+    syncs = rose_trans 0 5 (IsOwn f) old.syncs mid.syncs new.syncs (stayed_rose 0 (IsOwn f) old.syncs mid.syncs none.syncs)
+    (rose_trans 1 4 (IsOwn f) mid.syncs done.syncs new.syncs synced.syncs (own_rose 4 f done.syncs new.syncs slots settled.syncs));
+  }
+
+  pub opening_unwritten : (g : FileId) → new.writes g ≡ done.writes g → new.writes g ≡ old.writes g
+  opening_unwritten g settled = settled ∙ before_unwritten g
+
+-- and where they fail to be synced
+pub syncing_calls : (f : FileId) (old mid new : DiskView) → Uncounted old mid → CallsAtMost 0 1 (IsOwn f) mid new → WritesOneOf f 3 5 (IsOwn f) old new
+syncing_calls f old mid new none synced = record {
+  writes = stayed_rose 3 (λ g. g ≡ f) old.writes new.writes (before_unwritten f old mid new new none synced);
+  syncs = rose_more 1 5 (IsOwn f) old.syncs new.syncs (omega arith) (rose_trans 0 1 (IsOwn f) old.syncs mid.syncs new.syncs (stayed_rose 0 (IsOwn f) old.syncs mid.syncs none.syncs) synced.syncs);
+}
+
+-- where the slots have an entry it is found
+pub slots_entry : (n : ℕ) (f : FileId) (image : Image) → HasSlotsEntry n f image → entry_of n (bytes_of (image f)) ≢ None
+unfolding HasSlotsEntry
+slots_entry n f image has = has
+
+-- which no reading changes
+pub entry_stays : (n : ℕ) (f : FileId) (old new : DiskView) → Unchanged old new → HasSlotsEntry n f old.reads → HasSlotsEntry n f new.reads
+unfolding HasSlotsEntry
+entry_stays n f old new unchanged has = subst (λ (c : Option (List ℕ)). entry_of n (bytes_of c) ≢ None) (sym (unchanged_reads old new unchanged f)) has
 
 -- where a synced old file has no entry, none comes to be there
 pub opened_no_old : (n : ℕ) (f : FileId) (mid new : DiskView) → Throughout (λ g. g ≡ f) (JournalHolds n f (LastAt n f mid.reads)) mid new → f.part ≡ Slots → IsSynced mid (old_file f) → LastAt n f mid.reads ≡ None → HasNoOldEntry n f new

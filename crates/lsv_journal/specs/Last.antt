@@ -1,6 +1,6 @@
 -- What a journal holds on an image of the disk, by the name of its file. All that is said of a journal above it is
 -- said in these words.
-use Rattle.std.specs.Prelude.{◌≡◌, ◌⊎◌, ℕ, List, Option, None}
+use Rattle.std.specs.Prelude.{◌≡◌, ◌≢◌, ◌⊎◌, ℕ, List, Option, None}
 use Rattle.std.specs.Option.{option_or}
 use Rattle.lsv_disk.specs.declared.file.FileId.{FileId}
 use Rattle.lsv_disk.specs.declared.file.Part.TheVariants.{Commit}
@@ -53,6 +53,10 @@ SameJournal n f was image = LastAt n f image ≡ LastAt n f was
 -- it has the last entry of some crash image of that disk
 abbrev pub IsSomeCrashOf : ℕ → FileId → DiskView → Image → Type 0
 IsSomeCrashOf n f disk image = (was : Image) × IsCrashImage disk was × SameJournal n f was image
+
+-- its slots have an entry
+unfoldable pub HasSlotsEntry : ℕ → FileId → Image → Type 0
+HasSlotsEntry n f image = slots_last n f image ≢ None
 
 -- its old file has no entry in any crash image
 abbrev pub HasNoOldEntry : ℕ → FileId → DiskView → Type 0

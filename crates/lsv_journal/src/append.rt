@@ -3,7 +3,7 @@ ghost use Rattle.lsv_words.specs.Pieces.{piece};
 ghost use Rattle.lsv_disk.specs.declared.file.FileId.{FileId};
 ghost use Rattle.lsv_disk.specs.Bytes.{bytes_of};
 ghost use Rattle.lsv_disk.specs.View.{IsSynced, HasCause};
-ghost use Rattle.lsv_disk.specs.Throughout.{Throughout, SyncsAtMost};
+ghost use Rattle.lsv_disk.specs.Throughout.{Throughout, CallsAtMost};
 ghost use Rattle.lsv_journal.specs.Slots.{entry_of};
 ghost use Rattle.lsv_journal.specs.Represents.{free, free_slot, Stands, IsReady, IsPrepared};
 ghost use Rattle.lsv_journal.specs.Writing.{Keeps, Selects};
@@ -29,7 +29,7 @@ fn write_first<D: Disk>(disk: &mut D, f: FileId, body: &[u8]) -> Result<(), Disk
     ensures prepared { D.tells → OnOk result (IsPrepared (length body.now) (bytes_of ((D.view disk.new).reads f)) None (Some body.now)) }
     ensures durable { D.tells → OnOk result (IsSynced (D.view disk.new) f) }
     ensures any_moment { D.tells → Throughout (λ g. g ≡ f) (λ image. Keeps (length body.now) None (bytes_of ((D.view disk.old).reads f)) (bytes_of (image f))) (D.view disk.old) (D.view disk.new) }
-    ensures syncs { D.tells → SyncsAtMost 1 (λ g. g ≡ f) (D.view disk.old) (D.view disk.new) }
+    ensures calls { D.tells → CallsAtMost 1 1 (λ g. g ≡ f) (D.view disk.old) (D.view disk.new) }
     ensures synced { D.tells → OnOk result ((D.view disk.new).syncs f ≡ (D.view disk.old).syncs f + 1) }
     ensures cause { HasCause f (IsErr result) (D.view disk.old) (D.view disk.new) }
 {
@@ -50,7 +50,7 @@ fn write_other<D: Disk>(
     ensures prepared { D.tells → OnOk result (IsPrepared (length body.now) (bytes_of ((D.view disk.new).reads f)) (Some selected) (Some body.now)) }
     ensures durable { D.tells → OnOk result (IsSynced (D.view disk.new) f) }
     ensures any_moment { D.tells → Throughout (λ g. g ≡ f) (λ image. Keeps (length body.now) (Some selected) (bytes_of ((D.view disk.old).reads f)) (bytes_of (image f))) (D.view disk.old) (D.view disk.new) }
-    ensures syncs { D.tells → SyncsAtMost 1 (λ g. g ≡ f) (D.view disk.old) (D.view disk.new) }
+    ensures calls { D.tells → CallsAtMost 1 1 (λ g. g ≡ f) (D.view disk.old) (D.view disk.new) }
     ensures synced { D.tells → OnOk result ((D.view disk.new).syncs f ≡ (D.view disk.old).syncs f + 1) }
     ensures cause { HasCause f (IsErr result) (D.view disk.old) (D.view disk.new) }
 {
@@ -71,7 +71,7 @@ pub(crate) fn write_free<D: Disk>(
     ensures prepared { D.tells → OnOk result (IsPrepared (length body.now) (bytes_of ((D.view disk.new).reads f)) selected (Some body.now)) }
     ensures durable { D.tells → OnOk result (IsSynced (D.view disk.new) f) }
     ensures any_moment { D.tells → Throughout (λ g. g ≡ f) (λ image. Keeps (length body.now) selected (bytes_of ((D.view disk.old).reads f)) (bytes_of (image f))) (D.view disk.old) (D.view disk.new) }
-    ensures syncs { D.tells → SyncsAtMost 1 (λ g. g ≡ f) (D.view disk.old) (D.view disk.new) }
+    ensures calls { D.tells → CallsAtMost 1 1 (λ g. g ≡ f) (D.view disk.old) (D.view disk.new) }
     ensures synced { D.tells → OnOk result ((D.view disk.new).syncs f ≡ (D.view disk.old).syncs f + 1) }
     ensures cause { HasCause f (IsErr result) (D.view disk.old) (D.view disk.new) }
 {
@@ -95,7 +95,7 @@ pub(crate) fn select_free<D: Disk>(
     ensures durable { D.tells → OnOk result (IsSynced (D.view disk.new) f) }
     ensures any_moment { D.tells → (n : ℕ) → Stands n (bytes_of ((D.view disk.old).reads f)) selected → IsReady n (bytes_of ((D.view disk.old).reads f)) selected
         → Throughout (λ g. g ≡ f) (λ image. Selects n selected (bytes_of ((D.view disk.old).reads f)) (bytes_of (image f))) (D.view disk.old) (D.view disk.new) }
-    ensures syncs { D.tells → SyncsAtMost 1 (λ g. g ≡ f) (D.view disk.old) (D.view disk.new) }
+    ensures calls { D.tells → CallsAtMost 1 1 (λ g. g ≡ f) (D.view disk.old) (D.view disk.new) }
     ensures synced { D.tells → OnOk result ((D.view disk.new).syncs f ≡ (D.view disk.old).syncs f + 1) }
     ensures cause { HasCause f (IsErr result) (D.view disk.old) (D.view disk.new) }
 {
@@ -113,7 +113,7 @@ pub(crate) fn add_first<D: Disk>(disk: &mut D, f: FileId, body: &[u8]) -> Result
     ensures added { D.tells → OnOk result (Stands (length body.now) (bytes_of ((D.view disk.new).reads f)) (Some Slot.First) × (entry_of (length body.now) (bytes_of ((D.view disk.new).reads f)) ≡ Some body.now)) }
     ensures durable { D.tells → OnOk result (IsSynced (D.view disk.new) f) }
     ensures any_moment { D.tells → Throughout (λ g. g ≡ f) (λ image. (entry_of (length body.now) (bytes_of (image f)) ≡ None) ⊎ (entry_of (length body.now) (bytes_of (image f)) ≡ Some body.now)) (D.view disk.old) (D.view disk.new) }
-    ensures syncs { D.tells → SyncsAtMost 2 (λ g. g ≡ f) (D.view disk.old) (D.view disk.new) }
+    ensures calls { D.tells → CallsAtMost 2 2 (λ g. g ≡ f) (D.view disk.old) (D.view disk.new) }
     ensures cause { HasCause f (IsErr result) (D.view disk.old) (D.view disk.new) }
 {
     write_free(disk, f, None, body)?;

@@ -2,7 +2,7 @@ ghost use Rattle.std.specs.Prelude.{◌≡◌, ◌≢◌, ◌⊎◌, ◌↔◌, 
 ghost use Rattle.lsv_disk.specs.declared.file.FileId.{FileId};
 ghost use Rattle.lsv_disk.specs.Bytes.{bytes_of};
 ghost use Rattle.lsv_disk.specs.View.{IsSynced, OneRead, HasCause};
-ghost use Rattle.lsv_disk.specs.Throughout.{Throughout, SyncsAtMost};
+ghost use Rattle.lsv_disk.specs.Throughout.{Throughout, CallsAtMost};
 ghost use Rattle.lsv_journal.specs.Slots.{entry_of};
 ghost use Rattle.lsv_journal.specs.Represents.{Stands};
 ghost use Rattle.lsv_journal.specs.Reading.{IsEmptyOrAsBefore};
@@ -28,7 +28,7 @@ fn make_new<D: Disk>(disk: &mut D, f: FileId) -> Result<(), DiskFault>
     ensures stands { D.tells → OnOk result ((n : ℕ) → Stands n (bytes_of ((D.view disk.new).reads f)) None) }
     ensures none { D.tells → (n : ℕ) → entry_of n (bytes_of ((D.view disk.new).reads f)) ≡ None }
     ensures any_moment { D.tells → (n : ℕ) → Throughout (λ g. g ≡ f) (IsEmptyOrAsBefore n f (D.view disk.old)) (D.view disk.old) (D.view disk.new) }
-    ensures syncs { D.tells → SyncsAtMost 1 (λ g. g ≡ f) (D.view disk.old) (D.view disk.new) }
+    ensures calls { D.tells → CallsAtMost 1 1 (λ g. g ≡ f) (D.view disk.old) (D.view disk.new) }
     ensures cause { HasCause f (IsErr result) (D.view disk.old) (D.view disk.new) }
 {
     disk.create(f)?;
@@ -42,7 +42,7 @@ fn make_again<D: Disk>(disk: &mut D, f: FileId) -> Result<(), DiskFault>
     ensures stands { D.tells → OnOk result ((n : ℕ) → entry_of n (bytes_of ((D.view disk.old).reads f)) ≡ None → Stands n (bytes_of ((D.view disk.new).reads f)) None) }
     ensures none { D.tells → (n : ℕ) → entry_of n (bytes_of ((D.view disk.old).reads f)) ≡ None → entry_of n (bytes_of ((D.view disk.new).reads f)) ≡ None }
     ensures any_moment { D.tells → (n : ℕ) → entry_of n (bytes_of ((D.view disk.old).reads f)) ≡ None → Throughout (λ g. g ≡ f) (IsEmptyOrAsBefore n f (D.view disk.old)) (D.view disk.old) (D.view disk.new) }
-    ensures syncs { D.tells → SyncsAtMost 2 (λ g. g ≡ f) (D.view disk.old) (D.view disk.new) }
+    ensures calls { D.tells → CallsAtMost 1 2 (λ g. g ≡ f) (D.view disk.old) (D.view disk.new) }
     ensures cause { HasCause f (IsErr result) (D.view disk.old) (D.view disk.new) }
 {
     disk.sync(f)?;
@@ -59,7 +59,7 @@ pub(crate) fn make<D: Disk>(disk: &mut D, f: FileId) -> Result<(), DiskFault>
     ensures stands { D.tells → OnOk result ((n : ℕ) → entry_of n (bytes_of ((D.view disk.old).reads f)) ≡ None → Stands n (bytes_of ((D.view disk.new).reads f)) None) }
     ensures none { D.tells → (n : ℕ) → entry_of n (bytes_of ((D.view disk.old).reads f)) ≡ None → entry_of n (bytes_of ((D.view disk.new).reads f)) ≡ None }
     ensures any_moment { D.tells → (n : ℕ) → entry_of n (bytes_of ((D.view disk.old).reads f)) ≡ None → Throughout (λ g. g ≡ f) (IsEmptyOrAsBefore n f (D.view disk.old)) (D.view disk.old) (D.view disk.new) }
-    ensures syncs { D.tells → SyncsAtMost 2 (λ g. g ≡ f) (D.view disk.old) (D.view disk.new) }
+    ensures calls { D.tells → CallsAtMost 1 2 (λ g. g ≡ f) (D.view disk.old) (D.view disk.new) }
     ensures cause { HasCause f (IsErr result) (D.view disk.old) (D.view disk.new) }
 {
     match disk.length(f)? {

@@ -26,9 +26,9 @@ impl<const N: usize> Journal<N> {
     ghost use Rattle.lsv_disk.specs.declared.file.FileId.{FileId};
     ghost use Rattle.lsv_disk.specs.declared.file.Part.{Part};
     ghost use Rattle.lsv_disk.specs.View.{Image, IsCrashImage, HasOwnCause};
-    ghost use Rattle.lsv_disk.specs.Throughout.{Throughout, OnlyReads, SyncsAtMost};
-    ghost use Rattle.lsv_journal.specs.Last.{IsOwn, IsAbsent, LastAt, JournalHolds, IsBeforeOrAfter, SameJournal, IsSomeCrashOf, MayBeMade, KeepsSelected, SelectsSame, IsNoLonger};
-    ghost use Rattle.lsv_journal.specs.Value.{file, last, prepared, is_broken};
+    ghost use Rattle.lsv_disk.specs.Throughout.{Throughout, OnlyReads, CallsAtMost, WritesOneOf};
+    ghost use Rattle.lsv_journal.specs.Last.{IsOwn, IsAbsent, LastAt, JournalHolds, IsBeforeOrAfter, SameJournal, IsSomeCrashOf, HasSlotsEntry, MayBeMade, KeepsSelected, SelectsSame, IsNoLonger};
+    ghost use Rattle.lsv_journal.specs.Value.{file, last, prepared, is_broken, KeptAtError};
     ghost use Rattle.lsv_journal.specs.Represents.{Represents};
 
     /// Makes a journal without an entry, at a file that is absent or has no entry: what a making that a crash or a
@@ -45,7 +45,7 @@ impl<const N: usize> Journal<N> {
         ensures represents { D.tells → IfOk result (λ j. Represents j (D.view disk.new)) }
         ensures again { D.tells → MayBeMade N f (D.view disk.new) }
         ensures any_moment { D.tells → Throughout (λ g. g ≡ f) (λ image. IsSomeCrashOf N f (D.view disk.old) image ⊎ JournalHolds N f None image) (D.view disk.old) (D.view disk.new) }
-        ensures syncs { D.tells → SyncsAtMost 2 (IsOwn f) (D.view disk.old) (D.view disk.new) }
+        ensures calls { D.tells → CallsAtMost 1 2 (λ g. g ≡ f) (D.view disk.old) (D.view disk.new) }
         ensures fault { IfErr result (λ e. e ≡ JournalFault.Disk) }
         ensures cause { HasOwnCause (IsOwn f) (IsErr result) (D.view disk.old) (D.view disk.new) }
     {
@@ -76,7 +76,8 @@ impl<const N: usize> Journal<N> {
         ensures absent_may_be_made { D.tells → IfOk result (λ o. o ≡ None → MayBeMade N f (D.view disk.new)) }
         ensures reads { D.tells → SameJournal N f (D.view disk.old).reads (D.view disk.new).reads }
         ensures any_moment { D.tells → Throughout (λ g. g ≡ f) (IsSomeCrashOf N f (D.view disk.old)) (D.view disk.old) (D.view disk.new) }
-        ensures syncs { D.tells → SyncsAtMost 5 (IsOwn f) (D.view disk.old) (D.view disk.new) }
+        ensures calls { D.tells → WritesOneOf f 3 5 (IsOwn f) (D.view disk.old) (D.view disk.new) }
+        ensures unwritten { D.tells → HasSlotsEntry N f (D.view disk.old).reads → (g : FileId) → (D.view disk.new).writes g ≡ (D.view disk.old).writes g }
         ensures fault { IfErr result (λ e. e ≡ JournalFault.Disk) }
         ensures cause { HasOwnCause (IsOwn f) (IsErr result) (D.view disk.old) (D.view disk.new) }
     {
@@ -130,7 +131,6 @@ impl<const N: usize> Journal<N> {
     pub fn write_slot<D: Disk>(&mut self, disk: &mut D, body: [u8; N]) -> Result<(), JournalFault>
         requires size { (0 < N) × (N ≤ 120) }
         requires represents { D.tells → is_broken self.old ≡ false → Represents self.old (D.view disk.old) }
-        ensures file { file self.new ≡ file self.old }
         ensures last { last self.new ≡ last self.old }
         ensures prepared { OnOk result (prepared self.new ≡ Some body.entry) }
         ensures whole { OnOk result (is_broken self.new ≡ false) }
@@ -140,11 +140,11 @@ impl<const N: usize> Journal<N> {
         ensures slot { D.tells → is_broken self.old ≡ false → SelectsSame N (file self.old) (D.view disk.old).reads (D.view disk.new).reads }
         ensures length { D.tells → is_broken self.old ≡ false → Throughout (λ g. g ≡ file self.old) (IsNoLonger N (file self.old) (D.view disk.old).reads) (D.view disk.old) (D.view disk.new) }
         ensures synced { D.tells → OnOk result ((D.view disk.new).syncs (file self.old) ≡ (D.view disk.old).syncs (file self.old) + 1) }
-        ensures syncs { D.tells → SyncsAtMost 1 (λ g. g ≡ file self.old) (D.view disk.old) (D.view disk.new) }
+        ensures calls { D.tells → CallsAtMost 1 1 (λ g. g ≡ file self.old) (D.view disk.old) (D.view disk.new) }
         ensures fault { IsErrOf result JournalFault.Disk → is_broken self.new ≡ true }
         ensures cause { HasOwnCause (IsOwn (file self.old)) (IsErrOf result JournalFault.Disk) (D.view disk.old) (D.view disk.new) }
         ensures broken { IsErrOf result JournalFault.Broken ↔ (is_broken self.old ≡ true) }
-        ensures unchanged { IsErrOf result JournalFault.Broken → (self.new ≡ self.old) × (disk.new ≡ disk.old) }
+        ensures kept { KeptAtError (IsErr result) (IsErrOf result JournalFault.Broken) self.old self.new disk.old disk.new }
     {
         if self.broken {
             return Err(JournalFault::Broken);
@@ -163,9 +163,7 @@ impl<const N: usize> Journal<N> {
         requires size { (0 < N) × (N ≤ 120) }
         requires represents { D.tells → is_broken self.old ≡ false → Represents self.old (D.view disk.old) }
         requires prepared { is_broken self.old ≡ false → prepared self.old ≢ None }
-        ensures file { file self.new ≡ file self.old }
         ensures last { OnOk result (last self.new ≡ prepared self.old) }
-        ensures kept { OnErr result (last self.new ≡ last self.old) }
         ensures prepared { OnOk result (prepared self.new ≡ None) }
         ensures whole { OnOk result (is_broken self.new ≡ false) }
         ensures represents { D.tells → is_broken self.new ≡ false → Represents self.new (D.view disk.new) }
@@ -173,11 +171,11 @@ impl<const N: usize> Journal<N> {
         ensures keeps { D.tells → is_broken self.old ≡ false → Throughout (λ g. g ≡ file self.old) (KeepsSelected N (file self.old) (D.view disk.old).reads) (D.view disk.old) (D.view disk.new) }
         ensures length { D.tells → is_broken self.old ≡ false → Throughout (λ g. g ≡ file self.old) (IsNoLonger N (file self.old) (D.view disk.old).reads) (D.view disk.old) (D.view disk.new) }
         ensures synced { D.tells → OnOk result ((D.view disk.new).syncs (file self.old) ≡ (D.view disk.old).syncs (file self.old) + 1) }
-        ensures syncs { D.tells → SyncsAtMost 1 (λ g. g ≡ file self.old) (D.view disk.old) (D.view disk.new) }
+        ensures calls { D.tells → CallsAtMost 1 1 (λ g. g ≡ file self.old) (D.view disk.old) (D.view disk.new) }
         ensures fault { IsErrOf result JournalFault.Disk → is_broken self.new ≡ true }
         ensures cause { HasOwnCause (IsOwn (file self.old)) (IsErrOf result JournalFault.Disk) (D.view disk.old) (D.view disk.new) }
         ensures broken { IsErrOf result JournalFault.Broken ↔ (is_broken self.old ≡ true) }
-        ensures unchanged { IsErrOf result JournalFault.Broken → (self.new ≡ self.old) × (disk.new ≡ disk.old) }
+        ensures kept { KeptAtError (IsErr result) (IsErrOf result JournalFault.Broken) self.old self.new disk.old disk.new }
     {
         if self.broken {
             return Err(JournalFault::Broken);
@@ -198,9 +196,7 @@ impl<const N: usize> Journal<N> {
     pub fn append<D: Disk>(&mut self, disk: &mut D, body: [u8; N]) -> Result<(), JournalFault>
         requires size { (0 < N) × (N ≤ 120) }
         requires represents { D.tells → is_broken self.old ≡ false → Represents self.old (D.view disk.old) }
-        ensures file { file self.new ≡ file self.old }
         ensures last { OnOk result (last self.new ≡ Some body.entry) }
-        ensures kept { OnErr result (last self.new ≡ last self.old) }
         ensures prepared { OnOk result (prepared self.new ≡ None) }
         ensures whole { OnOk result (is_broken self.new ≡ false) }
         ensures represents { D.tells → is_broken self.new ≡ false → Represents self.new (D.view disk.new) }
@@ -208,11 +204,11 @@ impl<const N: usize> Journal<N> {
         ensures keeps { D.tells → is_broken self.old ≡ false → Throughout (λ g. g ≡ file self.old) (KeepsSelected N (file self.old) (D.view disk.old).reads) (D.view disk.old) (D.view disk.new) }
         ensures length { D.tells → is_broken self.old ≡ false → Throughout (λ g. g ≡ file self.old) (IsNoLonger N (file self.old) (D.view disk.old).reads) (D.view disk.old) (D.view disk.new) }
         ensures synced { D.tells → OnOk result ((D.view disk.new).syncs (file self.old) ≡ (D.view disk.old).syncs (file self.old) + 2) }
-        ensures syncs { D.tells → SyncsAtMost 2 (λ g. g ≡ file self.old) (D.view disk.old) (D.view disk.new) }
+        ensures calls { D.tells → CallsAtMost 2 2 (λ g. g ≡ file self.old) (D.view disk.old) (D.view disk.new) }
         ensures fault { IsErrOf result JournalFault.Disk → is_broken self.new ≡ true }
         ensures cause { HasOwnCause (IsOwn (file self.old)) (IsErrOf result JournalFault.Disk) (D.view disk.old) (D.view disk.new) }
         ensures broken { IsErrOf result JournalFault.Broken ↔ (is_broken self.old ≡ true) }
-        ensures unchanged { IsErrOf result JournalFault.Broken → (self.new ≡ self.old) × (disk.new ≡ disk.old) }
+        ensures kept { KeptAtError (IsErr result) (IsErrOf result JournalFault.Broken) self.old self.new disk.old disk.new }
     {
         self.write_slot(disk, body)?;
         self.select(disk)

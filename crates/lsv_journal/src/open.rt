@@ -3,9 +3,9 @@ ghost use Rattle.lsv_disk.specs.declared.file.FileId.{FileId};
 ghost use Rattle.lsv_disk.specs.declared.file.Part.{Part};
 ghost use Rattle.lsv_disk.specs.Bytes.{bytes_of};
 ghost use Rattle.lsv_disk.specs.View.{IsSynced, HasOwnCause, HasCause};
-ghost use Rattle.lsv_disk.specs.Throughout.{Throughout, Unchanged, OnlyReads, SyncsAtMost};
+ghost use Rattle.lsv_disk.specs.Throughout.{Throughout, Unchanged, OnlyReads, CallsAtMost};
 ghost use Rattle.lsv_journal.specs.Slots.{entry_of};
-ghost use Rattle.lsv_journal.specs.Last.{IsOwn, IsAbsent, LastAt, JournalHolds, old_file};
+ghost use Rattle.lsv_journal.specs.Last.{IsOwn, IsAbsent, LastAt, JournalHolds, HasSlotsEntry, old_file};
 ghost use Rattle.lsv_journal.specs.Represents.{Stands};
 ghost use Rattle.lsv_journal.specs.Writing.{IsFound};
 
@@ -45,7 +45,7 @@ pub(crate) fn sync_both<D: Disk>(disk: &mut D, f: FileId) -> Result<(), DiskFaul
     ensures slots { D.tells → OnOk result (IsSynced (D.view disk.new) f) }
     ensures old { D.tells → OnOk result (IsSynced (D.view disk.new) (old_file f)) }
     ensures unchanged { D.tells → Unchanged (D.view disk.old) (D.view disk.new) }
-    ensures syncs { D.tells → f.part ≡ Part.Slots → SyncsAtMost 1 (IsOwn f) (D.view disk.old) (D.view disk.new) }
+    ensures calls { D.tells → f.part ≡ Part.Slots → CallsAtMost 0 1 (IsOwn f) (D.view disk.old) (D.view disk.new) }
     ensures cause { HasOwnCause (IsOwn f) (IsErr result) (D.view disk.old) (D.view disk.new) }
 {
     disk.sync(f)?;
@@ -90,7 +90,7 @@ fn take_over<D: Disk, const N: usize>(disk: &mut D, f: FileId) -> Result<Found<N
     ensures stands { D.tells → IfOk result (λ found. Stands N (bytes_of ((D.view disk.new).reads f)) found.selected) }
     ensures durable { D.tells → OnOk result (IsSynced (D.view disk.new) f) }
     ensures any_moment { D.tells → Throughout (λ g. g ≡ f) (JournalHolds N f (LastAt N f (D.view disk.old).reads)) (D.view disk.old) (D.view disk.new) }
-    ensures syncs { D.tells → SyncsAtMost 4 (λ g. g ≡ f) (D.view disk.old) (D.view disk.new) }
+    ensures calls { D.tells → CallsAtMost 3 4 (λ g. g ≡ f) (D.view disk.old) (D.view disk.new) }
     ensures cause { HasOwnCause (IsOwn f) (IsErr result) (D.view disk.old) (D.view disk.new) }
 {
     let last: Option<[u8; N]> = last_gated(disk, old_file(f))?;
@@ -122,7 +122,8 @@ pub(crate) fn settle<D: Disk, const N: usize>(
     ensures stands { D.tells → IfOk result (λ found. Stands N (bytes_of ((D.view disk.new).reads f)) found.selected) }
     ensures durable { D.tells → OnOk result (IsSynced (D.view disk.new) f) }
     ensures any_moment { D.tells → Throughout (λ g. g ≡ f) (JournalHolds N f (LastAt N f (D.view disk.old).reads)) (D.view disk.old) (D.view disk.new) }
-    ensures syncs { D.tells → SyncsAtMost 4 (λ g. g ≡ f) (D.view disk.old) (D.view disk.new) }
+    ensures calls { D.tells → CallsAtMost 3 4 (λ g. g ≡ f) (D.view disk.old) (D.view disk.new) }
+    ensures unwritten { D.tells → HasSlotsEntry N f (D.view disk.old).reads → (g : FileId) → (D.view disk.new).writes g ≡ (D.view disk.old).writes g }
     ensures cause { HasOwnCause (IsOwn f) (IsErr result) (D.view disk.old) (D.view disk.new) }
 {
     let found = find(disk, f)?;

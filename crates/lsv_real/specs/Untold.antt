@@ -10,6 +10,7 @@ untold count = record {
   moment = 0;
   crash_images_at = λ k image. ⊥;
   faults = λ f. count;
+  writes = λ f. 0;
   syncs = λ f. 0;
   places = None;
 }

@@ -8,7 +8,7 @@ use Rattle.lsv_disk.specs.declared.memory.call.Effect.TheVariants.{Held, Made, W
 use Rattle.lsv_disk.specs.Bytes.{written, overwritten, Reaches}
 use Rattle.lsv_disk.specs.Memory.Calls.{reads_of, Noted}
 use Rattle.lsv_disk.specs.Memory.Stored.{ReadsAs}
-use Rattle.lsv_disk.proofs.MemoryLemmas.Same.{same_or_other}
+use Rattle.lsv_disk.proofs.Same.{same_or_other}
 use Rattle.lsv_disk.proofs.MemoryLemmas.Found.{Kept, bytes_in, IsChanged, changed_here, changed_other}
 use Rattle.lsv_disk.proofs.MemoryLemmas.Noting.{result_changed}
 
@@ -51,9 +51,9 @@ module _ (was now : Kept) (file : FileId) (value : Vec ℕ Global) (changed : Is
       -- either, by the answer
       pub write_tied : {T E : Type 0} (at : ℕ) (bytes : List ℕ) (copy : Vec ℕ Global) (r : Result T E) → copy.items ≡ bytes
           → OnOk r (value.items ≡ overwritten at bytes before.items) → OnOk r (Noted old new file (Written at copy))
-          → OnErr r ((value.items ≡ before.items) × (new ≡ old)) → ReadsAs (bytes_in now) new
-      write_tied at bytes copy (Ok x) copied over noted err = written_tied at bytes copy copied over noted
-      write_tied at bytes copy (Err x) copied over noted err = unwritten_tied err.0 err.1
+          → OnErr r (value.items ≡ before.items) → OnErr r (new ≡ old) → ReadsAs (bytes_in now) new
+      write_tied at bytes copy (Ok x) copied over noted err same = written_tied at bytes copy copied over noted
+      write_tied at bytes copy (Err x) copied over noted err same = unwritten_tied err same
 
 -- a write at a place that the file reaches is one into its bytes
 pub reaches : (was : Kept) (calls : List Call) (file : FileId) (before : Vec ℕ Global) (at : ℕ) → was file ≡ Some before → ReadsAs (bytes_in was) calls → Reaches (reads_of calls file) at → at ≤ length before.items

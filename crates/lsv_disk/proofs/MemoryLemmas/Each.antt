@@ -5,9 +5,9 @@ use Rattle.lsv_disk.specs.declared.file.FileId.{FileId}
 use Rattle.lsv_disk.specs.declared.file.Owner.{Owner}
 use Rattle.lsv_disk.specs.declared.file.Part.{Part}
 use Rattle.lsv_disk.specs.Files.{file_of, IsOneOf}
-use Rattle.lsv_disk.specs.View.{Image, DiskView, IsSynced, OneWrite}
+use Rattle.lsv_disk.specs.View.{Image, DiskView, IsSynced, OneMaking}
 use Rattle.lsv_disk.specs.Throughout.{Throughout}
-use Rattle.lsv_disk.proofs.Composition.{OnlyNow, one_write, followed, widened}
+use Rattle.lsv_disk.proofs.Composition.{OnlyNow, one_making, followed, widened}
 
 -- a list that isn't empty is its first item and the rest
 pub split_list : {X : Type 0} (xs : List X) (d : X) → 1 ≤ length xs → xs ≡ get_or xs 0 d ∷ take (length xs - 1) (drop 1 xs)
@@ -19,7 +19,7 @@ abbrev pub MadeOrBefore : Owner → List Part → DiskView → Image → Type 0
 MadeOrBefore owner parts old image = (f : FileId) → IsOneOf owner parts f → old.crash_states f (image f) ⊎ (image f ≡ Some [])
 
 module _ (owner : Owner) (first : Part) (rest : List Part) (old mid new : DiskView) (apart : IsOneOf owner rest (file_of owner first) → ⊥)
-    (write : OneWrite (file_of owner first) old mid) (only_old : OnlyNow old) (only_mid : OnlyNow mid)
+    (write : OneMaking (file_of owner first) old mid) (only_old : OnlyNow old) (only_mid : OnlyNow mid)
     (crash : (c : Option (List ℕ)) → mid.crash_states (file_of owner first) c → old.crash_states (file_of owner first) c ⊎ (c ≡ Some [])) where
   abbrev here : FileId
   here = file_of owner first
@@ -31,7 +31,7 @@ module _ (owner : Owner) (first : Part) (rest : List Part) (old mid new : DiskVi
   HereAt image = old.crash_states here (image here) ⊎ (image here ≡ Some [])
 
   first_alone : Throughout (λ g. g ≡ here) HereAt old mid
-  first_alone = one_write here HereAt old mid write only_old only_mid (λ image is. inl (is here)) (λ image is. crash (image here) (is here))
+  first_alone = one_making here HereAt old mid write only_old only_mid (λ image is. inl (is here)) (λ image is. crash (image here) (is here))
 
   -- the first was made, or its making failed
   pub first_made : Throughout (IsOneOf owner (first ∷ rest)) (MadeOrBefore owner (first ∷ rest) old) old mid

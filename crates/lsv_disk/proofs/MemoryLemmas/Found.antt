@@ -7,7 +7,7 @@ use Rattle.std.specs.declared.vec.Vec.{Vec}
 use Rattle.lsv_disk.specs.declared.file.FileId.{FileId}
 use Rattle.lsv_disk.specs.Files.{same_file}
 use Rattle.lsv_disk.specs.Memory.Stored.{content_of}
-use Rattle.lsv_disk.proofs.MemoryLemmas.Same.{same_or_other, same_itself, other_not_same}
+use Rattle.lsv_disk.proofs.Same.{same_or_other, same_itself, other_not_same}
 
 -- what a map of files gives for each
 abbrev pub Kept : Type 0

@@ -5,10 +5,10 @@ use Rattle.lsv_words.specs.Causes.{HasRisen}
 use Rattle.lsv_disk.specs.declared.file.FileId.{FileId}
 use Rattle.lsv_disk.specs.declared.memory.call.Call.{Call}
 use Rattle.lsv_disk.specs.declared.memory.call.Effect.{Effect}
-use Rattle.lsv_disk.specs.View.{Places, DiskView, Elapses, Elsewhere, Quiet, OneRead, OneWrite, OneSync, HasCause}
-use Rattle.lsv_disk.specs.Memory.Calls.{state_of, view_of, faults_of, syncs_of}
+use Rattle.lsv_disk.specs.View.{Places, DiskView, Elapses, Elsewhere, Quiet, Uncounted, OneRead, OneMaking, OneWrite, OneSync, HasCause}
+use Rattle.lsv_disk.specs.Memory.Calls.{state_of, view_of, is_write, is_sync, faults_of}
 use Rattle.lsv_disk.proofs.MemoryLemmas.Noting.{elapses, elapses_none}
-use Rattle.lsv_disk.proofs.MemoryLemmas.Outcomes.{Kept, NoSync, kept_elsewhere, kept_syncs, kept_counts}
+use Rattle.lsv_disk.proofs.MemoryLemmas.Outcomes.{Kept, Not, NoCount, kept_elsewhere, kept_same, kept_rose, kept_weaker, kept_counts}
 
 module _ (old new : List Call) (file : FileId) (refused refused_now : ℕ) (places places_now : Option Places) (same_places : places_now ≡ places) where
   abbrev Before : DiskView
@@ -27,20 +27,44 @@ module _ (old new : List Call) (file : FileId) (refused refused_now : ℕ) (plac
   quiet_of : Quiet (state_of old) (state_of new) → Quiet Before After
   quiet_of quiet = record { same = quiet.same; crash = quiet.crash }
 
-  -- it read
-  pub one_read : Kept NoSync old new file → Quiet (state_of old) (state_of new) → OneRead Before After
-  one_read kept quiet = record { quiet = quiet_of quiet; time = kept_time NoSync kept; syncs = kept_syncs old new file kept; places = same_places }
+  kept_uncounted : Kept NoCount old new file → Uncounted Before After
+  kept_uncounted kept = record {
+    writes = kept_same is_write old new file (kept_weaker NoCount (Not is_write) old new file (λ effect is. is.0) kept);
+    syncs = kept_same is_sync old new file (kept_weaker NoCount (Not is_sync) old new file (λ effect is. is.1) kept);
+  }
 
-  -- it made the file, or wrote
-  pub one_write : Kept NoSync old new file → OneWrite file Before After
-  one_write kept =
-      let e : Elsewhere (λ g. g ≡ file) (state_of old) (state_of new) = kept_elsewhere NoSync old new file kept in
-      record { elsewhere = record { same = e.same; crash = e.crash }; time = kept_time NoSync kept; syncs = kept_syncs old new file kept; places = same_places }
+  elsewhere_of : (P : Effect → Type 0) → Kept P old new file → Elsewhere (λ g. g ≡ file) Before After
+  elsewhere_of P kept =
+      let e : Elsewhere (λ g. g ≡ file) (state_of old) (state_of new) = kept_elsewhere P old new file kept in
+      record { same = e.same; crash = e.crash }
+
+  -- it read
+  pub one_read : Kept NoCount old new file → Quiet (state_of old) (state_of new) → OneRead Before After
+  one_read kept quiet = record { quiet = quiet_of quiet; time = kept_time NoCount kept; counts = kept_uncounted kept; places = same_places }
+
+  -- it made the file
+  pub one_making : Kept NoCount old new file → OneMaking file Before After
+  one_making kept = record { elsewhere = elsewhere_of NoCount kept; time = kept_time NoCount kept; counts = kept_uncounted kept; places = same_places }
+
+  -- it wrote
+  pub one_write : Kept (Not is_sync) old new file → OneWrite file Before After
+  one_write kept = record {
+    elsewhere = elsewhere_of (Not is_sync) kept;
+    time = kept_time (Not is_sync) kept;
+    writes = kept_rose (Not is_sync) is_write old new file kept;
+    syncs = kept_same is_sync old new file kept;
+    places = same_places;
+  }
 
   -- it synced
-  pub one_sync : (P : Effect → Type 0) → Kept P old new file → Quiet (state_of old) (state_of new) → syncs_of old file ≤ syncs_of new file → syncs_of new file ≤ syncs_of old file + 1
-      → ((g : FileId) → g ≢ file → syncs_of new g ≡ syncs_of old g) → OneSync file Before After
-  one_sync P kept quiet at_least at_most others = record { quiet = quiet_of quiet; time = kept_time P kept; at_least = at_least; at_most = at_most; others = others; places = same_places }
+  pub one_sync : Kept (Not is_write) old new file → Quiet (state_of old) (state_of new) → OneSync file Before After
+  one_sync kept quiet = record {
+    quiet = quiet_of quiet;
+    time = kept_time (Not is_write) kept;
+    writes = kept_same is_write old new file kept;
+    syncs = kept_rose (Not is_write) is_sync old new file kept;
+    places = same_places;
+  }
 
   -- its fault has a cause
   pub has_cause : {T E : Type 0} (P : Effect → Type 0) (r : Result T E) → Kept P old new file → refused ≤ refused_now → OnErr r (HasRisen (faults_of old file + refused) (faults_of new file + refused_now)) → HasCause file (IsErr r) Before After

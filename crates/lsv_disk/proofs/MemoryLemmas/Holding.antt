@@ -14,7 +14,7 @@ use Rattle.lsv_disk.specs.Bytes.{written}
 use Rattle.lsv_disk.specs.View.{Image, Only}
 use Rattle.lsv_disk.specs.Memory.Calls.{past_of, reads_after, reads_of, MayLeave}
 use Rattle.lsv_disk.specs.Memory.Images.{may_make, left_by, IsHeld, AreHeld, NotedHeld}
-use Rattle.lsv_disk.proofs.MemoryLemmas.Same.{same_or_other, same_itself, other_not_same}
+use Rattle.lsv_disk.proofs.Same.{same_or_other, same_itself, other_not_same}
 use Rattle.lsv_disk.proofs.MemoryLemmas.Past.{past_none}
 use Rattle.lsv_disk.proofs.MemoryLemmas.Noting.{here, other, count_stays}
 use Rattle.lsv_disk.proofs.MemoryLemmas.Leaving.{past_more}

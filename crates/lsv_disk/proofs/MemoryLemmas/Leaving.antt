@@ -12,7 +12,7 @@ use Rattle.lsv_disk.specs.Files.{same_file}
 use Rattle.lsv_disk.specs.View.{Image}
 use Rattle.lsv_disk.specs.Memory.Calls.{past_of, reads_after}
 use Rattle.lsv_disk.specs.Memory.Images.{makes_durable, read_next, left_next, left_by, IsDurableAt}
-use Rattle.lsv_disk.proofs.MemoryLemmas.Same.{other_not_same, same_or_other, same_itself}
+use Rattle.lsv_disk.proofs.Same.{other_not_same, same_or_other, same_itself}
 use Rattle.lsv_disk.proofs.MemoryLemmas.Past.{past_here, past_other, past_none}
 
 -- what a read gives after one more call

@@ -1,5 +1,5 @@
 -- What one more call changes of the disk.
-use Rattle.std.proofs.Common.{◌≡◌, ◌≢◌, inl, inr, ℕ, ◌+◌, ◌≤◌, ◌<◌, Bool, true, false, cond, List, [], ◌∷◌, ◌++◌, length, take, get_or, ◌&&◌, add_comm, add-zero, count_by, Option, Some, None, Result, Ok, Err, OnOk, OnErr, is_ok, arith, sym, ◌∙◌, ap, subst}
+use Rattle.std.proofs.Common.{◌≡◌, ◌≢◌, inl, inr, ℕ, ◌+◌, ◌≤◌, ◌<◌, Bool, true, false, cond, List, [], ◌∷◌, ◌++◌, length, take, get_or, ◌&&◌, add_comm, add-zero, count_by, Option, Some, None, Result, Ok, Err, OnOk, OnErr, is_ok, arith, refl, sym, ◌∙◌, ap, subst}
 use Rattle.std.proofs.lemmas.Bool.{le-leb, leb-true, and_from, false≢true}
 use Rattle.std.proofs.lemmas.List.{take-append-le, length_push, take_more}
 use Rattle.std.proofs.lemmas.List.Sums.{sum_by-cons}
@@ -13,7 +13,7 @@ use Rattle.lsv_disk.specs.declared.memory.call.Effect.TheVariants.{Made, Written
 use Rattle.lsv_disk.specs.Bytes.{Reaches}
 use Rattle.lsv_disk.specs.Memory.Stored.{ReadsAs}
 use Rattle.lsv_disk.proofs.MemoryLemmas.Past.{past_here, past_other}
-use Rattle.lsv_disk.proofs.MemoryLemmas.Same.{same_or_other, same_itself, other_not_same}
+use Rattle.lsv_disk.proofs.Same.{same_or_other, same_itself, other_not_same}
 
 -- the moments before stay as they were
 take_old : (k : ℕ) (old : List Call) (call : Call) → k ≤ length old → take k (old ++ call ∷ []) ≡ take k old
@@ -86,6 +86,16 @@ count_rises p effect past is = let e = count_cons p effect past ∙ ap (λ (b : 
 
 pub count_stays : (p : Effect → Bool) (effect : Effect) (past : List Effect) → p effect ≡ false → count_by p (effect ∷ past) ≡ count_by p past
 count_stays p effect past differs = let e = count_cons p effect past ∙ ap (λ (b : Bool). cond b 1 0 + count_by p past) differs in omega (arith, e)
+
+-- it rises by one at most
+count_within : (p : Effect → Bool) (effect : Effect) (past : List Effect) → count_by p (effect ∷ past) ≤ count_by p past + 1
+count_within p effect past = by (p effect) refl where
+  by : (b : Bool) → p effect ≡ b → count_by p (effect ∷ past) ≤ count_by p past + 1
+  by true is = let e = count_rises p effect past is in omega (arith, e)
+  by false differs = let e = count_stays p effect past differs in omega (arith, e)
+
+pub count_most : (p : Effect → Bool) (old new : List Call) (file : FileId) (effect : Effect) → Noted old new file effect → count_by p (past_of new file) ≤ count_by p (past_of old file) + 1
+count_most p old new file effect noted = subst (λ (past : List Effect). count_by p past ≤ count_by p (past_of old file) + 1) (sym (here old new file effect noted)) (count_within p effect (past_of old file))
 
 -- no count falls
 pub counts : (p : Effect → Bool) (old new : List Call) (file : FileId) (effect : Effect) → Noted old new file effect → (g : FileId) → count_by p (past_of old g) ≤ count_by p (past_of new g)

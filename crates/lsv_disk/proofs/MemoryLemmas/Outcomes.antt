@@ -1,5 +1,5 @@
 -- What a call on the disk in memory ensures, by whether it was kept as good, as failed, or not at all.
-use Rattle.std.proofs.Common.{◌≡◌, ◌≢◌, ◌⊎◌, inl, inr, ℕ, ◌+◌, ◌-◌, ◌^◌, ◌≤◌, ◌<◌, true, false, List, [], ◌∷◌, ◌++◌, length, take, drop, count_by, Option, Some, None, Result, Ok, Err, OnOk, OnErr, arith, refl, sym, ◌∙◌, ap, subst, length-append, length-take, length-drop}
+use Rattle.std.proofs.Common.{◌≡◌, ◌≢◌, ◌⊎◌, inl, inr, ℕ, ◌+◌, ◌-◌, ◌^◌, ◌≤◌, ◌<◌, Bool, true, false, List, [], ◌∷◌, ◌++◌, length, take, drop, count_by, Option, Some, None, Result, Ok, Err, OnOk, OnErr, arith, refl, sym, ◌∙◌, ap, subst, length-append, length-take, length-drop}
 use Rattle.std.proofs.lemmas.List.{take_at, drop_at, append_assoc}
 use Rattle.std.specs.declared.alloc.Global.{Global}
 use Rattle.std.specs.declared.vec.Vec.{Vec}
@@ -9,11 +9,11 @@ use Rattle.lsv_disk.specs.declared.memory.call.Call.{Call}
 use Rattle.lsv_disk.specs.declared.memory.call.Effect.{Effect}
 use Rattle.lsv_disk.specs.declared.memory.call.Effect.TheVariants.{Made, NotMade, NotRead, Written, NotWritten, Synced, NotSynced}
 use Rattle.lsv_disk.specs.Bytes.{written, Torn, TornBytes, Reaches, overwritten}
-use Rattle.lsv_disk.specs.View.{Only, Follows, Elsewhere, Quiet}
-use Rattle.lsv_disk.specs.Memory.Calls.{past_of, reads_after, MayLeave, reads_of, state_of, is_fault, is_sync, faults_of, syncs_of, Noted, NotedWrite, Failed}
+use Rattle.lsv_disk.specs.View.{Only, Follows, Elsewhere, Quiet, RoseByOne}
+use Rattle.lsv_disk.specs.Memory.Calls.{past_of, reads_after, MayLeave, reads_of, state_of, is_fault, is_write, is_sync, faults_of, writes_of, syncs_of, Noted, NotedWrite, Failed}
 use Rattle.lsv_disk.specs.TornLemmas.{torn_same}
 use Rattle.lsv_disk.specs.Memory.Laws.{MayLeave-reads}
-use Rattle.lsv_disk.proofs.MemoryLemmas.Noting.{here, other, elsewhere, elsewhere_none, quiet, quiet_none, counts, counts_stay, count_rose}
+use Rattle.lsv_disk.proofs.MemoryLemmas.Noting.{here, other, elsewhere, elsewhere_none, quiet, quiet_none, counts, counts_stay, count_most, count_rose}
 
 -- the bytes of a good write are torn at no other place
 torn_bytes : (at : ℕ) (bytes old : List ℕ) → at ≤ length old → TornBytes at (length bytes) old (overwritten at bytes old)
@@ -37,17 +37,38 @@ torn_written at bytes (Some old) place = torn_bytes at bytes old place
 abbrev pub Kept : (Effect → Type 0) → List Call → List Call → FileId → Type 0
 Kept P old new file = ((effect : Effect) × P effect × Noted old new file effect) ⊎ (new ≡ old)
 
--- it is no sync
-abbrev pub NoSync : Effect → Type 0
-NoSync effect = is_sync effect ≡ false
+-- it isn't counted
+abbrev pub Not : (Effect → Bool) → Effect → Type 0
+Not counted effect = counted effect ≡ false
+
+-- it is no write and no sync
+abbrev pub NoCount : Effect → Type 0
+NoCount effect = Not is_write effect × Not is_sync effect
 
 pub kept_elsewhere : (P : Effect → Type 0) (old new : List Call) (file : FileId) → Kept P old new file → Elsewhere (λ g. g ≡ file) (state_of old) (state_of new)
 kept_elsewhere P old new file (inl k) = elsewhere old new file k.0 k.2
 kept_elsewhere P old new file (inr same) = elsewhere_none old new file same
 
-pub kept_syncs : (old new : List Call) (file : FileId) → Kept NoSync old new file → (g : FileId) → syncs_of new g ≡ syncs_of old g
-kept_syncs old new file (inl k) g = counts_stay is_sync old new file k.0 k.2 k.1 g
-kept_syncs old new file (inr same) g = ap (λ (cs : List Call). syncs_of cs g) same
+-- what isn't counted changes no count
+pub kept_same : (p : Effect → Bool) (old new : List Call) (file : FileId) → Kept (Not p) old new file → (g : FileId) → count_by p (past_of new g) ≡ count_by p (past_of old g)
+kept_same p old new file (inl k) g = counts_stay p old new file k.0 k.2 k.1 g
+kept_same p old new file (inr same) g = ap (λ (cs : List Call). count_by p (past_of cs g)) same
+
+-- and each count rises by one at most, for this file alone
+pub kept_rose : (P : Effect → Type 0) (p : Effect → Bool) (old new : List Call) (file : FileId) → Kept P old new file → RoseByOne file (λ g. count_by p (past_of old g)) (λ g. count_by p (past_of new g))
+kept_rose P p old new file (inl k) = record {
+  never_fell = counts p old new file k.0 k.2;
+  at_most = count_most p old new file k.0 k.2;
+  others = λ g differs. ap (count_by p) (other old new file k.0 k.2 g differs);
+}
+kept_rose P p old new file (inr same) =
+    let e = ap (λ (cs : List Call). count_by p (past_of cs file)) same in
+    record { never_fell = λ g. let s = ap (λ (cs : List Call). count_by p (past_of cs g)) same in omega (arith, s); at_most = omega (arith, e); others = λ g differs. ap (λ (cs : List Call). count_by p (past_of cs g)) same }
+
+-- what holds of a call less is known of
+pub kept_weaker : (P Q : Effect → Type 0) (old new : List Call) (file : FileId) → ((effect : Effect) → P effect → Q effect) → Kept P old new file → Kept Q old new file
+kept_weaker P Q old new file weaker (inl k) = inl (k.0, weaker k.0 k.1, k.2)
+kept_weaker P Q old new file weaker (inr same) = inr same
 
 pub kept_counts : (P : Effect → Type 0) (old new : List Call) (file : FileId) (refused refused_now : ℕ) → Kept P old new file → refused ≤ refused_now → (g : FileId) → faults_of old g + refused ≤ faults_of new g + refused_now
 kept_counts P old new file refused refused_now (inl k) risen g = let c = counts is_fault old new file k.0 k.2 g in omega (arith, c)
@@ -146,6 +167,11 @@ module _ {T E : Type 0} (old new : List Call) (file : FileId) (refused refused_n
     write_crash (Err x) place ok err c left =
         elim (failed_leaves old new file (NotWritten at (length bytes)) refused refused_now c err left) [ inl d ↦ d | inr was ↦ (c, was, torn_same at (length bytes) c) ]
 
+    -- at Ok the file was written once more
+    pub write_exact : (r : Result T E) → OnOk r (NotedWrite old new file at bytes × (refused_now ≡ refused)) → OnOk r (writes_of new file ≡ writes_of old file + 1)
+    write_exact (Ok x) ok = let e = count_rose is_write old new file (Written at ok.0.0) ok.0.2 refl in omega (arith, e)
+    write_exact (Err x) ok = tt
+
     pub write_kept : (P : Effect → Type 0) (r : Result T E) → ((copy : Vec ℕ Global) → P (Written at copy)) → P (NotWritten at (length bytes))
         → OnOk r (NotedWrite old new file at bytes × (refused_now ≡ refused)) → OnErr r (Failed old new file (NotWritten at (length bytes)) refused refused_now) → Kept P old new file
     write_kept P (Ok x) is_good is_bad ok err = inl (Written at ok.0.0, is_good ok.0.0, ok.0.2)
@@ -167,22 +193,10 @@ module _ {T E : Type 0} (old new : List Call) (file : FileId) (refused refused_n
   sync_quiet (Ok x) ok err = quiet old new file Synced ok.0 refl (λ c is. subst (λ (o : Option (List ℕ)). MayLeave (past_of old file) o) (sym is) (MayLeave-reads (past_of old file)))
   sync_quiet (Err x) ok err = failed_quiet old new file NotSynced refused refused_now refl (λ c left. left) err
 
-  pub sync_synced : (r : Result T E) → OnOk r (Noted old new file Synced × (refused_now ≡ refused)) → OnErr r (Failed old new file NotSynced refused refused_now) → syncs_of new file ≤ syncs_of old file + 1
-  sync_synced (Ok x) ok err = let e = count_rose is_sync old new file Synced ok.0 refl in omega (arith, e)
-  sync_synced (Err x) ok err = let e = kept_syncs old new file (failed_kept old new file NotSynced refused refused_now NoSync refl err) file in omega (arith, e)
-
   -- at Ok the file was synced once more
   pub sync_exact : (r : Result T E) → OnOk r (Noted old new file Synced × (refused_now ≡ refused)) → OnOk r (syncs_of new file ≡ syncs_of old file + 1)
   sync_exact (Ok x) ok = let e = count_rose is_sync old new file Synced ok.0 refl in omega (arith, e)
   sync_exact (Err x) ok = tt
-
-  pub sync_at_least : (r : Result T E) → OnOk r (Noted old new file Synced × (refused_now ≡ refused)) → OnErr r (Failed old new file NotSynced refused refused_now) → syncs_of old file ≤ syncs_of new file
-  sync_at_least (Ok x) ok err = let e = count_rose is_sync old new file Synced ok.0 refl in omega (arith, e)
-  sync_at_least (Err x) ok err = let e = kept_syncs old new file (failed_kept old new file NotSynced refused refused_now NoSync refl err) file in omega (arith, e)
-
-  pub sync_syncs : (r : Result T E) → OnOk r (Noted old new file Synced × (refused_now ≡ refused)) → OnErr r (Failed old new file NotSynced refused refused_now) → (g : FileId) → g ≢ file → syncs_of new g ≡ syncs_of old g
-  sync_syncs (Ok x) ok err g differs = ap (count_by is_sync) (other old new file Synced ok.0 g differs)
-  sync_syncs (Err x) ok err g differs = kept_syncs old new file (failed_kept old new file NotSynced refused refused_now NoSync refl err) g
 
   -- read_at
   pub read_quiet : (r : Result T E) → OnOk r ((new ≡ old) × (refused_now ≡ refused)) → OnErr r (Failed old new file NotRead refused refused_now) → Quiet (state_of old) (state_of new)

@@ -8,7 +8,7 @@ use Rattle.lsv_disk.specs.declared.memory.call.Call.{Call}
 use Rattle.lsv_disk.specs.declared.memory.call.Effect.{Effect}
 use Rattle.lsv_disk.specs.Files.{same_file}
 use Rattle.lsv_disk.specs.Memory.Calls.{past_of}
-use Rattle.lsv_disk.proofs.MemoryLemmas.Same.{same_itself, other_not_same}
+use Rattle.lsv_disk.proofs.Same.{same_itself, other_not_same}
 
 past_push : (calls : List Call) (call : Call) (file : FileId) → past_of (calls ++ call ∷ []) file ≡ reverse (map (λ (c : Call). c.effect) (cond (same_file call.file file) (call ∷ []) [])) ++ past_of calls file
 unfolding past_of

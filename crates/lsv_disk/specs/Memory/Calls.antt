@@ -88,9 +88,24 @@ is_sync NotRead = false
 is_sync (NotWritten at n) = false
 is_sync NotSynced = false
 
+-- the call wrote to the file, well or not
+abbrev pub is_write : Effect → Bool
+is_write (Written at bytes) = true
+is_write (NotWritten at n) = true
+is_write (Held bytes) = false
+is_write Made = false
+is_write NotMade = false
+is_write NotRead = false
+is_write Synced = false
+is_write NotSynced = false
+
 -- how many of the calls on a file failed
 abbrev pub faults_of : List Call → FileId → ℕ
 faults_of calls file = count_by is_fault (past_of calls file)
+
+-- how many of the calls wrote to the file
+abbrev pub writes_of : List Call → FileId → ℕ
+writes_of calls file = count_by is_write (past_of calls file)
 
 -- how many of the calls synced the file
 abbrev pub syncs_of : List Call → FileId → ℕ
@@ -104,6 +119,7 @@ view_of calls refused places = record {
   moment = length calls;
   crash_images_at = λ k image. (file : FileId) → MayLeave (past_of (take k calls) file) (image file);
   faults = λ file. faults_of calls file + refused;
+  writes = writes_of calls;
   syncs = syncs_of calls;
   places = places;
 }

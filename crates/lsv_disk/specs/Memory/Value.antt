@@ -35,6 +35,33 @@ asked disk = disk.asked
 abbrev pub next_number : MemDisk → ℕ
 next_number disk = min (asked disk + 1) (2 ^ 64 - 1)
 
+-- one more such call was counted, and the settings are the same
+pub record AskedOnce (old new : MemDisk) : Type 0 where
+  pub number : asked new ≡ next_number old
+  pub settings : SameSettings old new
+
+-- no such call was counted, and the settings are the same
+pub record AskedNone (old new : MemDisk) : Type 0 where
+  pub number : asked new ≡ asked old
+  pub settings : SameSettings old new
+
+-- but for that number it is the same
+pub record SameBesideNumber (old new : MemDisk) : Type 0 where
+  pub calls : new.calls ≡ old.calls
+  pub files : new.files ≡ old.files
+  pub refused : new.refused ≡ old.refused
+  pub settings : SameSettings old new
+
+-- the calls that it keeps, that number and the settings are the same
+pub record SameCalls (old new : MemDisk) : Type 0 where
+  pub calls : new.calls ≡ old.calls
+  pub none : AskedNone old new
+
+-- but for the calls that it keeps, and its files, it is the same
+pub record SameBesideCalls (old new : MemDisk) : Type 0 where
+  pub refused : new.refused ≡ old.refused
+  pub none : AskedNone old new
+
 -- the next such call is to fail
 abbrev pub NextFails : MemDisk → Type 0
 NextFails disk = Contains (failing disk) (next_number disk)

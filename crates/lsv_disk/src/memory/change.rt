@@ -22,8 +22,7 @@ pub(crate) fn make(
     requires absent { reads_of calls.old.items file ≡ None }
     ensures tied { IsResult files.new calls.new.items }
     ensures legal { AreLegal calls.new.items }
-    ensures ok { OnOk result (Noted calls.old.items calls.new.items file Made) }
-    ensures err { OnErr result (calls.new.items ≡ calls.old.items) }
+    ensures kept { OnOk result (Noted calls.old.items calls.new.items file Made) × OnErr result (calls.new.items ≡ calls.old.items) }
 {
     files.reserve(1)?;
     calls.push(Call {
@@ -71,9 +70,8 @@ fn write_at(
 ) -> Result<(), NoMem>
     requires place { at ≤ length content.old.items }
     requires copy { copy.items ≡ bytes.now }
-    ensures ok { OnOk result (content.new.items ≡ overwritten at bytes.now content.old.items) }
-    ensures noted { OnOk result (Noted calls.old.items calls.new.items file (Written at copy)) }
-    ensures err { OnErr result ((content.new.items ≡ content.old.items) × (calls.new.items ≡ calls.old.items)) }
+    ensures content { OnOk result (content.new.items ≡ overwritten at bytes.now content.old.items) × OnErr result (content.new.items ≡ content.old.items) }
+    ensures kept { OnOk result (Noted calls.old.items calls.new.items file (Written at copy)) × OnErr result (calls.new.items ≡ calls.old.items) }
 {
     content.reserve(bytes.len())?;
     calls.push(Call {
@@ -98,8 +96,7 @@ pub(crate) fn write(
     requires place { Reaches (reads_of calls.old.items file) at }
     ensures tied { IsResult files.new calls.new.items }
     ensures legal { AreLegal calls.new.items }
-    ensures ok { OnOk result (NotedWrite calls.old.items calls.new.items file at bytes.now) }
-    ensures err { OnErr result (calls.new.items ≡ calls.old.items) }
+    ensures kept { OnOk result (NotedWrite calls.old.items calls.new.items file at bytes.now) × OnErr result (calls.new.items ≡ calls.old.items) }
 {
     let copy = bytes.to_vec(alloc)?;
     files.reserve(1)?;

@@ -1,7 +1,7 @@
 ghost use Rattle.std.specs.Prelude.{◌≡◌, ◌⊎◌, ℕ, [], Some, None, List, Option, IsErr, OnOk, OnErr};
 ghost use Rattle.lsv_disk.specs.declared.file.FileId.{FileId};
 ghost use Rattle.lsv_disk.specs.Files.{AreDistinct, IsOneOf};
-ghost use Rattle.lsv_disk.specs.View.{IsSynced, OneWrite, Unsynced, HasCause, HasOwnCause};
+ghost use Rattle.lsv_disk.specs.View.{IsSynced, OneMaking, Uncounted, HasCause, HasOwnCause};
 ghost use Rattle.lsv_disk.specs.Throughout.{Throughout};
 ghost use Rattle.lsv_disk.specs.Memory.Value.{view_of_disk};
 
@@ -16,7 +16,7 @@ impl MemDisk {
         ensures durable { OnOk result (IsSynced (view_of_disk self.new) f) }
         ensures failed { OnErr result (((view_of_disk self.new).reads f ≡ None) ⊎ ((view_of_disk self.new).reads f ≡ Some [])) }
         ensures crash { (c : Option (List ℕ)) → (view_of_disk self.new).crash_states f c → (view_of_disk self.old).crash_states f c ⊎ (c ≡ Some []) }
-        ensures frame { OneWrite f (view_of_disk self.old) (view_of_disk self.new) }
+        ensures frame { OneMaking f (view_of_disk self.old) (view_of_disk self.new) }
         ensures cause { HasCause f (IsErr result) (view_of_disk self.old) (view_of_disk self.new) }
     {
         self.try_create(f)
@@ -32,7 +32,7 @@ impl MemDisk {
         ensures any_moment { Throughout (IsOneOf owner parts.now)
             (λ image. (f : FileId) → IsOneOf owner parts.now f → (view_of_disk self.old).crash_states f (image f) ⊎ (image f ≡ Some []))
             (view_of_disk self.old) (view_of_disk self.new) }
-        ensures unsynced { Unsynced (view_of_disk self.old) (view_of_disk self.new) }
+        ensures counts { Uncounted (view_of_disk self.old) (view_of_disk self.new) }
         ensures cause { HasOwnCause (IsOneOf owner parts.now) (IsErr result) (view_of_disk self.old) (view_of_disk self.new) }
     {
         let [first, rest @ ..] = parts else {

@@ -1,5 +1,6 @@
 use Rattle.lsv_bundle.specs.Represents.{Each, IsWritten}
-use Rattle.lsv_bundle.specs.InnerFiles.{IsSyncedFile, IsSyncedOnce}
+use Rattle.lsv_bundle.specs.InnerFiles.{IsStagedAmong, IsSyncedFile, IsSyncedOnce}
+use Rattle.lsv_disk.proofs.Composition.{calls_trans}
 use Rattle.lsv_bundle.proofs.Results.{on_ok_map}
 use Rattle.lsv_bundle.proofs.DataFiles.{synced_run, all_written, all_once}
 use Rattle.lsv_bundle.proofs.data_file.write_staged.Goals as goal
@@ -24,5 +25,10 @@ returns-clause-once g c told =
     let mid = g.D.Disk.view c.write_all.new.disk in
     let new = g.D.Disk.view c.sync_all.new.disk in
     on_ok_map c.sync_all.result (Each (IsSyncedOnce c.args.owner mid new) c.args.files.now) (Each (IsSyncedOnce c.args.owner old new) c.args.files.now)
-    (all_once c.args.owner c.args.files.now old mid new (c.sync_all.ensures.unchanged told) (c.write_all.ensures.any_moment told) (c.write_all.ensures.unsynced told))
+    (all_once c.args.owner c.args.files.now old mid new (c.sync_all.ensures.unchanged told) (c.write_all.ensures.any_moment told) (c.write_all.ensures.calls told))
     (c.sync_all.ensures.once told)
+
+pub returns-clause-calls : goal.returns-clause-calls
+returns-clause-calls g c told =
+    calls_trans 1 0 0 1 (IsStagedAmong c.args.owner c.args.files.now) (g.D.Disk.view c.args.disk.now) (g.D.Disk.view c.write_all.new.disk) (g.D.Disk.view c.sync_all.new.disk)
+    (c.write_all.ensures.calls told) (c.sync_all.ensures.calls told)

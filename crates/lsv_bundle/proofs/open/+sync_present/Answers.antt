@@ -2,7 +2,7 @@ use Rattle.std.proofs.Common.{◌-◌, List, ◌++◌, inr, length, take, drop, 
 use Rattle.lsv_disk.specs.declared.file.Part.{Part}
 use Rattle.lsv_disk.specs.declared.file.Part.TheVariants.{Head}
 use Rattle.lsv_bundle.specs.Represents.{IsDurable}
-use Rattle.lsv_bundle.proofs.Syncing.{split_first, if_ok_map, has_content, each_more, sync_unchanged, sync_durable, sync_syncs, there_more, set_one}
+use Rattle.lsv_bundle.proofs.Syncing.{split_first, if_ok_map, has_content, each_more, sync_unchanged, sync_durable, sync_calls, there_more, set_one}
 use Rattle.lsv_bundle.proofs.open.+sync_present.Goals as goal
 
 pub returns-then-is_some-clause-there : goal.returns-then-is_some-clause-there
@@ -25,11 +25,11 @@ returns-then-is_some-clause-unchanged g t c told =
     sync_unchanged c.args.owner (get_or c.args.parts.now 0 Head) c.new-file.result c.new-file.ensures (g.D.Disk.view c.args.disk.now) (g.D.Disk.view c.length.new.self) (g.D.Disk.view c.sync.new.self) (g.D.Disk.view c.sync_present.new.disk)
     (c.in_ok-length.ensures.frame told) (c.in_ok-sync.ensures.frame told) (only c.args.disk.now) (only c.length.new.self) (only c.sync.new.self) (c.sync_present.ensures.unchanged told)
 
-pub returns-then-is_some-clause-syncs : goal.returns-then-is_some-clause-syncs
-returns-then-is_some-clause-syncs g t c told =
+pub returns-then-is_some-clause-calls : goal.returns-then-is_some-clause-calls
+returns-then-is_some-clause-calls g t c told =
     let parts : List Part = c.args.parts.now in
-    sync_syncs c.args.owner (get_or parts 0 Head) c.new-file.result c.new-file.ensures (g.D.Disk.view c.args.disk.now) (g.D.Disk.view c.length.new.self) (g.D.Disk.view c.sync.new.self) (g.D.Disk.view c.sync_present.new.disk)
-    (c.in_ok-length.ensures.frame told) (c.in_ok-sync.ensures.frame told) parts (take (length parts - 1) (drop 1 parts)) (split_first parts Head c.in-len1-up.len_at_least) c.requires.distinct (c.sync_present.ensures.syncs told)
+    sync_calls c.args.owner (get_or parts 0 Head) c.new-file.result c.new-file.ensures (g.D.Disk.view c.args.disk.now) (g.D.Disk.view c.length.new.self) (g.D.Disk.view c.sync.new.self) (g.D.Disk.view c.sync_present.new.disk)
+    (c.in_ok-length.ensures.frame told) (c.in_ok-sync.ensures.frame told) parts (take (length parts - 1) (drop 1 parts)) (split_first parts Head c.in-len1-up.len_at_least) c.requires.distinct (c.sync_present.ensures.calls told)
 
 pub returns-clause-there : goal.returns-clause-there
 returns-clause-there g t c told =

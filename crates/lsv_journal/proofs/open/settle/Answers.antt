@@ -1,5 +1,5 @@
 use Rattle.std.proofs.Common.{refl, sym, ◌∙◌}
-use Rattle.lsv_journal.proofs.Words.{rose_at, own_itself, last_found, if_ok_weaker, reads_hold, settled_run, unchanged_last}
+use Rattle.lsv_journal.proofs.Words.{rose_at, own_itself, last_found, if_ok_weaker, reads_hold, settled_run, unchanged_last, slots_entry, none_found}
 use Rattle.lsv_journal.proofs.open.settle.Goals as goal
 
 pub returns-in_err-found-clause-any_moment : goal.returns-in_err-found-clause-any_moment
@@ -23,3 +23,14 @@ returns-clause-last g c told =
 pub returns-clause-any_moment : goal.returns-clause-any_moment
 returns-clause-any_moment g c told =
     settled_run g.row.N c.args.f (g.D.Disk.view c.args.disk.now) (g.D.Disk.view c.find.new.disk) (g.D.Disk.view c.take_over.new.disk) c.requires.slots (c.requires.synced_before told) (c.requires.old_synced told) (c.find.ensures.reads told).unchanged (c.take_over.ensures.any_moment told)
+
+pub returns-in_err-found-clause-unwritten : goal.returns-in_err-found-clause-unwritten
+returns-in_err-found-clause-unwritten g c told has f = (c.find.ensures.reads told).counts.writes f
+
+pub returns-then-is_some-clause-unwritten : goal.returns-then-is_some-clause-unwritten
+returns-then-is_some-clause-unwritten g c told has f = (c.find.ensures.reads told).counts.writes f
+
+pub returns-clause-unwritten : goal.returns-clause-unwritten
+returns-clause-unwritten g c told has f =
+    absurd (slots_entry g.row.N c.args.f ((g.D.Disk.view c.args.disk.now).reads) has
+    (sym (c.in_ok-found.ensures.last told) ∙ none_found c.in_ok-found.found.last (sym c.is_some.ensures ∙ c.if-is_some.false)))

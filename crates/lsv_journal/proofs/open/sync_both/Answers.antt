@@ -1,20 +1,20 @@
 use Rattle.std.proofs.Common.{refl}
 use Rattle.lsv_disk.proofs.Composition.{cause_second, cause_of_file}
 use Rattle.lsv_journal.specs.Last.{IsOwn}
-use Rattle.lsv_journal.proofs.Words.{rose_at, own_itself, own_by, own_syncs, one_sync_syncs, both_syncs}
+use Rattle.lsv_journal.proofs.Words.{rose_at, own_itself, own_by, sync_calls, both_calls}
 use Rattle.lsv_journal.proofs.open.sync_both.Goals as goal
 
-pub returns-in_err-sync-clause-syncs : goal.returns-in_err-sync-clause-syncs
-returns-in_err-sync-clause-syncs g c told slots =
+pub returns-in_err-sync-clause-calls : goal.returns-in_err-sync-clause-calls
+returns-in_err-sync-clause-calls g c told slots =
     let old = g.D.Disk.view c.args.disk.now in
     let new = g.D.Disk.view c.sync.new.self in
-    own_syncs 1 c.args.f old new slots (one_sync_syncs c.args.f old new (c.sync.ensures.frame told))
+    sync_calls c.args.f old new slots (c.sync.ensures.frame told)
 
 pub returns-in_err-sync-clause-cause : goal.returns-in_err-sync-clause-cause
 returns-in_err-sync-clause-cause g c = rose_at c.args.f c.args.f _ (g.D.Disk.view c.args.disk.now) (g.D.Disk.view c.sync.new.self) (own_itself c.args.f) c.sync.ensures.cause.monotone (c.in_err-sync.ensures.cause.risen refl)
 
-pub returns-clause-syncs : goal.returns-clause-syncs
-returns-clause-syncs g c told slots = both_syncs c.args.f c.old_file.result (g.D.Disk.view c.args.disk.now) (g.D.Disk.view c.sync.new.self) (g.D.Disk.view c.sync-2.new.self) c.old_file.ensures slots (c.sync.ensures.frame told) (c.sync-2.ensures.frame told)
+pub returns-clause-calls : goal.returns-clause-calls
+returns-clause-calls g c told slots = both_calls c.args.f c.old_file.result (g.D.Disk.view c.args.disk.now) (g.D.Disk.view c.sync.new.self) (g.D.Disk.view c.sync-2.new.self) c.old_file.ensures slots (c.sync.ensures.frame told) (c.sync-2.ensures.frame told)
 
 pub returns-clause-cause : goal.returns-clause-cause
 returns-clause-cause g c =

@@ -129,7 +129,7 @@ returns-clause-committed g c told =
     let shorter : (i : ℕ) → slice_index c.args.lens i ≤ slice_index (lengths_of seen) i = subst (λ (b : BundleView). (i : ℕ) → slice_index c.args.lens i ≤ slice_index (lengths_of b) i) (sym c.self.view_is) c.requires.none_grows in
     let bytes_are : c.encode.result ≡ encoded entry = c.encode.ensures ∙ ap encoded body_is in
     let run = journal_either seen old at new (Some (encoded entry)) (subst (λ (l : List ℕ). Throughout (λ f. f ≡ journals.file seen.journal) (lasts.IsBeforeOrAfter 89 (journals.file seen.journal) (journals.last seen.journal) (Some l)) old new) bytes_are (c.append.ensures.any_moment told (inv.whole whole))) in
-    let well : WellFormed next = record { parts = cut_parts seen.files c.args.lens ∙ inv.parts; at = c.append.ensures.file ∙ inv.at; whole = λ _. on_ok_of c.append.result _ (sym c.is_err.ensures.value ∙ c.if-is_err.false) c.append.ensures.whole; last_body = λ b e. subst IsBody (let same : c.new-body.result ≡ b = cc (e) in same) c.new-body.ensures.is_body; prepared = λ _. on_ok_of c.append.result _ (sym c.is_err.ensures.value ∙ c.if-is_err.false) c.append.ensures.prepared; prepared_body = λ b e. cc } in
+    let well : WellFormed next = record { parts = cut_parts seen.files c.args.lens ∙ inv.parts; at = c.append.ensures.kept.file_is ∙ inv.at; whole = λ _. on_ok_of c.append.result _ (sym c.is_err.ensures.value ∙ c.if-is_err.false) c.append.ensures.whole; last_body = λ b e. subst IsBody (let same : c.new-body.result ≡ b = cc (e) in same) c.new-body.ensures.is_body; prepared = λ _. on_ok_of c.append.result _ (sym c.is_err.ensures.value ∙ c.if-is_err.false) c.append.ensures.prepared; prepared_body = λ b e. cc } in
     let journal = c.append.ensures.represents told (on_ok_of c.append.result _ (sym c.is_err.ensures.value ∙ c.if-is_err.false) c.append.ensures.whole) in
     let last : journals.last next.journal ≡ Some (encoded entry) = on_ok_of c.append.result _ (sym c.is_err.ensures.value ∙ c.if-is_err.false) c.append.ensures.last ∙ ap Some bytes_are in
     subst (λ (s : BundleView). committed s new ≡ Some (committed_cut c.args.self.now old c.args.lens c.args.count c.args.elapsed c.args.extra)) (sym c.cut_files.ensures)
@@ -153,7 +153,7 @@ returns-clause-acknowledged g c told =
     let shorter : (i : ℕ) → slice_index c.args.lens i ≤ slice_index (lengths_of seen) i = subst (λ (b : BundleView). (i : ℕ) → slice_index c.args.lens i ≤ slice_index (lengths_of b) i) (sym c.self.view_is) c.requires.none_grows in
     let bytes_are : c.encode.result ≡ encoded entry = c.encode.ensures ∙ ap encoded body_is in
     let run = journal_either seen old at new (Some (encoded entry)) (subst (λ (l : List ℕ). Throughout (λ f. f ≡ journals.file seen.journal) (lasts.IsBeforeOrAfter 89 (journals.file seen.journal) (journals.last seen.journal) (Some l)) old new) bytes_are (c.append.ensures.any_moment told (inv.whole whole))) in
-    let well : WellFormed next = record { parts = cut_parts seen.files c.args.lens ∙ inv.parts; at = c.append.ensures.file ∙ inv.at; whole = λ _. on_ok_of c.append.result _ (sym c.is_err.ensures.value ∙ c.if-is_err.false) c.append.ensures.whole; last_body = λ b e. subst IsBody (let same : c.new-body.result ≡ b = cc (e) in same) c.new-body.ensures.is_body; prepared = λ _. on_ok_of c.append.result _ (sym c.is_err.ensures.value ∙ c.if-is_err.false) c.append.ensures.prepared; prepared_body = λ b e. cc } in
+    let well : WellFormed next = record { parts = cut_parts seen.files c.args.lens ∙ inv.parts; at = c.append.ensures.kept.file_is ∙ inv.at; whole = λ _. on_ok_of c.append.result _ (sym c.is_err.ensures.value ∙ c.if-is_err.false) c.append.ensures.whole; last_body = λ b e. subst IsBody (let same : c.new-body.result ≡ b = cc (e) in same) c.new-body.ensures.is_body; prepared = λ _. on_ok_of c.append.result _ (sym c.is_err.ensures.value ∙ c.if-is_err.false) c.append.ensures.prepared; prepared_body = λ b e. cc } in
     let journal = c.append.ensures.represents told (on_ok_of c.append.result _ (sym c.is_err.ensures.value ∙ c.if-is_err.false) c.append.ensures.whole) in
     let last : journals.last next.journal ≡ Some (encoded entry) = on_ok_of c.append.result _ (sym c.is_err.ensures.value ∙ c.if-is_err.false) c.append.ensures.last ∙ ap Some bytes_are in
     subst (λ (s : BundleView). (image : Image) → IsOwnImage s.owner s.shape new image → HoldsEntry s.owner s.shape (committed_cut s old c.args.lens c.args.count c.args.elapsed c.args.extra) image) c.self.view_is
@@ -176,7 +176,7 @@ returns-clause-represents g c told unbroken =
     let shorter : (i : ℕ) → slice_index c.args.lens i ≤ slice_index (lengths_of seen) i = subst (λ (b : BundleView). (i : ℕ) → slice_index c.args.lens i ≤ slice_index (lengths_of b) i) (sym c.self.view_is) c.requires.none_grows in
     let bytes_are : c.encode.result ≡ encoded entry = c.encode.ensures ∙ ap encoded body_is in
     let run = journal_either seen old at new (Some (encoded entry)) (subst (λ (l : List ℕ). Throughout (λ f. f ≡ journals.file seen.journal) (lasts.IsBeforeOrAfter 89 (journals.file seen.journal) (journals.last seen.journal) (Some l)) old new) bytes_are (c.append.ensures.any_moment told (inv.whole whole))) in
-    let well : WellFormed next = record { parts = cut_parts seen.files c.args.lens ∙ inv.parts; at = c.append.ensures.file ∙ inv.at; whole = λ _. on_ok_of c.append.result _ (sym c.is_err.ensures.value ∙ c.if-is_err.false) c.append.ensures.whole; last_body = λ b e. subst IsBody (let same : c.new-body.result ≡ b = cc (e) in same) c.new-body.ensures.is_body; prepared = λ _. on_ok_of c.append.result _ (sym c.is_err.ensures.value ∙ c.if-is_err.false) c.append.ensures.prepared; prepared_body = λ b e. cc } in
+    let well : WellFormed next = record { parts = cut_parts seen.files c.args.lens ∙ inv.parts; at = c.append.ensures.kept.file_is ∙ inv.at; whole = λ _. on_ok_of c.append.result _ (sym c.is_err.ensures.value ∙ c.if-is_err.false) c.append.ensures.whole; last_body = λ b e. subst IsBody (let same : c.new-body.result ≡ b = cc (e) in same) c.new-body.ensures.is_body; prepared = λ _. on_ok_of c.append.result _ (sym c.is_err.ensures.value ∙ c.if-is_err.false) c.append.ensures.prepared; prepared_body = λ b e. cc } in
     let journal = c.append.ensures.represents told (on_ok_of c.append.result _ (sym c.is_err.ensures.value ∙ c.if-is_err.false) c.append.ensures.whole) in
     let last : journals.last next.journal ≡ Some (encoded entry) = on_ok_of c.append.result _ (sym c.is_err.ensures.value ∙ c.if-is_err.false) c.append.ensures.last ∙ ap Some bytes_are in
     subst (λ (s : BundleView). Represents s new) (sym c.cut_files.ensures)

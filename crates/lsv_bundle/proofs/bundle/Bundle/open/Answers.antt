@@ -1,10 +1,10 @@
 -- Opening the journal, then syncing the data files, and then looking at their lengths.
-use Rattle.std.proofs.Common.{◌≡◌, ◌⊎◌, inl, List, [], take, map, Option, Some, None, IfSome, Err, false, refl, sym, subst, ◌∙◌, ap, arith, lit≤}
+use Rattle.std.proofs.Common.{◌≡◌, ◌⊎◌, inl, List, [], take, map, Option, Some, None, IfSome, Err, false, refl, sym, subst, ◌∙◌, ap, arith}
 use Rattle.std.specs.Prelude.{slice_index, slice_index_or}
 use Rattle.lsv_disk.specs.declared.file.Part.{Part}
 use Rattle.lsv_disk.specs.Files.{file_of, IsOneOf}
-use Rattle.lsv_disk.specs.Throughout.{SyncsAtMost}
-use Rattle.lsv_disk.proofs.Composition.{unchanged_trans, cause_second, cause_widened}
+use Rattle.lsv_disk.specs.Throughout.{CallsAtMost}
+use Rattle.lsv_disk.proofs.Composition.{unchanged_trans, cause_second, cause_widened, calls_trans, uncounted_at_most}
 use Rattle.lsv_journal.specs.declared.journal.Journal.{Journal}
 use Rattle.lsv_journal.specs.Last.{LastAt}
 use Rattle.lsv_journal.specs.Value as journals
@@ -21,8 +21,8 @@ use Rattle.lsv_bundle.specs.InnerFiles.{EachPart}
 use Rattle.lsv_bundle.proofs.Results.{same_fault}
 use Rattle.lsv_bundle.proofs.Shapes.{one_of_is_data}
 use Rattle.lsv_bundle.proofs.Laws.{represents_holds}
-use Rattle.lsv_bundle.proofs.Making.{fresh, fresh_parts, fresh_lengths, journal_then_files}
-use Rattle.lsv_bundle.proofs.Opening.{open_run, open_reads, part_reads, one_reads, committed_reads, short_reads, present_durable, durable_unchanged, syncs_then_reads, fresh_staged}
+use Rattle.lsv_bundle.proofs.Making.{fresh, fresh_parts, fresh_lengths, opened_calls, files_unwritten}
+use Rattle.lsv_bundle.proofs.Opening.{open_run, open_reads, part_reads, one_reads, committed_reads, short_reads, present_durable, durable_unchanged, fresh_staged}
 use Rattle.lsv_bundle.proofs.bundle.Bundle.open.Goals as goal
 
 pub returns-in_err-sync_present-clause-reads : goal.returns-in_err-sync_present-clause-reads
@@ -35,7 +35,7 @@ returns-in_err-sync_present-clause-reads g c told =
     let run = c.open_journal.ensures.any_moment told in
     let synced = c.sync_present.ensures.unchanged told in
     let is_now = g.met.D.Disk.is_now told c.open_journal.new.disk in
-    let syncs : SyncsAtMost 1 (IsOneOf owner (parts_of s)) one two = subst (λ (ps : List Part). SyncsAtMost 1 (IsOneOf owner ps) one two) c.parts.ensures (c.sync_present.ensures.syncs told) in
+    let calls : CallsAtMost 0 1 (IsOneOf owner (parts_of s)) one two = subst (λ (ps : List Part). CallsAtMost 0 1 (IsOneOf owner ps) one two) c.parts.ensures (c.sync_present.ensures.calls told) in
     open_reads owner s old one two run synced (c.open_journal.ensures.reads told)
 
 pub returns-in_err-sync_present-clause-any_moment : goal.returns-in_err-sync_present-clause-any_moment
@@ -48,11 +48,11 @@ returns-in_err-sync_present-clause-any_moment g c told =
     let run = c.open_journal.ensures.any_moment told in
     let synced = c.sync_present.ensures.unchanged told in
     let is_now = g.met.D.Disk.is_now told c.open_journal.new.disk in
-    let syncs : SyncsAtMost 1 (IsOneOf owner (parts_of s)) one two = subst (λ (ps : List Part). SyncsAtMost 1 (IsOneOf owner ps) one two) c.parts.ensures (c.sync_present.ensures.syncs told) in
+    let calls : CallsAtMost 0 1 (IsOneOf owner (parts_of s)) one two = subst (λ (ps : List Part). CallsAtMost 0 1 (IsOneOf owner ps) one two) c.parts.ensures (c.sync_present.ensures.calls told) in
     open_run owner s old one two run synced is_now
 
-pub returns-in_err-sync_present-clause-syncs : goal.returns-in_err-sync_present-clause-syncs
-returns-in_err-sync_present-clause-syncs g c told =
+pub returns-in_err-sync_present-clause-calls : goal.returns-in_err-sync_present-clause-calls
+returns-in_err-sync_present-clause-calls g c told =
     let owner = c.args.owner in
     let s = c.args.shape in
     let old = g.D.Disk.view c.args.disk.now in
@@ -61,8 +61,8 @@ returns-in_err-sync_present-clause-syncs g c told =
     let run = c.open_journal.ensures.any_moment told in
     let synced = c.sync_present.ensures.unchanged told in
     let is_now = g.met.D.Disk.is_now told c.open_journal.new.disk in
-    let syncs : SyncsAtMost 1 (IsOneOf owner (parts_of s)) one two = subst (λ (ps : List Part). SyncsAtMost 1 (IsOneOf owner ps) one two) c.parts.ensures (c.sync_present.ensures.syncs told) in
-    journal_then_files owner s 5 old one two (lit≤ tt) (c.open_journal.ensures.syncs told) syncs
+    let calls : CallsAtMost 0 1 (IsOneOf owner (parts_of s)) one two = subst (λ (ps : List Part). CallsAtMost 0 1 (IsOneOf owner ps) one two) c.parts.ensures (c.sync_present.ensures.calls told) in
+    opened_calls owner s old one two (c.open_journal.ensures.calls told) calls
 
 pub returns-in_err-check_lengths-clause-reads : goal.returns-in_err-check_lengths-clause-reads
 returns-in_err-check_lengths-clause-reads g c told =
@@ -74,7 +74,7 @@ returns-in_err-check_lengths-clause-reads g c told =
     let run = c.open_journal.ensures.any_moment told in
     let synced = c.sync_present.ensures.unchanged told in
     let is_now = g.met.D.Disk.is_now told c.open_journal.new.disk in
-    let syncs : SyncsAtMost 1 (IsOneOf owner (parts_of s)) one two = subst (λ (ps : List Part). SyncsAtMost 1 (IsOneOf owner ps) one two) c.parts.ensures (c.sync_present.ensures.syncs told) in
+    let calls : CallsAtMost 0 1 (IsOneOf owner (parts_of s)) one two = subst (λ (ps : List Part). CallsAtMost 0 1 (IsOneOf owner ps) one two) c.parts.ensures (c.sync_present.ensures.calls told) in
     let new = g.D.Disk.view c.check_lengths.new.disk in
     let unchanged = unchanged_trans one two new synced (c.check_lengths.ensures.reads told).unchanged in
     open_reads owner s old one new run unchanged (c.open_journal.ensures.reads told)
@@ -89,13 +89,13 @@ returns-in_err-check_lengths-clause-any_moment g c told =
     let run = c.open_journal.ensures.any_moment told in
     let synced = c.sync_present.ensures.unchanged told in
     let is_now = g.met.D.Disk.is_now told c.open_journal.new.disk in
-    let syncs : SyncsAtMost 1 (IsOneOf owner (parts_of s)) one two = subst (λ (ps : List Part). SyncsAtMost 1 (IsOneOf owner ps) one two) c.parts.ensures (c.sync_present.ensures.syncs told) in
+    let calls : CallsAtMost 0 1 (IsOneOf owner (parts_of s)) one two = subst (λ (ps : List Part). CallsAtMost 0 1 (IsOneOf owner ps) one two) c.parts.ensures (c.sync_present.ensures.calls told) in
     let new = g.D.Disk.view c.check_lengths.new.disk in
     let unchanged = unchanged_trans one two new synced (c.check_lengths.ensures.reads told).unchanged in
     open_run owner s old one new run unchanged is_now
 
-pub returns-in_err-check_lengths-clause-syncs : goal.returns-in_err-check_lengths-clause-syncs
-returns-in_err-check_lengths-clause-syncs g c told =
+pub returns-in_err-check_lengths-clause-calls : goal.returns-in_err-check_lengths-clause-calls
+returns-in_err-check_lengths-clause-calls g c told =
     let owner = c.args.owner in
     let s = c.args.shape in
     let old = g.D.Disk.view c.args.disk.now in
@@ -104,10 +104,10 @@ returns-in_err-check_lengths-clause-syncs g c told =
     let run = c.open_journal.ensures.any_moment told in
     let synced = c.sync_present.ensures.unchanged told in
     let is_now = g.met.D.Disk.is_now told c.open_journal.new.disk in
-    let syncs : SyncsAtMost 1 (IsOneOf owner (parts_of s)) one two = subst (λ (ps : List Part). SyncsAtMost 1 (IsOneOf owner ps) one two) c.parts.ensures (c.sync_present.ensures.syncs told) in
+    let calls : CallsAtMost 0 1 (IsOneOf owner (parts_of s)) one two = subst (λ (ps : List Part). CallsAtMost 0 1 (IsOneOf owner ps) one two) c.parts.ensures (c.sync_present.ensures.calls told) in
     let new = g.D.Disk.view c.check_lengths.new.disk in
     let unchanged = unchanged_trans one two new synced (c.check_lengths.ensures.reads told).unchanged in
-    journal_then_files owner s 5 old one new (lit≤ tt) (c.open_journal.ensures.syncs told) (syncs_then_reads 1 (IsOneOf owner (parts_of s)) one two new syncs (c.check_lengths.ensures.reads told).syncs)
+    opened_calls owner s old one new (c.open_journal.ensures.calls told) (calls_trans 0 1 0 0 (IsOneOf owner (parts_of s)) one two new calls (uncounted_at_most 0 0 (IsOneOf owner (parts_of s)) two new (c.check_lengths.ensures.reads told).counts))
 
 pub returns-in_err-check_lengths-clause-damaged : goal.returns-in_err-check_lengths-clause-damaged
 returns-in_err-check_lengths-clause-damaged g c told part is =
@@ -119,7 +119,7 @@ returns-in_err-check_lengths-clause-damaged g c told part is =
     let run = c.open_journal.ensures.any_moment told in
     let synced = c.sync_present.ensures.unchanged told in
     let is_now = g.met.D.Disk.is_now told c.open_journal.new.disk in
-    let syncs : SyncsAtMost 1 (IsOneOf owner (parts_of s)) one two = subst (λ (ps : List Part). SyncsAtMost 1 (IsOneOf owner ps) one two) c.parts.ensures (c.sync_present.ensures.syncs told) in
+    let calls : CallsAtMost 0 1 (IsOneOf owner (parts_of s)) one two = subst (λ (ps : List Part). CallsAtMost 0 1 (IsOneOf owner ps) one two) c.parts.ensures (c.sync_present.ensures.calls told) in
     let same : c.in_err-check_lengths.field-0.0 ≡ Damaged part = same_fault c.from_residual-in_err-check_lengths.result c.in_err-check_lengths.field-0.0 (Damaged part) c.from_residual-in_err-check_lengths.ensures.1 is in
     let short : IsFirstShort owner two.reads c.in-Some.body.lens (parts_of s) part = subst (λ (ps : List Part). IsFirstShort owner two.reads c.in-Some.body.lens ps part) c.parts-2.ensures (c.in_err-check_lengths.ensures.damaged told part (ap Err same)) in
     record {
@@ -155,13 +155,13 @@ returns-clause-any_moment g c told =
     let run = c.open_journal.ensures.any_moment told in
     let synced = c.sync_present.ensures.unchanged told in
     let is_now = g.met.D.Disk.is_now told c.open_journal.new.disk in
-    let syncs : SyncsAtMost 1 (IsOneOf owner (parts_of s)) one two = subst (λ (ps : List Part). SyncsAtMost 1 (IsOneOf owner ps) one two) c.parts.ensures (c.sync_present.ensures.syncs told) in
+    let calls : CallsAtMost 0 1 (IsOneOf owner (parts_of s)) one two = subst (λ (ps : List Part). CallsAtMost 0 1 (IsOneOf owner ps) one two) c.parts.ensures (c.sync_present.ensures.calls told) in
     let new = g.D.Disk.view c.check_lengths.new.disk in
     let unchanged = unchanged_trans one two new synced (c.check_lengths.ensures.reads told).unchanged in
     open_run owner s old one new run unchanged is_now
 
-pub returns-clause-syncs : goal.returns-clause-syncs
-returns-clause-syncs g c told =
+pub returns-clause-calls : goal.returns-clause-calls
+returns-clause-calls g c told =
     let owner = c.args.owner in
     let s = c.args.shape in
     let old = g.D.Disk.view c.args.disk.now in
@@ -170,10 +170,10 @@ returns-clause-syncs g c told =
     let run = c.open_journal.ensures.any_moment told in
     let synced = c.sync_present.ensures.unchanged told in
     let is_now = g.met.D.Disk.is_now told c.open_journal.new.disk in
-    let syncs : SyncsAtMost 1 (IsOneOf owner (parts_of s)) one two = subst (λ (ps : List Part). SyncsAtMost 1 (IsOneOf owner ps) one two) c.parts.ensures (c.sync_present.ensures.syncs told) in
+    let calls : CallsAtMost 0 1 (IsOneOf owner (parts_of s)) one two = subst (λ (ps : List Part). CallsAtMost 0 1 (IsOneOf owner ps) one two) c.parts.ensures (c.sync_present.ensures.calls told) in
     let new = g.D.Disk.view c.check_lengths.new.disk in
     let unchanged = unchanged_trans one two new synced (c.check_lengths.ensures.reads told).unchanged in
-    journal_then_files owner s 5 old one new (lit≤ tt) (c.open_journal.ensures.syncs told) (syncs_then_reads 1 (IsOneOf owner (parts_of s)) one two new syncs (c.check_lengths.ensures.reads told).syncs)
+    opened_calls owner s old one new (c.open_journal.ensures.calls told) (calls_trans 0 1 0 0 (IsOneOf owner (parts_of s)) one two new calls (uncounted_at_most 0 0 (IsOneOf owner (parts_of s)) two new (c.check_lengths.ensures.reads told).counts))
 
 pub returns-clause-represents : goal.returns-clause-represents
 returns-clause-represents g c told =
@@ -185,7 +185,7 @@ returns-clause-represents g c told =
     let run = c.open_journal.ensures.any_moment told in
     let synced = c.sync_present.ensures.unchanged told in
     let is_now = g.met.D.Disk.is_now told c.open_journal.new.disk in
-    let syncs : SyncsAtMost 1 (IsOneOf owner (parts_of s)) one two = subst (λ (ps : List Part). SyncsAtMost 1 (IsOneOf owner ps) one two) c.parts.ensures (c.sync_present.ensures.syncs told) in
+    let calls : CallsAtMost 0 1 (IsOneOf owner (parts_of s)) one two = subst (λ (ps : List Part). CallsAtMost 0 1 (IsOneOf owner ps) one two) c.parts.ensures (c.sync_present.ensures.calls told) in
     let new = g.D.Disk.view c.check_lengths.new.disk in
     let unchanged = unchanged_trans one two new synced (c.check_lengths.ensures.reads told).unchanged in
     let view : BundleView = record { owner = owner; shape = s; last = Some c.in-Some.body; prepared = None; files = c.in_ok-files.files.items; is_broken = false; journal = c.in-Some.journal } in
@@ -221,7 +221,7 @@ returns-clause-durable g c told image is =
     let run = c.open_journal.ensures.any_moment told in
     let synced = c.sync_present.ensures.unchanged told in
     let is_now = g.met.D.Disk.is_now told c.open_journal.new.disk in
-    let syncs : SyncsAtMost 1 (IsOneOf owner (parts_of s)) one two = subst (λ (ps : List Part). SyncsAtMost 1 (IsOneOf owner ps) one two) c.parts.ensures (c.sync_present.ensures.syncs told) in
+    let calls : CallsAtMost 0 1 (IsOneOf owner (parts_of s)) one two = subst (λ (ps : List Part). CallsAtMost 0 1 (IsOneOf owner ps) one two) c.parts.ensures (c.sync_present.ensures.calls told) in
     let new = g.D.Disk.view c.check_lengths.new.disk in
     let unchanged = unchanged_trans one two new synced (c.check_lengths.ensures.reads told).unchanged in
     let view : BundleView = record { owner = owner; shape = s; last = Some c.in-Some.body; prepared = None; files = c.in_ok-files.files.items; is_broken = false; journal = c.in-Some.journal } in
@@ -247,3 +247,20 @@ returns-clause-durable g c told image is =
     } in
     subst (λ (b : Option Committed). BundleHolds owner s b image) (committed_reads view old new (part_reads owner s old one new run unchanged))
     (represents_holds view new at image (λ f own. is f))
+
+pub returns-in_err-sync_present-clause-unwritten : goal.returns-in_err-sync_present-clause-unwritten
+returns-in_err-sync_present-clause-unwritten g c told has f =
+    files_unwritten c.args.owner c.parts.result.now (g.D.Disk.view c.open_journal.new.disk) (g.D.Disk.view c.sync_present.new.disk) (c.sync_present.ensures.calls told) f
+    ∙ c.open_journal.ensures.unwritten told has f
+
+pub returns-in_err-check_lengths-clause-unwritten : goal.returns-in_err-check_lengths-clause-unwritten
+returns-in_err-check_lengths-clause-unwritten g c told has f =
+    (c.check_lengths.ensures.reads told).counts.writes f
+    ∙ files_unwritten c.args.owner c.parts.result.now (g.D.Disk.view c.open_journal.new.disk) (g.D.Disk.view c.sync_present.new.disk) (c.sync_present.ensures.calls told) f
+    ∙ c.open_journal.ensures.unwritten told has f
+
+pub returns-clause-unwritten : goal.returns-clause-unwritten
+returns-clause-unwritten g c told has f =
+    (c.check_lengths.ensures.reads told).counts.writes f
+    ∙ files_unwritten c.args.owner c.parts.result.now (g.D.Disk.view c.open_journal.new.disk) (g.D.Disk.view c.sync_present.new.disk) (c.sync_present.ensures.calls told) f
+    ∙ c.open_journal.ensures.unwritten told has f

@@ -125,7 +125,7 @@ returns-clause-committed g c told body is =
     let is_body : IsBody ready.0 = inv.prepared_body ready.0 ready.1 in
     let last : journals.prepared c.self.inside.journal ≡ Some (encoded ready.0) = inv.prepared whole ∙ ap (option_map encoded) ready.1 in
     let run = journal_either seen old at new (Some (encoded ready.0)) (subst (λ (o : Option (List ℕ)). Throughout (λ f. f ≡ journals.file seen.journal) (lasts.IsBeforeOrAfter 89 (journals.file seen.journal) (journals.last seen.journal) o) old new) last (c.select.ensures.any_moment told (inv.whole whole))) in
-    let well : WellFormed next = record { parts = commit_parts seen.files ∙ inv.parts; at = c.select.ensures.file ∙ inv.at; whole = λ _. on_ok_of c.select.result _ (sym c.is_err.ensures.value ∙ c.if-is_err.false) c.select.ensures.whole; last_body = inv.prepared_body; prepared = λ _. on_ok_of c.select.result _ (sym c.is_err.ensures.value ∙ c.if-is_err.false) c.select.ensures.prepared; prepared_body = λ body e. cc } in
+    let well : WellFormed next = record { parts = commit_parts seen.files ∙ inv.parts; at = c.select.ensures.kept.file_is ∙ inv.at; whole = λ _. on_ok_of c.select.result _ (sym c.is_err.ensures.value ∙ c.if-is_err.false) c.select.ensures.whole; last_body = inv.prepared_body; prepared = λ _. on_ok_of c.select.result _ (sym c.is_err.ensures.value ∙ c.if-is_err.false) c.select.ensures.prepared; prepared_body = λ body e. cc } in
     let journal = c.select.ensures.represents told (on_ok_of c.select.result _ (sym c.is_err.ensures.value ∙ c.if-is_err.false) c.select.ensures.whole) in
     let entry : journals.last next.journal ≡ Some (encoded ready.0) = on_ok_of c.select.result _ (sym c.is_err.ensures.value ∙ c.if-is_err.false) c.select.ensures.last ∙ last in
     let now_ready : c.args.self.now.prepared ≡ Some ready.0 = ap (λ (b : BundleView). b.prepared) (sym c.self.view_is) ∙ ready.1 in
@@ -151,7 +151,7 @@ returns-clause-represents g c told unbroken =
     let is_body : IsBody ready.0 = inv.prepared_body ready.0 ready.1 in
     let last : journals.prepared c.self.inside.journal ≡ Some (encoded ready.0) = inv.prepared whole ∙ ap (option_map encoded) ready.1 in
     let run = journal_either seen old at new (Some (encoded ready.0)) (subst (λ (o : Option (List ℕ)). Throughout (λ f. f ≡ journals.file seen.journal) (lasts.IsBeforeOrAfter 89 (journals.file seen.journal) (journals.last seen.journal) o) old new) last (c.select.ensures.any_moment told (inv.whole whole))) in
-    let well : WellFormed next = record { parts = commit_parts seen.files ∙ inv.parts; at = c.select.ensures.file ∙ inv.at; whole = λ _. on_ok_of c.select.result _ (sym c.is_err.ensures.value ∙ c.if-is_err.false) c.select.ensures.whole; last_body = inv.prepared_body; prepared = λ _. on_ok_of c.select.result _ (sym c.is_err.ensures.value ∙ c.if-is_err.false) c.select.ensures.prepared; prepared_body = λ body e. cc } in
+    let well : WellFormed next = record { parts = commit_parts seen.files ∙ inv.parts; at = c.select.ensures.kept.file_is ∙ inv.at; whole = λ _. on_ok_of c.select.result _ (sym c.is_err.ensures.value ∙ c.if-is_err.false) c.select.ensures.whole; last_body = inv.prepared_body; prepared = λ _. on_ok_of c.select.result _ (sym c.is_err.ensures.value ∙ c.if-is_err.false) c.select.ensures.prepared; prepared_body = λ body e. cc } in
     let journal = c.select.ensures.represents told (on_ok_of c.select.result _ (sym c.is_err.ensures.value ∙ c.if-is_err.false) c.select.ensures.whole) in
     let entry : journals.last next.journal ≡ Some (encoded ready.0) = on_ok_of c.select.result _ (sym c.is_err.ensures.value ∙ c.if-is_err.false) c.select.ensures.last ∙ last in
     subst (λ (s : BundleView). Represents s new) (sym c.commit_files.ensures)

@@ -5,7 +5,7 @@ use Rattle.lsv_bundle.specs.Represents.{WellFormed}
 use Rattle.lsv_bundle.specs.InnerFiles.{Differ}
 use Rattle.lsv_bundle.proofs.Results.{on_ok_of}
 use Rattle.lsv_bundle.proofs.Shapes.{shape_differs}
-use Rattle.lsv_bundle.proofs.Steps.{data_run, written_at, run_below, run_bytes, bundle_run, bundle_written, bundle_once, bundle_syncs, bundle_cause}
+use Rattle.lsv_bundle.proofs.Steps.{data_run, written_at, run_below, run_bytes, bundle_run, bundle_written, bundle_once, bundle_calls, bundle_cause}
 use Rattle.lsv_bundle.proofs.bundle.Bundle.write_data.Goals as goal
 
 pub write_staged-requires-clause-differ : goal.write_staged-requires-clause-differ
@@ -32,15 +32,15 @@ returns-then-is_err-clause-below g c told whole =
     (run_bytes now old new _ (data_run now old new (c.requires.represents told whole) (bundle_run now c.self.inside.owner c.deref.result.now owner files old new (c.write_staged.ensures.any_moment told))))
     (g.met.D.Disk.is_now told c.write_staged.new.disk new.reads (g.met.D.Disk.reads_itself told c.write_staged.new.disk))
 
-pub returns-then-is_err-clause-syncs : goal.returns-then-is_err-clause-syncs
-returns-then-is_err-clause-syncs g c told =
+pub returns-then-is_err-clause-calls : goal.returns-then-is_err-clause-calls
+returns-then-is_err-clause-calls g c told =
     let now : BundleView = c.args.self.now in
     let old = g.D.Disk.view c.args.disk.now in
     let new = g.D.Disk.view c.write_staged.new.disk in
     let owner : c.self.inside.owner ≡ now.owner = ap (λ (b : BundleView). b.owner) c.self.view_is in
     let files : c.deref.result.now ≡ now.files = c.deref.ensures.value ∙ ap (λ (b : BundleView). b.files) c.self.view_is in
     let well : WellFormed now = subst WellFormed c.self.view_is c.self.invariant in
-    bundle_syncs now c.self.inside.owner c.deref.result.now owner files old new well.parts (c.write_staged.ensures.syncs told)
+    bundle_calls now c.self.inside.owner c.deref.result.now owner files old new well.parts (c.write_staged.ensures.calls told)
 
 pub returns-then-is_err-clause-cause : goal.returns-then-is_err-clause-cause
 returns-then-is_err-clause-cause g c =
@@ -101,12 +101,12 @@ returns-clause-synced g c told =
     let well : WellFormed now = subst WellFormed c.self.view_is c.self.invariant in
     bundle_once now c.self.inside.owner c.deref.result.now owner files old new well.parts (on_ok_of c.write_staged.result _ (sym c.is_err.ensures.value ∙ c.if-is_err.false) (c.write_staged.ensures.once told))
 
-pub returns-clause-syncs : goal.returns-clause-syncs
-returns-clause-syncs g c told =
+pub returns-clause-calls : goal.returns-clause-calls
+returns-clause-calls g c told =
     let now : BundleView = c.args.self.now in
     let old = g.D.Disk.view c.args.disk.now in
     let new = g.D.Disk.view c.write_staged.new.disk in
     let owner : c.self.inside.owner ≡ now.owner = ap (λ (b : BundleView). b.owner) c.self.view_is in
     let files : c.deref.result.now ≡ now.files = c.deref.ensures.value ∙ ap (λ (b : BundleView). b.files) c.self.view_is in
     let well : WellFormed now = subst WellFormed c.self.view_is c.self.invariant in
-    bundle_syncs now c.self.inside.owner c.deref.result.now owner files old new well.parts (c.write_staged.ensures.syncs told)
+    bundle_calls now c.self.inside.owner c.deref.result.now owner files old new well.parts (c.write_staged.ensures.calls told)

@@ -4,7 +4,7 @@ use Rattle.lsv_disk.specs.Bytes.{written}
 use Rattle.lsv_bundle.specs.Value.{FileView}
 use Rattle.lsv_bundle.specs.InnerFiles.{IsAppended}
 use Rattle.lsv_bundle.proofs.Results.{on_ok_map}
-use Rattle.lsv_bundle.proofs.DataFiles.{keeps_now, nothing_written, write_keeps, write_run, write_appended, same_crash, same_written, same_frame, some_staged}
+use Rattle.lsv_bundle.proofs.DataFiles.{keeps_now, nothing_written, write_keeps, write_run, write_appended, same_crash, same_written, same_frame, write_calls, some_staged}
 use Rattle.lsv_bundle.proofs.data_file.DataFile.write.Goals as goal
 
 pub returns-then-is_empty-clause-any_moment : goal.returns-then-is_empty-clause-any_moment
@@ -48,3 +48,12 @@ returns-clause-appended g c told =
     (λ now. write_appended c.args.owner c.args.self.now old new (c.requires.durable told) some
     (same_written c.args.owner c.args.self.now c.file.result c.self.inside.committed c.deref.result.now old new c.file.ensures at bytes now))
     (c.write_at.ensures.written told)
+
+pub returns-clause-calls : goal.returns-clause-calls
+returns-clause-calls g c told =
+    let old = g.D.Disk.view c.args.disk.now in
+    let new = g.D.Disk.view c.write_at.new.self in
+    let at : c.self.inside.committed ≡ c.args.self.now.committed = ap (λ (v : FileView). v.committed) c.self.view_is in
+    let bytes : c.deref.result.now ≡ c.args.self.now.staged = c.deref.ensures.value ∙ ap (λ (v : FileView). v.staged) c.self.view_is in
+    let some : c.deref.result.now ≢ [] = some_staged c.deref.result.now (ap (λ (n : ℕ). n == 0) c.deref.ensures.len ∙ sym c.is_empty.ensures ∙ c.if-is_empty.false) in
+    write_calls c.args.owner c.args.self.now c.file.result c.self.inside.committed c.deref.result.now old new c.file.ensures at bytes some (c.write_at.ensures.frame told)

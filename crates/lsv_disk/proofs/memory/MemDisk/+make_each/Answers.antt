@@ -3,7 +3,7 @@ use Rattle.lsv_disk.specs.declared.file.FileId.{FileId}
 use Rattle.lsv_disk.specs.declared.file.Part.{Part}
 use Rattle.lsv_disk.specs.declared.file.Part.TheVariants.{Head}
 use Rattle.lsv_disk.specs.Files.{IsOneOf, AreDistinct}
-use Rattle.lsv_disk.specs.View.{IsSynced, OneWrite}
+use Rattle.lsv_disk.specs.View.{IsSynced, OneMaking}
 use Rattle.lsv_disk.specs.Throughout.{Throughout}
 use Rattle.lsv_disk.specs.Memory.Laws.{view-only_now}
 use Rattle.lsv_disk.specs.Memory.Stored.{places_of}
@@ -28,7 +28,7 @@ returns-clause-durable t c =
     let distinct : AreDistinct c.args.owner (first ∷ rest) = subst (AreDistinct c.args.owner) split c.requires.distinct in
     on_ok_map c.make_each.result ((f : FileId) → IsOneOf c.args.owner rest f → IsSynced new f) ((f : FileId) → IsOneOf c.args.owner parts f → IsSynced new f)
     (λ rests. subst (λ (ps : List Part). (f : FileId) → IsOneOf c.args.owner ps f → IsSynced new f) (sym split)
-    (all_synced c.args.owner first rest old mid new distinct.0 (subst (λ (f : FileId). OneWrite f old mid) c.new.ensures c.make_file.ensures.frame) (only_now c.args.self.now) (only_now c.make_file.new.self)
+    (all_synced c.args.owner first rest old mid new distinct.0 (subst (λ (f : FileId). OneMaking f old mid) c.new.ensures c.make_file.ensures.frame) (only_now c.args.self.now) (only_now c.make_file.new.self)
     (subst (λ (f : FileId). (d : Option (List ℕ)) → mid.crash_states f d → old.crash_states f d ⊎ (d ≡ Some [])) c.new.ensures c.make_file.ensures.crash)
     c.make_each.ensures.any_moment (subst (λ (f : FileId). IsSynced mid f) c.new.ensures c.in_ok-make_file.ensures.durable) rests))
     c.make_each.ensures.durable
@@ -43,7 +43,7 @@ returns-in_err-make_file-clause-any_moment t c =
     let split : parts ≡ first ∷ rest = split_list parts Head c.in-len1-up.len_at_least in
     let distinct : AreDistinct c.args.owner (first ∷ rest) = subst (AreDistinct c.args.owner) split c.requires.distinct in
     subst (λ (ps : List Part). Throughout (IsOneOf c.args.owner ps) (MadeOrBefore c.args.owner ps old) old mid) (sym split)
-    (first_made c.args.owner first rest old mid mid distinct.0 (subst (λ (f : FileId). OneWrite f old mid) c.new.ensures c.make_file.ensures.frame) (only_now c.args.self.now) (only_now c.make_file.new.self)
+    (first_made c.args.owner first rest old mid mid distinct.0 (subst (λ (f : FileId). OneMaking f old mid) c.new.ensures c.make_file.ensures.frame) (only_now c.args.self.now) (only_now c.make_file.new.self)
     (subst (λ (f : FileId). (d : Option (List ℕ)) → mid.crash_states f d → old.crash_states f d ⊎ (d ≡ Some [])) c.new.ensures c.make_file.ensures.crash))
 
 pub returns-clause-any_moment : goal.returns-clause-any_moment
@@ -57,6 +57,6 @@ returns-clause-any_moment t c =
     let split : parts ≡ first ∷ rest = split_list parts Head c.in-len1-up.len_at_least in
     let distinct : AreDistinct c.args.owner (first ∷ rest) = subst (AreDistinct c.args.owner) split c.requires.distinct in
     subst (λ (ps : List Part). Throughout (IsOneOf c.args.owner ps) (MadeOrBefore c.args.owner ps old) old new) (sym split)
-    (all_made c.args.owner first rest old mid new distinct.0 (subst (λ (f : FileId). OneWrite f old mid) c.new.ensures c.make_file.ensures.frame) (only_now c.args.self.now) (only_now c.make_file.new.self)
+    (all_made c.args.owner first rest old mid new distinct.0 (subst (λ (f : FileId). OneMaking f old mid) c.new.ensures c.make_file.ensures.frame) (only_now c.args.self.now) (only_now c.make_file.new.self)
     (subst (λ (f : FileId). (d : Option (List ℕ)) → mid.crash_states f d → old.crash_states f d ⊎ (d ≡ Some [])) c.new.ensures c.make_file.ensures.crash)
     c.make_each.ensures.any_moment)

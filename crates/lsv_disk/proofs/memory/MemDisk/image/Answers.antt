@@ -32,9 +32,9 @@ loop-call-preserved c = record {
       (subst (λ (calls : List Call). i < length calls) c.deref-call-items.ensures.value c.loop-call-test.true)
       c.in_ok-take_over.ensures.here
       c.in_ok-take_over.ensures.others c.loop-call.invariant.taken;
-  refused = c.take_over.ensures.refused ∙ c.loop-call.invariant.refused;
-  failing = c.take_over.ensures.settings.failing_same ∙ c.loop-call.invariant.failing;
-  asked = c.take_over.ensures.number ∙ c.loop-call.invariant.asked;
+  refused = c.take_over.ensures.same.refused ∙ c.loop-call.invariant.refused;
+  failing = c.take_over.ensures.same.none.settings.failing_same ∙ c.loop-call.invariant.failing;
+  asked = c.take_over.ensures.same.none.number ∙ c.loop-call.invariant.asked;
 }
 
 pub returns-clause-content : goal.returns-clause-content

@@ -5,4 +5,4 @@ use Rattle.lsv_disk.proofs.memory.MemDisk.try_write.Goals as goal
 
 pub returns-in-Ok-clause-ok : goal.returns-in-Ok-clause-ok
 returns-in-Ok-clause-ok c =
-    (subst (λ (calls : Vec Call Global). NotedWrite calls.items c.write.new.calls.items c.args.f c.args.at c.args.bytes.now) c.next_fails.ensures.calls c.in-Ok.ensures.ok, c.next_fails.ensures.refused)
+    (subst (λ (calls : Vec Call Global). NotedWrite calls.items c.write.new.calls.items c.args.f c.args.at c.args.bytes.now) c.next_fails.ensures.same.calls c.in-Ok.ensures.kept.0, c.next_fails.ensures.same.refused)

@@ -1,5 +1,5 @@
 use Rattle.std.proofs.Common.{◌≡◌, ◌∙◌, Some, sym, rules}
-use Rattle.std.proofs.lemmas.Result.{on_ok_weaker, on_err_weaker}
+use Rattle.std.proofs.lemmas.Result.{on_ok_weaker}
 use Rattle.std.specs.HashMap.{get}
 use Rattle.lsv_disk.specs.Files.{same_file}
 use Rattle.lsv_disk.proofs.MemoryLemmas.Found.{Kept, reordered, replaced}
@@ -22,16 +22,16 @@ returns-clause-tied c =
     write_tied was now c.args.file content
     (reordered was kept now c.args.file (Some content) c.in_ok-reserve.ensures.entries.2 (replaced kept out now c.args.file (Some content) c.in-Some.ensures.updates.0 c.in_ok-insert.ensures.updates.0))
     c.args.calls.now.items c.write_at-written.new.calls.items c.requires.tied c.in-Some.content (sym (c.in-Some.ensures.value ∙ c.in_ok-reserve.ensures.entries.2 c.args.file))
-    c.args.at c.args.bytes.now c.in_ok-copy.copy c.write_at-written.result (search rules) c.write_at-written.ensures.ok c.write_at-written.ensures.noted c.write_at-written.ensures.err
+    c.args.at c.args.bytes.now c.in_ok-copy.copy c.write_at-written.result (search rules) c.write_at-written.ensures.content.0 c.write_at-written.ensures.kept.0 c.write_at-written.ensures.content.1 c.write_at-written.ensures.kept.1
 
-pub returns-clause-ok : goal.returns-clause-ok
-returns-clause-ok c =
+pub returns-clause-kept : goal.returns-clause-kept
+returns-clause-kept c =
     let copied : c.in_ok-copy.copy.items ≡ c.args.bytes.now = search rules in
-    on_ok_weaker c.write_at-written.result (λ noted. (c.in_ok-copy.copy, copied, noted)) c.write_at-written.ensures.noted
+    (on_ok_weaker c.write_at-written.result (λ noted. (c.in_ok-copy.copy, copied, noted)) c.write_at-written.ensures.kept.0, c.write_at-written.ensures.kept.1)
 
 pub returns-clause-legal : goal.returns-clause-legal
 returns-clause-legal c =
     let copied : c.in_ok-copy.copy.items ≡ c.args.bytes.now = search rules in
     write_legal c.write_at-written.result c.args.calls.now.items c.write_at-written.new.calls.items c.args.file c.args.at c.args.bytes.now c.requires.place
-    (on_ok_weaker c.write_at-written.result (λ noted. (c.in_ok-copy.copy, copied, noted)) c.write_at-written.ensures.noted)
-    (on_err_weaker c.write_at-written.result (λ same. same.1) c.write_at-written.ensures.err) c.requires.legal
+    (on_ok_weaker c.write_at-written.result (λ noted. (c.in_ok-copy.copy, copied, noted)) c.write_at-written.ensures.kept.0)
+    c.write_at-written.ensures.kept.1 c.requires.legal

@@ -13,9 +13,9 @@ returns-clause-keeps g c told whole =
     let mid = g.D.Disk.view c.write_slot.new.disk in
     let new = g.D.Disk.view c.select.new.disk in
     let first = c.write_slot.ensures.keeps told whole in
-    let second = subst (λ (h : FileId). Throughout (λ k. k ≡ h) (KeepsSelected g.row.N h mid.reads) mid new) c.write_slot.ensures.file (c.select.ensures.keeps told c.in_ok-write_slot.ensures.whole) in
+    let second = subst (λ (h : FileId). Throughout (λ k. k ≡ h) (KeepsSelected g.row.N h mid.reads) mid new) c.write_slot.ensures.kept.file_is (c.select.ensures.keeps told c.in_ok-write_slot.ensures.whole) in
     both_keep g.row.N f old mid new
-    (both_entry g.row.N c.args.self.now c.write_slot.new.self old mid c.write_slot.ensures.file c.write_slot.ensures.last (c.requires.represents told whole) (c.write_slot.ensures.represents told c.in_ok-write_slot.ensures.whole))
+    (both_entry g.row.N c.args.self.now c.write_slot.new.self old mid c.write_slot.ensures.kept.file_is c.write_slot.ensures.last (c.requires.represents told whole) (c.write_slot.ensures.represents told c.in_ok-write_slot.ensures.whole))
     (c.write_slot.ensures.slot told whole)
     (reads_of_run (λ k. k ≡ f) (KeepsSelected g.row.N f old.reads) old mid (g.met.D.Disk.reads_itself told c.write_slot.new.disk) (g.met.D.Disk.is_now told c.write_slot.new.disk) first)
     first second
@@ -27,7 +27,7 @@ returns-clause-length g c told whole =
     let mid = g.D.Disk.view c.write_slot.new.disk in
     let new = g.D.Disk.view c.select.new.disk in
     let first = c.write_slot.ensures.length told whole in
-    let second = subst (λ (h : FileId). Throughout (λ k. k ≡ h) (IsNoLonger g.row.N h mid.reads) mid new) c.write_slot.ensures.file (c.select.ensures.length told c.in_ok-write_slot.ensures.whole) in
+    let second = subst (λ (h : FileId). Throughout (λ k. k ≡ h) (IsNoLonger g.row.N h mid.reads) mid new) c.write_slot.ensures.kept.file_is (c.select.ensures.length told c.in_ok-write_slot.ensures.whole) in
     both_end g.row.N f old mid new
     (reads_of_run (λ k. k ≡ f) (IsNoLonger g.row.N f old.reads) old mid (g.met.D.Disk.reads_itself told c.write_slot.new.disk) (g.met.D.Disk.is_now told c.write_slot.new.disk) first)
     first second

@@ -1,5 +1,5 @@
 use Rattle.std.proofs.Common.{◌≡◌, refl}
-use Rattle.lsv_journal.proofs.Words.{made_slots, made_old, may_be_made, made_run, no_old_stays, old_other, own_syncs, rose_at, own_itself}
+use Rattle.lsv_journal.proofs.Words.{made_slots, made_old, may_be_made, made_run, no_old_stays, old_other, rose_at, own_itself}
 use Rattle.lsv_journal.proofs.journal.Journal.create.Goals as goal
 
 pub returns-in_err-make-clause-again : goal.returns-in_err-make-clause-again
@@ -15,9 +15,6 @@ returns-in_err-make-clause-any_moment g c told =
     let old = g.D.Disk.view c.args.disk.now in
     let none = made_slots g.row.N c.args.f old (c.requires.may_be_made told) in
     made_run g.row.N c.args.f old (g.D.Disk.view c.make.new.disk) c.requires.slots (made_old g.row.N c.args.f old (c.requires.may_be_made told)) (c.make.ensures.any_moment told g.row.N none)
-
-pub returns-in_err-make-clause-syncs : goal.returns-in_err-make-clause-syncs
-returns-in_err-make-clause-syncs g c told = own_syncs 2 c.args.f (g.D.Disk.view c.args.disk.now) (g.D.Disk.view c.make.new.disk) c.requires.slots (c.make.ensures.syncs told)
 
 pub returns-in_err-make-clause-cause : goal.returns-in_err-make-clause-cause
 returns-in_err-make-clause-cause g c = rose_at c.args.f c.args.f _ (g.D.Disk.view c.args.disk.now) (g.D.Disk.view c.make.new.disk) (own_itself c.args.f) c.in_err-make.ensures.cause.monotone (c.in_err-make.ensures.cause.risen refl)
@@ -49,6 +46,3 @@ returns-clause-any_moment g c told =
     let old = g.D.Disk.view c.args.disk.now in
     let none = made_slots g.row.N c.args.f old (c.requires.may_be_made told) in
     made_run g.row.N c.args.f old (g.D.Disk.view c.make.new.disk) c.requires.slots (made_old g.row.N c.args.f old (c.requires.may_be_made told)) (c.make.ensures.any_moment told g.row.N none)
-
-pub returns-clause-syncs : goal.returns-clause-syncs
-returns-clause-syncs g c told = own_syncs 2 c.args.f (g.D.Disk.view c.args.disk.now) (g.D.Disk.view c.make.new.disk) c.requires.slots (c.make.ensures.syncs told)

@@ -1,8 +1,8 @@
-use Rattle.std.proofs.Common.{sym, ◌∙◌}
+use Rattle.std.proofs.Common.{refl, sym, ◌∙◌}
 use Rattle.lsv_disk.proofs.Composition.{unchanged_trans, unchanged_reads}
 use Rattle.lsv_journal.specs.Last.{old_file, IsAbsent}
 use Rattle.lsv_journal.proofs.Laws.{reads_absent_may_be_made}
-use Rattle.lsv_journal.proofs.Words.{unchanged_crashes, unchanged_last, opening_run, opened_same, opened_no_old, opening_syncs, may_be_made}
+use Rattle.lsv_journal.proofs.Words.{unchanged_crashes, unchanged_last, opening_run, opened_same, opened_no_old, opening_calls, opening_unwritten, syncing_calls, entry_stays, may_be_made}
 use Rattle.lsv_journal.proofs.journal.Journal.open.Goals as goal
 
 pub returns-in_err-is_absent-clause-any_moment : goal.returns-in_err-is_absent-clause-any_moment
@@ -44,10 +44,19 @@ returns-in_err-found-clause-any_moment g c told =
     let unchanged = unchanged_trans old (g.D.Disk.view c.is_absent.new.disk) mid (c.is_absent.ensures.reads told).unchanged (c.sync_both.ensures.unchanged told) in
     opening_run g.row.N c.args.f old mid (g.D.Disk.view c.settle.new.disk) unchanged (c.settle.ensures.any_moment told) (g.met.D.Disk.reads_itself told c.args.disk.now)
 
-pub returns-in_err-found-clause-syncs : goal.returns-in_err-found-clause-syncs
-returns-in_err-found-clause-syncs g c told =
-    opening_syncs c.args.f (g.D.Disk.view c.args.disk.now) (g.D.Disk.view c.is_absent.new.disk) (g.D.Disk.view c.sync_both.new.disk) (g.D.Disk.view c.settle.new.disk) c.requires.slots
-    (c.is_absent.ensures.reads told).syncs (c.sync_both.ensures.syncs told c.requires.slots) (c.settle.ensures.syncs told)
+pub returns-in_err-found-clause-calls : goal.returns-in_err-found-clause-calls
+returns-in_err-found-clause-calls g c told =
+    opening_calls c.args.f (g.D.Disk.view c.args.disk.now) (g.D.Disk.view c.is_absent.new.disk) (g.D.Disk.view c.sync_both.new.disk) (g.D.Disk.view c.settle.new.disk)
+    (c.is_absent.ensures.reads told).counts (c.sync_both.ensures.calls told c.requires.slots) c.requires.slots (c.settle.ensures.calls told)
+
+pub returns-in_err-found-clause-unwritten : goal.returns-in_err-found-clause-unwritten
+returns-in_err-found-clause-unwritten g c told has f =
+    let old = g.D.Disk.view c.args.disk.now in
+    let mid = g.D.Disk.view c.sync_both.new.disk in
+    let unchanged = unchanged_trans old (g.D.Disk.view c.is_absent.new.disk) mid (c.is_absent.ensures.reads told).unchanged (c.sync_both.ensures.unchanged told) in
+    opening_unwritten c.args.f (g.D.Disk.view c.args.disk.now) (g.D.Disk.view c.is_absent.new.disk) (g.D.Disk.view c.sync_both.new.disk) (g.D.Disk.view c.settle.new.disk)
+    (c.is_absent.ensures.reads told).counts (c.sync_both.ensures.calls told c.requires.slots)
+    f (c.settle.ensures.unwritten told (entry_stays g.row.N c.args.f old mid unchanged has) f)
 
 pub returns-clause-last : goal.returns-clause-last
 returns-clause-last g c told =
@@ -107,7 +116,27 @@ returns-clause-may_be_made g c told none =
     may_be_made g.row.N c.args.f new (c.in_ok-found.ensures.entry told ∙ none)
     (opened_no_old g.row.N c.args.f mid new (c.settle.ensures.any_moment told) c.requires.slots (c.in_ok-sync_both.ensures.old told) (sym (c.in_ok-found.ensures.last told) ∙ none))
 
-pub returns-clause-syncs : goal.returns-clause-syncs
-returns-clause-syncs g c told =
-    opening_syncs c.args.f (g.D.Disk.view c.args.disk.now) (g.D.Disk.view c.is_absent.new.disk) (g.D.Disk.view c.sync_both.new.disk) (g.D.Disk.view c.settle.new.disk) c.requires.slots
-    (c.is_absent.ensures.reads told).syncs (c.sync_both.ensures.syncs told c.requires.slots) (c.settle.ensures.syncs told)
+pub returns-clause-calls : goal.returns-clause-calls
+returns-clause-calls g c told =
+    opening_calls c.args.f (g.D.Disk.view c.args.disk.now) (g.D.Disk.view c.is_absent.new.disk) (g.D.Disk.view c.sync_both.new.disk) (g.D.Disk.view c.settle.new.disk)
+    (c.is_absent.ensures.reads told).counts (c.sync_both.ensures.calls told c.requires.slots) c.requires.slots (c.settle.ensures.calls told)
+
+pub returns-clause-unwritten : goal.returns-clause-unwritten
+returns-clause-unwritten g c told has f =
+    let old = g.D.Disk.view c.args.disk.now in
+    let mid = g.D.Disk.view c.sync_both.new.disk in
+    let unchanged = unchanged_trans old (g.D.Disk.view c.is_absent.new.disk) mid (c.is_absent.ensures.reads told).unchanged (c.sync_both.ensures.unchanged told) in
+    opening_unwritten c.args.f (g.D.Disk.view c.args.disk.now) (g.D.Disk.view c.is_absent.new.disk) (g.D.Disk.view c.sync_both.new.disk) (g.D.Disk.view c.settle.new.disk)
+    (c.is_absent.ensures.reads told).counts (c.sync_both.ensures.calls told c.requires.slots)
+    f (c.settle.ensures.unwritten told (entry_stays g.row.N c.args.f old mid unchanged has) f)
+
+pub returns-in_err-sync_both-clause-calls : goal.returns-in_err-sync_both-clause-calls
+returns-in_err-sync_both-clause-calls g c told =
+    syncing_calls c.args.f (g.D.Disk.view c.args.disk.now) (g.D.Disk.view c.is_absent.new.disk) (g.D.Disk.view c.sync_both.new.disk)
+    (c.is_absent.ensures.reads told).counts (c.sync_both.ensures.calls told c.requires.slots)
+
+pub returns-in_err-sync_both-clause-unwritten : goal.returns-in_err-sync_both-clause-unwritten
+returns-in_err-sync_both-clause-unwritten g c told has f =
+    let new = g.D.Disk.view c.sync_both.new.disk in
+    opening_unwritten c.args.f (g.D.Disk.view c.args.disk.now) (g.D.Disk.view c.is_absent.new.disk) new new
+    (c.is_absent.ensures.reads told).counts (c.sync_both.ensures.calls told c.requires.slots) f refl
