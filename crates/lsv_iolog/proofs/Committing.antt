@@ -1,5 +1,5 @@
 -- What a flush commits, and what crash images hold of a log meanwhile.
-use Rattle.std.proofs.Common.{◌≡◌, ◌≢◌, ◌⊎◌, inl, inr, ℕ, suc, ◌+◌, ◌<◌, ◌≤◌, ◌^◌, false, Ok, List, [], ◌∷◌, ◌++◌, length, take, Option, Some, None, refl, sym, ◌∙◌, ap, subst, arith, All, append_assoc, length-append, append-nil}
+use Rattle.std.proofs.Common.{◌≡◌, ◌≢◌, ◌⊎◌, inl, inr, ℕ, suc, ◌+◌, ◌<◌, ◌≤◌, ◌^◌, false, Ok, List, [], ◌∷◌, ◌++◌, length, take, Option, Some, None, refl, sym, ◌∙◌, ap, subst, arith, lit≤, All, append_assoc, length-append, append-nil}
 use Rattle.std.specs.Prelude.{slice_index, option_map}
 use Rattle.std.proofs.lemmas.List.Elements.{All-cons, All-append, All-nil}
 use Rattle.lsv_disk.specs.declared.file.FileId.{FileId}
@@ -8,17 +8,18 @@ use Rattle.lsv_disk.specs.declared.file.Part.{Part}
 use Rattle.lsv_disk.specs.declared.file.Part.TheVariants.{Head, Exit, Timing, Stdin, Stdout, Stderr, Ttyin, Ttyout, Lines, Id, Commit, Slots}
 use Rattle.lsv_disk.specs.Bytes.{bytes_of}
 use Rattle.lsv_disk.specs.Files.{file_of}
-use Rattle.lsv_disk.specs.Throughout.{Throughout}
+use Rattle.lsv_disk.specs.Throughout.{Throughout, RoseAtMost, WritesOneOf}
 use Rattle.lsv_disk.specs.View.{Image, DiskView, IsCrashImage, Only}
 use Rattle.lsv_disk.proofs.Composition.{widened}
-use Rattle.lsv_journal.specs.Last.{LastAt, IsAbsent, IsSomeCrashOf, JournalHolds}
-use Rattle.lsv_journal.proofs.Laws.{absent_last}
+use Rattle.lsv_journal.specs.Last.{LastAt, IsAbsent, MayBeMade, IsSomeCrashOf, JournalHolds}
+use Rattle.lsv_journal.proofs.Laws.{absent_last, absent_may_be_made}
 use Rattle.lsv_bundle.specs.declared.body.Body.{Body}
 use Rattle.lsv_bundle.specs.declared.shape.Shape.{Shape}
 use Rattle.lsv_bundle.specs.declared.shape.Shape.TheVariants as shapes
 use Rattle.lsv_bundle.specs.Body.{length_of}
 use Rattle.lsv_bundle.specs.Shape.{IsPart, IsWritable, on_shape, eight, index_of, journal_of}
 use Rattle.lsv_bundle.specs.Value.{BundleView, committed_length, staged, next_length, next_body, IsCommitted, NoneStaged}
+use Rattle.lsv_bundle.specs.Calls.{RoseByFlush, CallsOfFlush}
 use Rattle.lsv_bundle.specs.Committed.{Committed, BundleHolds, IsBeingMade, IsBeforeOrAfter, committed, committed_bytes, committed_as, committed_next}
 use Rattle.lsv_bundle.proofs.Laws.{writes_owner}
 use Rattle.lsv_record.specs.declared.laid.Laid.{Laid}
@@ -29,7 +30,7 @@ use Rattle.lsv_record.specs.Records.{IsValid, elapsed}
 use Rattle.lsv_record.proofs.Layouts.{timing_of-append, stream_of-append, elapsed-append}
 use Rattle.lsv_record.specs.declared.records.Stream.TheVariants as stream
 use Rattle.lsv_iolog.specs.Recovered.{owner_of, IsOfLog, part_of, laid_in, IsHeadText, HasExit, IsLog, Replays, IsUnmade}
-use Rattle.lsv_iolog.specs.Moments.{IsEither}
+use Rattle.lsv_iolog.specs.Moments.{IsEither, RoseOfLog, CallsOfLog}
 use Rattle.lsv_iolog.specs.Value.{made}
 use Rattle.lsv_iolog.specs.Inner.Invariant.{IsOfNumber, IsSettled, HasCommitted}
 use Rattle.lsv_iolog.proofs.Replaying.{on_log, same_laid}
@@ -128,10 +129,19 @@ made_absent n disk image unmade making = elim making.journal [
       unmade_image n disk some.0 unmade some.1 (file_of (owner_of n) Commit) refl)
 ]
 
-pub make_moment : (n : ℕ) (after : Option Stored) (old new : DiskView) → IsUnmade n old → Throughout (IsWritable (owner_of n) shapes.Log) (IsBeingMade (owner_of n) shapes.Log old) old new → Throughout (IsOfLog n) (IsEither n None after) old new
-make_moment n after old new unmade run =
+pub make_moment : (n : ℕ) (owner : Owner) (after : Option Stored) (old new : DiskView) → owner ≡ owner_of n → IsUnmade n old → Throughout (IsWritable owner shapes.Log) (IsBeingMade owner shapes.Log old) old new → Throughout (IsOfLog n) (IsEither n None after) old new
+make_moment n owner after old new owned unmade run =
     widened (IsWritable (owner_of n) shapes.Log) (IsOfLog n) (IsBeingMade (owner_of n) shapes.Log old) (IsEither n None after) old new
-      (writes_owner (owner_of n) shapes.Log) (λ image making beside. inl (made_absent n old image unmade making)) run
+      (writes_owner (owner_of n) shapes.Log) (λ image making beside. inl (made_absent n old image unmade making))
+      (subst (λ (o : Owner). Throughout (IsWritable o shapes.Log) (IsBeingMade o shapes.Log old) old new) owned run)
+
+-- it may be made
+pub unmade_may_be_made : (n : ℕ) (owner : Owner) (disk : DiskView) → owner ≡ owner_of n → IsCrashImage disk disk.reads → IsUnmade n disk → MayBeMade 89 (journal_of owner) disk
+unmade_may_be_made n owner disk owned reads unmade =
+    subst (λ (o : Owner). MayBeMade 89 (journal_of o) disk) (sym owned)
+    (absent_may_be_made 89 (journal_of (owner_of n)) disk reads (λ image is. (
+      unmade_image n disk image unmade is (journal_of (owner_of n)) refl,
+      unmade_image n disk image unmade is (file_of (owner_of n) Commit) refl)))
 
 -- an entry with a log's numbers and bytes is the log
 holds_log : (n : ℕ) (entry : Committed) (log : Stored) (image : Image) → IsLog entry log → BundleHolds (owner_of n) shapes.Log (Some entry) image → Replays image n (Some log)
@@ -148,3 +158,64 @@ first_moment n b log old new entry owner shape none is run =
     widened (IsWritable (owner_of n) shapes.Log) (IsOfLog n) (IsBeforeOrAfter (owner_of n) shapes.Log None (Some entry)) (IsEither n None (Some log)) old new
       (writes_owner (owner_of n) shapes.Log)
       (λ image either beside. elim either [ inl before ↦ inl before | inr after ↦ inr (holds_log n entry log image is after) ]) there
+
+-- a number that isn't above another is at most that
+at_most : (a b : ℕ) → (b < a → ⊥) → a ≤ b
+at_most a b none = omega (arith, none)
+
+-- how often the files of a log were written or synced by the making of its files and one flush
+pub flush_rose : (n : ℕ) (b : BundleView) (old new : FileId → ℕ) → b.owner ≡ owner_of n → RoseByFlush b old new → RoseOfLog n 1 2 old new
+flush_rose n b old new owned rose = record {
+  files = λ f of apart. at_most (new f) (old f + 1) (λ over.
+      let same : new f ≡ old f = rose.others f (λ staged. let few : new f ≤ old f + 1 = rose.files f staged in omega arith) (λ e. apart (e ∙ ap journal_of owned)) in
+      omega arith);
+  journal = subst (λ (o : Owner). new (journal_of o) ≤ old (journal_of o) + 2) owned rose.journal;
+  others = λ f apart. rose.others f (λ staged. apart (ap (λ (g : FileId). g.owner) staged.3 ∙ owned)) (λ e. apart (ap (λ (g : FileId). g.owner) e ∙ owned));
+}
+
+pub flush_calls : (n : ℕ) (b : BundleView) (old new : DiskView) → b.owner ≡ owner_of n → CallsOfFlush b old new → CallsOfLog n 1 2 old new
+flush_calls n b old new owned calls = record { writes = flush_rose n b old.writes new.writes owned calls.writes; syncs = flush_rose n b old.syncs new.syncs owned calls.syncs }
+
+rose_then : (n d e : ℕ) (j k : ℕ) (old mid new : FileId → ℕ) → RoseOfLog n d j old mid → RoseOfLog n e k mid new → RoseOfLog n (d + e) (j + k) old new
+rose_then n d e j k old mid new one two = record {
+  files = λ f of apart. omega (arith, one.files f of apart, two.files f of apart);
+  journal = omega (arith, one.journal, two.journal);
+  others = λ f apart. two.others f apart ∙ one.others f apart;
+}
+
+make_writes : (n : ℕ) (owner : Owner) (old new : FileId → ℕ) → owner ≡ owner_of n → RoseAtMost 1 (λ g. g ≡ journal_of owner) old new → RoseOfLog n 0 1 old new
+make_writes n owner old new owned rose = record {
+  files = λ f of apart. omega (arith, rose.others f (λ e. apart (e ∙ ap journal_of owned)));
+  journal = subst (λ (o : Owner). new (journal_of o) ≤ old (journal_of o) + 1) owned (rose.own (journal_of owner) refl);
+  others = λ f apart. rose.others f (λ e. apart (ap (λ (g : FileId). g.owner) e ∙ owned));
+}
+
+make_syncs : (n : ℕ) (owner : Owner) (old new : FileId → ℕ) → owner ≡ owner_of n → RoseAtMost 2 (IsWritable owner shapes.Log) old new → RoseOfLog n 2 2 old new
+make_syncs n owner old new owned rose = record {
+  files = λ f of apart. few f;
+  journal = few (journal_of (owner_of n));
+  others = λ f apart. rose.others f (λ is. apart (writes_owner owner shapes.Log f is ∙ owned));
+} where
+  few : (f : FileId) → new f ≤ old f + 2
+  few f = at_most (new f) (old f + 2) (λ over. let same : new f ≡ old f = rose.others f (λ is. let little : new f ≤ old f + 2 = rose.own f is in omega arith) in omega arith)
+
+more_calls : (n d e j k : ℕ) (old new : DiskView) → d ≤ e → j ≤ k → CallsOfLog n d j old new → CallsOfLog n e k old new
+more_calls n d e j k old new le lo calls = record { writes = more old.writes new.writes calls.writes; syncs = more old.syncs new.syncs calls.syncs } where
+  more : (a b : FileId → ℕ) → RoseOfLog n d j a b → RoseOfLog n e k a b
+  more a b rose = record { files = λ f of apart. omega (arith, rose.files f of apart); journal = omega (arith, rose.journal); others = rose.others }
+
+-- making alone, and making and a flush
+pub make_calls : (n : ℕ) (owner : Owner) (old new : DiskView) → owner ≡ owner_of n → WritesOneOf (journal_of owner) 1 2 (IsWritable owner shapes.Log) old new → CallsOfLog n 3 4 old new
+make_calls n owner old new owned calls =
+    more_calls n 2 3 2 4 old new (lit≤ tt) (lit≤ tt) (record { writes = more (make_writes n owner old.writes new.writes owned calls.writes); syncs = make_syncs n owner old.syncs new.syncs owned calls.syncs }) where
+  more : RoseOfLog n 0 1 old.writes new.writes → RoseOfLog n 2 2 old.writes new.writes
+  more rose = record { files = λ f of apart. omega (arith, rose.files f of apart); journal = omega (arith, rose.journal); others = rose.others }
+
+pub make_then_flush : (n : ℕ) (owner : Owner) (b : BundleView) (old mid new : DiskView) → owner ≡ owner_of n → b.owner ≡ owner_of n → WritesOneOf (journal_of owner) 1 2 (IsWritable owner shapes.Log) old mid → CallsOfFlush b mid new → CallsOfLog n 3 4 old new
+make_then_flush n owner b old mid new owned of one two =
+    let second = flush_calls n b mid new of two in
+    let writes : RoseOfLog n 1 3 old.writes new.writes = rose_then n 0 1 1 2 old.writes mid.writes new.writes (make_writes n owner old.writes mid.writes owned one.writes) second.writes in
+    record {
+      writes = record { files = λ f of' apart. omega (arith, writes.files f of' apart); journal = omega (arith, writes.journal); others = writes.others };
+      syncs = rose_then n 2 1 2 2 old.syncs mid.syncs new.syncs (make_syncs n owner old.syncs mid.syncs owned one.syncs) second.syncs;
+    }

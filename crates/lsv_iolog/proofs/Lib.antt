@@ -1,3 +1,5 @@
+pub mod Results
 pub mod Replaying
 pub mod Representing
 pub mod Committing
+pub mod Making

@@ -1,13 +1,10 @@
 -- What crash images hold of a log while calls go on, and what calls sync.
 use Rattle.std.specs.Prelude.{◌≡◌, ◌≢◌, ℕ, ◌+◌, ◌≤◌, ◌⊎◌, Option, Some, None}
 use Rattle.lsv_disk.specs.declared.file.FileId.{FileId}
-use Rattle.lsv_disk.specs.Files.{file_of}
-use Rattle.lsv_disk.specs.declared.file.Part.{Part}
 use Rattle.lsv_disk.specs.View.{Image, DiskView, IsCrashImage, HasOwnCause}
 use Rattle.lsv_disk.specs.Throughout.{OnlyReads}
 use Rattle.lsv_journal.specs.Last.{IsOwn}
-use Rattle.lsv_bundle.specs.declared.shape.Shape.TheVariants as shapes
-use Rattle.lsv_bundle.specs.Shape.{IsPart, journal_of}
+use Rattle.lsv_bundle.specs.Shape.{journal_of}
 use Rattle.lsv_record.specs.Points.{Stored}
 use Rattle.lsv_iolog.specs.Recovered.{owner_of, IsOfLog, Replays, SameLog}
 use Rattle.lsv_iolog.specs.Later.{IsLater}
@@ -26,11 +23,16 @@ pub record IsAsBefore (n : ℕ) (disk : DiskView) (image : Image) : Type 0 where
   pub was : IsCrashImage disk before
   pub same : SameLog n before image
 
--- each of its data files was synced once at most, its journal twice at most, and no other file
-pub record SyncsOfLog (n : ℕ) (old new : DiskView) : Type 0 where
-  pub files : (part : Part) → IsPart shapes.Log part → new.syncs (file_of (owner_of n) part) ≤ old.syncs (file_of (owner_of n) part) + 1
-  pub journal : new.syncs (journal_of (owner_of n)) ≤ old.syncs (journal_of (owner_of n)) + 2
-  pub others : (file : FileId) → (IsOfLog n file → ⊥) → new.syncs file ≡ old.syncs file
+-- a count rose for each data file of the log by so much at most, for its journal by so much, and for no other file
+pub record RoseOfLog (n d j : ℕ) (old new : FileId → ℕ) : Type 0 where
+  pub files : (file : FileId) → IsOfLog n file → file ≢ journal_of (owner_of n) → new file ≤ old file + d
+  pub journal : new (journal_of (owner_of n)) ≤ old (journal_of (owner_of n)) + j
+  pub others : (file : FileId) → (IsOfLog n file → ⊥) → new file ≡ old file
+
+-- each data file of the log was written and synced so often at most, its journal so often, and no other file
+pub record CallsOfLog (n d j : ℕ) (old new : DiskView) : Type 0 where
+  pub writes : RoseOfLog n d j old.writes new.writes
+  pub syncs : RoseOfLog n d j old.syncs new.syncs
 
 -- why a cut failed: a call on the journal did, and a record ends at the point; or a read did, and nothing was changed
 abbrev pub IsCutFault : ℕ → Option ℕ → DiskView → DiskView → Type 0

@@ -9,7 +9,7 @@ ghost use Rattle.lsv_iolog.specs.declared.fault.LogFault.{LogFault};
 ghost use Rattle.lsv_iolog.specs.Recovered.{IsOfLog};
 ghost use Rattle.lsv_iolog.specs.Value.{LogValue, is_complete, all_of, bare, flushed, finished, SameCounts, IsFlushed};
 ghost use Rattle.lsv_iolog.specs.Represents.{Represents};
-ghost use Rattle.lsv_iolog.specs.Moments.{IsEither, IsThereLater, SyncsOfLog};
+ghost use Rattle.lsv_iolog.specs.Moments.{IsEither, IsThereLater, CallsOfLog};
 
 use crate::log::{COMPLETE, FLUSHED};
 use crate::{IoLog, LogFault};
@@ -35,7 +35,7 @@ impl IoLog {
         ensures later { D.tells → (value : LogValue) → Represents self.old value (D.view disk.old)
             → Throughout (IsOfLog self.old.number) (IsThereLater self.old.number value.stored) (D.view disk.old) (D.view disk.new) }
         ensures idle { D.tells → (value : LogValue) → Represents self.old value (D.view disk.old) → value.staged ≡ [] → disk.new ≡ disk.old }
-        ensures syncs { D.tells → SyncsOfLog self.old.number (D.view disk.old) (D.view disk.new) }
+        ensures calls { D.tells → CallsOfLog self.old.number 1 2 (D.view disk.old) (D.view disk.new) }
         ensures disk { IsErrOf result LogFault.Disk → self.new.is_broken ≡ true }
         ensures fault { IfErr result (λ e. (e ≡ LogFault.Disk) ⊎ (e ≡ LogFault.Broken)) }
         ensures broken { IsErrOf result LogFault.Broken ↔ (self.old.is_broken ≡ true) }
@@ -72,7 +72,7 @@ impl IoLog {
             → Throughout (IsOfLog self.old.number) (IsEither self.old.number (Some value.stored) (Some (finished value (exit_text exit.now)))) (D.view disk.old) (D.view disk.new) }
         ensures later { D.tells → (value : LogValue) → Represents self.old value (D.view disk.old)
             → Throughout (IsOfLog self.old.number) (IsThereLater self.old.number value.stored) (D.view disk.old) (D.view disk.new) }
-        ensures syncs { D.tells → SyncsOfLog self.old.number (D.view disk.old) (D.view disk.new) }
+        ensures calls { D.tells → CallsOfLog self.old.number 1 2 (D.view disk.old) (D.view disk.new) }
         ensures disk { IsErrOf result LogFault.Disk → self.new.is_broken ≡ true }
         ensures fault { IfErr result (λ e. (e ≡ LogFault.Disk) ⊎ (e ≡ LogFault.Broken) ⊎ (e ≡ LogFault.Full Part.Exit) ⊎ (e ≡ LogFault.NoMem)) }
         ensures broken { IsErrOf result LogFault.Broken ↔ (self.old.is_broken ≡ true) }

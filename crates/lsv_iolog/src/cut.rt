@@ -1,6 +1,6 @@
 ghost use Rattle.std.specs.Prelude.{◌≡◌, ◌≢◌, ◌⊎◌, ◌↔◌, ◌+◌, ◌-◌, ◌<◌, ◌≤◌, ◌^◌, ℕ, true, false, Option, Some, None, [], length, IfOk, IfErr, OnOk, OnErr, IsErrOf};
 ghost use Rattle.lsv_disk.specs.View.{HasOwnCause};
-ghost use Rattle.lsv_disk.specs.Throughout.{Throughout, OnlyReads, SyncsAtMost};
+ghost use Rattle.lsv_disk.specs.Throughout.{Throughout, OnlyReads, CallsAtMost};
 ghost use Rattle.lsv_disk.specs.declared.file.Part.{Part};
 ghost use Rattle.lsv_bundle.specs.Shape.{journal_of};
 ghost use Rattle.lsv_record.specs.Points.{first};
@@ -12,10 +12,11 @@ ghost use Rattle.lsv_iolog.specs.Represents.{Represents};
 ghost use Rattle.lsv_iolog.specs.Moments.{IsEither, IsThereLater, IsCutFault};
 
 use crate::lines::Lines;
+use crate::log::owner_of;
 use crate::{IoLog, LogFault};
 use lsv_base::Point;
 use lsv_bundle::{Body, Shape, View};
-use lsv_disk::{Disk, Owner, Part};
+use lsv_disk::{Disk, Part};
 use lsv_record::{Stream, Tally};
 use std::alloc::Global;
 
@@ -44,7 +45,7 @@ impl IoLog {
         ensures later { D.tells → (value : LogValue) → Represents self.old value (D.view disk.old)
             → Throughout (IsOfLog self.old.number) (IsThereLater self.old.number value.stored) (D.view disk.old) (D.view disk.new) }
         ensures counted { D.tells → OnOk result ((value : LogValue) → Represents self.old value (D.view disk.old) → drops value.stored point ≡ true → value.stored.cuts < 2 ^ 63 - 1) }
-        ensures syncs { D.tells → SyncsAtMost 2 (λ file. file ≡ journal_of (owner_of self.old.number)) (D.view disk.old) (D.view disk.new) }
+        ensures calls { D.tells → CallsAtMost 2 2 (λ file. file ≡ journal_of (owner_of self.old.number)) (D.view disk.old) (D.view disk.new) }
         ensures complete { IsErrOf result LogFault.Complete → (is_complete self.old ≡ true) × (disk.new ≡ disk.old) }
         ensures no_point { (p : ℕ) → IsErrOf result (LogFault.NoPoint p) → (p ≡ point) × (is_complete self.old ≡ false) }
         ensures none { D.tells → IsErrOf result (LogFault.NoPoint point) → (value : LogValue) → Represents self.old value (D.view disk.old) → first value.stored.records point ≡ None }
@@ -75,7 +76,7 @@ impl IoLog {
     /// What the timing comes to through the first line that ends at this point. None where none does.
     fn find<D: Disk>(&mut self, disk: &mut D, point: Point) -> Result<Option<Tally>, LogFault> {
         let view = View {
-            owner: Owner::Log(self.number.get()),
+            owner: owner_of(self.number),
             shape: Shape::Log,
             body: self.bundle.last(),
         };

@@ -1,7 +1,7 @@
 ghost use Rattle.std.specs.Prelude.{◌≡◌, ◌⊎◌, ℕ, List, ◌≤◌, ◌<◌, ◌^◌, true, false, Ok, Some, None, length, IsSome, FitsSigned, IfOk, IfErr, OnOk, IsErrOf};
 ghost use Rattle.lsv_base.specs.Time.{nanos_of};
 ghost use Rattle.lsv_disk.specs.View.{HasOwnCause};
-ghost use Rattle.lsv_disk.specs.Throughout.{Throughout, SyncsAtMost};
+ghost use Rattle.lsv_disk.specs.Throughout.{Throughout};
 ghost use Rattle.lsv_disk.specs.declared.file.Part.{Part};
 ghost use Rattle.lsv_info.specs.Fitting.{FitsEntry};
 ghost use Rattle.lsv_info.specs.Layout.{head_text};
@@ -10,11 +10,11 @@ ghost use Rattle.std.specs.List.{AllByRecursion};
 ghost use Rattle.std.specs.Int.{w64};
 ghost use Rattle.lsv_iolog.specs.declared.fault.LogFault.{LogFault};
 ghost use Rattle.lsv_bundle.specs.Value.{committed_length};
-ghost use Rattle.lsv_iolog.specs.Recovered.{IsOfLog, IsUnmade, IsHeadText};
+ghost use Rattle.lsv_iolog.specs.Recovered.{owner_of, IsOfLog, IsUnmade, IsHeadText};
 ghost use Rattle.lsv_iolog.specs.Inner.Invariant.{IsSettled, HasCommitted};
 ghost use Rattle.lsv_iolog.specs.Value.{is_complete, bare, made, IsFlushed};
 ghost use Rattle.lsv_iolog.specs.Represents.{Represents};
-ghost use Rattle.lsv_iolog.specs.Moments.{IsEither};
+ghost use Rattle.lsv_iolog.specs.Moments.{IsEither, CallsOfLog};
 
 use crate::LogFault;
 use lsv_base::{Bytes, LogNo, Point};
@@ -61,6 +61,13 @@ impl Model for IoLog {
     ghost view = { λ l. record { number = l.number; head = l.head; count = l.count; elapsed = l.elapsed; is_broken = l.is_broken; bundle = l.bundle } };
 
     ghost invariant = { λ l. IsIoLog (record { number = l.number; head = l.head; count = l.count; elapsed = l.elapsed; is_broken = l.is_broken; bundle = l.bundle }) × (length (staged l.bundle Timing) ≡ l.staged_timing) };
+}
+
+/// The owner of a log's files.
+pub(crate) fn owner_of(number: LogNo) -> Owner
+    ensures { result ≡ owner_of number }
+{
+    Owner::Log(number.get())
 }
 
 /// The numbers of a head are of 64 bits, which only their reading shows.
@@ -124,13 +131,13 @@ fn make_files<D: Disk>(
     ensures empty { IfOk result (λ b. committed_length b Part.Timing ≡ 0) }
     ensures holds { D.tells → IfOk result (λ b. HasCommitted b (made text.now) (D.view disk.new)) }
     ensures any_moment { D.tells → Throughout (IsOfLog number) (IsEither number None (Some (made text.now))) (D.view disk.old) (D.view disk.new) }
-    ensures syncs { D.tells → SyncsAtMost 4 (IsOfLog number) (D.view disk.old) (D.view disk.new) }
+    ensures calls { D.tells → CallsOfLog number 3 4 (D.view disk.old) (D.view disk.new) }
     ensures fault { IfErr result (λ e. (e ≡ LogFault.Disk) ⊎ (e ≡ LogFault.Full Part.Head) ⊎ (e ≡ LogFault.NoMem)) }
     ensures full { IsErrOf result (LogFault.Full Part.Head) → 2 ^ 40 < length text.now }
     ensures fits { OnOk result (length text.now ≤ 2 ^ 40) }
     ensures cause { HasOwnCause (IsOfLog number) (IsErrOf result LogFault.Disk) (D.view disk.old) (D.view disk.new) }
 {
-    let mut bundle = Bundle::create(alloc, disk, Owner::Log(number.get()), Shape::Log)?;
+    let mut bundle = Bundle::create(alloc, disk, owner_of(number), Shape::Log)?;
     bundle.stage(Part::Head, text.as_slice())?;
     bundle.flush(disk, MADE, 0, 0, 0)?;
     Ok(bundle)
@@ -155,7 +162,7 @@ impl IoLog {
         ensures counts { IfOk result (λ log. (log.count ≡ 0) × (log.elapsed ≡ 0)) }
         ensures represents { D.tells → IfOk result (λ log. Represents log (bare (made (head_text head.now))) (D.view disk.new)) }
         ensures any_moment { D.tells → Throughout (IsOfLog number) (IsEither number None (Some (made (head_text head.now)))) (D.view disk.old) (D.view disk.new) }
-        ensures syncs { D.tells → SyncsAtMost 4 (IsOfLog number) (D.view disk.old) (D.view disk.new) }
+        ensures calls { D.tells → CallsOfLog number 3 4 (D.view disk.old) (D.view disk.new) }
         ensures fault { IfErr result (λ e. (e ≡ LogFault.Disk) ⊎ (e ≡ LogFault.Full Part.Head) ⊎ (e ≡ LogFault.NoMem)) }
         ensures full { IsErrOf result (LogFault.Full Part.Head) → 2 ^ 40 < length (head_text head.now) }
         ensures fits { OnOk result (length (head_text head.now) ≤ 2 ^ 40) }

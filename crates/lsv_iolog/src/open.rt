@@ -1,11 +1,12 @@
 ghost use Rattle.std.specs.Prelude.{◌≡◌, ◌≢◌, ◌⊎◌, ◌+◌, ◌<◌, ◌≤◌, ◌^◌, ℕ, true, false, Option, Some, None, [], length, IfOk, IfErr, OnOk, OnErr, IsErrOf};
 ghost use Rattle.lsv_disk.specs.View.{HasOwnCause};
-ghost use Rattle.lsv_disk.specs.Throughout.{Throughout, OnlyReads, SyncsAtMost};
+ghost use Rattle.lsv_disk.specs.Throughout.{Throughout, OnlyReads, WritesOneOf};
 ghost use Rattle.lsv_disk.specs.declared.file.Part.{Part};
 ghost use Rattle.lsv_bundle.specs.Body.{length_of};
 ghost use Rattle.lsv_record.specs.Points.{Stored};
 ghost use Rattle.lsv_iolog.specs.declared.fault.LogFault.{LogFault};
-ghost use Rattle.lsv_iolog.specs.Recovered.{IsOfLog, IsUnmade, Replays, SameLog};
+ghost use Rattle.lsv_bundle.specs.Shape.{journal_of};
+ghost use Rattle.lsv_iolog.specs.Recovered.{owner_of, IsOfLog, IsUnmade, Replays, SameLog};
 ghost use Rattle.lsv_iolog.specs.Damage.{IsDamagedAt};
 ghost use Rattle.lsv_iolog.specs.Value.{bare, IsFlushed};
 ghost use Rattle.lsv_iolog.specs.Represents.{Represents};
@@ -14,7 +15,7 @@ ghost use Rattle.lsv_iolog.specs.Faults.{IsOpenFault};
 
 use crate::append::part_of;
 use crate::lines::Lines;
-use crate::log::COMPLETE;
+use crate::log::{COMPLETE, owner_of};
 use crate::{IoLog, LogFault};
 use lsv_base::{Bytes, LogNo};
 use lsv_bundle::{Body, Bundle, Shape, View};
@@ -54,13 +55,13 @@ impl IoLog {
         ensures reads { D.tells → SameLog number (D.view disk.old).reads (D.view disk.new).reads }
         ensures any_moment { D.tells → Throughout (IsOfLog number) (IsAsBefore number (D.view disk.old)) (D.view disk.old) (D.view disk.new) }
         ensures stays_unmade { D.tells → IsUnmade number (D.view disk.old) → IsUnmade number (D.view disk.new) }
-        ensures syncs { D.tells → SyncsAtMost 5 (IsOfLog number) (D.view disk.old) (D.view disk.new) }
+        ensures calls { D.tells → WritesOneOf (journal_of (owner_of number)) 3 5 (IsOfLog number) (D.view disk.old) (D.view disk.new) }
         ensures fault { IfErr result IsOpenFault }
         ensures cause { HasOwnCause (IsOfLog number) (IsErrOf result LogFault.Disk) (D.view disk.old) (D.view disk.new) }
     {
-        let bundle = open_files(alloc, disk, Owner::Log(number.get()))?;
+        let bundle = open_files(alloc, disk, owner_of(number))?;
         let view = View {
-            owner: Owner::Log(number.get()),
+            owner: owner_of(number),
             shape: Shape::Log,
             body: bundle.last(),
         };

@@ -18,12 +18,12 @@ ghost use Rattle.lsv_iolog.specs.Reading.{committed_text, committed_laid, IsBehi
 
 use crate::append::part_of;
 use crate::lines::Lines;
-use crate::log::COMPLETE;
+use crate::log::{COMPLETE, owner_of};
 use crate::open::{check_counts, check_streams, committed, read_log_head, read_part};
 use crate::LogFault;
 use lsv_base::{Bytes, LogNo};
 use lsv_bundle::{Body, Bundle, Shape, View};
-use lsv_disk::{Disk, Owner, Part};
+use lsv_disk::{Disk, Part};
 use lsv_info::{Exit, Head, InfoFault, read_exit};
 use lsv_record::{Record, Shaped, Stream, Tally};
 use std::alloc::Global;
@@ -235,7 +235,7 @@ fn view_log<D: Disk>(
     disk: &mut D,
     number: LogNo,
 ) -> Result<(View, Head), LogFault> {
-    let Some(view) = Bundle::view(disk, Owner::Log(number.get()), Shape::Log)? else {
+    let Some(view) = Bundle::view(disk, owner_of(number), Shape::Log)? else {
         return Err(LogFault::Absent);
     };
     let head = read_log_head(alloc, disk, &view)?;
