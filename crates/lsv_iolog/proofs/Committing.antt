@@ -10,7 +10,7 @@ use Rattle.lsv_disk.specs.Bytes.{bytes_of}
 use Rattle.lsv_disk.specs.Files.{file_of}
 use Rattle.lsv_disk.specs.Throughout.{Throughout, RoseAtMost, WritesOneOf}
 use Rattle.lsv_disk.specs.View.{Image, DiskView, IsCrashImage, Only}
-use Rattle.lsv_disk.proofs.Composition.{widened}
+use Rattle.lsv_disk.proofs.Composition.{OnlyNow, started, widened}
 use Rattle.lsv_journal.specs.Last.{LastAt, IsAbsent, MayBeMade, IsSomeCrashOf, JournalHolds}
 use Rattle.lsv_journal.proofs.Laws.{absent_last, absent_may_be_made}
 use Rattle.lsv_bundle.specs.declared.body.Body.{Body}
@@ -33,7 +33,7 @@ use Rattle.lsv_iolog.specs.Recovered.{owner_of, IsOfLog, part_of, laid_in, IsHea
 use Rattle.lsv_iolog.specs.Moments.{IsEither, RoseOfLog, CallsOfLog}
 use Rattle.lsv_iolog.specs.Value.{made}
 use Rattle.lsv_iolog.specs.Inner.Invariant.{IsOfNumber, IsSettled, HasCommitted}
-use Rattle.lsv_iolog.proofs.Replaying.{on_log, same_laid}
+use Rattle.lsv_iolog.proofs.Replaying.{on_log, same_laid, absent_replay}
 
 -- the eight lengths of a log are those of its parts
 pub eight_of : (lengths : Part → ℕ) (part : Part) → IsPart shapes.Log part → slice_index (eight shapes.Log lengths) (index_of part) ≡ lengths part
@@ -219,3 +219,7 @@ make_then_flush n owner b old mid new owned of one two =
       writes = record { files = λ f of' apart. omega (arith, writes.files f of' apart); journal = omega (arith, writes.journal); others = writes.others };
       syncs = rose_then n 2 1 2 2 old.syncs mid.syncs new.syncs (make_syncs n owner old.syncs mid.syncs owned one.syncs) second.syncs;
     }
+
+-- a log that isn't made is absent in each crash image
+pub unmade_started : (n : ℕ) (after : Option Stored) (disk : DiskView) → OnlyNow disk → IsUnmade n disk → Throughout (IsOfLog n) (IsEither n None after) disk disk
+unmade_started n after disk now unmade = started (IsOfLog n) (IsEither n None after) disk now (λ image is. inl (absent_replay image n (unmade_image n disk image unmade is)))

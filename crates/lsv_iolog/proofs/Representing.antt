@@ -4,12 +4,15 @@ use Rattle.std.proofs.lemmas.List.Elements.{All-cons, All-append, All-nil}
 use Rattle.lsv_disk.specs.declared.file.FileId.{FileId}
 use Rattle.lsv_disk.specs.declared.file.Owner.{Owner}
 use Rattle.lsv_disk.specs.declared.file.Part.{Part}
-use Rattle.lsv_disk.specs.declared.file.Part.TheVariants.{Timing}
+use Rattle.lsv_disk.specs.declared.file.Part.TheVariants.{Head, Exit, Timing}
 use Rattle.lsv_record.specs.declared.laid.Laid.{Laid}
 use Rattle.lsv_disk.specs.View.{Image, DiskView, IsCrashImage, Elsewhere}
 use Rattle.lsv_bundle.specs.declared.shape.Shape.{Shape}
 use Rattle.lsv_bundle.specs.declared.shape.Shape.TheVariants as shapes
-use Rattle.lsv_bundle.specs.Value.{BundleView, staged, unstaged}
+use Rattle.lsv_bundle.specs.declared.body.Body.{Body}
+use Rattle.lsv_bundle.specs.Shape.{IsPart}
+use Rattle.lsv_bundle.specs.Value.{BundleView, staged, unstaged, next_length, committed_length, NoneStaged}
+use Rattle.lsv_info.specs.Reading.{head_of}
 use Rattle.lsv_bundle.specs.Committed.{Committed, BundleHolds, committed}
 use Rattle.lsv_bundle.proofs.Laws.{represents_holds, owner_represents, owner_committed, staging_represents, staging_committed}
 use Rattle.lsv_record.specs.declared.records.Record.{Record}
@@ -20,7 +23,8 @@ use Rattle.lsv_record.specs.Points.{Stored}
 use Rattle.lsv_record.specs.Records.{IsValid, line_of, data_in, delay_of, elapsed, timing_of, stream_of}
 use Rattle.lsv_record.proofs.Layouts.{timing_of-push, stream_of-push, elapsed-push}
 use Rattle.lsv_iolog.specs.Recovered.{owner_of, IsOfLog, part_of, laid_in, IsLog, HoldsLog, Replays}
-use Rattle.lsv_iolog.specs.Value.{IoLogView, LogValue, all_of, with_record}
+use Rattle.lsv_iolog.specs.Value.{IoLogView, LogValue, all_of, with_record, bare}
+use Rattle.lsv_iolog.specs.Inner.Invariant.{IsIoLog, IsSettled, HasCommitted}
 use Rattle.lsv_iolog.specs.Represents.{HasStaged, Represents, Stages}
 use Rattle.lsv_iolog.proofs.Replaying.{one_replay}
 
@@ -112,3 +116,62 @@ stages_represents old new value r disk stages valid going at = record {
   length_also xs ys r = omega (arith, length-append {A = Record})
   elapsed_also : (xs ys : List Record) (r : Record) → elapsed (xs ++ (ys ++ r ∷ [])) ≡ elapsed (xs ++ ys) + delay_of r
   elapsed_also xs ys r = ap elapsed (sym (append_assoc xs ys (r ∷ []))) ∙ elapsed-push (xs ++ ys) r
+
+-- nothing is staged of a log's files
+none_staged : (b : BundleView) → b.shape ≡ shapes.Log → NoneStaged b → (part : Part) → IsPart shapes.Log part → staged b part ≡ []
+none_staged b shape none part is = none part (subst (λ (s : Shape). IsPart s part) (sym shape) is)
+
+pub nothing_staged : (b : BundleView) → b.shape ≡ shapes.Log → NoneStaged b → HasStaged b []
+nothing_staged b shape none = record {
+  layout = λ i. record {
+    timing = none_staged b shape none Timing tt i;
+    stdin = none_staged b shape none (part_of stream.Stdin) tt i;
+    stdout = none_staged b shape none (part_of stream.Stdout) tt i;
+    stderr = none_staged b shape none (part_of stream.Stderr) tt i;
+    ttyin = none_staged b shape none (part_of stream.Ttyin) tt i;
+    ttyout = none_staged b shape none (part_of stream.Ttyout) tt i;
+  };
+  head = none_staged b shape none Head tt;
+  exit = none_staged b shape none Exit tt;
+}
+
+-- a log of which nothing is staged is represented where its files have it committed
+pub settled_represents : (log : IoLogView) (stored : Stored) (body : Body) (disk : DiskView) → log.is_broken ≡ false → IsSettled log.number body log.bundle → HasCommitted log.bundle stored disk
+    → next_length log.bundle Timing ≤ 2 ^ 40 → head_of stored.head ≡ Ok log.head → log.count ≡ length stored.records → log.elapsed ≡ elapsed stored.records → Represents log (bare stored) disk
+settled_represents log stored body disk whole settled has small head count time = record {
+  whole = whole;
+  owner = settled.files.owner;
+  shape = settled.files.shape;
+  sound = settled.whole;
+  bundle = has.represents;
+  entry = has.entry;
+  committed = has.committed;
+  is = has.is;
+  staged = nothing_staged log.bundle settled.files.shape settled.none_staged;
+  valid = All-nil IsValid;
+  small = small;
+  ends = λ some. refl;
+  head = head;
+  count = count ∙ ap length (sym (append-nil stored.records));
+  time = time ∙ ap elapsed (sym (append-nil stored.records));
+  in_time = subst (λ (rs : List Record). elapsed rs < 2 ^ 63) (sym (append-nil stored.records)) has.is.in_time;
+}
+
+-- nothing is staged, and no more timing is committed than there may be
+pub settled_small : (n : ℕ) (body : Body) (b : BundleView) → IsSettled n body b → committed_length b Timing ≤ 2 ^ 40 → next_length b Timing ≤ 2 ^ 40
+settled_small n body b settled few =
+    subst (λ (xs : List ℕ). committed_length b Timing + length xs ≤ 2 ^ 40) (sym (none_staged b settled.files.shape settled.none_staged Timing tt)) (omega (arith, few))
+
+pub settled_timing : (n : ℕ) (body : Body) (b : BundleView) → IsSettled n body b → staged b Timing ≡ []
+settled_timing n body b settled = none_staged b settled.files.shape settled.none_staged Timing tt
+
+-- what is true of every open log is true where its files are settled
+pub settled_invariant : (log : IoLogView) (body : Body) → IsSettled log.number body log.bundle → log.elapsed < 2 ^ 63 → log.count ≤ committed_length log.bundle Timing → committed_length log.bundle Timing ≤ 2 ^ 40
+    → IsIoLog log × (length (staged log.bundle Timing) ≡ 0)
+settled_invariant log body settled time lines few = (record {
+  files = settled.files;
+  whole = λ whole. settled.whole;
+  time = time;
+  lines = omega (arith, lines);
+  small = settled_small log.number body log.bundle settled few;
+}, ap length (settled_timing log.number body log.bundle settled))

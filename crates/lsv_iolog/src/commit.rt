@@ -45,9 +45,10 @@ impl IoLog {
         if self.is_broken {
             return Err(LogFault::Broken);
         }
-        if self.staged_timing > 0 {
-            self.commit(disk, FLUSHED)?;
+        if self.staged_timing == 0 {
+            return Ok(self.elapsed());
         }
+        self.commit(disk, FLUSHED)?;
         Ok(self.elapsed())
     }
 
