@@ -12,3 +12,4 @@ pub mod Shapes
 pub mod Staging
 pub mod Steps
 pub mod Syncing
+pub mod Undoing

@@ -11,7 +11,7 @@ ghost use Rattle.lsv_journal.specs.Represents as represents;
 ghost use Rattle.lsv_bundle.specs.declared.fault.BundleFault.{BundleFault};
 ghost use Rattle.lsv_bundle.specs.Shape.{IsPart, journal_of, IsWritable, IsOwnFile};
 ghost use Rattle.lsv_bundle.specs.Body.{IsBody};
-ghost use Rattle.lsv_bundle.specs.Value.{committed_length, staged, next_body, IsStaged, IsFresh, KeptBy};
+ghost use Rattle.lsv_bundle.specs.Value.{BundleView, committed_length, staged, unstaged, next_body, IsStaged, IsFresh, KeptBy};
 ghost use Rattle.lsv_bundle.specs.Committed.{IsBeingMade, committed_bytes};
 ghost use Rattle.lsv_bundle.specs.Represents.{Represents};
 ghost use Rattle.lsv_bundle.specs.Calls.{IsFull};
@@ -162,10 +162,12 @@ impl Bundle {
         Ok(())
     }
 
-    /// Keeps of a part so many of the staged bytes, and forgets those behind them. It takes no memory.
+    /// Keeps of a part so many of the staged bytes, and forgets those behind them. Where they were all that was staged
+    /// since, the bundle is as it was before. It takes no memory.
     pub fn unstage(&mut self, part: Part, keep: usize)
         requires part { IsPart self.old.shape part }
-        ensures { IsStaged part (take keep (staged self.old part)) self.old self.new }
+        ensures value { IsStaged part (take keep (staged self.old part)) self.old self.new }
+        ensures undone { (before : BundleView) → unstaged self.old ≡ unstaged before → ((p : Part) → IsPart self.old.shape p → staged self.new p ≡ staged before p) → self.new ≡ before }
     {
         self.files[index_of(part)].unstage(keep);
     }

@@ -1,12 +1,13 @@
-use Rattle.std.proofs.Common.{ℕ, ◌<◌, take, List, [], length, map, sym, subst, ◌∙◌, ap}
+use Rattle.std.proofs.Common.{◌≡◌, ℕ, ◌<◌, take, List, [], length, map, sym, subst, ◌∙◌, ap}
 use Rattle.std.specs.Prelude.{slice_index_or, slice_set}
-use Rattle.lsv_bundle.specs.Shape.{IsPart, index_of}
+use Rattle.lsv_bundle.specs.Shape.{IsPart, index_of, parts_of}
 use Rattle.lsv_bundle.specs.Value.{FileView, BundleView, staged, unstaged}
 use Rattle.lsv_bundle.proofs.Staging.{staged_here, staged_there, bare_same, indexes_differ, index_within}
+use Rattle.lsv_bundle.proofs.Undoing.{bundle_same, parts_as}
 use Rattle.lsv_bundle.proofs.bundle.Bundle.unstage.Goals as goal
 
-pub returns : goal.returns
-returns c = record {
+pub returns-clause-value : goal.returns-clause-value
+returns-clause-value c = record {
   staged_is =
         let files : List FileView = c.self.inside.files.items in
         let part : IsPart c.self.inside.shape c.args.part = subst (λ (b : BundleView). IsPart b.shape c.args.part) (sym c.self.view_is) c.requires.part in
@@ -27,3 +28,10 @@ returns c = record {
         ap with_files (bare_same files c.index_of.result c.index_mut.result.now c.unstage.new.self (take c.args.keep) c.index_mut.ensures.value c.unstage.ensures)
         ∙ ap unstaged c.self.view_is;
 }
+
+pub returns-clause-undone : goal.returns-clause-undone
+returns-clause-undone c before same each =
+    let new : BundleView = record { owner = c.self.inside.owner; shape = c.self.inside.shape; last = c.self.inside.last; prepared = c.self.inside.prepared; files = slice_set c.self.inside.files.items c.index_of.result c.unstage.new.self; is_broken = c.self.inside.is_broken; journal = c.self.inside.journal } in
+    let kept = returns-clause-value c in
+    let parts : map (λ f. f.part) c.args.self.now.files ≡ parts_of c.args.self.now.shape = subst (λ (b : BundleView). map (λ f. f.part) b.files ≡ parts_of b.shape) c.self.view_is c.self.invariant.parts in
+    bundle_same new before (parts_as new c.args.self.now kept.same parts) (kept.same ∙ same) (λ p is. each p (subst (λ (b : BundleView). IsPart b.shape p) c.self.view_is is))
