@@ -3,3 +3,4 @@ pub mod Replaying
 pub mod Representing
 pub mod Committing
 pub mod Making
+pub mod Staging

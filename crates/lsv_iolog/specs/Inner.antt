@@ -1,3 +1,4 @@
 -- What proofs alone need: no public clause cites it.
 pub mod Invariant
 pub mod Scanning
+pub mod Staging
