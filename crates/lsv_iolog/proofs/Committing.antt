@@ -1,6 +1,6 @@
 -- What a flush commits, and what crash images hold of a log meanwhile.
 use Rattle.std.proofs.Common.{◌≡◌, ◌≢◌, ◌⊎◌, inl, inr, ℕ, suc, ◌+◌, ◌<◌, ◌≤◌, ◌^◌, false, Ok, List, [], ◌∷◌, ◌++◌, length, take, Option, Some, None, refl, sym, ◌∙◌, ap, subst, arith, lit≤, All, append_assoc, length-append, append-nil}
-use Rattle.std.specs.Prelude.{slice_index, option_map}
+use Rattle.std.specs.Prelude.{slice_index, slice_index_or, map, option_map}
 use Rattle.std.proofs.lemmas.List.Elements.{All-cons, All-append, All-nil}
 use Rattle.lsv_disk.specs.declared.file.FileId.{FileId}
 use Rattle.lsv_disk.specs.declared.file.Owner.{Owner}
@@ -18,7 +18,7 @@ use Rattle.lsv_bundle.specs.declared.shape.Shape.{Shape}
 use Rattle.lsv_bundle.specs.declared.shape.Shape.TheVariants as shapes
 use Rattle.lsv_bundle.specs.Body.{length_of}
 use Rattle.lsv_bundle.specs.Shape.{IsPart, IsWritable, on_shape, eight, index_of, journal_of}
-use Rattle.lsv_bundle.specs.Value.{BundleView, committed_length, staged, next_length, next_body, IsCommitted, NoneStaged}
+use Rattle.lsv_bundle.specs.Value.{BundleView, committed_length, staged, next_length, next_body, IsCommitted, IsKept, FileView, NoneStaged}
 use Rattle.lsv_bundle.specs.Calls.{RoseByFlush, CallsOfFlush}
 use Rattle.lsv_bundle.specs.Committed.{Committed, BundleHolds, IsBeingMade, IsBeforeOrAfter, committed, committed_bytes, committed_as, committed_next}
 use Rattle.lsv_bundle.proofs.Laws.{writes_owner}
@@ -144,7 +144,7 @@ unmade_may_be_made n owner disk owned reads unmade =
       unmade_image n disk image unmade is (file_of (owner_of n) Commit) refl)))
 
 -- an entry with a log's numbers and bytes is the log
-holds_log : (n : ℕ) (entry : Committed) (log : Stored) (image : Image) → IsLog entry log → BundleHolds (owner_of n) shapes.Log (Some entry) image → Replays image n (Some log)
+pub holds_log : (n : ℕ) (entry : Committed) (log : Stored) (image : Image) → IsLog entry log → BundleHolds (owner_of n) shapes.Log (Some entry) image → Replays image n (Some log)
 holds_log n entry log image is holds = record { entry = entry; holds = holds; is = is }
 
 -- while the first entry is added, it is absent or there
@@ -223,3 +223,18 @@ make_then_flush n owner b old mid new owned of one two =
 -- a log that isn't made is absent in each crash image
 pub unmade_started : (n : ℕ) (after : Option Stored) (disk : DiskView) → OnlyNow disk → IsUnmade n disk → Throughout (IsOfLog n) (IsEither n None after) disk disk
 unmade_started n after disk now unmade = started (IsOfLog n) (IsEither n None after) disk now (λ image is. inl (absent_replay image n (unmade_image n disk image unmade is)))
+
+-- files of which a call kept what is committed and staged are the log's as before
+pub kept_files : (n : ℕ) (old new : BundleView) → IsKept old new → IsOfNumber n old → IsOfNumber n new
+kept_files n old new kept files = record {
+  owner = kept.owner ∙ files.owner;
+  shape = kept.shape ∙ files.shape;
+  entry = λ none. files.entry (sym kept.last ∙ none);
+  lengths = λ body last part of. files.lengths body (sym kept.last ∙ last) part of ∙ ap (λ (fs : List FileView). slice_index (map (λ f. f.committed) fs) (index_of part)) (sym kept.files);
+}
+
+pub kept_next : (old new : BundleView) → IsKept old new → (part : Part) → next_length new part ≡ next_length old part
+kept_next old new kept part = ap (λ (fs : List FileView). slice_index (map (λ f. f.committed) fs) (index_of part) + length (slice_index_or (map (λ f. f.staged) fs) (index_of part) [])) kept.files
+
+pub kept_staged : (old new : BundleView) → IsKept old new → (part : Part) → staged new part ≡ staged old part
+kept_staged old new kept part = ap (λ (fs : List FileView). slice_index_or (map (λ f. f.staged) fs) (index_of part) []) kept.files

@@ -4,3 +4,4 @@ pub mod Representing
 pub mod Committing
 pub mod Making
 pub mod Staging
+pub mod Flushing

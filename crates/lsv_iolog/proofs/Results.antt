@@ -1,5 +1,5 @@
 -- Which fault of a bundle a fault of a log was.
-use Rattle.std.proofs.Common.{◌≡◌, ◌≢◌, ◌⊎◌, inl, inr, Result, Ok, Err, IsErrAnd, IsErrOf, OnOk, IfOk, refl, sym, ◌∙◌, ap, subst}
+use Rattle.std.proofs.Common.{Bool, true, false, ◌≡◌, ◌≢◌, ◌⊎◌, inl, inr, Result, Ok, Err, IsErrAnd, IsErrOf, OnOk, IfOk, refl, sym, ◌∙◌, ap, subst}
 use Rattle.lsv_disk.specs.declared.file.Part.{Part}
 use Rattle.lsv_disk.specs.declared.file.FileId.{FileId}
 use Rattle.lsv_disk.specs.View.{DiskView, HasOwnCause}
@@ -49,3 +49,12 @@ pub disk_cause : {T U : Type 0} (Own Wider : FileId → Type 0) (r : Result T Lo
 disk_cause {T} {U} Own Wider r e old new more is cause =
     cause_widened Own Wider (IsErrOf {T = U} (Err e) bundles.Disk) (IsErrOf r logs.Disk) old new more
       (λ failed. ap (λ (x : BundleFault). let y : Result U BundleFault = Err x in y) (disk_is e (given_fault r e logs.Disk is failed))) cause
+
+-- a whole bundle's flush fails by a device alone
+pub flush_fault : (fault : BundleFault) (broken : Bool) → broken ≡ false → (fault ≡ bundles.Disk) ⊎ (fault ≡ bundles.Broken) → (fault ≡ bundles.Broken → broken ≡ true) → fault_of fault ≡ logs.Disk
+flush_fault fault broken whole is told = elim is [
+  | inl disk ↦ ap fault_of disk
+  | inr old ↦ absurd (not_both broken whole (told old))
+] where
+  not_both : (b : Bool) → b ≡ false → b ≡ true → ⊥
+  not_both b no_ yes_ = cc

@@ -2,3 +2,4 @@
 pub mod Invariant
 pub mod Scanning
 pub mod Staging
+pub mod Next

@@ -4,11 +4,16 @@ ghost use Rattle.lsv_disk.specs.View.{HasOwnCause};
 ghost use Rattle.lsv_disk.specs.Throughout.{Throughout};
 ghost use Rattle.lsv_disk.specs.declared.file.Part.{Part};
 ghost use Rattle.lsv_bundle.specs.Calls.{IsFull};
+ghost use Rattle.lsv_bundle.specs.Committed.{IsBeforeOrAfter, committed, committed_as};
+ghost use Rattle.lsv_bundle.specs.Represents as bundles;
+ghost use Rattle.lsv_bundle.specs.Shape.{IsWritable};
+ghost use Rattle.lsv_bundle.specs.Value.{next_length, IsCommitted};
 ghost use Rattle.lsv_info.specs.Layout.{exit_text};
 ghost use Rattle.lsv_iolog.specs.declared.fault.LogFault.{LogFault};
 ghost use Rattle.lsv_iolog.specs.Recovered.{IsOfLog};
 ghost use Rattle.lsv_iolog.specs.Value.{LogValue, is_complete, all_of, bare, flushed, finished, SameCounts, IsFlushed};
 ghost use Rattle.lsv_iolog.specs.Represents.{Represents};
+ghost use Rattle.lsv_iolog.specs.Inner.Next.{next_entry};
 ghost use Rattle.lsv_iolog.specs.Moments.{IsEither, IsThereLater, CallsOfLog};
 
 use crate::log::{COMPLETE, FLUSHED};
@@ -48,8 +53,7 @@ impl IoLog {
         if self.staged_timing == 0 {
             return Ok(self.elapsed());
         }
-        self.commit(disk, FLUSHED)?;
-        Ok(self.elapsed())
+        self.commit(disk, FLUSHED)
     }
 
     /// Commits all staged records with the text of this exit, by one entry; the log wasn't complete, and is then. The
@@ -87,21 +91,41 @@ impl IoLog {
         }
         let text = write_exit(self.alloc, exit)?;
         self.bundle.stage(Part::Exit, text.as_slice())?;
-        self.commit(disk, COMPLETE)?;
-        Ok(self.elapsed())
+        self.commit(disk, COMPLETE)
     }
 
     /// Commits all that is staged, by an entry of this kind.
-    fn commit<D: Disk>(&mut self, disk: &mut D, kind: u8) -> Result<(), LogFault> {
+    fn commit<D: Disk>(&mut self, disk: &mut D, kind: u8) -> Result<Point, LogFault>
+        requires whole { self.old.is_broken ≡ false }
+        requires represents { D.tells → bundles.Represents self.old.bundle (D.view disk.old) }
+        ensures elapsed { IfOk result (λ point. point ≡ self.old.elapsed) }
+        ensures counts { SameCounts self.old self.new }
+        ensures whole { OnOk result (self.new.is_broken ≡ false) }
+        ensures broken { OnErr result (self.new.is_broken ≡ true) }
+        ensures value { OnOk result (IsCommitted (next_entry self.old kind) (next_length self.old.bundle) self.old.bundle self.new.bundle) }
+        ensures kept { OnErr result (self.new.bundle.last ≡ self.old.bundle.last) }
+        ensures committed { D.tells → OnOk result (committed self.new.bundle (D.view disk.new) ≡ Some (committed_as self.old.bundle (D.view disk.old) (next_entry self.old kind))) }
+        ensures represents { D.tells → OnOk result (bundles.Represents self.new.bundle (D.view disk.new)) }
+        ensures any_moment { D.tells → Throughout (IsWritable self.old.bundle.owner self.old.bundle.shape)
+            (IsBeforeOrAfter self.old.bundle.owner self.old.bundle.shape (committed self.old.bundle (D.view disk.old)) (Some (committed_as self.old.bundle (D.view disk.old) (next_entry self.old kind))))
+            (D.view disk.old) (D.view disk.new) }
+        ensures calls { D.tells → CallsOfLog self.old.number 1 2 (D.view disk.old) (D.view disk.new) }
+        ensures fault { IfErr result (λ e. e ≡ LogFault.Disk) }
+        ensures cause { HasOwnCause (IsOfLog self.old.number) (IsErrOf result LogFault.Disk) (D.view disk.old) (D.view disk.new) }
+    {
         let cuts = self.bundle.last().extra;
-        if let Err(fault) = self
+        match self
             .bundle
             .flush(disk, kind, self.count, self.elapsed, cuts)
         {
-            self.is_broken = true;
-            return Err(LogFault::from(fault));
+            Ok(()) => {
+                self.staged_timing = 0;
+                Ok(self.elapsed())
+            }
+            Err(fault) => {
+                self.is_broken = true;
+                Err(LogFault::from(fault))
+            }
         }
-        self.staged_timing = 0;
-        Ok(())
     }
 }
