@@ -1,5 +1,5 @@
 -- A flush: what it commits, and what stands at each moment.
-use Rattle.std.proofs.Common.{◌≡◌, ◌≢◌, ◌⊎◌, inl, inr, ℕ, suc, ◌+◌, ◌<◌, ◌≤◌, ◌^◌, false, Ok, List, [], ◌∷◌, ◌++◌, length, take, Option, Some, None, refl, sym, ◌∙◌, ap, subst, arith, All, append_assoc, length-append, append-nil}
+use Rattle.std.proofs.Common.{◌≡◌, ◌≢◌, ◌⊎◌, inl, inr, ℕ, suc, ◌+◌, ◌<◌, ◌≤◌, ◌^◌, false, Result, Ok, Err, OnOk, List, [], ◌∷◌, ◌++◌, length, take, Option, Some, None, refl, sym, ◌∙◌, ap, subst, arith, All, append_assoc, length-append, append-nil}
 use Rattle.std.specs.Prelude.{option_map}
 use Rattle.std.proofs.lemmas.List.Elements.{All-append}
 use Rattle.std.proofs.lemmas.List.{length-take}
@@ -26,7 +26,7 @@ use Rattle.lsv_record.specs.declared.records.Stream.TheVariants as stream
 use Rattle.lsv_info.specs.Reading.{head_of}
 use Rattle.lsv_record.specs.Layout.{layout_of}
 use Rattle.lsv_record.specs.Points.{Stored}
-use Rattle.lsv_record.specs.Records.{IsValid, elapsed}
+use Rattle.lsv_record.specs.Records.{IsValid, elapsed, timing_of, line_of, shape_of}
 use Rattle.lsv_record.proofs.Layouts.{timing_of-append, stream_of-append, elapsed-append}
 use Rattle.lsv_iolog.specs.Recovered.{owner_of, IsOfLog, part_of, laid_in, HasExit, IsLog, Replays}
 use Rattle.lsv_iolog.specs.Later.{IsLater}
@@ -35,7 +35,7 @@ use Rattle.lsv_iolog.specs.Value.{IoLogView, LogValue, all_of, bare, flushed, fi
 use Rattle.lsv_iolog.specs.Represents.{HasStaged, Represents}
 use Rattle.lsv_iolog.specs.Inner.Invariant.{IsSettled, HasCommitted}
 use Rattle.lsv_iolog.specs.Inner.Next.{cuts_in, next_entry}
-use Rattle.lsv_iolog.proofs.Replaying.{on_log}
+use Rattle.lsv_iolog.proofs.Staging.{some_line}
 use Rattle.lsv_iolog.proofs.Committing.{next_bytes, now_bytes, holds_log, settled_next}
 use Rattle.lsv_iolog.proofs.Representing.{every_image, settled_represents, settled_small}
 
@@ -161,3 +161,39 @@ next_represents old new value after kind before disk whole counts owner shape sm
       (ap head_of heads ∙ head ∙ ap Ok (sym counts.head))
       (counts.count ∙ count ∙ ap length (sym records))
       (counts.elapsed ∙ time ∙ ap elapsed (sym records))
+
+-- without timing there is no record
+no_lines : (rs : List Record) → length (timing_of rs) ≡ 0 → rs ≡ []
+no_lines [] none = refl
+no_lines (r ∷ rs) none = absurd (let no_ : ⊥ = omega (arith, none, some_line (shape_of r), length-append (line_of r) (timing_of rs)) in no_)
+
+-- where no timing is staged no record is, and where some is some are
+pub no_timing : (log : IoLogView) (value : LogValue) (disk : DiskView) → Represents log value disk → length (staged log.bundle Timing) ≡ 0 → value.staged ≡ []
+no_timing log value disk at none = no_lines value.staged (ap length (sym (ap (λ (l : Laid). l.timing) at.staged.layout)) ∙ none)
+
+pub some_timing : (log : IoLogView) (value : LogValue) (disk : DiskView) → Represents log value disk → length (staged log.bundle Timing) ≢ 0 → value.staged ≢ []
+some_timing log value disk at some none = some (ap length (ap (λ (l : Laid). l.timing) at.staged.layout) ∙ ap (λ (rs : List Record). length (timing_of rs)) none)
+
+-- a value of which nothing is staged is flushed
+pub idle_value : (value : LogValue) → value.staged ≡ [] → value ≡ bare (flushed value)
+idle_value value none =
+    let records : value.stored.records ≡ all_of value = sym (append-nil value.stored.records) ∙ ap (λ (rs : List Record). value.stored.records ++ rs) (sym none) in
+    λ i. record { stored = record { head = value.stored.head; records = records i; exit = value.stored.exit; cuts = value.stored.cuts }; staged = none i }
+
+pub on_ok_four : {T E : Type 0} (r : Result T E) (A B C D Q : Type 0) → (A → B → C → D → Q) → OnOk r A → OnOk r B → OnOk r C → OnOk r D → OnOk r Q
+on_ok_four (Ok x) A B C D Q f a b c d = f a b c d
+on_ok_four (Err e) A B C D Q f a b c d = tt
+
+-- a log of which records are staged is flushed
+pub flush_represents : (old new : IoLogView) (value : LogValue) (before disk : DiskView) → SameCounts old new → value.staged ≢ [] → Represents old value before → new.is_broken ≡ false
+    → IsCommitted (next_entry old 1) (next_length old.bundle) old.bundle new.bundle → committed new.bundle disk ≡ Some (committed_as old.bundle before (next_entry old 1)) → bundles.Represents new.bundle disk → Represents new (bare (flushed value)) disk
+flush_represents old new value before disk counts some at whole value_is has represents =
+    next_represents old new value (flushed value) 1 before disk whole counts at.owner at.shape at.small at.head at.count at.time refl refl value_is
+      (staged_log old value before 1 (λ e. cc) (going_staged value at.ends some) at) has represents
+
+pub flush_moment : (log : IoLogView) (value : LogValue) (old new : DiskView) → value.staged ≢ [] → Represents log value old
+    → Throughout (IsWritable log.bundle.owner log.bundle.shape) (IsBeforeOrAfter log.bundle.owner log.bundle.shape (committed log.bundle old) (Some (committed_as log.bundle old (next_entry log 1)))) old new
+    → Throughout (IsOfLog log.number) (IsEither log.number (Some value.stored) (Some (flushed value))) old new
+flush_moment log value old new some at run =
+    next_moment log.number log.bundle value.stored (flushed value) old new at.entry (committed_as log.bundle old (next_entry log 1)) at.owner at.shape at.committed at.is
+      (staged_log log value old 1 (λ e. cc) (going_staged value at.ends some) at) run

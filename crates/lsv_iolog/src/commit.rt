@@ -32,7 +32,6 @@ impl IoLog {
         ensures elapsed { IfOk result (λ point. point ≡ self.old.elapsed) }
         ensures counts { SameCounts self.old self.new }
         ensures whole { OnOk result ((self.old.is_broken ≡ false) × (self.new.is_broken ≡ false)) }
-        ensures flushed { OnOk result (IsFlushed self.new) }
         ensures going { is_complete self.old ≡ false → is_complete self.new ≡ false }
         ensures represents { D.tells → OnOk result ((value : LogValue) → Represents self.old value (D.view disk.old) → Represents self.new (bare (flushed value)) (D.view disk.new)) }
         ensures any_moment { D.tells → (value : LogValue) → Represents self.old value (D.view disk.old)
