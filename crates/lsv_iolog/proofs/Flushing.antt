@@ -197,3 +197,7 @@ pub flush_moment : (log : IoLogView) (value : LogValue) (old new : DiskView) →
 flush_moment log value old new some at run =
     next_moment log.number log.bundle value.stored (flushed value) old new at.entry (committed_as log.bundle old (next_entry log 1)) at.owner at.shape at.committed at.is
       (staged_log log value old 1 (λ e. cc) (going_staged value at.ends some) at) run
+
+pub on_ok_always : {T E : Type 0} (r : Result T E) (P : Type 0) → P → OnOk r P
+on_ok_always (Ok x) P p = p
+on_ok_always (Err e) P p = tt

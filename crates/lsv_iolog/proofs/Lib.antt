@@ -5,3 +5,4 @@ pub mod Committing
 pub mod Making
 pub mod Staging
 pub mod Flushing
+pub mod Finishing
