@@ -1,4 +1,5 @@
 pub mod Results
+pub mod Windows
 pub mod Replaying
 pub mod Representing
 pub mod Committing

@@ -136,7 +136,7 @@ fn first_end<D: Disk>(
     view: View,
     point: Point,
 ) -> Result<Option<Tally>, LogFault> {
-    let mut lines = Lines::new(alloc, view)?;
+    let mut lines = Lines::new(alloc, view);
     while lines.next(alloc, disk)?.is_some() {
         let elapsed = lines.tally().elapsed();
         if elapsed == point.nanos() {

@@ -10,6 +10,7 @@ mod laws;
 mod lines;
 mod log;
 mod open;
+mod pieces;
 mod view;
 
 pub use fault::LogFault;

@@ -1,16 +1,20 @@
-ghost use Rattle.std.specs.Prelude.{◌≡◌, ◌==◌, ◌≢◌, ◌⊎◌, ◌+◌, ◌<◌, ◌≤◌, ◌^◌, [], take, length, slice_index, IfOk, IfErr, IfSome, IfNone, OnOk, OnErr, IsErrOf};
+ghost use Rattle.std.specs.Prelude.{◌≡◌, ◌≢◌, ◌↔◌, ◌⊎◌, ℕ, List, None, ◌+◌, ◌<◌, ◌≤◌, ◌^◌, [], length, IsTrue, IsErr, IfOk, IfErr, IfSome, IfNone, OnOk, OnErr, IsErrOf};
 ghost use Rattle.lsv_disk.specs.declared.file.Part.{Part};
 ghost use Rattle.lsv_disk.specs.Files.{file_of};
 ghost use Rattle.lsv_disk.specs.View.{HasCause};
 ghost use Rattle.lsv_disk.specs.Throughout.{OnlyReads};
+ghost use Rattle.lsv_bundle.specs.declared.shape.Shape.TheVariants as shapes;
 ghost use Rattle.lsv_bundle.specs.Body.{length_of};
 ghost use Rattle.lsv_record.specs.Lines.{IsLineAt};
 ghost use Rattle.lsv_record.specs.Records.{IsGood};
 ghost use Rattle.lsv_record.specs.Tally.{totals_of, with_line};
 ghost use Rattle.lsv_iolog.specs.declared.fault.LogFault.{LogFault};
-ghost use Rattle.lsv_iolog.specs.Inner.Scanning.{text_of, IsReading, IsBadLine};
+ghost use Rattle.lsv_iolog.specs.Inner.Scanning.{text_of, IsSameWindow, IsReading, IsBadLine};
+ghost use Rattle.lsv_iolog.specs.Reading.{IsWindowOf};
 
 use crate::LogFault;
+use crate::pieces::read_piece;
+use lsv_base::Bytes;
 use lsv_bundle::View;
 use lsv_disk::{Disk, Part};
 use lsv_record::{Shaped, Tally, TimingFault};
@@ -21,7 +25,7 @@ use std::marker::Model;
 const FILE_LIMIT: u64 = 1 << 40;
 
 /// The most bytes of timing that are read at once.
-const WINDOW: usize = 1 << 16;
+const WINDOW: u64 = 1 << 16;
 
 /// Where the length of the timing stands among the eight.
 const TIMING: usize = 2;
@@ -31,39 +35,37 @@ const TIMING: usize = 2;
 pub(crate) struct Lines {
     view: View,
     tally: Tally,
-    buffer: Vec<u8>,
     /// The offset in the timing at which the window begins.
     start: u64,
-    /// How many bytes the window has.
-    len: usize,
+    window: Bytes,
 }
 
 impl Model for Lines {
-    ghost use Rattle.std.specs.Prelude.{◌≡◌, ◌≤◌, ◌+◌, length, take};
+    ghost use Rattle.std.specs.Prelude.{◌≡◌, ◌≤◌, ◌+◌, length};
     ghost use Rattle.lsv_disk.specs.declared.file.Part.TheVariants.{Timing};
+    ghost use Rattle.lsv_bundle.specs.declared.shape.Shape.TheVariants as shapes;
     ghost use Rattle.lsv_bundle.specs.Body.{length_of};
     ghost use Rattle.lsv_iolog.specs.Inner.Scanning.{Scan};
 
     ghost Value = { Scan };
 
-    ghost view = { λ l. record { view = l.view; tally = l.tally; start = l.start; window = take l.len l.buffer.items } };
+    ghost view = { λ l. record { view = l.view; tally = l.tally; start = l.start; window = l.window } };
 
-    ghost invariant = { λ l. (l.start ≤ l.tally.timing) × (l.tally.timing ≤ l.start + l.len) × (l.start + l.len ≤ length_of l.view.body Timing) × (l.len ≤ length l.buffer.items) × (length l.buffer.items ≡ 65536) };
+    ghost invariant = { λ l. (l.view.shape ≡ shapes.Log) × (l.start ≤ l.tally.timing) × (l.tally.timing ≤ l.start + length l.window) × (l.start + length l.window ≤ length_of l.view.body Timing) };
 }
 
 impl Lines {
     /// No line is read.
-    pub(crate) fn new(alloc: Global, view: View) -> Result<Self, LogFault>
-        ensures lines { IfOk result (λ lines. lines ≡ record { view = view; tally = totals_of []; start = 0; window = [] }) }
-        ensures fault { IfErr result (λ e. e ≡ LogFault.NoMem) }
+    pub(crate) fn new(alloc: Global, view: View) -> Self
+        requires { view.shape ≡ shapes.Log }
+        ensures { result ≡ record { view = view; tally = totals_of []; start = 0; window = [] } }
     {
-        Ok(Lines {
+        Lines {
             view,
             tally: Tally::new(),
-            buffer: vec![in alloc; 0; WINDOW]?,
             start: 0,
-            len: 0,
-        })
+            window: Bytes::new(alloc),
+        }
     }
 
     /// The view whose timing it is.
@@ -95,44 +97,69 @@ impl Lines {
     {
         self.view = view;
         self.start = self.tally.timing();
-        self.len = 0;
+        self.window.truncate(0);
+    }
+
+    /// How many bytes of timing are committed.
+    fn total(&self) -> u64
+        ensures { result ≡ length_of self.now.view.body Part.Timing }
+    {
+        self.view.body.lens[TIMING]
     }
 
     /// The window reaches to the end of the timing.
     fn is_last(&self) -> bool
-        ensures { result ≡ (self.now.start + length self.now.window == length_of self.now.view.body Part.Timing) }
+        ensures { IsTrue result ↔ (self.now.start + length self.now.window ≡ length_of self.now.view.body Part.Timing) }
     {
-        self.start + self.len as u64 == self.view.body.lens[TIMING]
+        self.total() - self.start == self.window.as_slice().len() as u64
     }
 
     /// Reads the next line from the window, where a whole one stands there. None at the end of the timing, and where the
-    /// window is too short.
+    /// window is too short. Where there is none, and at a fault, nothing is read.
     fn step(&mut self, alloc: Global) -> Result<Option<Shaped>, LogFault>
         requires small { length_of self.old.view.body Part.Timing ≤ 2 ^ 40 }
+        ensures line { IfOk result (λ line. IfSome line (λ told. (text : List ℕ) → IsWindowOf text self.old.start self.old.window self.old.tally.timing → length text ≤ length_of self.old.view.body Part.Timing
+            → IsLineAt text self.old.tally.timing told self.new.tally.timing)) }
+        ensures taken { IfOk result (λ line. IfSome line (λ told. IsGood told × (self.new.tally ≡ with_line self.old.tally told))) }
+        ensures end { IfOk result (λ line. IfNone line (self.old.start + length self.old.window ≡ length_of self.old.view.body Part.Timing → self.old.tally.timing ≡ length_of self.old.view.body Part.Timing)) }
+        ensures short { IfOk result (λ line. IfNone line (self.old.start + length self.old.window < self.old.tally.timing + 56)) }
+        ensures stays { IfOk result (λ line. IfNone line (self.new.tally ≡ self.old.tally)) }
+        ensures err { OnErr result (self.new.tally ≡ self.old.tally) }
+        ensures bad { IsErrOf result (LogFault.Damaged Part.Timing) → (text : List ℕ) → IsWindowOf text self.old.start self.old.window self.old.tally.timing → length text ≤ length_of self.old.view.body Part.Timing
+            → IsBadLine text self.old.tally }
+        ensures view { self.new.view ≡ self.old.view }
+        ensures window { IsSameWindow self.old self.new }
+        ensures fault { IfErr result (λ e. (e ≡ LogFault.Damaged Part.Timing) ⊎ (e ≡ LogFault.NoMem)) }
     {
         let from = (self.tally.timing() - self.start) as usize;
         let is_last = self.is_last();
-        match self
-            .tally
-            .step(alloc, &self.buffer[from..self.len], is_last)
-        {
+        let window = &self.window.as_slice()[from..];
+        match self.tally.step(alloc, window, is_last) {
             Ok(line) => Ok(line),
             Err(TimingFault::NoMem) => Err(LogFault::NoMem),
-            Err(_) => Err(LogFault::Damaged(Part::Timing)),
+            Err(TimingFault::BadLine) => Err(LogFault::Damaged(Part::Timing)),
+            Err(TimingFault::TooLong) => Err(LogFault::Damaged(Part::Timing)),
         }
     }
 
-    /// Reads a window that begins at the next line.
-    fn fill<D: Disk>(&mut self, disk: &mut D) -> Result<(), LogFault>
+    /// Reads a window that begins at the next line. Where that fails, the window is empty.
+    fn fill<D: Disk>(&mut self, alloc: Global, disk: &mut D) -> Result<(), LogFault>
+        ensures reading { D.tells → IsReading self.old (D.view disk.old) → IsReading self.new (D.view disk.new) }
+        ensures full { D.tells → OnOk result (IsReading self.old (D.view disk.old) → length (text_of self.old.view (D.view disk.old) Part.Timing) ≡ length_of self.old.view.body Part.Timing
+            → (65536 ≤ length self.new.window) ⊎ (self.new.start + length self.new.window ≡ length_of self.old.view.body Part.Timing)) }
+        ensures view { self.new.view ≡ self.old.view }
+        ensures tally { self.new.tally ≡ self.old.tally }
+        ensures start { self.new.start ≡ self.old.tally.timing }
+        ensures reads { D.tells → OnlyReads (D.view disk.old) (D.view disk.new) }
+        ensures fault { IfErr result (λ e. (e ≡ LogFault.Disk) ⊎ (e ≡ LogFault.NoMem)) }
+        ensures cause { HasCause (file_of self.old.view.owner Part.Timing) (IsErrOf result LogFault.Disk) (D.view disk.old) (D.view disk.new) }
     {
         let start = self.tally.timing();
-        let left = self.view.body.lens[TIMING] - start;
-        let room = left.min(WINDOW as u64) as usize;
-        let len = self
-            .view
-            .read(disk, Part::Timing, start, &mut self.buffer[..room])?;
+        let room = (self.view.body.lens[TIMING] - start).min(WINDOW);
         self.start = start;
-        self.len = len;
+        self.window = Bytes::new(alloc);
+        let view = self.view;
+        self.window = read_piece(alloc, disk, &view, Part::Timing, start, room)?;
         Ok(())
     }
 
@@ -146,8 +173,8 @@ impl Lines {
     ) -> Result<Option<Shaped>, LogFault>
         ensures line { D.tells → IfOk result (λ line. IfSome line (λ told. IsReading self.old (D.view disk.old) → IsLineAt (text_of self.old.view (D.view disk.old) Part.Timing) self.old.tally.timing told self.new.tally.timing)) }
         ensures taken { IfOk result (λ line. IfSome line (λ told. IsGood told × (self.new.tally ≡ with_line self.old.tally told))) }
-        ensures end { D.tells → IfOk result (λ line. IfNone line (IsReading self.old (D.view disk.old) → self.old.tally.timing ≡ length_of self.old.view.body Part.Timing)) }
-        ensures small { IfOk result (λ line. length_of self.old.view.body Part.Timing ≤ 2 ^ 40) }
+        ensures end { IfOk result (λ line. IfNone line (self.old.tally.timing ≡ length_of self.old.view.body Part.Timing)) }
+        ensures small { OnOk result (length_of self.old.view.body Part.Timing ≤ 2 ^ 40) }
         ensures stays { IfOk result (λ line. IfNone line (self.new.tally ≡ self.old.tally)) }
         ensures err { OnErr result (self.new.tally ≡ self.old.tally) }
         ensures view { self.new.view ≡ self.old.view }
@@ -159,7 +186,7 @@ impl Lines {
         ensures fault { IfErr result (λ e. (e ≡ LogFault.Disk) ⊎ (e ≡ LogFault.Damaged Part.Timing) ⊎ (e ≡ LogFault.NoMem)) }
         ensures cause { HasCause (file_of self.old.view.owner Part.Timing) (IsErrOf result LogFault.Disk) (D.view disk.old) (D.view disk.new) }
     {
-        if self.view.body.lens[TIMING] > FILE_LIMIT {
+        if self.total() > FILE_LIMIT {
             return Err(LogFault::Damaged(Part::Timing));
         }
         if let Some(line) = self.step(alloc)? {
@@ -168,11 +195,21 @@ impl Lines {
         if self.is_last() {
             return Ok(None);
         }
-        self.fill(disk)?;
-        let line = self.step(alloc)?;
-        if line.is_none() && !self.is_last() {
-            return Err(LogFault::Damaged(Part::Timing));
+        self.fill(alloc, disk)?;
+        match self.step(alloc)? {
+            Some(line) => Ok(Some(line)),
+            None => self.no_line(),
         }
-        Ok(line)
+    }
+
+    /// At the end of the timing no line is left; before it one is wanting.
+    fn no_line(&self) -> Result<Option<Shaped>, LogFault>
+        ensures end { IfOk result (λ line. (line ≡ None) × (self.now.start + length self.now.window ≡ length_of self.now.view.body Part.Timing)) }
+        ensures fault { IfErr result (λ e. (e ≡ LogFault.Damaged Part.Timing) × (self.now.start + length self.now.window ≢ length_of self.now.view.body Part.Timing)) }
+    {
+        if self.is_last() {
+            return Ok(None);
+        }
+        Err(LogFault::Damaged(Part::Timing))
     }
 }

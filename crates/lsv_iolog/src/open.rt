@@ -16,6 +16,7 @@ ghost use Rattle.lsv_iolog.specs.Faults.{IsOpenFault};
 use crate::append::part_of;
 use crate::lines::Lines;
 use crate::log::{COMPLETE, owner_of};
+use crate::pieces::{committed, read_part};
 use crate::{IoLog, LogFault};
 use lsv_base::{Bytes, LogNo};
 use lsv_bundle::{Body, Bundle, Shape, View};
@@ -108,19 +109,6 @@ fn read_stored<D: Disk>(
     Ok((head, tally))
 }
 
-/// The committed bytes of a part.
-pub(crate) fn read_part<D: Disk>(
-    alloc: Global,
-    disk: &mut D,
-    view: &View,
-    part: Part,
-) -> Result<Bytes, LogFault> {
-    let mut bytes = vec![in alloc; 0; committed(&view.body, part) as usize]?;
-    let count = view.read(disk, part, 0, &mut bytes)?;
-    bytes.truncate(count);
-    Ok(Bytes::from_vec(bytes))
-}
-
 /// The head of a log, by its committed text.
 pub(crate) fn read_log_head<D: Disk>(
     alloc: Global,
@@ -145,7 +133,7 @@ fn check_exit(body: &Body) -> Result<(), LogFault> {
 
 /// What all lines of the timing come to.
 fn read_timing<D: Disk>(alloc: Global, disk: &mut D, view: View) -> Result<Tally, LogFault> {
-    let mut lines = Lines::new(alloc, view)?;
+    let mut lines = Lines::new(alloc, view);
     while lines.next(alloc, disk)?.is_some() {}
     Ok(lines.tally())
 }
@@ -167,21 +155,4 @@ pub(crate) fn check_streams(body: &Body, tally: &Tally) -> Result<(), LogFault> 
         }
     }
     Ok(())
-}
-
-/// How many bytes of a part are committed.
-pub(crate) fn committed(body: &Body, part: Part) -> u64
-    ensures { result ≡ length_of body.now part }
-{
-    let [head, exit, timing, stdin, stdout, stderr, ttyin, ttyout] = body.lens;
-    match part {
-        Part::Exit => exit,
-        Part::Timing => timing,
-        Part::Stdin => stdin,
-        Part::Stdout => stdout,
-        Part::Stderr => stderr,
-        Part::Ttyin => ttyin,
-        Part::Ttyout => ttyout,
-        Part::Head | Part::Lines | Part::Id | Part::Commit | Part::Slots => head,
-    }
 }

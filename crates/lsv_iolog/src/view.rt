@@ -19,7 +19,8 @@ ghost use Rattle.lsv_iolog.specs.Reading.{committed_text, committed_laid, IsBehi
 use crate::append::part_of;
 use crate::lines::Lines;
 use crate::log::{COMPLETE, owner_of};
-use crate::open::{check_counts, check_streams, committed, read_log_head, read_part};
+use crate::open::{check_counts, check_streams, read_log_head};
+use crate::pieces::{committed, read_part, read_piece};
 use crate::LogFault;
 use lsv_base::{Bytes, LogNo};
 use lsv_bundle::{Body, Bundle, Shape, View};
@@ -79,7 +80,7 @@ impl LogView {
         ensures cause { HasOwnCause (IsOfLog number) (IsErrOf result LogFault.Disk) (D.view disk.old) (D.view disk.new) }
     {
         let (view, head) = view_log(alloc, disk, number)?;
-        let lines = Lines::new(alloc, view)?;
+        let lines = Lines::new(alloc, view);
         Ok(LogView {
             alloc,
             number,
@@ -220,12 +221,12 @@ impl LogView {
         if end > committed(&view.body, part) {
             return Err(LogFault::Damaged(part));
         }
-        let mut bytes = vec![in self.alloc; 0; count as usize]?;
-        let read = view.read(disk, part, end - u64::from(count), &mut bytes)?;
-        if read < bytes.len() {
+        let count = u64::from(count);
+        let bytes = read_piece(self.alloc, disk, &view, part, end - count, count)?;
+        if (bytes.as_slice().len() as u64) < count {
             return Err(LogFault::Damaged(part));
         }
-        Ok(Bytes::from_vec(bytes))
+        Ok(bytes)
     }
 }
 

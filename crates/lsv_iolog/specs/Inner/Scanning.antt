@@ -35,6 +35,11 @@ pub record Scan : Type 0 where
 abbrev pub IsReading : Scan → DiskView → Type 0
 IsReading scan disk = IsWindowOf (text_of scan.view disk Timing) scan.start scan.window scan.tally.timing
 
+-- the window is as it was
+pub record IsSameWindow (old new : Scan) : Type 0 where
+  pub start : new.start ≡ old.start
+  pub window : new.window ≡ old.window
+
 -- the timing has more bytes than a file may have, or no line stands there, or the elapsed time reaches 2 ^ 63 ns with it
 abbrev pub IsBadLine : List ℕ → Totals → Type 0
 IsBadLine text tally = (2 ^ 40 < length text) ⊎ IsBadAt text tally.timing ⊎ PassesTime text tally
