@@ -8,7 +8,10 @@ use Rattle.lsv_bundle.specs.declared.fault.BundleFault.{BundleFault}
 use Rattle.lsv_bundle.specs.declared.fault.BundleFault.TheVariants as bundles
 use Rattle.lsv_iolog.specs.declared.fault.LogFault.{LogFault}
 use Rattle.lsv_iolog.specs.declared.fault.LogFault.TheVariants as logs
-use Rattle.lsv_iolog.specs.Faults.{fault_of}
+use Rattle.lsv_disk.specs.declared.file.Part.TheVariants.{Timing}
+use Rattle.lsv_record.specs.declared.tally.TimingFault.{TimingFault}
+use Rattle.lsv_record.specs.declared.tally.TimingFault.TheVariants as timing
+use Rattle.lsv_iolog.specs.Faults.{fault_of, fault_of_timing}
 
 -- an error that was made of a bundle's
 pub given_fault : {T : Type 0} (r : Result T LogFault) (e : BundleFault) (d : LogFault) → IsErrAnd r (λ x. x ≡ fault_of e) → IsErrOf r d → fault_of e ≡ d
@@ -58,3 +61,13 @@ flush_fault fault broken whole is told = elim is [
 ] where
   not_both : (b : Bool) → b ≡ false → b ≡ true → ⊥
   not_both b no_ yes_ = cc
+
+-- an error that was made of a line's
+pub given_timing : {T : Type 0} (r : Result T LogFault) (e : TimingFault) (d : LogFault) → IsErrAnd r (λ x. x ≡ fault_of_timing e) → IsErrOf r d → fault_of_timing e ≡ d
+given_timing (Ok x) e d is same = absurd is
+given_timing {T} (Err x) e d is same = sym is ∙ (let h : x ≡ d = cc in h)
+
+pub timing_is : (e : TimingFault) → fault_of_timing e ≡ logs.Damaged Timing → (e ≡ timing.BadLine) ⊎ (e ≡ timing.TooLong)
+timing_is timing.BadLine is = inl refl
+timing_is timing.TooLong is = inr refl
+timing_is timing.NoMem is = absurd (let no_ : ⊥ = cc in no_)

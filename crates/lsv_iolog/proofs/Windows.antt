@@ -1,6 +1,7 @@
 -- Windows of a text of timing.
 use Rattle.std.proofs.Common.{◌≡◌, ◌≢◌, ◌⊎◌, inl, inr, ℕ, zero, suc, ◌+◌, ◌-◌, ◌<◌, ◌≤◌, min, Bool, IsTrue, List, [], ◌∷◌, ◌++◌, length, take, drop, refl, sym, ◌∙◌, ap, subst, arith, length-append, length-drop}
 use Rattle.std.proofs.lemmas.List.{drop-drop, length-take, drop-append-le, take-append-drop}
+use Rattle.std.proofs.Math.Seq.{take-length}
 use Rattle.lsv_words.specs.Pieces.{piece, IsPrefix}
 use Rattle.lsv_record.specs.Lines.{IsWindow}
 use Rattle.lsv_iolog.specs.Reading.{IsWindowOf}
@@ -78,3 +79,7 @@ pub take_again : (n : ℕ) (xs : List ℕ) → take n (take n xs) ≡ take n xs
 take_again zero xs = refl
 take_again (suc n) [] = refl
 take_again (suc n) (x ∷ xs) = ap (λ (l : List ℕ). x ∷ l) (take_again n xs)
+
+-- a list from a place on, as a slice has it
+pub slice_rest : (xs : List ℕ) (k : ℕ) → take (length xs - k) (drop k xs) ≡ drop k xs
+slice_rest xs k = ap (λ (n : ℕ). take n (drop k xs)) (sym (length-drop k xs)) ∙ take-length (drop k xs)

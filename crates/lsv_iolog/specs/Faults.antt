@@ -2,6 +2,9 @@
 use Rattle.std.specs.Prelude.{◌≡◌}
 use Rattle.lsv_bundle.specs.declared.fault.BundleFault.{BundleFault}
 use Rattle.lsv_bundle.specs.declared.fault.BundleFault.TheVariants as bundles
+use Rattle.lsv_disk.specs.declared.file.Part.TheVariants.{Timing}
+use Rattle.lsv_record.specs.declared.tally.TimingFault.{TimingFault}
+use Rattle.lsv_record.specs.declared.tally.TimingFault.TheVariants as timing
 use Rattle.lsv_iolog.specs.declared.fault.LogFault.{LogFault}
 use Rattle.lsv_iolog.specs.declared.fault.LogFault.TheVariants as logs
 
@@ -12,6 +15,12 @@ fault_of bundles.Broken = logs.Broken
 fault_of (bundles.Damaged part) = logs.Damaged part
 fault_of (bundles.Full part) = logs.Full part
 fault_of bundles.NoMem = logs.NoMem
+
+-- a fault of a line of timing, of the log
+abbrev pub fault_of_timing : TimingFault → LogFault
+fault_of_timing timing.NoMem = logs.NoMem
+fault_of_timing timing.BadLine = logs.Damaged Timing
+fault_of_timing timing.TooLong = logs.Damaged Timing
 
 -- the faults of a log that is opened or viewed
 abbrev pub IsOpenFault : LogFault → Type 0

@@ -1,6 +1,7 @@
 use lsv_base::{NoMem, Point};
 use lsv_bundle::BundleFault;
 use lsv_disk::Part;
+use lsv_record::TimingFault;
 use std::alloc::AllocError;
 use thiserror::Error;
 
@@ -71,6 +72,20 @@ impl From<BundleFault> for LogFault {
             BundleFault::Damaged(part) => LogFault::Damaged(part),
             BundleFault::Full(part) => LogFault::Full(part),
             BundleFault::NoMem => LogFault::NoMem,
+        }
+    }
+}
+
+impl From<TimingFault> for LogFault {
+    ghost use Rattle.std.specs.Prelude.{◌≡◌};
+    ghost use Rattle.lsv_iolog.specs.Faults.{fault_of_timing};
+
+    ghost from_gives = { λ fault given. given ≡ fault_of_timing fault };
+
+    fn from(fault: TimingFault) -> Self {
+        match fault {
+            TimingFault::NoMem => LogFault::NoMem,
+            TimingFault::BadLine | TimingFault::TooLong => LogFault::Damaged(Part::Timing),
         }
     }
 }

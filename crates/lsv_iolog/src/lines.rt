@@ -17,7 +17,7 @@ use crate::pieces::read_piece;
 use lsv_base::Bytes;
 use lsv_bundle::View;
 use lsv_disk::{Disk, Part};
-use lsv_record::{Shaped, Tally, TimingFault};
+use lsv_record::{Shaped, Tally};
 use std::alloc::Global;
 use std::marker::Model;
 
@@ -134,12 +134,8 @@ impl Lines {
         let from = (self.tally.timing() - self.start) as usize;
         let is_last = self.is_last();
         let window = &self.window.as_slice()[from..];
-        match self.tally.step(alloc, window, is_last) {
-            Ok(line) => Ok(line),
-            Err(TimingFault::NoMem) => Err(LogFault::NoMem),
-            Err(TimingFault::BadLine) => Err(LogFault::Damaged(Part::Timing)),
-            Err(TimingFault::TooLong) => Err(LogFault::Damaged(Part::Timing)),
-        }
+        let line = self.tally.step(alloc, window, is_last)?;
+        Ok(line)
     }
 
     /// Reads a window that begins at the next line. Where that fails, the window is empty.
