@@ -1,19 +1,25 @@
-ghost use Rattle.std.specs.Prelude.{◌≡◌, ◌≢◌, ◌⊎◌, ◌+◌, ◌<◌, ◌≤◌, ◌^◌, ◌++◌, ◌∷◌, ℕ, List, true, false, Option, Some, None, [], Ok, Err, length, map, IfOk, IfErr, IfSome, IfNone, OnOk, OnErr, IsErrOf};
+ghost use Rattle.std.specs.Prelude.{◌≡◌, ◌≢◌, ◌⊎◌, ◌+◌, ◌<◌, ◌≤◌, ◌^◌, ◌++◌, ◌∷◌, ℕ, List, true, false, Option, Some, None, [], Ok, Err, length, map, get_or, IfOk, IfErr, IfSome, IfNone, OnOk, OnErr, IsErrOf};
 ghost use Rattle.lsv_disk.specs.View.{HasOwnCause};
 ghost use Rattle.lsv_disk.specs.Throughout.{OnlyReads};
 ghost use Rattle.lsv_disk.specs.declared.file.Part.{Part};
+ghost use Rattle.lsv_words.specs.Pieces.{piece};
 ghost use Rattle.lsv_bundle.specs.Committed.{HasEntry};
+ghost use Rattle.lsv_bundle.specs.declared.shape.Shape.TheVariants as shapes;
+ghost use Rattle.lsv_bundle.specs.Body.{length_of};
+ghost use Rattle.lsv_bundle.specs.Shape.{IsPart};
 ghost use Rattle.lsv_info.specs.Reading.{head_of, exit_of};
 ghost use Rattle.lsv_info.specs.declared.times.Exit.{Exit};
 ghost use Rattle.lsv_record.specs.declared.records.Record.{Record};
 ghost use Rattle.lsv_record.specs.Points.{Stored};
-ghost use Rattle.lsv_record.specs.Records.{IsValid, shape_of};
-ghost use Rattle.lsv_record.specs.Tally.{totals_of};
+ghost use Rattle.lsv_record.specs.Records.{IsValid, shape_of, data_in, event_of};
+ghost use Rattle.lsv_record.specs.Tally.{totals_of, told_count};
 ghost use Rattle.lsv_iolog.specs.declared.fault.LogFault.{LogFault};
-ghost use Rattle.lsv_iolog.specs.Recovered.{owner_of, IsOfLog, Replays};
+ghost use Rattle.lsv_iolog.specs.Recovered.{owner_of, part_of, laid_in, IsOfLog, Replays};
 ghost use Rattle.lsv_iolog.specs.Later.{IsLater};
 ghost use Rattle.lsv_iolog.specs.Damage.{IsViewDamage};
 ghost use Rattle.lsv_iolog.specs.Faults.{IsOpenFault, IsNextFault};
+ghost use Rattle.lsv_iolog.specs.Inner.Scanning.{text_of, IsReading, IsViewOf};
+ghost use Rattle.lsv_iolog.specs.Inner.Judging.{IsBehindLines, AreWhole, LacksIn, IsWithin, HasCounts, AllTold, IsEndFault, all_streams, back_to};
 ghost use Rattle.lsv_iolog.specs.Reading.{committed_text, committed_laid, IsBehind, IsWhole, IsFaultBehind};
 
 use crate::append::part_of;
@@ -144,7 +150,7 @@ impl LogView {
         ensures cause { HasOwnCause (IsOfLog self.old.number) (IsErrOf result LogFault.Disk) (D.view disk.old) (D.view disk.new) }
     {
         let before = self.lines.tally();
-        let next = self.next_record(disk);
+        let next = next_record(self.alloc, disk, &mut self.lines);
         if next.is_err() {
             self.lines.back_to(before);
         }
@@ -179,55 +185,97 @@ impl LogView {
     }
 }
 
-impl LogView {
-    /// Gives the next record, or fails and may stand behind its line.
-    fn next_record<D: Disk>(&mut self, disk: &mut D) -> Result<Option<Record>, LogFault> {
-        let body = self.body();
-        let Some(told) = self.lines.next(self.alloc, disk)? else {
-            check_counts(&body, &self.lines.tally())?;
-            check_streams(&body, &self.lines.tally())?;
-            return Ok(None);
-        };
-        check_within(&body, &self.lines.tally())?;
-        Ok(Some(self.with_data(disk, told)?))
-    }
+/// Gives the next record, or fails and may stand behind its line.
+fn next_record<D: Disk>(
+    alloc: Global,
+    disk: &mut D,
+    lines: &mut Lines,
+) -> Result<Option<Record>, LogFault>
+    ensures given { D.tells → IfOk result (λ o. IfSome o (λ r. (records : List Record) → IsBehindLines lines.old records (D.view disk.old) → IsBehindLines lines.new (records ++ r ∷ []) (D.view disk.new))) }
+    ensures valid { IfOk result (λ o. IfSome o IsValid) }
+    ensures end { D.tells → IfOk result (λ o. IfNone o ((records : List Record) → IsBehindLines lines.old records (D.view disk.old) → AreWhole lines.old.view records (D.view disk.old) × IsBehindLines lines.new records (D.view disk.new))) }
+    ensures stays { D.tells → OnErr result (IsReading lines.old (D.view disk.old) → IsReading (back_to lines.new lines.old.tally) (D.view disk.new)) }
+    ensures window { (lines.new.start ≤ lines.old.tally.timing) × (lines.old.tally.timing ≤ lines.new.start + length lines.new.window) }
+    ensures view { lines.new.view ≡ lines.old.view }
+    ensures damaged { D.tells → (part : Part) → IsErrOf result (LogFault.Damaged part) → (records : List Record) → IsBehindLines lines.old records (D.view disk.old)
+        → IsFaultBehind (laid_in (text_of lines.old.view (D.view disk.old))) lines.old.view.body records part }
+    ensures reads { D.tells → OnlyReads (D.view disk.old) (D.view disk.new) }
+    ensures fault { IfErr result IsNextFault }
+    ensures cause { HasOwnCause (λ file. file.owner ≡ lines.old.view.owner) (IsErrOf result LogFault.Disk) (D.view disk.old) (D.view disk.new) }
+{
+    let view = lines.view();
+    let before = lines.tally();
+    let Some(told) = lines.next(alloc, disk)? else {
+        check_end(&view.body, &before)?;
+        return Ok(None);
+    };
+    let after = lines.tally();
+    check_within(&view.body, &after)?;
+    let record = told_record(alloc, disk, &view, &before, &after, told)?;
+    Ok(Some(record))
+}
 
-    /// The record that the line tells which was read last, with its data.
-    fn with_data<D: Disk>(&self, disk: &mut D, told: Shaped) -> Result<Record, LogFault> {
-        match told {
-            Shaped::Io(delay, stream, count) => {
-                let bytes = self.last_data(disk, stream, count)?;
-                Ok(Record::Io {
-                    delay,
-                    stream,
-                    bytes,
-                })
-            }
-            Shaped::Winsize(delay, rows, cols) => Ok(Record::Winsize { delay, rows, cols }),
-            Shaped::Suspend(delay, signal) => Ok(Record::Suspend { delay, signal }),
+/// The record that a line tells, with its data. The lines came to this before it, and come to that with it.
+fn told_record<D: Disk>(
+    alloc: Global,
+    disk: &mut D,
+    view: &View,
+    before: &Tally,
+    after: &Tally,
+    told: Shaped,
+) -> Result<Record, LogFault>
+    requires shape { view.now.shape ≡ shapes.Log }
+    ensures shape { IfOk result (λ r. shape_of r ≡ told) }
+    ensures data_bytes { D.tells → IfOk result (λ r. (s : Stream) → data_in s r ≡ piece (text_of view.now (D.view disk.old) (part_of s)) (get_or before.now.data_bytes (event_of s) 0) (told_count s told)) }
+    ensures lacks { D.tells → (part : Part) → IsErrOf result (LogFault.Damaged part) → LacksIn view.now before.now after.now told (D.view disk.old) part }
+    ensures reads { D.tells → OnlyReads (D.view disk.old) (D.view disk.new) }
+    ensures fault { IfErr result IsNextFault }
+    ensures cause { HasOwnCause (λ file. file.owner ≡ view.now.owner) (IsErrOf result LogFault.Disk) (D.view disk.old) (D.view disk.new) }
+{
+    match told {
+        Shaped::Io(delay, stream, count) => {
+            let bytes = told_data(alloc, disk, view, before, after, stream, count)?;
+            Ok(Record::Io {
+                delay,
+                stream,
+                bytes,
+            })
         }
+        Shaped::Winsize(delay, rows, cols) => Ok(Record::Winsize { delay, rows, cols }),
+        Shaped::Suspend(delay, signal) => Ok(Record::Suspend { delay, signal }),
     }
+}
 
-    /// The last bytes of a stream that the lines so far tell.
-    fn last_data<D: Disk>(
-        &self,
-        disk: &mut D,
-        stream: Stream,
-        count: u32,
-    ) -> Result<Bytes, LogFault> {
-        let view = self.lines.view();
-        let part = part_of(stream);
-        let end = self.lines.tally().data_bytes(stream);
-        if end > committed(&view.body, part) {
-            return Err(LogFault::Damaged(part));
-        }
-        let count = u64::from(count);
-        let bytes = read_piece(self.alloc, disk, &view, part, end - count, count)?;
-        if (bytes.as_slice().len() as u64) < count {
-            return Err(LogFault::Damaged(part));
-        }
-        Ok(bytes)
+/// So many bytes of a stream, behind those that the lines told before.
+fn told_data<D: Disk>(
+    alloc: Global,
+    disk: &mut D,
+    view: &View,
+    before: &Tally,
+    after: &Tally,
+    stream: Stream,
+    count: u32,
+) -> Result<Bytes, LogFault>
+    requires shape { view.now.shape ≡ shapes.Log }
+    ensures count { IfOk result (λ bytes. length bytes ≡ count) }
+    ensures data_bytes { D.tells → IfOk result (λ bytes. bytes ≡ piece (text_of view.now (D.view disk.old) (part_of stream)) (get_or before.now.data_bytes (event_of stream) 0) count) }
+    ensures lacks { D.tells → (part : Part) → IsErrOf result (LogFault.Damaged part) → (part ≡ part_of stream)
+        × ((length_of view.now.body (part_of stream) < get_or after.now.data_bytes (event_of stream) 0)
+            ⊎ (length (piece (text_of view.now (D.view disk.old) (part_of stream)) (get_or before.now.data_bytes (event_of stream) 0) count) < count)) }
+    ensures reads { D.tells → OnlyReads (D.view disk.old) (D.view disk.new) }
+    ensures fault { IfErr result IsNextFault }
+    ensures cause { HasOwnCause (λ file. file.owner ≡ view.now.owner) (IsErrOf result LogFault.Disk) (D.view disk.old) (D.view disk.new) }
+{
+    let part = part_of(stream);
+    if after.data_bytes(stream) > committed(&view.body, part) {
+        return Err(LogFault::Damaged(part));
     }
+    let count = u64::from(count);
+    let bytes = read_piece(alloc, disk, view, part, before.data_bytes(stream), count)?;
+    if (bytes.as_slice().len() as u64) < count {
+        return Err(LogFault::Damaged(part));
+    }
+    Ok(bytes)
 }
 
 /// The view of a log, and its head.
@@ -235,7 +283,17 @@ fn view_log<D: Disk>(
     alloc: Global,
     disk: &mut D,
     number: LogNo,
-) -> Result<(View, Head), LogFault> {
+) -> Result<(View, Head), LogFault>
+    ensures named { IfOk result (λ seen. IsViewOf number seen.0) }
+    ensures entry { D.tells → IfOk result (λ seen. HasEntry (owner_of number) seen.0.body (D.view disk.old).reads) }
+    ensures head { D.tells → IfOk result (λ seen. head_of (committed_text number seen.0.body (D.view disk.new) Part.Head) ≡ Ok seen.1) }
+    ensures long { D.tells → IfOk result (λ seen. (part : Part) → IsPart shapes.Log part → length (committed_text number seen.0.body (D.view disk.new) part) ≡ length_of seen.0.body part) }
+    ensures absent { D.tells → IsErrOf result LogFault.Absent → Replays (D.view disk.old).reads number None }
+    ensures damaged { D.tells → (part : Part) → IsErrOf result (LogFault.Damaged part) → IsViewDamage number part (D.view disk.old).reads }
+    ensures reads { D.tells → OnlyReads (D.view disk.old) (D.view disk.new) }
+    ensures fault { IfErr result IsOpenFault }
+    ensures cause { HasOwnCause (IsOfLog number) (IsErrOf result LogFault.Disk) (D.view disk.old) (D.view disk.new) }
+{
     let Some(view) = Bundle::view(disk, owner_of(number), Shape::Log)? else {
         return Err(LogFault::Absent);
     };
@@ -244,9 +302,22 @@ fn view_log<D: Disk>(
 }
 
 /// The lines so far are among those of which the entry tells.
-fn check_within(body: &Body, tally: &Tally) -> Result<(), LogFault> {
+fn check_within(body: &Body, tally: &Tally) -> Result<(), LogFault>
+    ensures ok { OnOk result (IsWithin body.now tally.now) }
+    ensures fault { IfErr result (λ e. (e ≡ LogFault.Damaged Part.Timing) × (IsWithin body.now tally.now → ⊥)) }
+{
     if body.count < tally.count() || body.elapsed < tally.elapsed() {
         return Err(LogFault::Damaged(Part::Timing));
     }
     Ok(())
+}
+
+/// The lines come to what the entry says, and tell as many bytes of each stream.
+fn check_end(body: &Body, tally: &Tally) -> Result<(), LogFault>
+    ensures counts { OnOk result (HasCounts body.now tally.now) }
+    ensures streams { OnOk result (AllTold body.now tally.now all_streams) }
+    ensures fault { IfErr result (IsEndFault body.now tally.now) }
+{
+    check_counts(body, tally)?;
+    check_streams(body, tally)
 }
