@@ -7,3 +7,4 @@ pub mod Making
 pub mod Staging
 pub mod Flushing
 pub mod Finishing
+pub mod Viewing

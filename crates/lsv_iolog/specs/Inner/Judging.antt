@@ -19,53 +19,12 @@ use Rattle.lsv_record.specs.Tally.{Totals, totals_of, told_count}
 use Rattle.lsv_iolog.specs.declared.fault.LogFault.{LogFault}
 use Rattle.lsv_iolog.specs.declared.fault.LogFault.TheVariants as logs
 use Rattle.lsv_iolog.specs.Recovered.{part_of, laid_in}
-use Rattle.lsv_iolog.specs.Inner.Scanning.{text_of, Scan, IsReading}
-
--- the streams, in the order in which their files are judged
-abbrev pub all_streams : List Stream
-all_streams = streams.Stdin ∷ streams.Stdout ∷ streams.Stderr ∷ streams.Ttyin ∷ streams.Ttyout ∷ []
-
--- as many bytes of the stream are committed as the lines tell
-abbrev pub IsTold : Body → Totals → Stream → Type 0
-IsTold body tally s = length_of body (part_of s) ≡ get_or tally.data_bytes (event_of s) 0
-
--- and of each of these
-abbrev pub AllTold : Body → Totals → List Stream → Type 0
-AllTold body tally [] = Unit {0}
-AllTold body tally (s ∷ rest) = IsTold body tally s × AllTold body tally rest
-
--- of the streams before it as many, but not of this one
-pub record IsFirstUntold (body : Body) (tally : Totals) (before : List Stream) (s : Stream) : Type 0 where
-  pub told : AllTold body tally before
-  pub untold : IsTold body tally s → ⊥
-
--- this is the file of the first stream of which more or fewer bytes are committed
-abbrev pub IsUntold : Body → Totals → Part → Type 0
-IsUntold body tally Stdin = IsFirstUntold body tally [] streams.Stdin
-IsUntold body tally Stdout = IsFirstUntold body tally (streams.Stdin ∷ []) streams.Stdout
-IsUntold body tally Stderr = IsFirstUntold body tally (streams.Stdin ∷ streams.Stdout ∷ []) streams.Stderr
-IsUntold body tally Ttyin = IsFirstUntold body tally (streams.Stdin ∷ streams.Stdout ∷ streams.Stderr ∷ []) streams.Ttyin
-IsUntold body tally Ttyout = IsFirstUntold body tally (streams.Stdin ∷ streams.Stdout ∷ streams.Stderr ∷ streams.Ttyin ∷ []) streams.Ttyout
-IsUntold body tally Head = ⊥
-IsUntold body tally Exit = ⊥
-IsUntold body tally Timing = ⊥
-IsUntold body tally Lines = ⊥
-IsUntold body tally Id = ⊥
-IsUntold body tally Commit = ⊥
-IsUntold body tally Slots = ⊥
-
--- a fault of the streams is that
-abbrev pub IsStreamsFault : Body → Totals → LogFault → Type 0
-IsStreamsFault body tally fault = (part : Part) × (fault ≡ logs.Damaged part) × IsUntold body tally part
-
--- the lines are as many, and of as much time, as the entry says
-pub record HasCounts (body : Body) (tally : Totals) : Type 0 where
-  pub count : body.count ≡ tally.count
-  pub time : body.elapsed ≡ tally.elapsed
+use Rattle.lsv_iolog.specs.Inner.Scanning.{text_of, Scan, IsReading, IsFirstUncounted}
 
 -- at the end of the lines: they are more or fewer or of another time, or else a stream is at fault
 abbrev pub IsEndFault : Body → Totals → LogFault → Type 0
-IsEndFault body tally fault = ((fault ≡ logs.Damaged Timing) × (HasCounts body tally → ⊥)) ⊎ (HasCounts body tally × IsStreamsFault body tally fault)
+IsEndFault body tally fault = ((fault ≡ logs.Damaged Timing) × (body.count ≡ tally.count → body.elapsed ≡ tally.elapsed → ⊥))
+    ⊎ ((body.count ≡ tally.count) × (body.elapsed ≡ tally.elapsed) × ((s : Stream) × (fault ≡ logs.Damaged (part_of s)) × IsFirstUncounted body tally s))
 
 -- the lines so far are no more, and of no more time, than the entry says
 pub record IsWithin (body : Body) (tally : Totals) : Type 0 where
