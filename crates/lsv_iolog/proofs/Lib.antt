@@ -1,5 +1,6 @@
 pub mod Results
 pub mod Windows
+pub mod Scans
 pub mod Replaying
 pub mod Representing
 pub mod Committing

@@ -9,7 +9,7 @@ ghost use Rattle.lsv_record.specs.Lines.{IsLineAt};
 ghost use Rattle.lsv_record.specs.Records.{IsGood};
 ghost use Rattle.lsv_record.specs.Tally.{totals_of, with_line};
 ghost use Rattle.lsv_iolog.specs.declared.fault.LogFault.{LogFault};
-ghost use Rattle.lsv_iolog.specs.Inner.Scanning.{text_of, IsSameWindow, IsReading, IsBadLine};
+ghost use Rattle.lsv_iolog.specs.Inner.Scanning.{text_of, IsInOrder, IsSameWindow, IsReading, IsBadLine};
 ghost use Rattle.lsv_iolog.specs.Reading.{IsWindowOf};
 
 use crate::LogFault;
@@ -102,7 +102,8 @@ impl Lines {
 
     /// How many bytes of timing are committed.
     fn total(&self) -> u64
-        ensures { result ≡ length_of self.now.view.body Part.Timing }
+        ensures total { result ≡ length_of self.now.view.body Part.Timing }
+        ensures in_order { IsInOrder self.now }
     {
         self.view.body.lens[TIMING]
     }
@@ -129,6 +130,7 @@ impl Lines {
             → IsBadLine text self.old.tally }
         ensures view { self.new.view ≡ self.old.view }
         ensures window { IsSameWindow self.old self.new }
+        ensures in_order { IsInOrder self.new }
         ensures fault { IfErr result (λ e. (e ≡ LogFault.Damaged Part.Timing) ⊎ (e ≡ LogFault.NoMem)) }
     {
         let from = (self.tally.timing() - self.start) as usize;
