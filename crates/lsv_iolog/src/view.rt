@@ -191,6 +191,7 @@ fn next_record<D: Disk>(
     disk: &mut D,
     lines: &mut Lines,
 ) -> Result<Option<Record>, LogFault>
+    requires shape { lines.old.view.shape ≡ shapes.Log }
     ensures given { D.tells → IfOk result (λ o. IfSome o (λ r. (records : List Record) → IsBehindLines lines.old records (D.view disk.old) → IsBehindLines lines.new (records ++ r ∷ []) (D.view disk.new))) }
     ensures valid { IfOk result (λ o. IfSome o IsValid) }
     ensures end { D.tells → IfOk result (λ o. IfNone o ((records : List Record) → IsBehindLines lines.old records (D.view disk.old) → AreWhole lines.old.view records (D.view disk.old) × IsBehindLines lines.new records (D.view disk.new))) }
