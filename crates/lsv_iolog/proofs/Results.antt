@@ -71,3 +71,8 @@ pub timing_is : (e : TimingFault) → fault_of_timing e ≡ logs.Damaged Timing 
 timing_is timing.BadLine is = inl refl
 timing_is timing.TooLong is = inr refl
 timing_is timing.NoMem is = absurd (let no_ : ⊥ = cc in no_)
+
+-- a log's fault that is passed on
+pub same_log_fault : {T : Type 0} (r : Result T LogFault) (e d : LogFault) → IsErrAnd r (λ x. x ≡ e) → IsErrOf r d → e ≡ d
+same_log_fault (Ok x) e d is same = absurd is
+same_log_fault {T} (Err x) e d is same = sym is ∙ (let h : x ≡ d = cc in h)

@@ -1,17 +1,25 @@
-ghost use Rattle.std.specs.Prelude.{◌≡◌, ◌≢◌, ◌⊎◌, ◌+◌, ◌<◌, ◌≤◌, ◌^◌, ℕ, true, false, Option, Some, None, [], length, IfOk, IfErr, OnOk, OnErr, IsErrOf};
-ghost use Rattle.lsv_disk.specs.View.{HasOwnCause};
+ghost use Rattle.std.specs.Prelude.{◌≡◌, ◌≢◌, ◌⊎◌, ◌+◌, ◌<◌, ◌≤◌, ◌^◌, ℕ, List, All, Ok, true, false, Option, Some, None, [], length, IfOk, IfErr, OnOk, OnErr, IsErrOf};
+ghost use Rattle.lsv_disk.specs.View.{HasCause, HasOwnCause};
+ghost use Rattle.lsv_disk.specs.Files.{file_of};
+ghost use Rattle.lsv_bundle.specs.declared.shape.Shape.TheVariants as shapes;
+ghost use Rattle.lsv_info.specs.Reading.{head_of};
+ghost use Rattle.lsv_record.specs.declared.records.Shaped.{Shaped};
+ghost use Rattle.lsv_record.specs.declared.records.Stream.{Stream};
+ghost use Rattle.lsv_record.specs.Records.{IsGood};
+ghost use Rattle.lsv_record.specs.Tally.{lines_of, told_elapsed};
 ghost use Rattle.lsv_disk.specs.Throughout.{Throughout, OnlyReads, WritesOneOf};
 ghost use Rattle.lsv_disk.specs.declared.file.Part.{Part};
 ghost use Rattle.lsv_bundle.specs.Body.{length_of};
 ghost use Rattle.lsv_record.specs.Points.{Stored};
 ghost use Rattle.lsv_iolog.specs.declared.fault.LogFault.{LogFault};
 ghost use Rattle.lsv_bundle.specs.Shape.{journal_of};
-ghost use Rattle.lsv_iolog.specs.Recovered.{owner_of, IsOfLog, IsUnmade, Replays, SameLog};
-ghost use Rattle.lsv_iolog.specs.Damage.{IsDamagedAt};
+ghost use Rattle.lsv_iolog.specs.Recovered.{owner_of, part_of, IsOfLog, IsHeadText, IsUnmade, Replays, SameLog};
+ghost use Rattle.lsv_iolog.specs.Inner.Scanning.{text_of, entry_of, IsWholeView, IsScanned, ExitIsWhole, IsCounted, AllCounted, IsFirstUncounted};
+ghost use Rattle.lsv_iolog.specs.Damage.{IsDamagedAt, IsFault};
 ghost use Rattle.lsv_iolog.specs.Value.{bare, IsFlushed};
 ghost use Rattle.lsv_iolog.specs.Represents.{Represents};
 ghost use Rattle.lsv_iolog.specs.Moments.{IsAsBefore};
-ghost use Rattle.lsv_iolog.specs.Faults.{IsOpenFault};
+ghost use Rattle.lsv_iolog.specs.Faults.{IsOpenFault, IsNextFault};
 
 use crate::append::part_of;
 use crate::lines::Lines;
@@ -25,15 +33,6 @@ use lsv_info::{Head, InfoFault, read_head};
 use lsv_journal::Journal;
 use lsv_record::{Stream, Tally};
 use std::alloc::Global;
-
-/// The streams, in the order in which their files are judged.
-const STREAMS: [Stream; 5] = [
-    Stream::Stdin,
-    Stream::Stdout,
-    Stream::Stderr,
-    Stream::Ttyin,
-    Stream::Ttyout,
-];
 
 impl IoLog {
     /// Opens a log: its files are synced, and its head and its timing are read, the latter in pieces of at most 65,536
@@ -100,7 +99,20 @@ fn read_stored<D: Disk>(
     alloc: Global,
     disk: &mut D,
     view: View,
-) -> Result<(Head, Tally), LogFault> {
+) -> Result<(Head, Tally), LogFault>
+    requires shape { view.shape ≡ shapes.Log }
+    ensures head { D.tells → IfOk result (λ read. head_of (text_of view (D.view disk.old) Part.Head) ≡ Ok read.0) }
+    ensures exit { OnOk result (ExitIsWhole view.body) }
+    ensures told { D.tells → IfOk result (λ read. IsWholeView view (D.view disk.old) → (told : List Shaped) × IsScanned view (D.view disk.old) told read.1) }
+    ensures counts { IfOk result (λ read. (view.body.count ≡ read.1.count) × (view.body.elapsed ≡ read.1.elapsed)) }
+    ensures streams { IfOk result (λ read. AllCounted view.body read.1) }
+    ensures timing { IfOk result (λ read. read.1.timing ≡ length_of view.body Part.Timing) }
+    ensures small { OnOk result (length_of view.body Part.Timing ≤ 2 ^ 40) }
+    ensures damaged { D.tells → (part : Part) → IsErrOf result (LogFault.Damaged part) → IsWholeView view (D.view disk.old) → IsFault (entry_of view (D.view disk.old)) part }
+    ensures reads { D.tells → OnlyReads (D.view disk.old) (D.view disk.new) }
+    ensures fault { IfErr result IsNextFault }
+    ensures cause { HasOwnCause (λ f. f.owner ≡ view.owner) (IsErrOf result LogFault.Disk) (D.view disk.old) (D.view disk.new) }
+{
     let head = read_log_head(alloc, disk, &view)?;
     check_exit(&view.body)?;
     let tally = read_timing(alloc, disk, view)?;
@@ -114,7 +126,14 @@ pub(crate) fn read_log_head<D: Disk>(
     alloc: Global,
     disk: &mut D,
     view: &View,
-) -> Result<Head, LogFault> {
+) -> Result<Head, LogFault>
+    requires shape { view.now.shape ≡ shapes.Log }
+    ensures head { D.tells → IfOk result (λ head. head_of (text_of view.now (D.view disk.old) Part.Head) ≡ Ok head) }
+    ensures damaged { D.tells → IsErrOf result (LogFault.Damaged Part.Head) → IsHeadText (text_of view.now (D.view disk.old) Part.Head) → ⊥ }
+    ensures reads { D.tells → OnlyReads (D.view disk.old) (D.view disk.new) }
+    ensures fault { IfErr result (λ e. (e ≡ LogFault.Disk) ⊎ (e ≡ LogFault.Damaged Part.Head) ⊎ (e ≡ LogFault.NoMem)) }
+    ensures cause { HasCause (file_of view.now.owner Part.Head) (IsErrOf result LogFault.Disk) (D.view disk.old) (D.view disk.new) }
+{
     let text = read_part(alloc, disk, view, Part::Head)?;
     match read_head(alloc, text.as_slice()) {
         Ok(head) => Ok(head),
@@ -124,35 +143,73 @@ pub(crate) fn read_log_head<D: Disk>(
 }
 
 /// There is a text of an exit exactly where the entry is of a log that is complete.
-fn check_exit(body: &Body) -> Result<(), LogFault> {
-    if (body.kind == COMPLETE) == (committed(body, Part::Exit) == 0) {
-        return Err(LogFault::Damaged(Part::Exit));
+fn check_exit(body: &Body) -> Result<(), LogFault>
+    ensures whole { OnOk result (ExitIsWhole body.now) }
+    ensures fault { IfErr result (λ e. (e ≡ LogFault.Damaged Part.Exit) × (ExitIsWhole body.now → ⊥)) }
+{
+    let is_empty = committed(body, Part::Exit) == 0;
+    if body.kind == COMPLETE {
+        if is_empty {
+            return Err(LogFault::Damaged(Part::Exit));
+        }
+        return Ok(());
     }
-    Ok(())
+    if is_empty {
+        return Ok(());
+    }
+    Err(LogFault::Damaged(Part::Exit))
 }
 
 /// What all lines of the timing come to.
-fn read_timing<D: Disk>(alloc: Global, disk: &mut D, view: View) -> Result<Tally, LogFault> {
+fn read_timing<D: Disk>(alloc: Global, disk: &mut D, view: View) -> Result<Tally, LogFault>
+    requires shape { view.shape ≡ shapes.Log }
+    ensures told { D.tells → IfOk result (λ tally. length (text_of view (D.view disk.old) Part.Timing) ≡ length_of view.body Part.Timing → (told : List Shaped) × IsScanned view (D.view disk.old) told tally) }
+    ensures timing { IfOk result (λ tally. tally.timing ≡ length_of view.body Part.Timing) }
+    ensures small { OnOk result (length_of view.body Part.Timing ≤ 2 ^ 40) }
+    ensures damaged { D.tells → IsErrOf result (LogFault.Damaged Part.Timing) → length (text_of view (D.view disk.old) Part.Timing) ≡ length_of view.body Part.Timing
+        → (told : List Shaped) → All IsGood told → text_of view (D.view disk.old) Part.Timing ≡ lines_of told → told_elapsed told < 2 ^ 63 → length (text_of view (D.view disk.old) Part.Timing) ≤ 2 ^ 40 → ⊥ }
+    ensures reads { D.tells → OnlyReads (D.view disk.old) (D.view disk.new) }
+    ensures fault { IfErr result (λ e. (e ≡ LogFault.Disk) ⊎ (e ≡ LogFault.Damaged Part.Timing) ⊎ (e ≡ LogFault.NoMem)) }
+    ensures cause { HasCause (file_of view.owner Part.Timing) (IsErrOf result LogFault.Disk) (D.view disk.old) (D.view disk.new) }
+{
     let mut lines = Lines::new(alloc, view);
-    while lines.next(alloc, disk)?.is_some() {}
+    while let Some(_) = lines.next(alloc, disk)? {}
     Ok(lines.tally())
 }
 
 /// The lines are as many, and of as much time, as the entry says.
-pub(crate) fn check_counts(body: &Body, tally: &Tally) -> Result<(), LogFault> {
-    if body.count != tally.count() || body.elapsed != tally.elapsed() {
+pub(crate) fn check_counts(body: &Body, tally: &Tally) -> Result<(), LogFault>
+    ensures ok { OnOk result ((body.now.count ≡ tally.now.count) × (body.now.elapsed ≡ tally.now.elapsed)) }
+    ensures fault { IfErr result (λ e. (e ≡ LogFault.Damaged Part.Timing) × ((body.now.count ≡ tally.now.count) → (body.now.elapsed ≡ tally.now.elapsed) → ⊥)) }
+{
+    if body.count != tally.count() {
+        return Err(LogFault::Damaged(Part::Timing));
+    }
+    if body.elapsed != tally.elapsed() {
         return Err(LogFault::Damaged(Part::Timing));
     }
     Ok(())
 }
 
-/// Of each stream as many bytes are committed as the lines tell.
-pub(crate) fn check_streams(body: &Body, tally: &Tally) -> Result<(), LogFault> {
-    for stream in STREAMS {
-        let part = part_of(stream);
-        if committed(body, part) != tally.data_bytes(stream) {
-            return Err(LogFault::Damaged(part));
-        }
+/// Of each stream as many bytes are committed as the lines tell; else the first is damaged of which it isn't so.
+pub(crate) fn check_streams(body: &Body, tally: &Tally) -> Result<(), LogFault>
+    ensures ok { OnOk result (AllCounted body.now tally.now) }
+    ensures fault { IfErr result (λ e. (s : Stream) × (e ≡ LogFault.Damaged (part_of s)) × IsFirstUncounted body.now tally.now s) }
+{
+    check_stream(body, tally, Stream::Stdin)?;
+    check_stream(body, tally, Stream::Stdout)?;
+    check_stream(body, tally, Stream::Stderr)?;
+    check_stream(body, tally, Stream::Ttyin)?;
+    check_stream(body, tally, Stream::Ttyout)
+}
+
+fn check_stream(body: &Body, tally: &Tally, stream: Stream) -> Result<(), LogFault>
+    ensures ok { OnOk result (IsCounted body.now tally.now stream) }
+    ensures fault { IfErr result (λ e. (e ≡ LogFault.Damaged (part_of stream)) × (IsCounted body.now tally.now stream → ⊥)) }
+{
+    let part = part_of(stream);
+    if committed(body, part) != tally.data_bytes(stream) {
+        return Err(LogFault::Damaged(part));
     }
     Ok(())
 }
