@@ -8,3 +8,4 @@ pub mod Making
 pub mod Staging
 pub mod Flushing
 pub mod Finishing
+pub mod Judging

@@ -195,3 +195,16 @@ scanning_ends tells view old now scan tally told is same in_time end long =
       totals = scanned.totals;
       in_time = subst (λ (t : Totals). t.elapsed < 2 ^ 63) scanned.totals in_time;
     })
+
+-- a text is that of one list of lines
+pub whole_once : (text : List ℕ) (a b : List Shaped) → All IsGood a → All IsGood b → text ≡ lines_of a → text ≡ lines_of b → a ≡ b
+whole_once text a b good good' is of = elim (lines_once text a b good good' ([], is ∙ sym (append-nil (lines_of a))) ([], of ∙ sym (append-nil (lines_of b)))) [
+  | inl more ↦ sym (nothing a b more.0 more.1 (ap length (sym of ∙ is)))
+  | inr more ↦ nothing b a more.0 more.1 (ap length (sym is ∙ of))
+] where
+  nothing : (xs ys : List Shaped) (more : List Shaped) → ys ≡ xs ++ more → length (lines_of ys) ≡ length (lines_of xs) → ys ≡ xs
+  nothing xs ys [] e long = e ∙ append-nil xs
+  nothing xs ys (line ∷ rest) e long =
+      let all = ap length (ap lines_of e ∙ lines_of-append xs (line ∷ rest)) in
+      let some = some_line line in
+      absurd (let no_ : ⊥ = omega (arith, all, long, some, length-append (lines_of xs) (lines_of (line ∷ rest)), length-append (shaped_line line) (lines_of rest)) in no_)
