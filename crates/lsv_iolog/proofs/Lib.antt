@@ -9,3 +9,4 @@ pub mod Staging
 pub mod Flushing
 pub mod Finishing
 pub mod Judging
+pub mod Opening

@@ -12,7 +12,13 @@ ghost use Rattle.lsv_disk.specs.declared.file.Part.{Part};
 ghost use Rattle.lsv_bundle.specs.Body.{length_of};
 ghost use Rattle.lsv_record.specs.Points.{Stored};
 ghost use Rattle.lsv_iolog.specs.declared.fault.LogFault.{LogFault};
-ghost use Rattle.lsv_bundle.specs.Shape.{journal_of};
+ghost use Rattle.lsv_journal.specs.Last.{LastAt, SameJournal, IsSomeCrashOf};
+ghost use Rattle.lsv_bundle.specs.declared.body.Body.{Body};
+ghost use Rattle.lsv_bundle.specs.Represents as bundles;
+ghost use Rattle.lsv_bundle.specs.Value.{committed_length};
+ghost use Rattle.lsv_bundle.specs.Committed.{HasEntry, IsShort, IsDamaged};
+ghost use Rattle.lsv_bundle.specs.Shape.{IsPart, journal_of};
+ghost use Rattle.lsv_iolog.specs.Inner.Invariant.{IsSettled};
 ghost use Rattle.lsv_iolog.specs.Recovered.{owner_of, part_of, IsOfLog, IsHeadText, IsUnmade, Replays, SameLog};
 ghost use Rattle.lsv_iolog.specs.Inner.Scanning.{text_of, entry_of, IsWholeView, IsScanned, ExitIsWhole, IsCounted, AllCounted, IsFirstUncounted};
 ghost use Rattle.lsv_iolog.specs.Damage.{IsDamagedAt, IsFault};
@@ -28,7 +34,7 @@ use crate::pieces::{committed, read_part};
 use crate::{IoLog, LogFault};
 use lsv_base::{Bytes, LogNo};
 use lsv_bundle::{Body, Bundle, Shape, View};
-use lsv_disk::{Disk, FileId, Owner, Part};
+use lsv_disk::{Disk, FileId, Part};
 use lsv_info::{Head, InfoFault, read_head};
 use lsv_journal::Journal;
 use lsv_record::{Stream, Tally};
@@ -59,12 +65,9 @@ impl IoLog {
         ensures fault { IfErr result IsOpenFault }
         ensures cause { HasOwnCause (IsOfLog number) (IsErrOf result LogFault.Disk) (D.view disk.old) (D.view disk.new) }
     {
-        let bundle = open_files(alloc, disk, owner_of(number))?;
-        let view = View {
-            owner: owner_of(number),
-            shape: Shape::Log,
-            body: bundle.last(),
-        };
+        check_entry(disk, number)?;
+        let bundle = open_files(alloc, disk, number)?;
+        let view = view_of(number, bundle.last());
         let (head, tally) = read_stored(alloc, disk, view)?;
         Ok(IoLog {
             alloc,
@@ -80,18 +83,52 @@ impl IoLog {
     }
 }
 
-/// Opens the files of a log that has an entry.
-fn open_files<D: Disk>(alloc: Global, disk: &mut D, owner: Owner) -> Result<Bundle, LogFault> {
-    let Ok(last) = Journal::<89>::view(disk, FileId::new(owner, Part::Slots)) else {
-        return Err(LogFault::Disk);
-    };
-    if last.is_none() {
-        return Err(LogFault::Absent);
+/// The log has an entry, or it is absent; then nothing was synced or written.
+fn check_entry<D: Disk>(disk: &mut D, number: LogNo) -> Result<(), LogFault>
+    ensures there { D.tells → OnOk result (LastAt 89 (journal_of (owner_of number)) (D.view disk.old).reads ≢ None) }
+    ensures absent { D.tells → IsErrOf result LogFault.Absent → LastAt 89 (journal_of (owner_of number)) (D.view disk.old).reads ≡ None }
+    ensures reads { D.tells → OnlyReads (D.view disk.old) (D.view disk.new) }
+    ensures fault { IfErr result (λ e. (e ≡ LogFault.Disk) ⊎ (e ≡ LogFault.Absent)) }
+    ensures cause { HasOwnCause (IsOfLog number) (IsErrOf result LogFault.Disk) (D.view disk.old) (D.view disk.new) }
+{
+    let owner = owner_of(number);
+    match Journal::<89>::view(disk, FileId::new(owner, Part::Slots)) {
+        Ok(Some(_)) => Ok(()),
+        Ok(None) => Err(LogFault::Absent),
+        Err(_) => Err(LogFault::Disk),
     }
+}
+
+/// Opens the files of a log.
+fn open_files<D: Disk>(alloc: Global, disk: &mut D, number: LogNo) -> Result<Bundle, LogFault>
+    ensures settled { IfOk result (λ b. (body : Body) × IsSettled number body b) }
+    ensures last { D.tells → IfOk result (λ b. (body : Body) → b.last ≡ Some body → HasEntry (owner_of number) body (D.view disk.old).reads) }
+    ensures enough { D.tells → IfOk result (λ b. (part : Part) → IsPart shapes.Log part → IsShort ((D.view disk.old).reads (file_of (owner_of number) part)) (committed_length b part) → ⊥) }
+    ensures represents { D.tells → IfOk result (λ b. bundles.Represents b (D.view disk.new)) }
+    ensures absent { D.tells → IsErrOf result LogFault.Absent → LastAt 89 (journal_of (owner_of number)) (D.view disk.old).reads ≡ None }
+    ensures damaged { D.tells → (part : Part) → IsErrOf result (LogFault.Damaged part) → IsDamaged (owner_of number) shapes.Log (D.view disk.old).reads part }
+    ensures reads { D.tells → SameJournal 89 (journal_of (owner_of number)) (D.view disk.old).reads (D.view disk.new).reads }
+    ensures any_moment { D.tells → Throughout (λ g. g ≡ journal_of (owner_of number)) (IsSomeCrashOf 89 (journal_of (owner_of number)) (D.view disk.old)) (D.view disk.old) (D.view disk.new) }
+    ensures calls { D.tells → WritesOneOf (journal_of (owner_of number)) 3 5 (IsOfLog number) (D.view disk.old) (D.view disk.new) }
+    ensures fault { IfErr result IsOpenFault }
+    ensures cause { HasOwnCause (IsOfLog number) (IsErrOf result LogFault.Disk) (D.view disk.old) (D.view disk.new) }
+{
+    let owner = owner_of(number);
     let Some(bundle) = Bundle::open(alloc, disk, owner, Shape::Log)? else {
         return Err(LogFault::Absent);
     };
     Ok(bundle)
+}
+
+/// What the files of a log read as, by this entry.
+pub(crate) fn view_of(number: LogNo, body: Body) -> View
+    ensures { result ≡ record { owner = owner_of number; shape = shapes.Log; body = body } }
+{
+    View {
+        owner: owner_of(number),
+        shape: Shape::Log,
+        body,
+    }
 }
 
 /// Reads the head of a log, and what its timing comes to, and judges both and its exit and its streams.
