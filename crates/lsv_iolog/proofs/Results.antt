@@ -71,3 +71,18 @@ pub timing_is : (e : TimingFault) → fault_of_timing e ≡ logs.Damaged Timing 
 timing_is timing.BadLine is = inl refl
 timing_is timing.TooLong is = inr refl
 timing_is timing.NoMem is = absurd (let no_ : ⊥ = cc in no_)
+
+-- a log's fault that is passed on
+pub same_log_fault : {T : Type 0} (r : Result T LogFault) (e d : LogFault) → IsErrAnd r (λ x. x ≡ e) → IsErrOf r d → e ≡ d
+same_log_fault (Ok x) e d is same = absurd is
+same_log_fault {T} (Err x) e d is same = sym is ∙ (let h : x ≡ d = cc in h)
+
+-- which part is damaged
+pub damaged_part : (a b : Part) → logs.Damaged a ≡ logs.Damaged b → a ≡ b
+damaged_part a b e = cc
+
+pub only_damaged : (e : LogFault) (there part : Part) → (e ≡ logs.Disk) ⊎ (e ≡ logs.Damaged there) ⊎ (e ≡ logs.NoMem) → e ≡ logs.Damaged part → there ≡ part
+only_damaged e there part fault is = elim fault [
+  | inl disk ↦ absurd (let no_ : ⊥ = cc in no_)
+  | inr more ↦ elim more [ inl damaged ↦ damaged_part there part (sym damaged ∙ is) | inr memory ↦ absurd (let no_ : ⊥ = cc in no_) ]
+]

@@ -12,10 +12,10 @@ ghost use Rattle.lsv_iolog.specs.Represents.{Represents};
 ghost use Rattle.lsv_iolog.specs.Moments.{IsEither, IsThereLater, IsCutFault};
 
 use crate::lines::Lines;
-use crate::log::owner_of;
+use crate::open::view_of;
 use crate::{IoLog, LogFault};
 use lsv_base::Point;
-use lsv_bundle::{Body, Shape, View};
+use lsv_bundle::{Body, View};
 use lsv_disk::{Disk, Part};
 use lsv_record::{Stream, Tally};
 use std::alloc::Global;
@@ -75,11 +75,7 @@ impl IoLog {
 impl IoLog {
     /// What the timing comes to through the first line that ends at this point. None where none does.
     fn find<D: Disk>(&mut self, disk: &mut D, point: Point) -> Result<Option<Tally>, LogFault> {
-        let view = View {
-            owner: owner_of(self.number),
-            shape: Shape::Log,
-            body: self.bundle.last(),
-        };
+        let view = view_of(self.number, self.bundle.last());
         match first_end(self.alloc, disk, view, point) {
             Ok(found) => Ok(found),
             Err(LogFault::Damaged(_)) => Err(LogFault::NoPoint(point)),

@@ -148,6 +148,7 @@ impl Lines {
         ensures view { self.new.view ≡ self.old.view }
         ensures tally { self.new.tally ≡ self.old.tally }
         ensures start { self.new.start ≡ self.old.tally.timing }
+        ensures in_order { IsInOrder self.new }
         ensures reads { D.tells → OnlyReads (D.view disk.old) (D.view disk.new) }
         ensures fault { IfErr result (λ e. (e ≡ LogFault.Disk) ⊎ (e ≡ LogFault.NoMem)) }
         ensures cause { HasCause (file_of self.old.view.owner Part.Timing) (IsErrOf result LogFault.Disk) (D.view disk.old) (D.view disk.new) }
@@ -177,6 +178,7 @@ impl Lines {
         ensures err { OnErr result (self.new.tally ≡ self.old.tally) }
         ensures view { self.new.view ≡ self.old.view }
         ensures window { (self.new.start ≤ self.old.tally.timing) × (self.old.tally.timing ≤ self.new.start + length self.new.window) }
+        ensures in_order { IsInOrder self.new }
         ensures reading { D.tells → IsReading self.old (D.view disk.old) → IsReading self.new (D.view disk.new) }
         ensures bad { D.tells → IsErrOf result (LogFault.Damaged Part.Timing) → IsReading self.old (D.view disk.old) → length (text_of self.old.view (D.view disk.old) Part.Timing) ≡ length_of self.old.view.body Part.Timing
             → IsBadLine (text_of self.old.view (D.view disk.old) Part.Timing) self.old.tally }
