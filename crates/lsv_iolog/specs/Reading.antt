@@ -4,11 +4,11 @@ use Rattle.lsv_words.specs.Pieces.{piece}
 use Rattle.lsv_disk.specs.Files.{file_of}
 use Rattle.lsv_disk.specs.declared.file.Part.{Part}
 use Rattle.lsv_disk.specs.declared.file.Part.TheVariants.{Head, Exit, Timing, Stdin, Stdout, Stderr, Ttyin, Ttyout, Lines, Id, Commit, Slots}
-use Rattle.lsv_disk.specs.View.{DiskView}
+use Rattle.lsv_disk.specs.View.{Image, DiskView}
 use Rattle.lsv_bundle.specs.declared.body.Body.{Body}
 use Rattle.lsv_bundle.specs.declared.shape.Shape.TheVariants as shapes
 use Rattle.lsv_bundle.specs.Body.{length_of}
-use Rattle.lsv_bundle.specs.Committed.{prefix_at}
+use Rattle.lsv_bundle.specs.Committed.{HasEntry, prefix_at}
 use Rattle.lsv_bundle.specs.Shape.{IsPart}
 use Rattle.lsv_info.specs.declared.times.Head as info
 use Rattle.lsv_record.specs.declared.laid.Laid.{Laid}
@@ -61,6 +61,13 @@ pub record IsWhole (view : ViewState) (records : List Record) (disk : DiskView) 
   pub layout : IsLayout (committed_laid view.number view.body disk) records
   pub count : view.body.count ≡ length records
   pub time : view.body.elapsed ≡ elapsed records
+
+-- the log was cut as often as before, and yet its last entry commits fewer bytes of timing than were given
+pub record HasShrunk (view : ViewState) (image : Image) : Type 0 where
+  pub body : Body
+  pub entry : HasEntry (owner_of view.number) body image
+  pub cuts : body.extra ≡ view.body.extra
+  pub fewer : length_of body Timing < view.given.timing
 
 -- the line behind these records goes on as the entry says: it is among its count, and within its elapsed time
 pub record GoesOn (body : Body) (records : List Record) (told : Shaped) : Type 0 where

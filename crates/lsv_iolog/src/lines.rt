@@ -94,6 +94,9 @@ impl Lines {
 
     /// Reads on in another view of the same log, behind the lines that were read.
     pub(crate) fn renew(&mut self, view: View)
+        requires shape { view.shape ≡ shapes.Log }
+        requires timing { self.old.tally.timing ≤ length_of view.body Part.Timing }
+        ensures { self.new ≡ record { view = view; tally = self.old.tally; start = self.old.tally.timing; window = [] } }
     {
         self.view = view;
         self.start = self.tally.timing();

@@ -20,7 +20,7 @@ ghost use Rattle.lsv_iolog.specs.Damage.{IsViewDamage};
 ghost use Rattle.lsv_iolog.specs.Faults.{IsOpenFault, IsNextFault};
 ghost use Rattle.lsv_iolog.specs.Inner.Scanning.{text_of, IsReading, IsViewOf, AllCounted};
 ghost use Rattle.lsv_iolog.specs.Inner.Judging.{IsBehindLines, AreWhole, LacksIn, IsWithin, IsEndFault, back_to};
-ghost use Rattle.lsv_iolog.specs.Reading.{committed_text, committed_laid, IsBehind, IsWhole, IsFaultBehind};
+ghost use Rattle.lsv_iolog.specs.Reading.{committed_text, committed_laid, HasShrunk, IsBehind, IsWhole, IsFaultBehind};
 
 use crate::append::part_of;
 use crate::lines::Lines;
@@ -158,7 +158,8 @@ impl LogView {
     }
 
     /// Looks at the log again. `Cut` exactly where it was cut since, and then the view is as it was; else the view has
-    /// the last entry, and stands behind the records that it gave. The faults are those of `open`.
+    /// the last entry, and stands behind the records that it gave. The faults are those of `open`, and `Damaged(Timing)`
+    /// where it wasn't cut and yet has fewer bytes of timing than were given.
     pub fn renew<D: Disk>(&mut self, disk: &mut D) -> Result<Renewed, LogFault>
         ensures cut { IfOk result (λ renewed. (cuts : ℕ) → renewed ≡ Renewed.Cut cuts → (cuts ≢ self.old.body.extra) × (self.new ≡ self.old)) }
         ensures cuts { D.tells → IfOk result (λ renewed. (cuts : ℕ) → renewed ≡ Renewed.Cut cuts → (body : Body) × HasEntry (owner_of self.old.number) body (D.view disk.old).reads × (cuts ≡ body.extra)) }
@@ -168,7 +169,7 @@ impl LogView {
             → Replays (D.view disk.old).reads self.old.number (Some now) → IsLater before now → self.old.given ≡ totals_of (map shape_of records) → IsBehind self.new records (D.view disk.new)) }
         ensures unchanged { OnErr result (self.new ≡ self.old) }
         ensures absent { D.tells → IsErrOf result LogFault.Absent → Replays (D.view disk.old).reads self.old.number None }
-        ensures damaged { D.tells → (part : Part) → IsErrOf result (LogFault.Damaged part) → IsViewDamage self.old.number part (D.view disk.old).reads }
+        ensures damaged { D.tells → (part : Part) → IsErrOf result (LogFault.Damaged part) → IsViewDamage self.old.number part (D.view disk.old).reads ⊎ ((part ≡ Part.Timing) × HasShrunk self.old (D.view disk.old).reads) }
         ensures reads { D.tells → OnlyReads (D.view disk.old) (D.view disk.new) }
         ensures fault { IfErr result IsOpenFault }
         ensures cause { HasOwnCause (IsOfLog self.old.number) (IsErrOf result LogFault.Disk) (D.view disk.old) (D.view disk.new) }
@@ -177,10 +178,11 @@ impl LogView {
         if view.body.extra != self.lines.view().body.extra {
             return Ok(Renewed::Cut(view.body.extra));
         }
-        self.head = head;
-        if view.body != self.lines.view().body {
-            self.lines.renew(view);
+        if committed(&view.body, Part::Timing) < self.lines.tally().timing() {
+            return Err(LogFault::Damaged(Part::Timing));
         }
+        self.head = head;
+        self.lines.renew(view);
         Ok(Renewed::Same)
     }
 }
