@@ -56,7 +56,7 @@ delay_is (records.Winsize d r c) = refl
 delay_is (records.Suspend d g) = refl
 
 -- what the totals of records say
-tally_timing : (tally : Totals) (rs : List Record) → tally ≡ totals_of (map shape_of rs) → tally.timing ≡ length (timing_of rs)
+pub tally_timing : (tally : Totals) (rs : List Record) → tally ≡ totals_of (map shape_of rs) → tally.timing ≡ length (timing_of rs)
 tally_timing tally rs is = ap (λ (t : Totals). t.timing) is ∙ ap length (lines_are_timing rs)
 
 tally_count : (tally : Totals) (rs : List Record) → tally ≡ totals_of (map shape_of rs) → tally.count ≡ length rs
@@ -103,7 +103,7 @@ of_log Ttyout = tt
 stream_long : (lines : Scan) (rs : List Record) (disk : DiskView) (s : Stream) → IsBehindLines lines rs disk → length (stream_in s (laid_in (text_of lines.view disk))) ≡ length_of lines.view.body (part_of s)
 stream_long lines rs disk s is = ap length (stream_text (text_of lines.view disk) s) ∙ is.long (part_of s) (of_log s)
 
-prefix_less : (a b : List ℕ) → IsPrefix a b → length a ≤ length b
+pub prefix_less : (a b : List ℕ) → IsPrefix a b → length a ≤ length b
 prefix_less a b is = let e = ap length is.1 in omega (arith, e, length-append a is.0)
 
 no_rest : (xs : List ℕ) → length xs ≡ 0 → xs ≡ []

@@ -4,6 +4,7 @@ pub mod Scans
 pub mod Replaying
 pub mod Viewing
 pub mod Giving
+pub mod Renewing
 pub mod Representing
 pub mod Committing
 pub mod Making
