@@ -160,7 +160,7 @@ first_moment n b log old new entry owner shape none is run =
       (λ image either beside. elim either [ inl before ↦ inl before | inr after ↦ inr (holds_log n entry log image is after) ]) there
 
 -- a number that isn't above another is at most that
-at_most : (a b : ℕ) → (b < a → ⊥) → a ≤ b
+pub at_most : (a b : ℕ) → (b < a → ⊥) → a ≤ b
 at_most a b none = omega (arith, none)
 
 -- how often the files of a log were written or synced by the making of its files and one flush

@@ -13,7 +13,7 @@ use Rattle.lsv_disk.specs.Throughout.{Throughout, OnlyReads, RoseAtMost, WritesO
 use Rattle.lsv_disk.specs.View.{Image, DiskView, IsCrashImage}
 use Rattle.lsv_disk.proofs.Composition.{OnlyNow, followed, widened, unchanged_reads, unchanged_crash, unchanged_throughout}
 use Rattle.lsv_journal.specs.Last.{LastAt, IsOwn, old_file, JournalHolds, IsSomeCrashOf}
-use Rattle.lsv_journal.proofs.Laws.{own_alone, own_cases}
+use Rattle.lsv_journal.proofs.Laws.{own_alone, own_cases, absent_last}
 use Rattle.lsv_bundle.specs.declared.body.Body.{Body}
 use Rattle.lsv_bundle.specs.declared.shape.Shape.{Shape}
 use Rattle.lsv_bundle.specs.declared.shape.Shape.TheVariants as shapes
@@ -25,11 +25,27 @@ use Rattle.lsv_bundle.specs.Value.{BundleView, committed_length}
 use Rattle.lsv_bundle.specs.Committed.{Committed, HasPrefix, HoldsEntry, BundleHolds, HasEntry, IsShort, committed, committed_bytes, prefix_at}
 use Rattle.lsv_bundle.proofs.Laws.{of_owner, owner_represents, owner_committed}
 use Rattle.lsv_record.specs.Points.{Stored}
-use Rattle.lsv_iolog.specs.Recovered.{owner_of, IsOfLog, IsLog, HoldsLog, Replays, SameLog, IsUnmade}
+use Rattle.lsv_iolog.specs.Recovered.{owner_of, IsOfLog, HasExit, IsLog, HoldsLog, Replays, SameLog, IsUnmade}
 use Rattle.lsv_iolog.specs.Moments.{IsAsBefore}
 use Rattle.lsv_iolog.specs.Inner.Scanning.{text_of, entry_of, IsWholeView}
-use Rattle.lsv_iolog.proofs.Replaying.{on_log}
-use Rattle.lsv_iolog.proofs.Committing.{unmade_image}
+use Rattle.lsv_iolog.proofs.Replaying.{on_log, same_laid}
+use Rattle.lsv_iolog.proofs.Committing.{at_most, now_bytes, unmade_image}
+use Rattle.lsv_iolog.specs.Inner.Invariant.{IsSettled, HasCommitted}
+
+-- a data file is no journal
+slots_not : (part : Part) → IsPart shapes.Log part → part ≢ Slots
+slots_not Head is = λ e. cc
+slots_not Exit is = λ e. cc
+slots_not Timing is = λ e. cc
+slots_not Stdin is = λ e. cc
+slots_not Stdout is = λ e. cc
+slots_not Stderr is = λ e. cc
+slots_not Ttyin is = λ e. cc
+slots_not Ttyout is = λ e. cc
+slots_not Lines is = absurd is
+slots_not Id is = absurd is
+slots_not Commit is = absurd is
+slots_not Slots is = absurd is
 
 -- images with one last entry and the same data files hold the same of the log
 replays_by : (n : ℕ) (a b : Image) → LastAt 89 (journal_of (owner_of n)) b ≡ LastAt 89 (journal_of (owner_of n)) a → ((part : Part) → IsPart shapes.Log part → b (file_of (owner_of n) part) ≡ a (file_of (owner_of n) part))
@@ -146,23 +162,10 @@ pub open_reads : (n : ℕ) (owner : Owner) (old one two new : DiskView) → owne
     → ((f : FileId) → (f ≡ journal_of owner → ⊥) → two.reads f ≡ one.reads f) → OnlyReads two new → SameLog n old.reads new.reads
 open_reads n owner old one two new owned first last files after = same_by n old.reads new.reads
     (reads_last two new after ∙ subst (λ (o : Owner). LastAt 89 (journal_of o) two.reads ≡ LastAt 89 (journal_of o) one.reads) owned last ∙ reads_last old one first)
-    (λ part of. unchanged_reads two new after.unchanged (file_of (owner_of n) part) ∙ files (file_of (owner_of n) part) (λ e. not_slots part of (ap (λ (f : FileId). f.part) e)) ∙ unchanged_reads old one first.unchanged (file_of (owner_of n) part))
+    (λ part of. unchanged_reads two new after.unchanged (file_of (owner_of n) part) ∙ files (file_of (owner_of n) part) (λ e. slots_not part of (ap (λ (f : FileId). f.part) e)) ∙ unchanged_reads old one first.unchanged (file_of (owner_of n) part))
   where
   reads_last : (a b : DiskView) → OnlyReads a b → LastAt 89 (journal_of (owner_of n)) b.reads ≡ LastAt 89 (journal_of (owner_of n)) a.reads
   reads_last a b reads = own_alone 89 (journal_of (owner_of n)) a.reads b.reads (λ g own. unchanged_reads a b reads.unchanged g)
-  not_slots : (part : Part) → IsPart shapes.Log part → part ≢ Slots
-  not_slots Head is = λ e. cc
-  not_slots Exit is = λ e. cc
-  not_slots Timing is = λ e. cc
-  not_slots Stdin is = λ e. cc
-  not_slots Stdout is = λ e. cc
-  not_slots Stderr is = λ e. cc
-  not_slots Ttyin is = λ e. cc
-  not_slots Ttyout is = λ e. cc
-  not_slots Lines is = absurd is
-  not_slots Id is = absurd is
-  not_slots Commit is = absurd is
-  not_slots Slots is = absurd is
 
 pub only_read : (n : ℕ) (old new : DiskView) → OnlyReads old new → SameLog n old.reads new.reads
 only_read n old new reads = same_by n old.reads new.reads (own_alone 89 (journal_of (owner_of n)) old.reads new.reads (λ g own. unchanged_reads old new reads.unchanged g)) (λ part of. unchanged_reads old new reads.unchanged (file_of (owner_of n) part))
@@ -170,3 +173,88 @@ only_read n old new reads = same_by n old.reads new.reads (own_alone 89 (journal
 -- an absent log stays absent through reads, and has no entry
 pub unmade_stays : (n : ℕ) (old new : DiskView) → OnlyReads old new → IsUnmade n old → IsUnmade n new
 unmade_stays n old new reads unmade f of content left = unmade f of content (reads.unchanged.elsewhere.crash f (λ none. none) content left)
+
+-- what an opening writes and syncs, of the log's files
+pub open_calls : (n : ℕ) (owner : Owner) (old new : DiskView) → owner ≡ owner_of n → WritesOneOf (journal_of owner) 3 5 (IsOwnFile owner shapes.Log) old new → WritesOneOf (journal_of (owner_of n)) 3 5 (IsOfLog n) old new
+open_calls n owner old new owned calls = record {
+  writes = subst (λ (o : Owner). RoseAtMost 3 (λ g. g ≡ journal_of o) old.writes new.writes) owned calls.writes;
+  syncs = record {
+    never_fell = calls.syncs.never_fell;
+    own = λ f of. at_most (new.syncs f) (old.syncs f + 5) (λ over. let same : new.syncs f ≡ old.syncs f = calls.syncs.others f (λ is. let few : new.syncs f ≤ old.syncs f + 5 = calls.syncs.own f is in omega arith) in omega arith);
+    others = λ f apart. calls.syncs.others f (λ is. apart (of_owner owner shapes.Log f is ∙ owned));
+  };
+}
+
+-- a file that isn't short has as many bytes
+not_short : (file : Option (List ℕ)) (n : ℕ) → (IsShort file n → ⊥) → length (take n (bytes_of file)) ≡ n
+not_short None n whole = absurd (whole tt)
+not_short (Some bytes) n whole = omega (arith, length-take n bytes, whole)
+
+has_taken : (file : Option (List ℕ)) (n : ℕ) → (IsShort file n → ⊥) → HasPrefix (take n (bytes_of file)) file
+has_taken None n whole = absurd (whole tt)
+has_taken (Some bytes) n whole = (drop n bytes, sym (take-append-drop n bytes))
+
+-- an entry with the same bytes is the same log
+is_log_same : (a c : Committed) (log : Stored) → a.body ≡ c.body → ((part : Part) → IsPart shapes.Log part → c.bytes part ≡ a.bytes part) → IsLog a log → IsLog c log
+is_log_same a c log body bytes is = record {
+  head = bytes Head tt ∙ is.head;
+  is_head = is.is_head;
+  exit = subst (λ (k : ℕ). HasExit k (c.bytes Exit) log.exit) (ap (λ (b : Body). b.kind) body) (subst (λ (xs : List ℕ). HasExit a.body.kind xs log.exit) (sym (bytes Exit tt)) is.exit);
+  valid = is.valid;
+  layout = same_laid c.bytes a.bytes bytes ∙ is.layout;
+  count = ap (λ (b : Body). b.count) (sym body) ∙ is.count;
+  time = ap (λ (b : Body). b.elapsed) (sym body) ∙ is.time;
+  in_time = is.in_time;
+  small = subst (λ (xs : List ℕ). length xs ≤ 2 ^ 40) (sym (bytes Timing tt)) is.small;
+  cuts = ap (λ (b : Body). b.extra) (sym body) ∙ is.cuts;
+}
+
+-- the files of a log were opened: old, after a look at the journal, after the opening, and after reads
+module _ (n : ℕ) (b : BundleView) (body : Body) (old one two new : DiskView) (settled : IsSettled n body b) (first : OnlyReads old one) (entry : HasEntry (owner_of n) body one.reads)
+    (enough : (part : Part) → IsPart shapes.Log part → IsShort (one.reads (file_of (owner_of n) part)) (committed_length b part) → ⊥)
+    (files : (f : FileId) → (f ≡ journal_of (owner_of n) → ⊥) → two.reads f ≡ one.reads f) (last : OnlyReads two new) where
+  length_is : (part : Part) → IsPart shapes.Log part → length_of body part ≡ committed_length b part
+  length_is part of = settled.files.lengths body settled.last part of
+
+  file_two : (part : Part) → IsPart shapes.Log part → two.reads (file_of (owner_of n) part) ≡ one.reads (file_of (owner_of n) part)
+  file_two part of = files (file_of (owner_of n) part) (λ e. slots_not part of (ap (λ (f : FileId). f.part) e))
+
+  enough_two : (part : Part) → IsPart shapes.Log part → IsShort (two.reads (file_of (owner_of n) part)) (length_of body part) → ⊥
+  enough_two part of short = enough part of (subst (λ (k : ℕ). IsShort (one.reads (file_of (owner_of n) part)) k) (length_is part of) (subst (λ (o : Option (List ℕ)). IsShort o (length_of body part)) (file_two part of) short))
+
+  pub whole_view : IsWholeView (record { owner = owner_of n; shape = shapes.Log; body = body }) two
+  whole_view part of = not_short (two.reads (file_of (owner_of n) part)) (length_of body part) (enough_two part of)
+
+  bytes_are : (part : Part) → IsPart shapes.Log part → (entry_of (record { owner = owner_of n; shape = shapes.Log; body = body }) two).bytes part ≡ text_of (record { owner = owner_of n; shape = shapes.Log; body = body }) two part
+  bytes_are part of = on_log (text_of (record { owner = owner_of n; shape = shapes.Log; body = body }) two) part of
+
+  pub holds_old : HoldsEntry (owner_of n) shapes.Log (entry_of (record { owner = owner_of n; shape = shapes.Log; body = body }) two) old.reads
+  holds_old = record {
+    is_body = entry.is_body;
+    last = sym (own_alone 89 (journal_of (owner_of n)) old.reads one.reads (λ g own. unchanged_reads old one first.unchanged g)) ∙ entry.last;
+    lengths = λ part of. ap length (bytes_are part of) ∙ whole_view part of;
+    bytes = λ part of. subst (λ (xs : List ℕ). HasPrefix xs (old.reads (file_of (owner_of n) part))) (sym (bytes_are part of))
+        (subst (λ (o : Option (List ℕ)). HasPrefix (text_of (record { owner = owner_of n; shape = shapes.Log; body = body }) two part) o) (file_two part of ∙ unchanged_reads old one first.unchanged (file_of (owner_of n) part))
+        (has_taken (two.reads (file_of (owner_of n) part)) (length_of body part) (enough_two part of)));
+  }
+
+  pub committed_new : (stored : Stored) → IsLog (entry_of (record { owner = owner_of n; shape = shapes.Log; body = body }) two) stored → bundles.Represents b two → HasCommitted b stored new
+  committed_new stored is at = record {
+    represents = owner_represents b (λ _. ⊥) two new last.unchanged.elsewhere (λ f own none. none) at;
+    entry = record { body = body; bytes = on_shape b.shape (committed_bytes b new) };
+    committed = ap (λ (o : Option Body). option_map (λ (x : Body). let c : Committed = record { body = x; bytes = on_shape b.shape (committed_bytes b new) } in c) o) settled.last;
+    is = is_log_same (entry_of (record { owner = owner_of n; shape = shapes.Log; body = body }) two) (record { body = body; bytes = on_shape b.shape (committed_bytes b new) }) stored refl
+      (λ part of. now_bytes b new body part settled.files.shape of
+        ∙ ap (λ (k : ℕ). take k (bytes_of (new.reads (file_of b.owner part)))) (sym (length_is part of))
+        ∙ ap (λ (o : Owner). take (length_of body part) (bytes_of (new.reads (file_of o part)))) settled.files.owner
+        ∙ ap (λ (o : Option (List ℕ)). take (length_of body part) (bytes_of o)) (unchanged_reads two new last.unchanged (file_of (owner_of n) part))
+        ∙ sym (bytes_are part of)) is;
+  }
+
+-- an absent log has no entry
+pub unmade_last : (n : ℕ) (disk : DiskView) → IsCrashImage disk disk.reads → IsUnmade n disk → LastAt 89 (journal_of (owner_of n)) disk.reads ≡ None
+unmade_last n disk reads unmade = absent_last 89 (journal_of (owner_of n)) disk.reads (unmade_image n disk disk.reads unmade reads (journal_of (owner_of n)) refl, unmade_image n disk disk.reads unmade reads (file_of (owner_of n) Commit) refl)
+
+-- a settled bundle's last entry is what it is
+pub settled_as : (n : ℕ) (a c : Body) (b : BundleView) → IsSettled n a b → b.last ≡ Some c → IsSettled n c b
+settled_as n a c b is e = record { files = is.files; last = e; none_staged = is.none_staged; whole = is.whole }
