@@ -75,14 +75,14 @@ tally_more tally rs told is = ap (λ (t : Totals). with_line t told) is ∙ sym 
 data_more : (tally : Totals) (rs : List Record) (told : Shaped) (s : Stream) → tally ≡ totals_of (map shape_of rs) → get_or (with_line tally told).data_bytes (event_of s) 0 ≡ length (stream_of s rs) + told_count s told
 data_more tally rs told s is =
     let e : get_or (with_line tally told).data_bytes (event_of s) 0 ≡ told_data s (map shape_of rs ++ told ∷ []) =
-      ap (λ (t : Totals). get_or t.data_bytes (event_of s) 0) (tally_more tally rs told is) ∙ data_at (map shape_of rs ++ told ∷ []) s in
+    ap (λ (t : Totals). get_or t.data_bytes (event_of s) 0) (tally_more tally rs told is) ∙ data_at (map shape_of rs ++ told ∷ []) s in
     let a : told_data s (map shape_of rs ++ told ∷ []) ≡ told_data s (map shape_of rs) + told_data s (told ∷ []) = sum_by-append (told_count s) (map shape_of rs) (told ∷ []) in
     let b : told_data s (told ∷ []) ≡ told_count s told = one (told_count s told) in
     let d = lines_tell_data s rs in
     e ∙ a ∙ (let h : told_data s (map shape_of rs) + told_data s (told ∷ []) ≡ length (stream_of s rs) + told_count s told = omega (arith, b, d) in h)
   where
-  one : (n : ℕ) → 0 + n ≡ n
-  one n = omega arith
+    one : (n : ℕ) → 0 + n ≡ n
+    one n = omega arith
 
 -- the bytes of a stream among those of a log's files
 stream_text : (bytes : Part → List ℕ) (s : Stream) → stream_in s (laid_in bytes) ≡ bytes (part_of s)
@@ -159,12 +159,12 @@ begins_more lines rs disk told r next is stands good in_time of = record {
   time = let a = elapsed-push rs r in let b = delay_is r in let d = ap told_delay of.shape in let e = tally_elapsed lines.tally rs is.given in omega (arith, a, b, d, e, in_time);
   timing = subst (λ (t : List ℕ). IsPrefix t (text_of lines.view disk Timing)) lines_all
       (lines_grow (text_of lines.view disk Timing) (map shape_of rs) told next
-        (subst (λ (t : List ℕ). IsPrefix t (text_of lines.view disk Timing)) (sym (lines_are_timing rs)) is.begins.timing)
-        (subst (λ (n : ℕ). IsLineAt (text_of lines.view disk Timing) n told next) (ap (λ (t : Totals). t.timing) is.given) stands));
+      (subst (λ (t : List ℕ). IsPrefix t (text_of lines.view disk Timing)) (sym (lines_are_timing rs)) is.begins.timing)
+      (subst (λ (n : ℕ). IsLineAt (text_of lines.view disk Timing) n told next) (ap (λ (t : Totals). t.timing) is.given) stands));
   streams = λ s. subst (λ (t : List ℕ). IsPrefix t (stream_in s (laid_in (text_of lines.view disk)))) (sym (stream_of-push s rs r))
       (prefix_more (stream_of s rs) (data_in s r) (stream_in s (laid_in (text_of lines.view disk))) (told_count s told) (is.begins.streams s)
-        (of.bytes s ∙ ap (λ (n : ℕ). piece (text_of lines.view disk (part_of s)) n (told_count s told)) (tally_data lines.tally rs s is.given)
-          ∙ ap (λ (t : List ℕ). piece t (length (stream_of s rs)) (told_count s told)) (sym (stream_text (text_of lines.view disk) s))));
+      (of.bytes s ∙ ap (λ (n : ℕ). piece (text_of lines.view disk (part_of s)) n (told_count s told)) (tally_data lines.tally rs s is.given)
+      ∙ ap (λ (t : List ℕ). piece t (length (stream_of s rs)) (told_count s told)) (sym (stream_text (text_of lines.view disk) s))));
 } where
   lines_all : lines_of (map shape_of rs ++ told ∷ []) ≡ timing_of (rs ++ r ∷ [])
   lines_all = ap (λ (t : Shaped). lines_of (map shape_of rs ++ t ∷ [])) (sym of.shape) ∙ ap lines_of (sym (shapes_push rs r)) ∙ lines_are_timing (rs ++ r ∷ [])
@@ -184,8 +184,11 @@ behind_more old new rs disk later told r view reads tally window stands good in_
 pub bad_behind : (lines : Scan) (rs : List Record) (disk : DiskView) → IsBehindLines lines rs disk → IsBadLine (text_of lines.view disk Timing) lines.tally → IsTimingFault (laid_in (text_of lines.view disk)) lines.view.body rs
 bad_behind lines rs disk is (inl long) = inr (inr (inr long))
 bad_behind lines rs disk is (inr (inl bad)) = inl (subst (IsBadAt (text_of lines.view disk Timing)) (tally_timing lines.tally rs is.given) bad)
-bad_behind lines rs disk is (inr (inr late)) = inr (inl (late.told, (late.next, subst (λ (n : ℕ). IsLineAt (text_of lines.view disk Timing) n late.told late.next) (tally_timing lines.tally rs is.given) late.stands),
-    λ goes. let e = tally_elapsed lines.tally rs is.given in let a = goes.in_time in let b = late.late in omega (arith, e, a, b)))
+bad_behind lines rs disk is (inr (inr late)) = inr (inl (
+  late.told,
+  (late.next, subst (λ (n : ℕ). IsLineAt (text_of lines.view disk Timing) n late.told late.next) (tally_timing lines.tally rs is.given) late.stands),
+  λ goes. let e = tally_elapsed lines.tally rs is.given in let a = goes.in_time in let b = late.late in omega (arith, e, a, b),
+))
 
 -- the line is within what the entry says exactly where the lines go on as it says
 goes_within : (tally : Totals) (body : Body) (rs : List Record) (told : Shaped) → tally ≡ totals_of (map shape_of rs) → GoesOn body rs told → IsWithin body (with_line tally told)
@@ -204,8 +207,11 @@ next_line lines rs disk told next is stands = (next, subst (λ (n : ℕ). IsLine
 -- the lines go on otherwise
 pub over_behind : (lines : Scan) (rs : List Record) (disk : DiskView) (told : Shaped) (next : ℕ) (after : Totals) → IsBehindLines lines rs disk → IsLineAt (text_of lines.view disk Timing) lines.tally.timing told next
     → after ≡ with_line lines.tally told → (IsWithin lines.view.body after → ⊥) → IsTimingFault (laid_in (text_of lines.view disk)) lines.view.body rs
-over_behind lines rs disk told next after is stands more over = inr (inl (told, next_line lines rs disk told next is stands,
-    λ goes. over (subst (IsWithin lines.view.body) (sym more) (goes_within lines.tally lines.view.body rs told is.given goes))))
+over_behind lines rs disk told next after is stands more over = inr (inl (
+  told,
+  next_line lines rs disk told next is stands,
+  λ goes. over (subst (IsWithin lines.view.body) (sym more) (goes_within lines.tally lines.view.body rs told is.given goes)),
+))
 
 -- the fault of a stream is that of its file
 lacks_there : (l : Laid) (body : Body) (rs : List Record) (s : Stream) → LacksData l body rs s → IsFaultBehind l body rs (part_of s)
@@ -230,24 +236,26 @@ pub lacks_behind : (lines : Scan) (rs : List Record) (disk later : DiskView) (to
     → after ≡ with_line lines.tally told → IsWithin lines.view.body after → LacksIn lines.view lines.tally after told later part → IsFaultBehind (laid_in (text_of lines.view disk)) lines.view.body rs part
 lacks_behind lines rs disk later told next after part is reads stands more within lacks =
     subst (IsFaultBehind l lines.view.body rs) (sym lacks.file) (lacks_there l lines.view.body rs s
-      (told, next_line lines rs disk told next is stands, within_goes lines.tally lines.view.body rs told is.given (subst (IsWithin lines.view.body) more within), few lacks.few))
+    (told, next_line lines rs disk told next is stands, within_goes lines.tally lines.view.body rs told is.given (subst (IsWithin lines.view.body) more within), few lacks.few))
   where
-  l : Laid
-  l = laid_in (text_of lines.view disk)
-  s : Stream
-  s = lacks.stream
-  few : (length_of lines.view.body (part_of s) < get_or after.data_bytes (event_of s) 0) ⊎ (length (piece (text_of lines.view later (part_of s)) (get_or lines.tally.data_bytes (event_of s) 0) (told_count s told)) < told_count s told)
-      → length (stream_in s l) < length (stream_of s rs) + told_count s told
-  few (inl less) =
-      let a = stream_long lines rs disk s is in
-      let b = ap (λ (t : Totals). get_or t.data_bytes (event_of s) 0) more ∙ data_more lines.tally rs told s is.given in
-      omega (arith, a, b, less)
-  few (inr short) =
-      let a = short_piece (text_of lines.view later (part_of s)) (get_or lines.tally.data_bytes (event_of s) 0) (told_count s told) short in
-      let b = tally_data lines.tally rs s is.given in
-      let d = ap length (text_same lines.view disk later (part_of s) reads) in
-      let e = ap length (stream_text (text_of lines.view disk) s) in
-      omega (arith, a, b, d, e)
+    l : Laid
+    l = laid_in (text_of lines.view disk)
+
+    s : Stream
+    s = lacks.stream
+
+    few : (length_of lines.view.body (part_of s) < get_or after.data_bytes (event_of s) 0) ⊎ (length (piece (text_of lines.view later (part_of s)) (get_or lines.tally.data_bytes (event_of s) 0) (told_count s told)) < told_count s told)
+        → length (stream_in s l) < length (stream_of s rs) + told_count s told
+    few (inl less) =
+        let a = stream_long lines rs disk s is in
+        let b = ap (λ (t : Totals). get_or t.data_bytes (event_of s) 0) more ∙ data_more lines.tally rs told s is.given in
+        omega (arith, a, b, less)
+    few (inr short) =
+        let a = short_piece (text_of lines.view later (part_of s)) (get_or lines.tally.data_bytes (event_of s) 0) (told_count s told) short in
+        let b = tally_data lines.tally rs s is.given in
+        let d = ap length (text_same lines.view disk later (part_of s) reads) in
+        let e = ap length (stream_text (text_of lines.view disk) s) in
+        omega (arith, a, b, d, e)
 
 -- the lines end there
 timing_ends : (lines : Scan) (rs : List Record) (disk : DiskView) → IsBehindLines lines rs disk → lines.tally.timing ≡ length_of lines.view.body Timing → text_of lines.view disk Timing ≡ timing_of rs
@@ -268,25 +276,27 @@ pub ends_behind : (lines : Scan) (rs : List Record) (disk : DiskView) (fault : L
     → IsEndFault lines.view.body lines.tally fault → IsFaultBehind (laid_in (text_of lines.view disk)) lines.view.body rs part
 ends_behind lines rs disk fault part is end damaged (inl counts) =
     subst (IsFaultBehind (laid_in (text_of lines.view disk)) lines.view.body rs) (one Timing part (sym counts.0 ∙ damaged))
-      (inr (inr (inl (timing_ends lines rs disk is end, λ ends. counts.1 (ends.count ∙ sym (tally_count lines.tally rs is.given)) (ends.time ∙ sym (tally_elapsed lines.tally rs is.given))))))
+    (inr (inr (inl (timing_ends lines rs disk is end, λ ends. counts.1 (ends.count ∙ sym (tally_count lines.tally rs is.given)) (ends.time ∙ sym (tally_elapsed lines.tally rs is.given))))))
   where
-  one : (a b : Part) → logs.Damaged a ≡ logs.Damaged b → a ≡ b
-  one a b e = cc
+    one : (a b : Part) → logs.Damaged a ≡ logs.Damaged b → a ≡ b
+    one a b e = cc
 ends_behind lines rs disk fault part is end damaged (inr streams) =
     subst (IsFaultBehind l lines.view.body rs) (one (part_of s) part (sym streams.2.1 ∙ damaged))
-      (left_there l lines.view.body rs s (record {
-        ends = record { timing = timing_ends lines rs disk is end; count = streams.0 ∙ tally_count lines.tally rs is.given; time = streams.1 ∙ tally_elapsed lines.tally rs is.given };
-        used = all_used lines rs disk (streams_before s) is streams.2.2.0;
-        left = apart (length (stream_of s rs)) (length (stream_in s l)) (prefix_less (stream_of s rs) (stream_in s l) (is.begins.streams s))
+    (left_there l lines.view.body rs s (record {
+      ends = record { timing = timing_ends lines rs disk is end; count = streams.0 ∙ tally_count lines.tally rs is.given; time = streams.1 ∙ tally_elapsed lines.tally rs is.given };
+      used = all_used lines rs disk (streams_before s) is streams.2.2.0;
+      left = apart (length (stream_of s rs)) (length (stream_in s l)) (prefix_less (stream_of s rs) (stream_in s l) (is.begins.streams s))
           (λ same. streams.2.2.1 (sym (stream_long lines rs disk s is) ∙ same ∙ sym (tally_data lines.tally rs s is.given)));
-      }))
+    }))
   where
-  l : Laid
-  l = laid_in (text_of lines.view disk)
-  s : Stream
-  s = streams.2.0
-  one : (a b : Part) → logs.Damaged a ≡ logs.Damaged b → a ≡ b
-  one a b e = cc
+    l : Laid
+    l = laid_in (text_of lines.view disk)
+
+    s : Stream
+    s = streams.2.0
+
+    one : (a b : Part) → logs.Damaged a ≡ logs.Damaged b → a ≡ b
+    one a b e = cc
 
 -- or as it says
 pub whole_behind : (lines : Scan) (rs : List Record) (disk : DiskView) → IsBehindLines lines rs disk → lines.tally.timing ≡ length_of lines.view.body Timing → lines.view.body.count ≡ lines.tally.count → lines.view.body.elapsed ≡ lines.tally.elapsed

@@ -49,7 +49,7 @@ same_text : (n : ℕ) (body : Body) (now : Stored) (old new : DiskView) → HasE
 same_text n body now old new entry reads is part own =
     ap (λ (o : Option (List ℕ)). take (length_of body part) (bytes_of o)) (unchanged_reads old new reads.unchanged (file_of (owner_of n) part))
     ∙ prefix_taken (is.entry.bytes part) (old.reads (file_of (owner_of n) part)) (length_of body part)
-        (is.holds.lengths part own ∙ ap (λ (b : Body). length_of b part) (same_body n body now old.reads entry is)) (is.holds.bytes part own)
+    (is.holds.lengths part own ∙ ap (λ (b : Body). length_of b part) (same_body n body now old.reads entry is)) (is.holds.bytes part own)
 
 committed_layout : (n : ℕ) (body : Body) (now : Stored) (old new : DiskView) → HasEntry (owner_of n) body old.reads → OnlyReads old new → HoldsLog n now old.reads → committed_laid n body new ≡ layout_of now.records
 committed_layout n body now old new entry reads is = same_laid (committed_text n body new) is.entry.bytes (λ part own. same_text n body now old new entry reads is part own) ∙ is.is.layout
@@ -90,9 +90,12 @@ later_behind view old new was now rs more entry reads long is cuts holds later g
 } where
   text : List ℕ
   text = committed_text view.number view.body new Timing
+
   same_cuts : was.cuts ≡ now.cuts
   same_cuts = cuts ∙ ap (λ (b : Body). b.extra) (sym (same_body view.number view.body now old.reads entry holds)) ∙ holds.is.cuts
+
   rest : (rest : List Record) × (now.records ≡ rs ++ rest)
   rest = goes_on was now rs more is same_cuts later
+
   begins : Begins (committed_laid view.number view.body new) rs
   begins = subst (λ (l : Laid). Begins l rs) (sym (committed_layout view.number view.body now old new entry reads holds)) (layout_begins now.records rs rest.0 rest.1 holds.is.valid holds.is.in_time)

@@ -78,8 +78,11 @@ head_alone e part is (inr (inr mem)) = absurd (let no_ : ⊥ = cc in no_)
 -- then the log is damaged there
 pub head_damage : (n : ℕ) (owner : Owner) (view : View) (old mid : DiskView) (part : Part) → owner ≡ owner_of n → (view.owner ≡ owner) × (view.shape ≡ shapes.Log) → HasEntry owner view.body old.reads → IsEnough owner view.body old
     → OnlyReads old mid → (IsHeadText (text_of view mid Head) → ⊥) → part ≡ Head → IsViewDamage n part old.reads
-head_damage n owner view old mid part own named entry enough reads no_head is = inr (is, record {
-  entry = entry_at n view.body old;
-  holds = entry_holds n view.body old (subst (λ (o : Owner). HasEntry o view.body old.reads) own entry) (subst (λ (o : Owner). IsEnough o view.body old) own enough);
-  fault = λ head. no_head (subst IsHeadText (on_log (committed_text n view.body old) Head tt ∙ sym (owner_text n view old Head (named.0 ∙ own)) ∙ sym (text_same view old mid Head reads)) head);
-})
+head_damage n owner view old mid part own named entry enough reads no_head is = inr (
+  is,
+  record {
+    entry = entry_at n view.body old;
+    holds = entry_holds n view.body old (subst (λ (o : Owner). HasEntry o view.body old.reads) own entry) (subst (λ (o : Owner). IsEnough o view.body old) own enough);
+    fault = λ head. no_head (subst IsHeadText (on_log (committed_text n view.body old) Head tt ∙ sym (owner_text n view old Head (named.0 ∙ own)) ∙ sym (text_same view old mid Head reads)) head);
+  },
+)

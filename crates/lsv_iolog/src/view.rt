@@ -22,12 +22,12 @@ ghost use Rattle.lsv_iolog.specs.Inner.Scanning.{text_of, IsReading, IsViewOf, A
 ghost use Rattle.lsv_iolog.specs.Inner.Judging.{IsBehindLines, AreWhole, LacksIn, IsWithin, IsEndFault, back_to};
 ghost use Rattle.lsv_iolog.specs.Reading.{committed_text, committed_laid, HasShrunk, IsBehind, IsWhole, IsFaultBehind};
 
+use crate::LogFault;
 use crate::append::part_of;
 use crate::lines::Lines;
 use crate::log::{COMPLETE, owner_of};
 use crate::open::{check_counts, check_streams, read_log_head};
 use crate::pieces::{committed, read_part, read_piece};
-use crate::LogFault;
 use lsv_base::{Bytes, LogNo};
 use lsv_bundle::{Body, Bundle, Shape, View};
 use lsv_disk::{Disk, Part};
@@ -70,11 +70,7 @@ impl LogView {
     /// What the log's files read as, with no record given yet. `Absent` exactly where it has no entry, `Damaged(part)`
     /// exactly where a file is absent or shorter than the last entry says, or else the head is no head. `Disk` only
     /// where a device call on a file of this log failed.
-    pub fn open<D: Disk>(
-        alloc: Global,
-        disk: &mut D,
-        number: LogNo,
-    ) -> Result<LogView, LogFault>
+    pub fn open<D: Disk>(alloc: Global, disk: &mut D, number: LogNo) -> Result<LogView, LogFault>
         ensures number { IfOk result (λ v. v.number ≡ number) }
         ensures entry { D.tells → IfOk result (λ v. HasEntry (owner_of number) v.body (D.view disk.old).reads) }
         ensures head { D.tells → IfOk result (λ v. head_of (committed_text number v.body (D.view disk.new) Part.Head) ≡ Ok v.head) }
@@ -264,7 +260,7 @@ fn told_data<D: Disk>(
     ensures data_bytes { D.tells → IfOk result (λ bytes. bytes ≡ piece (text_of view.now (D.view disk.old) (part_of stream)) (get_or before.now.data_bytes (event_of stream) 0) count) }
     ensures lacks { D.tells → (part : Part) → IsErrOf result (LogFault.Damaged part) → (part ≡ part_of stream)
         × ((length_of view.now.body (part_of stream) < get_or after.now.data_bytes (event_of stream) 0)
-            ⊎ (length (piece (text_of view.now (D.view disk.old) (part_of stream)) (get_or before.now.data_bytes (event_of stream) 0) count) < count)) }
+        ⊎ (length (piece (text_of view.now (D.view disk.old) (part_of stream)) (get_or before.now.data_bytes (event_of stream) 0) count) < count)) }
     ensures reads { D.tells → OnlyReads (D.view disk.old) (D.view disk.new) }
     ensures fault { IfErr result IsNextFault }
     ensures cause { HasOwnCause (λ file. file.owner ≡ view.now.owner) (IsErrOf result LogFault.Disk) (D.view disk.old) (D.view disk.new) }
@@ -282,11 +278,7 @@ fn told_data<D: Disk>(
 }
 
 /// The view of a log, and its head.
-fn view_log<D: Disk>(
-    alloc: Global,
-    disk: &mut D,
-    number: LogNo,
-) -> Result<(View, Head), LogFault>
+fn view_log<D: Disk>(alloc: Global, disk: &mut D, number: LogNo) -> Result<(View, Head), LogFault>
     ensures named { IfOk result (λ seen. IsViewOf number seen.0) }
     ensures entry { D.tells → IfOk result (λ seen. HasEntry (owner_of number) seen.0.body (D.view disk.old).reads) }
     ensures head { D.tells → IfOk result (λ seen. head_of (committed_text number seen.0.body (D.view disk.new) Part.Head) ≡ Ok seen.1) }
