@@ -71,7 +71,8 @@ impl Tally {
 
     /// How many lines were read.
     pub fn count(&self) -> u64
-        ensures { result ≡ self.now.count }
+        ensures value { result ≡ self.now.count }
+        ensures few { result ≤ self.now.timing }
     {
         self.count
     }

@@ -1,0 +1,15 @@
+pub mod Results
+pub mod Windows
+pub mod Scans
+pub mod Replaying
+pub mod Viewing
+pub mod Giving
+pub mod Renewing
+pub mod Representing
+pub mod Committing
+pub mod Making
+pub mod Staging
+pub mod Flushing
+pub mod Finishing
+pub mod Judging
+pub mod Opening

@@ -1,0 +1,88 @@
+-- Which fault of a bundle a fault of a log was.
+use Rattle.std.proofs.Common.{Bool, true, false, ◌≡◌, ◌≢◌, ◌⊎◌, inl, inr, Result, Ok, Err, IsErrAnd, IsErrOf, OnOk, IfOk, refl, sym, ◌∙◌, ap, subst}
+use Rattle.lsv_disk.specs.declared.file.Part.{Part}
+use Rattle.lsv_disk.specs.declared.file.FileId.{FileId}
+use Rattle.lsv_disk.specs.View.{DiskView, HasOwnCause}
+use Rattle.lsv_disk.proofs.Composition.{cause_widened}
+use Rattle.lsv_bundle.specs.declared.fault.BundleFault.{BundleFault}
+use Rattle.lsv_bundle.specs.declared.fault.BundleFault.TheVariants as bundles
+use Rattle.lsv_iolog.specs.declared.fault.LogFault.{LogFault}
+use Rattle.lsv_iolog.specs.declared.fault.LogFault.TheVariants as logs
+use Rattle.lsv_disk.specs.declared.file.Part.TheVariants.{Timing}
+use Rattle.lsv_record.specs.declared.tally.TimingFault.{TimingFault}
+use Rattle.lsv_record.specs.declared.tally.TimingFault.TheVariants as timing
+use Rattle.lsv_iolog.specs.Faults.{fault_of, fault_of_timing}
+
+-- an error that was made of a bundle's
+pub given_fault : {T : Type 0} (r : Result T LogFault) (e : BundleFault) (d : LogFault) → IsErrAnd r (λ x. x ≡ fault_of e) → IsErrOf r d → fault_of e ≡ d
+given_fault (Ok x) e d is same = absurd is
+given_fault {T} (Err x) e d is same = sym is ∙ (let h : x ≡ d = cc in h)
+
+pub disk_is : (e : BundleFault) → fault_of e ≡ logs.Disk → e ≡ bundles.Disk
+disk_is bundles.Disk is = refl
+disk_is bundles.Broken is = cc
+disk_is (bundles.Damaged part) is = cc
+disk_is (bundles.Full part) is = cc
+disk_is bundles.NoMem is = cc
+
+pub full_is : (e : BundleFault) (part : Part) → fault_of e ≡ logs.Full part → e ≡ bundles.Full part
+full_is bundles.Disk part is = cc
+full_is bundles.Broken part is = cc
+full_is (bundles.Damaged p) part is = cc
+full_is (bundles.Full p) part is = cc
+full_is bundles.NoMem part is = cc
+
+pub broken_is : (e : BundleFault) → fault_of e ≡ logs.Broken → e ≡ bundles.Broken
+broken_is bundles.Disk is = cc
+broken_is bundles.Broken is = refl
+broken_is (bundles.Damaged part) is = cc
+broken_is (bundles.Full part) is = cc
+broken_is bundles.NoMem is = cc
+
+pub damaged_is : (e : BundleFault) (part : Part) → fault_of e ≡ logs.Damaged part → e ≡ bundles.Damaged part
+damaged_is bundles.Disk part is = cc
+damaged_is bundles.Broken part is = cc
+damaged_is (bundles.Damaged p) part is = cc
+damaged_is (bundles.Full p) part is = cc
+damaged_is bundles.NoMem part is = cc
+
+-- a device's fault that a bundle told is one of the log
+pub disk_cause : {T U : Type 0} (Own Wider : FileId → Type 0) (r : Result T LogFault) (e : BundleFault) (old new : DiskView) → ((f : FileId) → Own f → Wider f)
+    → IsErrAnd r (λ x. x ≡ fault_of e) → HasOwnCause Own (IsErrOf {T = U} (Err e) bundles.Disk) old new → HasOwnCause Wider (IsErrOf r logs.Disk) old new
+disk_cause {T} {U} Own Wider r e old new more is cause =
+    cause_widened Own Wider (IsErrOf {T = U} (Err e) bundles.Disk) (IsErrOf r logs.Disk) old new more
+      (λ failed. ap (λ (x : BundleFault). let y : Result U BundleFault = Err x in y) (disk_is e (given_fault r e logs.Disk is failed))) cause
+
+-- a whole bundle's flush fails by a device alone
+pub flush_fault : (fault : BundleFault) (broken : Bool) → broken ≡ false → (fault ≡ bundles.Disk) ⊎ (fault ≡ bundles.Broken) → (fault ≡ bundles.Broken → broken ≡ true) → fault_of fault ≡ logs.Disk
+flush_fault fault broken whole is told = elim is [
+  | inl disk ↦ ap fault_of disk
+  | inr old ↦ absurd (not_both broken whole (told old))
+] where
+  not_both : (b : Bool) → b ≡ false → b ≡ true → ⊥
+  not_both b no_ yes_ = cc
+
+-- an error that was made of a line's
+pub given_timing : {T : Type 0} (r : Result T LogFault) (e : TimingFault) (d : LogFault) → IsErrAnd r (λ x. x ≡ fault_of_timing e) → IsErrOf r d → fault_of_timing e ≡ d
+given_timing (Ok x) e d is same = absurd is
+given_timing {T} (Err x) e d is same = sym is ∙ (let h : x ≡ d = cc in h)
+
+pub timing_is : (e : TimingFault) → fault_of_timing e ≡ logs.Damaged Timing → (e ≡ timing.BadLine) ⊎ (e ≡ timing.TooLong)
+timing_is timing.BadLine is = inl refl
+timing_is timing.TooLong is = inr refl
+timing_is timing.NoMem is = absurd (let no_ : ⊥ = cc in no_)
+
+-- a log's fault that is passed on
+pub same_log_fault : {T : Type 0} (r : Result T LogFault) (e d : LogFault) → IsErrAnd r (λ x. x ≡ e) → IsErrOf r d → e ≡ d
+same_log_fault (Ok x) e d is same = absurd is
+same_log_fault {T} (Err x) e d is same = sym is ∙ (let h : x ≡ d = cc in h)
+
+-- which part is damaged
+pub damaged_part : (a b : Part) → logs.Damaged a ≡ logs.Damaged b → a ≡ b
+damaged_part a b e = cc
+
+pub only_damaged : (e : LogFault) (there part : Part) → (e ≡ logs.Disk) ⊎ (e ≡ logs.Damaged there) ⊎ (e ≡ logs.NoMem) → e ≡ logs.Damaged part → there ≡ part
+only_damaged e there part fault is = elim fault [
+  | inl disk ↦ absurd (let no_ : ⊥ = cc in no_)
+  | inr more ↦ elim more [ inl damaged ↦ damaged_part there part (sym damaged ∙ is) | inr memory ↦ absurd (let no_ : ⊥ = cc in no_) ]
+]

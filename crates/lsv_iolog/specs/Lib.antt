@@ -1,0 +1,10 @@
+pub mod Recovered
+pub mod Later
+pub mod Value
+pub mod Represents
+pub mod Damage
+pub mod Moments
+pub mod Reading
+pub mod Faults
+pub mod Room
+pub mod Inner
