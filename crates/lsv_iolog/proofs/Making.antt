@@ -81,6 +81,6 @@ pub made_moment : (n : ℕ) (owner : Owner) (b s : BundleView) (bytes text : Lis
     → Throughout (IsOfLog n) (IsEither n None (Some (made text))) old new
 made_moment n owner b s bytes text old mid new owned unmade is_head same fresh last none stages one two =
     followed (IsOfLog n) (IsEither n None (Some (made text))) old mid new
-      (make_moment n owner (Some (made text)) old mid owned unmade one)
-      (first_moment n s (made text) mid new (committed_next s mid 0 0 0 0) (owner_as b s bytes owner fresh stages ∙ owned) (shape_as b s bytes owner fresh stages) (ap (λ (v : BundleView). v.last) stages.same ∙ last)
-        (made_log b s bytes text owner mid is_head same fresh none stages) two)
+    (make_moment n owner (Some (made text)) old mid owned unmade one)
+    (first_moment n s (made text) mid new (committed_next s mid 0 0 0 0) (owner_as b s bytes owner fresh stages ∙ owned) (shape_as b s bytes owner fresh stages) (ap (λ (v : BundleView). v.last) stages.same ∙ last)
+    (made_log b s bytes text owner mid is_head same fresh none stages) two)

@@ -61,9 +61,9 @@ one_log a b x y body bytes is of =
     let head : x.head ≡ y.head = sym is.head ∙ bytes Head tt ∙ of.head in
     let layout : layout_of x.records ≡ layout_of y.records = sym is.layout ∙ same_laid a.bytes b.bytes bytes ∙ of.layout in
     let records : x.records ≡ y.records = one_layout (layout_of x.records) x.records y.records is.valid of.valid
-        ((layout_is_texts (layout_of x.records) x.records).1 refl) ((layout_is_texts (layout_of x.records) y.records).1 layout) in
+    ((layout_is_texts (layout_of x.records) x.records).1 refl) ((layout_is_texts (layout_of x.records) y.records).1 layout) in
     let same : HasExit b.body.kind (b.bytes Exit) x.exit = subst (λ (k : ℕ). HasExit k (b.bytes Exit) x.exit) (ap (λ (c : Body). c.kind) body)
-        (subst (λ (bs : List ℕ). HasExit a.body.kind bs x.exit) (bytes Exit tt) is.exit) in
+    (subst (λ (bs : List ℕ). HasExit a.body.kind bs x.exit) (bytes Exit tt) is.exit) in
     let exit : x.exit ≡ y.exit = one_exit b.body.kind (b.bytes Exit) x.exit y.exit same of.exit in
     let cuts : x.cuts ≡ y.cuts = sym is.cuts ∙ ap (λ (c : Body). c.extra) body ∙ of.cuts in
     λ i. record { head = head i; records = records i; exit = exit i; cuts = cuts i }
@@ -75,9 +75,11 @@ some_encoded a b e = cc
 pub one_entry : (n : ℕ) (image : Image) (a b : Committed) → HoldsEntry (owner_of n) shapes.Log a image → HoldsEntry (owner_of n) shapes.Log b image
     → (a.body ≡ b.body) × ((part : Part) → IsPart shapes.Log part → a.bytes part ≡ b.bytes part)
 one_entry n image a b one two =
-    let body : a.body ≡ b.body = one_body a.body b.body one.is_body two.is_body (some_encoded (encoded a.body) (encoded b.body) (sym one.last ∙ two.last)) in
-    (body, λ part is. prefix_same (a.bytes part) (b.bytes part) (image (file_of (owner_of n) part))
-        (one.lengths part is ∙ ap (λ (c : Body). length_of c part) body ∙ sym (two.lengths part is)) (one.bytes part is) (two.bytes part is))
+    let body : a.body ≡ b.body = one_body a.body b.body one.is_body two.is_body (some_encoded (encoded a.body) (encoded b.body) (sym one.last ∙ two.last)) in (
+      body,
+      λ part is. prefix_same (a.bytes part) (b.bytes part) (image (file_of (owner_of n) part))
+          (one.lengths part is ∙ ap (λ (c : Body). length_of c part) body ∙ sym (two.lengths part is)) (one.bytes part is) (two.bytes part is),
+    )
 
 none_some : (xs : List ℕ) → None ≡ Some xs → ⊥
 none_some xs e = cc

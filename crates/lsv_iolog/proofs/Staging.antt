@@ -125,8 +125,10 @@ pub line_undone : (b m c : BundleView) (line : List ℕ) (keep : ℕ) → b.shap
 line_undone b m c line keep shape long one two p is = at p (subst (λ (s : Shape). IsPart s p) (ap (λ (v : BundleView). v.shape) one.same ∙ shape) is) where
   m_shape : m.shape ≡ shapes.Log
   m_shape = ap (λ (v : BundleView). v.shape) one.same ∙ shape
+
   other : (q : Part) → IsPart shapes.Log q → q ≢ Timing → staged c q ≡ staged b q
   other q of differs = two.others q (of_log m q m_shape of) differs ∙ one.others q (of_log b q shape of) differs
+
   at : (q : Part) → IsPart shapes.Log q → staged c q ≡ staged b q
   at Timing of = two.staged_is ∙ ap (take keep) one.staged_is ∙ take_at (staged b Timing) line keep long
   at Head of = other Head of (λ e. cc)

@@ -23,7 +23,7 @@ returns-in-Ok-clause-room c =
     let m : BundleView = c.stage.new.self in
     let is : IsStaged Timing (staged b Timing ++ c.args.line.now) b m = subst (λ (xs : List ℕ). IsStaged Timing (staged b Timing ++ xs) b m) c.as_slice.ensures c.in_ok-stage.ensures.value in
     line_room b m c.args.line.now c.args.r.now c.requires.shape c.requires.line is
-      (λ full. c.in_ok-stage.ensures.room.1 (subst (λ (xs : List ℕ). IsFull b Timing (length xs)) (sym c.as_slice.ensures) full)) c.in-Ok.ensures.room
+    (λ full. c.in_ok-stage.ensures.room.1 (subst (λ (xs : List ℕ). IsFull b Timing (length xs)) (sym c.as_slice.ensures) full)) c.in-Ok.ensures.room
 
 pub returns-in-Err-clause-refused : goal.returns-in-Err-clause-refused
 returns-in-Err-clause-refused c =
@@ -39,4 +39,4 @@ returns-in-Err-clause-full c part e =
     let m : BundleView = c.stage.new.self in
     let is : IsStaged Timing (staged b Timing ++ c.args.line.now) b m = subst (λ (xs : List ℕ). IsStaged Timing (staged b Timing ++ xs) b m) c.as_slice.ensures c.in_ok-stage.ensures.value in
     line_full b m c.args.line.now c.args.r.now part c.requires.shape c.requires.line is
-      (λ full. c.in_ok-stage.ensures.room.1 (subst (λ (xs : List ℕ). IsFull b Timing (length xs)) (sym c.as_slice.ensures) full)) (c.in-Err.ensures.full part e)
+    (λ full. c.in_ok-stage.ensures.room.1 (subst (λ (xs : List ℕ). IsFull b Timing (length xs)) (sym c.as_slice.ensures) full)) (c.in-Err.ensures.full part e)

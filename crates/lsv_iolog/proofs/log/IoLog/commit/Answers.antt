@@ -26,7 +26,7 @@ returns-in-Err-clause-cause g c =
     let own : c.self.inside.bundle.owner ≡ owner_of c.args.self.now.number = c.self.invariant.0.files.owner ∙ ap (λ (v : IoLogView). owner_of v.number) c.self.view_is in
     let r : Result Point LogFault = Err c.from.result in
     disk_cause {U = Unit} (IsOwnFile c.self.inside.bundle.owner c.self.inside.bundle.shape) (IsOfLog c.args.self.now.number) r c.in-Err.fault old (g.D.Disk.view c.flush.new.disk)
-      (λ f is. of_owner c.self.inside.bundle.owner c.self.inside.bundle.shape f is ∙ own) c.from.ensures c.in-Err.ensures.cause
+    (λ f is. of_owner c.self.inside.bundle.owner c.self.inside.bundle.shape f is ∙ own) c.from.ensures c.in-Err.ensures.cause
 
 pub returns-in-Err-clause-calls : goal.returns-in-Err-clause-calls
 returns-in-Err-clause-calls g c told =
@@ -36,7 +36,7 @@ returns-in-Err-clause-calls g c told =
 pub returns-in-Err-clause-fault : goal.returns-in-Err-clause-fault
 returns-in-Err-clause-fault g c =
     c.from.ensures ∙ flush_fault c.in-Err.fault c.self.inside.bundle.is_broken (c.self.invariant.0.whole (ap (λ (v : IoLogView). v.is_broken) c.self.view_is ∙ c.requires.whole)) c.in-Err.ensures.fault
-      (λ e. c.in-Err.ensures.broken.0 (ap (λ (x : BundleFault). let y : Result Unit BundleFault = Err x in y) e))
+    (λ e. c.in-Err.ensures.broken.0 (ap (λ (x : BundleFault). let y : Result Unit BundleFault = Err x in y) e))
 
 pub invariant_of-self : goal.invariant_of-self
 invariant_of-self g c =
