@@ -4,7 +4,6 @@ pub mod Value
 pub mod Represents
 pub mod Damage
 pub mod Moments
-pub mod Reading
 pub mod Faults
 pub mod Room
 pub mod Inner

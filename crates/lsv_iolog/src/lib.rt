@@ -4,16 +4,13 @@
 
 mod append;
 mod commit;
-mod cut;
 mod fault;
 mod laws;
 mod lines;
 mod log;
 mod open;
 mod pieces;
-mod view;
 
 pub use fault::LogFault;
 pub use laws::{a_log_is_recovered_in_one_way, logs_stay};
 pub use log::IoLog;
-pub use view::{LogView, Renewed};

@@ -1,11 +1,8 @@
 -- The journal is looked at, the files are opened, and what they hold is read and judged.
-use Rattle.std.proofs.Common.{◌≡◌, ◌≢◌, ◌≤◌, ◌<◌, ◌^◌, ◌⊎◌, inl, inr, ℕ, List, length, Ok, Err, Result, Option, Some, None, false, refl, sym, ◌∙◌, ap, subst, arith}
-use Rattle.lsv_disk.specs.declared.file.FileId.{FileId}
-use Rattle.lsv_disk.specs.declared.file.Part.{Part}
-use Rattle.lsv_disk.specs.declared.file.Part.TheVariants.{Head, Exit, Timing}
+use Rattle.std.proofs.Common.{◌≡◌, ◌≤◌, ◌^◌, inl, inr, ℕ, List, Ok, Err, Result, false, refl, sym, ◌∙◌, ap, subst, arith}
+use Rattle.lsv_disk.specs.declared.file.Part.TheVariants.{Head, Timing}
 use Rattle.lsv_disk.specs.View.{Image, DiskView}
 use Rattle.lsv_disk.proofs.Composition.{unchanged_reads}
-use Rattle.lsv_journal.specs.Last.{LastAt}
 use Rattle.lsv_journal.proofs.Laws.{own_alone}
 use Rattle.lsv_bundle.specs.declared.body.Body.{Body}
 use Rattle.lsv_bundle.specs.declared.bundle.Bundle.{Bundle}
@@ -171,7 +168,7 @@ returns-in_err-head-clause-damaged g c told part is_damaged =
       entry = entry_of view two;
       holds = holds;
       fault = subst (λ (v : View). IsWholeView v two → IsFault (entry_of v two) part) c.view_of-view.ensures
-        (c.in_err-head.ensures.damaged told part (ap (λ (x : LogFault). let y : Result (info.Head × Totals) LogFault = Err x in y) e)) whole;
+          (c.in_err-head.ensures.damaged told part (ap (λ (x : LogFault). let y : Result (info.Head × Totals) LogFault = Err x in y) e)) whole;
     })
 
 pub invariant_of-result : goal.invariant_of-result
@@ -212,12 +209,14 @@ returns-clause-found g c told =
     let long : length_of body Timing ≡ committed_length b Timing = settled.files.lengths body c.last.ensures.last Timing tt in
     let scanned = subst (λ (v : View). IsWholeView v two → (lines : List Shaped) × IsScanned v two lines c.in_ok-head.tally) c.view_of-view.ensures (c.in_ok-head.ensures.told told) whole in
     let judged = judged_log view two refl c.in_ok-head.head scanned.0 c.in_ok-head.tally
-      (subst (λ (v : View). head_of (text_of v two Head) ≡ Ok c.in_ok-head.head) c.view_of-view.ensures (c.in_ok-head.ensures.head told)) whole
-      (subst (λ (v : View). ExitIsWhole v.body) c.view_of-view.ensures c.in_ok-head.ensures.exit) scanned.1
-      (subst (λ (v : View). v.body.count ≡ c.in_ok-head.tally.count) c.view_of-view.ensures c.in_ok-head.ensures.counts.0)
-      (subst (λ (v : View). v.body.elapsed ≡ c.in_ok-head.tally.elapsed) c.view_of-view.ensures c.in_ok-head.ensures.counts.1) small
-      (subst (λ (v : View). AllCounted v.body c.in_ok-head.tally) c.view_of-view.ensures c.in_ok-head.ensures.streams) in
-    (judged.0, record { entry = entry_of view two; holds = holds; is = judged.1 },
+    (subst (λ (v : View). head_of (text_of v two Head) ≡ Ok c.in_ok-head.head) c.view_of-view.ensures (c.in_ok-head.ensures.head told)) whole
+    (subst (λ (v : View). ExitIsWhole v.body) c.view_of-view.ensures c.in_ok-head.ensures.exit) scanned.1
+    (subst (λ (v : View). v.body.count ≡ c.in_ok-head.tally.count) c.view_of-view.ensures c.in_ok-head.ensures.counts.0)
+    (subst (λ (v : View). v.body.elapsed ≡ c.in_ok-head.tally.elapsed) c.view_of-view.ensures c.in_ok-head.ensures.counts.1) small
+    (subst (λ (v : View). AllCounted v.body c.in_ok-head.tally) c.view_of-view.ensures c.in_ok-head.ensures.streams) in (
+      judged.0,
+      record { entry = entry_of view two; holds = holds; is = judged.1 },
       settled_represents log judged.0 body new refl settled
-        (committed_new n b body old one two new settled first entry enough run.elsewhere.same last judged.0 judged.1 (c.in_ok-bundle.ensures.represents told))
-        (settled_small n body b settled (omega (arith, small, long))) judged.2 (c.count.ensures.value ∙ judged.3) (c.elapsed.ensures.value ∙ judged.4))
+          (committed_new n b body old one two new settled first entry enough run.elsewhere.same last judged.0 judged.1 (c.in_ok-bundle.ensures.represents told))
+          (settled_small n body b settled (omega (arith, small, long))) judged.2 (c.count.ensures.value ∙ judged.3) (c.elapsed.ensures.value ∙ judged.4),
+    )
