@@ -2,6 +2,9 @@ pub mod Results
 pub mod Windows
 pub mod Scans
 pub mod Replaying
+pub mod Viewing
+pub mod Giving
+pub mod Renewing
 pub mod Representing
 pub mod Committing
 pub mod Making

@@ -1,5 +1,5 @@
 -- What is at fault with a log that has an entry and isn't one: the first part, in the order in which they are judged.
-use Rattle.std.specs.Prelude.{◌≡◌, ℕ, ◌<◌, ◌≤◌, ◌^◌, ◌⊎◌, List, [], ◌∷◌, length, All, Option}
+use Rattle.std.specs.Prelude.{◌≡◌, ◌≢◌, ℕ, ◌<◌, ◌≤◌, ◌^◌, ◌⊎◌, List, [], ◌∷◌, length, All, Option}
 use Rattle.lsv_disk.specs.declared.file.Part.{Part}
 use Rattle.lsv_disk.specs.declared.file.Part.TheVariants.{Head, Exit, Timing, Stdin, Stdout, Stderr, Ttyin, Ttyout, Lines, Id, Commit, Slots}
 use Rattle.lsv_disk.specs.View.{Image}
@@ -66,3 +66,7 @@ pub record HasFault (n : ℕ) (part : Part) (image : Image) : Type 0 where
 
 abbrev pub IsDamagedAt : ℕ → Part → Image → Type 0
 IsDamagedAt n part image = IsDamaged (owner_of n) shapes.Log image part ⊎ HasFault n part image
+
+-- the same of a log that is viewed, whose records aren't judged: a file that is absent or short, or no head
+abbrev pub IsViewDamage : ℕ → Part → Image → Type 0
+IsViewDamage n part image = IsDamaged (owner_of n) shapes.Log image part ⊎ ((part ≡ Head) × HasFault n Head image)

@@ -3,3 +3,4 @@ pub mod Invariant
 pub mod Scanning
 pub mod Staging
 pub mod Next
+pub mod Judging

@@ -4,6 +4,7 @@ pub mod Value
 pub mod Represents
 pub mod Damage
 pub mod Moments
+pub mod Reading
 pub mod Faults
 pub mod Room
 pub mod Inner

@@ -10,7 +10,9 @@ mod lines;
 mod log;
 mod open;
 mod pieces;
+mod view;
 
 pub use fault::LogFault;
 pub use laws::{a_log_is_recovered_in_one_way, logs_stay};
 pub use log::IoLog;
+pub use view::{LogView, Renewed};

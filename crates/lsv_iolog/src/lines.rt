@@ -10,7 +10,7 @@ ghost use Rattle.lsv_record.specs.Records.{IsGood};
 ghost use Rattle.lsv_record.specs.Tally.{totals_of, with_line};
 ghost use Rattle.lsv_iolog.specs.declared.fault.LogFault.{LogFault};
 ghost use Rattle.lsv_iolog.specs.Inner.Scanning.{text_of, IsInOrder, IsSameWindow, IsReading, IsBadLine};
-ghost use Rattle.lsv_iolog.specs.Inner.Scanning.{IsWindowOf};
+ghost use Rattle.lsv_iolog.specs.Reading.{IsWindowOf};
 
 use crate::LogFault;
 use crate::pieces::read_piece;
@@ -68,12 +68,39 @@ impl Lines {
         }
     }
 
+    /// The view whose timing it is.
+    pub(crate) fn view(&self) -> View
+        ensures { result ≡ self.now.view }
+    {
+        self.view
+    }
+
     /// What the lines so far come to.
     pub(crate) fn tally(&self) -> Tally
         ensures tally { result ≡ self.now.tally }
         ensures within { result.timing ≤ length_of self.now.view.body Part.Timing }
     {
         self.tally
+    }
+
+    /// Stands where it stood when the lines came to this.
+    pub(crate) fn back_to(&mut self, before: Tally)
+        requires start { self.old.start ≤ before.timing }
+        requires end { before.timing ≤ self.old.start + length self.old.window }
+        ensures { self.new ≡ record { view = self.old.view; tally = before; start = self.old.start; window = self.old.window } }
+    {
+        self.tally = before;
+    }
+
+    /// Reads on in another view of the same log, behind the lines that were read.
+    pub(crate) fn renew(&mut self, view: View)
+        requires shape { view.shape ≡ shapes.Log }
+        requires timing { self.old.tally.timing ≤ length_of view.body Part.Timing }
+        ensures { self.new ≡ record { view = view; tally = self.old.tally; start = self.old.tally.timing; window = [] } }
+    {
+        self.view = view;
+        self.start = self.tally.timing();
+        self.window.truncate(0);
     }
 
     /// How many bytes of timing are committed.

@@ -1,5 +1,5 @@
 -- Lines of timing that are read through windows.
-use Rattle.std.specs.Prelude.{◌≡◌, ◌≢◌, ℕ, ◌+◌, ◌<◌, ◌≤◌, ◌^◌, ◌⊎◌, List, [], ◌∷◌, length, get_or, All}
+use Rattle.std.specs.Prelude.{◌≡◌, ◌≢◌, ℕ, ◌+◌, ◌<◌, ◌≤◌, ◌^◌, ◌⊎◌, List, [], ◌∷◌, length, take, get_or, All}
 use Rattle.lsv_disk.specs.declared.file.Part.TheVariants.{Exit, Timing}
 use Rattle.lsv_disk.specs.declared.file.Part.{Part}
 use Rattle.lsv_disk.specs.Files.{file_of}
@@ -8,7 +8,7 @@ use Rattle.lsv_disk.specs.Throughout.{OnlyReads}
 use Rattle.lsv_disk.specs.View.{DiskView}
 use Rattle.lsv_bundle.specs.declared.shape.Shape.TheVariants as shapes
 use Rattle.lsv_bundle.specs.declared.view.View.{View}
-use Rattle.lsv_words.specs.Pieces.{piece, IsPrefix}
+use Rattle.lsv_words.specs.Pieces.{IsPrefix}
 use Rattle.lsv_bundle.specs.declared.body.Body.{Body}
 use Rattle.lsv_record.specs.declared.records.Stream.{Stream}
 use Rattle.lsv_record.specs.declared.records.Stream.TheVariants as stream
@@ -19,7 +19,8 @@ use Rattle.lsv_record.specs.declared.records.Shaped.{Shaped}
 use Rattle.lsv_record.specs.Lines.{IsBadAt}
 use Rattle.lsv_record.specs.Records.{IsGood, event_of}
 use Rattle.lsv_record.specs.Tally.{Totals, lines_of, told_elapsed, totals_of, PassesTime}
-use Rattle.lsv_iolog.specs.Recovered.{part_of}
+use Rattle.lsv_iolog.specs.Recovered.{owner_of, part_of}
+use Rattle.lsv_iolog.specs.Reading.{IsWindowOf}
 
 -- the bytes of a part that a view's entry commits, as the disk reads
 abbrev pub text_of : View → DiskView → Part → List ℕ
@@ -28,13 +29,6 @@ text_of view disk part = prefix_at disk (file_of view.owner part) (length_of vie
 -- the entry of a view with the bytes that it commits, as the disk reads
 abbrev pub entry_of : View → DiskView → Committed
 entry_of view disk = record { body = view.body; bytes = on_shape view.shape (text_of view disk) }
-
--- the window is one of this text, and the next line begins in it or at its end
-pub record IsWindowOf (text : List ℕ) (start : ℕ) (window : List ℕ) (next : ℕ) : Type 0 where
-  pub bytes : window ≡ piece text start (length window)
-  pub within : start + length window ≤ length text
-  pub before : start ≤ next
-  pub after : next ≤ start + length window
 
 -- lines of a view that are read: what the lines so far come to, and a window of the timing
 pub record Scan : Type 0 where
@@ -62,6 +56,11 @@ pub record IsSameWindow (old new : Scan) : Type 0 where
 -- the timing has more bytes than a file may have, or no line stands there, or the elapsed time reaches 2 ^ 63 ns with it
 abbrev pub IsBadLine : List ℕ → Totals → Type 0
 IsBadLine text tally = (2 ^ 40 < length text) ⊎ IsBadAt text tally.timing ⊎ PassesTime text tally
+
+-- a view of the log of this number
+pub record IsViewOf (n : ℕ) (view : View) : Type 0 where
+  pub owner : view.owner ≡ owner_of n
+  pub shape : view.shape ≡ shapes.Log
 
 -- the files hold as many bytes as the entry of the view says
 abbrev pub IsWholeView : View → DiskView → Type 0

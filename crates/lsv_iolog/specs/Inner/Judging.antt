@@ -1,0 +1,57 @@
+-- What lines of timing come to, against what an entry says.
+use Rattle.std.specs.Prelude.{◌≡◌, ℕ, ◌+◌, ◌<◌, ◌≤◌, ◌^◌, ◌⊎◌, List, [], ◌∷◌, ◌++◌, length, map, get_or}
+use Rattle.lsv_words.specs.Pieces.{piece}
+use Rattle.lsv_disk.specs.declared.file.Part.{Part}
+use Rattle.lsv_disk.specs.declared.file.Part.TheVariants.{Head, Exit, Timing, Stdin, Stdout, Stderr, Ttyin, Ttyout, Lines, Id, Commit, Slots}
+use Rattle.lsv_disk.specs.View.{DiskView}
+use Rattle.lsv_bundle.specs.declared.body.Body.{Body}
+use Rattle.lsv_bundle.specs.declared.shape.Shape.TheVariants as shapes
+use Rattle.lsv_bundle.specs.declared.view.View.{View}
+use Rattle.lsv_bundle.specs.Body.{length_of}
+use Rattle.lsv_bundle.specs.Shape.{IsPart}
+use Rattle.lsv_record.specs.declared.records.Record.{Record}
+use Rattle.lsv_record.specs.declared.records.Shaped.{Shaped}
+use Rattle.lsv_record.specs.declared.records.Stream.{Stream}
+use Rattle.lsv_record.specs.declared.records.Stream.TheVariants as streams
+use Rattle.lsv_record.specs.Layout.{Begins, IsLayout}
+use Rattle.lsv_record.specs.Records.{event_of, shape_of, elapsed}
+use Rattle.lsv_record.specs.Tally.{Totals, totals_of, told_count}
+use Rattle.lsv_iolog.specs.declared.fault.LogFault.{LogFault}
+use Rattle.lsv_iolog.specs.declared.fault.LogFault.TheVariants as logs
+use Rattle.lsv_iolog.specs.Recovered.{part_of, laid_in}
+use Rattle.lsv_iolog.specs.Inner.Scanning.{text_of, Scan, IsReading, IsFirstUncounted}
+
+-- at the end of the lines: they are more or fewer or of another time, or else a stream is at fault
+abbrev pub IsEndFault : Body → Totals → LogFault → Type 0
+IsEndFault body tally fault = ((fault ≡ logs.Damaged Timing) × (body.count ≡ tally.count → body.elapsed ≡ tally.elapsed → ⊥))
+    ⊎ ((body.count ≡ tally.count) × (body.elapsed ≡ tally.elapsed) × ((s : Stream) × (fault ≡ logs.Damaged (part_of s)) × IsFirstUncounted body tally s))
+
+-- the lines so far are no more, and of no more time, than the entry says
+pub record IsWithin (body : Body) (tally : Totals) : Type 0 where
+  pub count : tally.count ≤ body.count
+  pub time : tally.elapsed ≤ body.elapsed
+  pub in_time : tally.elapsed < 2 ^ 63
+
+-- of a stream, of which this is the file, fewer bytes are committed than the lines tell with this one
+pub record LacksIn (view : View) (before after : Totals) (told : Shaped) (disk : DiskView) (part : Part) : Type 0 where
+  pub stream : Stream
+  pub file : part ≡ part_of stream
+  pub few : (length_of view.body (part_of stream) < get_or after.data_bytes (event_of stream) 0)
+      ⊎ (length (piece (text_of view disk (part_of stream)) (get_or before.data_bytes (event_of stream) 0) (told_count stream told)) < told_count stream told)
+
+-- the lines that were read are those of these records, with which the committed bytes begin
+pub record IsBehindLines (lines : Scan) (records : List Record) (disk : DiskView) : Type 0 where
+  pub begins : Begins (laid_in (text_of lines.view disk)) records
+  pub given : lines.tally ≡ totals_of (map shape_of records)
+  pub long : (part : Part) → IsPart shapes.Log part → length (text_of lines.view disk part) ≡ length_of lines.view.body part
+  pub window : IsReading lines disk
+
+-- the committed bytes are the layout of these records, as many and of as much time as the entry says
+pub record AreWhole (view : View) (records : List Record) (disk : DiskView) : Type 0 where
+  pub layout : IsLayout (laid_in (text_of view disk)) records
+  pub count : view.body.count ≡ length records
+  pub time : view.body.elapsed ≡ elapsed records
+
+-- the lines where they came to this
+abbrev pub back_to : Scan → Totals → Scan
+back_to lines tally = record { view = lines.view; tally = tally; start = lines.start; window = lines.window }
