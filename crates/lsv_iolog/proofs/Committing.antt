@@ -1,7 +1,7 @@
 -- What a flush commits, and what crash images hold of a log meanwhile.
-use Rattle.std.proofs.Common.{◌≡◌, ◌≢◌, ◌⊎◌, inl, inr, ℕ, suc, ◌+◌, ◌<◌, ◌≤◌, ◌^◌, false, Ok, List, [], ◌∷◌, ◌++◌, length, take, Option, Some, None, refl, sym, ◌∙◌, ap, subst, arith, lit≤, All, append_assoc, length-append, append-nil}
+use Rattle.std.proofs.Common.{◌≡◌, ◌≢◌, inl, inr, ℕ, ◌+◌, ◌<◌, ◌≤◌, ◌^◌, List, [], ◌++◌, length, take, Option, Some, None, refl, sym, ◌∙◌, ap, subst, arith, lit≤}
 use Rattle.std.specs.Prelude.{slice_index, slice_index_or, map, option_map}
-use Rattle.std.proofs.lemmas.List.Elements.{All-cons, All-append, All-nil}
+use Rattle.std.proofs.lemmas.List.Elements.{All-nil}
 use Rattle.lsv_disk.specs.declared.file.FileId.{FileId}
 use Rattle.lsv_disk.specs.declared.file.Owner.{Owner}
 use Rattle.lsv_disk.specs.declared.file.Part.{Part}
@@ -9,31 +9,26 @@ use Rattle.lsv_disk.specs.declared.file.Part.TheVariants.{Head, Exit, Timing, St
 use Rattle.lsv_disk.specs.Bytes.{bytes_of}
 use Rattle.lsv_disk.specs.Files.{file_of}
 use Rattle.lsv_disk.specs.Throughout.{Throughout, RoseAtMost, WritesOneOf}
-use Rattle.lsv_disk.specs.View.{Image, DiskView, IsCrashImage, Only}
+use Rattle.lsv_disk.specs.View.{Image, DiskView, IsCrashImage}
 use Rattle.lsv_disk.proofs.Composition.{OnlyNow, started, widened}
-use Rattle.lsv_journal.specs.Last.{LastAt, IsAbsent, MayBeMade, IsSomeCrashOf, JournalHolds}
+use Rattle.lsv_journal.specs.Last.{MayBeMade}
 use Rattle.lsv_journal.proofs.Laws.{absent_last, absent_may_be_made}
 use Rattle.lsv_bundle.specs.declared.body.Body.{Body}
 use Rattle.lsv_bundle.specs.declared.shape.Shape.{Shape}
 use Rattle.lsv_bundle.specs.declared.shape.Shape.TheVariants as shapes
 use Rattle.lsv_bundle.specs.Body.{length_of}
 use Rattle.lsv_bundle.specs.Shape.{IsPart, IsWritable, on_shape, eight, index_of, journal_of}
-use Rattle.lsv_bundle.specs.Value.{BundleView, committed_length, staged, next_length, next_body, IsCommitted, IsKept, FileView, NoneStaged}
+use Rattle.lsv_bundle.specs.Value.{BundleView, committed_length, staged, next_length, next_body, IsCommitted, IsKept, FileView}
 use Rattle.lsv_bundle.specs.Calls.{RoseByFlush, CallsOfFlush}
 use Rattle.lsv_bundle.specs.Committed.{Committed, BundleHolds, IsBeingMade, IsBeforeOrAfter, committed, committed_bytes, committed_as, committed_next}
 use Rattle.lsv_bundle.proofs.Laws.{writes_owner}
-use Rattle.lsv_record.specs.declared.laid.Laid.{Laid}
-use Rattle.lsv_record.specs.declared.records.Record.{Record}
-use Rattle.lsv_record.specs.Layout.{layout_of}
 use Rattle.lsv_record.specs.Points.{Stored}
-use Rattle.lsv_record.specs.Records.{IsValid, elapsed}
-use Rattle.lsv_record.proofs.Layouts.{timing_of-append, stream_of-append, elapsed-append}
-use Rattle.lsv_record.specs.declared.records.Stream.TheVariants as stream
-use Rattle.lsv_iolog.specs.Recovered.{owner_of, IsOfLog, part_of, laid_in, IsHeadText, HasExit, IsLog, Replays, IsUnmade}
+use Rattle.lsv_record.specs.Records.{IsValid}
+use Rattle.lsv_iolog.specs.Recovered.{owner_of, IsOfLog, IsHeadText, IsLog, Replays, IsUnmade}
 use Rattle.lsv_iolog.specs.Moments.{IsEither, RoseOfLog, CallsOfLog}
 use Rattle.lsv_iolog.specs.Value.{made}
-use Rattle.lsv_iolog.specs.Inner.Invariant.{IsOfNumber, IsSettled, HasCommitted}
-use Rattle.lsv_iolog.proofs.Replaying.{on_log, same_laid, absent_replay}
+use Rattle.lsv_iolog.specs.Inner.Invariant.{IsOfNumber, IsSettled}
+use Rattle.lsv_iolog.proofs.Replaying.{on_log, absent_replay}
 
 -- the eight lengths of a log are those of its parts
 pub eight_of : (lengths : Part → ℕ) (part : Part) → IsPart shapes.Log part → slice_index (eight shapes.Log lengths) (index_of part) ≡ lengths part
@@ -95,7 +90,7 @@ pub first_log : (b : BundleView) (disk : DiskView) (text : List ℕ) → b.shape
 first_log b disk text shape none head others is_head =
     let body = next_body b 0 0 0 0 in
     let empty : (part : Part) → IsPart shapes.Log part → part ≢ Head → (committed_as b disk body).bytes part ≡ [] = λ part is other.
-        next_bytes b disk body part shape is ∙ ap (λ (xs : List ℕ). xs ++ staged b part) (nothing_committed b disk part (none part is)) ∙ others part is other in
+    next_bytes b disk body part shape is ∙ ap (λ (xs : List ℕ). xs ++ staged b part) (nothing_committed b disk part (none part is)) ∙ others part is other in
     record {
       head = next_bytes b disk body Head shape tt ∙ ap (λ (xs : List ℕ). xs ++ staged b Head) (nothing_committed b disk Head (none Head tt)) ∙ head;
       is_head = is_head;
@@ -125,15 +120,16 @@ pub made_absent : (n : ℕ) (disk : DiskView) (image : Image) → IsUnmade n dis
 made_absent n disk image unmade making = elim making.journal [
   | inr none ↦ none
   | inl some ↦ some.2 ∙ absent_last 89 (journal_of (owner_of n)) some.0 (
-      unmade_image n disk some.0 unmade some.1 (journal_of (owner_of n)) refl,
-      unmade_image n disk some.0 unmade some.1 (file_of (owner_of n) Commit) refl)
+    unmade_image n disk some.0 unmade some.1 (journal_of (owner_of n)) refl,
+    unmade_image n disk some.0 unmade some.1 (file_of (owner_of n) Commit) refl,
+  )
 ]
 
 pub make_moment : (n : ℕ) (owner : Owner) (after : Option Stored) (old new : DiskView) → owner ≡ owner_of n → IsUnmade n old → Throughout (IsWritable owner shapes.Log) (IsBeingMade owner shapes.Log old) old new → Throughout (IsOfLog n) (IsEither n None after) old new
 make_moment n owner after old new owned unmade run =
     widened (IsWritable (owner_of n) shapes.Log) (IsOfLog n) (IsBeingMade (owner_of n) shapes.Log old) (IsEither n None after) old new
-      (writes_owner (owner_of n) shapes.Log) (λ image making beside. inl (made_absent n old image unmade making))
-      (subst (λ (o : Owner). Throughout (IsWritable o shapes.Log) (IsBeingMade o shapes.Log old) old new) owned run)
+    (writes_owner (owner_of n) shapes.Log) (λ image making beside. inl (made_absent n old image unmade making))
+    (subst (λ (o : Owner). Throughout (IsWritable o shapes.Log) (IsBeingMade o shapes.Log old) old new) owned run)
 
 -- it may be made
 pub unmade_may_be_made : (n : ℕ) (owner : Owner) (disk : DiskView) → owner ≡ owner_of n → IsCrashImage disk disk.reads → IsUnmade n disk → MayBeMade 89 (journal_of owner) disk
@@ -141,7 +137,8 @@ unmade_may_be_made n owner disk owned reads unmade =
     subst (λ (o : Owner). MayBeMade 89 (journal_of o) disk) (sym owned)
     (absent_may_be_made 89 (journal_of (owner_of n)) disk reads (λ image is. (
       unmade_image n disk image unmade is (journal_of (owner_of n)) refl,
-      unmade_image n disk image unmade is (file_of (owner_of n) Commit) refl)))
+      unmade_image n disk image unmade is (file_of (owner_of n) Commit) refl,
+    )))
 
 -- an entry with a log's numbers and bytes is the log
 pub holds_log : (n : ℕ) (entry : Committed) (log : Stored) (image : Image) → IsLog entry log → BundleHolds (owner_of n) shapes.Log (Some entry) image → Replays image n (Some log)
@@ -152,12 +149,12 @@ pub first_moment : (n : ℕ) (b : BundleView) (log : Stored) (old new : DiskView
     → Throughout (IsWritable b.owner b.shape) (IsBeforeOrAfter b.owner b.shape (committed b old) (Some entry)) old new → Throughout (IsOfLog n) (IsEither n None (Some log)) old new
 first_moment n b log old new entry owner shape none is run =
     let there : Throughout (IsWritable (owner_of n) shapes.Log) (IsBeforeOrAfter (owner_of n) shapes.Log None (Some entry)) old new =
-        subst (λ (c : Option Committed). Throughout (IsWritable (owner_of n) shapes.Log) (IsBeforeOrAfter (owner_of n) shapes.Log c (Some entry)) old new) (none_none b old none)
-        (subst (λ (s : Shape). Throughout (IsWritable (owner_of n) s) (IsBeforeOrAfter (owner_of n) s (committed b old) (Some entry)) old new) shape
-        (subst (λ (o : Owner). Throughout (IsWritable o b.shape) (IsBeforeOrAfter o b.shape (committed b old) (Some entry)) old new) owner run)) in
+    subst (λ (c : Option Committed). Throughout (IsWritable (owner_of n) shapes.Log) (IsBeforeOrAfter (owner_of n) shapes.Log c (Some entry)) old new) (none_none b old none)
+    (subst (λ (s : Shape). Throughout (IsWritable (owner_of n) s) (IsBeforeOrAfter (owner_of n) s (committed b old) (Some entry)) old new) shape
+    (subst (λ (o : Owner). Throughout (IsWritable o b.shape) (IsBeforeOrAfter o b.shape (committed b old) (Some entry)) old new) owner run)) in
     widened (IsWritable (owner_of n) shapes.Log) (IsOfLog n) (IsBeforeOrAfter (owner_of n) shapes.Log None (Some entry)) (IsEither n None (Some log)) old new
-      (writes_owner (owner_of n) shapes.Log)
-      (λ image either beside. elim either [ inl before ↦ inl before | inr after ↦ inr (holds_log n entry log image is after) ]) there
+    (writes_owner (owner_of n) shapes.Log)
+    (λ image either beside. elim either [ inl before ↦ inl before | inr after ↦ inr (holds_log n entry log image is after) ]) there
 
 -- a number that isn't above another is at most that
 pub at_most : (a b : ℕ) → (b < a → ⊥) → a ≤ b
@@ -208,8 +205,8 @@ more_calls n d e j k old new le lo calls = record { writes = more old.writes new
 pub make_calls : (n : ℕ) (owner : Owner) (old new : DiskView) → owner ≡ owner_of n → WritesOneOf (journal_of owner) 1 2 (IsWritable owner shapes.Log) old new → CallsOfLog n 3 4 old new
 make_calls n owner old new owned calls =
     more_calls n 2 3 2 4 old new (lit≤ tt) (lit≤ tt) (record { writes = more (make_writes n owner old.writes new.writes owned calls.writes); syncs = make_syncs n owner old.syncs new.syncs owned calls.syncs }) where
-  more : RoseOfLog n 0 1 old.writes new.writes → RoseOfLog n 2 2 old.writes new.writes
-  more rose = record { files = λ f of apart. omega (arith, rose.files f of apart); journal = omega (arith, rose.journal); others = rose.others }
+      more : RoseOfLog n 0 1 old.writes new.writes → RoseOfLog n 2 2 old.writes new.writes
+      more rose = record { files = λ f of apart. omega (arith, rose.files f of apart); journal = omega (arith, rose.journal); others = rose.others }
 
 pub make_then_flush : (n : ℕ) (owner : Owner) (b : BundleView) (old mid new : DiskView) → owner ≡ owner_of n → b.owner ≡ owner_of n → WritesOneOf (journal_of owner) 1 2 (IsWritable owner shapes.Log) old mid → CallsOfFlush b mid new → CallsOfLog n 3 4 old new
 make_then_flush n owner b old mid new owned of one two =

@@ -1,16 +1,15 @@
 -- A flush: what it commits, and what stands at each moment.
-use Rattle.std.proofs.Common.{◌≡◌, ◌≢◌, ◌⊎◌, inl, inr, ℕ, suc, ◌+◌, ◌<◌, ◌≤◌, ◌^◌, false, Result, Ok, Err, OnOk, List, [], ◌∷◌, ◌++◌, length, take, Option, Some, None, refl, sym, ◌∙◌, ap, subst, arith, All, append_assoc, length-append, append-nil}
+use Rattle.std.proofs.Common.{◌≡◌, ◌≢◌, inl, inr, ℕ, ◌<◌, ◌≤◌, ◌^◌, false, Result, Ok, Err, OnOk, List, [], ◌∷◌, ◌++◌, length, Option, Some, None, refl, sym, ◌∙◌, ap, subst, arith, All, length-append, append-nil}
 use Rattle.std.specs.Prelude.{option_map}
 use Rattle.std.proofs.lemmas.List.Elements.{All-append}
 use Rattle.std.proofs.lemmas.List.{length-take}
-use Rattle.lsv_disk.specs.declared.file.FileId.{FileId}
 use Rattle.lsv_disk.specs.declared.file.Owner.{Owner}
 use Rattle.lsv_disk.specs.declared.file.Part.{Part}
 use Rattle.lsv_disk.specs.declared.file.Part.TheVariants.{Head, Exit, Timing, Stdin, Stdout, Stderr, Ttyin, Ttyout}
 use Rattle.lsv_disk.specs.Bytes.{bytes_of}
 use Rattle.lsv_disk.specs.Files.{file_of}
 use Rattle.lsv_disk.specs.Throughout.{Throughout}
-use Rattle.lsv_disk.specs.View.{Image, DiskView, IsCrashImage}
+use Rattle.lsv_disk.specs.View.{DiskView}
 use Rattle.lsv_disk.proofs.Composition.{OnlyNow, started, widened}
 use Rattle.lsv_bundle.specs.declared.body.Body.{Body}
 use Rattle.lsv_bundle.specs.declared.shape.Shape.{Shape}
@@ -18,7 +17,7 @@ use Rattle.lsv_bundle.specs.declared.shape.Shape.TheVariants as shapes
 use Rattle.lsv_bundle.specs.Represents as bundles
 use Rattle.lsv_bundle.specs.Shape.{IsPart, IsWritable, on_shape}
 use Rattle.lsv_bundle.specs.Value.{BundleView, committed_length, staged, next_length, next_body, IsCommitted}
-use Rattle.lsv_bundle.specs.Committed.{Committed, IsBeforeOrAfter, BundleHolds, committed, committed_bytes, committed_as}
+use Rattle.lsv_bundle.specs.Committed.{Committed, IsBeforeOrAfter, committed, committed_bytes, committed_as}
 use Rattle.lsv_bundle.proofs.Laws.{writes_owner}
 use Rattle.lsv_record.specs.declared.laid.Laid.{Laid}
 use Rattle.lsv_record.specs.declared.records.Record.{Record}
@@ -27,13 +26,13 @@ use Rattle.lsv_info.specs.Reading.{head_of}
 use Rattle.lsv_record.specs.Layout.{layout_of}
 use Rattle.lsv_record.specs.Points.{Stored}
 use Rattle.lsv_record.specs.Records.{IsValid, elapsed, timing_of, line_of, shape_of}
-use Rattle.lsv_record.proofs.Layouts.{timing_of-append, stream_of-append, elapsed-append}
-use Rattle.lsv_iolog.specs.Recovered.{owner_of, IsOfLog, part_of, laid_in, HasExit, IsLog, Replays}
+use Rattle.lsv_record.proofs.Layouts.{timing_of-append, stream_of-append}
+use Rattle.lsv_iolog.specs.Recovered.{owner_of, IsOfLog, laid_in, HasExit, IsLog}
 use Rattle.lsv_iolog.specs.Later.{IsLater}
 use Rattle.lsv_iolog.specs.Moments.{IsEither, IsThereLater}
-use Rattle.lsv_iolog.specs.Value.{IoLogView, LogValue, all_of, bare, flushed, finished, SameCounts}
-use Rattle.lsv_iolog.specs.Represents.{HasStaged, Represents}
-use Rattle.lsv_iolog.specs.Inner.Invariant.{IsSettled, HasCommitted}
+use Rattle.lsv_iolog.specs.Value.{IoLogView, LogValue, all_of, bare, flushed, SameCounts}
+use Rattle.lsv_iolog.specs.Represents.{Represents}
+use Rattle.lsv_iolog.specs.Inner.Invariant.{IsSettled}
 use Rattle.lsv_iolog.specs.Inner.Next.{cuts_in, next_entry}
 use Rattle.lsv_iolog.proofs.Staging.{some_line}
 use Rattle.lsv_iolog.proofs.Committing.{next_bytes, now_bytes, holds_log, settled_next}
@@ -47,8 +46,8 @@ entry_parts bytes None entry e = absurd (none_some entry e) where
 entry_parts bytes (Some body) entry e =
     let is : record { body = body; bytes = bytes } ≡ entry = some_same (record { body = body; bytes = bytes }) entry e in
     (ap (λ (c : Committed). Some c.body) is, ap (λ (c : Committed). c.bytes) is) where
-  some_same : (c d : Committed) → Some c ≡ Some d → c ≡ d
-  some_same c d e = cc
+      some_same : (c d : Committed) → Some c ≡ Some d → c ≡ d
+      some_same c d e = cc
 
 pub entry_body : (b : BundleView) (disk : DiskView) (entry : Committed) → committed b disk ≡ Some entry → b.last ≡ Some entry.body
 entry_body b disk entry e = (entry_parts (on_shape b.shape (committed_bytes b disk)) b.last entry e).0
@@ -78,7 +77,7 @@ pub next_log : (b : BundleView) (disk : DiskView) (entry : Committed) (stored : 
 next_log b disk entry stored more kind count time exit text shape has is going laid head ends exits valid counts times in_time small =
     let body = next_body b kind count time (cuts_in b.last) in
     let bytes : (part : Part) → IsPart shapes.Log part → (committed_as b disk body).bytes part ≡ entry.bytes part ++ staged b part = λ part of.
-        next_bytes b disk body part shape of ∙ ap (λ (xs : List ℕ). xs ++ staged b part) (sym (entry_bytes b disk entry shape has part of)) in
+    next_bytes b disk body part shape of ∙ ap (λ (xs : List ℕ). xs ++ staged b part) (sym (entry_bytes b disk entry shape has part of)) in
     let no_exit : entry.bytes Exit ≡ [] = none_bytes entry.body.kind (entry.bytes Exit) stored.exit is.exit going in
     record {
       head = bytes Head tt ∙ ap (λ (xs : List ℕ). entry.bytes Head ++ xs) head ∙ append-nil (entry.bytes Head) ∙ is.head;
@@ -107,12 +106,12 @@ pub next_moment : (n : ℕ) (b : BundleView) (before after : Stored) (old new : 
     → Throughout (IsWritable b.owner b.shape) (IsBeforeOrAfter b.owner b.shape (committed b old) (Some next)) old new → Throughout (IsOfLog n) (IsEither n (Some before) (Some after)) old new
 next_moment n b before after old new entry next owner shape has is then_is run =
     let there : Throughout (IsWritable (owner_of n) shapes.Log) (IsBeforeOrAfter (owner_of n) shapes.Log (Some entry) (Some next)) old new =
-        subst (λ (c : Option Committed). Throughout (IsWritable (owner_of n) shapes.Log) (IsBeforeOrAfter (owner_of n) shapes.Log c (Some next)) old new) has
-        (subst (λ (s : Shape). Throughout (IsWritable (owner_of n) s) (IsBeforeOrAfter (owner_of n) s (committed b old) (Some next)) old new) shape
-        (subst (λ (o : Owner). Throughout (IsWritable o b.shape) (IsBeforeOrAfter o b.shape (committed b old) (Some next)) old new) owner run)) in
+    subst (λ (c : Option Committed). Throughout (IsWritable (owner_of n) shapes.Log) (IsBeforeOrAfter (owner_of n) shapes.Log c (Some next)) old new) has
+    (subst (λ (s : Shape). Throughout (IsWritable (owner_of n) s) (IsBeforeOrAfter (owner_of n) s (committed b old) (Some next)) old new) shape
+    (subst (λ (o : Owner). Throughout (IsWritable o b.shape) (IsBeforeOrAfter o b.shape (committed b old) (Some next)) old new) owner run)) in
     widened (IsWritable (owner_of n) shapes.Log) (IsOfLog n) (IsBeforeOrAfter (owner_of n) shapes.Log (Some entry) (Some next)) (IsEither n (Some before) (Some after)) old new
-      (writes_owner (owner_of n) shapes.Log)
-      (λ image either beside. elim either [ inl one ↦ inl (holds_log n entry before image is one) | inr two ↦ inr (holds_log n next after image then_is two) ]) there
+    (writes_owner (owner_of n) shapes.Log)
+    (λ image either beside. elim either [ inl one ↦ inl (holds_log n entry before image is one) | inr two ↦ inr (holds_log n next after image then_is two) ]) there
 
 -- a state is no later than itself, nor than the one with more records
 pub later_same : (log : Stored) → IsLater log log
@@ -125,7 +124,7 @@ later_more before after more cuts records = inr (cuts, (more, records))
 pub either_later : (n : ℕ) (before after : Stored) (old new : DiskView) → IsLater before after → Throughout (IsOfLog n) (IsEither n (Some before) (Some after)) old new → Throughout (IsOfLog n) (IsThereLater n before) old new
 either_later n before after old new later run =
     widened (IsOfLog n) (IsOfLog n) (IsEither n (Some before) (Some after)) (IsThereLater n before) old new (λ f of. of)
-      (λ image either beside. elim either [ inl one ↦ (before, one, later_same before) | inr two ↦ (after, two, later) ]) run
+    (λ image either beside. elim either [ inl one ↦ (before, one, later_same before) | inr two ↦ (after, two, later) ]) run
 
 -- no moment passed
 pub idle_moment : (log : IoLogView) (value : LogValue) (after : Stored) (disk : DiskView) → OnlyNow disk → Represents log value disk → Throughout (IsOfLog log.number) (IsEither log.number (Some value.stored) (Some after)) disk disk
@@ -136,6 +135,7 @@ pub going_staged : (value : LogValue) → (value.stored.exit ≢ None → value.
 going_staged value ends some = of value.stored.exit refl where
   some_none : (t : List ℕ) → Some t ≡ None → ⊥
   some_none t e = cc
+
   of : (o : Option (List ℕ)) → value.stored.exit ≡ o → value.stored.exit ≡ None
   of None is = is
   of (Some t) is = absurd (some (ends (λ none. some_none t (sym is ∙ none))))
@@ -156,11 +156,11 @@ next_represents old new value after kind before disk whole counts owner shape sm
     let settled_new : IsSettled new.number (next_entry old kind) new.bundle = subst (λ (n : ℕ). IsSettled n (next_entry old kind) new.bundle) (sym counts.number) settled in
     let few : committed_length new.bundle Timing ≡ next_length old.bundle Timing = value_is.lengths_are Timing (subst (λ (s : Shape). IsPart s Timing) (sym shape) tt) in
     settled_represents new after (next_entry old kind) disk whole settled_new
-      (record { represents = represents; entry = committed_as old.bundle before (next_entry old kind); committed = has; is = is })
-      (settled_small new.number (next_entry old kind) new.bundle settled_new (omega (arith, few, small)))
-      (ap head_of heads ∙ head ∙ ap Ok (sym counts.head))
-      (counts.count ∙ count ∙ ap length (sym records))
-      (counts.elapsed ∙ time ∙ ap elapsed (sym records))
+    (record { represents = represents; entry = committed_as old.bundle before (next_entry old kind); committed = has; is = is })
+    (settled_small new.number (next_entry old kind) new.bundle settled_new (omega (arith, few, small)))
+    (ap head_of heads ∙ head ∙ ap Ok (sym counts.head))
+    (counts.count ∙ count ∙ ap length (sym records))
+    (counts.elapsed ∙ time ∙ ap elapsed (sym records))
 
 -- without timing there is no record
 no_lines : (rs : List Record) → length (timing_of rs) ≡ 0 → rs ≡ []
@@ -189,14 +189,14 @@ pub flush_represents : (old new : IoLogView) (value : LogValue) (before disk : D
     → IsCommitted (next_entry old 1) (next_length old.bundle) old.bundle new.bundle → committed new.bundle disk ≡ Some (committed_as old.bundle before (next_entry old 1)) → bundles.Represents new.bundle disk → Represents new (bare (flushed value)) disk
 flush_represents old new value before disk counts some at whole value_is has represents =
     next_represents old new value (flushed value) 1 before disk whole counts at.owner at.shape at.small at.head at.count at.time refl refl value_is
-      (staged_log old value before 1 (λ e. cc) (going_staged value at.ends some) at) has represents
+    (staged_log old value before 1 (λ e. cc) (going_staged value at.ends some) at) has represents
 
 pub flush_moment : (log : IoLogView) (value : LogValue) (old new : DiskView) → value.staged ≢ [] → Represents log value old
     → Throughout (IsWritable log.bundle.owner log.bundle.shape) (IsBeforeOrAfter log.bundle.owner log.bundle.shape (committed log.bundle old) (Some (committed_as log.bundle old (next_entry log 1)))) old new
     → Throughout (IsOfLog log.number) (IsEither log.number (Some value.stored) (Some (flushed value))) old new
 flush_moment log value old new some at run =
     next_moment log.number log.bundle value.stored (flushed value) old new at.entry (committed_as log.bundle old (next_entry log 1)) at.owner at.shape at.committed at.is
-      (staged_log log value old 1 (λ e. cc) (going_staged value at.ends some) at) run
+    (staged_log log value old 1 (λ e. cc) (going_staged value at.ends some) at) run
 
 pub on_ok_always : {T E : Type 0} (r : Result T E) (P : Type 0) → P → OnOk r P
 on_ok_always (Ok x) P p = p

@@ -1,28 +1,26 @@
 -- The parts of a log are judged in order: the head, the exit, the timing, the streams.
-use Rattle.std.proofs.Common.{◌≡◌, ◌≢◌, ◌⊎◌, inl, inr, ℕ, zero, suc, ◌+◌, ◌<◌, ◌≤◌, ◌^◌, Ok, Err, List, [], ◌∷◌, ◌++◌, All, length, Option, Some, None, refl, sym, ◌∙◌, ap, subst, arith, append-nil}
+use Rattle.std.proofs.Common.{◌≡◌, ◌≢◌, ◌⊎◌, inl, inr, ℕ, zero, suc, ◌<◌, ◌≤◌, ◌^◌, Ok, List, [], ◌∷◌, All, length, Option, Some, None, refl, sym, ◌∙◌, ap, subst, arith}
 use Rattle.std.specs.Prelude.{get_or, map}
 use Rattle.lsv_record.specs.declared.records.Record.{Record}
 use Rattle.lsv_disk.specs.declared.file.Part.{Part}
-use Rattle.lsv_disk.specs.declared.file.Part.TheVariants.{Head, Exit, Timing, Stdin, Stdout, Stderr, Ttyin, Ttyout}
+use Rattle.lsv_disk.specs.declared.file.Part.TheVariants.{Head, Exit, Timing}
 use Rattle.lsv_disk.specs.View.{DiskView}
-use Rattle.lsv_bundle.specs.declared.body.Body.{Body}
 use Rattle.lsv_bundle.specs.declared.shape.Shape.{Shape}
 use Rattle.lsv_bundle.specs.declared.shape.Shape.TheVariants as shapes
 use Rattle.lsv_bundle.specs.declared.view.View.{View}
 use Rattle.lsv_bundle.specs.Body.{length_of}
 use Rattle.lsv_bundle.specs.Shape.{IsPart, on_shape}
-use Rattle.lsv_bundle.specs.Committed.{Committed}
 use Rattle.lsv_info.specs.declared.times.Head as info
 use Rattle.lsv_info.specs.Reading.{head_of}
 use Rattle.lsv_record.specs.declared.records.Shaped.{Shaped}
 use Rattle.lsv_record.specs.declared.records.Stream.{Stream}
 use Rattle.lsv_record.specs.declared.records.Stream.TheVariants as stream
-use Rattle.lsv_record.specs.Layout.{stream_in, IsLayout}
+use Rattle.lsv_record.specs.Layout.{stream_in}
 use Rattle.lsv_record.specs.Points.{Stored}
 use Rattle.lsv_record.specs.Records.{IsGood, event_of, shape_of, elapsed}
 use Rattle.lsv_record.specs.Tally.{Totals, totals_of, lines_of, told_data, told_elapsed}
 use Rattle.lsv_record.proofs.Layouts.{layout_is_texts}
-use Rattle.lsv_record.proofs.Tallies.{lines_once, lines_are_records, lines_tell_time}
+use Rattle.lsv_record.proofs.Tallies.{lines_are_records, lines_tell_time}
 use Rattle.lsv_iolog.specs.Recovered.{part_of, laid_in, IsHeadText, HasExit, IsLog}
 use Rattle.lsv_iolog.specs.Damage.{ExitFits, AreLines, StreamFits, AllFit, IsFirstUnfit, IsFault}
 use Rattle.lsv_iolog.specs.Inner.Scanning.{text_of, entry_of, IsWholeView, IsScanned, ExitIsWhole, IsCounted, AllCounted, EachCounted, streams_before, IsFirstUncounted}
@@ -59,6 +57,7 @@ module _ (view : View) (disk : DiskView) (shape : view.shape ≡ shapes.Log) whe
   exit_is_whole whole fits = of fits.0 fits.1 where
     long : length ((entry_of view disk).bytes Exit) ≡ length_of view.body Exit
     long = ap length (entry_text Exit tt) ∙ whole Exit tt
+
     of : (o : Option (List ℕ)) → HasExit view.body.kind ((entry_of view disk).bytes Exit) o → ExitIsWhole view.body
     of None has = record { some = λ three. absurd (has.0 three); none = λ other. sym long ∙ ap length has.1 }
     of (Some t) has = record { some = λ three zero_. has.2 (sym has.1 ∙ no_bytes ((entry_of view disk).bytes Exit) (long ∙ zero_)); none = λ other. absurd (other has.0) }
@@ -76,10 +75,13 @@ module _ (view : View) (disk : DiskView) (shape : view.shape ≡ shapes.Log) whe
 
   pub fault_counts : (head : info.Head) (told : List Shaped) (tally : Totals) → head_of (text_of view disk Head) ≡ Ok head → IsWholeView view disk → ExitIsWhole view.body → IsScanned view disk told tally
       → ((view.body.count ≡ tally.count) → (view.body.elapsed ≡ tally.elapsed) → ⊥) → IsFault (entry_of view disk) Timing
-  fault_counts head told tally is whole exit scanned other =
-      (head_text head is, exit_fits whole exit, λ lines are.
+  fault_counts head told tally is whole exit scanned other = (
+    head_text head is,
+    exit_fits whole exit,
+    λ lines are.
         let same : lines ≡ told = whole_once (text_of view disk Timing) lines told are.good scanned.good (sym (entry_text Timing tt) ∙ are.text) scanned.text in
-        other (are.count ∙ ap length same ∙ sym (ap (λ (t : Totals). t.count) scanned.totals)) (are.time ∙ ap told_elapsed same ∙ sym (ap (λ (t : Totals). t.elapsed) scanned.totals)))
+        other (are.count ∙ ap length same ∙ sym (ap (λ (t : Totals). t.count) scanned.totals)) (are.time ∙ ap told_elapsed same ∙ sym (ap (λ (t : Totals). t.elapsed) scanned.totals)),
+  )
 
   -- the lines that were scanned are the entry's
   pub are_lines : (told : List Shaped) (tally : Totals) → IsScanned view disk told tally → view.body.count ≡ tally.count → view.body.elapsed ≡ tally.elapsed → IsWholeView view disk → length_of view.body Timing ≤ 2 ^ 40 → AreLines (entry_of view disk) told
@@ -123,6 +125,7 @@ module _ (view : View) (disk : DiskView) (shape : view.shape ≡ shapes.Log) whe
       fit = each_fits told tally before scanned.totals whole each;
       unfit = λ fits. other (fits_counted told tally t scanned.totals whole fits);
     }
+
     at : (t : Stream) → IsFirstUncounted view.body tally t → IsFault (entry_of view disk) (part_of t)
     at stream.Stdin is_first = unfit stream.Stdin [] is_first.0 is_first.1
     at stream.Stdout is_first = unfit stream.Stdout (streams_before stream.Stdout) is_first.0 is_first.1
@@ -139,29 +142,35 @@ module _ (view : View) (disk : DiskView) (shape : view.shape ≡ shapes.Log) whe
       let records = lines_are_records (laid_in (entry_of view disk).bytes) told scanned.good are.text (λ s. stream_long s) in
       let fits = exit_fits whole exit in
       let length_is : length told ≡ length records.0 = ap length (sym records.3) ∙ length_map records.0 in
-      let time_is : told_elapsed told ≡ elapsed records.0 = ap told_elapsed (sym records.3) ∙ lines_tell_time records.0 in
-      (record { head = (entry_of view disk).bytes Head; records = records.0; exit = fits.0; cuts = view.body.extra }, record {
-        head = refl;
-        is_head = head_text head is;
-        exit = fits.1;
-        valid = records.2;
-        layout = (layout_is_texts (laid_in (entry_of view disk).bytes) records.0).0 records.1;
-        count = are.count ∙ length_is;
-        time = are.time ∙ time_is;
-        in_time = subst (λ (n : ℕ). n < 2 ^ 63) time_is scanned.in_time;
-        small = are.small;
-        cuts = refl;
-      }, ap head_of (entry_text Head tt) ∙ is, ap (λ (t : Totals). t.count) scanned.totals ∙ length_is, ap (λ (t : Totals). t.elapsed) scanned.totals ∙ time_is)
+      let time_is : told_elapsed told ≡ elapsed records.0 = ap told_elapsed (sym records.3) ∙ lines_tell_time records.0 in (
+        record { head = (entry_of view disk).bytes Head; records = records.0; exit = fits.0; cuts = view.body.extra },
+        record {
+          head = refl;
+          is_head = head_text head is;
+          exit = fits.1;
+          valid = records.2;
+          layout = (layout_is_texts (laid_in (entry_of view disk).bytes) records.0).0 records.1;
+          count = are.count ∙ length_is;
+          time = are.time ∙ time_is;
+          in_time = subst (λ (n : ℕ). n < 2 ^ 63) time_is scanned.in_time;
+          small = are.small;
+          cuts = refl;
+        },
+        ap head_of (entry_text Head tt) ∙ is,
+        ap (λ (t : Totals). t.count) scanned.totals ∙ length_is,
+        ap (λ (t : Totals). t.elapsed) scanned.totals ∙ time_is,
+      )
     where
-    stream_long : (s : Stream) → length (stream_in s (laid_in (entry_of view disk).bytes)) ≡ told_data s told
-    stream_long stream.Stdin = counted_fits told tally stream.Stdin scanned.totals whole (counted stream.Stdin)
-    stream_long stream.Stdout = counted_fits told tally stream.Stdout scanned.totals whole (counted stream.Stdout)
-    stream_long stream.Stderr = counted_fits told tally stream.Stderr scanned.totals whole (counted stream.Stderr)
-    stream_long stream.Ttyin = counted_fits told tally stream.Ttyin scanned.totals whole (counted stream.Ttyin)
-    stream_long stream.Ttyout = counted_fits told tally stream.Ttyout scanned.totals whole (counted stream.Ttyout)
-    length_map : (rs : List Record) → length (map shape_of rs) ≡ length rs
-    length_map [] = refl
-    length_map (r ∷ rs) = ap suc (length_map rs)
+      stream_long : (s : Stream) → length (stream_in s (laid_in (entry_of view disk).bytes)) ≡ told_data s told
+      stream_long stream.Stdin = counted_fits told tally stream.Stdin scanned.totals whole (counted stream.Stdin)
+      stream_long stream.Stdout = counted_fits told tally stream.Stdout scanned.totals whole (counted stream.Stdout)
+      stream_long stream.Stderr = counted_fits told tally stream.Stderr scanned.totals whole (counted stream.Stderr)
+      stream_long stream.Ttyin = counted_fits told tally stream.Ttyin scanned.totals whole (counted stream.Ttyin)
+      stream_long stream.Ttyout = counted_fits told tally stream.Ttyout scanned.totals whole (counted stream.Ttyout)
+
+      length_map : (rs : List Record) → length (map shape_of rs) ≡ length rs
+      length_map [] = refl
+      length_map (r ∷ rs) = ap suc (length_map rs)
 
 -- what was scanned on a disk was scanned on the one before, where the text is the same
 pub scanned_at : (view : View) (old now : DiskView) (told : List Shaped) (tally : Totals) → text_of view now Timing ≡ text_of view old Timing → IsScanned view now told tally → IsScanned view old told tally

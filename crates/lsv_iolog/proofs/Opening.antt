@@ -1,8 +1,7 @@
 -- Opening a log: its journal may be written, and no image holds something else of the log than some image before.
-use Rattle.std.proofs.Common.{◌≡◌, ◌≢◌, ◌⊎◌, inl, inr, ℕ, ◌+◌, ◌<◌, ◌≤◌, ◌^◌, false, Ok, List, [], ◌∷◌, ◌++◌, length, take, Option, Some, None, option_map, refl, sym, ◌∙◌, ap, subst, arith}
+use Rattle.std.proofs.Common.{◌≡◌, ◌≢◌, inl, inr, ℕ, ◌+◌, ◌≤◌, ◌^◌, List, length, take, Option, Some, None, option_map, refl, sym, ◌∙◌, ap, subst, arith}
 use Rattle.std.proofs.lemmas.List.{length-take, take-append-drop}
 use Rattle.std.proofs.Common.{drop}
-use Rattle.lsv_words.specs.Pieces.{IsPrefix}
 use Rattle.lsv_disk.specs.declared.file.FileId.{FileId}
 use Rattle.lsv_disk.specs.declared.file.Owner.{Owner}
 use Rattle.lsv_disk.specs.declared.file.Part.{Part}
@@ -12,20 +11,18 @@ use Rattle.lsv_disk.specs.Files.{file_of}
 use Rattle.lsv_disk.specs.Throughout.{Throughout, OnlyReads, RoseAtMost, WritesOneOf}
 use Rattle.lsv_disk.specs.View.{Image, DiskView, IsCrashImage}
 use Rattle.lsv_disk.proofs.Composition.{OnlyNow, followed, widened, unchanged_reads, unchanged_crash, unchanged_throughout}
-use Rattle.lsv_journal.specs.Last.{LastAt, IsOwn, old_file, JournalHolds, IsSomeCrashOf}
+use Rattle.lsv_journal.specs.Last.{LastAt, IsOwn, IsSomeCrashOf}
 use Rattle.lsv_journal.proofs.Laws.{own_alone, own_cases, absent_last}
 use Rattle.lsv_bundle.specs.declared.body.Body.{Body}
-use Rattle.lsv_bundle.specs.declared.shape.Shape.{Shape}
 use Rattle.lsv_bundle.specs.declared.shape.Shape.TheVariants as shapes
-use Rattle.lsv_bundle.specs.declared.view.View.{View}
-use Rattle.lsv_bundle.specs.Body.{encoded, length_of}
+use Rattle.lsv_bundle.specs.Body.{length_of}
 use Rattle.lsv_bundle.specs.Represents as bundles
 use Rattle.lsv_bundle.specs.Shape.{IsPart, IsOwnFile, on_shape, journal_of}
 use Rattle.lsv_bundle.specs.Value.{BundleView, committed_length}
-use Rattle.lsv_bundle.specs.Committed.{Committed, HasPrefix, HoldsEntry, BundleHolds, HasEntry, IsShort, committed, committed_bytes, prefix_at}
-use Rattle.lsv_bundle.proofs.Laws.{of_owner, owner_represents, owner_committed}
+use Rattle.lsv_bundle.specs.Committed.{Committed, HasPrefix, HoldsEntry, HasEntry, IsShort, committed_bytes}
+use Rattle.lsv_bundle.proofs.Laws.{of_owner, owner_represents}
 use Rattle.lsv_record.specs.Points.{Stored}
-use Rattle.lsv_iolog.specs.Recovered.{owner_of, IsOfLog, HasExit, IsLog, HoldsLog, Replays, SameLog, IsUnmade}
+use Rattle.lsv_iolog.specs.Recovered.{owner_of, IsOfLog, HasExit, IsLog, Replays, SameLog, IsUnmade}
 use Rattle.lsv_iolog.specs.Moments.{IsAsBefore}
 use Rattle.lsv_iolog.specs.Inner.Scanning.{text_of, entry_of, IsWholeView}
 use Rattle.lsv_iolog.proofs.Replaying.{on_log, same_laid}
@@ -110,15 +107,18 @@ some_before n old image some beside = record {
 } where
   before : Image
   before f = pick f.part (some.0 f) (image f)
+
   picked : (g : FileId) → IsOwn (journal_of (owner_of n)) g → before g ≡ some.0 g
   picked g own = elim (own_cases (journal_of (owner_of n)) g own) [
     | inl e ↦ subst (λ (h : FileId). pick h.part (some.0 h) (image h) ≡ some.0 h) (sym e) refl
     | inr e ↦ subst (λ (h : FileId). pick h.part (some.0 h) (image h) ≡ some.0 h) (sym e) refl
   ]
+
   is : (f : FileId) → old.crash_states f (before f)
   is f = of f.part refl where
     other : (p : Part) → p ≢ Slots → f.part ≡ p → old.crash_states f (image f)
     other p no_slots e = beside f (λ journal. no_slots (sym e ∙ ap (λ (h : FileId). h.part) journal))
+
     of : (p : Part) → f.part ≡ p → old.crash_states f (pick p (some.0 f) (image f))
     of Slots e = some.1 f
     of Commit e = some.1 f
@@ -147,11 +147,11 @@ pub open_moment : (n : ℕ) (owner : Owner) (old one two new : DiskView) → own
 open_moment n owner old one two new owned now is_now first run last =
     let opened : Throughout (λ g. g ≡ journal_of (owner_of n)) (IsSomeCrashOf 89 (journal_of (owner_of n)) one) one two = subst (λ (o : Owner). Throughout (λ g. g ≡ journal_of o) (IsSomeCrashOf 89 (journal_of o) one) one two) owned run in
     let wide : Throughout (IsOfLog n) (IsAsBefore n old) one two =
-        widened (λ g. g ≡ journal_of (owner_of n)) (IsOfLog n) (IsSomeCrashOf 89 (journal_of (owner_of n)) one) (IsAsBefore n old) one two (λ g e. ap (λ (f : FileId). f.owner) e)
-          (λ image some beside. before_reads n old one image first (some_before n one image some beside)) opened in
+    widened (λ g. g ≡ journal_of (owner_of n)) (IsOfLog n) (IsSomeCrashOf 89 (journal_of (owner_of n)) one) (IsAsBefore n old) one two (λ g e. ap (λ (f : FileId). f.owner) e)
+    (λ image some beside. before_reads n old one image first (some_before n one image some beside)) opened in
     followed (IsOfLog n) (IsAsBefore n old) old two new
-      (followed (IsOfLog n) (IsAsBefore n old) old one two (unchanged_throughout (IsOfLog n) (IsAsBefore n old) old one (λ image is. as_itself n old image is) first.unchanged) wide)
-      (unchanged_throughout (IsOfLog n) (IsAsBefore n old) two new (λ image is. wide.each two.moment image wide.later (omega arith) (is_now image is)) last.unchanged)
+    (followed (IsOfLog n) (IsAsBefore n old) old one two (unchanged_throughout (IsOfLog n) (IsAsBefore n old) old one (λ image is. as_itself n old image is) first.unchanged) wide)
+    (unchanged_throughout (IsOfLog n) (IsAsBefore n old) two new (λ image is. wide.each two.moment image wide.later (omega arith) (is_now image is)) last.unchanged)
 
 -- and reads alone
 pub read_moment : (n : ℕ) (old new : DiskView) → OnlyReads old new → Throughout (IsOfLog n) (IsAsBefore n old) old new
@@ -164,8 +164,8 @@ open_reads n owner old one two new owned first last files after = same_by n old.
     (reads_last two new after ∙ subst (λ (o : Owner). LastAt 89 (journal_of o) two.reads ≡ LastAt 89 (journal_of o) one.reads) owned last ∙ reads_last old one first)
     (λ part of. unchanged_reads two new after.unchanged (file_of (owner_of n) part) ∙ files (file_of (owner_of n) part) (λ e. slots_not part of (ap (λ (f : FileId). f.part) e)) ∙ unchanged_reads old one first.unchanged (file_of (owner_of n) part))
   where
-  reads_last : (a b : DiskView) → OnlyReads a b → LastAt 89 (journal_of (owner_of n)) b.reads ≡ LastAt 89 (journal_of (owner_of n)) a.reads
-  reads_last a b reads = own_alone 89 (journal_of (owner_of n)) a.reads b.reads (λ g own. unchanged_reads a b reads.unchanged g)
+    reads_last : (a b : DiskView) → OnlyReads a b → LastAt 89 (journal_of (owner_of n)) b.reads ≡ LastAt 89 (journal_of (owner_of n)) a.reads
+    reads_last a b reads = own_alone 89 (journal_of (owner_of n)) a.reads b.reads (λ g own. unchanged_reads a b reads.unchanged g)
 
 pub only_read : (n : ℕ) (old new : DiskView) → OnlyReads old new → SameLog n old.reads new.reads
 only_read n old new reads = same_by n old.reads new.reads (own_alone 89 (journal_of (owner_of n)) old.reads new.reads (λ g own. unchanged_reads old new reads.unchanged g)) (λ part of. unchanged_reads old new reads.unchanged (file_of (owner_of n) part))
@@ -244,7 +244,7 @@ module _ (n : ℕ) (b : BundleView) (body : Body) (old one two new : DiskView) (
     entry = record { body = body; bytes = on_shape b.shape (committed_bytes b new) };
     committed = ap (λ (o : Option Body). option_map (λ (x : Body). let c : Committed = record { body = x; bytes = on_shape b.shape (committed_bytes b new) } in c) o) settled.last;
     is = is_log_same (entry_of (record { owner = owner_of n; shape = shapes.Log; body = body }) two) (record { body = body; bytes = on_shape b.shape (committed_bytes b new) }) stored refl
-      (λ part of. now_bytes b new body part settled.files.shape of
+        (λ part of. now_bytes b new body part settled.files.shape of
         ∙ ap (λ (k : ℕ). take k (bytes_of (new.reads (file_of b.owner part)))) (sym (length_is part of))
         ∙ ap (λ (o : Owner). take (length_of body part) (bytes_of (new.reads (file_of o part)))) settled.files.owner
         ∙ ap (λ (o : Option (List ℕ)). take (length_of body part) (bytes_of o)) (unchanged_reads two new last.unchanged (file_of (owner_of n) part))

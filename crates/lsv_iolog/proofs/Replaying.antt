@@ -1,26 +1,22 @@
 -- What an image holds of a log: it hangs on the log's files alone, it is one thing, and which is decided.
-use Rattle.std.proofs.Common.{◌≡◌, ◌≢◌, ◌⊎◌, inl, inr, ℕ, suc, ◌+◌, ◌<◌, ◌≤◌, ◌^◌, List, [], ◌∷◌, ◌++◌, length, take, drop, Option, Some, None, refl, sym, ◌∙◌, ap, subst, arith, All}
-use Rattle.std.proofs.lemmas.List.{take_at, drop_at}
-use Rattle.lsv_words.specs.Pieces.{IsPrefix}
+use Rattle.std.proofs.Common.{◌≡◌, ℕ, List, length, take, Option, Some, None, refl, sym, ◌∙◌, ap, subst}
+use Rattle.std.proofs.lemmas.List.{take_at}
 use Rattle.lsv_disk.specs.declared.file.FileId.{FileId}
 use Rattle.lsv_disk.specs.declared.file.Part.{Part}
 use Rattle.lsv_disk.specs.declared.file.Part.TheVariants.{Head, Exit, Timing, Stdin, Stdout, Stderr, Ttyin, Ttyout, Lines, Id, Commit, Slots}
 use Rattle.lsv_disk.specs.Files.{file_of}
-use Rattle.lsv_disk.specs.View.{Image, DiskView, IsCrashImage}
-use Rattle.lsv_journal.specs.Last.{LastAt, JournalHolds, IsAbsent}
+use Rattle.lsv_disk.specs.View.{Image}
 use Rattle.lsv_bundle.specs.declared.body.Body.{Body}
 use Rattle.lsv_bundle.specs.declared.shape.Shape.TheVariants as shapes
 use Rattle.lsv_bundle.specs.Body.{encoded, length_of}
 use Rattle.lsv_bundle.specs.Shape.{IsPart, on_shape, journal_of}
-use Rattle.lsv_bundle.specs.Committed.{Committed, HasPrefix, HoldsEntry, BundleHolds}
+use Rattle.lsv_bundle.specs.Committed.{Committed, HasPrefix, HoldsEntry}
 use Rattle.lsv_bundle.proofs.Laws.{of_owner, holds_alone, holds_absent, one_body}
-use Rattle.lsv_record.specs.declared.laid.Laid.{Laid}
-use Rattle.lsv_record.specs.declared.records.Record.{Record}
-use Rattle.lsv_record.specs.Layout.{layout_of, IsLayout}
+use Rattle.lsv_record.specs.Layout.{layout_of}
 use Rattle.lsv_record.specs.Points.{Stored}
 use Rattle.lsv_record.proofs.Layouts.{layout_is_texts}
 use Rattle.lsv_record.proofs.Once.{one_layout}
-use Rattle.lsv_iolog.specs.Recovered.{owner_of, IsOfLog, laid_in, HasExit, IsLog, HoldsLog, Replays, SameFiles, SameLog}
+use Rattle.lsv_iolog.specs.Recovered.{owner_of, IsOfLog, laid_in, HasExit, IsLog, Replays, SameFiles, SameLog}
 
 -- of a log each data file is of its shape
 pub on_log : (bytes : Part → List ℕ) (part : Part) → IsPart shapes.Log part → on_shape shapes.Log bytes part ≡ bytes part
@@ -61,9 +57,9 @@ one_log a b x y body bytes is of =
     let head : x.head ≡ y.head = sym is.head ∙ bytes Head tt ∙ of.head in
     let layout : layout_of x.records ≡ layout_of y.records = sym is.layout ∙ same_laid a.bytes b.bytes bytes ∙ of.layout in
     let records : x.records ≡ y.records = one_layout (layout_of x.records) x.records y.records is.valid of.valid
-        ((layout_is_texts (layout_of x.records) x.records).1 refl) ((layout_is_texts (layout_of x.records) y.records).1 layout) in
+    ((layout_is_texts (layout_of x.records) x.records).1 refl) ((layout_is_texts (layout_of x.records) y.records).1 layout) in
     let same : HasExit b.body.kind (b.bytes Exit) x.exit = subst (λ (k : ℕ). HasExit k (b.bytes Exit) x.exit) (ap (λ (c : Body). c.kind) body)
-        (subst (λ (bs : List ℕ). HasExit a.body.kind bs x.exit) (bytes Exit tt) is.exit) in
+    (subst (λ (bs : List ℕ). HasExit a.body.kind bs x.exit) (bytes Exit tt) is.exit) in
     let exit : x.exit ≡ y.exit = one_exit b.body.kind (b.bytes Exit) x.exit y.exit same of.exit in
     let cuts : x.cuts ≡ y.cuts = sym is.cuts ∙ ap (λ (c : Body). c.extra) body ∙ of.cuts in
     λ i. record { head = head i; records = records i; exit = exit i; cuts = cuts i }
@@ -75,9 +71,11 @@ some_encoded a b e = cc
 pub one_entry : (n : ℕ) (image : Image) (a b : Committed) → HoldsEntry (owner_of n) shapes.Log a image → HoldsEntry (owner_of n) shapes.Log b image
     → (a.body ≡ b.body) × ((part : Part) → IsPart shapes.Log part → a.bytes part ≡ b.bytes part)
 one_entry n image a b one two =
-    let body : a.body ≡ b.body = one_body a.body b.body one.is_body two.is_body (some_encoded (encoded a.body) (encoded b.body) (sym one.last ∙ two.last)) in
-    (body, λ part is. prefix_same (a.bytes part) (b.bytes part) (image (file_of (owner_of n) part))
-        (one.lengths part is ∙ ap (λ (c : Body). length_of c part) body ∙ sym (two.lengths part is)) (one.bytes part is) (two.bytes part is))
+    let body : a.body ≡ b.body = one_body a.body b.body one.is_body two.is_body (some_encoded (encoded a.body) (encoded b.body) (sym one.last ∙ two.last)) in (
+      body,
+      λ part is. prefix_same (a.bytes part) (b.bytes part) (image (file_of (owner_of n) part))
+          (one.lengths part is ∙ ap (λ (c : Body). length_of c part) body ∙ sym (two.lengths part is)) (one.bytes part is) (two.bytes part is),
+    )
 
 none_some : (xs : List ℕ) → None ≡ Some xs → ⊥
 none_some xs e = cc

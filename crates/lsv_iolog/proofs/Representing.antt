@@ -1,5 +1,5 @@
 -- How a log stays represented: each crash image holds it, staging commits nothing, and other files don't matter.
-use Rattle.std.proofs.Common.{◌≡◌, ◌≢◌, ◌⊎◌, inl, inr, ℕ, suc, ◌+◌, ◌<◌, ◌≤◌, ◌^◌, false, Ok, List, [], ◌∷◌, ◌++◌, length, Option, Some, None, refl, sym, ◌∙◌, ap, subst, arith, All, append_assoc, length-append, append-nil}
+use Rattle.std.proofs.Common.{◌≡◌, ℕ, ◌+◌, ◌<◌, ◌≤◌, ◌^◌, false, Ok, List, [], ◌∷◌, ◌++◌, length, Option, Some, None, refl, sym, ◌∙◌, ap, subst, arith, All, append_assoc, length-append, append-nil}
 use Rattle.std.proofs.lemmas.List.Elements.{All-cons, All-append, All-nil}
 use Rattle.lsv_disk.specs.declared.file.FileId.{FileId}
 use Rattle.lsv_disk.specs.declared.file.Owner.{Owner}
@@ -11,7 +11,7 @@ use Rattle.lsv_bundle.specs.declared.shape.Shape.{Shape}
 use Rattle.lsv_bundle.specs.declared.shape.Shape.TheVariants as shapes
 use Rattle.lsv_bundle.specs.declared.body.Body.{Body}
 use Rattle.lsv_bundle.specs.Shape.{IsPart}
-use Rattle.lsv_bundle.specs.Value.{BundleView, staged, unstaged, next_length, committed_length, NoneStaged}
+use Rattle.lsv_bundle.specs.Value.{BundleView, staged, next_length, committed_length, NoneStaged}
 use Rattle.lsv_info.specs.Reading.{head_of}
 use Rattle.lsv_bundle.specs.Committed.{Committed, BundleHolds, committed}
 use Rattle.lsv_bundle.proofs.Laws.{represents_holds, owner_represents, owner_committed, staging_represents, staging_committed}
@@ -20,10 +20,10 @@ use Rattle.lsv_record.specs.declared.records.Stream.{Stream}
 use Rattle.lsv_record.specs.declared.records.Stream.TheVariants as stream
 use Rattle.lsv_record.specs.Layout.{layout_of}
 use Rattle.lsv_record.specs.Points.{Stored}
-use Rattle.lsv_record.specs.Records.{IsValid, line_of, data_in, delay_of, elapsed, timing_of, stream_of}
+use Rattle.lsv_record.specs.Records.{IsValid, line_of, data_in, delay_of, elapsed, stream_of}
 use Rattle.lsv_record.proofs.Layouts.{timing_of-push, stream_of-push, elapsed-push}
-use Rattle.lsv_iolog.specs.Recovered.{owner_of, IsOfLog, part_of, laid_in, IsLog, HoldsLog, Replays}
-use Rattle.lsv_iolog.specs.Value.{IoLogView, LogValue, all_of, with_record, bare}
+use Rattle.lsv_iolog.specs.Recovered.{owner_of, IsOfLog, part_of, laid_in, Replays}
+use Rattle.lsv_iolog.specs.Value.{IoLogView, LogValue, with_record, bare}
 use Rattle.lsv_iolog.specs.Inner.Invariant.{IsIoLog, IsSettled, HasCommitted}
 use Rattle.lsv_iolog.specs.Represents.{HasStaged, Represents, Stages}
 use Rattle.lsv_iolog.proofs.Replaying.{one_replay}
@@ -37,7 +37,7 @@ holds_as a b s t x y image e f g holds =
 pub every_image : (log : IoLogView) (value : LogValue) (disk : DiskView) → Represents log value disk → (image : Image) → IsCrashImage disk image → Replays image log.number (Some value.stored)
 every_image log value disk at image is =
     let holds = holds_as log.bundle.owner (owner_of log.number) log.bundle.shape shapes.Log (committed log.bundle disk) (Some at.entry) image at.owner at.shape at.committed
-        (represents_holds log.bundle disk at.bundle image (λ f own. is f)) in
+    (represents_holds log.bundle disk at.bundle image (λ f own. is f)) in
     record { entry = at.entry; holds = holds; is = at.is }
 
 -- the committed state that an open log stands for is one
@@ -114,6 +114,7 @@ stages_represents old new value r disk stages valid going at = record {
 } where
   length_also : (xs ys : List Record) (r : Record) → length (xs ++ (ys ++ r ∷ [])) ≡ length (xs ++ ys) + 1
   length_also xs ys r = omega (arith, length-append {A = Record})
+
   elapsed_also : (xs ys : List Record) (r : Record) → elapsed (xs ++ (ys ++ r ∷ [])) ≡ elapsed (xs ++ ys) + delay_of r
   elapsed_also xs ys r = ap elapsed (sym (append_assoc xs ys (r ∷ []))) ∙ elapsed-push (xs ++ ys) r
 
@@ -168,10 +169,13 @@ settled_timing n body b settled = none_staged b settled.files.shape settled.none
 -- what is true of every open log is true where its files are settled
 pub settled_invariant : (log : IoLogView) (body : Body) → IsSettled log.number body log.bundle → log.elapsed < 2 ^ 63 → log.count ≤ committed_length log.bundle Timing → committed_length log.bundle Timing ≤ 2 ^ 40
     → IsIoLog log × (length (staged log.bundle Timing) ≡ 0)
-settled_invariant log body settled time lines few = (record {
-  files = settled.files;
-  whole = λ whole. settled.whole;
-  time = time;
-  lines = omega (arith, lines);
-  small = settled_small log.number body log.bundle settled few;
-}, ap length (settled_timing log.number body log.bundle settled))
+settled_invariant log body settled time lines few = (
+  record {
+    files = settled.files;
+    whole = λ whole. settled.whole;
+    time = time;
+    lines = omega (arith, lines);
+    small = settled_small log.number body log.bundle settled few;
+  },
+  ap length (settled_timing log.number body log.bundle settled),
+)

@@ -1,5 +1,5 @@
 -- Which fault of a bundle a fault of a log was.
-use Rattle.std.proofs.Common.{Bool, true, false, ◌≡◌, ◌≢◌, ◌⊎◌, inl, inr, Result, Ok, Err, IsErrAnd, IsErrOf, OnOk, IfOk, refl, sym, ◌∙◌, ap, subst}
+use Rattle.std.proofs.Common.{Bool, true, false, ◌≡◌, ◌⊎◌, inl, inr, Result, Ok, Err, IsErrAnd, IsErrOf, refl, sym, ◌∙◌, ap}
 use Rattle.lsv_disk.specs.declared.file.Part.{Part}
 use Rattle.lsv_disk.specs.declared.file.FileId.{FileId}
 use Rattle.lsv_disk.specs.View.{DiskView, HasOwnCause}
@@ -51,7 +51,7 @@ pub disk_cause : {T U : Type 0} (Own Wider : FileId → Type 0) (r : Result T Lo
     → IsErrAnd r (λ x. x ≡ fault_of e) → HasOwnCause Own (IsErrOf {T = U} (Err e) bundles.Disk) old new → HasOwnCause Wider (IsErrOf r logs.Disk) old new
 disk_cause {T} {U} Own Wider r e old new more is cause =
     cause_widened Own Wider (IsErrOf {T = U} (Err e) bundles.Disk) (IsErrOf r logs.Disk) old new more
-      (λ failed. ap (λ (x : BundleFault). let y : Result U BundleFault = Err x in y) (disk_is e (given_fault r e logs.Disk is failed))) cause
+    (λ failed. ap (λ (x : BundleFault). let y : Result U BundleFault = Err x in y) (disk_is e (given_fault r e logs.Disk is failed))) cause
 
 -- a whole bundle's flush fails by a device alone
 pub flush_fault : (fault : BundleFault) (broken : Bool) → broken ≡ false → (fault ≡ bundles.Disk) ⊎ (fault ≡ bundles.Broken) → (fault ≡ bundles.Broken → broken ≡ true) → fault_of fault ≡ logs.Disk

@@ -1,5 +1,5 @@
 -- Lines that are read through windows, one after another.
-use Rattle.std.proofs.Common.{◌≡◌, ◌≢◌, ◌⊎◌, inl, inr, ℕ, ◌+◌, ◌<◌, ◌≤◌, min, List, [], ◌∷◌, ◌++◌, ◌^◌, All, length, take, drop, append_assoc, append-nil, zero-add, length-append, length-drop, Option, Some, None, IfSome, IfNone, refl, sym, ◌∙◌, ap, subst, arith}
+use Rattle.std.proofs.Common.{◌≡◌, inl, inr, ℕ, ◌+◌, ◌<◌, ◌≤◌, List, [], ◌∷◌, ◌++◌, ◌^◌, All, length, take, drop, append_assoc, append-nil, zero-add, length-append, length-drop, Option, Some, None, IfSome, IfNone, refl, sym, ◌∙◌, ap, subst, arith}
 use Rattle.std.proofs.lemmas.List.{length-take}
 use Rattle.std.proofs.lemmas.List.Sums.{sum_by-append}
 use Rattle.std.proofs.lemmas.List.Elements.{All-nil, All-cons, All-append, All-head, All-tail}
@@ -75,9 +75,9 @@ if_none_at (Some x) P is holds = absurd (let no_ : ⊥ = cc in no_)
 prefix_whole : (p text : List ℕ) → IsPrefix p text → length p ≡ length text → text ≡ p
 prefix_whole p text begins long =
     begins.1 ∙ ap (λ (xs : List ℕ). p ++ xs) (no_more begins.0 (let e = ap length begins.1 in omega (arith, e, long, length-append p begins.0))) ∙ append-nil p where
-  no_more : (xs : List ℕ) → length xs ≡ 0 → xs ≡ []
-  no_more [] none = refl
-  no_more (x ∷ xs) none = absurd (let no_ : ⊥ = omega (arith, none) in no_)
+      no_more : (xs : List ℕ) → length xs ≡ 0 → xs ≡ []
+      no_more [] none = refl
+      no_more (x ∷ xs) none = absurd (let no_ : ⊥ = omega (arith, none) in no_)
 
 -- no line is read yet
 pub scan_none : (text : List ℕ) → HasScanned text (totals_of [])
@@ -115,14 +115,15 @@ goes_on text read whole good all begins is before =
       | inr less ↦ absurd (none less.0 less.1)
     ]
   where
-  first : (more : List Shaped) → whole ≡ read ++ more → (line : Shaped) × ((rest : List Shaped) × (whole ≡ read ++ line ∷ rest))
-  first [] e = absurd (let same = ap lines_of (e ∙ append-nil read) in let long = ap length (is ∙ same) in let no_ : ⊥ = omega (arith, long, before) in no_)
-  first (line ∷ rest) e = (line, (rest, e))
-  none : (more : List Shaped) → read ≡ whole ++ more → ⊥
-  none more e =
-      let long = ap length (ap lines_of e ∙ lines_of-append whole more) in
-      let all_long = ap length is in
-      omega (arith, long, all_long, before, length-append (lines_of whole) (lines_of more))
+    first : (more : List Shaped) → whole ≡ read ++ more → (line : Shaped) × ((rest : List Shaped) × (whole ≡ read ++ line ∷ rest))
+    first [] e = absurd (let same = ap lines_of (e ∙ append-nil read) in let long = ap length (is ∙ same) in let no_ : ⊥ = omega (arith, long, before) in no_)
+    first (line ∷ rest) e = (line, (rest, e))
+
+    none : (more : List Shaped) → read ≡ whole ++ more → ⊥
+    none more e =
+        let long = ap length (ap lines_of e ∙ lines_of-append whole more) in
+        let all_long = ap length is in
+        omega (arith, long, all_long, before, length-append (lines_of whole) (lines_of more))
 
 line_before_end : (text : List ℕ) (at next : ℕ) (line : Shaped) → IsLineAt text at line next → at < length text
 line_before_end text at next line stands =
@@ -143,10 +144,12 @@ scan_bad text tally is bad whole all same in_time few = elim bad [
     good_in : (xs : List Shaped) (x : Shaped) (ys : List Shaped) → All IsGood (xs ++ x ∷ ys) → IsGood x
     good_in [] x ys good = (All-head IsGood x ys good)
     good_in (z ∷ zs) x ys good = good_in zs x ys (All-tail IsGood z (zs ++ x ∷ ys) good)
+
   bad_at : IsBadAt text (length (lines_of is.told)) → ⊥
   bad_at at =
       let next = goes_on text is.told whole is.good all is.begins same at.before_end in
       at.no_line next.0 (length (lines_of (is.told ++ next.0 ∷ []))) (stands next.0 next.1.0 next.1.1)
+
   passes : (line : Shaped) (n : ℕ) → IsLineAt text (length (lines_of is.told)) line n → 2 ^ 63 ≤ told_elapsed is.told + told_delay line → ⊥
   passes line n at late =
       let next = goes_on text is.told whole is.good all is.begins same (line_before_end text (length (lines_of is.told)) n line at) in
@@ -179,7 +182,7 @@ scanning_goes_on tells view old now next scan scan' line is stands good tally vi
   faults = λ f. omega (arith, is.faults f, faults f);
   scanned = λ told.
       let at : IsLineAt (text_of view old Timing) scan.tally.timing line scan'.tally.timing =
-        subst (λ (xs : List ℕ). IsLineAt xs scan.tally.timing line scan'.tally.timing) (ap (λ (v : View). text_of v now Timing) is.view_is ∙ text_same view old now Timing (is.reads told)) (stands told (is.reading told)) in
+      subst (λ (xs : List ℕ). IsLineAt xs scan.tally.timing line scan'.tally.timing) (ap (λ (v : View). text_of v now Timing) is.view_is ∙ text_same view old now Timing (is.reads told)) (stands told (is.reading told)) in
       scan_more (text_of view old Timing) scan.tally scan'.tally line at good tally (is.scanned told);
   reading = λ told. reading told (is.reading told);
 }
@@ -188,13 +191,15 @@ scanning_goes_on tells view old now next scan scan' line is stands good tally vi
 pub scanning_ends : (tells : Type 0) (view : View) (old now : DiskView) (scan : Scan) (tally : Totals) → tells → IsScanning tells view old now scan → tally ≡ scan.tally → tally.elapsed < 2 ^ 63 → tally.timing ≡ length_of view.body Timing
     → length (text_of view old Timing) ≡ length_of view.body Timing → (lines : List Shaped) × IsScanned view old lines tally
 scanning_ends tells view old now scan tally told is same in_time end long =
-    let scanned : HasScanned (text_of view old Timing) tally = subst (λ (t : Totals). HasScanned (text_of view old Timing) t) (sym same) (is.scanned told) in
-    (scanned.told, record {
-      good = scanned.good;
-      text = scan_whole (text_of view old Timing) tally scanned (end ∙ sym long);
-      totals = scanned.totals;
-      in_time = subst (λ (t : Totals). t.elapsed < 2 ^ 63) scanned.totals in_time;
-    })
+    let scanned : HasScanned (text_of view old Timing) tally = subst (λ (t : Totals). HasScanned (text_of view old Timing) t) (sym same) (is.scanned told) in (
+      scanned.told,
+      record {
+        good = scanned.good;
+        text = scan_whole (text_of view old Timing) tally scanned (end ∙ sym long);
+        totals = scanned.totals;
+        in_time = subst (λ (t : Totals). t.elapsed < 2 ^ 63) scanned.totals in_time;
+      },
+    )
 
 -- a text is that of one list of lines
 pub whole_once : (text : List ℕ) (a b : List Shaped) → All IsGood a → All IsGood b → text ≡ lines_of a → text ≡ lines_of b → a ≡ b

@@ -1,5 +1,5 @@
 -- A record is staged: its line, and then its data; or neither.
-use Rattle.std.proofs.Common.{◌≡◌, ◌≢◌, ◌⊎◌, inl, inr, ℕ, suc, ◌+◌, ◌<◌, ◌≤◌, ◌^◌, false, List, [], ◌∷◌, ◌++◌, length, take, refl, sym, ◌∙◌, ap, subst, arith, append-nil, length-append}
+use Rattle.std.proofs.Common.{◌≡◌, ◌≢◌, inl, inr, ℕ, ◌+◌, ◌<◌, ◌≤◌, ◌^◌, List, [], ◌∷◌, ◌++◌, length, take, refl, sym, ◌∙◌, ap, subst, arith, append-nil, length-append}
 use Rattle.std.proofs.lemmas.List.{take_at}
 use Rattle.lsv_disk.specs.declared.file.Part.{Part}
 use Rattle.lsv_disk.specs.declared.file.Part.TheVariants.{Head, Exit, Timing, Stdin, Stdout, Stderr, Ttyin, Ttyout, Lines, Id, Commit, Slots}
@@ -7,7 +7,7 @@ use Rattle.lsv_bundle.specs.declared.shape.Shape.{Shape}
 use Rattle.lsv_bundle.specs.declared.shape.Shape.TheVariants as shapes
 use Rattle.lsv_bundle.specs.Calls.{IsFull}
 use Rattle.lsv_bundle.specs.Shape.{IsPart}
-use Rattle.lsv_bundle.specs.Value.{BundleView, staged, unstaged, committed_length, next_length, IsStaged}
+use Rattle.lsv_bundle.specs.Value.{BundleView, staged, committed_length, next_length, IsStaged}
 use Rattle.lsv_bundle.proofs.Laws.{staging_lengths}
 use Rattle.lsv_record.specs.declared.records.Record.{Record}
 use Rattle.lsv_record.specs.declared.records.Record.TheVariants.{Io, Winsize, Suspend}
@@ -16,7 +16,7 @@ use Rattle.lsv_record.specs.declared.records.Stream.{Stream}
 use Rattle.lsv_record.specs.declared.records.Stream.TheVariants as stream
 use Rattle.lsv_record.specs.Records.{data_in, line_of, shaped_line, shape_of, text_of, delay_of}
 use Rattle.lsv_iolog.specs.Recovered.{part_of}
-use Rattle.lsv_iolog.specs.Room.{IsTimingFull, IsDataFull, IsFullOf, IsRoomFor}
+use Rattle.lsv_iolog.specs.Room.{IsDataFull, IsFullOf, IsRoomFor}
 use Rattle.lsv_iolog.specs.Inner.Staging.{StagesIn}
 use Rattle.lsv_iolog.specs.Inner.Invariant.{IsIoLog}
 use Rattle.lsv_iolog.specs.Value.{IoLogView}
@@ -125,8 +125,10 @@ pub line_undone : (b m c : BundleView) (line : List ℕ) (keep : ℕ) → b.shap
 line_undone b m c line keep shape long one two p is = at p (subst (λ (s : Shape). IsPart s p) (ap (λ (v : BundleView). v.shape) one.same ∙ shape) is) where
   m_shape : m.shape ≡ shapes.Log
   m_shape = ap (λ (v : BundleView). v.shape) one.same ∙ shape
+
   other : (q : Part) → IsPart shapes.Log q → q ≢ Timing → staged c q ≡ staged b q
   other q of differs = two.others q (of_log m q m_shape of) differs ∙ one.others q (of_log b q shape of) differs
+
   at : (q : Part) → IsPart shapes.Log q → staged c q ≡ staged b q
   at Timing of = two.staged_is ∙ ap (take keep) one.staged_is ∙ take_at (staged b Timing) line keep long
   at Head of = other Head of (λ e. cc)

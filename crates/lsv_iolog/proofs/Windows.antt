@@ -1,8 +1,8 @@
 -- Windows of a text of timing.
-use Rattle.std.proofs.Common.{◌≡◌, ◌≢◌, ◌⊎◌, inl, inr, ℕ, zero, suc, ◌+◌, ◌-◌, ◌<◌, ◌≤◌, min, Bool, IsTrue, List, [], ◌∷◌, ◌++◌, length, take, drop, refl, sym, ◌∙◌, ap, subst, arith, length-append, length-drop}
+use Rattle.std.proofs.Common.{◌≡◌, ◌⊎◌, inl, inr, ℕ, zero, suc, ◌+◌, ◌-◌, ◌≤◌, min, Bool, IsTrue, List, [], ◌∷◌, ◌++◌, length, take, drop, refl, sym, ◌∙◌, ap, arith, length-drop}
 use Rattle.std.proofs.lemmas.List.{drop-drop, length-take, drop-append-le, take-append-drop}
 use Rattle.std.proofs.Math.Seq.{take-length}
-use Rattle.lsv_words.specs.Pieces.{piece, IsPrefix}
+use Rattle.lsv_words.specs.Pieces.{piece}
 use Rattle.lsv_record.specs.Lines.{IsWindow}
 use Rattle.lsv_iolog.specs.Reading.{IsWindowOf}
 
@@ -20,19 +20,24 @@ window_rest text window start next total is_last is short last = record {
 } where
   behind : List ℕ
   behind = drop start text
+
   nil : (xs : List ℕ) → xs ++ [] ≡ xs
   nil [] = refl
   nil (x ∷ xs) = ap (λ (l : List ℕ). x ∷ l) (nil xs)
+
   place : start + (next - start) ≡ next
   place = let before = is.before in omega (arith, before)
+
   inside : next - start ≤ length window
   inside = let after = is.after in omega (arith, after)
+
   rest : drop next text ≡ drop (next - start) window ++ drop (length window) behind
   rest =
       ap (λ (k : ℕ). drop k text) (sym place) ∙ sym (drop-drop (next - start) start text)
       ∙ ap (drop (next - start)) (sym (take-append-drop (length window) behind))
       ∙ ap (λ (xs : List ℕ). drop (next - start) (xs ++ drop (length window) behind)) (sym is.bytes)
       ∙ drop-append-le (next - start) window (drop (length window) behind) inside
+
   few : IsTrue is_last → length behind ≤ length window
   few yes_ = let all = last yes_ in let long = length-drop start text in omega (arith, all, long, short)
 
@@ -68,8 +73,10 @@ pub window_full : (text window : List ℕ) (next total most : ℕ) → next ≤ 
 window_full text window next total most within long is = of (split most (total - next)) where
   size : length window ≡ min (min (total - next) most) (length (drop next text))
   size = ap length is ∙ length-take (min (total - next) most) (drop next text)
+
   left : length (drop next text) ≡ length text - next
   left = length-drop next text
+
   of : (most ≤ total - next) ⊎ (total - next ≤ most) → (most ≤ length window) ⊎ (next + length window ≡ total)
   of (inl fits) = inl (omega (arith, size, left, long, fits))
   of (inr over) = inr (omega (arith, size, left, long, over, within))

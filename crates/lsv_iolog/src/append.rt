@@ -65,12 +65,7 @@ impl IoLog {
 }
 
 /// Stages the line of a record behind so many bytes of timing, and its data. Where either is refused, nothing is.
-fn stage_record(
-    bundle: &mut Bundle,
-    line: &Bytes,
-    keep: usize,
-    r: &Record,
-) -> Result<(), LogFault>
+fn stage_record(bundle: &mut Bundle, line: &Bytes, keep: usize, r: &Record) -> Result<(), LogFault>
     requires shape { bundle.old.shape ≡ shapes.Log }
     requires whole { bundle.old.is_broken ≡ false }
     requires line { line.now ≡ line_of r.now }

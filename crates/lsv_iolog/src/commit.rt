@@ -58,11 +58,7 @@ impl IoLog {
     /// Commits all staged records with the text of this exit, by one entry; the log wasn't complete, and is then. The
     /// exit's run time is valid. Crashes leave what they leave of a flush, and `Disk` and `Broken` come as there.
     /// `Full(Exit)` exactly where the exit's text is too long for its file, which then is unchanged.
-    pub fn finish<D: Disk>(
-        &mut self,
-        disk: &mut D,
-        exit: &Exit,
-    ) -> Result<Point, LogFault>
+    pub fn finish<D: Disk>(&mut self, disk: &mut D, exit: &Exit) -> Result<Point, LogFault>
         requires represents { D.tells → self.old.is_broken ≡ false → (value : LogValue) × Represents self.old value (D.view disk.old) }
         requires going { is_complete self.old ≡ false }
         requires timed { IsSome (nanos_of exit.now.run) }

@@ -24,7 +24,13 @@ pub fn a_log_is_recovered_in_one_way()
 
 /// Each crash image replays what an open log has committed. It stays represented where calls on the disk touched none of
 /// its files, and with what is staged.
-pub fn logs_stay<D: Disk, C: Claim>(log: &IoLog, next: &IoLog, old: &D, new: &D, claim: PhantomData<C>)
+pub fn logs_stay<D: Disk, C: Claim>(
+    log: &IoLog,
+    next: &IoLog,
+    old: &D,
+    new: &D,
+    claim: PhantomData<C>,
+)
     ensures every_image { (value : LogValue) (image : Image) → Represents log.now value (D.view old.now) → IsCrashImage (D.view old.now) image → Replays image log.now.number (Some value.stored) }
     ensures untouched { (value : LogValue) → Elsewhere C.touched (D.view old.now) (D.view new.now) → ((file : FileId) → IsOfLog log.now.number file → C.touched file → ⊥)
         → Represents log.now value (D.view old.now) → Represents log.now value (D.view new.now) }

@@ -47,11 +47,7 @@ impl IoLog {
     /// fault: a file that is absent or shorter than the last entry says, then the head, the exit, the timing, and the
     /// streams. Whatever it answers, the log reads as it read before, and at every moment a crash leaves of it what it
     /// could leave before. `Disk` only where a device call on a file of this log failed.
-    pub fn open<D: Disk>(
-        alloc: Global,
-        disk: &mut D,
-        number: LogNo,
-    ) -> Result<IoLog, LogFault>
+    pub fn open<D: Disk>(alloc: Global, disk: &mut D, number: LogNo) -> Result<IoLog, LogFault>
         ensures number { IfOk result (λ log. log.number ≡ number) }
         ensures whole { IfOk result (λ log. log.is_broken ≡ false) }
         ensures flushed { IfOk result IsFlushed }
@@ -132,11 +128,7 @@ pub(crate) fn view_of(number: LogNo, body: Body) -> View
 }
 
 /// Reads the head of a log, and what its timing comes to, and judges both and its exit and its streams.
-fn read_stored<D: Disk>(
-    alloc: Global,
-    disk: &mut D,
-    view: View,
-) -> Result<(Head, Tally), LogFault>
+fn read_stored<D: Disk>(alloc: Global, disk: &mut D, view: View) -> Result<(Head, Tally), LogFault>
     requires shape { view.shape ≡ shapes.Log }
     ensures head { D.tells → IfOk result (λ read. head_of (text_of view (D.view disk.old) Part.Head) ≡ Ok read.0) }
     ensures exit { OnOk result (ExitIsWhole view.body) }

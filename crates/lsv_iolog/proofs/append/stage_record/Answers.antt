@@ -1,12 +1,7 @@
-use Rattle.std.proofs.Common.{◌≡◌, List, [], ℕ, ◌++◌, take, length, ap, subst, sym, ◌∙◌, inl, inr, Err, false}
-use Rattle.lsv_disk.specs.declared.file.Part.{Part}
+use Rattle.std.proofs.Common.{List, ℕ, ◌++◌, length, subst, sym}
 use Rattle.lsv_disk.specs.declared.file.Part.TheVariants.{Timing}
 use Rattle.lsv_bundle.specs.Calls.{IsFull}
 use Rattle.lsv_bundle.specs.Value.{BundleView, staged, IsStaged}
-use Rattle.lsv_iolog.specs.declared.fault.LogFault.{LogFault}
-use Rattle.lsv_iolog.specs.declared.fault.LogFault.TheVariants as logs
-use Rattle.lsv_iolog.specs.Inner.Staging.{StagesIn}
-use Rattle.lsv_iolog.proofs.Results.{given_fault, full_is}
 use Rattle.lsv_iolog.proofs.Staging.{line_then_data, line_undone, line_room, line_full}
 use Rattle.lsv_iolog.proofs.append.stage_record.Goals as goal
 
@@ -23,7 +18,7 @@ returns-in-Ok-clause-room c =
     let m : BundleView = c.stage.new.self in
     let is : IsStaged Timing (staged b Timing ++ c.args.line.now) b m = subst (λ (xs : List ℕ). IsStaged Timing (staged b Timing ++ xs) b m) c.as_slice.ensures c.in_ok-stage.ensures.value in
     line_room b m c.args.line.now c.args.r.now c.requires.shape c.requires.line is
-      (λ full. c.in_ok-stage.ensures.room.1 (subst (λ (xs : List ℕ). IsFull b Timing (length xs)) (sym c.as_slice.ensures) full)) c.in-Ok.ensures.room
+    (λ full. c.in_ok-stage.ensures.room.1 (subst (λ (xs : List ℕ). IsFull b Timing (length xs)) (sym c.as_slice.ensures) full)) c.in-Ok.ensures.room
 
 pub returns-in-Err-clause-refused : goal.returns-in-Err-clause-refused
 returns-in-Err-clause-refused c =
@@ -39,4 +34,4 @@ returns-in-Err-clause-full c part e =
     let m : BundleView = c.stage.new.self in
     let is : IsStaged Timing (staged b Timing ++ c.args.line.now) b m = subst (λ (xs : List ℕ). IsStaged Timing (staged b Timing ++ xs) b m) c.as_slice.ensures c.in_ok-stage.ensures.value in
     line_full b m c.args.line.now c.args.r.now part c.requires.shape c.requires.line is
-      (λ full. c.in_ok-stage.ensures.room.1 (subst (λ (xs : List ℕ). IsFull b Timing (length xs)) (sym c.as_slice.ensures) full)) (c.in-Err.ensures.full part e)
+    (λ full. c.in_ok-stage.ensures.room.1 (subst (λ (xs : List ℕ). IsFull b Timing (length xs)) (sym c.as_slice.ensures) full)) (c.in-Err.ensures.full part e)

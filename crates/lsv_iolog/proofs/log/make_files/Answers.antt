@@ -1,17 +1,11 @@
 -- The files are made, the head is staged, and one flush commits it.
-use Rattle.std.proofs.Common.{◌≡◌, ◌≢◌, ℕ, [], ◌++◌, Some, None, Result, Err, IsErrOf, length, false, refl, sym, ◌∙◌, ap, subst, inl, inr, arith}
-use Rattle.lsv_disk.specs.declared.file.Owner.{Owner}
-use Rattle.lsv_disk.specs.declared.file.FileId.{FileId}
-use Rattle.lsv_disk.specs.declared.file.Part.{Part}
-use Rattle.lsv_disk.specs.declared.file.Part.TheVariants.{Head, Timing}
-use Rattle.lsv_disk.specs.Throughout.{Throughout}
-use Rattle.lsv_disk.proofs.Composition.{followed, cause_second}
+use Rattle.std.proofs.Common.{Some, Result, Err, IsErrOf, ◌∙◌, ap}
+use Rattle.lsv_disk.specs.declared.file.Part.TheVariants.{Head}
+use Rattle.lsv_disk.proofs.Composition.{cause_second}
 use Rattle.lsv_bundle.specs.declared.shape.Shape.TheVariants as shapes
-use Rattle.lsv_bundle.specs.Value.{BundleView, committed_length, staged, IsFresh, IsStaged}
-use Rattle.lsv_bundle.proofs.Laws.{staging_represents, staging_lengths}
-use Rattle.lsv_iolog.specs.Recovered.{owner_of, IsOfLog, IsLog}
+use Rattle.lsv_bundle.proofs.Laws.{staging_represents}
+use Rattle.lsv_iolog.specs.Recovered.{IsOfLog}
 use Rattle.lsv_iolog.specs.Value.{made}
-use Rattle.lsv_iolog.specs.Moments.{IsEither}
 use Rattle.lsv_bundle.specs.declared.bundle.Bundle.{Bundle}
 use Rattle.lsv_bundle.specs.declared.fault.BundleFault.{BundleFault}
 use Rattle.lsv_bundle.specs.Shape.{IsOwnFile}
@@ -38,7 +32,7 @@ returns-in_err-bundle-clause-calls g c told =
 pub returns-in_err-bundle-clause-cause : goal.returns-in_err-bundle-clause-cause
 returns-in_err-bundle-clause-cause g c =
     disk_cause {U = Bundle} (IsOwnFile c.owner_of.result shapes.Log) (IsOfLog c.args.number) c.from_residual.result c.in_err-bundle.field-0.0 (g.D.Disk.view c.args.disk.now) (g.D.Disk.view c.create.new.disk)
-      (λ f own. of_owner c.owner_of.result shapes.Log f own ∙ c.owner_of.ensures) c.from_residual.ensures.1 c.in_err-bundle.ensures.cause
+    (λ f own. of_owner c.owner_of.result shapes.Log f own ∙ c.owner_of.ensures) c.from_residual.ensures.1 c.in_err-bundle.ensures.cause
 
 pub returns-in_err-stage-clause-any_moment : goal.returns-in_err-stage-clause-any_moment
 returns-in_err-stage-clause-any_moment g c told =
@@ -51,7 +45,7 @@ returns-in_err-stage-clause-calls g c told =
 pub returns-in_err-stage-clause-full : goal.returns-in_err-stage-clause-full
 returns-in_err-stage-clause-full g c is =
     full_text c.in_ok-bundle.bundle c.args.text.now c.as_slice.result.now c.owner_of.result c.as_slice.ensures c.in_ok-bundle.ensures.fresh c.in_ok-bundle.ensures.lengths
-      (c.in_err-stage.ensures.full (ap (λ (x : BundleFault). let y : Result Unit BundleFault = Err x in y) (full_is c.in_err-stage.field-0.0 Head (given_fault c.from_residual-in_err-stage.result c.in_err-stage.field-0.0 (logs.Full Head) c.from_residual-in_err-stage.ensures.1 is)))).1
+    (c.in_err-stage.ensures.full (ap (λ (x : BundleFault). let y : Result Unit BundleFault = Err x in y) (full_is c.in_err-stage.field-0.0 Head (given_fault c.from_residual-in_err-stage.result c.in_err-stage.field-0.0 (logs.Full Head) c.from_residual-in_err-stage.ensures.1 is)))).1
 
 pub flush-requires : goal.flush-requires
 flush-requires g c = record { represents = λ told whole. staging_represents c.in_ok-bundle.bundle c.stage.new.self (g.D.Disk.view c.create.new.disk) c.in_ok-stage.ensures.value.same (c.in_ok-bundle.ensures.represents told) }
@@ -59,19 +53,19 @@ flush-requires g c = record { represents = λ told whole. staging_represents c.i
 pub returns-in_err-flush-clause-any_moment : goal.returns-in_err-flush-clause-any_moment
 returns-in_err-flush-clause-any_moment g c told =
     made_moment c.args.number c.owner_of.result c.in_ok-bundle.bundle c.stage.new.self c.as_slice.result.now c.args.text.now (g.D.Disk.view c.args.disk.now) (g.D.Disk.view c.create.new.disk) (g.D.Disk.view c.flush.new.disk)
-      c.owner_of.ensures (c.requires.unmade told) c.requires.head c.as_slice.ensures c.in_ok-bundle.ensures.fresh c.in_ok-bundle.ensures.last c.in_ok-bundle.ensures.lengths c.in_ok-stage.ensures.value
-      (c.create.ensures.any_moment told) (c.flush.ensures.any_moment told (staged_whole c.in_ok-bundle.bundle c.stage.new.self c.owner_of.result c.in_ok-bundle.ensures.fresh c.in_ok-stage.ensures.value))
+    c.owner_of.ensures (c.requires.unmade told) c.requires.head c.as_slice.ensures c.in_ok-bundle.ensures.fresh c.in_ok-bundle.ensures.last c.in_ok-bundle.ensures.lengths c.in_ok-stage.ensures.value
+    (c.create.ensures.any_moment told) (c.flush.ensures.any_moment told (staged_whole c.in_ok-bundle.bundle c.stage.new.self c.owner_of.result c.in_ok-bundle.ensures.fresh c.in_ok-stage.ensures.value))
 
 pub returns-in_err-flush-clause-calls : goal.returns-in_err-flush-clause-calls
 returns-in_err-flush-clause-calls g c told =
     make_then_flush c.args.number c.owner_of.result c.stage.new.self (g.D.Disk.view c.args.disk.now) (g.D.Disk.view c.create.new.disk) (g.D.Disk.view c.flush.new.disk) c.owner_of.ensures
-      (staged_owner c.args.number c.in_ok-bundle.bundle c.stage.new.self c.owner_of.result c.owner_of.ensures c.in_ok-bundle.ensures.fresh c.in_ok-stage.ensures.value) (c.create.ensures.calls told) (c.flush.ensures.calls told)
+    (staged_owner c.args.number c.in_ok-bundle.bundle c.stage.new.self c.owner_of.result c.owner_of.ensures c.in_ok-bundle.ensures.fresh c.in_ok-stage.ensures.value) (c.create.ensures.calls told) (c.flush.ensures.calls told)
 
 pub returns-in_err-flush-clause-cause : goal.returns-in_err-flush-clause-cause
 returns-in_err-flush-clause-cause g c =
     cause_second (IsOfLog c.args.number) (IsErrOf c.from_residual-in_err-flush.result logs.Disk) (g.D.Disk.view c.args.disk.now) (g.D.Disk.view c.create.new.disk) (g.D.Disk.view c.flush.new.disk) c.create.ensures.cause.monotone
     (disk_cause {U = Unit} (IsOwnFile c.stage.new.self.owner c.stage.new.self.shape) (IsOfLog c.args.number) c.from_residual-in_err-flush.result c.in_err-flush.field-0.0 (g.D.Disk.view c.create.new.disk) (g.D.Disk.view c.flush.new.disk)
-      (λ f own. of_owner c.stage.new.self.owner c.stage.new.self.shape f own ∙ staged_owner c.args.number c.in_ok-bundle.bundle c.stage.new.self c.owner_of.result c.owner_of.ensures c.in_ok-bundle.ensures.fresh c.in_ok-stage.ensures.value) c.from_residual-in_err-flush.ensures.1 c.in_err-flush.ensures.cause)
+    (λ f own. of_owner c.stage.new.self.owner c.stage.new.self.shape f own ∙ staged_owner c.args.number c.in_ok-bundle.bundle c.stage.new.self c.owner_of.result c.owner_of.ensures c.in_ok-bundle.ensures.fresh c.in_ok-stage.ensures.value) c.from_residual-in_err-flush.ensures.1 c.in_err-flush.ensures.cause)
 
 pub returns-clause-empty : goal.returns-clause-empty
 returns-clause-empty g c =
@@ -88,17 +82,18 @@ returns-clause-holds g c told = record {
 pub returns-clause-any_moment : goal.returns-clause-any_moment
 returns-clause-any_moment g c told =
     made_moment c.args.number c.owner_of.result c.in_ok-bundle.bundle c.stage.new.self c.as_slice.result.now c.args.text.now (g.D.Disk.view c.args.disk.now) (g.D.Disk.view c.create.new.disk) (g.D.Disk.view c.flush.new.disk)
-      c.owner_of.ensures (c.requires.unmade told) c.requires.head c.as_slice.ensures c.in_ok-bundle.ensures.fresh c.in_ok-bundle.ensures.last c.in_ok-bundle.ensures.lengths c.in_ok-stage.ensures.value
-      (c.create.ensures.any_moment told) (c.flush.ensures.any_moment told (staged_whole c.in_ok-bundle.bundle c.stage.new.self c.owner_of.result c.in_ok-bundle.ensures.fresh c.in_ok-stage.ensures.value))
+    c.owner_of.ensures (c.requires.unmade told) c.requires.head c.as_slice.ensures c.in_ok-bundle.ensures.fresh c.in_ok-bundle.ensures.last c.in_ok-bundle.ensures.lengths c.in_ok-stage.ensures.value
+    (c.create.ensures.any_moment told) (c.flush.ensures.any_moment told (staged_whole c.in_ok-bundle.bundle c.stage.new.self c.owner_of.result c.in_ok-bundle.ensures.fresh c.in_ok-stage.ensures.value))
 
 pub returns-clause-calls : goal.returns-clause-calls
 returns-clause-calls g c told =
     make_then_flush c.args.number c.owner_of.result c.stage.new.self (g.D.Disk.view c.args.disk.now) (g.D.Disk.view c.create.new.disk) (g.D.Disk.view c.flush.new.disk) c.owner_of.ensures
-      (staged_owner c.args.number c.in_ok-bundle.bundle c.stage.new.self c.owner_of.result c.owner_of.ensures c.in_ok-bundle.ensures.fresh c.in_ok-stage.ensures.value) (c.create.ensures.calls told) (c.flush.ensures.calls told)
+    (staged_owner c.args.number c.in_ok-bundle.bundle c.stage.new.self c.owner_of.result c.owner_of.ensures c.in_ok-bundle.ensures.fresh c.in_ok-stage.ensures.value) (c.create.ensures.calls told) (c.flush.ensures.calls told)
 
 pub returns-clause-settled : goal.returns-clause-settled
-returns-clause-settled g c =
-    ((next_body c.stage.new.self 0 0 0 0).lens,
-    settled_next c.args.number c.stage.new.self c.flush.new.self 0 0 0 0
+returns-clause-settled g c = (
+  (next_body c.stage.new.self 0 0 0 0).lens,
+  settled_next c.args.number c.stage.new.self c.flush.new.self 0 0 0 0
       (staged_owner c.args.number c.in_ok-bundle.bundle c.stage.new.self c.owner_of.result c.owner_of.ensures c.in_ok-bundle.ensures.fresh c.in_ok-stage.ensures.value)
-      (staged_shape c.in_ok-bundle.bundle c.stage.new.self c.owner_of.result c.in_ok-bundle.ensures.fresh c.in_ok-stage.ensures.value) c.in_ok-flush.ensures.value)
+      (staged_shape c.in_ok-bundle.bundle c.stage.new.self c.owner_of.result c.in_ok-bundle.ensures.fresh c.in_ok-stage.ensures.value) c.in_ok-flush.ensures.value,
+)

@@ -1,5 +1,4 @@
-use Rattle.std.proofs.Common.{sym, ◌∙◌, ap}
-use Rattle.lsv_disk.specs.View.{DiskView}
+use Rattle.std.proofs.Common.{◌∙◌}
 use Rattle.lsv_bundle.specs.declared.bundle.Bundle.{Bundle}
 use Rattle.lsv_bundle.specs.declared.shape.Shape.TheVariants as shapes
 use Rattle.lsv_bundle.specs.Shape.{IsOwnFile}
@@ -22,4 +21,4 @@ returns-clause-calls g c told = open_calls c.args.number c.owner_of-owner.result
 pub returns-in_err-bundle-clause-cause : goal.returns-in_err-bundle-clause-cause
 returns-in_err-bundle-clause-cause g c =
     disk_cause {U = Option Bundle} (IsOwnFile c.owner_of-owner.result shapes.Log) (IsOfLog c.args.number) c.from_residual.result c.in_err-bundle.field-0.0 (g.D.Disk.view c.args.disk.now) (g.D.Disk.view c.open.new.disk)
-      (λ f own. of_owner c.owner_of-owner.result shapes.Log f own ∙ c.owner_of-owner.ensures) c.from_residual.ensures.1 c.in_err-bundle.ensures.cause
+    (λ f own. of_owner c.owner_of-owner.result shapes.Log f own ∙ c.owner_of-owner.ensures) c.from_residual.ensures.1 c.in_err-bundle.ensures.cause

@@ -1,16 +1,15 @@
 -- Each part that is refused is the first at fault.
-use Rattle.std.proofs.Common.{◌≡◌, ◌≤◌, ◌^◌, ℕ, List, All, length, Result, Err, sym, ◌∙◌, ap, subst}
+use Rattle.std.proofs.Common.{◌≡◌, ◌≤◌, ◌^◌, ℕ, List, length, Result, Err, sym, ◌∙◌, ap, subst}
 use Rattle.lsv_disk.specs.declared.file.Part.{Part}
 use Rattle.lsv_disk.specs.declared.file.Part.TheVariants.{Head, Exit, Timing}
 use Rattle.lsv_disk.specs.View.{DiskView}
 use Rattle.lsv_info.specs.declared.times.Head as info
-use Rattle.lsv_record.specs.declared.records.Shaped.{Shaped}
-use Rattle.lsv_record.specs.Tally.{Totals, lines_of}
+use Rattle.lsv_record.specs.Tally.{Totals}
 use Rattle.lsv_iolog.specs.declared.fault.LogFault.{LogFault}
 use Rattle.lsv_iolog.specs.declared.fault.LogFault.TheVariants as logs
 use Rattle.lsv_iolog.specs.Recovered.{part_of}
 use Rattle.lsv_iolog.specs.Damage.{IsFault}
-use Rattle.lsv_iolog.specs.Inner.Scanning.{text_of, entry_of, IsScanned}
+use Rattle.lsv_iolog.specs.Inner.Scanning.{text_of, entry_of}
 use Rattle.lsv_iolog.proofs.Results.{same_log_fault, damaged_part, only_damaged}
 use Rattle.lsv_iolog.proofs.Scans.{text_same}
 use Rattle.lsv_iolog.proofs.Judging.{fault_head, fault_exit, fault_timing, fault_counts, fault_stream, scanned_at}
@@ -40,8 +39,8 @@ returns-in_err-tally-clause-damaged g c told part is_damaged whole =
     let there : Timing ≡ part = only_damaged c.in_err-tally.field-0.0 Timing part c.in_err-tally.ensures.fault e in
     subst (λ (p : Part). IsFault (entry_of c.args.view disk) p) there
     (fault_timing c.args.view disk c.requires.shape c.in_ok-head.head (c.in_ok-head.ensures.head told) whole c.in_ok-check_exit.ensures.whole
-      (λ lines good same in_time few. c.in_err-tally.ensures.damaged told (ap (λ (x : LogFault). let y : Result Totals LogFault = Err x in y) (e ∙ ap logs.Damaged (sym there))) (ap length text ∙ whole Timing tt)
-        lines good (text ∙ same) in_time (subst (λ (xs : List ℕ). length xs ≤ 2 ^ 40) (sym text) few)))
+    (λ lines good same in_time few. c.in_err-tally.ensures.damaged told (ap (λ (x : LogFault). let y : Result Totals LogFault = Err x in y) (e ∙ ap logs.Damaged (sym there))) (ap length text ∙ whole Timing tt)
+    lines good (text ∙ same) in_time (subst (λ (xs : List ℕ). length xs ≤ 2 ^ 40) (sym text) few)))
 
 pub returns-in_err-check_counts-clause-damaged : goal.returns-in_err-check_counts-clause-damaged
 returns-in_err-check_counts-clause-damaged g c told part is_damaged whole =
@@ -52,7 +51,7 @@ returns-in_err-check_counts-clause-damaged g c told part is_damaged whole =
     let e : c.in_err-check_counts.field-0.0 ≡ logs.Damaged part = same_log_fault c.from_residual-in_err-check_counts.result c.in_err-check_counts.field-0.0 (logs.Damaged part) c.from_residual-in_err-check_counts.ensures.1 is_damaged in
     subst (λ (p : Part). IsFault (entry_of c.args.view disk) p) (damaged_part Timing part (sym c.in_err-check_counts.ensures.fault.0 ∙ e))
     (fault_counts c.args.view disk c.requires.shape c.in_ok-head.head scanned.0 c.in_ok-tally.tally (c.in_ok-head.ensures.head told) whole c.in_ok-check_exit.ensures.whole
-      (scanned_at c.args.view disk mid scanned.0 c.in_ok-tally.tally text scanned.1) c.in_err-check_counts.ensures.fault.1)
+    (scanned_at c.args.view disk mid scanned.0 c.in_ok-tally.tally text scanned.1) c.in_err-check_counts.ensures.fault.1)
 
 pub returns-in_err-check_streams-clause-damaged : goal.returns-in_err-check_streams-clause-damaged
 returns-in_err-check_streams-clause-damaged g c told part is_damaged whole =
@@ -64,4 +63,4 @@ returns-in_err-check_streams-clause-damaged g c told part is_damaged whole =
     let e : c.in_err-check_streams.field-0.0 ≡ logs.Damaged part = same_log_fault c.from_residual-in_err-check_streams.result c.in_err-check_streams.field-0.0 (logs.Damaged part) c.from_residual-in_err-check_streams.ensures.1 is_damaged in
     subst (λ (p : Part). IsFault (entry_of c.args.view disk) p) (damaged_part (part_of first.0) part (sym first.1 ∙ e))
     (fault_stream c.args.view disk c.requires.shape c.in_ok-head.head scanned.0 c.in_ok-tally.tally first.0 (c.in_ok-head.ensures.head told) whole c.in_ok-check_exit.ensures.whole
-      (scanned_at c.args.view disk mid scanned.0 c.in_ok-tally.tally text scanned.1) c.in_ok-check_counts.ensures.ok.0 c.in_ok-check_counts.ensures.ok.1 c.in_ok-tally.ensures.small first.2)
+    (scanned_at c.args.view disk mid scanned.0 c.in_ok-tally.tally text scanned.1) c.in_ok-check_counts.ensures.ok.0 c.in_ok-check_counts.ensures.ok.1 c.in_ok-tally.ensures.small first.2)

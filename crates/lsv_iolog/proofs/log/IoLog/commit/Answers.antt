@@ -1,9 +1,8 @@
 -- One flush of the files commits what is staged.
-use Rattle.std.proofs.Common.{◌≡◌, ℕ, ◌≤◌, List, [], length, Result, Ok, Err, IsErrOf, refl, sym, ◌∙◌, ap, subst, arith}
+use Rattle.std.proofs.Common.{◌≡◌, Result, Err, sym, ◌∙◌, ap, subst, arith}
 use Rattle.lsv_base.specs.declared.point.Point.{Point}
-use Rattle.lsv_disk.specs.declared.file.FileId.{FileId}
 use Rattle.lsv_disk.specs.declared.file.Part.TheVariants.{Timing}
-use Rattle.lsv_disk.specs.View.{DiskView, HasOwnCause}
+use Rattle.lsv_disk.specs.View.{DiskView}
 use Rattle.lsv_bundle.specs.declared.fault.BundleFault.{BundleFault}
 use Rattle.lsv_bundle.specs.declared.body.Body.{Body}
 use Rattle.lsv_bundle.specs.declared.shape.Shape.{Shape}
@@ -11,11 +10,9 @@ use Rattle.lsv_bundle.specs.Shape.{IsPart, IsOwnFile}
 use Rattle.lsv_bundle.specs.Value.{BundleView, next_length, next_body, committed_length}
 use Rattle.lsv_bundle.proofs.Laws.{of_owner}
 use Rattle.lsv_iolog.specs.declared.fault.LogFault.{LogFault}
-use Rattle.lsv_iolog.specs.declared.fault.LogFault.TheVariants as logs
 use Rattle.lsv_iolog.specs.Recovered.{owner_of, IsOfLog}
-use Rattle.lsv_iolog.specs.Moments.{CallsOfLog}
 use Rattle.lsv_iolog.specs.Value.{IoLogView}
-use Rattle.lsv_iolog.proofs.Committing.{flush_calls, kept_files, kept_next, settled_next}
+use Rattle.lsv_iolog.proofs.Committing.{flush_calls, settled_next}
 use Rattle.lsv_iolog.proofs.Representing.{settled_invariant}
 use Rattle.lsv_iolog.proofs.Results.{disk_cause, flush_fault}
 use Rattle.lsv_iolog.proofs.log.IoLog.commit.Goals as goal
@@ -26,7 +23,7 @@ returns-in-Err-clause-cause g c =
     let own : c.self.inside.bundle.owner ≡ owner_of c.args.self.now.number = c.self.invariant.0.files.owner ∙ ap (λ (v : IoLogView). owner_of v.number) c.self.view_is in
     let r : Result Point LogFault = Err c.from.result in
     disk_cause {U = Unit} (IsOwnFile c.self.inside.bundle.owner c.self.inside.bundle.shape) (IsOfLog c.args.self.now.number) r c.in-Err.fault old (g.D.Disk.view c.flush.new.disk)
-      (λ f is. of_owner c.self.inside.bundle.owner c.self.inside.bundle.shape f is ∙ own) c.from.ensures c.in-Err.ensures.cause
+    (λ f is. of_owner c.self.inside.bundle.owner c.self.inside.bundle.shape f is ∙ own) c.from.ensures c.in-Err.ensures.cause
 
 pub returns-in-Err-clause-calls : goal.returns-in-Err-clause-calls
 returns-in-Err-clause-calls g c told =
@@ -36,7 +33,7 @@ returns-in-Err-clause-calls g c told =
 pub returns-in-Err-clause-fault : goal.returns-in-Err-clause-fault
 returns-in-Err-clause-fault g c =
     c.from.ensures ∙ flush_fault c.in-Err.fault c.self.inside.bundle.is_broken (c.self.invariant.0.whole (ap (λ (v : IoLogView). v.is_broken) c.self.view_is ∙ c.requires.whole)) c.in-Err.ensures.fault
-      (λ e. c.in-Err.ensures.broken.0 (ap (λ (x : BundleFault). let y : Result Unit BundleFault = Err x in y) e))
+    (λ e. c.in-Err.ensures.broken.0 (ap (λ (x : BundleFault). let y : Result Unit BundleFault = Err x in y) e))
 
 pub invariant_of-self : goal.invariant_of-self
 invariant_of-self g c =

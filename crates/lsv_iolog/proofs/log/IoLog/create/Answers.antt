@@ -1,14 +1,9 @@
 -- The text is written and read, and then its files are made.
 use Rattle.lsv_info.specs.Layout.{head_text}
 use Rattle.lsv_bundle.specs.declared.body.Body.{Body}
-use Rattle.std.proofs.Common.{false, ◌≡◌, ℕ, ◌≤◌, ◌^◌, Some, List, length, refl, sym, ◌∙◌, ap, subst, arith}
-use Rattle.lsv_disk.specs.declared.file.Part.TheVariants.{Timing}
-use Rattle.lsv_bundle.specs.declared.shape.Shape.{Shape}
-use Rattle.lsv_bundle.specs.Shape.{IsPart}
-use Rattle.lsv_bundle.specs.Value.{BundleView, staged}
+use Rattle.std.proofs.Common.{false, ℕ, Some, List, refl, subst, arith}
 use Rattle.lsv_iolog.specs.Value.{IoLogView, bare, made}
 use Rattle.lsv_iolog.specs.Represents.{Represents}
-use Rattle.lsv_iolog.specs.Inner.Invariant.{IsIoLog}
 use Rattle.lsv_iolog.proofs.Committing.{unmade_started}
 use Rattle.lsv_iolog.proofs.Representing.{settled_represents, settled_invariant, settled_small}
 use Rattle.lsv_iolog.proofs.log.IoLog.create.Goals as goal
@@ -24,7 +19,7 @@ invariant_of-result g c =
     let settled = c.in_ok-bundle.ensures.settled in
     let empty = c.in_ok-bundle.ensures.empty in
     settled_invariant (record { number = c.args.number; head = c.in_ok-head.head; count = 0; elapsed = 0; is_broken = false; bundle = c.in_ok-bundle.bundle })
-      (record { kind = 0; count = 0; elapsed = 0; lens = settled.0; extra = 0 }) settled.1 (omega arith) (omega arith) (omega (arith, empty))
+    (record { kind = 0; count = 0; elapsed = 0; lens = settled.0; extra = 0 }) settled.1 (omega arith) (omega arith) (omega (arith, empty))
 
 pub returns-clause-represents : goal.returns-clause-represents
 returns-clause-represents g c told =
@@ -35,4 +30,4 @@ returns-clause-represents g c told =
     let disk = g.D.Disk.view c.make_files.new.disk in
     subst (λ (text : List ℕ). Represents log (bare (made text)) disk) c.in_ok-text.ensures
     (settled_represents log (made c.in_ok-text.text) body disk refl settled.1 (c.in_ok-bundle.ensures.holds told)
-      (settled_small c.args.number body c.in_ok-bundle.bundle settled.1 (omega (arith, empty))) c.in_ok-head.ensures.read refl refl)
+    (settled_small c.args.number body c.in_ok-bundle.bundle settled.1 (omega (arith, empty))) c.in_ok-head.ensures.read refl refl)

@@ -1,5 +1,5 @@
 -- Where nothing is staged nothing happens; else one entry commits it.
-use Rattle.std.proofs.Common.{◌≡◌, ◌≢◌, ℕ, List, [], length, Some, false, OnOk, refl, sym, ◌∙◌, ap, subst}
+use Rattle.std.proofs.Common.{◌≡◌, ◌≢◌, length, Some, false, refl, sym, ◌∙◌, ap, subst}
 use Rattle.lsv_disk.specs.declared.file.Part.TheVariants.{Timing}
 use Rattle.lsv_disk.specs.View.{DiskView}
 use Rattle.lsv_bundle.specs.Represents as bundles
@@ -32,9 +32,9 @@ returns-clause-represents g c told =
     let left : IoLogView = c.commit.new.self in
     let some : length (staged log.bundle Timing) ≢ 0 = λ none. c.if-self-eq0.false (sym c.self.invariant.1 ∙ ap (λ (v : IoLogView). length (staged v.bundle Timing)) c.self.view_is ∙ none) in
     on_ok_four c.commit.result (left.is_broken ≡ false) (IsCommitted (next_entry log 1) (next_length log.bundle) log.bundle left.bundle) (committed left.bundle new ≡ Some (committed_as log.bundle old (next_entry log 1))) (bundles.Represents left.bundle new)
-      ((value : LogValue) → Represents log value old → Represents left (bare (flushed value)) new)
-      (λ whole is has represents value at. flush_represents log left value old new c.commit.ensures.counts (some_timing log value old at some) at whole is has represents)
-      c.commit.ensures.whole c.commit.ensures.value (c.commit.ensures.committed told) (c.commit.ensures.represents told)
+    ((value : LogValue) → Represents log value old → Represents left (bare (flushed value)) new)
+    (λ whole is has represents value at. flush_represents log left value old new c.commit.ensures.counts (some_timing log value old at some) at whole is has represents)
+    c.commit.ensures.whole c.commit.ensures.value (c.commit.ensures.committed told) (c.commit.ensures.represents told)
 
 pub returns-clause-any_moment : goal.returns-clause-any_moment
 returns-clause-any_moment g c told value at =
