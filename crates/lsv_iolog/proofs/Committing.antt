@@ -1,7 +1,7 @@
 -- What a flush commits, and what crash images hold of a log meanwhile.
-use Rattle.std.proofs.Common.{◌≡◌, ◌≢◌, ◌⊎◌, inl, inr, ℕ, suc, ◌+◌, ◌<◌, ◌≤◌, ◌^◌, false, Ok, List, [], ◌∷◌, ◌++◌, length, take, Option, Some, None, refl, sym, ◌∙◌, ap, subst, arith, lit≤, All, append_assoc, length-append, append-nil}
+use Rattle.std.proofs.Common.{◌≡◌, ◌≢◌, inl, inr, ℕ, ◌+◌, ◌<◌, ◌≤◌, ◌^◌, List, [], ◌++◌, length, take, Option, Some, None, refl, sym, ◌∙◌, ap, subst, arith, lit≤}
 use Rattle.std.specs.Prelude.{slice_index, slice_index_or, map, option_map}
-use Rattle.std.proofs.lemmas.List.Elements.{All-cons, All-append, All-nil}
+use Rattle.std.proofs.lemmas.List.Elements.{All-nil}
 use Rattle.lsv_disk.specs.declared.file.FileId.{FileId}
 use Rattle.lsv_disk.specs.declared.file.Owner.{Owner}
 use Rattle.lsv_disk.specs.declared.file.Part.{Part}
@@ -9,31 +9,26 @@ use Rattle.lsv_disk.specs.declared.file.Part.TheVariants.{Head, Exit, Timing, St
 use Rattle.lsv_disk.specs.Bytes.{bytes_of}
 use Rattle.lsv_disk.specs.Files.{file_of}
 use Rattle.lsv_disk.specs.Throughout.{Throughout, RoseAtMost, WritesOneOf}
-use Rattle.lsv_disk.specs.View.{Image, DiskView, IsCrashImage, Only}
+use Rattle.lsv_disk.specs.View.{Image, DiskView, IsCrashImage}
 use Rattle.lsv_disk.proofs.Composition.{OnlyNow, started, widened}
-use Rattle.lsv_journal.specs.Last.{LastAt, IsAbsent, MayBeMade, IsSomeCrashOf, JournalHolds}
+use Rattle.lsv_journal.specs.Last.{MayBeMade}
 use Rattle.lsv_journal.proofs.Laws.{absent_last, absent_may_be_made}
 use Rattle.lsv_bundle.specs.declared.body.Body.{Body}
 use Rattle.lsv_bundle.specs.declared.shape.Shape.{Shape}
 use Rattle.lsv_bundle.specs.declared.shape.Shape.TheVariants as shapes
 use Rattle.lsv_bundle.specs.Body.{length_of}
 use Rattle.lsv_bundle.specs.Shape.{IsPart, IsWritable, on_shape, eight, index_of, journal_of}
-use Rattle.lsv_bundle.specs.Value.{BundleView, committed_length, staged, next_length, next_body, IsCommitted, IsKept, FileView, NoneStaged}
+use Rattle.lsv_bundle.specs.Value.{BundleView, committed_length, staged, next_length, next_body, IsCommitted, IsKept, FileView}
 use Rattle.lsv_bundle.specs.Calls.{RoseByFlush, CallsOfFlush}
 use Rattle.lsv_bundle.specs.Committed.{Committed, BundleHolds, IsBeingMade, IsBeforeOrAfter, committed, committed_bytes, committed_as, committed_next}
 use Rattle.lsv_bundle.proofs.Laws.{writes_owner}
-use Rattle.lsv_record.specs.declared.laid.Laid.{Laid}
-use Rattle.lsv_record.specs.declared.records.Record.{Record}
-use Rattle.lsv_record.specs.Layout.{layout_of}
 use Rattle.lsv_record.specs.Points.{Stored}
-use Rattle.lsv_record.specs.Records.{IsValid, elapsed}
-use Rattle.lsv_record.proofs.Layouts.{timing_of-append, stream_of-append, elapsed-append}
-use Rattle.lsv_record.specs.declared.records.Stream.TheVariants as stream
-use Rattle.lsv_iolog.specs.Recovered.{owner_of, IsOfLog, part_of, laid_in, IsHeadText, HasExit, IsLog, Replays, IsUnmade}
+use Rattle.lsv_record.specs.Records.{IsValid}
+use Rattle.lsv_iolog.specs.Recovered.{owner_of, IsOfLog, IsHeadText, IsLog, Replays, IsUnmade}
 use Rattle.lsv_iolog.specs.Moments.{IsEither, RoseOfLog, CallsOfLog}
 use Rattle.lsv_iolog.specs.Value.{made}
-use Rattle.lsv_iolog.specs.Inner.Invariant.{IsOfNumber, IsSettled, HasCommitted}
-use Rattle.lsv_iolog.proofs.Replaying.{on_log, same_laid, absent_replay}
+use Rattle.lsv_iolog.specs.Inner.Invariant.{IsOfNumber, IsSettled}
+use Rattle.lsv_iolog.proofs.Replaying.{on_log, absent_replay}
 
 -- the eight lengths of a log are those of its parts
 pub eight_of : (lengths : Part → ℕ) (part : Part) → IsPart shapes.Log part → slice_index (eight shapes.Log lengths) (index_of part) ≡ lengths part

@@ -1,30 +1,26 @@
 -- A log is finished: the text of its exit is staged behind its records, and one entry commits all.
-use Rattle.std.proofs.Common.{◌≡◌, ◌≢◌, ◌⊎◌, inl, inr, ℕ, ◌+◌, ◌<◌, ◌≤◌, ◌^◌, Bool, true, false, Ok, List, [], ◌∷◌, ◌++◌, length, Option, Some, None, refl, sym, ◌∙◌, ap, subst, arith, length-append}
+use Rattle.std.proofs.Common.{◌≡◌, ◌≢◌, ℕ, ◌+◌, Bool, true, false, List, [], ◌∷◌, ◌++◌, length, Option, Some, None, refl, sym, ◌∙◌, ap, subst, arith, length-append}
 use Rattle.std.specs.Prelude.{◌==◌}
 use Rattle.std.specs.Option.{option_map_or}
-use Rattle.lsv_disk.specs.declared.file.FileId.{FileId}
 use Rattle.lsv_disk.specs.declared.file.Part.{Part}
 use Rattle.lsv_disk.specs.declared.file.Part.TheVariants.{Head, Exit, Timing, Stdin, Stdout, Stderr, Ttyin, Ttyout}
 use Rattle.lsv_disk.specs.Throughout.{Throughout}
 use Rattle.lsv_disk.specs.View.{DiskView}
 use Rattle.lsv_bundle.specs.declared.body.Body.{Body}
-use Rattle.lsv_bundle.specs.declared.shape.Shape.{Shape}
 use Rattle.lsv_bundle.specs.declared.shape.Shape.TheVariants as shapes
 use Rattle.lsv_bundle.specs.Represents as bundles
 use Rattle.lsv_bundle.specs.Shape.{IsPart, IsWritable}
 use Rattle.lsv_bundle.specs.Value.{BundleView, committed_length, staged, next_length, IsStaged, IsCommitted}
-use Rattle.lsv_bundle.specs.Committed.{Committed, IsBeforeOrAfter, committed, committed_as}
-use Rattle.lsv_bundle.proofs.Laws.{staging_lengths, staging_committed, staging_represents}
+use Rattle.lsv_bundle.specs.Committed.{IsBeforeOrAfter, committed, committed_as}
+use Rattle.lsv_bundle.proofs.Laws.{staging_lengths, staging_committed}
 use Rattle.lsv_info.specs.declared.times.Exit as info
 use Rattle.lsv_info.specs.Layout.{exit_text}
-use Rattle.lsv_record.specs.declared.laid.Laid.{Laid}
-use Rattle.lsv_record.specs.Layout.{layout_of}
-use Rattle.lsv_iolog.specs.Recovered.{owner_of, IsOfLog, laid_in, HasExit, IsLog}
+use Rattle.lsv_iolog.specs.Recovered.{IsOfLog, laid_in, HasExit, IsLog}
 use Rattle.lsv_iolog.specs.Moments.{IsEither}
-use Rattle.lsv_iolog.specs.Value.{IoLogView, LogValue, is_complete, all_of, bare, finished, SameCounts}
+use Rattle.lsv_iolog.specs.Value.{IoLogView, LogValue, is_complete, bare, finished, SameCounts}
 use Rattle.lsv_iolog.specs.Represents.{Represents}
 use Rattle.lsv_iolog.specs.Inner.Invariant.{IsIoLog}
-use Rattle.lsv_iolog.specs.Inner.Next.{cuts_in, next_entry}
+use Rattle.lsv_iolog.specs.Inner.Next.{next_entry}
 use Rattle.lsv_iolog.proofs.Staging.{of_log}
 use Rattle.lsv_iolog.proofs.Flushing.{entry_body, next_log, next_moment, next_represents}
 

@@ -1,16 +1,15 @@
 -- A flush: what it commits, and what stands at each moment.
-use Rattle.std.proofs.Common.{◌≡◌, ◌≢◌, ◌⊎◌, inl, inr, ℕ, suc, ◌+◌, ◌<◌, ◌≤◌, ◌^◌, false, Result, Ok, Err, OnOk, List, [], ◌∷◌, ◌++◌, length, take, Option, Some, None, refl, sym, ◌∙◌, ap, subst, arith, All, append_assoc, length-append, append-nil}
+use Rattle.std.proofs.Common.{◌≡◌, ◌≢◌, inl, inr, ℕ, ◌<◌, ◌≤◌, ◌^◌, false, Result, Ok, Err, OnOk, List, [], ◌∷◌, ◌++◌, length, Option, Some, None, refl, sym, ◌∙◌, ap, subst, arith, All, length-append, append-nil}
 use Rattle.std.specs.Prelude.{option_map}
 use Rattle.std.proofs.lemmas.List.Elements.{All-append}
 use Rattle.std.proofs.lemmas.List.{length-take}
-use Rattle.lsv_disk.specs.declared.file.FileId.{FileId}
 use Rattle.lsv_disk.specs.declared.file.Owner.{Owner}
 use Rattle.lsv_disk.specs.declared.file.Part.{Part}
 use Rattle.lsv_disk.specs.declared.file.Part.TheVariants.{Head, Exit, Timing, Stdin, Stdout, Stderr, Ttyin, Ttyout}
 use Rattle.lsv_disk.specs.Bytes.{bytes_of}
 use Rattle.lsv_disk.specs.Files.{file_of}
 use Rattle.lsv_disk.specs.Throughout.{Throughout}
-use Rattle.lsv_disk.specs.View.{Image, DiskView, IsCrashImage}
+use Rattle.lsv_disk.specs.View.{DiskView}
 use Rattle.lsv_disk.proofs.Composition.{OnlyNow, started, widened}
 use Rattle.lsv_bundle.specs.declared.body.Body.{Body}
 use Rattle.lsv_bundle.specs.declared.shape.Shape.{Shape}
@@ -18,7 +17,7 @@ use Rattle.lsv_bundle.specs.declared.shape.Shape.TheVariants as shapes
 use Rattle.lsv_bundle.specs.Represents as bundles
 use Rattle.lsv_bundle.specs.Shape.{IsPart, IsWritable, on_shape}
 use Rattle.lsv_bundle.specs.Value.{BundleView, committed_length, staged, next_length, next_body, IsCommitted}
-use Rattle.lsv_bundle.specs.Committed.{Committed, IsBeforeOrAfter, BundleHolds, committed, committed_bytes, committed_as}
+use Rattle.lsv_bundle.specs.Committed.{Committed, IsBeforeOrAfter, committed, committed_bytes, committed_as}
 use Rattle.lsv_bundle.proofs.Laws.{writes_owner}
 use Rattle.lsv_record.specs.declared.laid.Laid.{Laid}
 use Rattle.lsv_record.specs.declared.records.Record.{Record}
@@ -27,13 +26,13 @@ use Rattle.lsv_info.specs.Reading.{head_of}
 use Rattle.lsv_record.specs.Layout.{layout_of}
 use Rattle.lsv_record.specs.Points.{Stored}
 use Rattle.lsv_record.specs.Records.{IsValid, elapsed, timing_of, line_of, shape_of}
-use Rattle.lsv_record.proofs.Layouts.{timing_of-append, stream_of-append, elapsed-append}
-use Rattle.lsv_iolog.specs.Recovered.{owner_of, IsOfLog, part_of, laid_in, HasExit, IsLog, Replays}
+use Rattle.lsv_record.proofs.Layouts.{timing_of-append, stream_of-append}
+use Rattle.lsv_iolog.specs.Recovered.{owner_of, IsOfLog, laid_in, HasExit, IsLog}
 use Rattle.lsv_iolog.specs.Later.{IsLater}
 use Rattle.lsv_iolog.specs.Moments.{IsEither, IsThereLater}
-use Rattle.lsv_iolog.specs.Value.{IoLogView, LogValue, all_of, bare, flushed, finished, SameCounts}
-use Rattle.lsv_iolog.specs.Represents.{HasStaged, Represents}
-use Rattle.lsv_iolog.specs.Inner.Invariant.{IsSettled, HasCommitted}
+use Rattle.lsv_iolog.specs.Value.{IoLogView, LogValue, all_of, bare, flushed, SameCounts}
+use Rattle.lsv_iolog.specs.Represents.{Represents}
+use Rattle.lsv_iolog.specs.Inner.Invariant.{IsSettled}
 use Rattle.lsv_iolog.specs.Inner.Next.{cuts_in, next_entry}
 use Rattle.lsv_iolog.proofs.Staging.{some_line}
 use Rattle.lsv_iolog.proofs.Committing.{next_bytes, now_bytes, holds_log, settled_next}

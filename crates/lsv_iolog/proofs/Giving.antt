@@ -1,5 +1,5 @@
 -- The next record of a log, as its committed bytes have it, or what is at fault there.
-use Rattle.std.proofs.Common.{◌≡◌, ◌≢◌, ◌⊎◌, inl, inr, ℕ, zero, suc, ◌+◌, ◌<◌, ◌≤◌, ◌^◌, List, [], ◌∷◌, ◌++◌, length, take, drop, map, get_or, All, sum_by, refl, sym, ◌∙◌, ap, subst, arith, append_assoc, append-nil, length-append, length-drop}
+use Rattle.std.proofs.Common.{◌≡◌, ◌⊎◌, inl, inr, ℕ, zero, suc, ◌+◌, ◌<◌, ◌≤◌, ◌^◌, List, [], ◌∷◌, ◌++◌, length, take, drop, map, get_or, refl, sym, ◌∙◌, ap, subst, arith, append_assoc, append-nil, length-append, length-drop}
 use Rattle.std.proofs.lemmas.List.{length-take, drop_at, take-append-drop}
 use Rattle.std.proofs.lemmas.List.Elements.{All-cons, All-append, All-nil}
 use Rattle.std.proofs.lemmas.List.Sums.{sum_by-append}
@@ -19,17 +19,17 @@ use Rattle.lsv_record.specs.declared.records.Record.TheVariants as records
 use Rattle.lsv_record.specs.declared.records.Shaped.{Shaped}
 use Rattle.lsv_record.specs.declared.records.Stream.{Stream}
 use Rattle.lsv_record.specs.declared.records.Stream.TheVariants.{Stdin, Stdout, Stderr, Ttyin, Ttyout}
-use Rattle.lsv_record.specs.Layout.{Begins, IsLayout, NextLine, stream_in}
+use Rattle.lsv_record.specs.Layout.{Begins, NextLine, stream_in}
 use Rattle.lsv_record.specs.Lines.{IsLineAt, IsBadAt, told_delay}
 use Rattle.lsv_record.specs.Records.{IsGood, IsValid, shape_of, delay_of, data_in, event_of, timing_of, stream_of, elapsed}
 use Rattle.lsv_record.specs.Tally.{Totals, lines_of, totals_of, told_count, told_data, with_line}
-use Rattle.lsv_record.proofs.Layouts.{timing_of-push, stream_of-push, elapsed-push}
+use Rattle.lsv_record.proofs.Layouts.{stream_of-push, elapsed-push}
 use Rattle.lsv_record.proofs.Tallies.{totals_more, lines_are_timing, lines_tell_data, lines_tell_time, lines_grow}
 use Rattle.lsv_iolog.specs.declared.fault.LogFault.{LogFault}
 use Rattle.lsv_iolog.specs.declared.fault.LogFault.TheVariants as logs
 use Rattle.lsv_iolog.specs.Recovered.{part_of, laid_in}
-use Rattle.lsv_iolog.specs.Reading.{IsWindowOf, GoesOn, EndsThere, LacksData, AllUsed, IsLeftOver, IsTimingFault, IsFaultBehind}
-use Rattle.lsv_iolog.specs.Inner.Scanning.{text_of, Scan, IsReading, IsBadLine, IsCounted, EachCounted, AllCounted, IsFirstUncounted, streams_before}
+use Rattle.lsv_iolog.specs.Reading.{IsWindowOf, GoesOn, LacksData, AllUsed, IsLeftOver, IsTimingFault, IsFaultBehind}
+use Rattle.lsv_iolog.specs.Inner.Scanning.{text_of, Scan, IsReading, IsBadLine, EachCounted, AllCounted, streams_before}
 use Rattle.lsv_iolog.specs.Inner.Judging.{IsBehindLines, AreWhole, IsWithin, LacksIn, IsEndFault, back_to}
 use Rattle.lsv_iolog.proofs.Replaying.{same_laid}
 use Rattle.lsv_iolog.proofs.Scans.{text_same}

@@ -1,28 +1,26 @@
 -- The parts of a log are judged in order: the head, the exit, the timing, the streams.
-use Rattle.std.proofs.Common.{◌≡◌, ◌≢◌, ◌⊎◌, inl, inr, ℕ, zero, suc, ◌+◌, ◌<◌, ◌≤◌, ◌^◌, Ok, Err, List, [], ◌∷◌, ◌++◌, All, length, Option, Some, None, refl, sym, ◌∙◌, ap, subst, arith, append-nil}
+use Rattle.std.proofs.Common.{◌≡◌, ◌≢◌, ◌⊎◌, inl, inr, ℕ, zero, suc, ◌<◌, ◌≤◌, ◌^◌, Ok, List, [], ◌∷◌, All, length, Option, Some, None, refl, sym, ◌∙◌, ap, subst, arith}
 use Rattle.std.specs.Prelude.{get_or, map}
 use Rattle.lsv_record.specs.declared.records.Record.{Record}
 use Rattle.lsv_disk.specs.declared.file.Part.{Part}
-use Rattle.lsv_disk.specs.declared.file.Part.TheVariants.{Head, Exit, Timing, Stdin, Stdout, Stderr, Ttyin, Ttyout}
+use Rattle.lsv_disk.specs.declared.file.Part.TheVariants.{Head, Exit, Timing}
 use Rattle.lsv_disk.specs.View.{DiskView}
-use Rattle.lsv_bundle.specs.declared.body.Body.{Body}
 use Rattle.lsv_bundle.specs.declared.shape.Shape.{Shape}
 use Rattle.lsv_bundle.specs.declared.shape.Shape.TheVariants as shapes
 use Rattle.lsv_bundle.specs.declared.view.View.{View}
 use Rattle.lsv_bundle.specs.Body.{length_of}
 use Rattle.lsv_bundle.specs.Shape.{IsPart, on_shape}
-use Rattle.lsv_bundle.specs.Committed.{Committed}
 use Rattle.lsv_info.specs.declared.times.Head as info
 use Rattle.lsv_info.specs.Reading.{head_of}
 use Rattle.lsv_record.specs.declared.records.Shaped.{Shaped}
 use Rattle.lsv_record.specs.declared.records.Stream.{Stream}
 use Rattle.lsv_record.specs.declared.records.Stream.TheVariants as stream
-use Rattle.lsv_record.specs.Layout.{stream_in, IsLayout}
+use Rattle.lsv_record.specs.Layout.{stream_in}
 use Rattle.lsv_record.specs.Points.{Stored}
 use Rattle.lsv_record.specs.Records.{IsGood, event_of, shape_of, elapsed}
 use Rattle.lsv_record.specs.Tally.{Totals, totals_of, lines_of, told_data, told_elapsed}
 use Rattle.lsv_record.proofs.Layouts.{layout_is_texts}
-use Rattle.lsv_record.proofs.Tallies.{lines_once, lines_are_records, lines_tell_time}
+use Rattle.lsv_record.proofs.Tallies.{lines_are_records, lines_tell_time}
 use Rattle.lsv_iolog.specs.Recovered.{part_of, laid_in, IsHeadText, HasExit, IsLog}
 use Rattle.lsv_iolog.specs.Damage.{ExitFits, AreLines, StreamFits, AllFit, IsFirstUnfit, IsFault}
 use Rattle.lsv_iolog.specs.Inner.Scanning.{text_of, entry_of, IsWholeView, IsScanned, ExitIsWhole, IsCounted, AllCounted, EachCounted, streams_before, IsFirstUncounted}

@@ -1,9 +1,8 @@
 -- The making of a log: its files are made, the text of its head is staged, and one flush commits it.
-use Rattle.std.proofs.Common.{◌≡◌, ◌≢◌, ◌⊎◌, inl, inr, ℕ, ◌+◌, ◌<◌, ◌≤◌, ◌^◌, false, List, [], ◌∷◌, ◌++◌, length, Option, Some, None, refl, sym, ◌∙◌, ap, subst, arith, length-append}
-use Rattle.lsv_disk.specs.declared.file.FileId.{FileId}
+use Rattle.std.proofs.Common.{◌≡◌, ◌≢◌, ℕ, ◌+◌, ◌<◌, ◌^◌, false, List, [], ◌++◌, length, Some, None, sym, ◌∙◌, ap, subst, arith}
 use Rattle.lsv_disk.specs.declared.file.Owner.{Owner}
 use Rattle.lsv_disk.specs.declared.file.Part.{Part}
-use Rattle.lsv_disk.specs.declared.file.Part.TheVariants.{Head, Exit, Timing}
+use Rattle.lsv_disk.specs.declared.file.Part.TheVariants.{Head, Timing}
 use Rattle.lsv_disk.specs.Throughout.{Throughout}
 use Rattle.lsv_disk.specs.View.{DiskView}
 use Rattle.lsv_disk.proofs.Composition.{followed}
@@ -11,8 +10,8 @@ use Rattle.lsv_bundle.specs.declared.shape.Shape.{Shape}
 use Rattle.lsv_bundle.specs.declared.shape.Shape.TheVariants as shapes
 use Rattle.lsv_bundle.specs.Calls.{IsFull}
 use Rattle.lsv_bundle.specs.Shape.{IsPart, IsWritable}
-use Rattle.lsv_bundle.specs.Value.{BundleView, committed_length, staged, unstaged, next_length, next_body, IsFresh, IsStaged, IsCommitted}
-use Rattle.lsv_bundle.specs.Committed.{Committed, IsBeingMade, IsBeforeOrAfter, committed, committed_next}
+use Rattle.lsv_bundle.specs.Value.{BundleView, committed_length, staged, next_length, next_body, IsFresh, IsStaged, IsCommitted}
+use Rattle.lsv_bundle.specs.Committed.{IsBeingMade, IsBeforeOrAfter, committed, committed_next}
 use Rattle.lsv_bundle.proofs.Laws.{staging_lengths}
 use Rattle.lsv_iolog.specs.Recovered.{owner_of, IsOfLog, IsHeadText, IsLog, IsUnmade}
 use Rattle.lsv_iolog.specs.Moments.{IsEither}

@@ -1,8 +1,7 @@
 -- Opening a log: its journal may be written, and no image holds something else of the log than some image before.
-use Rattle.std.proofs.Common.{◌≡◌, ◌≢◌, ◌⊎◌, inl, inr, ℕ, ◌+◌, ◌<◌, ◌≤◌, ◌^◌, false, Ok, List, [], ◌∷◌, ◌++◌, length, take, Option, Some, None, option_map, refl, sym, ◌∙◌, ap, subst, arith}
+use Rattle.std.proofs.Common.{◌≡◌, ◌≢◌, inl, inr, ℕ, ◌+◌, ◌≤◌, ◌^◌, List, length, take, Option, Some, None, option_map, refl, sym, ◌∙◌, ap, subst, arith}
 use Rattle.std.proofs.lemmas.List.{length-take, take-append-drop}
 use Rattle.std.proofs.Common.{drop}
-use Rattle.lsv_words.specs.Pieces.{IsPrefix}
 use Rattle.lsv_disk.specs.declared.file.FileId.{FileId}
 use Rattle.lsv_disk.specs.declared.file.Owner.{Owner}
 use Rattle.lsv_disk.specs.declared.file.Part.{Part}
@@ -12,20 +11,18 @@ use Rattle.lsv_disk.specs.Files.{file_of}
 use Rattle.lsv_disk.specs.Throughout.{Throughout, OnlyReads, RoseAtMost, WritesOneOf}
 use Rattle.lsv_disk.specs.View.{Image, DiskView, IsCrashImage}
 use Rattle.lsv_disk.proofs.Composition.{OnlyNow, followed, widened, unchanged_reads, unchanged_crash, unchanged_throughout}
-use Rattle.lsv_journal.specs.Last.{LastAt, IsOwn, old_file, JournalHolds, IsSomeCrashOf}
+use Rattle.lsv_journal.specs.Last.{LastAt, IsOwn, IsSomeCrashOf}
 use Rattle.lsv_journal.proofs.Laws.{own_alone, own_cases, absent_last}
 use Rattle.lsv_bundle.specs.declared.body.Body.{Body}
-use Rattle.lsv_bundle.specs.declared.shape.Shape.{Shape}
 use Rattle.lsv_bundle.specs.declared.shape.Shape.TheVariants as shapes
-use Rattle.lsv_bundle.specs.declared.view.View.{View}
-use Rattle.lsv_bundle.specs.Body.{encoded, length_of}
+use Rattle.lsv_bundle.specs.Body.{length_of}
 use Rattle.lsv_bundle.specs.Represents as bundles
 use Rattle.lsv_bundle.specs.Shape.{IsPart, IsOwnFile, on_shape, journal_of}
 use Rattle.lsv_bundle.specs.Value.{BundleView, committed_length}
-use Rattle.lsv_bundle.specs.Committed.{Committed, HasPrefix, HoldsEntry, BundleHolds, HasEntry, IsShort, committed, committed_bytes, prefix_at}
-use Rattle.lsv_bundle.proofs.Laws.{of_owner, owner_represents, owner_committed}
+use Rattle.lsv_bundle.specs.Committed.{Committed, HasPrefix, HoldsEntry, HasEntry, IsShort, committed_bytes}
+use Rattle.lsv_bundle.proofs.Laws.{of_owner, owner_represents}
 use Rattle.lsv_record.specs.Points.{Stored}
-use Rattle.lsv_iolog.specs.Recovered.{owner_of, IsOfLog, HasExit, IsLog, HoldsLog, Replays, SameLog, IsUnmade}
+use Rattle.lsv_iolog.specs.Recovered.{owner_of, IsOfLog, HasExit, IsLog, Replays, SameLog, IsUnmade}
 use Rattle.lsv_iolog.specs.Moments.{IsAsBefore}
 use Rattle.lsv_iolog.specs.Inner.Scanning.{text_of, entry_of, IsWholeView}
 use Rattle.lsv_iolog.proofs.Replaying.{on_log, same_laid}

@@ -1,8 +1,7 @@
 -- A log that is looked at again, and is a later state of what it was.
-use Rattle.std.proofs.Common.{◌≡◌, ◌⊎◌, inl, inr, ℕ, ◌+◌, ◌<◌, ◌≤◌, ◌^◌, List, [], ◌++◌, length, take, map, All, Option, Some, None, refl, sym, ◌∙◌, ap, subst, arith, append_assoc, length-append}
+use Rattle.std.proofs.Common.{◌≡◌, inl, inr, ℕ, ◌<◌, ◌^◌, List, [], ◌++◌, length, take, map, All, Option, Some, None, refl, sym, ◌∙◌, ap, subst, arith, append_assoc}
 use Rattle.std.proofs.lemmas.List.{take_at}
 use Rattle.std.proofs.lemmas.List.Elements.{All-take}
-use Rattle.lsv_words.specs.Pieces.{IsPrefix}
 use Rattle.lsv_disk.specs.Bytes.{bytes_of}
 use Rattle.lsv_disk.specs.Files.{file_of}
 use Rattle.lsv_disk.specs.declared.file.Part.{Part}
@@ -23,9 +22,9 @@ use Rattle.lsv_record.specs.declared.records.Stream.TheVariants.{Stdin, Stdout, 
 use Rattle.lsv_record.specs.Layout.{Begins, layout_of, stream_in}
 use Rattle.lsv_record.specs.Points.{Stored}
 use Rattle.lsv_record.specs.Records.{IsValid, shape_of, timing_of, stream_of, elapsed}
-use Rattle.lsv_record.specs.Tally.{Totals, totals_of}
+use Rattle.lsv_record.specs.Tally.{totals_of}
 use Rattle.lsv_record.proofs.Layouts.{timing_of-append, stream_of-append, elapsed-append}
-use Rattle.lsv_iolog.specs.Recovered.{owner_of, laid_in, HoldsLog}
+use Rattle.lsv_iolog.specs.Recovered.{owner_of, HoldsLog}
 use Rattle.lsv_iolog.specs.Later.{IsLater}
 use Rattle.lsv_iolog.specs.Reading.{ViewState, committed_text, committed_laid, IsWindowOf, IsBehind}
 use Rattle.lsv_iolog.proofs.Replaying.{same_laid}

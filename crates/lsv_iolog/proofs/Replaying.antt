@@ -1,26 +1,22 @@
 -- What an image holds of a log: it hangs on the log's files alone, it is one thing, and which is decided.
-use Rattle.std.proofs.Common.{◌≡◌, ◌≢◌, ◌⊎◌, inl, inr, ℕ, suc, ◌+◌, ◌<◌, ◌≤◌, ◌^◌, List, [], ◌∷◌, ◌++◌, length, take, drop, Option, Some, None, refl, sym, ◌∙◌, ap, subst, arith, All}
-use Rattle.std.proofs.lemmas.List.{take_at, drop_at}
-use Rattle.lsv_words.specs.Pieces.{IsPrefix}
+use Rattle.std.proofs.Common.{◌≡◌, ℕ, List, length, take, Option, Some, None, refl, sym, ◌∙◌, ap, subst}
+use Rattle.std.proofs.lemmas.List.{take_at}
 use Rattle.lsv_disk.specs.declared.file.FileId.{FileId}
 use Rattle.lsv_disk.specs.declared.file.Part.{Part}
 use Rattle.lsv_disk.specs.declared.file.Part.TheVariants.{Head, Exit, Timing, Stdin, Stdout, Stderr, Ttyin, Ttyout, Lines, Id, Commit, Slots}
 use Rattle.lsv_disk.specs.Files.{file_of}
-use Rattle.lsv_disk.specs.View.{Image, DiskView, IsCrashImage}
-use Rattle.lsv_journal.specs.Last.{LastAt, JournalHolds, IsAbsent}
+use Rattle.lsv_disk.specs.View.{Image}
 use Rattle.lsv_bundle.specs.declared.body.Body.{Body}
 use Rattle.lsv_bundle.specs.declared.shape.Shape.TheVariants as shapes
 use Rattle.lsv_bundle.specs.Body.{encoded, length_of}
 use Rattle.lsv_bundle.specs.Shape.{IsPart, on_shape, journal_of}
-use Rattle.lsv_bundle.specs.Committed.{Committed, HasPrefix, HoldsEntry, BundleHolds}
+use Rattle.lsv_bundle.specs.Committed.{Committed, HasPrefix, HoldsEntry}
 use Rattle.lsv_bundle.proofs.Laws.{of_owner, holds_alone, holds_absent, one_body}
-use Rattle.lsv_record.specs.declared.laid.Laid.{Laid}
-use Rattle.lsv_record.specs.declared.records.Record.{Record}
-use Rattle.lsv_record.specs.Layout.{layout_of, IsLayout}
+use Rattle.lsv_record.specs.Layout.{layout_of}
 use Rattle.lsv_record.specs.Points.{Stored}
 use Rattle.lsv_record.proofs.Layouts.{layout_is_texts}
 use Rattle.lsv_record.proofs.Once.{one_layout}
-use Rattle.lsv_iolog.specs.Recovered.{owner_of, IsOfLog, laid_in, HasExit, IsLog, HoldsLog, Replays, SameFiles, SameLog}
+use Rattle.lsv_iolog.specs.Recovered.{owner_of, IsOfLog, laid_in, HasExit, IsLog, Replays, SameFiles, SameLog}
 
 -- of a log each data file is of its shape
 pub on_log : (bytes : Part → List ℕ) (part : Part) → IsPart shapes.Log part → on_shape shapes.Log bytes part ≡ bytes part

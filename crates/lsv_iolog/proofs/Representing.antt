@@ -1,5 +1,5 @@
 -- How a log stays represented: each crash image holds it, staging commits nothing, and other files don't matter.
-use Rattle.std.proofs.Common.{◌≡◌, ◌≢◌, ◌⊎◌, inl, inr, ℕ, suc, ◌+◌, ◌<◌, ◌≤◌, ◌^◌, false, Ok, List, [], ◌∷◌, ◌++◌, length, Option, Some, None, refl, sym, ◌∙◌, ap, subst, arith, All, append_assoc, length-append, append-nil}
+use Rattle.std.proofs.Common.{◌≡◌, ℕ, ◌+◌, ◌<◌, ◌≤◌, ◌^◌, false, Ok, List, [], ◌∷◌, ◌++◌, length, Option, Some, None, refl, sym, ◌∙◌, ap, subst, arith, All, append_assoc, length-append, append-nil}
 use Rattle.std.proofs.lemmas.List.Elements.{All-cons, All-append, All-nil}
 use Rattle.lsv_disk.specs.declared.file.FileId.{FileId}
 use Rattle.lsv_disk.specs.declared.file.Owner.{Owner}
@@ -11,7 +11,7 @@ use Rattle.lsv_bundle.specs.declared.shape.Shape.{Shape}
 use Rattle.lsv_bundle.specs.declared.shape.Shape.TheVariants as shapes
 use Rattle.lsv_bundle.specs.declared.body.Body.{Body}
 use Rattle.lsv_bundle.specs.Shape.{IsPart}
-use Rattle.lsv_bundle.specs.Value.{BundleView, staged, unstaged, next_length, committed_length, NoneStaged}
+use Rattle.lsv_bundle.specs.Value.{BundleView, staged, next_length, committed_length, NoneStaged}
 use Rattle.lsv_info.specs.Reading.{head_of}
 use Rattle.lsv_bundle.specs.Committed.{Committed, BundleHolds, committed}
 use Rattle.lsv_bundle.proofs.Laws.{represents_holds, owner_represents, owner_committed, staging_represents, staging_committed}
@@ -20,10 +20,10 @@ use Rattle.lsv_record.specs.declared.records.Stream.{Stream}
 use Rattle.lsv_record.specs.declared.records.Stream.TheVariants as stream
 use Rattle.lsv_record.specs.Layout.{layout_of}
 use Rattle.lsv_record.specs.Points.{Stored}
-use Rattle.lsv_record.specs.Records.{IsValid, line_of, data_in, delay_of, elapsed, timing_of, stream_of}
+use Rattle.lsv_record.specs.Records.{IsValid, line_of, data_in, delay_of, elapsed, stream_of}
 use Rattle.lsv_record.proofs.Layouts.{timing_of-push, stream_of-push, elapsed-push}
-use Rattle.lsv_iolog.specs.Recovered.{owner_of, IsOfLog, part_of, laid_in, IsLog, HoldsLog, Replays}
-use Rattle.lsv_iolog.specs.Value.{IoLogView, LogValue, all_of, with_record, bare}
+use Rattle.lsv_iolog.specs.Recovered.{owner_of, IsOfLog, part_of, laid_in, Replays}
+use Rattle.lsv_iolog.specs.Value.{IoLogView, LogValue, with_record, bare}
 use Rattle.lsv_iolog.specs.Inner.Invariant.{IsIoLog, IsSettled, HasCommitted}
 use Rattle.lsv_iolog.specs.Represents.{HasStaged, Represents, Stages}
 use Rattle.lsv_iolog.proofs.Replaying.{one_replay}

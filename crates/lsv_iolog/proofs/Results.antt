@@ -1,5 +1,5 @@
 -- Which fault of a bundle a fault of a log was.
-use Rattle.std.proofs.Common.{Bool, true, false, ◌≡◌, ◌≢◌, ◌⊎◌, inl, inr, Result, Ok, Err, IsErrAnd, IsErrOf, OnOk, IfOk, refl, sym, ◌∙◌, ap, subst}
+use Rattle.std.proofs.Common.{Bool, true, false, ◌≡◌, ◌⊎◌, inl, inr, Result, Ok, Err, IsErrAnd, IsErrOf, refl, sym, ◌∙◌, ap}
 use Rattle.lsv_disk.specs.declared.file.Part.{Part}
 use Rattle.lsv_disk.specs.declared.file.FileId.{FileId}
 use Rattle.lsv_disk.specs.View.{DiskView, HasOwnCause}

@@ -1,5 +1,5 @@
 -- A record is staged: its line, and then its data; or neither.
-use Rattle.std.proofs.Common.{◌≡◌, ◌≢◌, ◌⊎◌, inl, inr, ℕ, suc, ◌+◌, ◌<◌, ◌≤◌, ◌^◌, false, List, [], ◌∷◌, ◌++◌, length, take, refl, sym, ◌∙◌, ap, subst, arith, append-nil, length-append}
+use Rattle.std.proofs.Common.{◌≡◌, ◌≢◌, inl, inr, ℕ, ◌+◌, ◌<◌, ◌≤◌, ◌^◌, List, [], ◌∷◌, ◌++◌, length, take, refl, sym, ◌∙◌, ap, subst, arith, append-nil, length-append}
 use Rattle.std.proofs.lemmas.List.{take_at}
 use Rattle.lsv_disk.specs.declared.file.Part.{Part}
 use Rattle.lsv_disk.specs.declared.file.Part.TheVariants.{Head, Exit, Timing, Stdin, Stdout, Stderr, Ttyin, Ttyout, Lines, Id, Commit, Slots}
@@ -7,7 +7,7 @@ use Rattle.lsv_bundle.specs.declared.shape.Shape.{Shape}
 use Rattle.lsv_bundle.specs.declared.shape.Shape.TheVariants as shapes
 use Rattle.lsv_bundle.specs.Calls.{IsFull}
 use Rattle.lsv_bundle.specs.Shape.{IsPart}
-use Rattle.lsv_bundle.specs.Value.{BundleView, staged, unstaged, committed_length, next_length, IsStaged}
+use Rattle.lsv_bundle.specs.Value.{BundleView, staged, committed_length, next_length, IsStaged}
 use Rattle.lsv_bundle.proofs.Laws.{staging_lengths}
 use Rattle.lsv_record.specs.declared.records.Record.{Record}
 use Rattle.lsv_record.specs.declared.records.Record.TheVariants.{Io, Winsize, Suspend}
@@ -16,7 +16,7 @@ use Rattle.lsv_record.specs.declared.records.Stream.{Stream}
 use Rattle.lsv_record.specs.declared.records.Stream.TheVariants as stream
 use Rattle.lsv_record.specs.Records.{data_in, line_of, shaped_line, shape_of, text_of, delay_of}
 use Rattle.lsv_iolog.specs.Recovered.{part_of}
-use Rattle.lsv_iolog.specs.Room.{IsTimingFull, IsDataFull, IsFullOf, IsRoomFor}
+use Rattle.lsv_iolog.specs.Room.{IsDataFull, IsFullOf, IsRoomFor}
 use Rattle.lsv_iolog.specs.Inner.Staging.{StagesIn}
 use Rattle.lsv_iolog.specs.Inner.Invariant.{IsIoLog}
 use Rattle.lsv_iolog.specs.Value.{IoLogView}

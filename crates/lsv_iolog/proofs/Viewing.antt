@@ -1,5 +1,5 @@
 -- A log that is seen as its files read.
-use Rattle.std.proofs.Common.{◌≡◌, ◌≢◌, ◌⊎◌, inl, inr, ℕ, zero, suc, ◌+◌, ◌<◌, ◌≤◌, List, [], length, take, drop, Option, Some, None, Result, Ok, Err, IsErrAnd, IsErrOf, refl, sym, ◌∙◌, ap, subst, arith}
+use Rattle.std.proofs.Common.{◌≡◌, ◌⊎◌, inl, inr, ℕ, zero, suc, ◌<◌, ◌≤◌, List, length, take, drop, Option, Some, None, Result, Ok, Err, IsErrAnd, IsErrOf, sym, ◌∙◌, ap, subst, arith}
 use Rattle.std.proofs.lemmas.List.{length-take, take-append-drop}
 use Rattle.lsv_disk.specs.Bytes.{bytes_of}
 use Rattle.lsv_disk.specs.Files.{file_of}
@@ -19,7 +19,7 @@ use Rattle.lsv_iolog.specs.declared.fault.LogFault.TheVariants as logs
 use Rattle.lsv_iolog.specs.Recovered.{owner_of, IsHeadText}
 use Rattle.lsv_iolog.specs.Damage.{IsViewDamage}
 use Rattle.lsv_iolog.specs.Reading.{committed_text}
-use Rattle.lsv_iolog.specs.Inner.Scanning.{text_of, IsViewOf}
+use Rattle.lsv_iolog.specs.Inner.Scanning.{text_of}
 use Rattle.lsv_iolog.proofs.Replaying.{on_log}
 use Rattle.lsv_iolog.proofs.Scans.{text_same}
 

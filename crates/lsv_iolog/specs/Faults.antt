@@ -1,5 +1,4 @@
 -- A fault of a log's files as one of the log.
-use Rattle.std.specs.Prelude.{◌≡◌}
 use Rattle.lsv_bundle.specs.declared.fault.BundleFault.{BundleFault}
 use Rattle.lsv_bundle.specs.declared.fault.BundleFault.TheVariants as bundles
 use Rattle.lsv_disk.specs.declared.file.Part.TheVariants.{Timing}

@@ -1,5 +1,5 @@
 -- A log that is read record by record, by what its files read as.
-use Rattle.std.specs.Prelude.{◌≡◌, ◌≢◌, ℕ, ◌+◌, ◌<◌, ◌≤◌, ◌^◌, ◌⊎◌, List, [], ◌∷◌, ◌++◌, length, map}
+use Rattle.std.specs.Prelude.{◌≡◌, ℕ, ◌+◌, ◌<◌, ◌≤◌, ◌^◌, ◌⊎◌, List, [], ◌∷◌, length, map}
 use Rattle.lsv_words.specs.Pieces.{piece}
 use Rattle.lsv_disk.specs.Files.{file_of}
 use Rattle.lsv_disk.specs.declared.file.Part.{Part}
@@ -20,7 +20,7 @@ use Rattle.lsv_record.specs.Layout.{Begins, NextLine, IsLayout, stream_in}
 use Rattle.lsv_record.specs.Lines.{IsBadAt, told_delay}
 use Rattle.lsv_record.specs.Records.{timing_of, stream_of, shape_of, elapsed}
 use Rattle.lsv_record.specs.Tally.{Totals, totals_of, told_count}
-use Rattle.lsv_iolog.specs.Recovered.{owner_of, part_of, laid_in}
+use Rattle.lsv_iolog.specs.Recovered.{owner_of, laid_in}
 
 -- a log that is read: its last entry, what its records so far come to, and a window of its timing
 pub record ViewState : Type 0 where

@@ -11,7 +11,6 @@ use Rattle.lsv_bundle.specs.Committed.{Committed, HoldsEntry, BundleHolds}
 use Rattle.lsv_info.specs.declared.times.Head as info
 use Rattle.lsv_info.specs.Reading.{head_of}
 use Rattle.lsv_record.specs.declared.laid.Laid.{Laid}
-use Rattle.lsv_record.specs.declared.records.Record.{Record}
 use Rattle.lsv_record.specs.declared.records.Stream.{Stream}
 use Rattle.lsv_record.specs.declared.records.Stream.TheVariants as streams
 use Rattle.lsv_record.specs.Layout.{layout_of}

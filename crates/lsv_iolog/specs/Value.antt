@@ -1,5 +1,5 @@
 -- An open log, as contracts see it.
-use Rattle.std.specs.Prelude.{◌≡◌, ℕ, ◌+◌, ◌==◌, Bool, false, List, [], ◌∷◌, ◌++◌, length, Option, Some, None}
+use Rattle.std.specs.Prelude.{◌≡◌, ℕ, ◌==◌, Bool, false, List, [], ◌∷◌, ◌++◌, Some, None}
 use Rattle.std.specs.Option.{option_map_or}
 use Rattle.lsv_bundle.specs.declared.body.Body.{Body}
 use Rattle.lsv_bundle.specs.Value.{BundleView, NoneStaged}

@@ -4,7 +4,6 @@
 
 mod append;
 mod commit;
-mod cut;
 mod fault;
 mod laws;
 mod lines;

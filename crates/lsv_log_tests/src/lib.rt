@@ -4,4 +4,8 @@
 #[cfg(test)]
 mod events;
 #[cfg(test)]
+mod logs;
+#[cfg(test)]
 mod numbers;
+#[cfg(test)]
+mod watched;

@@ -1,5 +1,5 @@
 -- Lines of timing that are read through windows.
-use Rattle.std.specs.Prelude.{◌≡◌, ◌≢◌, ℕ, ◌+◌, ◌<◌, ◌≤◌, ◌^◌, ◌⊎◌, List, [], ◌∷◌, length, take, get_or, All}
+use Rattle.std.specs.Prelude.{◌≡◌, ◌≢◌, ℕ, ◌+◌, ◌<◌, ◌≤◌, ◌^◌, ◌⊎◌, List, [], ◌∷◌, length, get_or, All}
 use Rattle.lsv_disk.specs.declared.file.Part.TheVariants.{Exit, Timing}
 use Rattle.lsv_disk.specs.declared.file.Part.{Part}
 use Rattle.lsv_disk.specs.Files.{file_of}
@@ -57,11 +57,6 @@ pub record IsSameWindow (old new : Scan) : Type 0 where
 abbrev pub IsBadLine : List ℕ → Totals → Type 0
 IsBadLine text tally = (2 ^ 40 < length text) ⊎ IsBadAt text tally.timing ⊎ PassesTime text tally
 
--- a view of the log of this number
-pub record IsViewOf (n : ℕ) (view : View) : Type 0 where
-  pub owner : view.owner ≡ owner_of n
-  pub shape : view.shape ≡ shapes.Log
-
 -- the files hold as many bytes as the entry of the view says
 abbrev pub IsWholeView : View → DiskView → Type 0
 IsWholeView view disk = (part : Part) → IsPart shapes.Log part → length (text_of view disk part) ≡ length_of view.body part
@@ -115,3 +110,8 @@ pub record IsScanning (tells : Type 0) (view : View) (old now : DiskView) (scan 
   pub faults : (f : FileId) → old.faults f ≤ now.faults f
   pub scanned : tells → HasScanned (text_of view old Timing) scan.tally
   pub reading : tells → IsReading scan now
+
+-- a view of the log of this number
+pub record IsViewOf (n : ℕ) (view : View) : Type 0 where
+  pub owner : view.owner ≡ owner_of n
+  pub shape : view.shape ≡ shapes.Log

@@ -1,4 +1,4 @@
-use Rattle.std.proofs.Common.{◌≡◌, List, [], ℕ, ◌++◌, ap, subst, sym, ◌∙◌}
+use Rattle.std.proofs.Common.{List, [], ℕ, ◌++◌, subst, sym}
 use Rattle.lsv_disk.specs.declared.file.Part.{Part}
 use Rattle.lsv_bundle.specs.Value.{BundleView, staged, IsStaged}
 use Rattle.lsv_record.specs.declared.records.Record.{Record}

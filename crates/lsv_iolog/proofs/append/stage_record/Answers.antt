@@ -1,12 +1,7 @@
-use Rattle.std.proofs.Common.{◌≡◌, List, [], ℕ, ◌++◌, take, length, ap, subst, sym, ◌∙◌, inl, inr, Err, false}
-use Rattle.lsv_disk.specs.declared.file.Part.{Part}
+use Rattle.std.proofs.Common.{List, ℕ, ◌++◌, length, subst, sym}
 use Rattle.lsv_disk.specs.declared.file.Part.TheVariants.{Timing}
 use Rattle.lsv_bundle.specs.Calls.{IsFull}
 use Rattle.lsv_bundle.specs.Value.{BundleView, staged, IsStaged}
-use Rattle.lsv_iolog.specs.declared.fault.LogFault.{LogFault}
-use Rattle.lsv_iolog.specs.declared.fault.LogFault.TheVariants as logs
-use Rattle.lsv_iolog.specs.Inner.Staging.{StagesIn}
-use Rattle.lsv_iolog.proofs.Results.{given_fault, full_is}
 use Rattle.lsv_iolog.proofs.Staging.{line_then_data, line_undone, line_room, line_full}
 use Rattle.lsv_iolog.proofs.append.stage_record.Goals as goal
 

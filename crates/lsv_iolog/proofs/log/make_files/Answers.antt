@@ -1,17 +1,11 @@
 -- The files are made, the head is staged, and one flush commits it.
-use Rattle.std.proofs.Common.{◌≡◌, ◌≢◌, ℕ, [], ◌++◌, Some, None, Result, Err, IsErrOf, length, false, refl, sym, ◌∙◌, ap, subst, inl, inr, arith}
-use Rattle.lsv_disk.specs.declared.file.Owner.{Owner}
-use Rattle.lsv_disk.specs.declared.file.FileId.{FileId}
-use Rattle.lsv_disk.specs.declared.file.Part.{Part}
-use Rattle.lsv_disk.specs.declared.file.Part.TheVariants.{Head, Timing}
-use Rattle.lsv_disk.specs.Throughout.{Throughout}
-use Rattle.lsv_disk.proofs.Composition.{followed, cause_second}
+use Rattle.std.proofs.Common.{Some, Result, Err, IsErrOf, ◌∙◌, ap}
+use Rattle.lsv_disk.specs.declared.file.Part.TheVariants.{Head}
+use Rattle.lsv_disk.proofs.Composition.{cause_second}
 use Rattle.lsv_bundle.specs.declared.shape.Shape.TheVariants as shapes
-use Rattle.lsv_bundle.specs.Value.{BundleView, committed_length, staged, IsFresh, IsStaged}
-use Rattle.lsv_bundle.proofs.Laws.{staging_represents, staging_lengths}
-use Rattle.lsv_iolog.specs.Recovered.{owner_of, IsOfLog, IsLog}
+use Rattle.lsv_bundle.proofs.Laws.{staging_represents}
+use Rattle.lsv_iolog.specs.Recovered.{IsOfLog}
 use Rattle.lsv_iolog.specs.Value.{made}
-use Rattle.lsv_iolog.specs.Moments.{IsEither}
 use Rattle.lsv_bundle.specs.declared.bundle.Bundle.{Bundle}
 use Rattle.lsv_bundle.specs.declared.fault.BundleFault.{BundleFault}
 use Rattle.lsv_bundle.specs.Shape.{IsOwnFile}

@@ -1,5 +1,4 @@
-use Rattle.std.proofs.Common.{sym, ◌∙◌, ap}
-use Rattle.lsv_disk.specs.View.{DiskView}
+use Rattle.std.proofs.Common.{◌∙◌}
 use Rattle.lsv_bundle.specs.declared.bundle.Bundle.{Bundle}
 use Rattle.lsv_bundle.specs.declared.shape.Shape.TheVariants as shapes
 use Rattle.lsv_bundle.specs.Shape.{IsOwnFile}

@@ -1,16 +1,15 @@
 -- Each part that is refused is the first at fault.
-use Rattle.std.proofs.Common.{◌≡◌, ◌≤◌, ◌^◌, ℕ, List, All, length, Result, Err, sym, ◌∙◌, ap, subst}
+use Rattle.std.proofs.Common.{◌≡◌, ◌≤◌, ◌^◌, ℕ, List, length, Result, Err, sym, ◌∙◌, ap, subst}
 use Rattle.lsv_disk.specs.declared.file.Part.{Part}
 use Rattle.lsv_disk.specs.declared.file.Part.TheVariants.{Head, Exit, Timing}
 use Rattle.lsv_disk.specs.View.{DiskView}
 use Rattle.lsv_info.specs.declared.times.Head as info
-use Rattle.lsv_record.specs.declared.records.Shaped.{Shaped}
-use Rattle.lsv_record.specs.Tally.{Totals, lines_of}
+use Rattle.lsv_record.specs.Tally.{Totals}
 use Rattle.lsv_iolog.specs.declared.fault.LogFault.{LogFault}
 use Rattle.lsv_iolog.specs.declared.fault.LogFault.TheVariants as logs
 use Rattle.lsv_iolog.specs.Recovered.{part_of}
 use Rattle.lsv_iolog.specs.Damage.{IsFault}
-use Rattle.lsv_iolog.specs.Inner.Scanning.{text_of, entry_of, IsScanned}
+use Rattle.lsv_iolog.specs.Inner.Scanning.{text_of, entry_of}
 use Rattle.lsv_iolog.proofs.Results.{same_log_fault, damaged_part, only_damaged}
 use Rattle.lsv_iolog.proofs.Scans.{text_same}
 use Rattle.lsv_iolog.proofs.Judging.{fault_head, fault_exit, fault_timing, fault_counts, fault_stream, scanned_at}

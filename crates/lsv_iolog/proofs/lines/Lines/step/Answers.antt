@@ -1,5 +1,5 @@
 -- What a step of the tally reads from the window stands in the text.
-use Rattle.std.proofs.Common.{◌≡◌, ℕ, ◌+◌, ◌-◌, ◌≤◌, Bool, List, Option, Some, None, IfSome, Result, Err, IsTrue, length, take, drop, refl, sym, ◌∙◌, ap, subst, inl, inr}
+use Rattle.std.proofs.Common.{◌≡◌, ℕ, ◌+◌, ◌-◌, ◌≤◌, List, Option, Some, None, IfSome, Result, Err, length, take, drop, sym, ap, subst, inl, inr}
 use Rattle.lsv_disk.specs.declared.file.Part.TheVariants.{Timing}
 use Rattle.lsv_bundle.specs.Body.{length_of}
 use Rattle.lsv_record.specs.declared.records.Shaped.{Shaped}

@@ -1,9 +1,8 @@
 -- One flush of the files commits what is staged.
-use Rattle.std.proofs.Common.{◌≡◌, ℕ, ◌≤◌, List, [], length, Result, Ok, Err, IsErrOf, refl, sym, ◌∙◌, ap, subst, arith}
+use Rattle.std.proofs.Common.{◌≡◌, Result, Err, sym, ◌∙◌, ap, subst, arith}
 use Rattle.lsv_base.specs.declared.point.Point.{Point}
-use Rattle.lsv_disk.specs.declared.file.FileId.{FileId}
 use Rattle.lsv_disk.specs.declared.file.Part.TheVariants.{Timing}
-use Rattle.lsv_disk.specs.View.{DiskView, HasOwnCause}
+use Rattle.lsv_disk.specs.View.{DiskView}
 use Rattle.lsv_bundle.specs.declared.fault.BundleFault.{BundleFault}
 use Rattle.lsv_bundle.specs.declared.body.Body.{Body}
 use Rattle.lsv_bundle.specs.declared.shape.Shape.{Shape}
@@ -11,11 +10,9 @@ use Rattle.lsv_bundle.specs.Shape.{IsPart, IsOwnFile}
 use Rattle.lsv_bundle.specs.Value.{BundleView, next_length, next_body, committed_length}
 use Rattle.lsv_bundle.proofs.Laws.{of_owner}
 use Rattle.lsv_iolog.specs.declared.fault.LogFault.{LogFault}
-use Rattle.lsv_iolog.specs.declared.fault.LogFault.TheVariants as logs
 use Rattle.lsv_iolog.specs.Recovered.{owner_of, IsOfLog}
-use Rattle.lsv_iolog.specs.Moments.{CallsOfLog}
 use Rattle.lsv_iolog.specs.Value.{IoLogView}
-use Rattle.lsv_iolog.proofs.Committing.{flush_calls, kept_files, kept_next, settled_next}
+use Rattle.lsv_iolog.proofs.Committing.{flush_calls, settled_next}
 use Rattle.lsv_iolog.proofs.Representing.{settled_invariant}
 use Rattle.lsv_iolog.proofs.Results.{disk_cause, flush_fault}
 use Rattle.lsv_iolog.proofs.log.IoLog.commit.Goals as goal

@@ -1,14 +1,9 @@
 -- The text is written and read, and then its files are made.
 use Rattle.lsv_info.specs.Layout.{head_text}
 use Rattle.lsv_bundle.specs.declared.body.Body.{Body}
-use Rattle.std.proofs.Common.{false, ◌≡◌, ℕ, ◌≤◌, ◌^◌, Some, List, length, refl, sym, ◌∙◌, ap, subst, arith}
-use Rattle.lsv_disk.specs.declared.file.Part.TheVariants.{Timing}
-use Rattle.lsv_bundle.specs.declared.shape.Shape.{Shape}
-use Rattle.lsv_bundle.specs.Shape.{IsPart}
-use Rattle.lsv_bundle.specs.Value.{BundleView, staged}
+use Rattle.std.proofs.Common.{false, ℕ, Some, List, refl, subst, arith}
 use Rattle.lsv_iolog.specs.Value.{IoLogView, bare, made}
 use Rattle.lsv_iolog.specs.Represents.{Represents}
-use Rattle.lsv_iolog.specs.Inner.Invariant.{IsIoLog}
 use Rattle.lsv_iolog.proofs.Committing.{unmade_started}
 use Rattle.lsv_iolog.proofs.Representing.{settled_represents, settled_invariant, settled_small}
 use Rattle.lsv_iolog.proofs.log.IoLog.create.Goals as goal

@@ -1,6 +1,6 @@
 -- The exit is written and staged, and one entry commits all that is.
-use Rattle.std.proofs.Common.{◌≡◌, ◌≢◌, ℕ, List, [], ◌++◌, length, Some, None, false, OnOk, refl, sym, ◌∙◌, ap, subst}
-use Rattle.lsv_disk.specs.declared.file.Part.TheVariants.{Exit, Timing}
+use Rattle.std.proofs.Common.{◌≡◌, ℕ, List, ◌++◌, length, Some, false, OnOk, refl, sym, ◌∙◌, ap, subst}
+use Rattle.lsv_disk.specs.declared.file.Part.TheVariants.{Exit}
 use Rattle.lsv_disk.specs.View.{DiskView}
 use Rattle.lsv_disk.specs.Throughout.{Throughout}
 use Rattle.lsv_bundle.specs.Calls.{IsFull}
@@ -13,7 +13,6 @@ use Rattle.lsv_info.specs.Layout.{exit_text}
 use Rattle.lsv_iolog.specs.Value.{IoLogView, LogValue, bare, finished, SameCounts}
 use Rattle.lsv_iolog.specs.Inner.Next.{next_entry}
 use Rattle.lsv_iolog.specs.Represents.{Represents}
-use Rattle.lsv_iolog.specs.Inner.Invariant.{IsIoLog}
 use Rattle.lsv_iolog.proofs.Flushing.{idle_moment, later_same, later_more, either_later, on_ok_four, on_ok_always}
 use Rattle.lsv_iolog.proofs.Finishing.{with_files, timing_as, exit_invariant, going_exit, exit_some, finish_moment, finish_represents}
 use Rattle.lsv_iolog.proofs.log.IoLog.finish.Goals as goal
