@@ -15,13 +15,13 @@ use std::test::Fail;
 
 const FILLS: [Fill; 4] = [Fill::Old, Fill::Read, Fill::Byte(1), Fill::Byte(0)];
 
-const HEAD: &[u8] = b"{\"info\":{\"columns\":80,\"command\":\"/usr/bin/id\",\"lines\":24,\"runargv\":[\"id\",\"-u\"],\"rungid\":0,\"rungroup\":\"root\",\"runuid\":0,\"runuser\":\"root\",\"submitcwd\":\"/home/ann\",\"submithost\":\"web1\",\"submituser\":\"ann\",\"ttyname\":\"/dev/pts/0\"},\"submit_time\":{\"nanoseconds\":0,\"seconds\":1700000000}}\n";
+const HEAD: &[u8] =
+    b"{\"info\":{\"columns\":80,\"command\":\"/usr/bin/id\",\"lines\":24,\"runargv\":[\"id\",\"-u\"],\"rungid\":0,\"rungroup\":\"root\",\"runuid\":0,\"runuser\":\"root\",\"submitcwd\":\"/home/ann\",\"submithost\":\"web1\",\"submituser\":\"ann\",\"ttyname\":\"/dev/pts/0\"},\"submit_time\":{\"nanoseconds\":0,\"seconds\":1700000000}}\n";
 
 const EXIT: &[u8] =
     b"{\"dumped_core\":false,\"exit_value\":0,\"run_time\":{\"nanoseconds\":600000000,\"seconds\":3}}\n";
 
-const TIMING: &[u8] =
-    b"4 0.500000000 2\n4 1.000000000 5\n4 0.000000000 5\n5 2.000000000 30 100\n";
+const TIMING: &[u8] = b"4 0.500000000 2\n4 1.000000000 5\n4 0.000000000 5\n5 2.000000000 30 100\n";
 
 /// The journal of the script's log.
 const SLOTS: &[u8] =
@@ -168,11 +168,7 @@ fn told(disk: &MemDisk) -> Found {
         return None;
     }
     let body = bytes.get(start..)?;
-    Some((
-        word(body, 1),
-        word(body, 9),
-        body.first() == Some(&3),
-    ))
+    Some((word(body, 1), word(body, 9), body.first() == Some(&3)))
 }
 
 /// Whether an opening, a view and the journal's bytes agree on what is there, and it is one of these two.
@@ -230,9 +226,16 @@ fn an_opening_that_is_cut_off_leaves_the_same_log(rt: HostRuntime) -> Result<(),
             if let Ok(found) = answer {
                 let before = *STATES.get(steps).ok_or("a step")?;
                 let after = STATES.get(steps + 1).copied().unwrap_or(before);
-                assert!(rt; found == before || found == after, "calls {first} and {later} more");
+                assert!(rt;
+                    found == before || found == after,
+                    "calls {first} and {later} more"
+                );
             } else {
-                assert_eq!(rt; answer, Err(LogFault::Disk), "calls {first} and {later} more");
+                assert_eq!(rt;
+                    answer,
+                    Err(LogFault::Disk),
+                    "calls {first} and {later} more"
+                );
             }
             assert!(rt;
                 leaves(rt.alloc(), &disk.disk, steps)?,
@@ -267,11 +270,17 @@ fn the_files_of_a_log_have_these_bytes(rt: HostRuntime) -> Result<(), Fail> {
 fn a_log_without_records_has_two_entries(rt: HostRuntime) -> Result<(), Fail> {
     let mut disk = Watched::new(MemDisk::new(rt.alloc(), &[])?);
     let mut log = make(rt.alloc(), &mut disk, number()?)?;
-    assert_eq!(rt; end(rt.alloc(), &mut disk, &mut log).map(Point::nanos), Ok(0));
+    assert_eq!(rt;
+        end(rt.alloc(), &mut disk, &mut log).map(Point::nanos),
+        Ok(0)
+    );
     assert!(rt; log.is_complete());
     let slots = disk.disk.bytes(file(Part::Slots)).ok_or("no journal")?;
     assert_eq!(rt; slots.len(), 180);
-    assert_eq!(rt; (slots.get(1), slots.get(2), slots.get(91)), (Some(&1), Some(&0), Some(&3)));
+    assert_eq!(rt;
+        (slots.get(1), slots.get(2), slots.get(91)),
+        (Some(&1), Some(&0), Some(&3))
+    );
     Ok(())
 }
 
@@ -290,7 +299,10 @@ fn long_log(alloc: Global, disk: &mut Watched, records: u64) -> Result<IoLog, Lo
 fn timing_is_read_in_pieces_and_no_stream_with_it(rt: HostRuntime) -> Result<(), Fail> {
     let mut disk = Watched::new(MemDisk::new(rt.alloc(), &[])?);
     let log = long_log(rt.alloc(), &mut disk, 10_000)?;
-    assert_eq!(rt; (log.count(), log.elapsed().nanos()), (10_000, 10_000_000_000));
+    assert_eq!(rt;
+        (log.count(), log.elapsed().nanos()),
+        (10_000, 10_000_000_000)
+    );
     disk.longest = 0;
     disk.streams = 0;
     let found = opened(rt.alloc(), &mut disk, number()?);
@@ -333,7 +345,10 @@ fn a_record_that_is_refused_stages_nothing(rt: HostRuntime) -> Result<(), Fail> 
     let so_far = Point::new(1_000_000).ok_or("a point")?;
     assert_eq!(rt; add(&mut log, &late), Err(LogFault::TooLong(so_far)));
     assert_eq!(rt; log.flush(&mut disk), Ok(so_far));
-    assert_eq!(rt; viewed(rt.alloc(), &mut disk, number()?), Ok(Some((1, 1_000_000, false))));
+    assert_eq!(rt;
+        viewed(rt.alloc(), &mut disk, number()?),
+        Ok(Some((1, 1_000_000, false)))
+    );
     Ok(())
 }
 
