@@ -16,7 +16,10 @@ pub fn show_reply(rt: &HostRuntime, reply: &Reply) -> Result<()> {
         ReplyBody::Say(message) => {
             let mut framed = Bytes::new(alloc);
             put_server(alloc, &mut framed, message)?;
-            println!(rt; "> {worker}.{seq} {}", hex::encode(alloc, framed.as_slice())?)?;
+            println!(rt;
+                "> {worker}.{seq} {}",
+                hex::encode(alloc, framed.as_slice())?
+            )?;
         }
         ReplyBody::Shut if reply.last => println!(rt; "> {worker}.{seq} shut last")?,
         ReplyBody::Shut => println!(rt; "> {worker}.{seq} shut")?,

@@ -88,10 +88,11 @@ module _ {E K V : Type 0} (eq : K → K → Bool) (key : E → K) (value : E →
         go true a o ih h =
             let z : 0 ≡ p = cc in
             subst (λ q. lookup eq key value none (set (x ∷ xs) q y) j ≡ (if eq j k then value y else lookup eq key value none (x ∷ xs) j)) z
-                (here (eq j k) (lookup eq key value none xs j) ∙ sym (key_is (decides k (key x) a)))
+            (here (eq j k) (lookup eq key value none xs j) ∙ sym (key_is (decides k (key x) a)))
           where
             here : (t : Bool) (w : V) → (if eq j (key y) then value y else w) ≡ (if eq j k then value y else w)
             here t w = rw e refl
+
             key_is : k ≡ key x → (if eq j k then value y else lookup eq key value none (x ∷ xs) j) ≡ (if eq j k then value y else lookup eq key value none xs j)
             key_is q = rw (← q) (twice (eq j k))
               where
@@ -102,7 +103,7 @@ module _ {E K V : Type 0} (eq : K → K → Bool) (key : E → K) (value : E →
         go false a (Some q) ih h =
             let z : suc q ≡ p = cc in
             subst (λ q. lookup eq key value none (set (x ∷ xs) q y) j ≡ (if eq j k then value y else lookup eq key value none (x ∷ xs) j)) z
-                    (apart j k x (value y) (lookup eq key value none xs j) (lookup eq key value none (set xs q y) j) a (ih q refl))
+            (apart j k x (value y) (lookup eq key value none xs j) (lookup eq key value none (set xs q y) j) a (ih q refl))
 
     pub push_at : (xs : List E) (k : K) (y : E) (j : K) → place eq key xs k ≡ None → key y ≡ k
         → lookup eq key value none (xs ++ y ∷ []) j ≡ (if eq j k then value y else lookup eq key value none xs j)

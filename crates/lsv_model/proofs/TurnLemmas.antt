@@ -54,8 +54,8 @@ replies_told set now jobs job m x before was new h e p =
     let on_machine : Machine → List Reply = λ y. (before ++ map reply_of (told set now jobs m)) ++ map reply_of (done set now job y).answers in
     let on_told : List Answer → List Reply = λ a. before ++ map reply_of a in
     p ∙ (ap on_was h ∙ (ap on_machine e ∙ (append_assoc before (map reply_of (told set now jobs m)) (map reply_of (done set now job (after set now jobs m)).answers)
-        ∙ (ap (λ (xs : List Reply). before ++ xs) (sym (map-append reply_of (told set now jobs m) (done set now job (after set now jobs m)).answers))
-        ∙ sym (ap on_told (told_more set now jobs job m))))))
+    ∙ (ap (λ (xs : List Reply). before ++ xs) (sym (map-append reply_of (told set now jobs m) (done set now job (after set now jobs m)).answers))
+    ∙ sym (ap on_told (told_more set now jobs job m))))))
 
 pub replies_flushed : (numbers : List ℕ) (n : ℕ) (m x : Machine) (before was new : List Reply) → was ≡ before ++ map reply_of (commits numbers m) → x ≡ flushed numbers m
     → new ≡ was ++ map reply_of (commit x n) → new ≡ before ++ map reply_of (commits (numbers ++ n ∷ []) m)
@@ -64,8 +64,8 @@ replies_flushed numbers n m x before was new h e p =
     let on_machine : Machine → List Reply = λ y. (before ++ map reply_of (commits numbers m)) ++ map reply_of (commit y n) in
     let on_told : List Answer → List Reply = λ a. before ++ map reply_of a in
     p ∙ (ap on_was h ∙ (ap on_machine e ∙ (append_assoc before (map reply_of (commits numbers m)) (map reply_of (commit (flushed numbers m) n))
-        ∙ (ap (λ (xs : List Reply). before ++ xs) (sym (map-append reply_of (commits numbers m) (commit (flushed numbers m) n)))
-        ∙ sym (ap on_told (commits_more numbers n m))))))
+    ∙ (ap (λ (xs : List Reply). before ++ xs) (sym (map-append reply_of (commits numbers m) (commit (flushed numbers m) n)))
+    ∙ sym (ap on_told (commits_more numbers n m))))))
 
 -- a turn's replies: those of its jobs, and then those of its end
 pub replies_in_turn : (set : Settings) (now : TimeSpec) (jobs : List Job) (m x y : Machine) (was new : List Reply) → was ≡ [] ++ map reply_of (told set now jobs m) → x ≡ after set now jobs m → y ≡ with_lines true x
@@ -75,7 +75,7 @@ replies_in_turn set now jobs m x y was new h e f p =
     let on_machine : Machine → List Reply = λ z. map reply_of (told set now jobs m) ++ map reply_of (commits z.waiting (record z { waiting = [] })) in
     let on_after : Machine → Machine = λ z. with_lines true z in
     p ∙ (ap on_was h ∙ (ap on_machine (f ∙ ap on_after e)
-        ∙ sym (map-append reply_of (told set now jobs m) (commits (after set now jobs m).waiting (record (with_lines true (after set now jobs m)) { waiting = [] })))))
+    ∙ sym (map-append reply_of (told set now jobs m) (commits (after set now jobs m).waiting (record (with_lines true (after set now jobs m)) { waiting = [] })))))
 
 pub machine_after_turn : (set : Settings) (now : TimeSpec) (jobs : List Job) (m x y z : Machine) → x ≡ after set now jobs m → y ≡ with_lines true x → z ≡ flushed y.waiting (record y { waiting = [] })
     → z ≡ after_turn set now jobs m

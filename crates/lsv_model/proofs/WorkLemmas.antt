@@ -44,8 +44,8 @@ pub finish_full : (line : Option (List ℕ)) (k : ConnId) (n : ℕ) (exit : List
 finish_full line k n exit stored promised m x true f g t end a fit b full e h i s = cc
 finish_full line k n exit stored promised m x false f g t end a fit b full e h i s =
     rw (a, fit) (full_gives line k (with_log n (There (with_exit exit stored) promised) m) m (record x { logs = f; owner = g })
-        (ends k (say k (CommitPoint (elapsed stored.records)) ∷ say k Shut ∷ []) (with_log n (There (with_exit exit stored) (length stored.records)) m)) t end refl full
-        (relogged x m f g n (There (with_exit exit stored) promised) e h i) s)
+    (ends k (say k (CommitPoint (elapsed stored.records)) ∷ say k Shut ∷ []) (with_log n (There (with_exit exit stored) (length stored.records)) m)) t end refl full
+    (relogged x m f g n (There (with_exit exit stored) promised) e h i) s)
 
 pub finish_fits : (line : Option (List ℕ)) (k : ConnId) (n : ℕ) (exit : List ℕ) (stored : Stored) (promised : ℕ) (m x : Machine) (is_told : Bool) (f : ℕ → LogState) (g : ℕ → Option ConnId) (point : ℕ) (end : Machine)
     → m.logs n ≡ There stored promised → fits_file exit ≡ true → is_told ≡ true → fits_any line m ≡ true → x ≡ adds_any k line m
@@ -56,8 +56,8 @@ finish_fits line k n exit stored promised m x false f g point end a fit b fits e
 finish_fits line k n exit stored promised m x true f g point end a fit b fits e h i p s =
     let on_machine : Machine → Machine = λ y. leaves k Dead y in
     rw (a, fit, p) (fits_gives line k (with_log n (There (with_exit exit stored) promised) m) m
-        (ends k (say k (CommitPoint (elapsed stored.records)) ∷ say k Shut ∷ []) (with_log n (There (with_exit exit stored) (length stored.records)) m)) (told.Finished (elapsed stored.records)) end refl fits refl
-        (s ∙ ap on_machine (relogged x (adds_any k line m) f g n (There (with_exit exit stored) (length stored.records)) e h i)))
+    (ends k (say k (CommitPoint (elapsed stored.records)) ∷ say k Shut ∷ []) (with_log n (There (with_exit exit stored) (length stored.records)) m)) (told.Finished (elapsed stored.records)) end refl fits refl
+    (s ∙ ap on_machine (relogged x (adds_any k line m) f g n (There (with_exit exit stored) (length stored.records)) e h i)))
 
 -- ---- An accept
 
@@ -73,8 +73,8 @@ open_full line k head n m x y o t end small fit full e p q s =
     let on_log : Machine → Machine = λ z. with_log n (There (empty_log head) 0) z in
     let same : y ≡ makes n head m = q ∙ (owner_same n o (with_log n (There (empty_log head) 0) x) (sym p) ∙ ap on_log e) in
     rw (small, fit) (full_gives line k (makes n head m) m y
-        (record { answers = say k (LogId n) ∷ []; line = []; machine = with_state k (Running (Some n)) (with_owner n (Some k) (makes n head m)) }) t end refl
-        (sym (fits_draws line n m) ∙ full) same s)
+    (record { answers = say k (LogId n) ∷ []; line = []; machine = with_state k (Running (Some n)) (with_owner n (Some k) (makes n head m)) }) t end refl
+    (sym (fits_draws line n m) ∙ full) same s)
 
 pub open_fits : (line : Option (List ℕ)) (k : ConnId) (head : List ℕ) (n : ℕ) (m x y end : Machine)
     → nat_lt last_number n ≡ false → fits_file head ≡ true → fits_any line (draws n m) ≡ true → x ≡ adds_any k line (draws n m)
@@ -84,8 +84,8 @@ open_fits line k head n m x y end small fit fits e q s =
     let on_state : Machine → Machine = λ z. with_state k (Running (Some n)) z in
     let on_log : Machine → Machine = λ z. with_state k (Running (Some n)) (with_owner n (Some k) (with_log n (There (empty_log head) 0) z)) in
     rw (small, fit) (fits_gives line k (makes n head m) m
-        (record { answers = say k (LogId n) ∷ []; line = []; machine = with_state k (Running (Some n)) (with_owner n (Some k) (makes n head m)) }) (told.Log n) end refl
-        (sym (fits_draws line n m) ∙ fits) refl (s ∙ (ap on_state q ∙ ap on_log e)))
+    (record { answers = say k (LogId n) ∷ []; line = []; machine = with_state k (Running (Some n)) (with_owner n (Some k) (makes n head m)) }) (told.Log n) end refl
+    (sym (fits_draws line n m) ∙ fits) refl (s ∙ (ap on_state q ∙ ap on_log e)))
 
 -- ---- A record
 
@@ -151,12 +151,12 @@ answer_gives set lines now k s asked m line t end e g =
     let full = before_line s asked (next_of set m) m in
     let on_line : Option (List ℕ) → Done = λ l. noted l k full m d in
     subst (λ (x : Done). Gives x k t end)
-        (ap on_line e ∙ (go (has_line (settings_of set lines) asked) (opens s asked) refl (nat_lt last_number (next_of set m)) refl
-            ∙ sym (lined_noted (settings_of set lines) now k s asked (next_of set m) m d))) g
+    (ap on_line e ∙ (go (has_line (settings_of set lines) asked) (opens s asked) refl (nat_lt last_number (next_of set m)) refl
+    ∙ sym (lined_noted (settings_of set lines) now k s asked (next_of set m) m d))) g
   where
     go : (h o : Bool) → opens s asked ≡ o → (b : Bool) → nat_lt last_number (next_of set m) ≡ b
         → noted (if h then Some (lines now k asked (if o then (if b then None else Some (next_of set m)) else log_of s)) else None) k (before_line s asked (next_of set m) m) m (work k s asked (next_of set m) m)
-          ≡ noted (if h then Some (lines now k asked (if o then Some (next_of set m) else log_of s)) else None) k (before_line s asked (next_of set m) m) m (work k s asked (next_of set m) m)
+        ≡ noted (if h then Some (lines now k asked (if o then Some (next_of set m) else log_of s)) else None) k (before_line s asked (next_of set m) m) m (work k s asked (next_of set m) m)
     go false o p b q = refl
     go true false p b q = refl
     go true true p false q = refl

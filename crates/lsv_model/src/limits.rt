@@ -64,7 +64,11 @@ fn later(point: u64, nanos: u64) -> Option<u64>
     ensures { SomeIff result (point + nanos < 2 ^ 63) (point + nanos) }
 {
     let later = point.checked_add(nanos)?;
-    if later < TIME_LIMIT { Some(later) } else { None }
+    if later < TIME_LIMIT {
+        Some(later)
+    } else {
+        None
+    }
 }
 
 /// A record as it is stored behind these.

@@ -113,12 +113,7 @@ pub fn resume_log(
 }
 
 /// The log with this number has one more record, which ends at a point.
-pub fn add_record(
-    logs: &mut Vec<Log>,
-    number: LogNo,
-    r: Record,
-    end: u64,
-) -> Result<(), NoMem>
+pub fn add_record(logs: &mut Vec<Log>, number: LogNo, r: Record, end: u64) -> Result<(), NoMem>
     requires end { (stored : Stored) (promised : ℕ) → logs_in logs.old.items number ≡ There stored promised → end ≡ elapsed stored.records + delay_of r }
     requires small { end < 2 ^ 63 }
     ensures logs { (stored : Stored) (promised : ℕ) → logs_in logs.old.items number ≡ There stored promised →

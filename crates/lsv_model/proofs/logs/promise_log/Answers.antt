@@ -21,7 +21,7 @@ returns-in-Some-clause-logs c = λ stored promised t.
     let on_records : List Record → ℕ = λ rs. raised was.promised rs c.elapsed-end.result in
     let on_point : ℕ → ℕ = λ i. raised was.promised was.records i in
     changed xs n p was _ stored promised next at c.index_mut-log.ensures.value refl t
-        (ap put (c.raised-log.ensures ∙ (ap on_records c.as_slice.ensures ∙ ap on_point c.elapsed-end.ensures.value)))
+    (ap put (c.raised-log.ensures ∙ (ap on_records c.as_slice.ensures ∙ ap on_point c.elapsed-end.ensures.value)))
 
 pub returns-in-Some-clause-owners : goal.returns-in-Some-clause-owners
 returns-in-Some-clause-owners c = owners_same c.args.logs.now.items c.in-Some.place c.index_mut-log.result.now _ c.index_mut-log.ensures.value refl refl

@@ -29,7 +29,7 @@ returns-in-Some-clause-logs c = λ stored promised t.
     let on_cuts : ℕ → LogState = λ i. There (record { head = was.head; records = take c.args.kept was.records; exit = was.exit; cuts = i }) c.args.kept in
     let here = log_at xs n p was at c.index_mut-log.ensures.value in
     changed xs n p was _ stored promised next at c.index_mut-log.ensures.value refl t
-        (ap on_records c.cut.ensures ∙ ap on_cuts (c.requires.cuts (stored_of was) was.promised here.has_log))
+    (ap on_records c.cut.ensures ∙ ap on_cuts (c.requires.cuts (stored_of was) was.promised here.has_log))
 
 pub returns-in-Some-clause-owners : goal.returns-in-Some-clause-owners
 returns-in-Some-clause-owners c = λ stored promised t.

@@ -25,4 +25,4 @@ returns c =
     let fits : fits_any c.args.line m ≡ true = sym c.in_ok-add_any.ensures.fits ∙ yes in
     let added : machine_of c.add_any.new.self ≡ adds_any c.args.conn c.args.line m = was_added _ _ _ m c.in_ok-add_any.ensures.machine yes in
     fits_gives c.args.line c.args.conn m m (ends c.args.conn (say c.args.conn Shut ∷ []) m) told.Shut (machine_of c.leave.new.self) refl fits refl
-        (c.in_ok-leave.ensures ∙ ap (λ (x : Machine). leaves c.args.conn Dead x) added)
+    (c.in_ok-leave.ensures ∙ ap (λ (x : Machine). leaves c.args.conn Dead x) added)

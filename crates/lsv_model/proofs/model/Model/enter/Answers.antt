@@ -23,4 +23,4 @@ returns c =
     let fits : fits_any c.args.line m ≡ true = sym c.in_ok-add_any.ensures.fits ∙ yes in
     let added : machine_of c.add_any.new.self ≡ adds_any c.args.conn c.args.line m = was_added _ _ _ m c.in_ok-add_any.ensures.machine yes in
     fits_gives c.args.line c.args.conn m m (silently (with_state c.args.conn c.args.state m)) told.Nothing (machine_of c.set_state.new.self) refl fits refl
-        (c.in_ok-set_state.ensures ∙ ap (λ (x : Machine). with_state c.args.conn c.args.state x) added)
+    (c.in_ok-set_state.ensures ∙ ap (λ (x : Machine). with_state c.args.conn c.args.state x) added)

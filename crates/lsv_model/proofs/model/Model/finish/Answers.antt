@@ -24,9 +24,9 @@ returns-then-not-is_told c =
     let here : Machine → LogState = λ y. y.logs n in
     let t' : x.logs n ≡ There (stored_of log) log.promised = ap here same ∙ t in
     if_ok c.refuse-then-not-is_told.result
-        (λ r g. finish_full c.args.line c.args.conn n c.args.exit (stored_of log) log.promised m x c.in_ok-is_told.is_told (logs_in c.finish_log.new.logs.items) (owner_in c.finish_log.new.logs.items) r (machine_of c.refuse-then-not-is_told.new.self)
-            t fit no full same (c.finish_log.ensures.logs (stored_of log) log.promised t') c.finish_log.ensures.owners g)
-        c.refuse-then-not-is_told.ensures
+    (λ r g. finish_full c.args.line c.args.conn n c.args.exit (stored_of log) log.promised m x c.in_ok-is_told.is_told (logs_in c.finish_log.new.logs.items) (owner_in c.finish_log.new.logs.items) r (machine_of c.refuse-then-not-is_told.new.self)
+    t fit no full same (c.finish_log.ensures.logs (stored_of log) log.promised t') c.finish_log.ensures.owners g)
+    c.refuse-then-not-is_told.ensures
 
 pub returns : goal.returns
 returns c =
@@ -43,4 +43,4 @@ returns c =
     let here : Machine → LogState = λ y. y.logs n in
     let t' : x.logs n ≡ There (stored_of log) log.promised = ap here added ∙ t in
     finish_fits c.args.line c.args.conn n c.args.exit (stored_of log) log.promised m x c.in_ok-is_told.is_told (logs_in c.finish_log.new.logs.items) (owner_in c.finish_log.new.logs.items) c.elapsed-end.result (machine_of c.leave.new.self)
-        t fit yes fits added (c.finish_log.ensures.logs (stored_of log) log.promised t') c.finish_log.ensures.owners c.elapsed-end.ensures.value c.in_ok-leave.ensures
+    t fit yes fits added (c.finish_log.ensures.logs (stored_of log) log.promised t') c.finish_log.ensures.owners c.elapsed-end.ensures.value c.in_ok-leave.ensures

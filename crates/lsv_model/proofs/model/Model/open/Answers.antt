@@ -20,9 +20,9 @@ returns-then-not-branch c =
     let look : List Log → Option ConnId = λ xs. owner_in xs c.args.number in
     let owner : c.owner_of-owner.result ≡ owner_in c.add_any.new.self.logs.items n = c.owner_of-owner.ensures ∙ ap look c.deref.ensures.value in
     if_ok c.refuse-then-not-branch.result
-        (λ t g. open_full c.args.line c.args.conn c.args.head n m (machine_of c.add_any.new.self) (machine_of c.make.new.self) c.owner_of-owner.result t (machine_of c.refuse-then-not-branch.new.self)
-            c.requires fit full same owner c.in_ok-make.ensures g)
-        c.refuse-then-not-branch.ensures
+    (λ t g. open_full c.args.line c.args.conn c.args.head n m (machine_of c.add_any.new.self) (machine_of c.make.new.self) c.owner_of-owner.result t (machine_of c.refuse-then-not-branch.new.self)
+    c.requires fit full same owner c.in_ok-make.ensures g)
+    c.refuse-then-not-branch.ensures
 
 pub returns : goal.returns
 returns c =

@@ -23,6 +23,6 @@ returns c =
     let on_records : List Record → Option ℕ = λ rs. first rs c.nanos-point.result in
     let on_point : ℕ → Option ℕ = λ p. first log.records p in
     let at : first log.records c.args.restart.point ≡ Some c.in-Some-first.kept =
-        sym (ap on_point c.nanos-point.ensures.value) ∙ (sym (ap on_records c.as_slice.ensures) ∙ (sym c.first.ensures ∙ c.in-Some-first.is)) in
+    sym (ap on_point c.nanos-point.ensures.value) ∙ (sym (ap on_records c.as_slice.ensures) ∙ (sym c.first.ensures ∙ c.in-Some-first.is)) in
     restart_gives c.args.conn n c.args.restart.point m (stored_of log) log.promised c.in-Some-first.kept (logs_in c.resume_log.new.logs.items) (owner_in c.resume_log.new.logs.items) (machine_of c.set_state.new.self)
-        free t goes_on at c.in-Some-cuts_with.ensures.0 (c.resume_log.ensures.logs (stored_of log) log.promised t) (c.resume_log.ensures.owners (stored_of log) log.promised t) c.in_ok-set_state.ensures
+    free t goes_on at c.in-Some-cuts_with.ensures.0 (c.resume_log.ensures.logs (stored_of log) log.promised t) (c.resume_log.ensures.owners (stored_of log) log.promised t) c.in_ok-set_state.ensures

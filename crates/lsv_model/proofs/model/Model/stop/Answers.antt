@@ -18,8 +18,15 @@ loop-log-preserved c =
     let i = c.loop-log.log-index in
     let was = get_or xs i c.log-item.result in
     let below : i < length xs = omega arith in
-    let on_records : List Record → Log = λ rs. record { number = (get_or c.loop-log.log-items c.loop-log.log-index c.log-item.result).number; head = (get_or c.loop-log.log-items c.loop-log.log-index c.log-item.result).head; records = (get_or c.loop-log.log-items c.loop-log.log-index c.log-item.result).records;
-        exit = (get_or c.loop-log.log-items c.loop-log.log-index c.log-item.result).exit; cuts = (get_or c.loop-log.log-items c.loop-log.log-index c.log-item.result).cuts; promised = length rs; owner = None } in
+    let on_records : List Record → Log = λ rs. record {
+      number = (get_or c.loop-log.log-items c.loop-log.log-index c.log-item.result).number;
+      head = (get_or c.loop-log.log-items c.loop-log.log-index c.log-item.result).head;
+      records = (get_or c.loop-log.log-items c.loop-log.log-index c.log-item.result).records;
+      exit = (get_or c.loop-log.log-items c.loop-log.log-index c.log-item.result).exit;
+      cuts = (get_or c.loop-log.log-items c.loop-log.log-index c.log-item.result).cuts;
+      promised = length rs;
+      owner = None;
+    } in
     let more = stop_more xs ys i c.log-item.result (on_records c.as_slice.result.now) below c.loop-log.invariant.passed c.loop-log.invariant.rest (ap on_records c.as_slice.ensures) in
     rw add-one (record { passed = more.passed; rest = more.rest })
 
@@ -28,10 +35,19 @@ returns c =
     let xs = c.args.self.now.logs.items in
     let len : length c.loop-log.log-items ≡ c.args.self.now.logs.len = omega arith in
     let all : (with_items c.args.self.now.logs c.loop-log.log-items).items ≡ map stopped xs = with_items_is c.args.self.now.logs c.loop-log.log-items len ∙ (
-        let past : length c.loop-log.log-items ≤ c.loop-log.log-index = omega arith in
-        all_stopped c.loop-log.log-items c.deref_mut-log-items.result.now c.loop-log.log-index past c.loop-log.invariant.passed c.loop-log.invariant.rest ∙ ap (map stopped) c.deref_mut-log-items.ensures.value) in
+    let past : length c.loop-log.log-items ≤ c.loop-log.log-index = omega arith in
+    all_stopped c.loop-log.log-items c.deref_mut-log-items.result.now c.loop-log.log-index past c.loop-log.invariant.passed c.loop-log.invariant.rest ∙ ap (map stopped) c.deref_mut-log-items.ensures.value) in
     let made : List Connection → List ℕ → List ℕ → List ConnId → (ℕ → LogState) → (ℕ → Option ConnId) → Machine = λ conns w f no logs owner. record {
-      texts = c.args.texts; logs = logs; states = state_in conns; owner = owner; last = last_of c.args.self.now.last; failed_draws = 0; waiting = w; lines = c.args.self.now.lines; fresh = f; noting = no
+      texts = c.args.texts;
+      logs = logs;
+      states = state_in conns;
+      owner = owner;
+      last = last_of c.args.self.now.last;
+      failed_draws = 0;
+      waiting = w;
+      lines = c.args.self.now.lines;
+      fresh = f;
+      noting = no;
     } in
     let on_conns : List Connection → Machine = λ x. made x c.clear-2.new.self.items c.truncate.new.self c.clear-3.new.self.items (logs_in (with_items c.args.self.now.logs c.loop-log.log-items).items) (owner_in (with_items c.args.self.now.logs c.loop-log.log-items).items) in
     let on_waiting : List ℕ → Machine = λ x. made [] x c.truncate.new.self c.clear-3.new.self.items (logs_in (with_items c.args.self.now.logs c.loop-log.log-items).items) (owner_in (with_items c.args.self.now.logs c.loop-log.log-items).items) in
@@ -41,4 +57,4 @@ returns c =
     let on_found : (ℕ → LogState) → Machine = λ x. made [] [] [] [] x (owner_in (map stopped c.args.self.now.logs.items)) in
     let on_owner : (ℕ → Option ConnId) → Machine = λ x. made [] [] [] [] (λ n. all_promised (logs_in c.args.self.now.logs.items n)) x in
     ap on_conns c.clear.ensures.items ∙ (ap on_waiting c.clear-2.ensures.items ∙ (ap on_fresh c.truncate.ensures ∙ (ap on_noting c.clear-3.ensures.items
-        ∙ (ap on_logs all ∙ (ap on_found (logs_stopped xs) ∙ ap on_owner (owners_stopped xs))))))
+    ∙ (ap on_logs all ∙ (ap on_found (logs_stopped xs) ∙ ap on_owner (owners_stopped xs))))))
