@@ -9,7 +9,7 @@ use Rattle.lsv_session.specs.declared.connection.ConnState.{ConnState}
 use Rattle.lsv_machine.specs.Answers.{is_refused}
 use Rattle.lsv_machine.specs.Machine.{Machine, Settings, with_owner}
 use Rattle.lsv_machine.specs.Work.{Done, before_line, has_line, line_in, lined, refused}
-use Rattle.lsv_model.specs.Gives.{Gives, adds_any, answers_of, fits_any, noted}
+use Rattle.lsv_model.specs.Inner.{Gives, adds_any, answers_of, fits_any, noted}
 use Rattle.lsv_model.specs.declared.told.Told.{Told}
 use Rattle.lsv_model.proofs.TableLemmas.{ext, number_decides}
 

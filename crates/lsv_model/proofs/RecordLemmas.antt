@@ -9,7 +9,7 @@ use Rattle.lsv_record.specs.declared.laid.Laid.{Laid}
 use Rattle.lsv_record.specs.declared.records.Record.{Record}
 use Rattle.lsv_record.specs.declared.records.Stream.TheVariants.{Stdin, Stdout, Stderr, Ttyin, Ttyout}
 use Rattle.lsv_machine.specs.Work.{files_take}
-use Rattle.lsv_model.specs.Views.{fits_files}
+use Rattle.lsv_model.specs.Inner.{fits_files}
 
 pub elapsed_push : (rs : List Record) (r : Record) → elapsed (rs ++ r ∷ []) ≡ elapsed rs + delay_of r
 elapsed_push [] r = omega arith

@@ -7,8 +7,10 @@ use Rattle.lsv_session.specs.declared.connection.ConnId.{ConnId}
 use Rattle.lsv_session.specs.declared.connection.ConnState.{ConnState}
 use Rattle.lsv_session.specs.declared.connection.ConnState.TheVariants.{Fresh}
 use Rattle.lsv_machine.specs.Machine.{LogState, LogState.Absent, LogState.There, same}
-use Rattle.lsv_model.specs.Tables.{lookup, place}
-use Rattle.lsv_model.specs.Views.{connection_place, log_place, logs_in, owner_in, state_in, stored_of, there}
+use Rattle.lsv_model.specs.Inner.{place}
+use Rattle.lsv_model.specs.Tables.{lookup}
+use Rattle.lsv_model.specs.Inner.{connection_place, log_place}
+use Rattle.lsv_model.specs.Views.{logs_in, owner_in, state_in, stored_of, there}
 use Rattle.lsv_model.specs.declared.connections.Connection.{Connection}
 use Rattle.lsv_model.specs.declared.logs.Log.{Log}
 

@@ -18,8 +18,9 @@ use Rattle.lsv_session.specs.declared.connection.ConnState.TheVariants.{Dead, Ru
 use Rattle.lsv_machine.specs.Answers.{Saying.CommitPoint, Saying.LogId, Saying.Shut, is_refused, say}
 use Rattle.lsv_machine.specs.Machine.{LogState, LogState.There, Machine, insert_once, is_running, leaves, log_of, with_log, with_owner, with_state}
 use Rattle.lsv_machine.specs.Work.{Done, before_line, can_cut, cut_to, draws, empty_log, ends, finished, fits_file, has_line, last_number, lined, makes, opened, opens, refused, restarted, sets_exit, silently, taken, takes, with_exit, with_record, work}
-use Rattle.lsv_model.specs.Gives.{Gives, adds_any, fits_any, noted}
-use Rattle.lsv_model.specs.Views.{drawn, next_of, settings_of}
+use Rattle.lsv_model.specs.Inner.{Gives, adds_any, fits_any, noted}
+use Rattle.lsv_model.specs.Inner.{drawn, next_of}
+use Rattle.lsv_model.specs.Views.{settings_of}
 use Rattle.lsv_model.specs.declared.settings.RunSettings.{RunSettings}
 use Rattle.lsv_model.specs.declared.told.Told.{Told}
 use Rattle.lsv_model.specs.declared.told.Told.TheVariants as told

@@ -1,4 +1,4 @@
-pub mod Gives
+pub mod Inner
 pub mod Starting
 pub mod Tables
 pub mod Turning

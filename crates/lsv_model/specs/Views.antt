@@ -1,21 +1,17 @@
 -- What the machine in memory stands for.
-use Rattle.std.specs.Prelude.{◌≡◌, ℕ, Bool, ◌&&◌, ◌==◌, nat_lt, if◌then◌else◌, List, [], Option, Some, None}
+use Rattle.std.specs.Prelude.{ℕ, ◌==◌, List, Option, Some, None}
 use Rattle.lsv_base.specs.declared.time.TimeSpec.{TimeSpec}
 use Rattle.lsv_record.specs.Points.{Stored}
-use Rattle.lsv_record.specs.declared.laid.Laid.{Laid}
-use Rattle.lsv_record.specs.declared.records.Record.{Record}
 use Rattle.lsv_request.specs.declared.request.Request.{Request}
-use Rattle.lsv_request.specs.declared.request.Request.TheVariants as request
 use Rattle.lsv_session.specs.declared.connection.ConnId.{ConnId}
 use Rattle.lsv_session.specs.declared.connection.ConnState.{ConnState}
 use Rattle.lsv_session.specs.declared.connection.ConnState.TheVariants.{Fresh}
 use Rattle.lsv_machine.specs.Machine.{LogState, LogState.Absent, LogState.There, Machine, Settings, same}
-use Rattle.lsv_machine.specs.Work.{fits_file, last_number, next_number}
 use Rattle.lsv_model.specs.declared.connections.Connection.{Connection}
 use Rattle.lsv_model.specs.declared.logs.Log.{Log}
 use Rattle.lsv_model.specs.declared.model.Model.{Model}
 use Rattle.lsv_model.specs.declared.settings.RunSettings.{RunSettings}
-use Rattle.lsv_model.specs.Tables.{lookup, place}
+use Rattle.lsv_model.specs.Tables.{lookup}
 
 -- a log as it is stored
 abbrev pub stored_of : Log → Stored
@@ -33,17 +29,9 @@ logs_in logs n = lookup (λ (i j : ℕ). i == j) (λ log. log.number) there Abse
 abbrev pub owner_in : List Log → ℕ → Option ConnId
 owner_in logs n = lookup (λ (i j : ℕ). i == j) (λ log. log.number) (λ log. log.owner) None logs n
 
--- where the log of a number stands
-abbrev pub log_place : List Log → ℕ → Option ℕ
-log_place logs n = place (λ (i j : ℕ). i == j) (λ log. log.number) logs n
-
 -- what each connection is doing
 abbrev pub state_in : List Connection → ConnId → ConnState
 state_in connections k = lookup same (λ c. c.id) (λ c. c.state) Fresh connections k
-
--- where a connection stands
-abbrev pub connection_place : List Connection → ConnId → Option ℕ
-connection_place connections k = place same (λ c. c.id) connections k
 
 -- the last number drawn, 0 where none was
 abbrev pub last_of : Option ℕ → ℕ
@@ -68,30 +56,3 @@ machine_of m = record {
 -- the settings of a run whose event lines are these
 abbrev pub settings_of : RunSettings → (TimeSpec → ConnId → Request → Option ℕ → List ℕ) → Settings
 settings_of set line = record { lane = set.lane; lanes = set.lanes; log_exit = set.log_exit; line_of = line }
-
--- records, of which alone a log is made: its head, its exit and its cuts play no part in what its files take
-abbrev pub bare : List Record → Stored
-bare records = record { head = []; records = records; exit = None; cuts = 0 }
-
--- the number that the next accept draws, where all weren't given
-abbrev pub next_of : RunSettings → Machine → ℕ
-next_of set m = next_number (settings_of set (λ now k asked log. [])) m
-
-abbrev pub drawn : RunSettings → Machine → Option ℕ
-drawn set m = if nat_lt last_number (next_of set m) then None else Some (next_of set m)
-
--- a request that has no event line has none
-abbrev pub IsLineOf : Request → Option (List ℕ) → Type 0
-IsLineOf request.Hello line = line ≡ None
-IsLineOf (request.Restart restart) line = line ≡ None
-IsLineOf (request.Record r) line = line ≡ None
-IsLineOf (request.Accept accept) line = Unit {0}
-IsLineOf (request.Reject report) line = Unit {0}
-IsLineOf (request.Alert report) line = Unit {0}
-IsLineOf (request.Exit exit) line = Unit {0}
-
--- the files of a log take this layout
-abbrev pub fits_files : Laid → Bool
-fits_files l =
-    fits_file l.timing && fits_file l.stdin && fits_file l.stdout && fits_file l.stderr
-    && fits_file l.ttyin && fits_file l.ttyout

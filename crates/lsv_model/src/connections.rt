@@ -1,6 +1,7 @@
 ghost use Rattle.std.specs.Prelude.{◌≡◌, ◌<◌, length, IfSome, if◌then◌else◌, OnOk};
 ghost use Rattle.lsv_machine.specs.Machine.{is_running, log_of, same};
-ghost use Rattle.lsv_model.specs.Views.{connection_place, state_in};
+ghost use Rattle.lsv_model.specs.Inner.{connection_place};
+ghost use Rattle.lsv_model.specs.Views.{state_in};
 
 use lsv_base::{LogNo, NoMem};
 use lsv_session::{ConnId, ConnState};

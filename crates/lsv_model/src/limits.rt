@@ -1,7 +1,7 @@
 ghost use Rattle.std.specs.Prelude.{◌≡◌, ◌++◌, [], ◌∷◌, ◌+◌, ◌<◌, ◌^◌, IfOk, SomeIff, IsTrue};
 ghost use Rattle.lsv_machine.specs.Work.{files_take, fits_file, takes};
 ghost use Rattle.lsv_mask.specs.Masking.{covered};
-ghost use Rattle.lsv_model.specs.Views.{bare, fits_files};
+ghost use Rattle.lsv_model.specs.Inner.{bare, fits_files};
 ghost use Rattle.lsv_record.specs.Records.{delay_of, elapsed};
 
 use crate::Records;

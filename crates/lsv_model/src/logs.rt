@@ -2,7 +2,8 @@ ghost use Rattle.std.specs.Prelude.{◌≡◌, ◌<◌, ◌^◌, ◌+◌, ℕ, �
 ghost use Rattle.lsv_machine.specs.Machine.{LogState.Absent, LogState.There};
 ghost use Rattle.lsv_machine.specs.Turns.{raised};
 ghost use Rattle.lsv_machine.specs.Work.{cut_to, with_exit, with_record};
-ghost use Rattle.lsv_model.specs.Views.{log_place, logs_in, owner_in, there};
+ghost use Rattle.lsv_model.specs.Inner.{log_place};
+ghost use Rattle.lsv_model.specs.Views.{logs_in, owner_in, there};
 ghost use Rattle.lsv_record.specs.Points.{Stored, first};
 ghost use Rattle.lsv_record.specs.Records.{delay_of, elapsed};
 

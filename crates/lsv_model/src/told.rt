@@ -1,6 +1,6 @@
 ghost use Rattle.std.specs.Prelude.{◌≡◌, [], ◌∷◌, ◌++◌, Bool, true, false, map, OnOk, IfOk};
 ghost use Rattle.lsv_machine.specs.Answers.{reply_of};
-ghost use Rattle.lsv_model.specs.Gives.{answers_of};
+ghost use Rattle.lsv_model.specs.Inner.{answers_of};
 ghost use Rattle.lsv_session.specs.declared.reply.ReplyBody.TheVariants as body;
 
 use crate::points::time_of;

@@ -3,8 +3,9 @@ ghost use Rattle.lsv_info.specs.Layout.{exit_text, head_text};
 ghost use Rattle.lsv_machine.specs.Answers.{Shut, farewell, say};
 ghost use Rattle.lsv_machine.specs.Machine.{LogState.There, forgets, is_dead, log_of, with_log, with_owner, with_state};
 ghost use Rattle.lsv_machine.specs.Work.{adds_line, answered, before_line, can_cut, cut_to, dropped, empty_log, ends, finished, has_line, last_number, line_fits, makes, next_number, opened, opens, plain, refused, restarted, sets_exit, silently, taken, work};
-ghost use Rattle.lsv_model.specs.Gives.{Gives, adds_any, fits_any, noted};
-ghost use Rattle.lsv_model.specs.Views.{IsLineOf, drawn, machine_of, next_of, settings_of, stored_of};
+ghost use Rattle.lsv_model.specs.Inner.{Gives, adds_any, fits_any, noted};
+ghost use Rattle.lsv_model.specs.Inner.{IsLineOf, drawn, next_of};
+ghost use Rattle.lsv_model.specs.Views.{machine_of, settings_of, stored_of};
 ghost use Rattle.lsv_request.specs.declared.request.Request.TheVariants as request;
 ghost use Rattle.lsv_session.specs.declared.connection.ConnState.TheVariants.{Running};
 

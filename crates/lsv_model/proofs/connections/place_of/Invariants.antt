@@ -1,5 +1,5 @@
 use Rattle.std.proofs.Common.{◌≡◌, drop}
-use Rattle.lsv_model.specs.Views.{connection_place}
+use Rattle.lsv_model.specs.Inner.{connection_place}
 use Rattle.lsv_model.proofs.TableLemmas.{later}
 use Rattle.lsv_model.proofs.connections.place_of.Given as goal
 

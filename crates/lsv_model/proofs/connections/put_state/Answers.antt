@@ -1,5 +1,5 @@
 use Rattle.std.proofs.Common.{◌≡◌, Some, None}
-use Rattle.lsv_model.specs.Views.{connection_place}
+use Rattle.lsv_model.specs.Inner.{connection_place}
 use Rattle.lsv_model.proofs.TableLemmas.{state_push, state_set}
 use Rattle.lsv_model.proofs.connections.put_state.Goals as goal
 

@@ -2,7 +2,8 @@ use Rattle.std.proofs.Common.{◌≡◌, ℕ, length, refl, ap, Some, None}
 use Rattle.std.specs.Prelude.{if◌then◌else◌}
 use Rattle.lsv_machine.specs.Machine.{LogState, LogState.There}
 use Rattle.lsv_machine.specs.Work.{with_exit}
-use Rattle.lsv_model.specs.Views.{log_place, stored_of}
+use Rattle.lsv_model.specs.Inner.{log_place}
+use Rattle.lsv_model.specs.Views.{stored_of}
 use Rattle.lsv_record.specs.Points.{Stored}
 use Rattle.lsv_model.proofs.TableLemmas.{changed, not_there, owners_same}
 use Rattle.lsv_model.proofs.logs.finish_log.Goals as goal

@@ -1,5 +1,5 @@
 use Rattle.std.proofs.Common.{◌≡◌, drop}
-use Rattle.lsv_model.specs.Views.{log_place}
+use Rattle.lsv_model.specs.Inner.{log_place}
 use Rattle.lsv_model.proofs.TableLemmas.{later}
 use Rattle.lsv_model.proofs.logs.place_of.Given as goal
 

@@ -1,5 +1,5 @@
 use Rattle.std.proofs.Common.{◌≡◌, Some, None, refl}
-use Rattle.lsv_model.specs.Views.{log_place}
+use Rattle.lsv_model.specs.Inner.{log_place}
 use Rattle.lsv_model.proofs.TableLemmas.{logs_push, logs_set, owners_push, owners_set}
 use Rattle.lsv_model.proofs.logs.put_log.Goals as goal
 

@@ -1,7 +1,8 @@
 use Rattle.std.proofs.Common.{◌≡◌, ℕ, List, take, refl, ap, ◌∙◌, Some, None}
 use Rattle.lsv_machine.specs.Machine.{LogState, LogState.There}
 use Rattle.lsv_machine.specs.Work.{cut_to}
-use Rattle.lsv_model.specs.Views.{log_place, stored_of}
+use Rattle.lsv_model.specs.Inner.{log_place}
+use Rattle.lsv_model.specs.Views.{stored_of}
 use Rattle.lsv_record.specs.Points.{Stored}
 use Rattle.lsv_record.specs.declared.records.Record.{Record}
 use Rattle.lsv_model.proofs.TableLemmas.{changed, log_at, not_there, owners_set}

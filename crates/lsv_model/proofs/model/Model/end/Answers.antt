@@ -4,7 +4,7 @@ use Rattle.lsv_session.specs.declared.connection.ConnState.TheVariants.{Dead}
 use Rattle.lsv_machine.specs.Answers.{Saying.Shut, say}
 use Rattle.lsv_machine.specs.Machine.{Machine, leaves}
 use Rattle.lsv_machine.specs.Work.{ends}
-use Rattle.lsv_model.specs.Gives.{adds_any, fits_any}
+use Rattle.lsv_model.specs.Inner.{adds_any, fits_any}
 use Rattle.lsv_model.specs.Views.{machine_of}
 use Rattle.lsv_model.specs.declared.told.Told.TheVariants as told
 use Rattle.lsv_model.proofs.Outcomes.{fits_gives, full_gives, if_ok, not_added, was_added}

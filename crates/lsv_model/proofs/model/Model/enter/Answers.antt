@@ -2,7 +2,7 @@ use Rattle.std.proofs.Common.{◌≡◌, refl, sym, ap, ◌∙◌}
 use Rattle.std.specs.Prelude.{true, false}
 use Rattle.lsv_machine.specs.Machine.{Machine, with_state}
 use Rattle.lsv_machine.specs.Work.{silently}
-use Rattle.lsv_model.specs.Gives.{adds_any, fits_any}
+use Rattle.lsv_model.specs.Inner.{adds_any, fits_any}
 use Rattle.lsv_model.specs.Views.{machine_of}
 use Rattle.lsv_model.specs.declared.told.Told.TheVariants as told
 use Rattle.lsv_model.proofs.Outcomes.{fits_gives, full_gives, if_ok, not_added, was_added}

@@ -3,7 +3,7 @@ use Rattle.std.specs.Prelude.{true, false}
 use Rattle.lsv_machine.specs.Machine.{LogState, LogState.There, Machine}
 use Rattle.lsv_machine.specs.Work.{fits_file}
 use Rattle.lsv_model.specs.declared.logs.Log.{Log}
-use Rattle.lsv_model.specs.Gives.{adds_any, fits_any}
+use Rattle.lsv_model.specs.Inner.{adds_any, fits_any}
 use Rattle.lsv_model.specs.Views.{logs_in, machine_of, owner_in, stored_of}
 use Rattle.lsv_model.proofs.Outcomes.{if_ok, not_added, was_added}
 use Rattle.lsv_model.proofs.WorkLemmas.{finish_fits, finish_full}

@@ -1,7 +1,7 @@
 use Rattle.std.proofs.Common.{◌≡◌, List, Option, sym, ap, ◌∙◌}
 use Rattle.std.specs.Prelude.{true, false}
 use Rattle.lsv_machine.specs.Work.{draws, fits_file}
-use Rattle.lsv_model.specs.Gives.{adds_any, fits_any}
+use Rattle.lsv_model.specs.Inner.{adds_any, fits_any}
 use Rattle.lsv_session.specs.declared.connection.ConnId.{ConnId}
 use Rattle.lsv_model.specs.declared.logs.Log.{Log}
 use Rattle.lsv_model.specs.Views.{machine_of, owner_in}

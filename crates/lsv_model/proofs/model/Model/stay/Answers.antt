@@ -1,7 +1,7 @@
 use Rattle.std.proofs.Common.{◌≡◌, refl, sym, ◌∙◌}
 use Rattle.std.specs.Prelude.{false}
 use Rattle.lsv_machine.specs.Work.{silently}
-use Rattle.lsv_model.specs.Gives.{adds_any, fits_any}
+use Rattle.lsv_model.specs.Inner.{adds_any, fits_any}
 use Rattle.lsv_model.specs.Views.{machine_of}
 use Rattle.lsv_model.proofs.Outcomes.{full_gives, if_ok, not_added}
 use Rattle.lsv_model.proofs.model.Model.stay.Goals as goal
