@@ -431,13 +431,3 @@ fn debian_s_keys_of_events(rt: HostRuntime) -> Result<(), Fail> {
     ];
     read_so(&rt, rt.alloc(), rows.as_slice())
 }
-
-/// The file as it is shipped sets nothing.
-const SHIPPED: &str =
-    "#\n# sudo logsrv daemon configuration\n#\n\n[server]\n#listen_address = *:30343\n#listen_address = *:30344(tls)\n#pid_file = /run/sudo/sudo_logsrvd.pid\n#server_log = syslog\n#tcp_keepalive = true\n#timeout = 30\n#tls_verify = true\n#tls_checkpeer = false\n#tls_cacert = /etc/ssl/sudo/cacert.pem\n#tls_cert = /etc/ssl/sudo/certs/logsrvd_cert.pem\n#tls_key = /etc/ssl/sudo/private/logsrvd_key.pem\n#tls_ciphers_v12 = HIGH:!aNULL\n#tls_ciphers_v13 = TLS_AES_256_GCM_SHA384\n#tls_dhparams = /etc/ssl/sudo/logsrvd_dhparams.pem\n\n[relay]\n#relay_host = relayhost.dom.ain\n#relay_host = relayhost.dom.ain(tls)\n#connect_timeout = 30\n#relay_dir = /var/log/sudo_logsrvd\n#retry_interval = 30\n#store_first = true\n#tcp_keepalive = true\n#timeout = 30\n#tls_checkpeer = false\n\n[iolog]\n#iolog_dir = /var/log/sudo-io\n#iolog_file = %{seq}\n#iolog_compress = false\n#iolog_flush = true\n#iolog_group = root\n#iolog_user = root\n#iolog_mode = 0600\n#log_passwords = true\n#passprompt_regex = [Pp]assword[: ]*\n#maxseq = 2176782336\n\n[eventlog]\n#log_type = syslog\n#log_exit = true\n#log_format = sudo\n\n[syslog]\n#maxlen = 960\n#facility = authpriv\n#accept_priority = notice\n#reject_priority = alert\n#alert_priority = alert\n#server_facility = daemon\n\n[logfile]\n#path = /var/log/sudo.log\n#time_format = %h %e %T\n";
-
-#[test]
-fn debian_s_file_as_it_is_shipped_has_the_defaults(rt: HostRuntime) -> Result<(), Fail> {
-    assert_eq!(rt; made(rt.alloc(), SHIPPED.as_bytes())?.as_str(), "");
-    Ok(())
-}
