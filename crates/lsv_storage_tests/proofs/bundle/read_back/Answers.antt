@@ -5,5 +5,5 @@ use Rattle.lsv_storage_tests.proofs.bundle.read_back.Goals as goal
 pub flush-requires : goal.flush-requires
 flush-requires g c = record {
   represents = λ told whole. staging_represents c.in_ok-bundle.bundle c.unstage.new.self (g.D.Disk.view c.create.new.disk)
-      (c.unstage.ensures.same ∙ c.in_ok-stage-2.ensures.value.same ∙ c.in_ok-stage.ensures.value.same) (c.in_ok-bundle.ensures.represents told);
+      (c.unstage.ensures.value.same ∙ c.in_ok-stage-2.ensures.value.same ∙ c.in_ok-stage.ensures.value.same) (c.in_ok-bundle.ensures.represents told);
 }
