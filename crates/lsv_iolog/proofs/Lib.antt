@@ -13,3 +13,4 @@ pub mod Flushing
 pub mod Finishing
 pub mod Judging
 pub mod Opening
+pub mod Cutting
