@@ -14,3 +14,4 @@ pub mod Finishing
 pub mod Judging
 pub mod Opening
 pub mod Cutting
+pub mod Shortening
