@@ -50,10 +50,10 @@ none_first records point none = of (first records point) refl where
   of (Some n) e = let is = first_some records point n e in absurd (none n is.some is.within is.ends)
 
 -- the time of records by what their lines come to
-tally_time : (tally : Totals) (behind : List Record) → tally ≡ totals_of (map shape_of behind) → tally.elapsed ≡ elapsed behind
+pub tally_time : (tally : Totals) (behind : List Record) → tally ≡ totals_of (map shape_of behind) → tally.elapsed ≡ elapsed behind
 tally_time tally behind totals = ap (λ (t : Totals). t.elapsed) totals ∙ lines_tell_time behind
 
-tally_count : (tally : Totals) (behind : List Record) → tally ≡ totals_of (map shape_of behind) → tally.count ≡ length behind
+pub tally_count : (tally : Totals) (behind : List Record) → tally ≡ totals_of (map shape_of behind) → tally.count ≡ length behind
 tally_count tally behind totals = let e : tally.count ≡ length (map shape_of behind) = ap (λ (t : Totals). t.count) totals in grind (arith, common_steps, e)
 
 -- the records before the last line end earlier

@@ -15,3 +15,4 @@ pub mod Judging
 pub mod Opening
 pub mod Cutting
 pub mod Shortening
+pub mod Dropping

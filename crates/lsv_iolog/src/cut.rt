@@ -111,8 +111,8 @@ impl IoLog {
                 self.is_broken = true;
                 Err(LogFault::Disk)
             }
-            Err(LogFault::NoMem) => Err(LogFault::NoMem),
-            Err(_) => Err(LogFault::NoPoint(point)),
+            Err(LogFault::Damaged(_)) => Err(LogFault::NoPoint(point)),
+            Err(_) => Err(LogFault::NoMem),
         }
     }
 
