@@ -1,5 +1,5 @@
 -- What a cut leaves is the log cut at its point.
-use Rattle.std.proofs.Common.{◌≡◌, ◌≢◌, inl, inr, ℕ, zero, suc, ◌+◌, ◌<◌, ◌≤◌, ◌^◌, true, false, Ok, List, [], ◌∷◌, ◌++◌, All, length, take, drop, map, Option, Some, None, refl, sym, ◌∙◌, ap, subst, arith, append-nil, length-append}
+use Rattle.std.proofs.Common.{◌≡◌, ◌≢◌, inl, inr, ℕ, zero, suc, ◌+◌, ◌<◌, ◌≤◌, ◌^◌, true, false, Result, Ok, Err, OnOk, List, [], ◌∷◌, ◌++◌, All, length, take, drop, map, Option, Some, None, refl, sym, ◌∙◌, ap, subst, arith, append-nil, length-append}
 use Rattle.std.specs.Prelude.{min, get_or, slice_index, unwrap_or, nat_lt, if◌then◌else◌, Bool}
 use Rattle.std.proofs.lemmas.Bool.Decides.{nat_tests}
 use Rattle.std.proofs.lemmas.List.{take_at, take_all, length-take, take-append-drop}
@@ -9,9 +9,9 @@ use Rattle.lsv_disk.specs.declared.file.Part.{Part}
 use Rattle.lsv_disk.specs.declared.file.Part.TheVariants.{Head, Exit, Timing, Stdin, Stdout, Stderr, Ttyin, Ttyout}
 use Rattle.lsv_disk.specs.Bytes.{bytes_of}
 use Rattle.lsv_disk.specs.Files.{file_of}
-use Rattle.lsv_disk.specs.Throughout.{Throughout}
+use Rattle.lsv_disk.specs.Throughout.{Throughout, OnlyReads}
 use Rattle.lsv_disk.specs.View.{DiskView, Image}
-use Rattle.lsv_disk.proofs.Composition.{widened}
+use Rattle.lsv_disk.proofs.Composition.{widened, unchanged_throughout}
 use Rattle.lsv_bundle.specs.declared.body.Body.{Body}
 use Rattle.lsv_bundle.specs.declared.shape.Shape.{Shape}
 use Rattle.lsv_bundle.specs.declared.shape.Shape.TheVariants as shapes
@@ -19,7 +19,7 @@ use Rattle.lsv_bundle.specs.Body.{length_of}
 use Rattle.lsv_bundle.specs.Committed.{Committed, IsBeforeOrAfter, committed, committed_bytes}
 use Rattle.lsv_bundle.specs.Represents as bundles
 use Rattle.lsv_bundle.specs.Shape.{IsPart, IsWritable, on_shape, eight, index_of, journal_of}
-use Rattle.lsv_bundle.specs.Value.{BundleView, committed_length}
+use Rattle.lsv_bundle.specs.Value.{BundleView, committed_length, NoneStaged}
 use Rattle.lsv_record.specs.declared.laid.Laid.{Laid}
 use Rattle.lsv_record.specs.declared.records.Record.{Record}
 use Rattle.lsv_record.specs.declared.records.Stream.TheVariants as stream
@@ -41,9 +41,9 @@ use Rattle.lsv_iolog.specs.Inner.Invariant.{IsSettled}
 use Rattle.lsv_iolog.specs.Inner.Cutting.{IsFound, IsCutTo, length_behind, last_of, body_behind, entry_behind}
 use Rattle.lsv_iolog.proofs.Committing.{eight_of}
 use Rattle.lsv_iolog.proofs.Cutting.{tally_time, tally_count}
-use Rattle.lsv_iolog.proofs.Flushing.{entry_body, entry_bytes, next_moment}
+use Rattle.lsv_iolog.proofs.Flushing.{entry_body, entry_bytes, next_moment, no_timing}
 use Rattle.lsv_iolog.proofs.Replaying.{on_log}
-use Rattle.lsv_iolog.proofs.Representing.{settled_represents, settled_small}
+use Rattle.lsv_iolog.proofs.Representing.{settled_represents, settled_small, log_stays, every_image}
 use Rattle.lsv_iolog.proofs.Shortening.{last_is, settled_cut}
 
 -- the first bytes of a longer text
@@ -67,7 +67,7 @@ none_bytes k xs (Some t) has none = absurd (some_none t none) where
 
 -- a represented log of which these lines are found
 module _ (log : IoLogView) (value : LogValue) (disk : DiskView) (at : Represents log value disk) (kept : Totals) (point cuts : ℕ) (found : IsFound value.stored.records point (Some kept)) (going : value.stored.exit ≡ None) where
-  has_body : log.bundle.last ≡ Some at.entry.body
+  pub has_body : log.bundle.last ≡ Some at.entry.body
   has_body = entry_body log.bundle disk at.entry at.committed
 
   same_body : last_of log.bundle ≡ at.entry.body
@@ -214,3 +214,21 @@ cut_later log point = of (drops log point) refl where
     ap (λ (b : Bool). if b then log.cuts + 1 else log.cuts) is,
     ([], take_all (points.kept log.records point) log.records (let d : nat_lt (points.kept log.records point) (length log.records) ≡ false = is in grind (arith, nat_tests, d)) ∙ sym (append-nil log.records)),
   )
+
+-- reads leave a log represented, and at each moment as it was
+pub read_stays : (log : IoLogView) (value : LogValue) (old new : DiskView) → OnlyReads old new → Represents log value old → Represents log value new
+read_stays log value old new reads at = log_stays log value (λ _. ⊥) old new reads.unchanged.elsewhere (λ f of none. none) at
+
+pub read_moment : (log : IoLogView) (value : LogValue) (after : Stored) (old new : DiskView) → OnlyReads old new → Represents log value old → Throughout (IsOfLog log.number) (IsEither log.number (Some value.stored) (Some after)) old new
+read_moment log value after old new reads at = unchanged_throughout (IsOfLog log.number) (IsEither log.number (Some value.stored) (Some after)) old new (λ image is. inl (every_image log value old at image is)) reads.unchanged
+
+-- where nothing is staged no record is
+pub none_left : (log : IoLogView) (value : LogValue) (disk : DiskView) → Represents log value disk → NoneStaged log.bundle → value.staged ≡ []
+none_left log value disk at none = no_timing log value disk at (ap length (none Timing (subst (λ (s : Shape). IsPart s Timing) (sym at.shape) tt)))
+
+pub on_ok_five : {T E : Type 0} (r : Result T E) (A B C D F Q : Type 0) → (A → B → C → D → F → Q) → OnOk r A → OnOk r B → OnOk r C → OnOk r D → OnOk r F → OnOk r Q
+on_ok_five (Ok x) A B C D F Q f a b c d e = f a b c d e
+on_ok_five (Err y) A B C D F Q f a b c d e = tt
+
+pub some_first : (o : Option ℕ) (n : ℕ) → o ≡ Some n → o ≢ None
+some_first o n is none = cc
