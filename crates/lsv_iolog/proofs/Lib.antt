@@ -13,3 +13,6 @@ pub mod Flushing
 pub mod Finishing
 pub mod Judging
 pub mod Opening
+pub mod Cutting
+pub mod Shortening
+pub mod Dropping

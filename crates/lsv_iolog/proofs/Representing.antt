@@ -29,7 +29,7 @@ use Rattle.lsv_iolog.specs.Represents.{HasStaged, Represents, Stages}
 use Rattle.lsv_iolog.proofs.Replaying.{one_replay}
 
 -- what holds of an owner and a shape holds of what they are
-holds_as : (a b : Owner) (s t : Shape) (x y : Option Committed) (image : Image) → a ≡ b → s ≡ t → x ≡ y → BundleHolds a s x image → BundleHolds b t y image
+pub holds_as : (a b : Owner) (s t : Shape) (x y : Option Committed) (image : Image) → a ≡ b → s ≡ t → x ≡ y → BundleHolds a s x image → BundleHolds b t y image
 holds_as a b s t x y image e f g holds =
     subst (λ (o : Owner). BundleHolds o t y image) e (subst (λ (z : Shape). BundleHolds a z y image) f (subst (λ (c : Option Committed). BundleHolds a s c image) g holds))
 

@@ -125,7 +125,7 @@ goes_on text read whole good all begins is before =
         let all_long = ap length is in
         omega (arith, long, all_long, before, length-append (lines_of whole) (lines_of more))
 
-line_before_end : (text : List ℕ) (at next : ℕ) (line : Shaped) → IsLineAt text at line next → at < length text
+pub line_before_end : (text : List ℕ) (at next : ℕ) (line : Shaped) → IsLineAt text at line next → at < length text
 line_before_end text at next line stands =
     let e = ap length stands.spelled in let some = some_line line in let left = length-drop at text in
     omega (arith, e, some, left, length-append (shaped_line line) (drop next text))

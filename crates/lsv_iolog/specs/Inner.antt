@@ -4,3 +4,4 @@ pub mod Scanning
 pub mod Staging
 pub mod Next
 pub mod Judging
+pub mod Cutting

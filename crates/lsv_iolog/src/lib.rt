@@ -4,6 +4,7 @@
 
 mod append;
 mod commit;
+mod cut;
 mod fault;
 mod laws;
 mod lines;
