@@ -21,7 +21,10 @@ const TOLD: [(&[u8], &[u8]); 6] = [
     (b"submitcwd", b"/home/ann/projects/website"),
     (b"ttyname", b"/dev/pts/0"),
     (b"runuser", b"root"),
-    (b"command", b"/usr/bin/systemctl restart nginx.service --no-pager --quiet"),
+    (
+        b"command",
+        b"/usr/bin/systemctl restart nginx.service --no-pager --quiet",
+    ),
 ];
 
 const PROMPTS: [&[u8]; 2] = [b"assword:", b"assword for"];
