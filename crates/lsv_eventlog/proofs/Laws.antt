@@ -97,16 +97,18 @@ every_image log disk is at image left = bundle_text log.lane log.bundle disk ima
 pub log_stays : (log : EventLogView) (Touched : FileId → Type 0) (old new : DiskView) → IsEventLog log → Elsewhere Touched old new → ((file : FileId) → file.owner ≡ Events log.lane → Touched file → ⊥)
     → Represents log old → Represents log new × (committed_text log new ≡ committed_text log old)
 log_stays log Touched old new is elsewhere other at =
-    let apart : (file : FileId) → file.owner ≡ log.bundle.owner → Touched file → ⊥ = λ file own. other file (own ∙ is.owner) in
-    (owner_represents log.bundle Touched old new elsewhere apart at,
-    ap (λ (o : Option (List ℕ)). take (committed_length log.bundle Lines) (bytes_of o)) (elsewhere.same (file_of log.bundle.owner Lines) (apart (file_of log.bundle.owner Lines) refl)))
+    let apart : (file : FileId) → file.owner ≡ log.bundle.owner → Touched file → ⊥ = λ file own. other file (own ∙ is.owner) in (
+      owner_represents log.bundle Touched old new elsewhere apart at,
+      ap (λ (o : Option (List ℕ)). take (committed_length log.bundle Lines) (bytes_of o)) (elsewhere.same (file_of log.bundle.owner Lines) (apart (file_of log.bundle.owner Lines) refl)),
+    )
 
 -- and with a line that is added
 pub log_added : (old new : EventLogView) (disk : DiskView) (line : List ℕ) → IsAdded line old new → Represents old disk → Represents new disk × (committed_text new disk ≡ committed_text old disk)
-log_added old new disk line is at =
-    (staging_represents old.bundle new.bundle disk is.others at,
-    ap (λ (n : ℕ). take n (bytes_of (disk.reads (file_of new.bundle.owner Lines)))) (staging_lengths old.bundle new.bundle is.others Lines)
-    ∙ ap (λ (b : BundleView). take (committed_length old.bundle Lines) (bytes_of (disk.reads (file_of b.owner Lines)))) is.others)
+log_added old new disk line is at = (
+  staging_represents old.bundle new.bundle disk is.others at,
+  ap (λ (n : ℕ). take n (bytes_of (disk.reads (file_of new.bundle.owner Lines)))) (staging_lengths old.bundle new.bundle is.others Lines)
+      ∙ ap (λ (b : BundleView). take (committed_length old.bundle Lines) (bytes_of (disk.reads (file_of b.owner Lines)))) is.others,
+)
 
 -- the committed bytes of the one data file are as many as its value says
 file_is_long : (owner : Owner) (disk : DiskView) (files : List FileView) → map (λ f. f.part) files ≡ Lines ∷ [] → bundles.Each (bundles.IsDurableFile owner disk) files

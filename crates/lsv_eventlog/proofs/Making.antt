@@ -63,8 +63,10 @@ begins lane bundle old new fresh none zero run = widened (IsWritable bundle.owne
   where
     own : (file : FileId) → IsWritable bundle.owner bundle.shape file → IsOfEventLog lane file
     own file w = writable_own (Events lane) shapes.Lines file (subst (λ (s : Shape). IsWritable (Events lane) s file) fresh.shape_is (subst (λ (o : Owner). IsWritable o bundle.shape file) fresh.owner_is w))
+
     moved : (entry : Option Committed) (image : Image) → BundleHolds bundle.owner bundle.shape entry image → BundleHolds (Events lane) shapes.Lines entry image
     moved entry image holds = subst (λ (s : Shape). BundleHolds (Events lane) s entry image) fresh.shape_is (subst (λ (o : Owner). BundleHolds o bundle.shape entry image) fresh.owner_is holds)
+
     each : (image : Image) → IsBeforeOrAfter bundle.owner bundle.shape (committed bundle old) (Some (committed_next bundle old 0 0 0 0)) image → ((file : FileId) → (IsWritable bundle.owner bundle.shape file → ⊥) → old.crash_states file (image file)) → IsEmpty lane image
     each image (inl before) beside = inl (subst (λ (e : Option Committed). BundleHolds (Events lane) shapes.Lines e image) (none_committed bundle old none) (moved (committed bundle old) image before), refl)
     each image (inr after) beside = inr (committed_next bundle old 0 0 0 0, moved (Some (committed_next bundle old 0 0 0 0)) image after, nothing_next lane bundle old fresh zero)
@@ -80,7 +82,8 @@ module _ (lane : ℕ) (bundle new : BundleView) (body : Body) (lengths : Part �
     shape = is.shape ∙ fresh.shape_is;
     entry = some_body new.last body is.last;
     broken = λ e. absurd (false≢true (sym is.whole ∙ e));
-    none = λ _. left }
+    none = λ _. left;
+  }
 
   pub made_opened : IsOpened lane (record { lane = lane; added = 0; bundle = new })
   made_opened = record { lane_is = refl; whole = is.whole; none_added = refl; none_staged = left }
@@ -92,13 +95,15 @@ module _ (lane : ℕ) (bundle new : BundleView) (body : Body) (lengths : Part �
 
 pub within_trans : {Own : FileId → Type 0} (m n : ℕ) (old mid new : FileId → ℕ) → RoseWithin m Own old mid → RoseWithin n Own mid new → RoseWithin (m + n) Own old new
 within_trans m n old mid new first second = record {
-    own = λ f is. omega (arith, first.own f is, second.own f is);
-    others = λ f other. second.others f other ∙ first.others f other }
+  own = λ f is. omega (arith, first.own f is, second.own f is);
+  others = λ f other. second.others f other ∙ first.others f other;
+}
 
 pub calls_within : (f : FileId) (Own : FileId → Type 0) (m n p q : ℕ) (old mid new : DiskView) → CallsWithin f m n Own old mid → CallsWithin f p q Own mid new → CallsWithin f (m + p) (n + q) Own old new
 calls_within f Own m n p q old mid new first second = record {
-    writes = within_trans m p old.writes mid.writes new.writes first.writes second.writes;
-    syncs = within_trans n q old.syncs mid.syncs new.syncs first.syncs second.syncs }
+  writes = within_trans m p old.writes mid.writes new.writes first.writes second.writes;
+  syncs = within_trans n q old.syncs mid.syncs new.syncs first.syncs second.syncs;
+}
 
 pub within : {Own : FileId → Type 0} (n : ℕ) (old new : FileId → ℕ) → RoseAtMost n Own old new → RoseWithin n Own old new
 within n old new rose = record { own = rose.own; others = rose.others }
@@ -115,19 +120,21 @@ old_written lane (inr of) = old_apart lane of
 is_written : (lane : ℕ) (f : FileId) → IsOfEventLog lane f → IsWritable (Events lane) shapes.Lines f ⊎ (IsWritable (Events lane) shapes.Lines f → ⊥)
 is_written lane f (inl data_file) = inl (inl data_file)
 is_written lane f (inr journal) = elim (own_cases (journal_of (Events lane)) f journal) [
-    | inl is ↦ inl (inr is)
-    | inr old ↦ inr (λ w. old_written lane (subst (IsWritable (Events lane) shapes.Lines) old w))
-  ]
+  | inl is ↦ inl (inr is)
+  | inr old ↦ inr (λ w. old_written lane (subst (IsWritable (Events lane) shapes.Lines) old w))
+]
 
 within_wider : (lane n : ℕ) (old new : FileId → ℕ) → RoseWithin n (IsWritable (Events lane) shapes.Lines) old new → RoseWithin n (IsOfEventLog lane) old new
 within_wider lane n old new rose = record {
-    own = λ f is. elim (is_written lane f is) [ inl w ↦ rose.own f w | inr other ↦ (let same : new f ≡ old f = rose.others f other in omega arith) ];
-    others = λ f other. rose.others f (λ w. other (writable_own (Events lane) shapes.Lines f w)) }
+  own = λ f is. elim (is_written lane f is) [ inl w ↦ rose.own f w | inr other ↦ (let same : new f ≡ old f = rose.others f other in omega arith) ];
+  others = λ f other. rose.others f (λ w. other (writable_own (Events lane) shapes.Lines f w));
+}
 
 journal_within : (lane n : ℕ) (old new : FileId → ℕ) → RoseWithin n (λ g. g ≡ journal_of (Events lane)) old new → RoseWithin n (IsOfEventLog lane) old new
 journal_within lane n old new rose = record {
-    own = λ f is. elim (is_it lane f is) [ inl it ↦ rose.own f it | inr other ↦ (let same : new f ≡ old f = rose.others f other in omega arith) ];
-    others = λ f other. rose.others f (λ it. other (inr (subst (λ (g : FileId). IsOwn (journal_of (Events lane)) g) (sym it) (own_itself (journal_of (Events lane)))))) }
+  own = λ f is. elim (is_it lane f is) [ inl it ↦ rose.own f it | inr other ↦ (let same : new f ≡ old f = rose.others f other in omega arith) ];
+  others = λ f other. rose.others f (λ it. other (inr (subst (λ (g : FileId). IsOwn (journal_of (Events lane)) g) (sym it) (own_itself (journal_of (Events lane))))));
+}
   where
     is_it : (lane : ℕ) (f : FileId) → IsOfEventLog lane f → (f ≡ journal_of (Events lane)) ⊎ (f ≡ journal_of (Events lane) → ⊥)
     is_it lane f (inl (part, is, of)) = inr (λ it. lines_apart lane (sym (ap (file_of (Events lane)) is) ∙ sym of ∙ it))
@@ -143,17 +150,21 @@ entry_rose lane bundle old new fresh rose = record { own = own; others = others 
   where
     journal_is : journal_of bundle.owner ≡ journal_of (Events lane)
     journal_is = ap journal_of fresh.owner_is
+
     own : (f : FileId) → f ≡ journal_of (Events lane) → new f ≤ old f + 2
     own f is = subst (λ (g : FileId). new g ≤ old g + 2) (journal_is ∙ sym is) rose.journal
+
     unstaged_file : (f : FileId) → IsStagedFile bundle f → ⊥
     unstaged_file f (part, of, some, is) = some (fresh.none_staged part of)
+
     others : (f : FileId) → (f ≡ journal_of (Events lane) → ⊥) → new f ≡ old f
     others f other = rose.others f (unstaged_file f) (λ is. other (is ∙ journal_is))
 
 pub entry_calls : (lane : ℕ) (bundle : BundleView) (old new : DiskView) → IsFresh (Events lane) shapes.Lines bundle → CallsOfFlush bundle old new → CallsWithin (journal_of (Events lane)) 2 2 (IsOfEventLog lane) old new
 entry_calls lane bundle old new fresh calls = record {
-    writes = entry_rose lane bundle old.writes new.writes fresh calls.writes;
-    syncs = journal_within lane 2 old.syncs new.syncs (entry_rose lane bundle old.syncs new.syncs fresh calls.syncs) }
+  writes = entry_rose lane bundle old.writes new.writes fresh calls.writes;
+  syncs = journal_within lane 2 old.syncs new.syncs (entry_rose lane bundle old.syncs new.syncs fresh calls.syncs);
+}
 
 pub calls_more : (f : FileId) (Own : FileId → Type 0) (m n p q : ℕ) (old new : DiskView) → m ≤ p → n ≤ q → CallsWithin f m n Own old new → CallsWithin f p q Own old new
 calls_more f Own m n p q old new more than calls = record { writes = within_more m p old.writes new.writes more calls.writes; syncs = within_more n q old.syncs new.syncs than calls.syncs }
@@ -166,9 +177,10 @@ find_calls lane old new calls = record { writes = within 3 old.writes new.writes
 -- an empty image is as the disk read before
 pub empty_as_before : (lane : ℕ) (old : DiskView) (image : Image) → IsCrashImage old old.reads → HoldsLines old.reads lane [] → IsEmpty lane image → IsAsBefore lane old image
 empty_as_before lane old image itself none empty = record {
-    before = old.reads;
-    was = itself;
-    same = λ text holds. subst (HoldsLines image lane) (one_text old.reads lane [] text none holds) empty }
+  before = old.reads;
+  was = itself;
+  same = λ text holds. subst (HoldsLines image lane) (one_text old.reads lane [] text none holds) empty;
+}
 
 pub made_as_before : (lane : ℕ) (old mid new : DiskView) → IsCrashImage old old.reads → HoldsLines old.reads lane [] → Throughout (IsOfEventLog lane) (IsAsBefore lane old) old mid → Throughout (IsOfEventLog lane) (IsEmpty lane) mid new
     → Throughout (IsOfEventLog lane) (IsAsBefore lane old) old new

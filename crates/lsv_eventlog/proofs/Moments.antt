@@ -37,10 +37,12 @@ next_text bundle disk kind count elapsed extra shape =
 -- an image that holds the next entry holds these lines
 pub after_text : (log : EventLogView) (disk : DiskView) (image : Image) (kind count elapsed extra : ℕ) → IsEventLog log
     → HoldsEntry log.bundle.owner log.bundle.shape (committed_next log.bundle disk kind count elapsed extra) image → HoldsLines image log.lane (committed_text log disk ++ added_text log)
-after_text log disk image kind count elapsed extra is holds = inr (committed_next log.bundle disk kind count elapsed extra,
-    subst (λ (o : Owner). HoldsEntry o shapes.Lines (committed_next log.bundle disk kind count elapsed extra) image) is.owner
-    (subst (λ (s : Shape). HoldsEntry log.bundle.owner s (committed_next log.bundle disk kind count elapsed extra) image) is.shape holds),
-    next_text log.bundle disk kind count elapsed extra is.shape)
+after_text log disk image kind count elapsed extra is holds = inr (
+  committed_next log.bundle disk kind count elapsed extra,
+  subst (λ (o : Owner). HoldsEntry o shapes.Lines (committed_next log.bundle disk kind count elapsed extra) image) is.owner
+      (subst (λ (s : Shape). HoldsEntry log.bundle.owner s (committed_next log.bundle disk kind count elapsed extra) image) is.shape holds),
+  next_text log.bundle disk kind count elapsed extra is.shape,
+)
 
 -- at each moment of a flush each image holds the lines before, or with those that were added
 abbrev pub Flushes : EventLogView → DiskView → DiskView → Type 0
@@ -54,6 +56,7 @@ flushes log old new kind count elapsed extra is run =
   where
     own : (file : FileId) → IsWritable log.bundle.owner log.bundle.shape file → IsOfEventLog log.lane file
     own file w = subst (λ (s : Shape). IsOwnFile (Events log.lane) s file) is.shape (subst (λ (o : Owner). IsOwnFile o log.bundle.shape file) is.owner (writable_own log.bundle.owner log.bundle.shape file w))
+
     each : (image : Image) → IsBeforeOrAfter log.bundle.owner log.bundle.shape (committed log.bundle old) (Some (committed_next log.bundle old kind count elapsed extra)) image
         → ((file : FileId) → (IsWritable log.bundle.owner log.bundle.shape file → ⊥) → old.crash_states file (image file)) → IsEither log.lane (committed_text log old) (committed_text log old ++ added_text log) image
     each image (inl before) beside = inl (bundle_text log.lane log.bundle old image is.owner is.shape is.entry before)
@@ -94,11 +97,12 @@ none_left old bundle body lengths is new = new.none_staged Lines (subst (λ (s :
 -- once the added lines are committed, it is an event log with none added
 pub flushed : (old : EventLogView) (bundle : BundleView) (body : Body) (lengths : Part → ℕ) → IsEventLog old → IsCommitted body lengths old.bundle bundle → IsEventLog (record { lane = old.lane; added = 0; bundle = bundle })
 flushed old bundle body lengths is new = record {
-    owner = new.owner ∙ is.owner;
-    shape = new.shape ∙ is.shape;
-    entry = some_body bundle.last body new.last;
-    broken = λ e. absurd (false≢true (sym new.whole ∙ e));
-    none = λ _. none_left old bundle body lengths is new }
+  owner = new.owner ∙ is.owner;
+  shape = new.shape ∙ is.shape;
+  entry = some_body bundle.last body new.last;
+  broken = λ e. absurd (false≢true (sym new.whole ∙ e));
+  none = λ _. none_left old bundle body lengths is new;
+}
 
 -- and these are committed
 pub now_committed : (old : EventLogView) (bundle : BundleView) (before disk : DiskView) (kind count elapsed extra : ℕ) (body : Body) (lengths : Part → ℕ) → IsEventLog old → IsCommitted body lengths old.bundle bundle

@@ -33,11 +33,16 @@ use Rattle.lsv_eventlog.specs.Recovered.{HoldsLines, IsOfEventLog}
 pub same_lines : (lane : ℕ) (image other : Image) (text : List ℕ) → LastAt 89 (journal_of (Events lane)) other ≡ LastAt 89 (journal_of (Events lane)) image
     → other (file_of (Events lane) Lines) ≡ image (file_of (Events lane) Lines) → HoldsLines image lane text → HoldsLines other lane text
 same_lines lane image other text last bytes (inl (none, is)) = inl (last ∙ none, is)
-same_lines lane image other text last bytes (inr (entry, holds, is)) = inr (entry, record {
+same_lines lane image other text last bytes (inr (entry, holds, is)) = inr (
+  entry,
+  record {
     is_body = holds.is_body;
     last = last ∙ holds.last;
     lengths = holds.lengths;
-    bytes = λ part of. subst (HasPrefix (entry.bytes part)) (sym (ap (λ (p : Part). other (file_of (Events lane) p)) of ∙ bytes ∙ sym (ap (λ (p : Part). image (file_of (Events lane) p)) of))) (holds.bytes part of) }, is)
+    bytes = λ part of. subst (HasPrefix (entry.bytes part)) (sym (ap (λ (p : Part). other (file_of (Events lane) p)) of ∙ bytes ∙ sym (ap (λ (p : Part). image (file_of (Events lane) p)) of))) (holds.bytes part of);
+  },
+  is,
+)
 
 -- whether a part is a journal's
 is_journal : Part → Bool
@@ -73,16 +78,19 @@ opens lane old new run = widened (λ g. g ≡ journal_of (Events lane)) (IsOfEve
   where
     own : (file : FileId) → file ≡ journal_of (Events lane) → IsOfEventLog lane file
     own file is = inr (subst (λ (f : FileId). IsOwn (journal_of (Events lane)) f) (sym is) (own_itself (journal_of (Events lane))))
+
     same_journal : (journals others : Image) → LastAt 89 (journal_of (Events lane)) (mixed journals others) ≡ LastAt 89 (journal_of (Events lane)) journals
     same_journal journals others = own_alone 89 (journal_of (Events lane)) journals (mixed journals others) (λ g is. elim (own_cases (journal_of (Events lane)) g is) [
       | inl new ↦ ap (mixed journals others) new ∙ sym (ap journals new)
       | inr old ↦ ap (mixed journals others) old ∙ sym (ap journals old)
     ])
+
     each : (image : Image) → IsSomeCrashOf 89 (journal_of (Events lane)) old image → ((file : FileId) → (file ≡ journal_of (Events lane) → ⊥) → old.crash_states file (image file)) → IsAsBefore lane old image
     each image (was, left, same) beside = record {
       before = mixed was image;
       was = λ file. by_part file (is_journal file.part) refl;
-      same = λ text holds. same_lines lane (mixed was image) image text (same ∙ sym (same_journal was image)) refl holds }
+      same = λ text holds. same_lines lane (mixed was image) image text (same ∙ sym (same_journal was image)) refl holds;
+    }
       where
         by_part : (file : FileId) (b : Bool) → is_journal file.part ≡ b → old.crash_states file (if b then was file else image file)
         by_part file true e = left file
@@ -132,9 +140,9 @@ pub no_entry : (lane : ℕ) (old new : DiskView) → AbsentOrEmpty old → LastA
     → ((IsAbsent (journal_of (Events lane)) old.reads → ⊥) → (image : Image) → IsCrashImage new image → LastAt 89 (journal_of (Events lane)) image ≡ None)
     → (image : Image) → IsCrashImage new image → LastAt 89 (journal_of (Events lane)) image ≡ None
 no_entry lane old new leaves none now run there image left = elim (is_absent (journal_of (Events lane)) old.reads) [
-    | inl absent ↦ by_absent absent
-    | inr some ↦ there some image left
-  ]
+  | inl absent ↦ by_absent absent
+  | inr some ↦ there some image left
+]
   where
     by_absent : IsAbsent (journal_of (Events lane)) old.reads → LastAt 89 (journal_of (Events lane)) image ≡ None
     by_absent absent =
@@ -160,18 +168,19 @@ old_apart lane e = false≢true (ap (λ (f : FileId). is_slots f.part) e)
 made_after : (lane : ℕ) (old new : DiskView) (P : Image → Type 0) → MayBeMade 89 (journal_of (Events lane)) old → Throughout (λ g. g ≡ journal_of (Events lane)) P old new
     → LastAt 89 (journal_of (Events lane)) new.reads ≡ None → MayBeMade 89 (journal_of (Events lane)) new
 unfolding MayBeMade LastAt
-made_after lane old new P may run none =
-    (or_none (slots_last 89 (journal_of (Events lane)) new.reads) (old_last 89 (journal_of (Events lane)) new.reads) none,
-    λ content left. may.1 content (run.elsewhere.crash (old_file (journal_of (Events lane))) (old_apart lane) content left))
+made_after lane old new P may run none = (
+  or_none (slots_last 89 (journal_of (Events lane)) new.reads) (old_last 89 (journal_of (Events lane)) new.reads) none,
+  λ content left. may.1 content (run.elsewhere.crash (old_file (journal_of (Events lane))) (old_apart lane) content left),
+)
 
 pub may_be_made : (lane : ℕ) (old new : DiskView) (P : Image → Type 0) → AbsentOrEmpty old → LastAt 89 (journal_of (Events lane)) old.reads ≡ None → SameJournal 89 (journal_of (Events lane)) old.reads new.reads
     → Throughout (λ g. g ≡ journal_of (Events lane)) P old new
     → ((IsAbsent (journal_of (Events lane)) old.reads → ⊥) → MayBeMade 89 (journal_of (Events lane)) new)
     → MayBeMade 89 (journal_of (Events lane)) new
 may_be_made lane old new P leaves none same run there = elim (is_absent (journal_of (Events lane)) old.reads) [
-    | inl absent ↦ made_after lane old new P (reads_absent_may_be_made 89 (journal_of (Events lane)) old leaves absent) run (same ∙ none)
-    | inr some ↦ there some
-  ]
+  | inl absent ↦ made_after lane old new P (reads_absent_may_be_made 89 (journal_of (Events lane)) old leaves absent) run (same ∙ none)
+  | inr some ↦ there some
+]
 
 -- ---- a bundle that was opened, as an event log
 
@@ -180,11 +189,12 @@ none_staged lane bundle fresh = fresh.none_staged Lines (subst (λ (s : Shape). 
 
 pub opened_log : (lane : ℕ) (bundle : BundleView) → IsFresh (Events lane) shapes.Lines bundle → bundle.last ≢ None → IsEventLog (record { lane = lane; added = 0; bundle = bundle })
 opened_log lane bundle fresh some = record {
-    owner = fresh.owner_is;
-    shape = fresh.shape_is;
-    entry = some;
-    broken = λ e. absurd (false≢true (sym fresh.whole ∙ e));
-    none = λ _. none_staged lane bundle fresh }
+  owner = fresh.owner_is;
+  shape = fresh.shape_is;
+  entry = some;
+  broken = λ e. absurd (false≢true (sym fresh.whole ∙ e));
+  none = λ _. none_staged lane bundle fresh;
+}
 
 pub is_opened : (lane : ℕ) (bundle : BundleView) → IsFresh (Events lane) shapes.Lines bundle → IsOpened lane (record { lane = lane; added = 0; bundle = bundle })
 is_opened lane bundle fresh = record { lane_is = refl; whole = fresh.whole; none_added = refl; none_staged = none_staged lane bundle fresh }

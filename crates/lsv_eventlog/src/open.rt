@@ -23,11 +23,7 @@ use std::alloc::Global;
 const MADE: u8 = 0;
 
 /// The event log of a lane, where it has an entry.
-fn find<D: Disk>(
-    alloc: Global,
-    disk: &mut D,
-    lane: u32,
-) -> Result<Option<EventLog>, BundleFault>
+fn find<D: Disk>(alloc: Global, disk: &mut D, lane: u32) -> Result<Option<EventLog>, BundleFault>
     ensures value { IfOk result (λ o. IfSome o (IsOpened lane)) }
     ensures held { D.tells → IfOk result (λ o. IfSome o (λ log. HoldsLines (D.view disk.old).reads lane (committed_text log (D.view disk.new)))) }
     ensures represents { D.tells → IfOk result (λ o. IfSome o (λ log. Represents log (D.view disk.new))) }
@@ -77,11 +73,7 @@ impl EventLog {
     /// Opens the event log of a lane, and makes it where it has no entry, also of what a making that a crash or a
     /// fault ended has left. `Damaged(Lines)` where its lines are absent or fewer than the last entry says; `Disk` only
     /// where a device call on a file of this log failed. Also where it fails it reads as before.
-    pub fn open<D: Disk>(
-        alloc: Global,
-        disk: &mut D,
-        lane: u32,
-    ) -> Result<EventLog, BundleFault>
+    pub fn open<D: Disk>(alloc: Global, disk: &mut D, lane: u32) -> Result<EventLog, BundleFault>
         ensures value { IfOk result (IsOpened lane) }
         ensures held { D.tells → IfOk result (λ log. HoldsLines (D.view disk.old).reads lane (committed_text log (D.view disk.new))) }
         ensures represents { D.tells → IfOk result (λ log. Represents log (D.view disk.new)) }

@@ -7,7 +7,8 @@ pub returns : goal.returns
 returns g c =
     let is = subst IsEventLog c.log.view_is c.log.invariant in
     record {
-    every_image = λ at image left. every_image c.args.log.now (g.D.Disk.view c.args.old.now) is at image left;
-    untouched = λ elsewhere other at. log_stays c.args.log.now g.C.Claim.touched (g.D.Disk.view c.args.old.now) (g.D.Disk.view c.args.new.now) is elsewhere other at;
-    added = λ line is at. log_added c.args.log.now c.args.next.now (g.D.Disk.view c.args.old.now) line is at;
-    length = λ at. text_is_long c.args.log.now (g.D.Disk.view c.args.old.now) is at }
+      every_image = λ at image left. every_image c.args.log.now (g.D.Disk.view c.args.old.now) is at image left;
+      untouched = λ elsewhere other at. log_stays c.args.log.now g.C.Claim.touched (g.D.Disk.view c.args.old.now) (g.D.Disk.view c.args.new.now) is elsewhere other at;
+      added = λ line is at. log_added c.args.log.now c.args.next.now (g.D.Disk.view c.args.old.now) line is at;
+      length = λ at. text_is_long c.args.log.now (g.D.Disk.view c.args.old.now) is at;
+    }
