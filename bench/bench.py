@@ -7,8 +7,7 @@ For each load it prints the processor time a message, the bytes of input a secon
 memory beside what the records themselves take. A tenth of each load is run too: the ratio of the
 processor times shows that the cost is linear. Then come messages of the greatest size that hold as
 many parts as fit, with one of half the size beside each. MESSAGES (lsv_bench) reads and writes one
-message a million times, lays a million records and reads them back, writes a million lines of events, masks a million records of output,
-and flushes a bundle in a
+message a million times, lays a million records and reads them back, and flushes a bundle in a
 store in the folder that it is run in.
 """
 import os
@@ -162,16 +161,6 @@ def measure_records(messages):
           f"{min(reading) / 1e9:.3f} us a record to read them (at most 0.2)")
 
 
-def measure_each(messages, word, what, most):
-    times = []
-    for _ in range(RUNS):
-        child = subprocess.run([messages, word], stdout=subprocess.DEVNULL, stderr=subprocess.PIPE, text=True)
-        if child.returncode != 0:
-            sys.exit(f"bench: {word} ended with status {child.returncode}")
-        times.append(int(child.stderr))
-    print(f"{what}: {min(times) / 1e9:.3f} us (at most {most})")
-
-
 def timed_flushes(messages, word, place):
     """The nanoseconds of all flushes, those of their writes and syncs alone, and how many there were."""
     folder = tempfile.mkdtemp(dir=place)
@@ -207,8 +196,6 @@ def main():
     measure_crowds(program)
     measure_messages(messages)
     measure_records(messages)
-    measure_each(messages, "event", "the line of an event in sudo's style, 200 bytes", 1)
-    measure_each(messages, "mask", "terminal output of 1000 bytes through a mask of two prompts", 0.5)
     measure_flushes(messages)
     measure_making(messages)
 

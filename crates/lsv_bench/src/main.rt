@@ -1,13 +1,11 @@
-//! Reads or writes one message, reply or line a million times, lays and reads a million records, writes a million lines of
-//! events, masks a million records of output, flushes a bundle, or makes logs, so that `make bench` can measure each alone.
+//! Reads or writes one message, reply or line a million times, lays and reads a million records, flushes a bundle, or
+//! makes logs, so that `make bench` can measure each alone.
 #![tactic(auto)]
 
-mod events;
 mod flushes;
 mod makes;
 mod messages;
 
-use events::{masked, sudo_lines};
 use flushes::flushes;
 use lsv_base::{Bytes, List};
 use lsv_record::{Record, Stream, lay, read_log};
@@ -62,8 +60,6 @@ fn measured(rt: &HostRuntime) -> Option<u64> {
         "points" => points_all(alloc),
         "lines" => lines_all(alloc),
         "records" => lay_and_read(rt),
-        "event" => sudo_lines(rt),
-        "mask" => masked(rt),
         "flush" => flushes(*rt, 2_000),
         "make" => makes(*rt, 200),
         "flush-often" => flushes(*rt, 100_000),
