@@ -112,7 +112,7 @@ next_is text records point old new line valid texts is at more = of is.rest is.s
       let stands = line_after text (map shape_of is.behind) (shape_of r) (map shape_of rest) good ([], spelled ∙ sym (append-nil (lines_of (map shape_of is.behind ++ shape_of r ∷ map shape_of rest)))) in
       let same = (one_line text (length (lines_of (map shape_of is.behind))) new.timing (length (lines_of (map shape_of is.behind ++ shape_of r ∷ []))) line (shape_of r) at_lines stands).0 in
       let totals : new ≡ totals_of (map shape_of (is.behind ++ r ∷ [])) =
-        more ∙ ap (λ (t : Totals). with_line t line) is.totals ∙ ap (λ (l : Shaped). with_line (totals_of (map shape_of is.behind)) l) same ∙ sym (totals_more (map shape_of is.behind) (shape_of r)) ∙ ap totals_of (sym (map-append shape_of is.behind (r ∷ []))) in
+      more ∙ ap (λ (t : Totals). with_line t line) is.totals ∙ ap (λ (l : Shaped). with_line (totals_of (map shape_of is.behind)) l) same ∙ sym (totals_more (map shape_of is.behind) (shape_of r)) ∙ ap totals_of (sym (map-append shape_of is.behind (r ∷ []))) in
       record {
         behind = is.behind;
         next = r;
@@ -139,8 +139,7 @@ next_found records point old new is ends =
     let long = next_long is.behind is.next in
     let taken : take (length through) records ≡ through = ap (λ (rs : List Record). take (length through) rs) (next_split records point old new is) ∙ take_at through is.rest (length through) refl in
     let taken_count : take new.count records ≡ through = ap (λ (n : ℕ). take n records) count ∙ taken in
-    let all : length records ≡ length through + length is.rest = ap length (next_split records point old new is) ∙ length-append through is.rest in
-    (
+    let all : length records ≡ length through + length is.rest = ap length (next_split records point old new is) ∙ length-append through is.rest in (
       first_there records point new.count (record {
         some = omega (arith, count, long);
         within = omega (arith, count, all);

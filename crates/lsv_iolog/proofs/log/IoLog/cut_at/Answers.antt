@@ -93,8 +93,7 @@ returns-in_err-cuts-clause-full g c told is value at =
     let going = going_exit log value old at (sym c.is_complete.ensures ∙ c.if-is_complete.false) in
     let none = none_left log value old at c.requires.flushed in
     let full = c.in_err-cuts.ensures.fault in
-    let last : cuts_in files.bundle.last ≡ value.stored.cuts = ap cuts_in (has_body files value mid there c.in-Some.kept c.args.point 0 found going) ∙ there.is.cuts in
-    (
+    let last : cuts_in files.bundle.last ≡ value.stored.cuts = ap cuts_in (has_body files value mid there c.in-Some.kept c.args.point 0 found going) ∙ there.is.cuts in (
       some_first (first value.stored.records c.args.point) c.in-Some.kept.count found.0,
       sym (drops_is files value mid there c.in-Some.kept c.args.point 0 found going none) ∙ full.1,
       subst (λ (n : ℕ). 2 ^ 63 - 1 ≤ n) last full.2,
@@ -221,6 +220,6 @@ returns-clause-blame g c told failed value at =
     inl (
       some_first (first value.stored.records c.args.point) c.in-Some.kept.count found.0,
       cause_second (IsOwn (journal_of (owner_of log.number))) (Unit {0}) old mid new c.find.ensures.cause.monotone
-      (cause_widened (IsOwn (journal_of files.bundle.owner)) (IsOwn (journal_of (owner_of log.number))) (IsErrOf c.cut_behind.result logs.Disk) (Unit {0}) mid new
-      (λ f is. subst (λ (o : Owner). IsOwn (journal_of o) f) own is) (λ is. failed) c.cut_behind.ensures.cause),
+          (cause_widened (IsOwn (journal_of files.bundle.owner)) (IsOwn (journal_of (owner_of log.number))) (IsErrOf c.cut_behind.result logs.Disk) (Unit {0}) mid new
+          (λ f is. subst (λ (o : Owner). IsOwn (journal_of o) f) own is) (λ is. failed) c.cut_behind.ensures.cause),
     )
