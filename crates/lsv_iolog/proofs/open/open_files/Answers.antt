@@ -10,13 +10,13 @@ use Rattle.lsv_iolog.proofs.Opening.{open_calls}
 use Rattle.lsv_iolog.proofs.open.open_files.Goals as goal
 
 pub returns-in_err-bundle-clause-calls : goal.returns-in_err-bundle-clause-calls
-returns-in_err-bundle-clause-calls g c told = open_calls c.args.number c.owner_of-owner.result (g.D.Disk.view c.args.disk.now) (g.D.Disk.view c.open.new.disk) c.owner_of-owner.ensures (c.open.ensures.calls told)
+returns-in_err-bundle-clause-calls g c told = open_calls c.args.number c.owner_of-owner.result (g.D.Disk.view c.args.disk.now) (g.D.Disk.view c.open.new.disk) c.owner_of-owner.ensures ((c.open.ensures.calls told).at_most)
 
 pub returns-in_default-clause-calls : goal.returns-in_default-clause-calls
-returns-in_default-clause-calls g c told = open_calls c.args.number c.owner_of-owner.result (g.D.Disk.view c.args.disk.now) (g.D.Disk.view c.open.new.disk) c.owner_of-owner.ensures (c.open.ensures.calls told)
+returns-in_default-clause-calls g c told = open_calls c.args.number c.owner_of-owner.result (g.D.Disk.view c.args.disk.now) (g.D.Disk.view c.open.new.disk) c.owner_of-owner.ensures ((c.open.ensures.calls told).at_most)
 
 pub returns-clause-calls : goal.returns-clause-calls
-returns-clause-calls g c told = open_calls c.args.number c.owner_of-owner.result (g.D.Disk.view c.args.disk.now) (g.D.Disk.view c.open.new.disk) c.owner_of-owner.ensures (c.open.ensures.calls told)
+returns-clause-calls g c told = open_calls c.args.number c.owner_of-owner.result (g.D.Disk.view c.args.disk.now) (g.D.Disk.view c.open.new.disk) c.owner_of-owner.ensures ((c.open.ensures.calls told).at_most)
 
 pub returns-in_err-bundle-clause-cause : goal.returns-in_err-bundle-clause-cause
 returns-in_err-bundle-clause-cause g c =
