@@ -1,8 +1,6 @@
-//! Tests of the settings, of the command words and of the generated load, by public calls alone.
+//! Tests of the command words and of the generated load, by public calls alone.
 #![tactic(auto)]
 
-#[cfg(test)]
-mod conf;
 #[cfg(test)]
 mod load;
 #[cfg(test)]
