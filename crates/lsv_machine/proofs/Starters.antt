@@ -1,5 +1,10 @@
 -- Machines that are no starts, and what may happen from them.
 use Rattle.std.proofs.Common.{◌≡◌, ◌<◌, ℕ, [], ◌∷◌, refl, sym, ap, inl, inr, arith, Some, None, length, true, false, Bool, ◌==◌, if◌then◌else◌}
+use Rattle.std.specs.Fmt.{digits}
+use Rattle.std.specs.Str.{is_utf8, chars}
+use Rattle.std.specs.Str.Lossy.{utf8_lossy, utf8_valid_len}
+use lib.Utf8.{encode}
+use Rattle.json.specs.Print.{escape_byte}
 use Rattle.lsv_base.specs.Time.{time_of}
 use Rattle.lsv_info.specs.Layout.{head_text}
 use Rattle.lsv_record.specs.Points.{Stored}
@@ -74,19 +79,24 @@ failed_run = (
 gone_on : Machine
 gone_on = (plain one_lane (time_of 0) (restarts 1) 1 above).machine
 
+-- the head's text fits a file, as it computes
+head_fits : fits_file (head_text full_head) ≡ true
+unfolding head_text utf8_lossy utf8_valid_len is_utf8 chars encode escape_byte digits
+head_fits = refl
+
 -- the accept's work, where its head fits a file or not
 by_fit : Bool → Done
 by_fit b = lined one_lane (time_of 0) (conn 2) Fresh (request.Accept (record { head = full_head; expect_iobufs = true })) 1 gone_on
     (if b then record { answers = say (conn 2) (LogId 1) ∷ []; line = []; machine = with_state (conn 2) (Running (Some 1)) (with_owner 1 (Some (conn 2)) (makes 1 (head_text full_head) gone_on)) }
     else refused (conn 2) LogFull (draws 1 gone_on))
 
-by_fit_is : fits_file (head_text full_head) ≡ true → plain one_lane (time_of 0) (accepts_with_keys 2) 1 gone_on ≡ by_fit true
+by_fit_is : plain one_lane (time_of 0) (accepts_with_keys 2) 1 gone_on ≡ by_fit true
 unfolding gone_on by_fit
-by_fit_is fits = ap by_fit fits
+by_fit_is = ap by_fit head_fits
 
-second : fits_file (head_text full_head) ≡ true → Step one_lane gone_on (did (accepts_with_keys 2) (say (conn 2) (LogId 1) ∷ [])) (plain one_lane (time_of 0) (accepts_with_keys 2) 1 gone_on).machine
+second : Step one_lane gone_on (did (accepts_with_keys 2) (say (conn 2) (LogId 1) ∷ [])) (plain one_lane (time_of 0) (accepts_with_keys 2) 1 gone_on).machine
 unfolding gone_on by_fit
-second fits = let e : by_fit true ≡ plain one_lane (time_of 0) (accepts_with_keys 2) 1 gone_on = sym (by_fit_is fits) in
+second = let e : by_fit true ≡ plain one_lane (time_of 0) (accepts_with_keys 2) 1 gone_on = sym by_fit_is in
     inl (record {
       number = 1;
       drawn = record { passed = 0; few = omega arith; next = refl };
@@ -97,13 +107,13 @@ second fits = let e : by_fit true ≡ plain one_lane (time_of 0) (accepts_with_k
       now = refl;
     })
 
-pub two_run : fits_file (head_text full_head) ≡ true → (end : Machine) × Run one_lane above (all_acted both_write) end
+pub two_run : (end : Machine) × Run one_lane above (all_acted both_write) end
 unfolding gone_on
-two_run fits = (
+two_run = (
   (plain one_lane (time_of 0) (accepts_with_keys 2) 1 gone_on).machine,
   (
     gone_on,
     inl (record { number = 1; drawn = record { passed = 0; few = omega arith; next = refl }; answers = refl; line = refl; sound = refl; unmarked = refl; now = refl }),
-    ((plain one_lane (time_of 0) (accepts_with_keys 2) 1 gone_on).machine, second fits, refl),
+    ((plain one_lane (time_of 0) (accepts_with_keys 2) 1 gone_on).machine, second, refl),
   ),
 )

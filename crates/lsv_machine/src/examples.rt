@@ -1,16 +1,14 @@
 //! Small cases that show why the definitions are as they are. These functions do nothing when they run.
 
 ghost use Rattle.std.specs.Prelude.{◌≡◌, ℕ, List, [], ◌∷◌, ◌++◌, Some, true, false};
-ghost use Rattle.lsv_info.specs.Layout.{head_text};
 ghost use Rattle.lsv_machine.specs.Durable.{GoodLog};
-ghost use Rattle.lsv_machine.specs.Examples.{FoundWithin, above, all_lost, both_write, conn, cut_goes_on, cut_stopped, dropped_restart, fails_restart, full_head, one_byte, one_lane, promising, restarts, resumed_longer, resumed_then, starting, two_committed, uncut, unpromised, was_cut};
+ghost use Rattle.lsv_machine.specs.Examples.{FoundWithin, above, all_lost, both_write, conn, cut_goes_on, cut_stopped, dropped_restart, fails_restart, one_byte, one_lane, promising, restarts, resumed_longer, resumed_then, starting, two_committed, uncut, unpromised, was_cut};
 ghost use Rattle.lsv_machine.specs.History.{ledger, promised, reads_log, request_in, settled, writers};
 ghost use Rattle.lsv_machine.specs.Machine.{LogState.Absent, Machine};
 ghost use Rattle.lsv_machine.specs.Recovery.{GoesOn};
 ghost use Rattle.lsv_machine.specs.Starts.{StartsAs};
 ghost use Rattle.lsv_machine.specs.Tails.{no_answer};
 ghost use Rattle.lsv_machine.specs.Turns.{Happened, Happened.Begins, Happened.Did, Run, all_acted, turn_of};
-ghost use Rattle.lsv_machine.specs.Work.{fits_file};
 
 /// Why a run's end has its exception for a log that it didn't settle: a crash in a cut leaves a disk that may read as cut,
 /// and a later crash may leave the log uncut, as long as nobody asked for it. The uncut log is within what happened before,
@@ -51,9 +49,9 @@ pub fn a_promise_can_be_lost()
 {}
 
 /// Why no log of the lane may be above the last number drawn at a run's start: that log can be gone on with, and then an
-/// accept, if its head fits a file, draws its number, so that two connections write it.
+/// accept draws its number, so that two connections write it.
 pub fn a_log_above_the_last_number_has_two_writers()
     ensures start { StartsAs one_lane [] (starting Absent 0) }
-    ensures run { fits_file (head_text full_head) ≡ true → (end : Machine) × Run one_lane above (all_acted both_write) end }
+    ensures run { (end : Machine) × Run one_lane above (all_acted both_write) end }
     ensures two { writers (Begins [] ∷ all_acted both_write) 1 ≡ conn 2 ∷ conn 1 ∷ [] }
 {}
