@@ -41,7 +41,7 @@ default_none : (id : Text) (acc : Text → Bool) (rows : List Row) (a : Rule) (t
 default_none id acc rows a true is = refl
 default_none id acc rows a false is = ap (λ ds. default_rows a.id (reading_by a) ds rows) is.defaults
 
-defaults_none : (id : Text) (acc : Text → Bool) (rows : List Row) (c : List Rule) → AllPlain id acc c → fold with_default rows c ≡ rows
+pub defaults_none : (id : Text) (acc : Text → Bool) (rows : List Row) (c : List Rule) → AllPlain id acc c → fold with_default rows c ≡ rows
 defaults_none id acc rows [] all = refl
 defaults_none id acc rows (a ∷ c) all = ap (λ rs. fold with_default rs c) (default_none id acc rows a (has_row a.id rows) all.0) ∙ defaults_none id acc rows c all.1
 
@@ -91,14 +91,14 @@ load_count = accepts false (from_to 1 10000)
 counted : (rows : List Row) (v : Text) (n : ℕ) → first_of (codes "count") rows ≡ Some v → number_in v ≡ Some n → number rows "count" ≡ Some n
 counted rows v n e f = ap (option_and_then number_in) e ∙ f
 
-abbrev above : Shape
+abbrev pub above : Shape
 above = (on_top with_leaf_noted (on_top marked_built commands)).top
 
 -- a subcommand as building leaves it
-abbrev made : App → Shape
+abbrev pub made : App → Shape
 made a = built_leaf (inherited above a.top)
 
-lanes_value : Text → Bool
+pub lanes_value : Text → Bool
 lanes_value = accepts false (from_to 1 most_lanes)
 
 stop_value : Text → Bool
@@ -144,7 +144,7 @@ once_lanes = (record { sets = refl; one = refl; passes = λ e v. absurd (cc); de
 once_stop : AllPlain (codes "stop-after") stop_value (made once).rules
 once_stop = (record { sets = refl; one = refl; passes = λ e v. absurd (cc); defaults = refl }, tt)
 
-serve_lanes : AllPlain (codes "lanes") lanes_value (made serve).rules
+pub serve_lanes : AllPlain (codes "lanes") lanes_value (made serve).rules
 unfolding lanes_value
 serve_lanes = (record { sets = refl; one = refl; passes = λ e v. absurd (cc); defaults = refl }, (record { sets = refl; one = refl; passes = λ e v. refl; defaults = refl }, (record { sets = refl; one = refl; passes = λ e v. absurd (cc); defaults = refl }, tt)))
 

@@ -50,7 +50,7 @@ no_row_step : (t b : Bool) (change : List Row) (r : Row) (rows rest more : List 
 no_row_step true b change r rows rest more e h = absurd (cc)
 no_row_step false b change r rows rest more e h = ap (λ xs. r ∷ xs) (h e)
 
-no_row : (id : Text) (change : Row → List Row) (missing : List Row) (rows : List Row) → has_row id rows ≡ false → at_row id change missing rows ≡ rows ++ missing
+pub no_row : (id : Text) (change : Row → List Row) (missing : List Row) (rows : List Row) → has_row id rows ≡ false → at_row id change missing rows ≡ rows ++ missing
 no_row id change missing [] e = refl
 no_row id change missing (r ∷ rows) e = no_row_step (bytes_eq r.id id) (has_row id rows) (change r) r rows (at_row id change missing rows) (rows ++ missing) e (no_row id change missing rows)
 
@@ -94,7 +94,7 @@ repeat_none : (t : Bool) (k : ErrorKind) → cond (t && true) (k ∷ []) [] ≡ 
 repeat_none true k e = absurd (cc)
 repeat_none false k e = refl
 
-no_more : {A : Type 0} (xs : List A) → xs ++ [] ≡ xs
+pub no_more : {A : Type 0} (xs : List A) → xs ++ [] ≡ xs
 no_more [] = refl
 no_more (x ∷ xs) = ap (λ rest. x ∷ rest) (no_more xs)
 
