@@ -35,7 +35,11 @@ pub fn digest(rt: &HostRuntime, text: &str) -> Result<()> {
     let alloc = rt.alloc();
     let bytes = lsv_gen::conversation(alloc, number_of(text)?)?;
     let digest = Md5::digest(bytes.as_slice());
-    println!(rt; "{} {}", bytes.as_slice().len(), hex::encode(alloc, digest.as_slice())?)?;
+    println!(rt;
+        "{} {}",
+        bytes.as_slice().len(),
+        hex::encode(alloc, digest.as_slice())?
+    )?;
     Ok(())
 }
 
