@@ -1,5 +1,5 @@
 -- Words of the forms shown are taken, whatever the order of their options.
-use Rattle.std.proofs.Common.{◌≡◌, ◌∙◌, ◌+◌, ◌&&◌, ◌||◌, ◌==◌, ℕ, Bool, true, false, not, cond, List, [], ◌∷◌, ◌++◌, Option, Some, None, codes, find, fold, is_some, map, option_map, refl, sym, subst, ap, ap₂, append_assoc, unwrap_or}
+use Rattle.std.proofs.Common.{◌≡◌, ◌∙◌, ◌&&◌, ◌||◌, ◌==◌, ℕ, Bool, true, false, not, cond, List, [], ◌∷◌, ◌++◌, Option, Some, None, codes, fold, is_some, map, refl, sym, subst, ap, ap₂, append_assoc, unwrap_or}
 use lib.Utf8.{encode}
 use Rattle.std.specs.List.{AllByRecursion, list_all}
 use Rattle.std.specs.Option.{option_and_then, option_map_or}
@@ -9,7 +9,7 @@ use Rattle.clap.specs.Kinds.{Kinds, or_else}
 use Rattle.clap.specs.Lexer.{long_of, long_of_rest, short_of, short_of_rest, strip_byte}
 use Rattle.clap.specs.Simple.{App, Shape, built, entered, filled, names_of}
 use Rattle.clap.specs.ValueTests.{accepts}
-use Rattle.clap.specs.Walk.{Held, Names, Row, Rule, Step, Text, Waiting, Walk, action_of, after_step, bundle_met, finished, first_of, has_row, idle, is_empty, long_or_other, more_values, nothing_held, option, plain_word, reading_by, rows_after, settled, settled_rows, short_or_plain, trailing, used, used_as, walk, walk_from, walked, with_default, with_values, word_met}
+use Rattle.clap.specs.Walk.{Held, Names, Row, Rule, Step, Text, Walk, action_of, after_step, bundle_met, finished, first_of, has_row, idle, is_empty, long_or_other, more_values, nothing_held, option, plain_word, reading_by, rows_after, settled, settled_rows, short_or_plain, trailing, used, used_as, walk, walk_from, walked, with_default, with_values, word_met}
 use Rattle.clap.specs.declared.builder.action.ArgAction.{ArgAction}
 use Rattle.clap.specs.declared.builder.action.ArgAction.TheVariants.{Set}
 use Rattle.clap.specs.declared.parser.matches.ValueSource.TheVariants.{CommandLine}

@@ -1,5 +1,5 @@
 -- Options of a command, as they stand behind it in any order.
-use Rattle.std.specs.Prelude.{◌≡◌, ◌==◌, ◌&&◌, ◌||◌, ℕ, List, [], ◌∷◌, ◌++◌, Option, Some, None, Bool, true, false, not, is_some, codes, unwrap_or, option_and_then}
+use Rattle.std.specs.Prelude.{◌==◌, ◌&&◌, ℕ, List, [], ◌∷◌, Option, Some, None, Bool, true, false, not, is_some, codes, unwrap_or, option_and_then}
 use Rattle.std.specs.List.{flat_map}
 use Rattle.clap.specs.ValueTests.{accepts}
 use Rattle.lsv_args.specs.Commands.{from_to, most_lanes}
