@@ -1,6 +1,5 @@
 -- Words that clap doesn't refuse ask for something.
-use Rattle.std.proofs.Common.{◌≡◌, ◌∙◌, ◌+◌, ◌<◌, ◌≤◌, ◌^◌, IfSome, unwrap_or, ◌&&◌, ◌||◌, ◌==◌, ℕ, Bool, true, false, not, cond, List, [], ◌∷◌, ◌++◌, Option, Some, None, find, fold, is_some, codes, option_map, refl, sym, ap, ap₂, subst, arith}
-use Rattle.std.specs.List.{AllByRecursion, list_any}
+use Rattle.std.proofs.Common.{◌≡◌, ◌∙◌, ◌<◌, ◌≤◌, ◌^◌, IfSome, unwrap_or, ◌&&◌, ◌||◌, ℕ, Bool, true, false, not, cond, List, [], ◌∷◌, Option, Some, None, find, fold, is_some, codes, option_map, refl, sym, ap, ap₂, subst, arith}
 use Rattle.std.specs.Option.{option_and_then, option_map_or}
 use Rattle.std.specs.Prelude.{slice_get}
 use Rattle.std.specs.Str.{bytes_eq}
@@ -12,11 +11,11 @@ use Rattle.clap.specs.declared.parser.matches.ArgMatches.TheViews.{out-SubComman
 use Rattle.clap.specs.Walk.{rows_of}
 use Rattle.clap.specs.Faults.{check_fault, defaults_fault, entered_fault, fault_of, level_fault, settle_fault, step_fault, turn_fault, walk_fault, word_fault}
 use Rattle.clap.specs.Facts.{explicit_source}
-use Rattle.clap.specs.Kinds.{Kinds, check_kinds, or_else}
-use Rattle.clap.specs.Simple.{App, Shape, built, built_leaf, entered, inherited, label_of, marked_built, names_of, on_top, with_leaf_noted, rows_at, subcommand_of, subcommand_rows}
-use Rattle.clap.specs.Takes.{is_given, value_passes}
+use Rattle.clap.specs.Kinds.{check_kinds, or_else}
+use Rattle.clap.specs.Simple.{App, Shape, built, built_leaf, entered, inherited, label_of, marked_built, names_of, on_top, with_leaf_noted, rows_at, subcommand_rows}
+use Rattle.clap.specs.Takes.{is_given}
 use Rattle.clap.specs.ValueTests.{accepts}
-use Rattle.clap.specs.Walk.{Held, answers_to, Row, Rule, Text, Walk, default_rows, finished, first_of, has_row, nothing_held, rows_after, reading_by, settled, walk, walk_from, walked, walked_from, with_default, word_met}
+use Rattle.clap.specs.Walk.{answers_to, Row, Rule, Text, Walk, default_rows, finished, first_of, has_row, nothing_held, rows_after, reading_by, settled, walk, walk_from, walked, walked_from, with_default, word_met}
 use Rattle.lsv_args.specs.Commands.{commands, from_to, load, most_lanes, once, serve}
 use Rattle.lsv_args.proofs.Numbers.{number_accepted}
 use Rattle.lsv_args.specs.Reading.{Asked, HasRanges, IsInRange, number_of, asked, asked_by, number, number_in, options_of, Once, Serve, Load}
@@ -41,7 +40,7 @@ default_none : (id : Text) (acc : Text → Bool) (rows : List Row) (a : Rule) (t
 default_none id acc rows a true is = refl
 default_none id acc rows a false is = ap (λ ds. default_rows a.id (reading_by a) ds rows) is.defaults
 
-defaults_none : (id : Text) (acc : Text → Bool) (rows : List Row) (c : List Rule) → AllPlain id acc c → fold with_default rows c ≡ rows
+pub defaults_none : (id : Text) (acc : Text → Bool) (rows : List Row) (c : List Rule) → AllPlain id acc c → fold with_default rows c ≡ rows
 defaults_none id acc rows [] all = refl
 defaults_none id acc rows (a ∷ c) all = ap (λ rs. fold with_default rs c) (default_none id acc rows a (has_row a.id rows) all.0) ∙ defaults_none id acc rows c all.1
 
@@ -91,14 +90,14 @@ load_count = accepts false (from_to 1 10000)
 counted : (rows : List Row) (v : Text) (n : ℕ) → first_of (codes "count") rows ≡ Some v → number_in v ≡ Some n → number rows "count" ≡ Some n
 counted rows v n e f = ap (option_and_then number_in) e ∙ f
 
-abbrev above : Shape
+abbrev pub above : Shape
 above = (on_top with_leaf_noted (on_top marked_built commands)).top
 
 -- a subcommand as building leaves it
-abbrev made : App → Shape
+abbrev pub made : App → Shape
 made a = built_leaf (inherited above a.top)
 
-lanes_value : Text → Bool
+pub lanes_value : Text → Bool
 lanes_value = accepts false (from_to 1 most_lanes)
 
 stop_value : Text → Bool
@@ -144,7 +143,7 @@ once_lanes = (record { sets = refl; one = refl; passes = λ e v. absurd (cc); de
 once_stop : AllPlain (codes "stop-after") stop_value (made once).rules
 once_stop = (record { sets = refl; one = refl; passes = λ e v. absurd (cc); defaults = refl }, tt)
 
-serve_lanes : AllPlain (codes "lanes") lanes_value (made serve).rules
+pub serve_lanes : AllPlain (codes "lanes") lanes_value (made serve).rules
 unfolding lanes_value
 serve_lanes = (record { sets = refl; one = refl; passes = λ e v. absurd (cc); defaults = refl }, (record { sets = refl; one = refl; passes = λ e v. refl; defaults = refl }, (record { sets = refl; one = refl; passes = λ e v. absurd (cc); defaults = refl }, tt)))
 

@@ -3,3 +3,4 @@ mod Building
 mod Numbers
 mod Parsed
 mod Walks
+mod FormLemmas

@@ -1,6 +1,6 @@
 -- A value that clap takes as a number is one in its range.
-use Rattle.std.proofs.Common.{◌≡◌, ◌∙◌, ◌<◌, ◌≤◌, ◌^◌, ◌&&◌, ℕ, Bool, true, false, cond, List, Option, Some, None, drop, nat_lt, refl, sym, ap, arith}
-use Rattle.std.specs.Prelude.{ℤ, pos, int_le}
+use Rattle.std.proofs.Common.{◌≡◌, ◌<◌, ◌≤◌, ◌^◌, ◌&&◌, ℕ, Bool, true, false, cond, List, Some, None, drop, nat_lt, refl, arith}
+use Rattle.std.specs.Prelude.{pos, int_le}
 use Rattle.std.proofs.Common.{neg_ℤ}
 use Rattle.std.specs.Str.Parse.{digits_value, starts_with_minus, without_leading_plus}
 use Rattle.std.proofs.lemmas.Bool.Decides.{nat_tests}

@@ -1,6 +1,6 @@
 -- The commands of the program, as clap reads them.
-use Rattle.std.specs.Prelude.{ℕ, ◌^◌, pos, true, false, List, [], ◌∷◌, Option, Some, None, codes}
-use Rattle.clap.specs.Simple.{App, Shape, new_app, new_rule, with_rule, with_subcommand}
+use Rattle.std.specs.Prelude.{ℕ, pos, true, Some, codes}
+use Rattle.clap.specs.Simple.{App, new_app, new_rule, with_rule, with_subcommand}
 use Rattle.clap.specs.Walk.{Rule}
 use Rattle.clap.specs.declared.builder.value_parser.ValueParser.{ValueParser}
 use Rattle.clap.specs.declared.builder.value_parser.ValueParser.TheVariants.{Signed}

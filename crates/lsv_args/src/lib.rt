@@ -3,7 +3,9 @@
 
 mod command;
 mod commands;
+mod forms;
 mod read;
 
 pub use command::{ArgFault, Command, Opts};
+pub use forms::options_stand_in_any_order;
 pub use read::read_words;

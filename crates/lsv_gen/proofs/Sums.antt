@@ -1,12 +1,11 @@
 -- Sums with one more.
-use Rattle.std.proofs.Common.{◌≡◌, ◌∙◌, ◌+◌, ◌-◌, ◌*◌, ◌/◌, ◌%◌, ◌^◌, ◌<◌, ◌≤◌, ℕ, zero, suc, List, [], ◌∷◌, ◌++◌, Bool, length, min, sum_by, ap, refl, sym, arith, length-append, add-one, sub-one}
-use Rattle.std.specs.List.{flat_map}
+use Rattle.std.proofs.Common.{◌≡◌, ◌∙◌, ◌+◌, ◌-◌, ◌*◌, ◌/◌, ◌%◌, ◌^◌, ◌<◌, ◌≤◌, ℕ, zero, suc, List, [], ◌∷◌, ◌++◌, length, min, sum_by, ap, refl, sym, arith, length-append, add-one, sub-one}
 use Rattle.std.proofs.lemmas.List.Sums.{sum_by-append}
 use Rattle.std.proofs.lemmas.List.Concat.{flat_map-append}
 use Rattle.lsv_gen.specs.Load.{accept, conversation, duration, exit, frames, hello, output, outputs}
 use Rattle.lsv_msg.specs.Messages.{client_bytes}
 use Rattle.lsv_wire.specs.Frame.{frame_of}
-use Rattle.lsv_gen.specs.Summary.{told, data_length, totals_with, totals_of}
+use Rattle.lsv_gen.specs.Summary.{told, data_length, totals_with}
 use Rattle.lsv_gen.specs.declared.totals.Totals.{Totals}
 use Rattle.lsv_record.specs.Points.{Stored}
 use Rattle.lsv_record.specs.Records.{delay_of, elapsed, last_digits}

@@ -1,4 +1,4 @@
-ghost use Rattle.std.specs.Prelude.{◌≡◌, ◌+◌, ◌%◌, ◌<◌, ◌≤◌, ◌++◌, codes, IfOk, OnOk};
+ghost use Rattle.std.specs.Prelude.{◌≡◌, ◌+◌, ◌%◌, ◌<◌, ◌≤◌, ◌++◌, codes, length, IfOk, OnOk};
 ghost use Rattle.std.specs.Fmt.{decimal};
 ghost use Rattle.lsv_gen.specs.Load as load;
 ghost use Rattle.lsv_msg.specs.Messages.{client_bytes};
@@ -8,9 +8,10 @@ ghost use Rattle.lsv_info.specs.declared.info.Value.TheVariants as values;
 use lsv_base::{Bytes, List, NoMem, TimeSpec};
 use lsv_info::{Entry, Info, Value};
 use lsv_msg::{
-    AcceptMessage, Boxed, ClientHello, ClientMessage, ExitMessage, IoBuffer, encode_client,
+    AcceptMessage, Boxed, ClientHello, ClientMessage, EncodeFault, ExitMessage, IoBuffer,
+    encode_client,
 };
-use lsv_wire::frame;
+use lsv_wire::{FRAME_LIMIT, FrameFault, frame};
 use std::alloc::Global;
 
 /// So many milliseconds, of which there are at most 1,275.
@@ -110,15 +111,20 @@ fn exit(alloc: Global, i: u32, duration: u32) -> Result<ClientMessage, NoMem>
     Ok(ClientMessage::Exit(Boxed::new(alloc, message)?))
 }
 
-/// Puts the frame of a message. No message of a conversation is longer than a frame holds.
+/// Puts the frame of a message.
 fn put(alloc: Global, out: &mut Bytes, message: ClientMessage) -> Result<(), NoMem>
+    requires { length (client_bytes message) ≤ FRAME_LIMIT }
     ensures { OnOk result (out.new ≡ out.old ++ frame_of (client_bytes message)) }
 {
-    let Ok(body) = encode_client(alloc, &message) else {
-        return Err(NoMem);
+    let body = match encode_client(alloc, &message) {
+        Ok(body) => body,
+        Err(EncodeFault::NoMem) => return Err(NoMem),
+        Err(EncodeFault::TooLong(_)) => unreachable!(),
     };
-    let Ok(framed) = frame(alloc, body.as_slice()) else {
-        return Err(NoMem);
+    let framed = match frame(alloc, body.as_slice()) {
+        Ok(framed) => framed,
+        Err(FrameFault::NoMem) => return Err(NoMem),
+        Err(FrameFault::TooLarge(_)) => unreachable!(),
     };
     out.add(framed.as_slice())
 }

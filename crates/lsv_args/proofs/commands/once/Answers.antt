@@ -1,9 +1,8 @@
 use Rattle.std.proofs.lemmas.Result.{IfOk-weaker}
-use Rattle.clap.specs.Simple.{new_app, with_rule}
+use Rattle.clap.specs.Simple.{new_app}
 use Rattle.std.proofs.Common.{codes}
-use Rattle.lsv_args.specs.Commands.{commands, conf, count, lanes, load, once, program, serve, stop_after}
-use Rattle.lsv_args.specs.Commands as app
-use Rattle.lsv_args.proofs.Building.{IsMade, set_up, with_arg, with_sub}
+use Rattle.lsv_args.specs.Commands.{conf}
+use Rattle.lsv_args.proofs.Building.{IsMade, with_arg}
 use Rattle.lsv_args.proofs.commands.once.Goals as goal
 
 pub returns : goal.returns

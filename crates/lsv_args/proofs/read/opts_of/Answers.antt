@@ -1,6 +1,6 @@
-use Rattle.std.proofs.Common.{◌∙◌, ◌≡◌, ℕ, Bor, List, Option, codes, ap, sym, unwrap_or}
+use Rattle.std.proofs.Common.{◌∙◌, ℕ, Bor, List, Option, codes, ap, unwrap_or}
 use Rattle.std.specs.Str.{is_utf8}
-use Rattle.clap.specs.Words.{found_of, rows_of}
+use Rattle.clap.specs.Words.{found_of}
 use Rattle.clap.proofs.WalkLemmas.{first_value-rows}
 use Rattle.std.proofs.lemmas.Str.{is_utf8-from_IsUtf8}
 use Rattle.lsv_args.proofs.Parsed.{options_same, unwrapped}

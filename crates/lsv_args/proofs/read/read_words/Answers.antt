@@ -1,10 +1,10 @@
-use Rattle.std.proofs.Common.{◌∙◌, ◌≡◌, List, Option, Some, None, ap, map, sym}
+use Rattle.std.proofs.Common.{◌∙◌, List, Option, ap, map, sym}
 use Rattle.std.specs.Option.{option_and_then}
 use Rattle.clap.specs.Simple.{subcommand_of}
 use Rattle.clap.specs.Walk.{Row, Text}
 use Rattle.clap.specs.declared.parser.matches.ArgMatches.TheViews.{out-ArgMatches}
 use Rattle.lsv_args.specs.Commands.{commands}
-use Rattle.lsv_args.specs.Reading.{Asked, asked, asked_by, asked_in}
+use Rattle.lsv_args.specs.Reading.{Asked, asked_by, asked_in}
 use Rattle.std.proofs.lemmas.Result.{IfOk-weaker}
 use Rattle.clap.specs.Faults.{fault_of}
 use Rattle.lsv_args.proofs.Asked.{found_is, none_found, refused_where_nothing, taken_in_range}

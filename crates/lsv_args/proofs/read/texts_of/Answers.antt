@@ -1,4 +1,4 @@
-use Rattle.std.proofs.Common.{◌∙◌, ◌≡◌, ap, map, sym, subst, arith}
+use Rattle.std.proofs.Common.{◌∙◌, ap, map, sym, subst, arith}
 use Rattle.std.specs.Str.{IsUtf8}
 use Rattle.lsv_args.proofs.Parsed.{texts_more, word_is_text}
 use Rattle.lsv_args.proofs.read.texts_of.Goals as goal

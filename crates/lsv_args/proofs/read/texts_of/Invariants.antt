@@ -1,6 +1,4 @@
-use Rattle.std.proofs.Common.{◌≡◌, map, take, true}
-use Rattle.std.specs.List.{list_all}
-use Rattle.std.specs.Str.{is_utf8}
+use Rattle.std.proofs.Common.{◌≡◌, map, take}
 use Rattle.lsv_args.proofs.read.texts_of.Given as goal
 
 -- the texts so far are the words so far

@@ -1,5 +1,4 @@
-use Rattle.std.proofs.Common.{◌≡◌, ◌∙◌, ◌++◌, ◌∷◌, ◌-◌, ◌+◌, ◌/◌, ◌%◌, ℕ, List, [], ap, sym, arith, append_assoc}
-use Rattle.lsv_record.specs.Records.{last_digits}
+use Rattle.std.proofs.Common.{◌∙◌, ◌++◌, ◌∷◌, ◌+◌, ◌%◌, [], ap, arith, append_assoc}
 use Rattle.lsv_gen.proofs.Sums.{digits_more, digits_none}
 use Rattle.lsv_gen.proofs.lines.+put_last_digits.Goals as goal
 use Rattle.std.proofs.lemmas.Result.{on_ok_weaker}

@@ -1,4 +1,4 @@
-use Rattle.std.proofs.Common.{◌≡◌, ◌≤◌, ◌*◌, ◌∷◌}
+use Rattle.std.proofs.Common.{◌≡◌, ◌∷◌}
 use Rattle.lsv_gen.specs.Load as load
 use Rattle.lsv_gen.proofs.load.conversation.Given as goal
 

@@ -1,4 +1,4 @@
-use Rattle.std.proofs.Common.{◌≡◌, ◌∙◌, refl, rules}
+use Rattle.std.proofs.Common.{rules}
 use Rattle.lsv_gen.proofs.Sums.{record_added}
 use Rattle.lsv_gen.proofs.totals.Totals.add_record.Goals as goal
 

@@ -1,8 +1,8 @@
 use Rattle.std.proofs.Common.{◌∙◌, ap, subst, sym}
 use Rattle.std.specs.List.{list_all}
 use Rattle.std.specs.Str.{IsUtf8, is_utf8}
-use Rattle.lsv_settings_tests.proofs.TextWords.{texts_push}
-use Rattle.lsv_settings_tests.proofs.words.words_of.Goals as goal
+use Rattle.lsv_settings_rows.proofs.TextWords.{texts_push}
+use Rattle.lsv_settings_rows.proofs.words.words_of.Goals as goal
 
 pub loop-word-preserved : goal.loop-word-preserved
 loop-word-preserved c =

@@ -1,7 +1,7 @@
 use Rattle.std.proofs.Common.{◌≡◌, true}
 use Rattle.std.specs.List.{list_all}
 use Rattle.std.specs.Str.{is_utf8}
-use Rattle.lsv_settings_tests.proofs.words.words_of.Given as goal
+use Rattle.lsv_settings_rows.proofs.words.words_of.Given as goal
 
 -- the words so far are text
 abbrev pub invariant-loop-word : goal.invariant-loop-word

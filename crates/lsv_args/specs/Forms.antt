@@ -1,0 +1,74 @@
+-- Options of a command, as they stand behind it in any order.
+use Rattle.std.specs.Prelude.{◌==◌, ◌&&◌, ℕ, List, [], ◌∷◌, Option, Some, None, Bool, true, false, not, is_some, codes, unwrap_or, option_and_then}
+use Rattle.std.specs.List.{flat_map}
+use Rattle.clap.specs.ValueTests.{accepts}
+use Rattle.lsv_args.specs.Commands.{from_to, most_lanes}
+use Rattle.lsv_args.specs.Reading.{Options, number_in}
+
+-- an option with its value
+pub data Given : Type 0 where
+  -- `-f FILE`
+  File : List ℕ → Given
+  -- `--lanes N`
+  Lanes : List ℕ → Given
+  -- `--stop-after N`
+  StopAfter : List ℕ → Given
+
+-- its words
+abbrev pub words_of : Given → List (List ℕ)
+words_of (File v) = codes "-f" ∷ v ∷ []
+words_of (Lanes v) = codes "--lanes" ∷ v ∷ []
+words_of (StopAfter v) = codes "--stop-after" ∷ v ∷ []
+
+-- the words of all, in their order
+abbrev pub words_in : List Given → List (List ℕ)
+words_in given = flat_map words_of given
+
+-- a value isn't empty and doesn't begin with a hyphen
+abbrev pub is_value : List ℕ → Bool
+is_value [] = false
+is_value (b ∷ bytes) = not (b == 45)
+
+-- the value of an option is one, and a number is within its range
+abbrev pub is_good : Given → Bool
+is_good (File v) = is_value v
+is_good (Lanes v) = is_value v && accepts false (from_to 1 most_lanes) v
+is_good (StopAfter v) = is_value v && accepts false (from_to 1 4294967295) v
+
+-- the value of each option, where it is given
+abbrev pub file_in : List Given → Option (List ℕ)
+file_in [] = None
+file_in (File v ∷ more) = Some v
+file_in (Lanes v ∷ more) = file_in more
+file_in (StopAfter v ∷ more) = file_in more
+
+abbrev pub lanes_in : List Given → Option (List ℕ)
+lanes_in [] = None
+lanes_in (File v ∷ more) = lanes_in more
+lanes_in (Lanes v ∷ more) = Some v
+lanes_in (StopAfter v ∷ more) = lanes_in more
+
+abbrev pub stop_after_in : List Given → Option (List ℕ)
+stop_after_in [] = None
+stop_after_in (File v ∷ more) = stop_after_in more
+stop_after_in (Lanes v ∷ more) = stop_after_in more
+stop_after_in (StopAfter v ∷ more) = Some v
+
+-- whether the first of these is another option than all behind it
+abbrev pub is_other : Given → List Given → Bool
+is_other (File v) more = not (is_some (file_in more))
+is_other (Lanes v) more = not (is_some (lanes_in more))
+is_other (StopAfter v) more = not (is_some (stop_after_in more))
+
+-- each option stands at most once
+abbrev pub is_once : List Given → Bool
+is_once [] = true
+is_once (g ∷ more) = is_other g more && is_once more
+
+-- what a command is told by them, and by the defaults
+abbrev pub told : List Given → Options
+told given = record {
+  conf = unwrap_or (file_in given) (codes "/etc/sudo_logsrvd.conf");
+  lanes = unwrap_or (option_and_then number_in (lanes_in given)) 1;
+  stop_after = option_and_then number_in (stop_after_in given);
+}
