@@ -9,7 +9,6 @@ ghost use Rattle.lsv_bundle.specs.declared.shape.Shape.TheVariants as shapes;
 ghost use Rattle.lsv_bundle.specs.Shape.{journal_of};
 ghost use Rattle.lsv_bundle.specs.Committed.{IsDamaged};
 ghost use Rattle.lsv_bundle.specs.Calls.{IsOpenFault};
-ghost use Rattle.lsv_eventlog.specs.Calls.{CallsWithin};
 ghost use Rattle.lsv_eventlog.specs.Recovered.{HoldsLines, IsOfEventLog};
 ghost use Rattle.lsv_eventlog.specs.Value.{IsOpened, Represents, committed_text};
 ghost use Rattle.lsv_eventlog.specs.Moments.{IsAsBefore};
@@ -56,7 +55,7 @@ fn make<D: Disk>(alloc: Global, disk: &mut D, lane: u32) -> Result<EventLog, Bun
     ensures empty { D.tells → IfOk result (λ log. committed_text log (D.view disk.new) ≡ []) }
     ensures represents { D.tells → IfOk result (λ log. Represents log (D.view disk.new)) }
     ensures any_moment { D.tells → Throughout (IsOfEventLog lane) (λ image. HoldsLines image lane []) (D.view disk.old) (D.view disk.new) }
-    ensures calls { D.tells → CallsWithin (journal_of (Events lane)) 3 4 (IsOfEventLog lane) (D.view disk.old) (D.view disk.new) }
+    ensures calls { D.tells → WritesOneOf (journal_of (Events lane)) 3 4 (IsOfEventLog lane) (D.view disk.old) (D.view disk.new) }
     ensures fault { IfErr result (λ e. (e ≡ BundleFault.Disk) ⊎ (e ≡ BundleFault.NoMem)) }
     ensures cause { HasOwnCause (IsOfEventLog lane) (IsErrOf result BundleFault.Disk) (D.view disk.old) (D.view disk.new) }
 {
@@ -80,7 +79,7 @@ impl EventLog {
         ensures any_moment { D.tells → Throughout (IsOfEventLog lane) (IsAsBefore lane (D.view disk.old)) (D.view disk.old) (D.view disk.new) }
         ensures reads { D.tells → (text : List ℕ) → HoldsLines (D.view disk.old).reads lane text → HoldsLines (D.view disk.new).reads lane text }
         ensures reads_back { D.tells → (text : List ℕ) → HoldsLines (D.view disk.new).reads lane text → HoldsLines (D.view disk.old).reads lane text }
-        ensures calls { D.tells → CallsWithin (journal_of (Events lane)) 6 9 (IsOfEventLog lane) (D.view disk.old) (D.view disk.new) }
+        ensures calls { D.tells → WritesOneOf (journal_of (Events lane)) 6 9 (IsOfEventLog lane) (D.view disk.old) (D.view disk.new) }
         ensures damaged { D.tells → (part : Part) → IsErrOf result (BundleFault.Damaged part) → IsDamaged (Events lane) shapes.Lines (D.view disk.old).reads part }
         ensures fault { IfErr result IsOpenFault }
         ensures cause { HasOwnCause (IsOfEventLog lane) (IsErrOf result BundleFault.Disk) (D.view disk.old) (D.view disk.new) }

@@ -3,7 +3,7 @@ use Rattle.lsv_disk.specs.declared.file.Owner.TheVariants.{Events}
 use Rattle.lsv_bundle.specs.declared.shape.Shape.TheVariants as shapes
 use Rattle.lsv_bundle.specs.Represents.{Represents}
 use Rattle.lsv_bundle.specs.Value.{IsFresh}
-use Rattle.lsv_eventlog.proofs.Opening.{is_opened, may_be_made, no_entry, of_some, opened_log, opened_text, opens}
+use Rattle.lsv_eventlog.proofs.Opening.{is_opened, of_some, opened_log, opened_text, opens}
 use Rattle.lsv_eventlog.proofs.open.find.Goals as goal
 
 pub returns-in_err-bundle-clause-any_moment : goal.returns-in_err-bundle-clause-any_moment
@@ -19,18 +19,6 @@ pub invariant_of-result : goal.invariant_of-result
 invariant_of-result g c = opened_log c.args.lane c.in-Some.bundle
     (of_some c.in_ok-bundle.field-0 c.in-Some.bundle (IsFresh (Events c.args.lane) shapes.Lines) c.in-Some.is c.in_ok-bundle.ensures.fresh)
     (of_some c.in_ok-bundle.field-0 c.in-Some.bundle (λ b. b.last ≢ None) c.in-Some.is c.in_ok-bundle.ensures.entry)
-
-pub returns-in_default-clause-no_entry : goal.returns-in_default-clause-no_entry
-returns-in_default-clause-no_entry g c told _ =
-    let old = g.D.Disk.view c.args.disk.now in
-    let new = g.D.Disk.view c.open.new.disk in
-    no_entry c.args.lane old new (g.met.D.Disk.absent_or_empty told c.args.disk.now) (c.in_ok-bundle.ensures.none told c.in_default.is) (g.met.D.Disk.is_now told c.open.new.disk) (c.open.ensures.any_moment told) (c.in_ok-bundle.ensures.no_entry told c.in_default.is)
-
-pub returns-in_default-clause-may_be_made : goal.returns-in_default-clause-may_be_made
-returns-in_default-clause-may_be_made g c told _ =
-    let old = g.D.Disk.view c.args.disk.now in
-    let new = g.D.Disk.view c.open.new.disk in
-    may_be_made c.args.lane old new _ (g.met.D.Disk.absent_or_empty told c.args.disk.now) (c.in_ok-bundle.ensures.none told c.in_default.is) (c.open.ensures.reads told) (c.open.ensures.any_moment told) (c.in_ok-bundle.ensures.may_be_made told c.in_default.is)
 
 pub returns-clause-value : goal.returns-clause-value
 returns-clause-value g c = is_opened c.args.lane c.in-Some.bundle

@@ -3,7 +3,7 @@ use Rattle.std.proofs.lemmas.Result.{IfOk-weaker}
 use Rattle.lsv_disk.specs.declared.file.Owner.TheVariants.{Events}
 use Rattle.lsv_bundle.specs.Shape.{journal_of}
 use Rattle.lsv_eventlog.specs.Recovered.{HoldsLines, IsOfEventLog}
-use Rattle.lsv_eventlog.proofs.Making.{both_empty, calls_within, find_calls, made_as_before, reads_empty}
+use Rattle.lsv_eventlog.proofs.Making.{both_empty, calls_within, made_as_before, reads_empty}
 use Rattle.lsv_eventlog.proofs.log.EventLog.open.Goals as goal
 
 pub returns-in-None-clause-held : goal.returns-in-None-clause-held
@@ -38,4 +38,4 @@ returns-in-None-clause-calls g c told =
     let old = g.D.Disk.view c.args.disk.now in
     let mid = g.D.Disk.view c.find.new.disk in
     let new = g.D.Disk.view c.make.new.disk in
-    calls_within (journal_of (Events c.args.lane)) (IsOfEventLog c.args.lane) 3 5 3 4 old mid new (find_calls c.args.lane old mid (c.find.ensures.calls told)) (c.make.ensures.calls told)
+    calls_within (journal_of (Events c.args.lane)) (IsOfEventLog c.args.lane) 3 5 3 4 old mid new (c.find.ensures.calls told) (c.make.ensures.calls told)
