@@ -15,12 +15,14 @@ use Rattle.lsv_journal.proofs.Laws.{own_alone, own_cases, own_itself}
 use Rattle.lsv_bundle.specs.declared.shape.Shape.{Shape}
 use Rattle.lsv_bundle.specs.declared.shape.Shape.TheVariants as shapes
 use Rattle.lsv_bundle.specs.Shape.{journal_of, IsPart}
-use Rattle.lsv_bundle.specs.Committed.{HasPrefix, committed_bytes}
+use Rattle.lsv_bundle.specs.declared.body.Body.{Body}
+use Rattle.lsv_bundle.specs.Body.{encoded}
+use Rattle.lsv_bundle.specs.Committed.{HasEntry, HasPrefix, committed_bytes}
 use Rattle.lsv_bundle.specs.Represents.{Represents}
 use Rattle.lsv_bundle.specs.Value.{BundleView, IsFresh, staged}
-use Rattle.lsv_bundle.proofs.Laws.{represents_holds}
+use Rattle.lsv_bundle.proofs.Laws.{one_body, represents_holds}
 use Rattle.lsv_eventlog.specs.Inner.{IsEventLog}
-use Rattle.lsv_eventlog.specs.Value.{IsOpened}
+use Rattle.lsv_eventlog.specs.Value.{CountsAsIn, EventLogView, IsOpened, count_in, line_count}
 use Rattle.lsv_eventlog.proofs.Laws.{bundle_text}
 use Rattle.lsv_eventlog.specs.Moments.{IsAsBefore}
 use Rattle.lsv_eventlog.specs.Recovered.{HoldsLines, IsOfEventLog}
@@ -141,3 +143,19 @@ opened_text lane bundle old new P fresh some at itself run same =
 -- of what was found this holds
 pub of_some : {A : Type 0} (o : Option A) (a : A) (P : A → Type 0) → o ≡ Some a → IfSome o P → P a
 of_some {A} o a P is holds = subst (λ (x : Option A). IfSome x P) is holds
+
+-- it counts the lines of the entry that was read
+pub counts_entry : (lane : ℕ) (image : Image) (log : EventLogView) (body : Body) → log.bundle.last ≡ Some body → HasEntry (Events lane) body image → CountsAsIn lane image log
+counts_entry lane image log body last has = record {
+  by_entry = λ other there.
+      let read : Some (encoded body) ≡ Some (encoded other) = sym has.last ∙ there.last in
+      ap count_in last ∙ ap (λ (b : Body). b.count) (one_body body other has.is_body there.is_body (let same : encoded body ≡ encoded other = cc (read) in same));
+  without = λ none. absurd (let read : Some (encoded body) ≡ None = sym has.last ∙ none in let never : ⊥ = cc (read) in never);
+}
+
+-- and none where there was no entry
+pub counts_none : (lane : ℕ) (image : Image) (log : EventLogView) → LastAt 89 (journal_of (Events lane)) image ≡ None → line_count log ≡ 0 → CountsAsIn lane image log
+counts_none lane image log none zero = record {
+  by_entry = λ body there. absurd (let read : Some (encoded body) ≡ None = sym there.last ∙ none in let never : ⊥ = cc (read) in never);
+  without = λ _. zero;
+}
