@@ -107,6 +107,7 @@ staged_not_journal bundle g is e = part_not_journal bundle.owner bundle.shape is
 
 two_rose : (bundle : BundleView) (old one two : FileId → ℕ) → RoseAtMost 1 (IsStagedFile bundle) old one → RoseAtMost 1 (λ g. g ≡ journal_of bundle.owner) one two → RoseByFlush bundle old two
 two_rose bundle old one two first second = record {
+  never_fell = λ g. omega (arith, first.never_fell g, second.never_fell g);
   files = λ g is. let e = second.others g (staged_not_journal bundle g is) in let n = first.own g is in omega (arith, e, n);
   journal =
       let e = first.others (journal_of bundle.owner) (λ is. staged_not_journal bundle (journal_of bundle.owner) is refl) in
@@ -145,6 +146,7 @@ one_either bundle old one next first =
 
 three_rose : (bundle : BundleView) (old one two new : FileId → ℕ) → RoseAtMost 1 (IsStagedFile bundle) old one → RoseAtMost 1 (λ g. g ≡ journal_of bundle.owner) one two → RoseAtMost 1 (λ g. g ≡ journal_of bundle.owner) two new → RoseByFlush bundle old new
 three_rose bundle old one two new first second third = record {
+  never_fell = λ g. omega (arith, first.never_fell g, second.never_fell g, third.never_fell g);
   files = λ g is.
       let d = third.others g (staged_not_journal bundle g is) in
       let e = second.others g (staged_not_journal bundle g is) in

@@ -18,8 +18,9 @@ abbrev pub SyncsStaged : BundleView → DiskView → DiskView → Type 0
 SyncsStaged bundle old new = (part : Part) → IsPart bundle.shape part → staged bundle part ≢ []
     → new.syncs (file_of bundle.owner part) ≡ old.syncs (file_of bundle.owner part) + 1
 
--- a count rose by one at most for each data file of which something is staged, by two at most for the journal, and for no other file
+-- a count rose by one at most for each data file of which something is staged, by two at most for the journal, and for no other file, and fell for none
 pub record RoseByFlush (bundle : BundleView) (old new : FileId → ℕ) : Type 0 where
+  pub never_fell : (file : FileId) → old file ≤ new file
   pub files : (file : FileId) → IsStagedFile bundle file → new file ≤ old file + 1
   pub journal : new (journal_of bundle.owner) ≤ old (journal_of bundle.owner) + 2
   pub others : (file : FileId) → (IsStagedFile bundle file → ⊥) → file ≢ journal_of bundle.owner → new file ≡ old file

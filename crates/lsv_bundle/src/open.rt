@@ -4,7 +4,7 @@ ghost use Rattle.lsv_disk.specs.declared.file.Part.{Part};
 ghost use Rattle.lsv_disk.specs.Files.{file_of, IsOneOf, AreDistinct};
 ghost use Rattle.lsv_disk.specs.View.{Image, IsCrashImage, HasOwnCause};
 ghost use Rattle.lsv_disk.specs.Throughout.{Throughout, Unchanged, OnlyReads, CallsAtMost};
-ghost use Rattle.lsv_journal.specs.Last.{IsOwn, IsAbsent, LastAt, SameJournal, IsSomeCrashOf, OpeningCalls, MayBeMade};
+ghost use Rattle.lsv_journal.specs.Last.{IsOwn, LastAt, SameJournal, IsSomeCrashOf, OpeningCalls, MayBeMade};
 ghost use Rattle.lsv_journal.specs.Value as journals;
 ghost use Rattle.lsv_journal.specs.Represents as represents;
 ghost use Rattle.lsv_bundle.specs.declared.body.Body.{Body};
@@ -109,8 +109,8 @@ fn open_journal<D: Disk>(
     ensures entry { IfOk result (λ o. IfSome o (λ opened. journals.last opened.0 ≡ Some (encoded opened.1))) }
     ensures last { D.tells → IfOk result (λ o. IfSome o (λ opened. LastAt 89 (journal_of owner) (D.view disk.old).reads ≡ Some (encoded opened.1))) }
     ensures none { D.tells → IfOk result (λ o. o ≡ None → LastAt 89 (journal_of owner) (D.view disk.old).reads ≡ None) }
-    ensures no_entry { D.tells → IfOk result (λ o. o ≡ None → (IsAbsent (journal_of owner) (D.view disk.old).reads → ⊥) → (image : Image) → IsCrashImage (D.view disk.new) image → LastAt 89 (journal_of owner) image ≡ None) }
-    ensures may_be_made { D.tells → IfOk result (λ o. o ≡ None → (IsAbsent (journal_of owner) (D.view disk.old).reads → ⊥) → MayBeMade 89 (journal_of owner) (D.view disk.new)) }
+    ensures no_entry { D.tells → IfOk result (λ o. o ≡ None → (image : Image) → IsCrashImage (D.view disk.new) image → LastAt 89 (journal_of owner) image ≡ None) }
+    ensures may_be_made { D.tells → IfOk result (λ o. o ≡ None → MayBeMade 89 (journal_of owner) (D.view disk.new)) }
     ensures represents { D.tells → IfOk result (λ o. IfSome o (λ opened. represents.Represents opened.0 (D.view disk.new))) }
     ensures reads { D.tells → SameJournal 89 (journal_of owner) (D.view disk.old).reads (D.view disk.new).reads }
     ensures any_moment { D.tells → Throughout (λ g. g ≡ journal_of owner) (IsSomeCrashOf 89 (journal_of owner) (D.view disk.old)) (D.view disk.old) (D.view disk.new) }
@@ -133,7 +133,7 @@ fn open_journal<D: Disk>(
 
 impl Bundle {
     /// Syncs each of its files, and reads the last entry: a crash leaves that one, with the bytes that it commits.
-    /// None exactly where the journal is absent or has no entry. `Damaged(part)` exactly where that data file is
+    /// None exactly where the journal is absent or has no entry; then it has none in any crash image, and may be made. `Damaged(part)` exactly where that data file is
     /// absent or shorter than the last entry says, and it is the first such one. It writes no data file; the journal
     /// of an older store is taken over. `Disk` only where a device call on a file of this bundle failed.
     pub fn open<D: Disk>(
@@ -143,8 +143,8 @@ impl Bundle {
         shape: Shape,
     ) -> Result<Option<Bundle>, BundleFault>
         ensures none { D.tells → IfOk result (λ o. o ≡ None → LastAt 89 (journal_of owner) (D.view disk.old).reads ≡ None) }
-        ensures no_entry { D.tells → IfOk result (λ o. o ≡ None → (IsAbsent (journal_of owner) (D.view disk.old).reads → ⊥) → (image : Image) → IsCrashImage (D.view disk.new) image → LastAt 89 (journal_of owner) image ≡ None) }
-        ensures may_be_made { D.tells → IfOk result (λ o. o ≡ None → (IsAbsent (journal_of owner) (D.view disk.old).reads → ⊥) → MayBeMade 89 (journal_of owner) (D.view disk.new)) }
+        ensures no_entry { D.tells → IfOk result (λ o. o ≡ None → (image : Image) → IsCrashImage (D.view disk.new) image → LastAt 89 (journal_of owner) image ≡ None) }
+        ensures may_be_made { D.tells → IfOk result (λ o. o ≡ None → MayBeMade 89 (journal_of owner) (D.view disk.new)) }
         ensures fresh { IfOk result (λ o. IfSome o (λ b. IsFresh owner shape b)) }
         ensures entry { IfOk result (λ o. IfSome o (λ b. b.last ≢ None)) }
         ensures last { D.tells → IfOk result (λ o. IfSome o (λ b. (body : Body) × (b.last ≡ Some body) × HasEntry owner body (D.view disk.old).reads)) }

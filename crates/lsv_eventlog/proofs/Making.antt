@@ -10,7 +10,7 @@ use Rattle.lsv_disk.specs.Bytes.{bytes_of}
 use Rattle.lsv_disk.specs.Files.{file_of}
 use Rattle.lsv_disk.specs.View.{Image, DiskView, IsCrashImage}
 use Rattle.lsv_disk.specs.Throughout.{Throughout, RoseAtMost, WritesOneOf}
-use Rattle.lsv_disk.proofs.Composition.{followed, widened}
+use Rattle.lsv_disk.proofs.Composition.{followed, widened, rose_trans, rose_more}
 use Rattle.lsv_journal.specs.Last.{LastAt, IsOwn, old_file}
 use Rattle.lsv_journal.proofs.Laws.{own_cases, own_itself}
 use Rattle.lsv_bundle.specs.declared.body.Body.{Body}
@@ -20,7 +20,6 @@ use Rattle.lsv_bundle.specs.Calls.{CallsOfFlush, RoseByFlush}
 use Rattle.lsv_bundle.specs.Shape.{journal_of, on_shape, IsPart, IsWritable}
 use Rattle.lsv_bundle.specs.Value.{BundleView, IsCommitted, IsFresh, IsStagedFile, committed_length, staged}
 use Rattle.lsv_bundle.specs.Committed.{Committed, BundleHolds, HoldsEntry, IsBeforeOrAfter, IsBeingMade, committed, committed_bytes, committed_next}
-use Rattle.lsv_eventlog.specs.Calls.{CallsWithin, RoseWithin}
 use Rattle.lsv_eventlog.specs.Inner.{IsEventLog}
 use Rattle.lsv_eventlog.specs.Moments.{IsAsBefore}
 use Rattle.lsv_eventlog.specs.Recovered.{HoldsLines, IsOfEventLog}
@@ -93,23 +92,11 @@ module _ (lane : ℕ) (bundle new : BundleView) (body : Body) (lengths : Part �
 
 -- ---- counts
 
-pub within_trans : {Own : FileId → Type 0} (m n : ℕ) (old mid new : FileId → ℕ) → RoseWithin m Own old mid → RoseWithin n Own mid new → RoseWithin (m + n) Own old new
-within_trans m n old mid new first second = record {
-  own = λ f is. omega (arith, first.own f is, second.own f is);
-  others = λ f other. second.others f other ∙ first.others f other;
-}
-
-pub calls_within : (f : FileId) (Own : FileId → Type 0) (m n p q : ℕ) (old mid new : DiskView) → CallsWithin f m n Own old mid → CallsWithin f p q Own mid new → CallsWithin f (m + p) (n + q) Own old new
+pub calls_within : (f : FileId) (Own : FileId → Type 0) (m n p q : ℕ) (old mid new : DiskView) → WritesOneOf f m n Own old mid → WritesOneOf f p q Own mid new → WritesOneOf f (m + p) (n + q) Own old new
 calls_within f Own m n p q old mid new first second = record {
-  writes = within_trans m p old.writes mid.writes new.writes first.writes second.writes;
-  syncs = within_trans n q old.syncs mid.syncs new.syncs first.syncs second.syncs;
+  writes = rose_trans m p (λ g. g ≡ f) old.writes mid.writes new.writes first.writes second.writes;
+  syncs = rose_trans n q Own old.syncs mid.syncs new.syncs first.syncs second.syncs;
 }
-
-pub within : {Own : FileId → Type 0} (n : ℕ) (old new : FileId → ℕ) → RoseAtMost n Own old new → RoseWithin n Own old new
-within n old new rose = record { own = rose.own; others = rose.others }
-
-within_more : {Own : FileId → Type 0} (m n : ℕ) (old new : FileId → ℕ) → m ≤ n → RoseWithin m Own old new → RoseWithin n Own old new
-within_more m n old new more rose = record { own = λ f is. omega (arith, rose.own f is); others = rose.others }
 
 -- the old journal's file isn't written
 old_written : (lane : ℕ) → IsWritable (Events lane) shapes.Lines (old_file (journal_of (Events lane))) → ⊥
@@ -124,14 +111,16 @@ is_written lane f (inr journal) = elim (own_cases (journal_of (Events lane)) f j
   | inr old ↦ inr (λ w. old_written lane (subst (IsWritable (Events lane) shapes.Lines) old w))
 ]
 
-within_wider : (lane n : ℕ) (old new : FileId → ℕ) → RoseWithin n (IsWritable (Events lane) shapes.Lines) old new → RoseWithin n (IsOfEventLog lane) old new
-within_wider lane n old new rose = record {
+rose_wider : (lane n : ℕ) (old new : FileId → ℕ) → RoseAtMost n (IsWritable (Events lane) shapes.Lines) old new → RoseAtMost n (IsOfEventLog lane) old new
+rose_wider lane n old new rose = record {
+  never_fell = rose.never_fell;
   own = λ f is. elim (is_written lane f is) [ inl w ↦ rose.own f w | inr other ↦ (let same : new f ≡ old f = rose.others f other in omega arith) ];
   others = λ f other. rose.others f (λ w. other (writable_own (Events lane) shapes.Lines f w));
 }
 
-journal_within : (lane n : ℕ) (old new : FileId → ℕ) → RoseWithin n (λ g. g ≡ journal_of (Events lane)) old new → RoseWithin n (IsOfEventLog lane) old new
-journal_within lane n old new rose = record {
+rose_of_journal : (lane n : ℕ) (old new : FileId → ℕ) → RoseAtMost n (λ g. g ≡ journal_of (Events lane)) old new → RoseAtMost n (IsOfEventLog lane) old new
+rose_of_journal lane n old new rose = record {
+  never_fell = rose.never_fell;
   own = λ f is. elim (is_it lane f is) [ inl it ↦ rose.own f it | inr other ↦ (let same : new f ≡ old f = rose.others f other in omega arith) ];
   others = λ f other. rose.others f (λ it. other (inr (subst (λ (g : FileId). IsOwn (journal_of (Events lane)) g) (sym it) (own_itself (journal_of (Events lane))))));
 }
@@ -141,12 +130,12 @@ journal_within lane n old new rose = record {
     is_it lane f (inr journal) = elim (own_cases (journal_of (Events lane)) f journal) [ inl it ↦ inl it | inr old ↦ inr (λ it. old_apart lane (sym old ∙ it)) ]
 
 -- what making writes and syncs
-pub create_calls : (lane : ℕ) (old new : DiskView) → WritesOneOf (journal_of (Events lane)) 1 2 (IsWritable (Events lane) shapes.Lines) old new → CallsWithin (journal_of (Events lane)) 1 2 (IsOfEventLog lane) old new
-create_calls lane old new calls = record { writes = within 1 old.writes new.writes calls.writes; syncs = within_wider lane 2 old.syncs new.syncs (within 2 old.syncs new.syncs calls.syncs) }
+pub create_calls : (lane : ℕ) (old new : DiskView) → WritesOneOf (journal_of (Events lane)) 1 2 (IsWritable (Events lane) shapes.Lines) old new → WritesOneOf (journal_of (Events lane)) 1 2 (IsOfEventLog lane) old new
+create_calls lane old new calls = record { writes = calls.writes; syncs = rose_wider lane 2 old.syncs new.syncs calls.syncs }
 
 -- and the entry of a bundle of which nothing is staged
-entry_rose : (lane : ℕ) (bundle : BundleView) (old new : FileId → ℕ) → IsFresh (Events lane) shapes.Lines bundle → RoseByFlush bundle old new → RoseWithin 2 (λ g. g ≡ journal_of (Events lane)) old new
-entry_rose lane bundle old new fresh rose = record { own = own; others = others }
+entry_rose : (lane : ℕ) (bundle : BundleView) (old new : FileId → ℕ) → IsFresh (Events lane) shapes.Lines bundle → RoseByFlush bundle old new → RoseAtMost 2 (λ g. g ≡ journal_of (Events lane)) old new
+entry_rose lane bundle old new fresh rose = record { never_fell = rose.never_fell; own = own; others = others }
   where
     journal_is : journal_of bundle.owner ≡ journal_of (Events lane)
     journal_is = ap journal_of fresh.owner_is
@@ -160,17 +149,14 @@ entry_rose lane bundle old new fresh rose = record { own = own; others = others 
     others : (f : FileId) → (f ≡ journal_of (Events lane) → ⊥) → new f ≡ old f
     others f other = rose.others f (unstaged_file f) (λ is. other (is ∙ journal_is))
 
-pub entry_calls : (lane : ℕ) (bundle : BundleView) (old new : DiskView) → IsFresh (Events lane) shapes.Lines bundle → CallsOfFlush bundle old new → CallsWithin (journal_of (Events lane)) 2 2 (IsOfEventLog lane) old new
+pub entry_calls : (lane : ℕ) (bundle : BundleView) (old new : DiskView) → IsFresh (Events lane) shapes.Lines bundle → CallsOfFlush bundle old new → WritesOneOf (journal_of (Events lane)) 2 2 (IsOfEventLog lane) old new
 entry_calls lane bundle old new fresh calls = record {
   writes = entry_rose lane bundle old.writes new.writes fresh calls.writes;
-  syncs = journal_within lane 2 old.syncs new.syncs (entry_rose lane bundle old.syncs new.syncs fresh calls.syncs);
+  syncs = rose_of_journal lane 2 old.syncs new.syncs (entry_rose lane bundle old.syncs new.syncs fresh calls.syncs);
 }
 
-pub calls_more : (f : FileId) (Own : FileId → Type 0) (m n p q : ℕ) (old new : DiskView) → m ≤ p → n ≤ q → CallsWithin f m n Own old new → CallsWithin f p q Own old new
-calls_more f Own m n p q old new more than calls = record { writes = within_more m p old.writes new.writes more calls.writes; syncs = within_more n q old.syncs new.syncs than calls.syncs }
-
-pub find_calls : (lane : ℕ) (old new : DiskView) → WritesOneOf (journal_of (Events lane)) 3 5 (IsOfEventLog lane) old new → CallsWithin (journal_of (Events lane)) 3 5 (IsOfEventLog lane) old new
-find_calls lane old new calls = record { writes = within 3 old.writes new.writes calls.writes; syncs = within 5 old.syncs new.syncs calls.syncs }
+pub calls_more : (f : FileId) (Own : FileId → Type 0) (m n p q : ℕ) (old new : DiskView) → m ≤ p → n ≤ q → WritesOneOf f m n Own old new → WritesOneOf f p q Own old new
+calls_more f Own m n p q old new more than calls = record { writes = rose_more m p (λ g. g ≡ f) old.writes new.writes more calls.writes; syncs = rose_more n q Own old.syncs new.syncs than calls.syncs }
 
 -- ---- what was found, and then made
 

@@ -1,30 +1,28 @@
 -- Opening an event log: its journal alone may be written, and each image holds what some image held before.
-use Rattle.std.proofs.Common.{◌≡◌, ◌≢◌, ◌⊎◌, inl, inr, ℕ, List, [], ◌∷◌, ◌++◌, Option, Some, None, Bool, true, false, refl, sym, ◌∙◌, ap, subst, arith}
+use Rattle.std.proofs.Common.{◌≡◌, ◌≢◌, inl, inr, ℕ, List, [], Option, Some, None, Bool, true, false, refl, sym, ◌∙◌, ap, subst}
 use Rattle.std.specs.Prelude.{if◌then◌else◌, IfSome}
-use Rattle.std.specs.Option.{option_or}
 use Rattle.std.proofs.lemmas.Bool.{false≢true}
 use Rattle.lsv_disk.specs.declared.file.FileId.{FileId}
 use Rattle.lsv_disk.specs.declared.file.Owner.TheVariants.{Events}
 use Rattle.lsv_disk.specs.declared.file.Part.{Part}
 use Rattle.lsv_disk.specs.declared.file.Part.TheVariants.{Head, Exit, Timing, Stdin, Stdout, Stderr, Ttyin, Ttyout, Lines, Id, Commit, Slots}
-use Rattle.lsv_disk.specs.Bytes.{bytes_of}
 use Rattle.lsv_disk.specs.Files.{file_of}
 use Rattle.lsv_disk.specs.View.{Image, DiskView, IsCrashImage}
 use Rattle.lsv_disk.specs.Throughout.{Throughout}
 use Rattle.lsv_disk.proofs.Composition.{widened}
-use Rattle.lsv_journal.specs.Last.{LastAt, MayBeMade, IsAbsent, IsOwn, IsSomeCrashOf, SameJournal, old_file, slots_last, old_last}
-use Rattle.lsv_journal.proofs.Laws.{AbsentOrEmpty, own_alone, own_cases, own_itself, reads_absent_may_be_made}
-use Rattle.lsv_journal.specs.Gates.{count, last_of}
-use Rattle.lsv_journal.specs.Slots.{entry_of}
+use Rattle.lsv_journal.specs.Last.{LastAt, IsOwn, IsSomeCrashOf, SameJournal, old_file}
+use Rattle.lsv_journal.proofs.Laws.{own_alone, own_cases, own_itself}
 use Rattle.lsv_bundle.specs.declared.shape.Shape.{Shape}
 use Rattle.lsv_bundle.specs.declared.shape.Shape.TheVariants as shapes
 use Rattle.lsv_bundle.specs.Shape.{journal_of, IsPart}
-use Rattle.lsv_bundle.specs.Committed.{HasPrefix, committed_bytes}
+use Rattle.lsv_bundle.specs.declared.body.Body.{Body}
+use Rattle.lsv_bundle.specs.Body.{encoded}
+use Rattle.lsv_bundle.specs.Committed.{HasEntry, HasPrefix, committed_bytes}
 use Rattle.lsv_bundle.specs.Represents.{Represents}
 use Rattle.lsv_bundle.specs.Value.{BundleView, IsFresh, staged}
-use Rattle.lsv_bundle.proofs.Laws.{represents_holds}
+use Rattle.lsv_bundle.proofs.Laws.{one_body, represents_holds}
 use Rattle.lsv_eventlog.specs.Inner.{IsEventLog}
-use Rattle.lsv_eventlog.specs.Value.{IsOpened}
+use Rattle.lsv_eventlog.specs.Value.{CountsAsIn, EventLogView, IsOpened, count_in, line_count}
 use Rattle.lsv_eventlog.proofs.Laws.{bundle_text}
 use Rattle.lsv_eventlog.specs.Moments.{IsAsBefore}
 use Rattle.lsv_eventlog.specs.Recovered.{HoldsLines, IsOfEventLog}
@@ -105,82 +103,18 @@ pub read_lines : (lane : ℕ) (old new : DiskView) (P : Image → Type 0) → Th
     → (text : List ℕ) → HoldsLines new.reads lane text → HoldsLines old.reads lane text
 read_lines lane old new P run same text holds = same_lines lane new.reads old.reads text (sym same) (sym (run.elsewhere.same (file_of (Events lane) Lines) (lines_apart lane))) holds
 
--- ---- without an entry
-
-bytes_of_none : (content : Option (List ℕ)) → (content ≡ None) ⊎ (content ≡ Some []) → bytes_of content ≡ []
-bytes_of_none content (inl e) = ap bytes_of e
-bytes_of_none content (inr e) = ap bytes_of e
-
--- an image in which both files are absent or empty has no entry
-empty_last : (f : FileId) (image absent : Image) → IsAbsent f absent → bytes_of (image f) ≡ [] → bytes_of (image (old_file f)) ≡ [] → LastAt 89 f image ≡ LastAt 89 f absent
-unfolding LastAt
-empty_last f image absent none slots old =
-    let first : slots_last 89 f image ≡ slots_last 89 f absent = ap (entry_of 89) (slots ∙ sym (ap bytes_of none.0)) in
-    let second : old_last 89 f image ≡ old_last 89 f absent = ap (λ (b : List ℕ). last_of 89 b (count 89 b)) (old ∙ sym (ap bytes_of none.1)) in
-    ap (λ (o : Option (List ℕ)). option_or o (old_last 89 f image)) first ∙ ap (option_or (slots_last 89 f absent)) second
-
-some_none : (xs : List ℕ) → Some xs ≡ None → ⊥
-some_none xs e = cc
-
-is_absent : (f : FileId) (image : Image) → IsAbsent f image ⊎ (IsAbsent f image → ⊥)
-is_absent f image = go (image f) refl (image (old_file f)) refl
-  where
-    go : (a : Option (List ℕ)) → image f ≡ a → (b : Option (List ℕ)) → image (old_file f) ≡ b → IsAbsent f image ⊎ (IsAbsent f image → ⊥)
-    go None e None o = inl (e, o)
-    go None e (Some b) o = inr (λ none. some_none b (sym o ∙ none.1))
-    go (Some a) e b o = inr (λ none. some_none a (sym e ∙ none.0))
-
 -- the images of the moment that is now are those of a crash now
 abbrev pub IsNow : DiskView → Type 0
 IsNow disk = (image : Image) → IsCrashImage disk image → disk.crash_images_at disk.moment image
-
--- a journal that was opened without an entry has none in any image
-pub no_entry : (lane : ℕ) (old new : DiskView) → AbsentOrEmpty old → LastAt 89 (journal_of (Events lane)) old.reads ≡ None → IsNow new
-    → Throughout (λ g. g ≡ journal_of (Events lane)) (IsSomeCrashOf 89 (journal_of (Events lane)) old) old new
-    → ((IsAbsent (journal_of (Events lane)) old.reads → ⊥) → (image : Image) → IsCrashImage new image → LastAt 89 (journal_of (Events lane)) image ≡ None)
-    → (image : Image) → IsCrashImage new image → LastAt 89 (journal_of (Events lane)) image ≡ None
-no_entry lane old new leaves none now run there image left = elim (is_absent (journal_of (Events lane)) old.reads) [
-  | inl absent ↦ by_absent absent
-  | inr some ↦ there some image left
-]
-  where
-    by_absent : IsAbsent (journal_of (Events lane)) old.reads → LastAt 89 (journal_of (Events lane)) image ≡ None
-    by_absent absent =
-        let crash : IsSomeCrashOf 89 (journal_of (Events lane)) old image = run.each new.moment image run.later (omega arith) (now image left) in
-        crash.2 ∙ (empty_last (journal_of (Events lane)) crash.0 old.reads absent
-        (bytes_of_none (crash.0 (journal_of (Events lane))) (leaves (journal_of (Events lane)) (crash.0 (journal_of (Events lane))) absent.0 (crash.1 (journal_of (Events lane)))))
-        (bytes_of_none (crash.0 (old_file (journal_of (Events lane)))) (leaves (old_file (journal_of (Events lane))) (crash.0 (old_file (journal_of (Events lane)))) absent.1 (crash.1 (old_file (journal_of (Events lane)))))) ∙ none)
 
 -- whether a part is that of slots
 is_slots : Part → Bool
 is_slots Slots = true
 is_slots part = false
 
-or_none : (a b : Option (List ℕ)) → option_or a b ≡ None → a ≡ None
-or_none None b e = refl
-or_none (Some x) b e = absurd (let never : ⊥ = cc in never)
-
 pub old_apart : (lane : ℕ) → old_file (journal_of (Events lane)) ≡ journal_of (Events lane) → ⊥
 unfolding is_slots
 old_apart lane e = false≢true (ap (λ (f : FileId). is_slots f.part) e)
-
--- and may be made
-made_after : (lane : ℕ) (old new : DiskView) (P : Image → Type 0) → MayBeMade 89 (journal_of (Events lane)) old → Throughout (λ g. g ≡ journal_of (Events lane)) P old new
-    → LastAt 89 (journal_of (Events lane)) new.reads ≡ None → MayBeMade 89 (journal_of (Events lane)) new
-unfolding MayBeMade LastAt
-made_after lane old new P may run none = (
-  or_none (slots_last 89 (journal_of (Events lane)) new.reads) (old_last 89 (journal_of (Events lane)) new.reads) none,
-  λ content left. may.1 content (run.elsewhere.crash (old_file (journal_of (Events lane))) (old_apart lane) content left),
-)
-
-pub may_be_made : (lane : ℕ) (old new : DiskView) (P : Image → Type 0) → AbsentOrEmpty old → LastAt 89 (journal_of (Events lane)) old.reads ≡ None → SameJournal 89 (journal_of (Events lane)) old.reads new.reads
-    → Throughout (λ g. g ≡ journal_of (Events lane)) P old new
-    → ((IsAbsent (journal_of (Events lane)) old.reads → ⊥) → MayBeMade 89 (journal_of (Events lane)) new)
-    → MayBeMade 89 (journal_of (Events lane)) new
-may_be_made lane old new P leaves none same run there = elim (is_absent (journal_of (Events lane)) old.reads) [
-  | inl absent ↦ made_after lane old new P (reads_absent_may_be_made 89 (journal_of (Events lane)) old leaves absent) run (same ∙ none)
-  | inr some ↦ there some
-]
 
 -- ---- a bundle that was opened, as an event log
 
@@ -209,3 +143,19 @@ opened_text lane bundle old new P fresh some at itself run same =
 -- of what was found this holds
 pub of_some : {A : Type 0} (o : Option A) (a : A) (P : A → Type 0) → o ≡ Some a → IfSome o P → P a
 of_some {A} o a P is holds = subst (λ (x : Option A). IfSome x P) is holds
+
+-- it counts the lines of the entry that was read
+pub counts_entry : (lane : ℕ) (image : Image) (log : EventLogView) (body : Body) → log.bundle.last ≡ Some body → HasEntry (Events lane) body image → CountsAsIn lane image log
+counts_entry lane image log body last has = record {
+  by_entry = λ other there.
+      let read : Some (encoded body) ≡ Some (encoded other) = sym has.last ∙ there.last in
+      ap count_in last ∙ ap (λ (b : Body). b.count) (one_body body other has.is_body there.is_body (let same : encoded body ≡ encoded other = cc (read) in same));
+  without = λ none. absurd (let read : Some (encoded body) ≡ None = sym has.last ∙ none in let never : ⊥ = cc (read) in never);
+}
+
+-- and none where there was no entry
+pub counts_none : (lane : ℕ) (image : Image) (log : EventLogView) → LastAt 89 (journal_of (Events lane)) image ≡ None → line_count log ≡ 0 → CountsAsIn lane image log
+counts_none lane image log none zero = record {
+  by_entry = λ body there. absurd (let read : Some (encoded body) ≡ None = sym there.last ∙ none in let never : ⊥ = cc (read) in never);
+  without = λ _. zero;
+}

@@ -1,4 +1,3 @@
-pub mod Calls
 pub mod Inner
 pub mod Moments
 pub mod Recovered

@@ -1,10 +1,13 @@
 -- An event log's value, as contracts see it.
 use Rattle.std.specs.Prelude.{◌≡◌, ℕ, ◌+◌, ◌-◌, ◌^◌, Bool, false, List, [], ◌++◌, min, Option, Some, None}
+use Rattle.lsv_disk.specs.declared.file.Owner.TheVariants.{Events}
 use Rattle.lsv_disk.specs.declared.file.Part.TheVariants.{Lines}
-use Rattle.lsv_disk.specs.View.{DiskView}
+use Rattle.lsv_disk.specs.View.{Image, DiskView}
+use Rattle.lsv_journal.specs.Last.{LastAt}
 use Rattle.lsv_bundle.specs.declared.body.Body.{Body}
 use Rattle.lsv_bundle.specs.Value.{BundleView, committed_length, staged, next_length, unstaged}
-use Rattle.lsv_bundle.specs.Committed.{committed_bytes}
+use Rattle.lsv_bundle.specs.Committed.{HasEntry, committed_bytes}
+use Rattle.lsv_bundle.specs.Shape.{journal_of}
 use Rattle.lsv_bundle.specs.Represents as bundles
 
 -- an event log: its lane, how many lines were added and aren't committed, and its files
@@ -72,3 +75,8 @@ pub record IsOpened (lane : ℕ) (log : EventLogView) : Type 0 where
   pub whole : is_broken log ≡ false
   pub none_added : log.added ≡ 0
   pub none_staged : added_text log ≡ []
+
+-- it counts as many lines as the last entry of the lane's event log in that image, and none where that has no entry
+pub record CountsAsIn (lane : ℕ) (image : Image) (log : EventLogView) : Type 0 where
+  pub by_entry : (body : Body) → HasEntry (Events lane) body image → line_count log ≡ body.count
+  pub without : LastAt 89 (journal_of (Events lane)) image ≡ None → line_count log ≡ 0

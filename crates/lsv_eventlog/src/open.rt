@@ -9,9 +9,8 @@ ghost use Rattle.lsv_bundle.specs.declared.shape.Shape.TheVariants as shapes;
 ghost use Rattle.lsv_bundle.specs.Shape.{journal_of};
 ghost use Rattle.lsv_bundle.specs.Committed.{IsDamaged};
 ghost use Rattle.lsv_bundle.specs.Calls.{IsOpenFault};
-ghost use Rattle.lsv_eventlog.specs.Calls.{CallsWithin};
 ghost use Rattle.lsv_eventlog.specs.Recovered.{HoldsLines, IsOfEventLog};
-ghost use Rattle.lsv_eventlog.specs.Value.{IsOpened, Represents, committed_text};
+ghost use Rattle.lsv_eventlog.specs.Value.{CountsAsIn, IsOpened, Represents, committed_text, line_count};
 ghost use Rattle.lsv_eventlog.specs.Moments.{IsAsBefore};
 
 use crate::EventLog;
@@ -26,8 +25,10 @@ const MADE: u8 = 0;
 fn find<D: Disk>(alloc: Global, disk: &mut D, lane: u32) -> Result<Option<EventLog>, BundleFault>
     ensures value { IfOk result (λ o. IfSome o (IsOpened lane)) }
     ensures held { D.tells → IfOk result (λ o. IfSome o (λ log. HoldsLines (D.view disk.old).reads lane (committed_text log (D.view disk.new)))) }
+    ensures counted { D.tells → IfOk result (λ o. IfSome o (CountsAsIn lane (D.view disk.old).reads)) }
     ensures represents { D.tells → IfOk result (λ o. IfSome o (λ log. Represents log (D.view disk.new))) }
     ensures none { D.tells → IfOk result (λ o. o ≡ None → HoldsLines (D.view disk.old).reads lane []) }
+    ensures none_read { D.tells → IfOk result (λ o. o ≡ None → LastAt 89 (journal_of (Events lane)) (D.view disk.old).reads ≡ None) }
     ensures no_entry { D.tells → IfOk result (λ o. o ≡ None → (image : Image) → IsCrashImage (D.view disk.new) image → LastAt 89 (journal_of (Events lane)) image ≡ None) }
     ensures may_be_made { D.tells → IfOk result (λ o. o ≡ None → MayBeMade 89 (journal_of (Events lane)) (D.view disk.new)) }
     ensures any_moment { D.tells → Throughout (IsOfEventLog lane) (IsAsBefore lane (D.view disk.old)) (D.view disk.old) (D.view disk.new) }
@@ -53,10 +54,11 @@ fn make<D: Disk>(alloc: Global, disk: &mut D, lane: u32) -> Result<EventLog, Bun
     requires may_be_made { D.tells → MayBeMade 89 (journal_of (Events lane)) (D.view disk.old) }
     requires no_entry { D.tells → (image : Image) → IsCrashImage (D.view disk.old) image → LastAt 89 (journal_of (Events lane)) image ≡ None }
     ensures value { IfOk result (IsOpened lane) }
+    ensures count { IfOk result (λ log. line_count log ≡ 0) }
     ensures empty { D.tells → IfOk result (λ log. committed_text log (D.view disk.new) ≡ []) }
     ensures represents { D.tells → IfOk result (λ log. Represents log (D.view disk.new)) }
     ensures any_moment { D.tells → Throughout (IsOfEventLog lane) (λ image. HoldsLines image lane []) (D.view disk.old) (D.view disk.new) }
-    ensures calls { D.tells → CallsWithin (journal_of (Events lane)) 3 4 (IsOfEventLog lane) (D.view disk.old) (D.view disk.new) }
+    ensures calls { D.tells → WritesOneOf (journal_of (Events lane)) 3 4 (IsOfEventLog lane) (D.view disk.old) (D.view disk.new) }
     ensures fault { IfErr result (λ e. (e ≡ BundleFault.Disk) ⊎ (e ≡ BundleFault.NoMem)) }
     ensures cause { HasOwnCause (IsOfEventLog lane) (IsErrOf result BundleFault.Disk) (D.view disk.old) (D.view disk.new) }
 {
@@ -76,11 +78,12 @@ impl EventLog {
     pub fn open<D: Disk>(alloc: Global, disk: &mut D, lane: u32) -> Result<EventLog, BundleFault>
         ensures value { IfOk result (IsOpened lane) }
         ensures held { D.tells → IfOk result (λ log. HoldsLines (D.view disk.old).reads lane (committed_text log (D.view disk.new))) }
+        ensures counted { D.tells → IfOk result (CountsAsIn lane (D.view disk.old).reads) }
         ensures represents { D.tells → IfOk result (λ log. Represents log (D.view disk.new)) }
         ensures any_moment { D.tells → Throughout (IsOfEventLog lane) (IsAsBefore lane (D.view disk.old)) (D.view disk.old) (D.view disk.new) }
         ensures reads { D.tells → (text : List ℕ) → HoldsLines (D.view disk.old).reads lane text → HoldsLines (D.view disk.new).reads lane text }
         ensures reads_back { D.tells → (text : List ℕ) → HoldsLines (D.view disk.new).reads lane text → HoldsLines (D.view disk.old).reads lane text }
-        ensures calls { D.tells → CallsWithin (journal_of (Events lane)) 6 9 (IsOfEventLog lane) (D.view disk.old) (D.view disk.new) }
+        ensures calls { D.tells → WritesOneOf (journal_of (Events lane)) 6 9 (IsOfEventLog lane) (D.view disk.old) (D.view disk.new) }
         ensures damaged { D.tells → (part : Part) → IsErrOf result (BundleFault.Damaged part) → IsDamaged (Events lane) shapes.Lines (D.view disk.old).reads part }
         ensures fault { IfErr result IsOpenFault }
         ensures cause { HasOwnCause (IsOfEventLog lane) (IsErrOf result BundleFault.Disk) (D.view disk.old) (D.view disk.new) }

@@ -14,7 +14,7 @@ pub enum ConnState {
     Fresh,
     /// It said hello.
     Greeted,
-    /// It was rejected, or gave an alert, and no session runs.
+    /// It gave an alert, and no session runs.
     Alerted,
     /// A command runs; its records go into this log, where there is one.
     Running(Option<LogNo>),

@@ -3,7 +3,8 @@ use Rattle.std.proofs.lemmas.Result.{IfOk-weaker}
 use Rattle.lsv_disk.specs.declared.file.Owner.TheVariants.{Events}
 use Rattle.lsv_bundle.specs.Shape.{journal_of}
 use Rattle.lsv_eventlog.specs.Recovered.{HoldsLines, IsOfEventLog}
-use Rattle.lsv_eventlog.proofs.Making.{both_empty, calls_within, find_calls, made_as_before, reads_empty}
+use Rattle.lsv_eventlog.proofs.Opening.{counts_none}
+use Rattle.lsv_eventlog.proofs.Making.{both_empty, calls_within, made_as_before, reads_empty}
 use Rattle.lsv_eventlog.proofs.log.EventLog.open.Goals as goal
 
 pub returns-in-None-clause-held : goal.returns-in-None-clause-held
@@ -38,4 +39,8 @@ returns-in-None-clause-calls g c told =
     let old = g.D.Disk.view c.args.disk.now in
     let mid = g.D.Disk.view c.find.new.disk in
     let new = g.D.Disk.view c.make.new.disk in
-    calls_within (journal_of (Events c.args.lane)) (IsOfEventLog c.args.lane) 3 5 3 4 old mid new (find_calls c.args.lane old mid (c.find.ensures.calls told)) (c.make.ensures.calls told)
+    calls_within (journal_of (Events c.args.lane)) (IsOfEventLog c.args.lane) 3 5 3 4 old mid new (c.find.ensures.calls told) (c.make.ensures.calls told)
+
+pub returns-in-None-clause-counted : goal.returns-in-None-clause-counted
+returns-in-None-clause-counted g c told =
+    IfOk-weaker c.make.result _ _ (λ log zero. counts_none c.args.lane (g.D.Disk.view c.args.disk.now).reads log (c.in_ok-log.ensures.none_read told c.in-None.is) zero) c.make.ensures.count
