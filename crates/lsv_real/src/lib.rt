@@ -6,11 +6,13 @@ mod disk;
 mod folders;
 mod limit;
 mod path;
+mod read_only;
 mod span;
 mod store;
 mod streams;
 mod unsynced;
 
 pub use disk::FileDisk;
-pub use streams::{StdSink, StdSource};
+pub use read_only::ReadOnlyDisk;
+pub use streams::{StdScreen, StdSink, StdSource};
 pub use unsynced::{SyncedFile, Unsynced};

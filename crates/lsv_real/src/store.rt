@@ -228,7 +228,7 @@ fn make_file(rt: &HostRuntime, path: &str) -> io::Result<File> {
 }
 
 /// Reads as many bytes as there are and as the buffer takes.
-fn read_from(file: &File, at: u64, buf: &mut [u8]) -> io::Result<usize>
+pub fn read_from(file: &File, at: u64, buf: &mut [u8]) -> io::Result<usize>
     ensures { IfOk result (λ n. n ≤ length buf.old) }
 {
     let mut done = 0;

@@ -1,9 +1,11 @@
-// Standard input and output. They tell no content, and count their faults.
+// Standard input and output, and standard output as a screen. They tell no content, and count their faults.
 ghost use Rattle.std.specs.Prelude.{[], ◌≡◌, ◌≤◌, ◌<◌, ◌^◌, IfOk, length};
 
 use lsv_base::{Sink, SinkFault, Source, SourceFault};
-use std::io;
+use lsv_play::Screen;
 use std::io::{ErrorKind, Print, Read};
+use std::time::Duration;
+use std::{io, thread};
 
 /// After so many signals in a row a read is a fault.
 const MOST_INTERRUPTS: u32 = 1024;
@@ -95,6 +97,46 @@ impl Sink for StdSink {
     ghost faults = { λ s. s.faults };
 
     fn write(&mut self, bytes: &[u8]) -> Result<(), SinkFault> {
+        match self.rt.write_all(bytes) {
+            Ok(()) => Ok(()),
+            Err(_) => {
+                self.faults = self.faults.saturating_add(1);
+                Err(SinkFault)
+            }
+        }
+    }
+}
+
+/// Standard output as a screen: a wait sleeps, and each put is one write, so that a terminal shows it as it was.
+#[derive(Drop)]
+pub struct StdScreen {
+    rt: HostRuntime,
+    faults: u64,
+}
+
+impl StdScreen {
+    pub fn new(rt: HostRuntime) -> Self
+        ensures { ⟦<StdScreen as Screen>⟧.faults result ≡ 0 }
+    {
+        StdScreen { rt, faults: 0 }
+    }
+}
+
+impl Screen for StdScreen {
+    ghost tells = { ⊥ };
+
+    ghost shown = { λ _. [] };
+
+    ghost faults = { λ s. s.faults };
+
+    fn wait(&mut self, nanos: u64) -> Result<(), SinkFault> {
+        if nanos > 0 {
+            thread::sleep(&self.rt, Duration::from_nanos(nanos));
+        }
+        Ok(())
+    }
+
+    fn put(&mut self, bytes: &[u8]) -> Result<(), SinkFault> {
         match self.rt.write_all(bytes) {
             Ok(()) => Ok(()),
             Err(_) => {

@@ -1,0 +1,40 @@
+ghost use Rattle.std.specs.Prelude.{◌≡◌, ◌⊎◌, ℕ, List, [], ◌∷◌, ◌++◌, IsErr, OnOk, OnErr};
+ghost use Rattle.lsv_base.specs.Outside.{HasCause};
+ghost use Rattle.lsv_words.specs.Pieces.{IsPrefix};
+ghost use Rattle.lsv_play.specs.declared.screen.Item.{Item};
+
+use lsv_base::{Bytes, SinkFault};
+
+/// What a screen is told.
+#[derive(Debug, Drop)]
+pub enum Item {
+    /// So many nanoseconds are waited.
+    Wait(u64),
+    /// These bytes are put.
+    Put(Bytes),
+}
+
+/// Where a session is shown, as a terminal.
+pub trait Screen {
+    /// Whether this type tells its content: what was shown is promised where it does.
+    ghost tells: { Type 0 };
+
+    /// What was waited and put, in order.
+    ghost shown: { Self → List Item };
+
+    /// How often a call has failed.
+    ghost faults: { Self → ℕ };
+
+    /// Waits so many nanoseconds, or fails.
+    fn wait(&mut self, nanos: u64) -> Result<(), SinkFault>
+        ensures shown { tells → OnOk result (shown self.new ≡ shown self.old ++ Item.Wait nanos ∷ []) }
+        ensures failed { tells → OnErr result (shown self.new ≡ shown self.old) }
+        ensures cause { HasCause (IsErr result) (faults self.old) (faults self.new) };
+
+    /// Puts all of these bytes at once, or at a fault some first part of them.
+    fn put(&mut self, bytes: &[u8]) -> Result<(), SinkFault>
+        ensures shown { tells → OnOk result (shown self.new ≡ shown self.old ++ Item.Put bytes.now ∷ []) }
+        ensures failed { tells → OnErr result ((shown self.new ≡ shown self.old)
+            ⊎ ((front : List ℕ) × IsPrefix front bytes.now × (shown self.new ≡ shown self.old ++ Item.Put front ∷ []))) }
+        ensures cause { HasCause (IsErr result) (faults self.old) (faults self.new) };
+}

@@ -1,0 +1,211 @@
+// The disk of the operating system, of which nothing is changed. It tells no content, and counts its faults.
+ghost use Rattle.std.specs.Prelude.{◌≤◌, ◌≡◌, IfOk, OnErr, length};
+ghost use Rattle.lsv_words.specs.Causes.{HasRisen};
+ghost use Rattle.lsv_real.specs.Untold.{untold};
+
+use crate::call::Call;
+use crate::path::Places;
+use crate::store::read_from;
+use lru::LruCache;
+use lsv_disk::{Disk, DiskFault, FileId, Owner, Part};
+use std::fs::{File, OpenOptions};
+use std::io;
+use std::io::ErrorKind;
+use std::num::NonZeroUsize;
+
+/// So many files are kept open: those of a log that is read, and of the numbers.
+const MOST_OPEN: usize = 16;
+
+/// The disk of the operating system, for who only reads: no folder and no file is made, no lock is taken, and each call
+/// that would change a file or sync it is a fault. A store that a server writes is read as it reads.
+#[derive(Drop)]
+pub struct ReadOnlyDisk {
+    rt: HostRuntime,
+    /// Whose faults they are, on standard error.
+    program: &'static str,
+    store: Option<Opened>,
+    faults: u64,
+}
+
+/// The places of a store, and its files that are open.
+#[derive(Drop)]
+struct Opened {
+    places: Places,
+    handles: LruCache<FileId, File>,
+}
+
+impl ReadOnlyDisk {
+    /// A disk without a store. Its faults are told on standard error, a line each, under the program's name.
+    pub fn new(rt: HostRuntime, program: &'static str) -> Self
+        ensures { (f : FileId) → (⟦<ReadOnlyDisk as Disk>⟧.view result).faults f ≡ 0 }
+    {
+        ReadOnlyDisk {
+            rt,
+            program,
+            store: None,
+            faults: 0,
+        }
+    }
+
+    /// A failure is a fault, counted and told.
+    fn told<T: Drop>(
+        &mut self,
+        f: FileId,
+        call: Call,
+        answer: io::Result<T>,
+    ) -> Result<T, DiskFault>
+        ensures ok { IfOk result (λ t. answer ≡ Ok t) }
+        ensures counts { self.old.faults ≤ self.new.faults }
+        ensures cause { OnErr result (HasRisen self.old.faults self.new.faults) }
+    {
+        match answer {
+            Ok(t) => Ok(t),
+            Err(e) => {
+                self.tell(f, call, &e);
+                self.faults = self.faults.saturating_add(1);
+                Err(DiskFault)
+            }
+        }
+    }
+
+    /// Says on standard error what failed.
+    fn tell(&self, f: FileId, call: Call, e: &io::Error) {
+        let program = self.program;
+        let place = match &self.store {
+            Some(store) => store.places.place_of(self.rt.alloc(), f),
+            None => Ok(None),
+        };
+        match place {
+            Ok(Some(place)) => {
+                let path = place.path.as_str();
+                let _ = eprintln!(self.rt; "{program}: {path}: {call}: {e}");
+            }
+            _ => {
+                let _ = eprintln!(self.rt; "{program}: the store: {call}: {e}");
+            }
+        }
+    }
+
+    /// How many bytes a file has, None where there is none.
+    fn length_of(&mut self, f: FileId) -> io::Result<Option<u64>>
+        ensures { self.new.faults ≡ self.old.faults }
+    {
+        let Some(store) = &mut self.store else {
+            return Err(ErrorKind::NotFound.into());
+        };
+        match store.file(&self.rt, f)? {
+            Some(file) => Ok(Some(file.metadata()?.len())),
+            None => Ok(None),
+        }
+    }
+
+    /// Reads as many bytes as there are and as the buffer takes; an absent file has none.
+    fn read(&mut self, f: FileId, at: u64, buf: &mut [u8]) -> io::Result<usize>
+        ensures within { IfOk result (λ n. n ≤ length buf.old) }
+        ensures faults { self.new.faults ≡ self.old.faults }
+    {
+        let Some(store) = &mut self.store else {
+            return Err(ErrorKind::NotFound.into());
+        };
+        match store.file(&self.rt, f)? {
+            Some(file) => read_from(file, at, buf),
+            None => Ok(0),
+        }
+    }
+}
+
+impl Opened {
+    /// The places of a store, with no file open.
+    fn new(rt: &HostRuntime, dir: &str, events: &str) -> io::Result<Opened> {
+        let alloc = rt.alloc();
+        let places = Places::new(alloc, dir, events)?;
+        let Some(most) = NonZeroUsize::new(MOST_OPEN) else {
+            return Err(ErrorKind::InvalidInput.into());
+        };
+        let handles = match LruCache::new(alloc, most) {
+            Ok(handles) => handles,
+            Err(_) => return Err(ErrorKind::OutOfMemory.into()),
+        };
+        Ok(Opened { places, handles })
+    }
+
+    /// An open file. None where there is no such file.
+    fn file(&mut self, rt: &HostRuntime, f: FileId) -> io::Result<Option<&File>> {
+        if self.handles.get(&f).is_none() {
+            let Some(place) = self.places.place_of(rt.alloc(), f)? else {
+                return Err(ErrorKind::InvalidInput.into());
+            };
+            match OpenOptions::new().read(true).open(rt, place.path.as_str()) {
+                Ok(file) => {
+                    if self.handles.len() >= MOST_OPEN {
+                        let _ = self.handles.pop_lru();
+                    }
+                    if self.handles.put(f, file).is_err() {
+                        return Err(ErrorKind::OutOfMemory.into());
+                    }
+                }
+                Err(e) if e.kind() == ErrorKind::NotFound => return Ok(None),
+                Err(e) => return Err(e),
+            }
+        }
+        Ok(self.handles.get(&f))
+    }
+}
+
+/// The error of a call that a disk which is only read doesn't make.
+fn refused<T>() -> io::Result<T> {
+    Err(ErrorKind::PermissionDenied.into())
+}
+
+impl Disk for ReadOnlyDisk {
+    ghost tells = { ⊥ };
+
+    ghost view = { λ d. untold d.faults };
+
+    ghost reads_itself = { λ told. absurd told };
+
+    ghost absent_or_empty = { λ told. absurd told };
+
+    ghost is_now = { λ told. absurd told };
+
+    ghost only_now = { λ told. absurd told };
+
+    fn root(&mut self, dir: &str, events: &str) {
+        let program = self.program;
+        match Opened::new(&self.rt, dir, events) {
+            Ok(store) => self.store = Some(store),
+            Err(e) => {
+                let _ = eprintln!(self.rt; "{program}: {dir}: {e}");
+            }
+        }
+    }
+
+    fn create(&mut self, f: FileId) -> Result<(), DiskFault> {
+        self.told(f, Call::Create, refused())
+    }
+
+    fn create_all(&mut self, owner: Owner, parts: &[Part]) -> Result<(), DiskFault> {
+        let [first, ..] = parts else {
+            return Ok(());
+        };
+        self.told(FileId::new(owner, *first), Call::Create, refused())
+    }
+
+    fn length(&mut self, f: FileId) -> Result<Option<u64>, DiskFault> {
+        let answer = self.length_of(f);
+        self.told(f, Call::Length, answer)
+    }
+
+    fn read_at(&mut self, f: FileId, at: u64, buf: &mut [u8]) -> Result<usize, DiskFault> {
+        let answer = self.read(f, at, buf);
+        self.told(f, Call::Read, answer)
+    }
+
+    fn write_at(&mut self, f: FileId, _at: u64, _bytes: &[u8]) -> Result<(), DiskFault> {
+        self.told(f, Call::Write, refused())
+    }
+
+    fn sync(&mut self, f: FileId) -> Result<(), DiskFault> {
+        self.told(f, Call::Sync, refused())
+    }
+}

@@ -1,0 +1,7 @@
+pub mod Compiled
+pub mod Evaluating
+pub mod Failing
+pub mod Naming
+pub mod Parsing
+pub mod Refusing
+pub mod Walking

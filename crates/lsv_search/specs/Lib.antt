@@ -1,0 +1,9 @@
+pub mod Dates
+pub mod Evaluation
+pub mod Grammar
+pub mod Meaning
+pub mod Names
+pub mod Patterns
+pub mod Places
+pub mod Reading
+pub mod Steps
