@@ -74,9 +74,9 @@ class Log:
         self.bodies = []
         self.writes = self.syncs = 0
         self.put(texts(head, [], b""))
-        # the journal is made with its gate closed, and its first entry opens it
+        # the journal is made with its gate closed, then comes the first entry, and then the gate is opened
         self.enter(0)
-        self.count(2, 2)
+        self.count(3, 3)
 
     def count(self, writes, syncs):
         self.writes, self.syncs = self.writes + writes, self.syncs + syncs
@@ -113,8 +113,10 @@ class Log:
 
     def cut(self, point):
         """Cuts behind the first record at this point. False where there is none."""
-        for n in range(1, len(self.records) + 1):
-            if sum(r[1] for r in self.records[:n]) == point:
+        elapsed = 0
+        for n, record in enumerate(self.records, 1):
+            elapsed += record[1]
+            if elapsed == point:
                 self.cuts += n < len(self.records)
                 self.records = self.records[:n]
                 self.lengths = [len(text) for text in texts(self.head, self.records, b"")]
@@ -322,10 +324,11 @@ def long_logs(out):
         s.log.enter(1)
     s.calls(0)
     s.open()
-    s.log.count(0, 9)
+    # an opening syncs the eight files, and both journals
+    s.log.count(0, 10)
     s.calls(WINDOW)
     s.cut(50_000_000)
-    s.log.count(0, 9)
+    s.log.count(0, 10)
     s.calls(WINDOW)
     s.say("look", "look " + digits(HEAD))
     s.say("next", "next " + word(record))
@@ -411,8 +414,9 @@ def put(s, files):
             s.say("put %s %s" % (name, digits(data)))
 
 
-def damage(out, name, files, part, records=None):
-    """A log with this part at fault. Its view gives these records, where it opens, and then this part too."""
+def damage(out, name, files, part, records=None, end=None):
+    """A log with this part at fault. Its view gives these records, where it opens, and then this part too; or it ends well,
+    and this is what it says of the exit."""
     s = Script("damaged: " + name, out)
     put(s, files)
     fault = "Damaged(%s)" % NAMES.get(part, part.capitalize())
@@ -423,6 +427,10 @@ def damage(out, name, files, part, records=None):
         s.say("look", "look " + fault)
         return
     s.say("look", "look " + digits(HEAD))
+    if end is not None:
+        s.rest(records)
+        s.say("exit", "exit " + end)
+        return
     s.say("rest", *["next " + word(r) for r in records], "next " + fault)
     s.say("next", "next " + fault)
 
@@ -442,8 +450,8 @@ def damages(out):
     damage(out, "a short exit before a bad head", dict(stored(head=b"{}\n"), **{"exit.json": b"{"}), "exit.json")
     damage(out, "the head is no head", stored(head=b'{"info":{}}\n'), "log.json")
     damage(out, "the head is no JSON", stored(head=b"\n", kind=1), "log.json")
-    damage(out, "an exit of a log that isn't complete", stored(kind=1), "exit.json", RECORDS)
-    damage(out, "a complete log without an exit", stored(end=b""), "exit.json", RECORDS)
+    damage(out, "an exit of a log that isn't complete", stored(kind=1), "exit.json", RECORDS, "none")
+    damage(out, "a complete log without an exit", stored(end=b""), "exit.json", RECORDS, "Damaged(Exit)")
     for name, text, given in [
         ("a bad line", b"4 1.000000000 3\n0 0.00000500 2\n", 1),
         ("no line feed at the end", b"4 1.000000000 3\n0 0.000000500 2", 1),

@@ -1,5 +1,5 @@
 -- Which of the three holds of an image: the log is absent, or a stored log is there, or it is damaged.
-use Rattle.std.proofs.Common.{◌≡◌, ◌≢◌, ◌⊎◌, inl, inr, ℕ, zero, suc, ◌+◌, ◌<◌, ◌≤◌, ◌^◌, List, [], ◌∷◌, ◌++◌, length, take, map, All, Option, Some, None, Result, Ok, Err, refl, sym, ◌∙◌, ap, subst, arith, slice_index}
+use Rattle.std.proofs.Common.{◌≡◌, ◌≢◌, inl, inr, ℕ, zero, suc, ◌<◌, ◌≤◌, ◌^◌, List, [], ◌∷◌, ◌++◌, length, take, map, All, Option, Some, None, Result, Ok, Err, refl, sym, ◌∙◌, ap, subst, arith, slice_index}
 use Rattle.std.proofs.lemmas.List.{length-map}
 use Rattle.std.proofs.lemmas.List.Elements.{All-nil, All-cons, All-head, All-tail}
 use Rattle.lsv_disk.specs.declared.file.Part.{Part}
@@ -22,15 +22,14 @@ use Rattle.lsv_record.specs.declared.records.Shaped.{Shaped}
 use Rattle.lsv_record.specs.declared.records.Stream.{Stream}
 use Rattle.lsv_record.specs.declared.records.Stream.TheVariants as streams
 use Rattle.lsv_record.specs.declared.laid.Laid.{Laid}
-use Rattle.lsv_record.specs.Layout.{layout_of, stream_in, IsLayout}
+use Rattle.lsv_record.specs.Layout.{layout_of, stream_in}
 use Rattle.lsv_record.specs.Points.{Stored}
-use Rattle.lsv_record.specs.Records.{shape_of, stream_of, timing_of, elapsed, IsGood, IsValid}
-use Rattle.lsv_record.specs.Tally.{lines_of, told_data, told_elapsed}
+use Rattle.lsv_record.specs.Records.{shape_of, stream_of, elapsed, IsGood, IsValid}
+use Rattle.lsv_record.specs.Tally.{told_data, told_elapsed}
 use Rattle.lsv_record.proofs.Layouts.{layout_is_texts}
 use Rattle.lsv_record.proofs.Tallies.{lines_are_records, lines_are_timing, lines_tell_time, lines_tell_data}
-use Rattle.lsv_words.specs.Pieces.{IsPrefix}
 use Rattle.std.proofs.Common.{length-append}
-use Rattle.lsv_iolog.specs.Recovered.{owner_of, laid_in, HasExit, IsHeadText, IsLog, Replays, ReplaysNothing, Decided}
+use Rattle.lsv_iolog.specs.Recovered.{owner_of, laid_in, HasExit, IsHeadText, IsLog, ReplaysNothing, Decided}
 use Rattle.lsv_iolog.proofs.Replaying.{on_log, one_entry}
 use Rattle.lsv_iolog.proofs.Opening.{not_short, has_taken, is_log_same}
 use Rattle.lsv_iolog.proofs.Deciding.{dec_nat, dec_less, dec_list, dec_both, dec_as, dec_below, dec_listed, AreLinesOf, dec_lines, same_lines}
