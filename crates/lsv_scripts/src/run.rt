@@ -131,10 +131,10 @@ impl Run {
 }
 
 /// Whether a record is valid.
-fn is_valid(record: &Record) -> bool
-    ensures { IsTrue result → IsValid record.now }
+fn is_valid(r: &Record) -> bool
+    ensures { IsTrue result → IsValid r.now }
 {
-    match record {
+    match r {
         Record::Io { delay, bytes, .. } => *delay < 1 << 63 && bytes.as_slice().len() <= 2_097_152,
         Record::Winsize { delay, rows, cols } => {
             *delay < 1 << 63 && *rows < 1 << 31 && *cols < 1 << 31
