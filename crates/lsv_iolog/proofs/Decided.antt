@@ -11,8 +11,9 @@ use Rattle.lsv_journal.specs.Last.{LastAt}
 use Rattle.lsv_bundle.specs.declared.body.Body.{Body}
 use Rattle.lsv_bundle.specs.declared.shape.Shape.TheVariants as shapes
 use Rattle.lsv_bundle.specs.Body.{encoded, length_of, IsBody}
-use Rattle.lsv_bundle.specs.Shape.{IsPart, on_shape, journal_of}
-use Rattle.lsv_bundle.specs.Committed.{Committed, HasPrefix, HoldsEntry, IsShort}
+use Rattle.lsv_iolog.specs.Damage.{AreLines, IsFirstUnfit, IsFault, HasFault, IsDamagedAt}
+use Rattle.lsv_bundle.specs.Shape.{parts_of, index_of, IsPart, on_shape, journal_of}
+use Rattle.lsv_bundle.specs.Committed.{Committed, HasPrefix, HoldsEntry, IsShort, IsFirstShort}
 use Rattle.lsv_bundle.proofs.Laws.{one_body}
 use Rattle.lsv_info.specs.declared.times.Head as info
 use Rattle.lsv_info.specs.declared.fault.InfoFault.{InfoFault}
@@ -29,7 +30,7 @@ use Rattle.lsv_record.specs.Tally.{told_data, told_elapsed}
 use Rattle.lsv_record.proofs.Layouts.{layout_is_texts}
 use Rattle.lsv_record.proofs.Tallies.{lines_are_records, lines_are_timing, lines_tell_time, lines_tell_data}
 use Rattle.std.proofs.Common.{length-append}
-use Rattle.lsv_iolog.specs.Recovered.{owner_of, laid_in, HasExit, IsHeadText, IsLog, ReplaysNothing, Decided}
+use Rattle.lsv_iolog.specs.Recovered.{owner_of, part_of, laid_in, HasExit, IsHeadText, IsLog, ReplaysNothing, Decided}
 use Rattle.lsv_iolog.proofs.Replaying.{on_log, one_entry}
 use Rattle.lsv_iolog.proofs.Opening.{not_short, has_taken, is_log_same}
 use Rattle.lsv_iolog.proofs.Deciding.{dec_nat, dec_less, dec_list, dec_both, dec_as, dec_below, dec_listed, AreLinesOf, dec_lines, same_lines}
@@ -277,3 +278,50 @@ module _ (n : ℕ) (image : Image) where
 
 pub decided : (image : Image) (n : ℕ) → Decided image n
 decided image n = by_last n image (LastAt 89 (journal_of (owner_of n)) image) refl
+
+-- a part that is short or at fault: no log is there
+short_of : (n : ℕ) (image : Image) (lengths : List ℕ) (part : Part) (parts : List Part) → All (IsPart shapes.Log) parts → IsFirstShort (owner_of n) image lengths parts part
+    → (p : Part) × IsPart shapes.Log p × IsShort (image (file_of (owner_of n) p)) (slice_index lengths (index_of p))
+short_of n image lengths part [] all first = absurd first
+short_of n image lengths part (p ∷ ps) all (inl x) = (p, All-head (IsPart shapes.Log) p ps all, x.1)
+short_of n image lengths part (p ∷ ps) all (inr x) = short_of n image lengths part ps (All-tail (IsPart shapes.Log) p ps all) x.1
+
+log_parts : All (IsPart shapes.Log) (parts_of shapes.Log)
+log_parts = All-cons (IsPart shapes.Log) Head (Exit ∷ Timing ∷ Stdin ∷ Stdout ∷ Stderr ∷ Ttyin ∷ Ttyout ∷ []) tt (All-cons (IsPart shapes.Log) Exit (Timing ∷ Stdin ∷ Stdout ∷ Stderr ∷ Ttyin ∷ Ttyout ∷ []) tt (All-cons (IsPart shapes.Log) Timing (Stdin ∷ Stdout ∷ Stderr ∷ Ttyin ∷ Ttyout ∷ []) tt (All-cons (IsPart shapes.Log) Stdin (Stdout ∷ Stderr ∷ Ttyin ∷ Ttyout ∷ []) tt (All-cons (IsPart shapes.Log) Stdout (Stderr ∷ Ttyin ∷ Ttyout ∷ []) tt (All-cons (IsPart shapes.Log) Stderr (Ttyin ∷ Ttyout ∷ []) tt (All-cons (IsPart shapes.Log) Ttyin (Ttyout ∷ []) tt (All-cons (IsPart shapes.Log) Ttyout [] tt (All-nil (IsPart shapes.Log)))))))))
+
+are_of_log : (entry : Committed) (log : Stored) → IsLog entry log → AreLines entry (map shape_of log.records)
+are_of_log entry log is =
+    let told = told_of_log entry log is in
+    record { good = (lines_of_log entry log is).0; text = (lines_of_log entry log is).1; count = told.count; time = told.time; in_time = told.in_time; small = is.small }
+
+-- of a log each stream fits its lines
+unfit : (entry : Committed) (log : Stored) (before : List Stream) (s : Stream) → length (entry.bytes (part_of s)) ≡ length (stream_in s (laid_in entry.bytes)) → IsFirstUnfit entry before s → IsLog entry log → ⊥
+unfit entry log before s same fault is =
+    let lines : map shape_of log.records ≡ fault.lines = same_lines (map shape_of log.records) fault.lines (lines_of_log entry log is).0 fault.are.good (sym (lines_of_log entry log is).1 ∙ fault.are.text) in
+    fault.unfit (same ∙ (told_of_log entry log is).fits s ∙ ap (told_data s) lines)
+
+no_fault : (entry : Committed) (log : Stored) (part : Part) → IsFault entry part → IsLog entry log → ⊥
+no_fault entry log Head fault is = fault (subst IsHeadText (sym is.head) is.is_head)
+no_fault entry log Exit fault is = fault.1 (log.exit, is.exit)
+no_fault entry log Timing fault is = fault.2 (map shape_of log.records) (are_of_log entry log is)
+no_fault entry log Stdin fault is = unfit entry log _ streams.Stdin refl fault is
+no_fault entry log Stdout fault is = unfit entry log _ streams.Stdout refl fault is
+no_fault entry log Stderr fault is = unfit entry log _ streams.Stderr refl fault is
+no_fault entry log Ttyin fault is = unfit entry log _ streams.Ttyin refl fault is
+no_fault entry log Ttyout fault is = unfit entry log _ streams.Ttyout refl fault is
+no_fault entry log Lines fault is = fault
+no_fault entry log Id fault is = fault
+no_fault entry log Commit fault is = fault
+no_fault entry log Slots fault is = fault
+
+fault_found : (n : ℕ) (image : Image) (part : Part) → HasFault n part image → ReplaysNothing image n
+fault_found n image part fault None absent = none_some n image (encoded fault.entry.body) (sym fault.holds.last ∙ absent)
+fault_found n image part fault (Some log) there =
+    let same = one_entry n image there.entry fault.entry there.holds fault.holds in
+    no_fault fault.entry log part fault.fault (is_log_same there.entry fault.entry log same.0 (λ p of. sym (same.1 p of)) there.is)
+
+pub damaged : (image : Image) (n : ℕ) (part : Part) → IsDamagedAt n part image → ReplaysNothing image n
+damaged image n part (inl short) =
+    let one = short_of n image short.body.lens part (parts_of shapes.Log) log_parts short.first in
+    no_files n image short.body short.entry.is_body short.entry.last (λ whole. whole one.0 one.1 one.2)
+damaged image n part (inr fault) = fault_found n image part fault
