@@ -52,17 +52,21 @@ fn body_of(disk: &Noted) -> Option<Body> {
 /// What the lines of a text come to: how many, their nanoseconds, and the bytes that they tell of each stream. None
 /// where a line is bad or the time is too long.
 fn told(alloc: Global, text: &[u8]) -> Result<Option<(u64, u64, [u64; 5])>> {
-    let (mut at, mut count, mut elapsed, mut data) = (0, 0, 0u64, [0u64; 5]);
+    let (mut at, mut count, mut elapsed, mut data) = (0, 0u64, 0u64, [0u64; 5]);
     for _ in 0..text.len() {
+        if at > text.len() {
+            break;
+        }
         match read_line(alloc, text, at) {
             Ok(None) => break,
             Ok(Some((line, next))) => {
                 at = next;
-                count += 1;
+                count = count.saturating_add(1);
                 elapsed = elapsed.saturating_add(line.delay());
                 if let Shaped::Io(_, stream, bytes) = line {
-                    let of = &mut data[usize::from(stream.event())];
-                    *of = of.saturating_add(u64::from(bytes));
+                    if let Some(of) = data.get_mut(usize::from(stream.event())) {
+                        *of = of.saturating_add(u64::from(bytes));
+                    }
                 }
             }
             Err(LineFault::BadLine(_)) => return Ok(None),
@@ -162,7 +166,10 @@ fn viewed(alloc: Global, disk: &mut Noted, log: &IoLog) -> Result<String> {
         return Ok(String::from_str(alloc, "another count than the log's")?);
     }
     let mut laid = Laid::new(alloc);
-    while let Some(record) = view.next(disk)? {
+    for _ in 0..u64::MAX {
+        let Some(record) = view.next(disk)? else {
+            break;
+        };
         laid.add(&record).map_err(|_| anyhow!("out of memory"))?;
     }
     let head = write_head(alloc, view.head())?;

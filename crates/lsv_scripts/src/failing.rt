@@ -70,7 +70,7 @@ fn open_again(
     call: u64,
     later: u64,
 ) -> Result<()> {
-    let mut run = Run::new(rt.alloc(), &[call, call + later])?;
+    let mut run = Run::new(rt.alloc(), &[call, call.saturating_add(later)])?;
     let (done, _) = taken(&mut run, steps);
     if run.log.is_some() {
         let again = run.take(&Step::Flush);

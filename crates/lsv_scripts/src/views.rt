@@ -29,7 +29,11 @@ pub fn show(rt: &HostRuntime, run: &mut Run, word: &str) -> Result<()> {
             Ok(())
         }
         _ => {
-            while next(rt, run)? {}
+            for _ in 0..u64::MAX {
+                if !next(rt, run)? {
+                    break;
+                }
+            }
             Ok(())
         }
     }
