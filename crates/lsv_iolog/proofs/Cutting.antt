@@ -1,10 +1,9 @@
 -- The lines through the first that ends at a point.
-use Rattle.std.proofs.Common.{◌≡◌, ◌≢◌, ◌⊎◌, inl, inr, ℕ, zero, suc, ◌+◌, ◌<◌, ◌≤◌, ◌^◌, List, [], ◌∷◌, ◌++◌, All, length, take, drop, map, Option, Some, None, refl, sym, ◌∙◌, ap, subst, arith, append-nil, append_assoc, length-append}
+use Rattle.std.proofs.Common.{◌≡◌, ◌≢◌, ◌⊎◌, inl, inr, ℕ, zero, suc, ◌+◌, ◌<◌, ◌≤◌, List, [], ◌∷◌, ◌++◌, All, length, take, drop, map, Option, Some, None, refl, sym, ◌∙◌, ap, subst, arith, append-nil, append_assoc, length-append}
 use Rattle.std.proofs.lemmas.Grind.{common_steps}
 use Rattle.std.proofs.lemmas.Bool.{cases_lt}
-use Rattle.std.proofs.lemmas.List.{map-append, take_at, take-append-le, length-take, take_all, take-append-drop}
+use Rattle.std.proofs.lemmas.List.{map-append, take_at, take-append-le, take-append-drop}
 use Rattle.std.proofs.lemmas.List.Elements.{All-head, All-tail}
-use Rattle.lsv_words.specs.Pieces.{IsPrefix}
 use Rattle.lsv_disk.specs.declared.file.Part.TheVariants.{Timing}
 use Rattle.lsv_disk.specs.declared.file.FileId.{FileId}
 use Rattle.lsv_disk.specs.Throughout.{OnlyReads}
@@ -14,15 +13,15 @@ use Rattle.lsv_bundle.specs.declared.view.View.{View}
 use Rattle.lsv_record.specs.declared.records.Record.{Record}
 use Rattle.lsv_record.specs.declared.records.Shaped.{Shaped}
 use Rattle.lsv_record.specs.Lines.{IsLineAt}
-use Rattle.lsv_record.specs.Points.{first, IsFirst}
+use Rattle.lsv_record.specs.Points.{first}
 use Rattle.lsv_record.specs.Records.{shape_of, line_of, timing_of, elapsed, IsGood, IsValid}
-use Rattle.lsv_record.specs.Tally.{Totals, totals_of, with_line, lines_of, told_elapsed}
+use Rattle.lsv_record.specs.Tally.{Totals, totals_of, with_line, lines_of}
 use Rattle.lsv_record.proofs.Layouts.{elapsed-append, timing_of-append}
 use Rattle.lsv_record.proofs.Once.{one_line}
 use Rattle.lsv_record.proofs.Points.{first_some, first_there}
 use Rattle.lsv_record.proofs.Tallies.{totals_more, lines_are_timing, lines_tell_time, line_after}
 use Rattle.lsv_iolog.specs.Inner.Cutting.{IsFound, IsBefore, IsSeeking}
-use Rattle.lsv_iolog.specs.Inner.Scanning.{text_of, Scan, IsScanning, IsReading}
+use Rattle.lsv_iolog.specs.Inner.Scanning.{text_of, Scan, IsReading}
 use Rattle.lsv_iolog.proofs.Staging.{some_line}
 use Rattle.lsv_iolog.proofs.Scans.{line_before_end, scanning_starts, scanning_goes_on, text_same}
 

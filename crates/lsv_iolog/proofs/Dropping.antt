@@ -1,40 +1,37 @@
 -- What a cut leaves is the log cut at its point.
-use Rattle.std.proofs.Common.{◌≡◌, ◌≢◌, inl, inr, ℕ, zero, suc, ◌+◌, ◌<◌, ◌≤◌, ◌^◌, true, false, Result, Ok, Err, OnOk, List, [], ◌∷◌, ◌++◌, All, length, take, drop, map, Option, Some, None, refl, sym, ◌∙◌, ap, subst, arith, append-nil, length-append}
+use Rattle.std.proofs.Common.{◌≡◌, ◌≢◌, inl, inr, ℕ, zero, suc, ◌+◌, ◌≤◌, true, false, Result, Ok, Err, OnOk, List, [], ◌∷◌, ◌++◌, All, length, take, drop, Option, Some, None, refl, sym, ◌∙◌, ap, subst, arith, append-nil, length-append}
 use Rattle.std.specs.Prelude.{min, get_or, slice_index, unwrap_or, nat_lt, if◌then◌else◌, Bool}
 use Rattle.std.proofs.lemmas.Bool.Decides.{nat_tests}
 use Rattle.std.proofs.lemmas.List.{take_at, take_all, length-take, take-append-drop}
 use Rattle.std.proofs.lemmas.List.Elements.{All-nil, All-cons, All-head, All-tail}
-use Rattle.lsv_disk.specs.declared.file.FileId.{FileId}
 use Rattle.lsv_disk.specs.declared.file.Part.{Part}
 use Rattle.lsv_disk.specs.declared.file.Part.TheVariants.{Head, Exit, Timing, Stdin, Stdout, Stderr, Ttyin, Ttyout}
 use Rattle.lsv_disk.specs.Bytes.{bytes_of}
 use Rattle.lsv_disk.specs.Files.{file_of}
 use Rattle.lsv_disk.specs.Throughout.{Throughout, OnlyReads}
-use Rattle.lsv_disk.specs.View.{DiskView, Image}
+use Rattle.lsv_disk.specs.View.{DiskView}
 use Rattle.lsv_disk.proofs.Composition.{widened, unchanged_throughout}
 use Rattle.lsv_bundle.specs.declared.body.Body.{Body}
 use Rattle.lsv_bundle.specs.declared.shape.Shape.{Shape}
 use Rattle.lsv_bundle.specs.declared.shape.Shape.TheVariants as shapes
 use Rattle.lsv_bundle.specs.Body.{length_of}
-use Rattle.lsv_bundle.specs.Committed.{Committed, IsBeforeOrAfter, committed, committed_bytes}
+use Rattle.lsv_bundle.specs.Committed.{IsBeforeOrAfter, committed, committed_bytes}
 use Rattle.lsv_bundle.specs.Represents as bundles
 use Rattle.lsv_bundle.specs.Shape.{IsPart, IsWritable, on_shape, eight, index_of, journal_of}
-use Rattle.lsv_bundle.specs.Value.{BundleView, committed_length, NoneStaged}
+use Rattle.lsv_bundle.specs.Value.{committed_length, NoneStaged}
 use Rattle.lsv_record.specs.declared.laid.Laid.{Laid}
 use Rattle.lsv_record.specs.declared.records.Record.{Record}
 use Rattle.lsv_record.specs.declared.records.Stream.TheVariants as stream
-use Rattle.lsv_record.specs.Layout.{layout_of}
 use Rattle.lsv_record.specs.Points.{Stored, first, cut}
 use Rattle.lsv_record.specs.Points as points
-use Rattle.lsv_record.specs.Records.{shape_of, timing_of, stream_of, elapsed, IsValid}
+use Rattle.lsv_record.specs.Records.{timing_of, stream_of, elapsed, IsValid}
 use Rattle.lsv_record.specs.Tally.{Totals}
 use Rattle.lsv_record.proofs.Layouts.{timing_of-append, stream_of-append, elapsed-append}
-use Rattle.lsv_record.proofs.Points.{cut_append}
 use Rattle.lsv_record.proofs.Tallies.{lines_are_timing, lines_tell_data}
-use Rattle.lsv_iolog.specs.Recovered.{owner_of, IsOfLog, laid_in, HasExit, IsLog}
+use Rattle.lsv_iolog.specs.Recovered.{IsOfLog, HasExit, IsLog}
 use Rattle.lsv_iolog.specs.Later.{IsLater, cut_log, cuts_after, drops}
 use Rattle.lsv_iolog.specs.Moments.{IsEither}
-use Rattle.lsv_iolog.specs.Value.{IoLogView, LogValue, bare, all_of}
+use Rattle.lsv_iolog.specs.Value.{IoLogView, LogValue, bare}
 use Rattle.lsv_iolog.specs.Represents.{Represents}
 use Rattle.lsv_iolog.specs.Inner.Next.{cuts_in}
 use Rattle.lsv_iolog.specs.Inner.Invariant.{IsSettled}

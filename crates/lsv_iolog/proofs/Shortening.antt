@@ -1,9 +1,7 @@
 -- A cut: what it commits, and what stands at each moment.
-use Rattle.std.proofs.Common.{◌≡◌, ◌≢◌, inl, inr, ℕ, zero, suc, ◌+◌, ◌<◌, ◌≤◌, ◌^◌, true, false, Ok, List, [], ◌∷◌, ◌++◌, All, length, take, drop, map, Option, Some, None, refl, sym, ◌∙◌, ap, subst, arith, append-nil, length-append}
-use Rattle.std.specs.Prelude.{min, get_or, slice_index, unwrap_or}
-use Rattle.std.proofs.lemmas.List.{take_at, take_all, length-take, take-append-drop}
+use Rattle.std.proofs.Common.{◌≡◌, ℕ, zero, suc, ◌<◌, ◌≤◌, ◌^◌, List, [], ◌∷◌, All, length, map, Option, Some, None, sym, ◌∙◌, ap, subst, arith}
+use Rattle.std.specs.Prelude.{slice_index, unwrap_or}
 use Rattle.std.proofs.lemmas.List.Elements.{All-nil, All-cons, All-head, All-tail}
-use Rattle.lsv_disk.specs.declared.file.FileId.{FileId}
 use Rattle.lsv_disk.specs.declared.file.Owner.{Owner}
 use Rattle.lsv_disk.specs.declared.file.Part.{Part}
 use Rattle.lsv_disk.specs.declared.file.Part.TheVariants.{Head, Exit, Timing, Stdin, Stdout, Stderr, Ttyin, Ttyout}
@@ -22,7 +20,7 @@ use Rattle.lsv_bundle.proofs.Laws.{represents_holds}
 use Rattle.lsv_record.specs.declared.laid.Laid.{Laid}
 use Rattle.lsv_record.specs.declared.records.Record.{Record}
 use Rattle.lsv_record.specs.declared.records.Shaped.{Shaped}
-use Rattle.lsv_record.specs.Records.{shape_of, timing_of, elapsed, IsGood, IsValid}
+use Rattle.lsv_record.specs.Records.{shape_of, timing_of, IsGood, IsValid}
 use Rattle.lsv_record.specs.Tally.{Totals, lines_of, told_elapsed}
 use Rattle.lsv_record.proofs.Tallies.{lines_are_timing, lines_tell_time}
 use Rattle.lsv_iolog.specs.Recovered.{owner_of}

@@ -1,5 +1,5 @@
 -- Which lines a cut keeps, and how long they make the files.
-use Rattle.std.specs.Prelude.{◌≡◌, ◌⊎◌, ℕ, ◌<◌, List, [], ◌++◌, length, map, take, min, get_or, All, Option, Some, None, slice_index, unwrap_or}
+use Rattle.std.specs.Prelude.{◌≡◌, ◌⊎◌, ℕ, ◌<◌, List, [], ◌++◌, map, take, min, get_or, All, Option, Some, None, slice_index, unwrap_or}
 use Rattle.lsv_disk.specs.declared.file.Part.{Part}
 use Rattle.lsv_disk.specs.declared.file.Part.TheVariants.{Timing, Stdin, Stdout, Stderr, Ttyin, Ttyout}
 use Rattle.lsv_disk.specs.View.{DiskView}

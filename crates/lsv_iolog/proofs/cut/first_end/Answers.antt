@@ -1,14 +1,12 @@
 -- Each line that is read goes on to the first that ends at the point.
-use Rattle.std.proofs.Common.{◌≡◌, ℕ, ◌≤◌, List, length, Result, Err, Option, Some, None, sym, ◌∙◌, ap, subst, arith}
+use Rattle.std.proofs.Common.{◌≡◌, ℕ, List, length, Result, Err, Option, Some, None, sym, ◌∙◌, ap, subst, arith}
 use Rattle.lsv_disk.specs.declared.file.Part.TheVariants.{Timing}
 use Rattle.lsv_disk.specs.View.{DiskView}
 use Rattle.lsv_bundle.specs.declared.view.View.{View}
 use Rattle.lsv_bundle.specs.Body.{length_of}
-use Rattle.lsv_record.specs.declared.records.Record.{Record}
 use Rattle.lsv_record.specs.declared.records.Shaped.{Shaped}
 use Rattle.lsv_record.specs.Lines.{IsLineAt}
-use Rattle.lsv_record.specs.Records.{IsGood, timing_of, shape_of}
-use Rattle.lsv_record.specs.Points.{first}
+use Rattle.lsv_record.specs.Records.{IsGood}
 use Rattle.lsv_record.specs.Tally.{Totals, with_line}
 use Rattle.lsv_iolog.specs.declared.fault.LogFault.{LogFault}
 use Rattle.lsv_iolog.specs.declared.fault.LogFault.TheVariants as logs

@@ -1,13 +1,12 @@
 -- What the lines of the committed timing tell of its records.
-use Rattle.std.proofs.Common.{◌≡◌, ℕ, ◌≤◌, ◌<◌, ◌^◌, List, All, length, Option, Some, None, IfSome, Result, Ok, Err, refl, sym, ◌∙◌, ap, subst, arith}
+use Rattle.std.proofs.Common.{◌≡◌, ℕ, ◌≤◌, ◌<◌, ◌^◌, List, All, length, Option, Some, IfSome, Result, Err, sym, ◌∙◌, ap, subst}
 use Rattle.lsv_disk.specs.declared.file.Part.TheVariants.{Timing}
 use Rattle.lsv_disk.specs.View.{DiskView}
-use Rattle.lsv_bundle.specs.declared.body.Body.{Body}
 use Rattle.lsv_bundle.specs.declared.shape.Shape.TheVariants as shapes
 use Rattle.lsv_bundle.specs.declared.view.View.{View}
 use Rattle.lsv_bundle.specs.Body.{length_of}
 use Rattle.lsv_bundle.specs.Value.{committed_length}
-use Rattle.lsv_record.specs.Records.{timing_of, IsGood}
+use Rattle.lsv_record.specs.Records.{IsGood}
 use Rattle.lsv_record.specs.Tally.{Totals, lines_of, told_elapsed}
 use Rattle.lsv_record.specs.declared.records.Shaped.{Shaped}
 use Rattle.lsv_iolog.specs.declared.fault.LogFault.{LogFault}
@@ -15,7 +14,6 @@ use Rattle.lsv_iolog.specs.declared.fault.LogFault.TheVariants as logs
 use Rattle.lsv_iolog.proofs.Results.{only_damaged}
 use Rattle.lsv_iolog.specs.Recovered.{owner_of}
 use Rattle.lsv_iolog.specs.Value.{IoLogView}
-use Rattle.lsv_iolog.specs.Represents.{Represents}
 use Rattle.lsv_iolog.specs.Inner.Scanning.{text_of}
 use Rattle.lsv_iolog.proofs.Shortening.{timing_text, no_bad_line}
 use Rattle.lsv_iolog.proofs.log.IoLog.find.Goals as goal
