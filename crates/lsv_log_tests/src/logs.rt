@@ -1,5 +1,4 @@
-//! Each call of a log once, over the disk in memory, which tells its files. What the calls answer is tested in
-//! lsv_scripts.
+//! Each call of a log once, over the disk in memory, which tells its files.
 ghost use Rattle.std.specs.Prelude.{IsSome};
 ghost use Rattle.lsv_base.specs.Time.{nanos_of};
 ghost use Rattle.lsv_iolog.specs.Recovered.{IsUnmade};
