@@ -7,8 +7,8 @@ For each load it prints the processor time a message, the bytes of input a secon
 memory beside what the records themselves take. A tenth of each load is run too: the ratio of the
 processor times shows that the cost is linear. Then come messages of the greatest size that hold as
 many parts as fit, with one of half the size beside each. MESSAGES (lsv_bench) reads and writes one
-message a million times, lays a million records and reads them back, flushes a bundle, and makes,
-fills and opens logs, in a store in the folder that it is run in.
+message a million times, lays a million records and reads them back, and flushes a bundle in a
+store in the folder that it is run in.
 """
 import os
 import resource
@@ -190,57 +190,6 @@ def measure_making(messages):
           f"{together / alone:.2f} of the time of 24 syncs one after the other (at most 0.33)")
 
 
-def in_folder(messages, folder, *words):
-    """What the words say on standard error, and the peak of memory of the last one."""
-    for word in words:
-        with tempfile.TemporaryFile() as told:
-            child = subprocess.Popen([messages, word], cwd=folder, stdout=subprocess.DEVNULL, stderr=told)
-            peak, status, _ = watched(child.pid)
-            if status != 0:
-                sys.exit(f"bench: {word} ended with status {status}")
-            told.seek(0)
-            times = [int(it) for it in told.read().split()]
-    return times, peak
-
-
-def measured_logs(messages, *words):
-    """The least times of several runs in folders of their own on /dev/shm, and the greatest peak."""
-    runs = []
-    for _ in range(RUNS):
-        folder = tempfile.mkdtemp(dir="/dev/shm")
-        try:
-            runs.append(in_folder(messages, folder, *words))
-        finally:
-            shutil.rmtree(folder)
-    return [min(times) for times in zip(*(r[0] for r in runs))], max(r[1] for r in runs)
-
-
-def measure_logs(messages):
-    (short, flushing), _ = measured_logs(messages, "log-short")
-    (long, _), _ = measured_logs(messages, "log-long")
-    print(f"staging a record of 10 bytes: {short / 1e9:.3f} us (at most 0.06); of 1,000 bytes: {long / 1e8:.3f} us (at most 0.12)")
-    print(f"flushing a log with 100 records on /dev/shm: {flushing / 1e7:.2f} us (at most 4)")
-    (tenth, _), less = measured_logs(messages, "log-tenth", "log-open")
-    (opening, _), more = measured_logs(messages, "log-short", "log-open")
-    print(f"opening a log of 1,000,000 records: {opening / 1e6:.0f} ms, of a tenth 1/{opening / tenth:.1f} of that; "
-          f"{(more - less) / 2**20:.2f} MiB more memory (below 1)")
-
-
-def measure_syncs(messages):
-    """The syncs of a whole log on disk, where strace is there to count them."""
-    if shutil.which("strace") is None:
-        print("making, filling and finishing a log of three records: not counted, since strace isn't there")
-        return
-    folder = tempfile.mkdtemp(dir=".")
-    try:
-        traced = subprocess.run(["strace", "-f", "-e", "trace=fsync,fdatasync", messages, "log-whole"],
-                                cwd=folder, capture_output=True, text=True)
-        count = sum("sync(" in told for told in traced.stderr.splitlines())
-        print(f"making, filling and finishing a log of three records: {count} syncs (at most 14)")
-    finally:
-        shutil.rmtree(folder)
-
-
 def main():
     program, messages = (os.path.abspath(it) for it in sys.argv[1:3])
     measure_sessions(program)
@@ -249,8 +198,6 @@ def main():
     measure_records(messages)
     measure_flushes(messages)
     measure_making(messages)
-    measure_logs(messages)
-    measure_syncs(messages)
 
 
 if __name__ == "__main__":

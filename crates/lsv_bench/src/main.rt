@@ -1,9 +1,8 @@
 //! Reads or writes one message, reply or line a million times, lays and reads a million records, flushes a bundle, or
-//! makes, fills, flushes and opens logs, so that `make bench` can measure each alone.
+//! makes logs, so that `make bench` can measure each alone.
 #![tactic(auto)]
 
 mod flushes;
-mod logs;
 mod makes;
 mod messages;
 
@@ -64,11 +63,6 @@ fn measured(rt: &HostRuntime) -> Option<u64> {
         "flush" => flushes(*rt, 2_000),
         "make" => makes(*rt, 200),
         "flush-often" => flushes(*rt, 100_000),
-        "log-short" => logs::filled(*rt, 10, 10_000),
-        "log-long" => logs::filled(*rt, 1000, 1000),
-        "log-tenth" => logs::filled(*rt, 10, 1000),
-        "log-open" => logs::opened(*rt),
-        "log-whole" => logs::whole(*rt),
         _ => None,
     }
 }

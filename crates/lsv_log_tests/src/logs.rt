@@ -1,5 +1,4 @@
-//! Each call of a log once, over the disk in memory, which tells its files. What the calls answer is tested in
-//! lsv_scripts.
+//! Each call of a log once, over the disk in memory, which tells its files.
 ghost use Rattle.std.specs.Prelude.{IsSome};
 ghost use Rattle.lsv_base.specs.Time.{nanos_of};
 ghost use Rattle.lsv_iolog.specs.Recovered.{IsUnmade};
@@ -32,18 +31,25 @@ fn made<D: Disk>(
     log.flush(disk)
 }
 
-/// Opens it again, cuts it, and finishes it.
+/// Opens it again, and cuts it.
+fn cut<D: Disk>(alloc: Global, disk: &mut D, number: LogNo, point: Point) -> Result<(), LogFault> {
+    let mut log = IoLog::open(alloc, disk, number)?;
+    log.cut_at(disk, point)
+}
+
+/// Opens it again, and finishes it.
 fn finished<D: Disk>(
     alloc: Global,
     disk: &mut D,
     number: LogNo,
-    point: Point,
     exit: &Exit,
 ) -> Result<Point, LogFault>
     requires timed { IsSome (nanos_of exit.now.run) }
 {
     let mut log = IoLog::open(alloc, disk, number)?;
-    log.cut_at(disk, point)?;
+    if log.is_complete() {
+        return Err(LogFault::Complete);
+    }
     log.finish(disk, exit)
 }
 
@@ -85,7 +91,8 @@ fn each_call_is_made_over_a_disk_that_tells_its_files(rt: HostRuntime) -> Result
         bytes: Bytes::new(alloc),
     };
     assert_eq!(rt; made(alloc, &mut disk, number, &head, &record)?, point);
-    assert_eq!(rt; finished(alloc, &mut disk, number, point, &exit)?, point);
+    cut(alloc, &mut disk, number, point)?;
+    assert_eq!(rt; finished(alloc, &mut disk, number, &exit)?, point);
     assert_eq!(rt;
         viewed(alloc, &mut disk, number)?,
         (true, true, Renewed::Same)
