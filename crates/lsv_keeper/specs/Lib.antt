@@ -1,0 +1,6 @@
+pub mod Reading
+pub mod Logs
+pub mod Value
+pub mod Represents
+pub mod Rows
+pub mod Tails

@@ -1,0 +1,9 @@
+//! The keeper of a lane: it holds the lane's sessions and logs, and a turn of it is one of the session machine, whatever
+//! device calls fail and wherever the machine stops.
+#![tactic(auto)]
+
+mod keeper;
+mod logs;
+mod told;
+
+pub use keeper::Keeper;
