@@ -2,5 +2,6 @@ pub mod Reading
 pub mod Logs
 pub mod Value
 pub mod Represents
+pub mod Resuming
 pub mod Rows
 pub mod Tails

@@ -4,6 +4,7 @@
 
 mod keeper;
 mod logs;
+mod restart;
 mod told;
 
 pub use keeper::Keeper;
