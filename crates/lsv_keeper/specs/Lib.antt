@@ -1,6 +1,7 @@
 pub mod Reading
 pub mod Logs
 pub mod Value
+pub mod Views
 pub mod Represents
 pub mod Rows
 pub mod Tails

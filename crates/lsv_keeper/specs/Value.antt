@@ -11,9 +11,12 @@ use Rattle.lsv_request.specs.declared.request.Request.{Request}
 use Rattle.lsv_request.specs.declared.request.Request.TheVariants as request
 use Rattle.lsv_seq.specs.declared.numbers.Numbers.{Numbers}
 use Rattle.lsv_session.specs.declared.connection.ConnId.{ConnId}
-use Rattle.lsv_session.specs.Table.{Sessions}
+use Rattle.lsv_session.specs.declared.table.Table.{Table}
+use Rattle.lsv_session.specs.Table.{Sessions, sessions, spare}
 use Rattle.lsv_machine.specs.Machine.{Settings}
 use Rattle.lsv_keeper.specs.declared.logs.OpenLog.{OpenLog}
+use Rattle.lsv_keeper.specs.declared.logs.OpenLogs.{OpenLogs}
+use Rattle.lsv_keeper.specs.Logs.{open_logs}
 
 -- a keeper of a lane
 pub record KeeperView : Type 0 where
@@ -24,17 +27,27 @@ pub record KeeperView : Type 0 where
   pub kind : Kind
   pub texts : List (List ℕ)
   -- what each connection is doing, and which one writes a log
-  pub sessions : Sessions
-  -- for how many connections that aren't known there is room
-  pub spare : ℕ
+  pub table : Table
   -- the logs that connections write, each with the mask behind its records
-  pub logs : ℕ → Option OpenLog
+  pub logs : OpenLogs
   pub numbers : Numbers
   pub events : EventLogView
   -- the logs that took a record in this turn, rising
   pub waiting : List ℕ
   -- who had an event line in this turn, in the order of their first ones
   pub noting : List ConnId
+
+-- what each connection is doing, and which one writes a log
+abbrev pub sessions_of : KeeperView → Sessions
+sessions_of v = sessions v.table
+
+-- the log of a number that a connection writes
+abbrev pub log_in : KeeperView → ℕ → Option OpenLog
+log_in v n = open_logs v.logs n
+
+-- for how many connections that aren't known there is room
+abbrev pub room : KeeperView → ℕ
+room v = spare v.table
 
 -- ---- What it is set to
 
@@ -69,12 +82,12 @@ pub record Keeps (old new : KeeperView) : Type 0 where
   pub log_exit : new.log_exit ≡ old.log_exit
   pub kind : new.kind ≡ old.kind
   pub texts : new.texts ≡ old.texts
-  pub spare : old.spare ≤ new.spare + 1
+  pub room_is : room old ≤ room new + 1
   pub owed : owed new ≤ owed old + 2
 
 -- sessions, open logs, numbers and waiting logs are as they were
 pub record SameSessions (old new : KeeperView) : Type 0 where
-  pub sessions : new.sessions ≡ old.sessions
+  pub table : new.table ≡ old.table
   pub logs : new.logs ≡ old.logs
   pub numbers : new.numbers ≡ old.numbers
   pub waiting : new.waiting ≡ old.waiting

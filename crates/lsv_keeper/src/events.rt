@@ -1,14 +1,15 @@
 //! Event lines.
 
-ghost use Rattle.std.specs.Prelude.{◌≡◌, ◌×◌, ◌⊎◌, ◌≤◌, ◌+◌, ℕ, true, false, List, length, IfErr, IfOk, OnOk, OnErr};
+ghost use Rattle.std.specs.Prelude.{◌≡◌, ◌⊎◌, ◌≤◌, ◌+◌, ℕ, true, false, List, length, IfErr, IfOk, OnOk, OnErr};
 ghost use Rattle.lsv_event.specs.Events.{IsTimed};
 ghost use Rattle.lsv_event.specs.Lines.{line_of};
 ghost use Rattle.lsv_request.specs.declared.refusal.Refusal.{Refusal};
 ghost use Rattle.lsv_machine.specs.Machine.{Machine};
 ghost use Rattle.lsv_machine.specs.Work.{adds_line, line_fits};
 ghost use Rattle.lsv_keeper.specs.Represents.{Represents};
+ghost use Rattle.lsv_keeper.specs.Views.{view_of};
 ghost use Rattle.lsv_keeper.specs.Rows.{Beside, LineFault};
-ghost use Rattle.lsv_keeper.specs.Value.{Keeps, SameSessions};
+ghost use Rattle.lsv_keeper.specs.Value.{Keeps, SameSessions, room};
 
 use crate::Keeper;
 use lsv_bundle::BundleFault;
@@ -31,14 +32,14 @@ impl<F: LineWriter, H: Search> Keeper<F, H> {
         event: &Event,
     ) -> Result<(), Refusal>
         requires timed { IsTimed event.now }
-        ensures keeps { Keeps self.old self.new }
-        ensures same { SameSessions self.old self.new }
-        ensures none { OnErr result ((self.new.noting ≡ self.old.noting) × (self.new.spare ≡ self.old.spare)) }
-        ensures added { D.tells → OnOk result ((m : Machine) → Represents self.old (D.view disk.old) m →
-            (line_fits (line_of self.old.kind event.now) m ≡ true) × Represents self.new (D.view disk.new) (adds_line conn (line_of self.old.kind event.now) m)) }
-        ensures refused { D.tells → IfErr result (λ why. (m : Machine) → Represents self.old (D.view disk.old) m →
-            LineFault self.old.lane (line_of self.old.kind event.now) m why (D.view disk.old) (D.view disk.new) × Represents self.new (D.view disk.new) m) }
-        ensures beside { D.tells → (m : Machine) → Represents self.old (D.view disk.old) m → Beside self.old.lane self.old.lanes None (D.view disk.old) (D.view disk.new) }
+        ensures keeps { Keeps (view_of self.old) (view_of self.new) }
+        ensures same { SameSessions (view_of self.old) (view_of self.new) }
+        ensures none { OnErr result (((view_of self.new).noting ≡ (view_of self.old).noting) × (room (view_of self.new) ≡ room (view_of self.old))) }
+        ensures added { D.tells → OnOk result ((m : Machine) → Represents (view_of self.old) (D.view disk.old) m →
+            (line_fits (line_of (view_of self.old).kind event.now) m ≡ true) × Represents (view_of self.new) (D.view disk.new) (adds_line conn (line_of (view_of self.old).kind event.now) m)) }
+        ensures refused { D.tells → IfErr result (λ why. (m : Machine) → Represents (view_of self.old) (D.view disk.old) m →
+            LineFault (view_of self.old).lane (line_of (view_of self.old).kind event.now) m why (D.view disk.old) (D.view disk.new) × Represents (view_of self.new) (D.view disk.new) m) }
+        ensures beside { D.tells → (m : Machine) → Represents (view_of self.old) (D.view disk.old) m → Beside (view_of self.old).lane (view_of self.old).lanes None (D.view disk.old) (D.view disk.new) }
     {
         let Ok(line) = self.formatter.write(self.alloc, event) else {
             return Err(Refusal::OutOfMemory);
@@ -47,8 +48,10 @@ impl<F: LineWriter, H: Search> Keeper<F, H> {
             return Err(Refusal::OutOfMemory);
         }
         self.stage_line(disk, line.as_slice())?;
-        note(&mut self.noting, conn)?;
-        Ok(())
+        match note(&mut self.noting, conn) {
+            Ok(()) => Ok(()),
+            Err(_) => Err(Refusal::OutOfMemory),
+        }
     }
 
     /// Adds a line to the event log, which is opened again where it failed.

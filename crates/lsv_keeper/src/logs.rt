@@ -1,8 +1,11 @@
 //! The logs that connections write.
 
+ghost use Rattle.std.specs.Prelude.{◌≡◌, ◌==◌, if◌then◌else◌, None};
+ghost use Rattle.lsv_keeper.specs.Logs.{open_logs};
+
+use lsv_base::LogNo;
 use lsv_iolog::IoLog;
 use lsv_mask::Mask;
-use std::alloc::Global;
 use std::collections::HashMap;
 
 /// A log that a connection writes, and the mask behind its records.
@@ -16,4 +19,14 @@ pub struct OpenLog {
 #[derive(Drop)]
 pub struct OpenLogs {
     map: HashMap<u32, OpenLog>,
+}
+
+impl OpenLogs {
+    /// Hands out the log of a number, and forgets it.
+    pub(crate) fn take(&mut self, number: LogNo) -> Option<OpenLog>
+        ensures taken { result ≡ open_logs self.old number }
+        ensures rest { open_logs self.new ≡ (λ n. if n == number then None else open_logs self.old n) }
+    {
+        self.map.remove(&number.get())
+    }
 }
