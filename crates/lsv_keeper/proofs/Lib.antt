@@ -3,3 +3,5 @@ pub mod Counting
 pub mod Numbering
 pub mod Acting
 pub mod Standing
+pub mod Masking
+pub mod Seeing
