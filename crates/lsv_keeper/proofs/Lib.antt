@@ -5,3 +5,5 @@ pub mod Acting
 pub mod Standing
 pub mod Masking
 pub mod Seeing
+pub mod Restarting
+pub mod Reopening

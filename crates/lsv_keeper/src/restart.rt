@@ -57,7 +57,7 @@ fn see_through<D: Disk, H: Search>(
     let mut left = point.nanos();
     for _ in 0..view.body().count {
         let Some(r) = view.next(disk)? else {
-            break;
+            return Err(LogFault::NoPoint(point));
         };
         mask.see(prompt, &r);
         let delay = r.delay();
@@ -65,7 +65,7 @@ fn see_through<D: Disk, H: Search>(
             return Ok(());
         }
         if left < delay {
-            break;
+            return Err(LogFault::NoPoint(point));
         }
         left -= delay;
     }

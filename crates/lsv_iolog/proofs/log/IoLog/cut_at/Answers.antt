@@ -217,8 +217,10 @@ returns-clause-blame g c told failed value at =
     let found : IsFound value.stored.records c.args.point (Some c.in-Some.kept) = subst (λ (o : Option Totals). IsFound value.stored.records c.args.point o) c.in-Some.is (c.in_ok-kept.ensures.found told value at) in
     let going = going_exit log value old at (sym c.is_complete.ensures ∙ c.if-is_complete.false) in
     let none = none_left log value old at c.requires.flushed in
+    let last : cuts_in files.bundle.last ≡ value.stored.cuts = ap cuts_in (has_body files value mid there c.in-Some.kept c.args.point 0 found going) ∙ there.is.cuts in
     inl (
       some_first (first value.stored.records c.args.point) c.in-Some.kept.count found.0,
+      λ is. subst (λ (n : ℕ). n < 2 ^ 63 - 1) last (c.in_ok-cuts.ensures.room (drops_is files value mid there c.in-Some.kept c.args.point 0 found going none ∙ is)),
       cause_second (IsOwn (journal_of (owner_of log.number))) (Unit {0}) old mid new c.find.ensures.cause.monotone
           (cause_widened (IsOwn (journal_of files.bundle.owner)) (IsOwn (journal_of (owner_of log.number))) (IsErrOf c.cut_behind.result logs.Disk) (Unit {0}) mid new
           (λ f is. subst (λ (o : Owner). IsOwn (journal_of o) f) own is) (λ is. failed) c.cut_behind.ensures.cause),
