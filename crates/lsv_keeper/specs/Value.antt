@@ -1,5 +1,5 @@
 -- A keeper, as contracts see it, and what it is set to.
-use Rattle.std.specs.Prelude.{ℕ, ◌+◌, ◌*◌, ◌≡◌, ◌≤◌, Bool, List, [], length, Option}
+use Rattle.std.specs.Prelude.{ℕ, ◌+◌, ◌*◌, ◌≡◌, ◌≤◌, ◌==◌, if◌then◌else◌, Bool, List, [], length, Option, Some}
 use Rattle.lsv_base.specs.declared.time.TimeSpec.{TimeSpec}
 use Rattle.lsv_event.specs.declared.event.Event.{Event}
 use Rattle.lsv_event.specs.declared.event.Event.TheVariants as event
@@ -11,8 +11,10 @@ use Rattle.lsv_request.specs.declared.request.Request.{Request}
 use Rattle.lsv_request.specs.declared.request.Request.TheVariants as request
 use Rattle.lsv_seq.specs.declared.numbers.Numbers.{Numbers}
 use Rattle.lsv_session.specs.declared.connection.ConnId.{ConnId}
+use Rattle.lsv_session.specs.declared.connection.ConnState.TheVariants.{Running}
 use Rattle.lsv_session.specs.Table.{Sessions}
-use Rattle.lsv_machine.specs.Machine.{Settings}
+use Rattle.lsv_machine.specs.Machine.{Settings, same}
+use Rattle.lsv_keeper.specs.Logs.{with_open}
 use Rattle.lsv_keeper.specs.declared.logs.OpenLog.{OpenLog}
 
 -- a keeper of a lane
@@ -25,8 +27,10 @@ pub record KeeperView : Type 0 where
   pub texts : List (List ℕ)
   -- what each connection is doing, and which one writes a log
   pub sessions : Sessions
-  -- for how many connections that aren't known there is room
+  -- for how many connections that aren't known there is room, and for how many further owners and open logs
   pub spare : ℕ
+  pub spare_owners : ℕ
+  pub spare_logs : ℕ
   -- the logs that connections write, each with the mask behind its records
   pub logs : ℕ → Option OpenLog
   pub numbers : Numbers
@@ -72,12 +76,28 @@ pub record Keeps (old new : KeeperView) : Type 0 where
   pub spare : old.spare ≤ new.spare + 1
   pub owed : owed new ≤ owed old + 2
 
--- sessions, open logs, numbers and waiting logs are as they were
+-- there is room for as many connections, owners and open logs
+pub record SameRoom (old new : KeeperView) : Type 0 where
+  pub spare : new.spare ≡ old.spare
+  pub spare_owners : new.spare_owners ≡ old.spare_owners
+  pub spare_logs : new.spare_logs ≡ old.spare_logs
+
+-- sessions, open logs, numbers and waiting logs are as they were, and there is as much room
 pub record SameSessions (old new : KeeperView) : Type 0 where
   pub sessions : new.sessions ≡ old.sessions
   pub logs : new.logs ≡ old.logs
   pub numbers : new.numbers ≡ old.numbers
   pub waiting : new.waiting ≡ old.waiting
+  pub room : SameRoom old new
+
+-- a connection writes a log: it runs with it and owns it, and the log is open
+pub record Owns (k : ConnId) (n : ℕ) (its : OpenLog) (old new : KeeperView) : Type 0 where
+  pub sessions : new.sessions ≡ record { states = λ j. if same j k then Running (Some n) else old.sessions.states j; owner = λ i. if i == n then Some k else old.sessions.owner i }
+  pub logs : new.logs ≡ with_open n (Some its) old.logs
+  pub numbers : new.numbers ≡ old.numbers
+  pub events : new.events ≡ old.events
+  pub waiting : new.waiting ≡ old.waiting
+  pub noting : new.noting ≡ old.noting
 
 -- no turn is under way: no log waits, and nobody had an event line
 pub record IsResting (v : KeeperView) : Type 0 where

@@ -1,6 +1,6 @@
 //! Event lines.
 
-ghost use Rattle.std.specs.Prelude.{◌≡◌, ◌×◌, ◌⊎◌, ◌≤◌, ◌+◌, ℕ, true, false, List, length, IfErr, IfOk, OnOk, OnErr};
+ghost use Rattle.std.specs.Prelude.{◌≡◌, ◌++◌, true, None, IfErr, OnOk, OnErr};
 ghost use Rattle.lsv_event.specs.Events.{IsTimed};
 ghost use Rattle.lsv_event.specs.Lines.{line_of};
 ghost use Rattle.lsv_request.specs.declared.refusal.Refusal.{Refusal};
@@ -33,7 +33,7 @@ impl<F: LineWriter, H: Search> Keeper<F, H> {
         requires timed { IsTimed event.now }
         ensures keeps { Keeps self.old self.new }
         ensures same { SameSessions self.old self.new }
-        ensures none { OnErr result ((self.new.noting ≡ self.old.noting) × (self.new.spare ≡ self.old.spare)) }
+        ensures none { OnErr result (self.new.noting ≡ self.old.noting) }
         ensures added { D.tells → OnOk result ((m : Machine) → Represents self.old (D.view disk.old) m →
             (line_fits (line_of self.old.kind event.now) m ≡ true) × Represents self.new (D.view disk.new) (adds_line conn (line_of self.old.kind event.now) m)) }
         ensures refused { D.tells → IfErr result (λ why. (m : Machine) → Represents self.old (D.view disk.old) m →
@@ -47,12 +47,19 @@ impl<F: LineWriter, H: Search> Keeper<F, H> {
             return Err(Refusal::OutOfMemory);
         }
         self.stage_line(disk, line.as_slice())?;
-        note(&mut self.noting, conn)?;
+        let _ = note(&mut self.noting, conn);
         Ok(())
     }
 
     /// Adds a line to the event log, which is opened again where it failed.
-    fn stage_line<D: Disk>(&mut self, disk: &mut D, line: &[u8]) -> Result<(), Refusal> {
+    fn stage_line<D: Disk>(&mut self, disk: &mut D, line: &[u8]) -> Result<(), Refusal>
+        ensures same { self.new ≡ record self.old { events = self.new.events } }
+        ensures added { D.tells → OnOk result ((m : Machine) → Represents self.old (D.view disk.old) m →
+            (line_fits line.now m ≡ true) × Represents self.new (D.view disk.new) (record m { fresh = m.fresh ++ line.now })) }
+        ensures refused { D.tells → IfErr result (λ why. (m : Machine) → Represents self.old (D.view disk.old) m →
+            LineFault self.old.lane line.now m why (D.view disk.old) (D.view disk.new) × Represents self.new (D.view disk.new) m) }
+        ensures beside { D.tells → (m : Machine) → Represents self.old (D.view disk.old) m → Beside self.old.lane self.old.lanes None (D.view disk.old) (D.view disk.new) }
+    {
         match self.events.add(line) {
             Ok(()) => return Ok(()),
             Err(BundleFault::Broken) => {}

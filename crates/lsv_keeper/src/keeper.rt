@@ -30,15 +30,15 @@ pub struct Keeper<F: LineWriter, H: Search> {
 }
 
 impl<F: LineWriter, H: Search> Model for Keeper<F, H> {
-    ghost use Rattle.lsv_session.specs.Table.{sessions, spare};
+    ghost use Rattle.lsv_session.specs.Table.{sessions, spare, spare_owners};
     ghost use Rattle.lsv_keeper.specs.Value.{KeeperView};
-    ghost use Rattle.lsv_keeper.specs.Logs.{open_logs};
+    ghost use Rattle.lsv_keeper.specs.Logs.{open_logs, spare_logs};
 
     ghost Value = { KeeperView };
 
     ghost view = { λ k. record {
         lane = k.lane; lanes = k.lanes; log_exit = k.log_exit; kind = k.formatter.kind; texts = k.texts;
-        sessions = sessions k.table; spare = spare k.table; logs = open_logs k.logs; numbers = k.numbers; events = k.events;
+        sessions = sessions k.table; spare = spare k.table; spare_owners = spare_owners k.table; spare_logs = spare_logs k.logs; logs = open_logs k.logs; numbers = k.numbers; events = k.events;
         waiting = k.waiting.items; noting = k.noting.items;
     } };
 }
