@@ -1,0 +1,5 @@
+pub mod Frames
+pub mod Counting
+pub mod Numbering
+pub mod Acting
+pub mod Standing
