@@ -4,5 +4,6 @@ pub mod Value
 pub mod Views
 pub mod Represents
 pub mod Replies
+pub mod Resuming
 pub mod Rows
 pub mod Tails
