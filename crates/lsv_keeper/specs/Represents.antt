@@ -19,7 +19,7 @@ use Rattle.lsv_machine.specs.Stands.{Sound}
 use Rattle.lsv_machine.specs.Starts.{ReadsAs}
 use Rattle.lsv_machine.specs.Work.{next_number}
 use Rattle.lsv_keeper.specs.declared.logs.OpenLog.{OpenLog}
-use Rattle.lsv_keeper.specs.Value.{KeeperView, settings_of}
+use Rattle.lsv_keeper.specs.Value.{KeeperView, log_in, sessions_of, settings_of}
 
 -- ---- Logs
 
@@ -32,7 +32,7 @@ pub record Masks (texts : List (List ℕ)) (mask : Seen) (records : List Record)
 -- a log that a connection writes is open, matches the disk with its staged records behind the committed ones, and its mask stands behind all of them, where it covers anything; what the machine promises is committed
 pub record Held (v : KeeperView) (disk : DiskView) (m : Machine) (n : ℕ) : Type 0 where
   pub its : OpenLog
-  pub here : v.logs n ≡ Some its
+  pub here : log_in v n ≡ Some its
   pub value : LogValue
   pub represents : logs.Represents its.log value disk
   pub number : its.log.number ≡ n
@@ -44,7 +44,7 @@ pub record Held (v : KeeperView) (disk : DiskView) (m : Machine) (n : ℕ) : Typ
 
 -- a log that nobody writes isn't open, and is as the disk reads
 pub record Free (v : KeeperView) (disk : DiskView) (m : Machine) (n : ℕ) : Type 0 where
-  pub closed : v.logs n ≡ None
+  pub closed : log_in v n ≡ None
   pub reads : ReadsAs (Replays disk.reads n) (m.logs n)
   pub enough : (stored : Stored) (promised : ℕ) → m.logs n ≡ There stored promised → promised ≤ length stored.records
 
@@ -113,8 +113,8 @@ pub record Represents (v : KeeperView) (disk : DiskView) (m : Machine) : Type 0 
   pub sound : Sound (settings_of v) m
   pub few_lanes : v.lanes ≤ 8
   pub texts : m.texts ≡ v.texts
-  pub states : (k : ConnId) → m.states k ≡ v.sessions.states k
-  pub owner : (n : ℕ) → m.owner n ≡ v.sessions.owner n
+  pub states : (k : ConnId) → m.states k ≡ (sessions_of v).states k
+  pub owner : (n : ℕ) → m.owner n ≡ (sessions_of v).owner n
   pub waiting : m.waiting ≡ v.waiting
   pub noting : m.noting ≡ v.noting
   pub rising : Rising m.waiting

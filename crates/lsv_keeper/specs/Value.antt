@@ -12,10 +12,12 @@ use Rattle.lsv_request.specs.declared.request.Request.TheVariants as request
 use Rattle.lsv_seq.specs.declared.numbers.Numbers.{Numbers}
 use Rattle.lsv_session.specs.declared.connection.ConnId.{ConnId}
 use Rattle.lsv_session.specs.declared.connection.ConnState.TheVariants.{Running}
-use Rattle.lsv_session.specs.Table.{Sessions}
+use Rattle.lsv_session.specs.declared.table.Table.{Table}
+use Rattle.lsv_session.specs.Table.{Sessions, sessions, spare}
 use Rattle.lsv_machine.specs.Machine.{Settings, same}
-use Rattle.lsv_keeper.specs.Logs.{with_open}
 use Rattle.lsv_keeper.specs.declared.logs.OpenLog.{OpenLog}
+use Rattle.lsv_keeper.specs.declared.logs.OpenLogs.{OpenLogs}
+use Rattle.lsv_keeper.specs.Logs.{open_logs, with_open}
 
 -- a keeper of a lane
 pub record KeeperView : Type 0 where
@@ -26,19 +28,27 @@ pub record KeeperView : Type 0 where
   pub kind : Kind
   pub texts : List (List ℕ)
   -- what each connection is doing, and which one writes a log
-  pub sessions : Sessions
-  -- for how many connections that aren't known there is room, and for how many further owners and open logs
-  pub spare : ℕ
-  pub spare_owners : ℕ
-  pub spare_logs : ℕ
+  pub table : Table
   -- the logs that connections write, each with the mask behind its records
-  pub logs : ℕ → Option OpenLog
+  pub logs : OpenLogs
   pub numbers : Numbers
   pub events : EventLogView
   -- the logs that took a record in this turn, rising
   pub waiting : List ℕ
   -- who had an event line in this turn, in the order of their first ones
   pub noting : List ConnId
+
+-- what each connection is doing, and which one writes a log
+abbrev pub sessions_of : KeeperView → Sessions
+sessions_of v = sessions v.table
+
+-- the log of a number that a connection writes
+abbrev pub log_in : KeeperView → ℕ → Option OpenLog
+log_in v n = open_logs v.logs n
+
+-- for how many connections that aren't known there is room
+abbrev pub room : KeeperView → ℕ
+room v = spare v.table
 
 -- ---- What it is set to
 
@@ -73,27 +83,27 @@ pub record Keeps (old new : KeeperView) : Type 0 where
   pub log_exit : new.log_exit ≡ old.log_exit
   pub kind : new.kind ≡ old.kind
   pub texts : new.texts ≡ old.texts
-  pub spare : old.spare ≤ new.spare + 1
+  pub room_is : room old ≤ room new + 1
   pub owed : owed new ≤ owed old + 2
 
--- there is room for as many connections, owners and open logs
-pub record SameRoom (old new : KeeperView) : Type 0 where
-  pub spare : new.spare ≡ old.spare
-  pub spare_owners : new.spare_owners ≡ old.spare_owners
-  pub spare_logs : new.spare_logs ≡ old.spare_logs
-
--- sessions, open logs, numbers and waiting logs are as they were, and there is as much room
+-- sessions, open logs, numbers and waiting logs are as they were
 pub record SameSessions (old new : KeeperView) : Type 0 where
-  pub sessions : new.sessions ≡ old.sessions
+  pub table : new.table ≡ old.table
   pub logs : new.logs ≡ old.logs
   pub numbers : new.numbers ≡ old.numbers
   pub waiting : new.waiting ≡ old.waiting
-  pub room : SameRoom old new
+
+-- there may be more room for owners and for open logs, and nothing else is otherwise
+pub record IsReserved (old new : KeeperView) : Type 0 where
+  pub sessions_are : sessions_of new ≡ sessions_of old
+  pub room_is : room new ≡ room old
+  pub logs_are : open_logs new.logs ≡ open_logs old.logs
+  pub others : record new { table = old.table; logs = old.logs } ≡ old
 
 -- a connection writes a log: it runs with it and owns it, and the log is open
 pub record Owns (k : ConnId) (n : ℕ) (its : OpenLog) (old new : KeeperView) : Type 0 where
-  pub sessions : new.sessions ≡ record { states = λ j. if same j k then Running (Some n) else old.sessions.states j; owner = λ i. if i == n then Some k else old.sessions.owner i }
-  pub logs : new.logs ≡ with_open n (Some its) old.logs
+  pub sessions_are : sessions_of new ≡ record { states = λ j. if same j k then Running (Some n) else (sessions_of old).states j; owner = λ i. if i == n then Some k else (sessions_of old).owner i }
+  pub logs_are : open_logs new.logs ≡ with_open n (Some its) (open_logs old.logs)
   pub numbers : new.numbers ≡ old.numbers
   pub events : new.events ≡ old.events
   pub waiting : new.waiting ≡ old.waiting

@@ -7,6 +7,7 @@ ghost use Rattle.lsv_request.specs.declared.refusal.Refusal.{Refusal};
 ghost use Rattle.lsv_machine.specs.Machine.{Machine};
 ghost use Rattle.lsv_machine.specs.Work.{adds_line, line_fits};
 ghost use Rattle.lsv_keeper.specs.Represents.{Represents};
+ghost use Rattle.lsv_keeper.specs.Views.{view_of};
 ghost use Rattle.lsv_keeper.specs.Rows.{Beside, LineFault};
 ghost use Rattle.lsv_keeper.specs.Value.{Keeps, SameSessions};
 
@@ -31,14 +32,14 @@ impl<F: LineWriter, H: Search> Keeper<F, H> {
         event: &Event,
     ) -> Result<(), Refusal>
         requires timed { IsTimed event.now }
-        ensures keeps { Keeps self.old self.new }
-        ensures same { SameSessions self.old self.new }
-        ensures none { OnErr result (self.new.noting ≡ self.old.noting) }
-        ensures added { D.tells → OnOk result ((m : Machine) → Represents self.old (D.view disk.old) m →
-            (line_fits (line_of self.old.kind event.now) m ≡ true) × Represents self.new (D.view disk.new) (adds_line conn (line_of self.old.kind event.now) m)) }
-        ensures refused { D.tells → IfErr result (λ why. (m : Machine) → Represents self.old (D.view disk.old) m →
-            LineFault self.old.lane (line_of self.old.kind event.now) m why (D.view disk.old) (D.view disk.new) × Represents self.new (D.view disk.new) m) }
-        ensures beside { D.tells → (m : Machine) → Represents self.old (D.view disk.old) m → Beside self.old.lane self.old.lanes None (D.view disk.old) (D.view disk.new) }
+        ensures keeps { Keeps (view_of self.old) (view_of self.new) }
+        ensures same { SameSessions (view_of self.old) (view_of self.new) }
+        ensures none { OnErr result ((view_of self.new).noting ≡ (view_of self.old).noting) }
+        ensures added { D.tells → OnOk result ((m : Machine) → Represents (view_of self.old) (D.view disk.old) m →
+            (line_fits (line_of (view_of self.old).kind event.now) m ≡ true) × Represents (view_of self.new) (D.view disk.new) (adds_line conn (line_of (view_of self.old).kind event.now) m)) }
+        ensures refused { D.tells → IfErr result (λ why. (m : Machine) → Represents (view_of self.old) (D.view disk.old) m →
+            LineFault (view_of self.old).lane (line_of (view_of self.old).kind event.now) m why (D.view disk.old) (D.view disk.new) × Represents (view_of self.new) (D.view disk.new) m) }
+        ensures beside { D.tells → (m : Machine) → Represents (view_of self.old) (D.view disk.old) m → Beside (view_of self.old).lane (view_of self.old).lanes None (D.view disk.old) (D.view disk.new) }
     {
         let Ok(line) = self.formatter.write(self.alloc, event) else {
             return Err(Refusal::OutOfMemory);
@@ -53,12 +54,12 @@ impl<F: LineWriter, H: Search> Keeper<F, H> {
 
     /// Adds a line to the event log, which is opened again where it failed.
     fn stage_line<D: Disk>(&mut self, disk: &mut D, line: &[u8]) -> Result<(), Refusal>
-        ensures same { self.new ≡ record self.old { events = self.new.events } }
-        ensures added { D.tells → OnOk result ((m : Machine) → Represents self.old (D.view disk.old) m →
-            (line_fits line.now m ≡ true) × Represents self.new (D.view disk.new) (record m { fresh = m.fresh ++ line.now })) }
-        ensures refused { D.tells → IfErr result (λ why. (m : Machine) → Represents self.old (D.view disk.old) m →
-            LineFault self.old.lane line.now m why (D.view disk.old) (D.view disk.new) × Represents self.new (D.view disk.new) m) }
-        ensures beside { D.tells → (m : Machine) → Represents self.old (D.view disk.old) m → Beside self.old.lane self.old.lanes None (D.view disk.old) (D.view disk.new) }
+        ensures same { view_of self.new ≡ record (view_of self.old) { events = (view_of self.new).events } }
+        ensures added { D.tells → OnOk result ((m : Machine) → Represents (view_of self.old) (D.view disk.old) m →
+            (line_fits line.now m ≡ true) × Represents (view_of self.new) (D.view disk.new) (record m { fresh = m.fresh ++ line.now })) }
+        ensures refused { D.tells → IfErr result (λ why. (m : Machine) → Represents (view_of self.old) (D.view disk.old) m →
+            LineFault (view_of self.old).lane line.now m why (D.view disk.old) (D.view disk.new) × Represents (view_of self.new) (D.view disk.new) m) }
+        ensures beside { D.tells → (m : Machine) → Represents (view_of self.old) (D.view disk.old) m → Beside (view_of self.old).lane (view_of self.old).lanes None (D.view disk.old) (D.view disk.new) }
     {
         match self.events.add(line) {
             Ok(()) => return Ok(()),
