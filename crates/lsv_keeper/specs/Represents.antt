@@ -1,5 +1,5 @@
 -- What a keeper and its disk stand for: the session machine of their lane.
-use Rattle.std.specs.Prelude.{◌≡◌, ◌≤◌, ◌<◌, ◌+◌, ◌*◌, ℕ, true, false, List, [], ◌∷◌, length, Option, Some, None}
+use Rattle.std.specs.Prelude.{◌≡◌, ◌≤◌, ◌<◌, ◌⊎◌, ◌+◌, ◌*◌, ℕ, true, false, List, [], ◌∷◌, length, Option, Some, None}
 use Rattle.lsv_disk.specs.View.{DiskView}
 use Rattle.lsv_eventlog.specs.Inner.{IsEventLog}
 use Rattle.lsv_eventlog.specs.Recovered.{HoldsLines}
@@ -8,8 +8,9 @@ use Rattle.lsv_eventlog.specs.Value.{EventLogView}
 use Rattle.lsv_iolog.specs.Recovered.{IsUnmade, Replays}
 use Rattle.lsv_iolog.specs.Represents as logs
 use Rattle.lsv_iolog.specs.Value.{LogValue, all_of, flushed}
-use Rattle.lsv_mask.specs.Masking.{seen}
+use Rattle.lsv_mask.specs.Masking.{Seen, seen}
 use Rattle.lsv_record.specs.Points.{Stored}
+use Rattle.lsv_record.specs.declared.records.Record.{Record}
 use Rattle.lsv_seq.specs.declared.numbers.Numbers.{Numbers}
 use Rattle.lsv_seq.specs.Represents as numbers
 use Rattle.lsv_seq.specs.Value.{lane_of, lanes_of, next_of, pending_of}
@@ -23,7 +24,13 @@ use Rattle.lsv_keeper.specs.Value.{KeeperView, log_in, sessions_of, settings_of}
 
 -- ---- Logs
 
--- a log that a connection writes is open, matches the disk with its staged records behind the committed ones, and its mask stands behind all of them; what the machine promises is committed
+-- the mask stands behind these records; where there are no texts it covers nothing, and may stand behind any
+pub record Masks (texts : List (List ℕ)) (mask : Seen) (records : List Record) : Type 0 where
+  pub behind : List Record
+  pub stands : mask ≡ seen texts behind
+  pub these : (behind ≡ records) ⊎ (texts ≡ [])
+
+-- a log that a connection writes is open, matches the disk with its staged records behind the committed ones, and its mask stands behind all of them, where it covers anything; what the machine promises is committed
 pub record Held (v : KeeperView) (disk : DiskView) (m : Machine) (n : ℕ) : Type 0 where
   pub its : OpenLog
   pub here : log_in v n ≡ Some its
@@ -31,7 +38,7 @@ pub record Held (v : KeeperView) (disk : DiskView) (m : Machine) (n : ℕ) : Typ
   pub represents : logs.Represents its.log value disk
   pub number : its.log.number ≡ n
   pub going : value.stored.exit ≡ None
-  pub mask : its.mask ≡ seen v.texts (all_of value)
+  pub mask : Masks v.texts its.mask (all_of value)
   pub promised : ℕ
   pub there : m.logs n ≡ There (flushed value) promised
   pub enough : promised ≤ length value.stored.records

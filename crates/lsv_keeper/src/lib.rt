@@ -6,6 +6,7 @@ mod events;
 mod keeper;
 mod leave;
 mod logs;
+mod restart;
 mod told;
 
 pub use keeper::Keeper;
