@@ -3,6 +3,7 @@ pub mod Logs
 pub mod Value
 pub mod Views
 pub mod Represents
+pub mod Replies
 pub mod Resuming
 pub mod Rows
 pub mod Tails

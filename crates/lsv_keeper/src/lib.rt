@@ -6,6 +6,7 @@ mod events;
 mod keeper;
 mod leave;
 mod logs;
+mod own;
 mod restart;
 mod told;
 
