@@ -1,9 +1,8 @@
 -- What crash images hold of a log while calls go on, and what calls sync.
 use Rattle.std.specs.Prelude.{◌≡◌, ◌≢◌, ℕ, ◌+◌, ◌-◌, ◌^◌, ◌<◌, ◌≤◌, ◌⊎◌, true, Option, Some, None}
 use Rattle.lsv_disk.specs.declared.file.FileId.{FileId}
-use Rattle.lsv_disk.specs.View.{Image, DiskView, IsCrashImage, HasOwnCause}
+use Rattle.lsv_disk.specs.View.{Image, DiskView, IsCrashImage, HasCause}
 use Rattle.lsv_disk.specs.Throughout.{OnlyReads}
-use Rattle.lsv_journal.specs.Last.{IsOwn}
 use Rattle.lsv_bundle.specs.Shape.{journal_of}
 use Rattle.lsv_record.specs.Points.{Stored, first}
 use Rattle.lsv_iolog.specs.Recovered.{owner_of, IsOfLog, Replays, SameLog}
@@ -37,5 +36,5 @@ pub record CallsOfLog (n d j : ℕ) (old new : DiskView) : Type 0 where
 -- why a cut of this log at a point failed: a call on the journal did, a record ends at the point, and the cut could be counted; or a read did, and nothing was changed
 abbrev pub IsCutFault : ℕ → (point : ℕ) → Stored → DiskView → DiskView → Type 0
 IsCutFault n point stored old new =
-    ((first stored.records point ≢ None) × (drops stored point ≡ true → stored.cuts < 2 ^ 63 - 1) × HasOwnCause (IsOwn (journal_of (owner_of n))) (Unit {0}) old new)
+    ((first stored.records point ≢ None) × (drops stored point ≡ true → stored.cuts < 2 ^ 63 - 1) × HasCause (journal_of (owner_of n)) (Unit {0}) old new)
     ⊎ OnlyReads old new

@@ -151,6 +151,7 @@ impl IoLog {
         ensures calls { D.tells → CallsAtMost 2 2 (λ g. g ≡ journal_of self.old.bundle.owner) (D.view disk.old) (D.view disk.new) }
         ensures fault { IfErr result (λ e. e ≡ LogFault.Disk) }
         ensures cause { HasOwnCause (IsOwn (journal_of self.old.bundle.owner)) (IsErrOf result LogFault.Disk) (D.view disk.old) (D.view disk.new) }
+        ensures blame { HasCause (journal_of self.old.bundle.owner) (IsErrOf result LogFault.Disk) (D.view disk.old) (D.view disk.new) }
     {
         let lens = lengths_behind(&self.bundle.last(), kept);
         match self

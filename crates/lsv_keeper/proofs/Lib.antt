@@ -7,3 +7,7 @@ pub mod Masking
 pub mod Seeing
 pub mod Restarting
 pub mod Reopening
+pub mod RestartRows
+pub mod Viewing
+pub mod ResumedRows
+pub mod Looking

@@ -286,9 +286,10 @@ told_of l stored point x some good = go l.promised refl good
 pub cut_is : (stored : Stored) (point x : ℕ) → first stored.records point ≡ Some x → cut_log stored point ≡ cut_to x stored
 cut_is stored point x some = rw some refl
 
-exit_none : (l : Ledger) (rs ss : List Record) (o : Option (List ℕ)) → o ≡ None → ExitIs l rs o → ExitIs l ss o
-exit_none l rs ss None e h = h
-exit_none l rs ss (Some t) e h = absurd (cc)
+exit_none : (l l' : Ledger) (rs ss : List Record) (o p : Option (List ℕ)) → l'.finished ≡ l.finished → o ≡ None → p ≡ None → ExitIs l rs o → ExitIs l' ss p
+exit_none l l' rs ss None None same e f h = same ∙ h
+exit_none l l' rs ss None (Some t) same e f h = absurd (cc)
+exit_none l l' rs ss (Some t) p same e f h = absurd (cc)
 
 -- cut, for a history in which the restart was accepted
 pub cut_good : (l : Ledger) (k : ConnId) (stored : Stored) (point x : ℕ) → first stored.records point ≡ Some x → stored.exit ≡ None → GoodLog l (Some stored) → GoodLog (resumed_by k point l) (Some (cut_to x stored))
@@ -301,7 +302,7 @@ cut_good l k stored point x some going good =
       head = t.keeps.head;
       prefix = prefix_all (take x stored.records) (cut l.shown point) (sym c.cut_is);
       enough = grind (arith, common_steps);
-      exit = exit_none l stored.records (take x stored.records) stored.exit going t.keeps.exit;
+      exit = exit_none l (resumed_by k point l) stored.records (take x stored.records) stored.exit stored.exit refl going going t.keeps.exit;
     })
 
 -- so many first records of it, for a history in which the restart is marked
@@ -319,13 +320,9 @@ marked_good l stored part point x left some going good head records exit either 
       head = head ∙ t.keeps.head;
       prefix = subst (λ (rs : List Record). IsPrefix rs l.shown) (sym records) (prefix_trans (take left stored.records) stored.records l.shown (take_prefix left stored.records) t.keeps.prefix);
       enough = subst (λ (rs : List Record). min t.told x ≤ length rs) (sym records) (long_enough t.told enough within either);
-      exit = going_exit part.exit exit (exit_none l stored.records part.records stored.exit going t.keeps.exit);
+      exit = exit_none l lowered stored.records part.records stored.exit part.exit refl going exit t.keeps.exit;
     })
   where
     long_enough : (told : ℕ) → told ≤ length stored.records → x ≤ length stored.records → (left ≡ x) ⊎ (left ≡ length stored.records) → min told x ≤ length (take left stored.records)
     long_enough told a b (inl e) = grind (arith, common_steps)
     long_enough told a b (inr e) = grind (arith, common_steps)
-
-    going_exit : (o : Option (List ℕ)) → o ≡ None → ExitIs l part.records stored.exit → ExitIs (record l { promised = lowered_to l.promised l.shown point }) part.records o
-    going_exit None e h = subst (λ (q : Option (List ℕ)). ExitIs l part.records q) going h
-    going_exit (Some q) e h = absurd (cc)
