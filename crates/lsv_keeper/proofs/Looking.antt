@@ -22,7 +22,7 @@ use Rattle.lsv_iolog.specs.declared.fault.LogFault.TheVariants as faults
 use Rattle.lsv_iolog.specs.Value.{IoLogView, bare, is_complete}
 use Rattle.lsv_iolog.proofs.Flushing.{entry_body}
 use Rattle.lsv_iolog.proofs.Replaying.{same_files}
-use Rattle.lsv_iolog.proofs.Representing.{every_image}
+use Rattle.lsv_iolog.proofs.Representing.{every_image, log_stays}
 use Rattle.lsv_iolog.proofs.Scans.{reads_nothing}
 use Rattle.lsv_record.specs.Points.{Stored, first}
 use Rattle.lsv_machine.proofs.Folds.{each_down, either_down, moments_on}
@@ -157,3 +157,7 @@ pub complete_exit : (log : IoLogView) (stored : Stored) (disk : DiskView) → Re
 complete_exit log stored disk at done =
     some_exit at.entry.body.kind (at.entry.bytes Exit) stored.exit at.is.exit
     (ap (λ (o : Option Body). option_map_or (λ (b : Body). b.kind == 3) o false) (sym (entry_body log.bundle disk at.entry at.committed)) ∙ done)
+
+-- it stays represented while it is read
+pub open_read : (log : IoLogView) (stored : Stored) (mid new : DiskView) → Represents log (bare stored) mid → OnlyReads mid new → Represents log (bare stored) new
+open_read log stored mid new at reads = log_stays log (bare stored) (λ file. ⊥) mid new reads.unchanged.elsewhere (λ file own none. none) at

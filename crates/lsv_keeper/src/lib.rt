@@ -8,6 +8,7 @@ mod leave;
 mod logs;
 mod own;
 mod restart;
+mod resume;
 mod told;
 
 pub use keeper::Keeper;

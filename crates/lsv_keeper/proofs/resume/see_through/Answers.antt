@@ -11,7 +11,7 @@ use Rattle.lsv_iolog.proofs.Scans.{if_some_at, none_there}
 use Rattle.lsv_record.specs.declared.records.Record.{Record}
 use Rattle.lsv_keeper.proofs.Seeing.{seeing_all, seeing_end, seeing_found, seeing_goes_on, seeing_past, seeing_starts}
 use Rattle.lsv_keeper.proofs.Viewing.{seeing_whole}
-use Rattle.lsv_keeper.proofs.restart.see_through.Goals as goal
+use Rattle.lsv_keeper.proofs.resume.see_through.Goals as goal
 
 pub loop-init : goal.loop-init
 loop-init g c = seeing_starts g.D.Disk.tells c.args.view.now c.args.mask.now (g.D.Disk.view c.args.disk.now) c.args.point (λ told. g.met.D.Disk.only_now told c.args.disk.now)
