@@ -132,8 +132,8 @@ cut_fault n point stored e old mid new laws laws' found going is whole incomplet
     read_on : OnlyReads mid new → IsFound n stored old new
     read_on r = record { looked = looked_reads n old mid new laws found.looked r; was = found.was; now = holds_read n stored mid new r found.now }
 
-    as : (x : LogFault) → e ≡ x → IsResumeFault n point x old new → IsResumeFault n point e old new
-    as x same f = subst (λ (y : LogFault). IsResumeFault n point y old new) (sym same) f
+    same_as : (x : LogFault) → e ≡ x → IsResumeFault n point x old new → IsResumeFault n point e old new
+    same_as x same f = subst (λ (y : LogFault). IsResumeFault n point y old new) (sym same) f
 
     by_blame : IsCutFault n point stored mid new → LogRose n mid new → IsResumeFault n point faults.Disk old new
     by_blame (inl (ends, counted, cause)) risen =
@@ -143,10 +143,10 @@ cut_fault n point stored e old mid new laws laws' found going is whole incomplet
     go : (e ≡ faults.Broken) ⊎ (e ≡ faults.Complete) ⊎ (e ≡ faults.NoPoint point) ⊎ (e ≡ faults.Full Slots) ⊎ (e ≡ faults.Disk) ⊎ (e ≡ faults.NoMem) → IsResumeFault n point e old new
     go (inl x) = absurd (whole x)
     go (inr (inl x)) = absurd (incomplete x)
-    go (inr (inr (inl x))) = as (faults.NoPoint point) x (stored, read_on (reads (λ d. let y : faults.NoPoint point ≡ faults.Disk = sym x ∙ d in cc)), going, none x)
-    go (inr (inr (inr (inl x)))) = let f = full x in as (faults.Full Slots) x (stored, read_on (reads (λ d. let y : faults.Full Slots ≡ faults.Disk = sym x ∙ d in cc)), going, f.0, f.1, f.2)
-    go (inr (inr (inr (inr (inl x))))) = as faults.Disk x (by_blame (blame x) (rose x))
-    go (inr (inr (inr (inr (inr x))))) = as faults.NoMem x (looked_reads n old mid new laws found.looked (reads (λ d. let y : faults.NoMem ≡ faults.Disk = sym x ∙ d in cc)))
+    go (inr (inr (inl x))) = same_as (faults.NoPoint point) x (stored, read_on (reads (λ d. let y : faults.NoPoint point ≡ faults.Disk = sym x ∙ d in cc)), going, none x)
+    go (inr (inr (inr (inl x)))) = let f = full x in same_as (faults.Full Slots) x (stored, read_on (reads (λ d. let y : faults.Full Slots ≡ faults.Disk = sym x ∙ d in cc)), going, f.0, f.1, f.2)
+    go (inr (inr (inr (inr (inl x))))) = same_as faults.Disk x (by_blame (blame x) (rose x))
+    go (inr (inr (inr (inr (inr x))))) = same_as faults.NoMem x (looked_reads n old mid new laws found.looked (reads (λ d. let y : faults.NoMem ≡ faults.Disk = sym x ∙ d in cc)))
 
 some_exit : (kind : ℕ) (bytes : List ℕ) (exit : Option (List ℕ)) → HasExit kind bytes exit → (kind == 3) ≡ true → exit ≢ None
 some_exit kind bytes None has three none = has.0 (grind (arith, nat_tests))

@@ -10,6 +10,8 @@ use Rattle.lsv_disk.proofs.Composition.{jointly_of_each, jointly_widened}
 use Rattle.lsv_iolog.specs.Later.{cut_log, drops}
 use Rattle.lsv_iolog.specs.Moments.{IsAsBefore}
 use Rattle.lsv_iolog.specs.Recovered.{IsOfLog, IsUnmade, Replays, ReplaysNothing}
+use Rattle.lsv_iolog.specs.declared.fault.LogFault.{LogFault}
+use Rattle.lsv_iolog.specs.declared.fault.LogFault.TheVariants as faults
 use Rattle.lsv_iolog.proofs.Replaying.{absent_replay, one_replay}
 use Rattle.lsv_record.specs.Points.{Stored, first}
 use Rattle.lsv_record.specs.declared.records.Record.{Record}
@@ -30,7 +32,7 @@ use Rattle.lsv_machine.proofs.Choices.{EqOr.equal, EqOr.unequal, SomeOr, SomeOr.
 use Rattle.lsv_machine.proofs.Weaken.{Weaker, at_weaker}
 use Rattle.lsv_keeper.specs.Reading.{reading_of}
 use Rattle.lsv_keeper.specs.Represents.{EventsAre, Free, LogIs, NumbersAre, Represents}
-use Rattle.lsv_keeper.specs.Resuming.{AllAsBefore, AllCut, AllHold, IsCutInto, IsFound, IsLooked}
+use Rattle.lsv_keeper.specs.Resuming.{AllAsBefore, AllCut, AllHold, IsCutInto, IsFound, IsLooked, IsResumeFault}
 use Rattle.lsv_keeper.specs.Value.{IsReserved, KeeperView, log_in, sessions_of, settings_of}
 use Rattle.lsv_keeper.proofs.Acting.{OwnKeeps, was_good}
 use Rattle.lsv_keeper.proofs.Frames.{Laws, Resting, log_apart}
@@ -237,3 +239,20 @@ cut_stands v v' old new m n point stored now promised laws at res free into read
       | unequal p t ↦ absurd (p refl)
     ]))
     (λ of_lane over. absurd (not_above of_lane over))
+
+-- whatever fault it was, the keeper stands for a machine then
+pub fault_stands : (v v' : KeeperView) (old new : DiskView) (m : Machine) (n point : ℕ) → Laws old → Laws new → Represents v old m → IsReserved v v' → m.owner n ≡ None → (fault : LogFault) → IsResumeFault n point fault old new
+    → (after : Machine) × Represents v' new after
+fault_stands v v' old new m n point laws laws' at res free faults.Absent (looked, none) = (m, looked_stands v v' old new m n at res free looked)
+fault_stands v v' old new m n point laws laws' at res free (faults.Damaged part) (looked, none) = (m, looked_stands v v' old new m n at res free looked)
+fault_stands v v' old new m n point laws laws' at res free faults.Complete (stored, found, rest) = (m, looked_stands v v' old new m n at res free found.looked)
+fault_stands v v' old new m n point laws laws' at res free (faults.NoPoint other) (stored, found, rest) = (m, looked_stands v v' old new m n at res free found.looked)
+fault_stands v v' old new m n point laws laws' at res free (faults.Full part) (stored, found, rest) = (m, looked_stands v v' old new m n at res free found.looked)
+fault_stands v v' old new m n point laws laws' at res free faults.NoMem looked = (m, looked_stands v v' old new m n at res free looked)
+fault_stands v v' old new m n point laws laws' at res free (faults.TooLong time) f = absurd f
+fault_stands v v' old new m n point laws laws' at res free faults.Broken f = absurd f
+fault_stands v v' old new m n point laws laws' at res free faults.Disk (inl (looked, rose)) = (m, looked_stands v v' old new m n at res free looked)
+fault_stands v v' old new m n point laws laws' at res free faults.Disk (inr (stored, into, rose)) = elim (into.now new.reads laws'.reads_itself) [
+  | inl whole ↦ (with_log n (There stored 0) m, cut_stands v v' old new m n point stored stored 0 laws at res free into whole (omega arith))
+  | inr short ↦ (with_log n (There (cut_log stored point) 0) m, cut_stands v v' old new m n point stored (cut_log stored point) 0 laws at res free into short (omega arith))
+]

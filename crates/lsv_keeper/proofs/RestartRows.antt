@@ -1,6 +1,6 @@
 -- Rows of a restart: why it is refused, or what goes on.
 use Rattle.std.proofs.Common.{◌≡◌, ◌≢◌, ◌⊎◌, ◌≤◌, ◌<◌, ◌+◌, ◌-◌, ◌^◌, ℕ, List, [], ◌∷◌, length, take, Option, Some, None, refl, sym, ◌∙◌, ap, subst, inl, inr, arith}
-use Rattle.std.specs.Prelude.{◌==◌, ◌&&◌, ◌||◌, not, min, nat_lt, Bool, true, false, if◌then◌else◌, unwrap_or, Contains, Result, Ok, Err}
+use Rattle.std.specs.Prelude.{◌==◌, ◌&&◌, ◌||◌, not, min, nat_lt, Bool, true, false, if◌then◌else◌, is_some, unwrap_or, Contains, Result, Ok, Err}
 use Rattle.std.proofs.lemmas.Bool.Decides.{nat_tests}
 use Rattle.std.proofs.lemmas.Grind.{common_steps}
 use Rattle.lsv_base.specs.declared.time.TimeSpec.{TimeSpec}
@@ -36,7 +36,7 @@ use Rattle.lsv_machine.specs.Machine.{IsOfLane, LogState, LogState.There, Machin
 use Rattle.lsv_machine.specs.Silence.{AllTo}
 use Rattle.lsv_machine.specs.Stands.{StandsFor}
 use Rattle.lsv_machine.specs.Turns.{Happened.Did}
-use Rattle.lsv_machine.specs.Work.{can_cut, cut_to}
+use Rattle.lsv_machine.specs.Work.{can_cut, cut_to, plain, refused}
 use Rattle.lsv_machine.proofs.Choices.{EqOr.equal, EqOr.unequal, SomeOr, SomeOr.just, SomeOr.nothing, eq_or, some_or}
 use Rattle.lsv_machine.proofs.JobFits.{Last, Last.by_refusal, Last.by_shut, refused_last, wants_last}
 use Rattle.lsv_machine.proofs.Weaken.{Weaker, good_weaker}
@@ -51,7 +51,7 @@ use Rattle.lsv_keeper.proofs.Counting.{NoneFell, counts_did, counts_marked, none
 use Rattle.lsv_keeper.proofs.Frames.{Laws, beside_on, beside_wider, resting}
 use Rattle.lsv_keeper.proofs.Numbering.{beside_asked}
 use Rattle.lsv_keeper.proofs.Reopening.{IsThere, absent_of, cut_stands, damaged_of, free_log, keeps_cut, keeps_found, looked_rests, looked_stands, made_of, there_of}
-use Rattle.lsv_keeper.proofs.Restarting.{AsksRestart, at_absent, at_complete, at_damaged, at_full, at_no_point, breaks_off, cut_is, fails_cut, marked_good, marked_weaker, meets_fault, plainly_refused, refused_weaker, restart_act, settles_refused}
+use Rattle.lsv_keeper.proofs.Restarting.{AsksRestart, at_absent, at_complete, at_damaged, at_full, at_no_point, at_owned, breaks_off, cut_is, fails_cut, marked_good, marked_weaker, meets_fault, plain_is, plainly_refused, refused_weaker, restart_act, settles_refused}
 
 -- ---- Who is told of what
 
@@ -278,10 +278,6 @@ module _ (v v1 v' : KeeperView) (old mid new : DiskView) (m : Machine) (job : Jo
       let c = cut_left stored into in
       was_cut stored c refl into rose (cut_stands v v1 old mid m restart.log restart.point stored c.left.now (min c.promised c.x) laws at res free into c.left.reads c.left.enough)
 
-  -- the keeper stands for something then
-  pub fault_stands : (fault : LogFault) → IsResumeFault restart.log restart.point fault old mid → (m1 : Machine) × Represents v1 mid m1
-  fault_stands fault f = elim (behind fault f) [ as_was looked is row ↦ (m, is) | was_cut stored c disk into rose is ↦ (with_log restart.log (There c.left.now (min c.promised c.x)) m, is) ]
-
   -- ---- A cut that failed
 
   cut_into_beside : (stored : Stored) → IsCutInto restart.log restart.point stored old mid → Beside v.lane v.lanes (Some restart.log) old mid
@@ -355,3 +351,20 @@ module _ (v v1 v' : KeeperView) (old mid new : DiskView) (m : Machine) (job : Jo
           → Tells job.conn (told.Refused (restart_refusal fault)) answers → RowIs v now job answers m v' old new
       go q looked row (inl e) = subst (λ (said : List Answer). RowIs v now job said m v' old new) (sym e) (row q)
       go q looked row (inr wants) = wants_row answers wants looked q
+
+-- ---- A log that is written
+
+some_of : {A : Type 0} (o : Option A) → is_some o ≡ true → (x : A) × (o ≡ Some x)
+some_of None e = absurd (cc)
+some_of (Some x) e = (x, refl)
+
+pub none_of : {A : Type 0} (o : Option A) → is_some o ≡ false → o ≡ None
+none_of None e = refl
+none_of (Some x) e = absurd (cc)
+
+-- it is refused
+pub in_use : (v : KeeperView) (now : TimeSpec) (m : Machine) (job : Job) (restart : Restart) (conn : ConnId) → job.conn ≡ conn → AsksRestart m job restart → is_some (m.owner restart.log) ≡ true
+    → (i : ℕ) → plain (settings_of v) now job i m ≡ refused conn refusals.LogInUse m
+in_use v now m job restart conn is a owned i =
+    let (j, own) = some_of (m.owner restart.log) owned in
+    plain_is (settings_of v) now m job restart a i ∙ (at_owned job.conn j restart.log restart.point m own ∙ ap (λ (k : ConnId). refused k refusals.LogInUse m) is)

@@ -87,7 +87,7 @@ asks_restart m job restart asks = go job.body refl asks
 -- ---- What the table makes of it
 
 module _ (set : Settings) (now : TimeSpec) (m : Machine) (job : Job) (restart : Restart) (a : AsksRestart m job restart) where
-  plain_is : (i : ℕ) → plain set now job i m ≡ restarted job.conn restart.log restart.point m
+  pub plain_is : (i : ℕ) → plain set now job i m ≡ restarted job.conn restart.log restart.point m
   plain_is i = let living = a.living in let e = a.body_is in let so = a.judged_so in rw (living, e, so) refl
 
   next_drawn : MayDraw set m (next_number set m)

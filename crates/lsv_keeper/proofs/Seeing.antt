@@ -5,9 +5,9 @@ use Rattle.lsv_words.specs.Pieces.{IsPrefix}
 use Rattle.lsv_disk.specs.Throughout.{OnlyReads}
 use Rattle.lsv_disk.specs.Bytes.{bytes_of}
 use Rattle.lsv_disk.specs.Files.{file_of}
-use Rattle.lsv_disk.specs.View.{DiskView, Image}
+use Rattle.lsv_disk.specs.View.{DiskView, HasOwnCause, Image}
 use Rattle.lsv_disk.specs.declared.file.FileId.{FileId}
-use Rattle.lsv_disk.proofs.Composition.{OnlyNow, reads_trans, unchanged_reads}
+use Rattle.lsv_disk.proofs.Composition.{OnlyNow, cause_second, cause_widened, reads_trans, unchanged_reads}
 use Rattle.lsv_bundle.specs.Body.{length_of}
 use Rattle.lsv_bundle.specs.declared.body.Body.{Body}
 use Rattle.lsv_mask.specs.Masking.{Seen, seen}
@@ -22,7 +22,7 @@ use Rattle.lsv_record.proofs.Layouts.{timing_of-append}
 use Rattle.lsv_record.proofs.Once.{laid_is_read, one_begins}
 use Rattle.lsv_record.proofs.Points.{FirstBy, FirstBy.here, FirstBy.past, FirstBy.later, cut_append, first_by}
 use Rattle.lsv_iolog.specs.Reading.{IsBehind, IsWhole, ViewState, committed_laid}
-use Rattle.lsv_iolog.specs.Recovered.{laid_in, owner_of}
+use Rattle.lsv_iolog.specs.Recovered.{IsOfLog, laid_in, owner_of}
 use Rattle.lsv_iolog.proofs.Scans.{reads_nothing}
 use Rattle.lsv_keeper.specs.Resuming.{IsViewOf}
 
@@ -231,3 +231,22 @@ seeing_end told start view before mask old now point left i t seeing ends stored
     let w = ends s.given s.behind in
     let none : s.more ≡ [] = no_more s.given s.more stored.records s.whole (sym of.count ∙ (ap (λ (b : Body). b.count) (sym seeing.body) ∙ w.count)) in
     s.first ∙ ap (λ (rs : List Record). add_count i (first rs left)) none
+
+-- ---- Counts
+
+-- a read that failed is to blame, or nothing is
+pub seeing_cause : (told : Type 0) (start view : ViewState) (before mask : Seen) (old now new : DiskView) (point left i : ℕ) (failed inner : Type 0) → Seeing told start view before mask old now point left i → (failed → inner)
+    → HasOwnCause (IsOfLog view.number) inner now new → HasOwnCause (IsOfLog start.number) failed old new
+seeing_cause told start view before mask old now new point left i failed inner seeing fails cause =
+    cause_second (IsOfLog start.number) failed old now new seeing.monotone
+    (cause_widened (IsOfLog view.number) (IsOfLog start.number) inner failed now new (λ file own. own ∙ ap owner_of seeing.number) fails cause)
+
+pub seeing_blameless : (told : Type 0) (start view : ViewState) (before mask : Seen) (old now new : DiskView) (point left i : ℕ) (failed : Type 0) → Seeing told start view before mask old now point left i
+    → ((file : FileId) → now.faults file ≤ new.faults file) → (failed → ⊥) → HasOwnCause (IsOfLog start.number) failed old new
+seeing_blameless told start view before mask old now new point left i failed seeing up none = record {
+  monotone = λ file. (let a = seeing.monotone file in let b = up file in omega arith);
+  risen = λ is. absurd (none is);
+}
+
+pub same_faults : (disk : DiskView) (file : FileId) → disk.faults file ≤ disk.faults file
+same_faults disk file = omega arith

@@ -115,7 +115,11 @@ pub(crate) fn resume_log<D: Disk, H: Search>(
     if log.is_complete() {
         return Err(LogFault::Complete);
     }
-    let mask = mask_behind(alloc, disk, prompt, texts, restart)?;
-    log.cut_at(disk, restart.point)?;
-    Ok(OpenLog { log, mask })
+    match mask_behind(alloc, disk, prompt, texts, restart) {
+        Ok(mask) => {
+            log.cut_at(disk, restart.point)?;
+            Ok(OpenLog { log, mask })
+        }
+        Err(fault) => Err(fault),
+    }
 }
