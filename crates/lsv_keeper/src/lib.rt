@@ -2,8 +2,12 @@
 //! device calls fail and wherever the machine stops.
 #![tactic(auto)]
 
+mod events;
 mod keeper;
+mod leave;
 mod logs;
+mod own;
+mod restart;
 mod resume;
 mod told;
 
