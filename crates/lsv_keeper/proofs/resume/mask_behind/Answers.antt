@@ -23,36 +23,36 @@ returns-then-is_empty-clause-masks g c told stored holds = ?
 
 pub returns-in_err-view-clause-none : goal.returns-in_err-view-clause-none
 returns-in_err-view-clause-none g c told is stored holds =
-    absurd (subst IsOpenFault (same_log_fault c.from_residual-in_err-view.result c.in_err-view.field-0.0 (logs.NoPoint c.args.restart.point) c.from_residual-in_err-view.ensures.1 is) c.in_err-view.ensures.fault)
+    absurd (subst IsOpenFault (same_log_fault c.from_residual-in_err-view.result c.in_err-view.field-0.0 (logs.NoPoint c.args.point) c.from_residual-in_err-view.ensures.1 is) c.in_err-view.ensures.fault)
 
 pub returns-in_err-view-clause-damaged : goal.returns-in_err-view-clause-damaged
 returns-in_err-view-clause-damaged g c told part is stored holds =
     let fault = same_log_fault c.from_residual-in_err-view.result c.in_err-view.field-0.0 (logs.Damaged part) c.from_residual-in_err-view.ensures.1 is in
-    view_whole c.args.restart.log part stored (g.D.Disk.view c.args.disk.now).reads holds (c.in_err-view.ensures.damaged told part (view_err c.in_err-view.field-0.0 (logs.Damaged part) fault))
+    view_whole c.args.number part stored (g.D.Disk.view c.args.disk.now).reads holds (c.in_err-view.ensures.damaged told part (view_err c.in_err-view.field-0.0 (logs.Damaged part) fault))
 
 pub returns-in_err-view-clause-absent : goal.returns-in_err-view-clause-absent
 returns-in_err-view-clause-absent g c told is stored holds =
     let fault = same_log_fault c.from_residual-in_err-view.result c.in_err-view.field-0.0 logs.Absent c.from_residual-in_err-view.ensures.1 is in
     let none = c.in_err-view.ensures.absent told (view_err c.in_err-view.field-0.0 logs.Absent fault) in
-    let w : None ≡ Some stored = one_replay (g.D.Disk.view c.args.disk.now).reads c.args.restart.log None (Some stored) none holds in cc
+    let w : None ≡ Some stored = one_replay (g.D.Disk.view c.args.disk.now).reads c.args.number None (Some stored) none holds in cc
 
 pub returns-in_err-see_through-clause-none : goal.returns-in_err-see_through-clause-none
 returns-in_err-see_through-clause-none g c told is stored holds =
-    let fault = same_log_fault c.from_residual-in_err-see_through.result c.in_err-see_through.field-0.0 (logs.NoPoint c.args.restart.point) c.from_residual-in_err-see_through.ensures.1 is in
-    c.in_err-see_through.ensures.none told (unit_err c.in_err-see_through.field-0.0 (logs.NoPoint c.args.restart.point) fault) stored
-    (viewed c.args.restart.log c.in_ok-view.view stored (g.D.Disk.view c.args.disk.now) (g.D.Disk.view c.open.new.disk) c.in_ok-view.ensures.number (c.in_ok-view.ensures.entry told) (c.open.ensures.reads told) holds)
+    let fault = same_log_fault c.from_residual-in_err-see_through.result c.in_err-see_through.field-0.0 (logs.NoPoint c.args.point) c.from_residual-in_err-see_through.ensures.1 is in
+    c.in_err-see_through.ensures.none told (unit_err c.in_err-see_through.field-0.0 (logs.NoPoint c.args.point) fault) stored
+    (viewed c.args.number c.in_ok-view.view stored (g.D.Disk.view c.args.disk.now) (g.D.Disk.view c.open.new.disk) c.in_ok-view.ensures.number (c.in_ok-view.ensures.entry told) (c.open.ensures.reads told) holds)
     (c.in_ok-view.ensures.behind told)
 
 pub returns-in_err-see_through-clause-damaged : goal.returns-in_err-see_through-clause-damaged
 returns-in_err-see_through-clause-damaged g c told part is stored holds =
     let fault = same_log_fault c.from_residual-in_err-see_through.result c.in_err-see_through.field-0.0 (logs.Damaged part) c.from_residual-in_err-see_through.ensures.1 is in
     c.in_err-see_through.ensures.damaged told part (unit_err c.in_err-see_through.field-0.0 (logs.Damaged part) fault) stored
-    (viewed c.args.restart.log c.in_ok-view.view stored (g.D.Disk.view c.args.disk.now) (g.D.Disk.view c.open.new.disk) c.in_ok-view.ensures.number (c.in_ok-view.ensures.entry told) (c.open.ensures.reads told) holds)
+    (viewed c.args.number c.in_ok-view.view stored (g.D.Disk.view c.args.disk.now) (g.D.Disk.view c.open.new.disk) c.in_ok-view.ensures.number (c.in_ok-view.ensures.entry told) (c.open.ensures.reads told) holds)
     (c.in_ok-view.ensures.behind told)
 
 pub returns-clause-masks : goal.returns-clause-masks
 returns-clause-masks g c told stored holds =
-    masks_now c.args.texts.now c.see_through.new.mask (cut stored.records c.args.restart.point)
+    masks_now c.args.texts.now c.see_through.new.mask (cut stored.records c.args.point)
     (c.in_ok-see_through.ensures.seen told c.args.texts.now stored ?
-    (viewed c.args.restart.log c.in_ok-view.view stored (g.D.Disk.view c.args.disk.now) (g.D.Disk.view c.open.new.disk) c.in_ok-view.ensures.number (c.in_ok-view.ensures.entry told) (c.open.ensures.reads told) holds)
+    (viewed c.args.number c.in_ok-view.view stored (g.D.Disk.view c.args.disk.now) (g.D.Disk.view c.open.new.disk) c.in_ok-view.ensures.number (c.in_ok-view.ensures.entry told) (c.open.ensures.reads told) holds)
     (c.in_ok-view.ensures.behind told))
