@@ -27,7 +27,7 @@ unit_err e d is = ap (λ (x : LogFault). let y : Result (Unit {0}) LogFault = Er
 pub returns-in_err-log-clause-fault : goal.returns-in_err-log-clause-fault
 returns-in_err-log-clause-fault g c told =
     let e = c.in_err-log.field-0.0 in
-    err_as c.from_residual-in_err-log.result e (λ x. IsResumeFault c.args.number c.args.point x (g.D.Disk.view c.args.disk.now) (g.D.Disk.view c.open.new.disk)) c.from_residual-in_err-log.ensures.1
+    err_as c.from_residual.result e (λ x. IsResumeFault c.args.number c.args.point x (g.D.Disk.view c.args.disk.now) (g.D.Disk.view c.open.new.disk)) c.from_residual.ensures.1
     (opened_fault c.args.number c.args.point e (g.D.Disk.view c.args.disk.now) (g.D.Disk.view c.open.new.disk) c.in_err-log.ensures.fault
         (record { run = c.open.ensures.any_moment told; reads = c.open.ensures.reads told; unmade = c.open.ensures.unmade told })
         (λ is. (c.in_err-log.ensures.absent told (log_err e logs.Absent is)).0)
@@ -67,3 +67,9 @@ pub cut_at-requires-clause-represents : goal.cut_at-requires-clause-represents
 cut_at-requires-clause-represents g c told whole =
     let f = c.in_ok-log.ensures.found told in
     (bare f.0, open_read c.in_ok-log.log f.0 (g.D.Disk.view c.open.new.disk) (g.D.Disk.view c.mask_behind.new.disk) f.2 (c.mask_behind.ensures.reads told))
+
+pub returns-in_err-cut_at-in-Ok-clause-fault : goal.returns-in_err-cut_at-in-Ok-clause-fault
+returns-in_err-cut_at-in-Ok-clause-fault g c told = ?
+
+pub returns-in_ok-cut_at-in-Ok-clause-resumed : goal.returns-in_ok-cut_at-in-Ok-clause-resumed
+returns-in_ok-cut_at-in-Ok-clause-resumed g c told = ?
