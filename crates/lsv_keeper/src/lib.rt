@@ -2,6 +2,7 @@
 //! device calls fail and wherever the machine stops.
 #![tactic(auto)]
 
+mod events;
 mod keeper;
 mod leave;
 mod logs;
