@@ -2,11 +2,8 @@
 //! device calls fail and wherever the machine stops.
 #![tactic(auto)]
 
-mod events;
 mod keeper;
-mod leave;
 mod logs;
-mod restart;
 mod told;
 
 pub use keeper::Keeper;
