@@ -1,5 +1,5 @@
 -- Pieces of the end of a turn: connections that are refused one after another, where their lines were lost.
-use Rattle.std.proofs.Common.{◌≡◌, ℕ, List, [], ◌∷◌, ◌++◌, refl, sym, ◌∙◌, ap, subst, inl, inr, append_assoc, ◌⊎◌}
+use Rattle.std.proofs.Common.{◌≡◌, ℕ, List, [], ◌∷◌, ◌++◌, refl, sym, ◌∙◌, ap, subst, inl, inr, append_assoc, arith, ◌⊎◌}
 use Rattle.std.specs.Prelude.{true, false, Contains}
 use Rattle.std.proofs.lemmas.List.Elements.{Contains-append_left, Contains-append_right}
 use Rattle.lsv_disk.specs.Throughout.{Jointly}
@@ -78,7 +78,7 @@ lines_lost r set wrote t m after one two three a b = record {
     first = record { answers = []; failed = Events set.lane ∷ [] }
 
     here : Contains (Events set.lane ∷ []) (Events set.lane)
-    here = (0, refl)
+    here = (0, omega arith, refl)
 
     of_two : (image : Image) → LinesAs r (IsCrashImage two) image → LinesAs r (IsCrashImage one) image ⊎ r.lines image (m.lines ++ m.fresh)
     of_two image (was, is, alike) = go (a.now was is)

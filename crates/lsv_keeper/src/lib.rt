@@ -2,8 +2,13 @@
 //! device calls fail and wherever the machine stops.
 #![tactic(auto)]
 
+mod events;
 mod keeper;
+mod leave;
 mod logs;
+mod own;
+mod restart;
+mod tail;
 mod told;
 
 pub use keeper::Keeper;
