@@ -4,3 +4,4 @@ pub mod Numbering
 pub mod Acting
 pub mod Standing
 pub mod TailPieces
+pub mod Tailing

@@ -2,13 +2,12 @@
 //! device calls fail and wherever the machine stops.
 #![tactic(auto)]
 
+mod dummy;
 mod events;
 mod keeper;
-mod leave;
 mod logs;
 mod own;
 mod restart;
-mod tail;
 mod told;
 
 pub use keeper::Keeper;
