@@ -5,9 +5,11 @@
 mod dummy;
 mod events;
 mod keeper;
+mod leave;
 mod logs;
 mod own;
 mod restart;
+mod tail;
 mod told;
 
 pub use keeper::Keeper;
