@@ -3,5 +3,11 @@ pub mod Counting
 pub mod Numbering
 pub mod Acting
 pub mod Standing
+pub mod Departing
+pub mod Leaving
 pub mod TailPieces
 pub mod Tailing
+pub mod Losing
+pub mod TailRows
+pub mod TailLoops
+pub mod TailRefusals
