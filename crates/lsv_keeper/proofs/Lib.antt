@@ -11,3 +11,4 @@ pub mod Losing
 pub mod TailRows
 pub mod TailLoops
 pub mod TailRefusals
+pub mod TailLines
