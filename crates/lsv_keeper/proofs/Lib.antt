@@ -3,3 +3,7 @@ pub mod Counting
 pub mod Numbering
 pub mod Acting
 pub mod Standing
+pub mod Owning
+pub mod AddingLines
+pub mod Asking
+pub mod Telling

@@ -6,4 +6,5 @@ pub mod Represents
 pub mod Replies
 pub mod Resuming
 pub mod Rows
+pub mod Accepting
 pub mod Tails

@@ -2,12 +2,13 @@
 //! device calls fail and wherever the machine stops.
 #![tactic(auto)]
 
+mod accept;
 mod events;
 mod keeper;
 mod leave;
 mod logs;
 mod own;
-mod restart;
+mod report;
 mod told;
 
 pub use keeper::Keeper;
