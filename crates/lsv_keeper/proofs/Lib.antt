@@ -4,3 +4,5 @@ pub mod Numbering
 pub mod Acting
 pub mod Standing
 pub mod TailPieces
+pub mod Departing
+pub mod Leaving
