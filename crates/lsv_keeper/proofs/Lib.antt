@@ -7,3 +7,7 @@ pub mod Owning
 pub mod AddingLines
 pub mod Asking
 pub mod Telling
+pub mod TailPieces
+pub mod Departing
+pub mod Leaving
+pub mod Drawing

@@ -8,3 +8,4 @@ pub mod Resuming
 pub mod Rows
 pub mod Accepting
 pub mod Tails
+pub mod Leaving

@@ -9,6 +9,8 @@ mod leave;
 mod logs;
 mod own;
 mod report;
+mod restart;
+mod tail;
 mod told;
 
 pub use keeper::Keeper;
