@@ -54,7 +54,7 @@ nowhere : (disk : DiskView) → Elsewhere (λ file. ⊥) disk disk
 nowhere disk = record { same = λ file other. refl; crash = λ file other c left. left }
 
 not_broken : {P : Type 0} (b : Bool) → b ≡ false → b ≡ true → P
-not_broken b no yes = absurd (let e : false ≡ true = sym no ∙ yes in cc)
+not_broken b whole broken = absurd (let e : false ≡ true = sym whole ∙ broken in cc)
 
 -- the length of the text is that of the machine's lines
 text_is : (v : KeeperView) (disk : DiskView) (m : Machine) → (at : Represents v disk m) → is_broken v.events ≡ false → text_length v.events ≡ length m.lines + length m.fresh
@@ -78,7 +78,7 @@ line_added v log disk m line at whole added sound room =
     let now = event_laws.log_added v.events log disk line added are.represents in
     (
       fits_by (text_length v.events) (length m.lines) (length m.fresh) (length line) (text_is v disk m at whole) room,
-      subst (λ (ns : List ConnId). Represents (record v { events = log; noting = ns }) disk (record m { fresh = m.fresh ++ line; noting = ns })) at.noting
+      subst (λ (ns : List ConnId). Represents (record v { events = log; noting = ns }) disk (record m { fresh = m.fresh ++ line })) at.noting
       (represents_events v log m.noting disk disk m (m.fresh ++ line) (λ file. ⊥) at (nowhere disk) (λ file t. absurd t) (record {
         lane_is = added.lane ∙ at.events.lane_is;
         sound = sound;
@@ -98,7 +98,7 @@ pub reopened : (v : KeeperView) (log : EventLogView) (P : Image → Type 0) (old
     → ((text : List ℕ) → HoldsLines old.reads v.lane text → HoldsLines new.reads v.lane text) → Represents (record v { events = log }) new m
 reopened v log P old new m at broken opened sound held now run reads =
     let lost = at.events.broken broken in
-    subst (λ (ns : List ConnId). Represents (record v { events = log; noting = ns }) new (record m { noting = ns })) at.noting
+    subst (λ (ns : List ConnId). Represents (record v { events = log; noting = ns }) new m) at.noting
     (represents_events v log m.noting old new m m.fresh (IsOfEventLog v.lane) at run.elsewhere (λ file own. event_laws.of_lane v.lane file own) (record {
       lane_is = opened.lane_is;
       sound = sound;
@@ -115,7 +115,7 @@ reopened v log P old new m at broken opened sound held now run reads =
 pub not_reopened : (v : KeeperView) (P : Image → Type 0) (old new : DiskView) (m : Machine) → Represents v old m → is_broken v.events ≡ true → Throughout (IsOfEventLog v.lane) P old new
     → ((text : List ℕ) → HoldsLines old.reads v.lane text → HoldsLines new.reads v.lane text) → Represents v new m
 not_reopened v P old new m at broken run reads =
-    subst (λ (ns : List ConnId). Represents (record v { noting = ns }) new (record m { noting = ns })) at.noting
+    subst (λ (ns : List ConnId). Represents (record v { noting = ns }) new m) at.noting
     (represents_events v v.events m.noting old new m m.fresh (IsOfEventLog v.lane) at run.elsewhere (λ file own. event_laws.of_lane v.lane file own) (record {
       lane_is = at.events.lane_is;
       sound = at.events.sound;

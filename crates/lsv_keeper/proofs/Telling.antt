@@ -13,7 +13,7 @@ use Rattle.lsv_session.specs.declared.connection.ConnId.{ConnId}
 use Rattle.lsv_session.specs.declared.connection.ConnState.{ConnState}
 use Rattle.lsv_session.specs.declared.connection.ConnState.TheVariants.{Dead}
 use Rattle.lsv_session.specs.declared.job.Job.{Job}
-use Rattle.lsv_machine.specs.Answers.{Answer, Shut, refusal, reply_of, say}
+use Rattle.lsv_machine.specs.Answers.{Answer, Shut, is_refused, refusal, reply_of, say}
 use Rattle.lsv_machine.specs.Disks.{AllGood, AsBefore, GoodOr, Rests}
 use Rattle.lsv_machine.specs.Durable.{GoodAt}
 use Rattle.lsv_machine.specs.Failures.{Act, AsksFor, LeavesLog, Step, WantsMemory}
@@ -22,7 +22,7 @@ use Rattle.lsv_machine.specs.Machine.{Machine, Settings, is_dead, leaves, log_of
 use Rattle.lsv_machine.specs.Silence.{AllTo}
 use Rattle.lsv_machine.specs.Stands.{StandsFor}
 use Rattle.lsv_machine.specs.Turns.{Happened.Did}
-use Rattle.lsv_machine.specs.Work.{Done, adds_line, before_line, has_line, is_refused, line_fits, line_in, lined, next_number, plain, refused, work}
+use Rattle.lsv_machine.specs.Work.{Done, adds_line, before_line, has_line, line_fits, line_in, lined, next_number, plain, refused, work}
 use Rattle.lsv_machine.proofs.Weaken.{Weaker, weaker_same}
 use Rattle.lsv_keeper.specs.declared.report.Next.{Next}
 use Rattle.lsv_keeper.specs.declared.report.Next.TheVariants as next
@@ -74,7 +74,7 @@ quiet_done (next.Enters state) k m = refl
 quiet_done next.Ends k m = refl
 
 event_line_is : (set : Settings) (now : TimeSpec) (k : ConnId) (s : ConnState) (what : Request) (line : List ℕ) (nx : Next) (m : Machine) (n : ℕ) → IsEventOf set now k s what line nx m → line_in set now k s what n ≡ line
-event_line_is set now k s what line nx m n is = let none = is.opens_none in rw none is.line_is
+event_line_is set now k s what line nx m n is = let none = is.opens_none in rw (none, line_in) is.line_is
 
 event_lined : (set : Settings) (now : TimeSpec) (k : ConnId) (s : ConnState) (what : Request) (line : List ℕ) (nx : Next) (m : Machine) (n : ℕ) → IsEventOf set now k s what line nx m
     → lined set now k s what n m (work k s what n m) ≡ (if line_fits line m then record { answers = (done_by nx k m).answers; line = line; machine = adds_line k line (done_by nx k m).machine } else refused k LogFull m)
@@ -119,10 +119,10 @@ told_stays v v' old new now job m what line laws b fits at a is answers e = (
     reads_none n reads = absurd (let f = subst (λ (r : Result Request Refusal). reads_log n (is_dead (m.states job.conn)) r [] ≡ true) asks reads in let g = is.reads_none n (is_dead (m.states job.conn)) [] in let h : false ≡ true = sym g ∙ f in cc)
 
     notes : (i : ℕ) (l : Ledger) → noted i l (Did act) ≡ l
-    notes i l = subst (λ (as : List Answer). noted i l (Did (act_of job as [] line now)) ≡ l) (sym e) (silent_notes i job.conn (m.states job.conn) job.body what l a (is.notes_none i l))
+    notes i l = subst (λ (given : List Answer). noted i l (Did (act_of job given [] line now)) ≡ l) (sym e) (silent_notes i job.conn (m.states job.conn) job.body what l a (is.notes_none i l))
 
     settles_none : (i : ℕ) (l : Ledger) → settles i l (Did act) ≡ false
-    settles_none i l = subst (λ (as : List Answer). settles i l (Did (act_of job as [] line now)) ≡ false) (sym e)
+    settles_none i l = subst (λ (given : List Answer). settles i l (Did (act_of job given [] line now)) ≡ false) (sym e)
         (subst (λ (r : Result Request Refusal). tells_log i [] || reads_log i (l.shut job.conn) r [] ≡ false) (sym asks) (is.reads_none i (l.shut job.conn) []))
 
     own : (o : Option ℕ) → OwnIf v o act m old new
@@ -145,7 +145,7 @@ moved v v1 v2 old mid new now job m m1 its line state what laws k b left a idle 
   (record {
     own = λ n own. absurd (let x : None ≡ Some n = sym idle ∙ own in cc);
     to = subst (AllTo job.conn) (sym e) to;
-    told = λ n tells. absurd (let x : false ≡ true = sym (untold n) ∙ subst (λ (as : List Answer). tells_log n as ≡ true) e tells in cc);
+    told = λ n tells. absurd (let x : false ≡ true = sym (untold n) ∙ subst (λ (given : List Answer). tells_log n given ≡ true) e tells in cc);
     read = λ n read. absurd (let x : false ≡ true = sym (reads n (is_dead (m.states job.conn)) answers) ∙ subst (λ (r : Result Request Refusal). reads_log n (is_dead (m.states job.conn)) r answers ≡ true) asks read in cc);
   })
   all
