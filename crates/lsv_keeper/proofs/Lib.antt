@@ -12,3 +12,11 @@ pub mod TailRows
 pub mod TailLoops
 pub mod TailRefusals
 pub mod TailLines
+pub mod Owning
+pub mod AddingLines
+pub mod Asking
+pub mod Telling
+pub mod TailPieces
+pub mod Departing
+pub mod Leaving
+pub mod Drawing

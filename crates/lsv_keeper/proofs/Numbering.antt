@@ -38,7 +38,7 @@ not_below last mine lane lanes passed few e = elim (eq_or mine 0) [
   ]
 ]
 
-last_at : (v : KeeperView) (disk : DiskView) (m : Machine) → Represents v disk m → m.last ≤ last_of v.numbers
+pub last_at : (v : KeeperView) (disk : DiskView) (m : Machine) → Represents v disk m → m.last ≤ last_of v.numbers
 last_at v disk m at =
     let n = at.numbers in
     let next : (if last_of v.numbers == 0 then v.lane + 1 else last_of v.numbers + v.lanes) ≡ next_number (settings_of v) m + n.passed * v.lanes =

@@ -3,11 +3,13 @@
 #![tactic(auto)]
 
 mod dummy;
+mod accept;
 mod events;
 mod keeper;
 mod leave;
 mod logs;
 mod own;
+mod report;
 mod restart;
 mod tail;
 mod told;
