@@ -6,3 +6,4 @@ pub mod Standing
 pub mod TailPieces
 pub mod Departing
 pub mod Leaving
+pub mod Late
