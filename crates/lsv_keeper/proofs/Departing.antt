@@ -37,7 +37,7 @@ use Rattle.lsv_machine.proofs.Choices.{EqOr, EqOr.equal, EqOr.unequal, eq_or}
 use Rattle.lsv_machine.proofs.Leaving.{leaves_sound}
 use Rattle.lsv_keeper.specs.declared.logs.OpenLog.{OpenLog}
 use Rattle.lsv_keeper.specs.declared.logs.OpenLogs.{OpenLogs}
-use Rattle.lsv_keeper.specs.Logs.{open_logs}
+use Rattle.lsv_keeper.specs.Logs.{open_logs, with_open}
 use Rattle.lsv_keeper.specs.Leaving.{Departs, EndsFlush, SameBeside, TakenOut}
 use Rattle.lsv_keeper.specs.Represents.{AllAbove, AllOwned, EventsAre, Free, Held, LogIs, NumbersAre, Represents, Rising, pending_count}
 use Rattle.lsv_keeper.specs.Rows.{AllParts, AllRose, Beside, Closed, ClosedIf, IsPartOf, Left, OwnerRose}
@@ -577,3 +577,24 @@ room_fresh Greeted = omega arith
 room_fresh Alerted = omega arith
 room_fresh (Running log) = omega arith
 room_fresh Dead = omega arith
+
+pub set_states : {T E : Type 0} (result : Result T E) (old new : Table) (k : ConnId) (s : ConnState) → OnOk result (sessions new ≡ record (sessions old) { states = λ j. if same j k then s else (sessions old).states j })
+    → (room_for ((sessions old).states k) s ≤ spare old → IsOk result) → room_for ((sessions old).states k) s ≤ spare old → (sessions new).states ≡ (λ j. if same j k then s else (sessions old).states j)
+set_states result old new k s set enough room_is =
+    ap (λ (x : Sessions). x.states) (on_ok result (sessions new ≡ record (sessions old) { states = λ j. if same j k then s else (sessions old).states j }) set (enough room_is))
+
+-- a log was taken out of the open ones
+pub took_out : (v v' : KeeperView) (n : ℕ) (its : OpenLog) (result : Option OpenLog) → SameBeside v v' → v'.table ≡ v.table → v'.waiting ≡ v.waiting → result ≡ open_logs v.logs n
+    → open_logs v'.logs ≡ with_open n None (open_logs v.logs) → result ≡ Some its → TakenOut n its v v'
+took_out v v' n its result beside table waiting taken rest is = record {
+  beside = beside;
+  table = table;
+  waiting = waiting;
+  logs = λ i. ap (λ (f : ℕ → Option OpenLog). f i) rest;
+  open_one = its;
+  was = sym taken ∙ is;
+  same = refl;
+}
+
+pub keeps_same : (v : KeeperView) → Keeps v v
+keeps_same v = record { lane = refl; lanes = refl; log_exit = refl; kind = refl; texts = refl; room_is = omega arith; owed = omega arith }
