@@ -1,10 +1,10 @@
 -- A connection that writes no log any more: its log is flushed, or failed, and let go.
-use Rattle.std.proofs.Common.{◌≡◌, ◌≢◌, ◌≤◌, ◌<◌, ◌+◌, ◌*◌, ℕ, List, [], ◌∷◌, ◌++◌, length, take, refl, sym, ◌∙◌, ap, subst, inl, inr, arith, Option, Some, None, ◌⊎◌}
+use Rattle.std.proofs.Common.{◌≡◌, ◌≢◌, ◌≤◌, ◌<◌, ◌+◌, ◌*◌, ℕ, List, [], ◌∷◌, length, take, refl, sym, ◌∙◌, ap, subst, inl, inr, arith, Option, Some, None, ◌⊎◌}
 use Rattle.std.specs.Prelude.{◌==◌, Bool, true, false, if◌then◌else◌, Contains, Result, Ok, Err, IfErr, IsErrOf, IsOk, OnOk, ◌↔◌}
 use Rattle.std.proofs.Math.Seq.{take-append_seam, take-length}
 use Rattle.std.proofs.lemmas.List.{length-append}
 use Rattle.std.proofs.lemmas.List.Elements.{Contains-push}
-use Rattle.lsv_disk.specs.Throughout.{Jointly, Throughout}
+use Rattle.lsv_disk.specs.Throughout.{Throughout}
 use Rattle.lsv_disk.specs.View.{DiskView, Elsewhere, HasOwnCause, Image, IsCrashImage}
 use Rattle.lsv_disk.specs.declared.file.FileId.{FileId}
 use Rattle.lsv_disk.specs.declared.file.Owner.{Owner}
@@ -27,8 +27,8 @@ use Rattle.lsv_session.specs.declared.connection.ConnState.{ConnState}
 use Rattle.lsv_session.specs.declared.connection.ConnState.TheVariants.{Fresh, Greeted, Alerted, Running, Dead}
 use Rattle.lsv_session.specs.declared.table.Table.{Table}
 use Rattle.lsv_session.specs.Table.{Sessions, room_for, sessions, spare}
-use Rattle.lsv_machine.specs.Failures.{Closes, LeavesLog, LosesTail}
-use Rattle.lsv_machine.specs.Machine.{IsOfLane, LogState, LogState.There, Machine, is_log, leaves, log_of, same, with_log, without, without_conn, without_log}
+use Rattle.lsv_machine.specs.Failures.{Closes, LeavesLog}
+use Rattle.lsv_machine.specs.Machine.{LogState, LogState.There, Machine, is_log, leaves, log_of, same, with_log, without, without_conn, without_log}
 use Rattle.lsv_machine.specs.Stands.{Sound}
 use Rattle.lsv_machine.specs.Starts.{ReadsAs}
 use Rattle.lsv_machine.specs.Work.{next_number}
@@ -40,10 +40,10 @@ use Rattle.lsv_keeper.specs.declared.logs.OpenLogs.{OpenLogs}
 use Rattle.lsv_keeper.specs.Logs.{open_logs, with_open}
 use Rattle.lsv_keeper.specs.Leaving.{Departs, EndsFlush, SameBeside, TakenOut}
 use Rattle.lsv_keeper.specs.Represents.{AllAbove, AllOwned, EventsAre, Free, Held, LogIs, NumbersAre, Represents, Rising, pending_count}
-use Rattle.lsv_keeper.specs.Rows.{AllParts, AllRose, Beside, Closed, ClosedIf, IsPartOf, Left, OwnerRose}
-use Rattle.lsv_keeper.specs.Value.{KeeperView, Keeps, log_in, owed, room, sessions_of, settings_of}
+use Rattle.lsv_keeper.specs.Rows.{AllRose, Beside, Closed, ClosedIf, IsPartOf, Left, OwnerRose}
+use Rattle.lsv_keeper.specs.Value.{KeeperView, Keeps, log_in, owed, room, settings_of}
 use Rattle.lsv_keeper.proofs.Counting.{only, rose_none, rose_one}
-use Rattle.lsv_keeper.proofs.Frames.{IsApart, Laws, beside_none, log_apart}
+use Rattle.lsv_keeper.proofs.Frames.{Laws, beside_none, log_apart}
 use Rattle.lsv_keeper.proofs.Numbering.{beside_its, numbers_fit}
 use Rattle.lsv_keeper.proofs.Standing.{Changes, ItsLog, events_stay, lane_as, numbers_stay, represents_one}
 
