@@ -3,7 +3,12 @@ pub mod Counting
 pub mod Numbering
 pub mod Acting
 pub mod Standing
-pub mod TailPieces
 pub mod Departing
 pub mod Leaving
+pub mod TailPieces
+pub mod Tailing
+pub mod Losing
+pub mod TailRows
+pub mod TailLoops
+pub mod TailRefusals
 pub mod Late
