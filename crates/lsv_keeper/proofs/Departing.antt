@@ -165,20 +165,28 @@ module _ (v : KeeperView) (old new : DiskView) (m : Machine) (i : ℕ) (k : Conn
   long = let x = held.enough in let e = length-append held.value.stored.records held.value.staged in omega arith
 
   part_of : (image : Image) → IsEither i (Some held.value.stored) (Some (flushed held.value)) image → (part : Stored) × Replays image i (Some part) × IsPartOf (flushed held.value) held.promised part
-  part_of image (inl reads) = (held.value.stored, reads, record {
-    head = refl;
-    left = length held.value.stored.records;
-    records = sym (take-append_seam held.value.stored.records held.value.staged);
-    enough = held.enough;
-    going = held.going;
-  })
-  part_of image (inr reads) = (flushed held.value, reads, record {
-    head = refl;
-    left = length (all_of held.value);
-    records = sym (take-length (all_of held.value));
-    enough = long;
-    going = held.going;
-  })
+  part_of image (inl reads) = (
+    held.value.stored,
+    reads,
+    record {
+      head = refl;
+      left = length held.value.stored.records;
+      records = sym (take-append_seam held.value.stored.records held.value.staged);
+      enough = held.enough;
+      going = held.going;
+    },
+  )
+  part_of image (inr reads) = (
+    flushed held.value,
+    reads,
+    record {
+      head = refl;
+      left = length (all_of held.value);
+      records = sym (take-length (all_of held.value));
+      enough = long;
+      going = held.going;
+    },
+  )
 
   now_is : (image : Image) → IsCrashImage new image → IsEither i (Some held.value.stored) (Some (flushed held.value)) image
   now_is image is = moments.each new.moment image moments.later (omega arith) (laws'.is_now image is)
@@ -215,15 +223,18 @@ module _ (v : KeeperView) (old new : DiskView) (m : Machine) (i : ℕ) (k : Conn
     failed = owners.Log i ∷ [];
     stored = record (flushed held.value) { records = take (length held.value.stored.records) (all_of held.value) };
     promised = held.promised;
-    closes = inr (Contains-push [] (owners.Log i), record {
-      stored = flushed held.value;
-      promised = held.promised;
-      was = held.there;
-      unfinished = held.going;
-      left = length held.value.stored.records;
-      enough = held.enough;
-      now = refl;
-    });
+    closes = inr (
+      Contains-push [] (owners.Log i),
+      record {
+        stored = flushed held.value;
+        promised = held.promised;
+        was = held.there;
+        unfinished = held.going;
+        left = length held.value.stored.records;
+        enough = held.enough;
+        now = refl;
+      },
+    );
     own = λ o c. sym (only (owners.Log i) o c);
     rose = rose_one (owners.Log i) old new rose;
     reads = subst (λ (rs : List Record). Replays new.reads i (Some (record held.value.stored { records = rs }))) (sym front) reads;
@@ -379,10 +390,10 @@ left_some v v' old new m k s i laws laws' at is no_log d open_ones flush = recor
       closed = open_ones i ∙ ap (λ (b : Bool). if b then None else log_in v i) (its_log i);
       reads = subst (λ (x : LogState). ReadsAs (Replays new.reads i) x) (sym log_then) gone.reads;
       enough = λ stored promised e.
-        let f : There gone.stored gone.promised ≡ There stored promised = sym log_then ∙ e in
-        let g : gone.stored ≡ stored = cc in
-        let h : gone.promised ≡ promised = cc in
-        subst (λ (x : Stored). promised ≤ length x.records) g (subst (λ (p : ℕ). p ≤ length gone.stored.records) h gone.enough);
+          let f : There gone.stored gone.promised ≡ There stored promised = sym log_then ∙ e in
+          let g : gone.stored ≡ stored = cc in
+          let h : gone.promised ≡ promised = cc in
+          subst (λ (x : Stored). promised ≤ length x.records) g (subst (λ (p : ℕ). p ≤ length gone.stored.records) h gone.enough);
     }
 
     logs_stay : (n : ℕ) → Some i ≢ Some n → left.logs n ≡ m.logs n

@@ -146,18 +146,21 @@ refused_row v v' now job why m old new laws at alive_is look is l answers tells 
         (inr (record {
           alive = alive_is;
           no_line = refl;
-          how = inr (inl (refl, record {
-            number = number;
-            drawn = may_draw (settings_of v) m;
-            lets_go = inl (why, e);
-            answers = e ∙ ap (λ (d : Done). d.answers) (sym (is number));
-            log = i;
-            writes = writes;
-            did = did;
-            left = x;
-            loses = subst (λ (d : Done). LosesTail (d.machine.logs i) x) (sym (is number)) loses;
-            now = ap (leaves k Dead) now_is ∙ ap (λ (d : Done). with_log i x d.machine) (sym (is number));
-          }));
+          how = inr (inl (
+            refl,
+            record {
+              number = number;
+              drawn = may_draw (settings_of v) m;
+              lets_go = inl (why, e);
+              answers = e ∙ ap (λ (d : Done). d.answers) (sym (is number));
+              log = i;
+              writes = writes;
+              did = did;
+              left = x;
+              loses = subst (λ (d : Done). LosesTail (d.machine.logs i) x) (sym (is number)) loses;
+              now = ap (leaves k Dead) now_is ∙ ap (λ (d : Done). with_log i x d.machine) (sym (is number));
+            },
+          ));
         }))
         rose l.beside l.closed l.represents
 
@@ -215,18 +218,21 @@ farewell_row v v' noting now job m old new laws at alive_is gone l answers e =
         (inr (record {
           alive = alive_is;
           no_line = refl;
-          how = inr (inl (refl, record {
-            number = number;
-            drawn = may_draw (settings_of v) m;
-            lets_go = inr gone;
-            answers = e ∙ ap (λ (d : Done). d.answers) (sym is);
-            log = i;
-            writes = writes;
-            did = did;
-            left = x;
-            loses = subst (λ (d : Done). LosesTail (d.machine.logs i) x) (sym is) loses;
-            now = ap (leaves k Fresh) now_is ∙ ap (λ (d : Done). with_log i x d.machine) (sym is);
-          }));
+          how = inr (inl (
+            refl,
+            record {
+              number = number;
+              drawn = may_draw (settings_of v) m;
+              lets_go = inr gone;
+              answers = e ∙ ap (λ (d : Done). d.answers) (sym is);
+              log = i;
+              writes = writes;
+              did = did;
+              left = x;
+              loses = subst (λ (d : Done). LosesTail (d.machine.logs i) x) (sym is) loses;
+              now = ap (leaves k Fresh) now_is ∙ ap (λ (d : Done). with_log i x d.machine) (sym is);
+            },
+          ));
         }))
         rose l.beside closed l.represents
 

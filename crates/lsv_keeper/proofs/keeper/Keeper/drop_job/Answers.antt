@@ -37,9 +37,9 @@ returns-clause-row g c told m job now at is body dead =
     elim c.match-body.branch [
       | in-Gone w ↦ subst (λ s. RowGives v now job Nothing m (view_of s) old (g.D.Disk.view c.match-body.disk)) (sym w.self-is)
           (subst (λ d. RowGives v now job Nothing m (view_of w.leave.new.self) old (g.D.Disk.view d)) (sym w.disk-is)
-              (forgotten_row v (view_of w.leave.new.self) w.forget.new.conns.items now job m old (g.D.Disk.view w.leave.new.disk) laws dead' (body ∙ w.in-Gone.is)
-                  (subst (λ (k : ConnId). Left k Fresh (record v { noting = w.forget.new.conns.items }) (record m { noting = without_conn k m.noting }) (view_of w.leave.new.self) old (g.D.Disk.view w.leave.new.disk)) (sym is)
-                      (w.leave.ensures.left told mid (forget_represents v old m c.args.conn w.forget.new.conns.items w.forget.ensures at)))))
+          (forgotten_row v (view_of w.leave.new.self) w.forget.new.conns.items now job m old (g.D.Disk.view w.leave.new.disk) laws dead' (body ∙ w.in-Gone.is)
+          (subst (λ (k : ConnId). Left k Fresh (record v { noting = w.forget.new.conns.items }) (record m { noting = without_conn k m.noting }) (view_of w.leave.new.self) old (g.D.Disk.view w.leave.new.disk)) (sym is)
+          (w.leave.ensures.left told mid (forget_represents v old m c.args.conn w.forget.new.conns.items w.forget.ensures at)))))
       | in_default w ↦ subst (λ s. RowGives v now job Nothing m (view_of s) old (g.D.Disk.view c.match-body.disk)) (sym w.self-is)
           (subst (λ d. RowGives v now job Nothing m v old (g.D.Disk.view d)) (sym w.disk-is) (ignored_row v now job m old laws at dead' (λ gone. w.in_default.not-Gone (sym body ∙ gone))))
     ]

@@ -20,7 +20,7 @@ pub returns-in-Some-take-clause-left : goal.returns-in-Some-take-clause-left
 returns-in-Some-take-clause-left g c told m at =
     c.let_go.ensures.left told (view_of c.args.self.now) m
     (took_out (view_of c.args.self.now) _ c.in-Some.log c.in-Some-take.its c.take.result (record { lane = refl; lanes = refl; log_exit = refl; kind = refl; texts = refl; numbers = refl; events = refl; noting = refl }) refl refl
-        c.take.ensures.taken c.take.ensures.rest c.in-Some-take.is)
+    c.take.ensures.taken c.take.ensures.rest c.in-Some-take.is)
     at (ap log_of (at.states c.args.conn ∙ sym c.state.ensures) ∙ sym c.log_of.ensures ∙ c.in-Some.is)
 
 pub returns-in-None-take-clause-keeps : goal.returns-in-None-take-clause-keeps
@@ -45,5 +45,5 @@ returns-in-None-clause-left g c told m at =
     let laws : Laws disk = record { reads_itself = g.met.D.Disk.reads_itself told c.args.disk.now; is_now = g.met.D.Disk.is_now told c.args.disk.now; only_now = g.met.D.Disk.only_now told c.args.disk.now } in
     left_none (view_of c.args.self.now) _ disk m c.args.conn c.args.state laws at (ap log_of (at.states c.args.conn ∙ sym c.state.ensures) ∙ sym c.log_of.ensures ∙ c.in-None.is) c.requires.writes_none
     (set_departs c.set.result (view_of c.args.self.now) _ c.args.conn c.args.state (record { lane = refl; lanes = refl; log_exit = refl; kind = refl; texts = refl; numbers = refl; events = refl; noting = refl }) refl
-        c.set.ensures.ok c.set.ensures.room c.requires.room)
+    c.set.ensures.ok c.set.ensures.room c.requires.room)
     (λ n. refl)

@@ -32,4 +32,4 @@ returns-clause-left g c told before m out at is =
     out_left c.args.log c.args.its before (view_of c.args.self.now) (view_of c.release.new.self) old new m c.args.conn c.args.state laws laws' at is c.requires.writes_none out
     c.release.ensures.departs c.release.ensures.logs
     (λ value represents. ends_flush c.args.its.log after value old new c.flush.result represents c.flush.ensures.counts.number (c.flush.ensures.represents told)
-        (c.flush.ensures.any_moment told value represents) c.flush.ensures.fault c.flush.ensures.broken c.flush.ensures.cause)
+    (c.flush.ensures.any_moment told value represents) c.flush.ensures.fault c.flush.ensures.broken c.flush.ensures.cause)
