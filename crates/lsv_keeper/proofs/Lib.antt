@@ -20,3 +20,4 @@ pub mod TailPieces
 pub mod Departing
 pub mod Leaving
 pub mod Drawing
+pub mod Late
