@@ -33,8 +33,8 @@ not_below : (last mine lane lanes passed : ℕ) → lane < lanes → (if last ==
 not_below last mine lane lanes passed few e = elim (eq_or mine 0) [
   | equal p t ↦ omega arith
   | unequal p t ↦ elim (eq_or last 0) [
-    | equal q u ↦ absurd (let f : lane + 1 ≡ mine + lanes + passed = rw (t, u) e in omega arith)
-    | unequal q u ↦ let f : last + lanes ≡ mine + lanes + passed = rw (t, u) e in omega arith
+    | equal q u ↦ absurd (let f : lane + 1 ≡ mine + lanes + passed = rw (t, u) at e in omega arith)
+    | unequal q u ↦ let f : last + lanes ≡ mine + lanes + passed = rw (t, u) at e in omega arith
   ]
 ]
 

@@ -1,6 +1,7 @@
 -- What a keeper and its disk stand for: the session machine of their lane.
 use Rattle.std.specs.Prelude.{◌≡◌, ◌≤◌, ◌<◌, ◌⊎◌, ◌+◌, ◌*◌, ℕ, true, false, List, [], ◌∷◌, length, Option, Some, None}
 use Rattle.lsv_disk.specs.View.{DiskView}
+use Rattle.lsv_eventlog.specs.Inner.{IsEventLog}
 use Rattle.lsv_eventlog.specs.Recovered.{HoldsLines}
 use Rattle.lsv_eventlog.specs.Value as events
 use Rattle.lsv_eventlog.specs.Value.{EventLogView}
@@ -85,6 +86,7 @@ pub record LinesLost (m : Machine) : Type 0 where
 -- the event log reads as the machine's, and it is open, or it failed
 pub record EventsAre (lane : ℕ) (log : EventLogView) (disk : DiskView) (m : Machine) : Type 0 where
   pub lane_is : log.lane ≡ lane
+  pub sound : IsEventLog log
   pub reads : HoldsLines disk.reads lane m.lines
   pub whole : events.is_broken log ≡ false → LinesAre log disk m
   pub broken : events.is_broken log ≡ true → LinesLost m
