@@ -3,3 +3,4 @@ pub mod Counting
 pub mod Numbering
 pub mod Acting
 pub mod Standing
+pub mod Opens

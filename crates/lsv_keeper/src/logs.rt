@@ -1,12 +1,11 @@
 //! The logs that connections write.
 
-ghost use Rattle.std.specs.Prelude.{◌≡◌, ◌+◌, ◌≤◌, ◌≢◌, ℕ, true, false, Some, None, IfSome, OnOk, OnErr, IfErr, IsOk};
+ghost use Rattle.std.specs.Prelude.{◌≡◌, ◌≤◌, ℕ, false, Some, None, OnOk, IfErr};
 ghost use Rattle.lsv_iolog.specs.Represents.{Represents};
 ghost use Rattle.lsv_iolog.specs.Value.{LogValue, is_complete};
-ghost use Rattle.lsv_iolog.specs.declared.fault.LogFault.{LogFault};
 ghost use Rattle.lsv_record.specs.Records.{IsValid};
-ghost use Rattle.lsv_record.specs.declared.records.Record.{Record};
-ghost use Rattle.lsv_keeper.specs.Logs.{Appends, Flushes, IsAppendFault, RefusesRecord, TakesRecord, open_logs, spare_logs, with_open};
+ghost use Rattle.lsv_keeper.specs.Logs.{Appends, Flushes, RefusesRecord, TakesRecord, open_logs, spare_logs, with_open};
+ghost use Rattle.lsv_keeper.specs.declared.logs.Appended.{Appended};
 ghost use Rattle.lsv_keeper.specs.declared.logs.OpenLog.{OpenLog};
 
 use lsv_base::{LogNo, NoMem, Point};
@@ -83,35 +82,25 @@ impl OpenLogs {
         requires valid { IsValid r }
         ensures { Appends log r result (open_logs self.old) (open_logs self.new) }
     {
-        match self.stage(log, prompt, r) {
+        let Some(its) = self.map.get_mut(&log.get()) else {
+            return Appended::NotOpen;
+        };
+        if its.log.is_complete() {
+            return Appended::NotOpen;
+        }
+        match its.append(prompt, r) {
             Ok(()) => Appended::Staged,
-            Err(None) => Appended::NotOpen,
-            Err(Some(fault)) => match self.take(log) {
-                Some(its) => Appended::Refused(its, fault),
-                None => Appended::NotOpen,
-            },
+            Err(fault) => self.refuse(log, fault),
         }
     }
 
-    /// Covers a record in place, and stages it; else the log's fault, or none where no log is open there that isn't
-    /// complete.
-    fn stage<H: Search>(
-        &mut self,
-        log: LogNo,
-        prompt: &Prompt<H>,
-        r: Record,
-    ) -> Result<(), Option<LogFault>>
-        requires valid { IsValid r }
+    /// Takes out a log that refused a record for this fault.
+    fn refuse(&mut self, log: LogNo, fault: LogFault) -> Appended
+        ensures { (its : OpenLog) → open_logs self.old log ≡ Some its → (result ≡ Appended.Refused its fault) × (open_logs self.new ≡ with_open log None (open_logs self.old)) }
     {
-        let Some(its) = self.map.get_mut(&log.get()) else {
-            return Err(None);
-        };
-        if its.log.is_complete() {
-            return Err(None);
-        }
-        match its.append(prompt, r) {
-            Ok(()) => Ok(()),
-            Err(fault) => Err(Some(fault)),
+        match self.take(log) {
+            Some(its) => Appended::Refused(its, fault),
+            None => Appended::NotOpen,
         }
     }
 
@@ -126,7 +115,7 @@ impl OpenLogs {
         match its.log.flush(disk) {
             Ok(point) => Some(point),
             Err(_) => {
-                let _ = self.map.remove(&log.get());
+                let _ = self.take(log);
                 None
             }
         }
