@@ -3,4 +3,5 @@ pub mod Counting
 pub mod Numbering
 pub mod Acting
 pub mod Standing
+pub mod TailPieces
 pub mod Opens

@@ -7,3 +7,4 @@ pub mod Replies
 pub mod Resuming
 pub mod Rows
 pub mod Tails
+pub mod Leaving

@@ -4,13 +4,16 @@ use Rattle.lsv_base.specs.declared.time.TimeSpec.{TimeSpec}
 use Rattle.lsv_disk.specs.View.{DiskView}
 use Rattle.lsv_disk.specs.declared.file.Owner.{Owner}
 use Rattle.lsv_disk.specs.declared.file.Owner.TheVariants as owners
+use Rattle.lsv_session.specs.declared.connection.ConnId.{ConnId}
 use Rattle.lsv_session.specs.declared.job.Job.{Job}
 use Rattle.lsv_session.specs.declared.reply.Reply.{Reply}
 use Rattle.lsv_machine.specs.Answers.{reply_of}
-use Rattle.lsv_machine.specs.Keeping.{Going, TailEnded, Turned}
-use Rattle.lsv_machine.specs.Machine.{Machine}
+use Rattle.lsv_machine.specs.Disks.{LinesRest}
+use Rattle.lsv_machine.specs.Durable.{Reading}
+use Rattle.lsv_machine.specs.Keeping.{Ended, Going, Turned}
+use Rattle.lsv_machine.specs.Machine.{Machine, Settings}
 use Rattle.lsv_machine.specs.Tails.{LinesEnded, LogEnded, LogsEnded, NoneFailed}
-use Rattle.lsv_machine.specs.Turns.{Tail}
+use Rattle.lsv_machine.specs.Turns.{RefusesAll, Tail}
 use Rattle.lsv_keeper.specs.Reading.{reading_of}
 use Rattle.lsv_keeper.specs.Represents.{Represents}
 use Rattle.lsv_keeper.specs.Value.{KeeperView, settings_of}
@@ -18,6 +21,21 @@ use Rattle.lsv_keeper.specs.Value.{KeeperView, settings_of}
 -- the machine where no log waits
 abbrev pub none_waits : Machine → Machine
 none_waits m = record m { waiting = [] }
+
+-- these connections are refused, one after another, where they aren't shut
+pub record Refused (r : Reading) (set : Settings) (conns : List ConnId) (tail : Tail) (m after : Machine) (old new : DiskView) : Type 0 where
+  pub ended : Ended r set tail (λ x y. RefusesAll tail.failed conns tail.answers x y) m after old new
+  pub lines : LinesRest r old new
+  pub text : after.lines ≡ m.lines
+
+-- the same, with what is then told and stood for; of the logs that failed none waits any more
+pub record RefusedGive (conns : List ConnId) (v : KeeperView) (m : Machine) (said said' : List Reply) (v' : KeeperView) (old new : DiskView) : Type 0 where
+  pub tail : Tail
+  pub after : Machine
+  pub told : said' ≡ said ++ map reply_of tail.answers
+  pub refused : Refused (reading_of v.lane v.lanes) (settings_of v) conns tail m after old new
+  pub lost : NoneFailed after.waiting tail.failed
+  pub represents : Represents v' new after
 
 -- the event lines are flushed; of the logs that failed none waits any more
 pub record LinesGive (v : KeeperView) (m : Machine) (said said' : List Reply) (v' : KeeperView) (old new : DiskView) : Type 0 where

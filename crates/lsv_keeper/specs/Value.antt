@@ -1,5 +1,5 @@
 -- A keeper, as contracts see it, and what it is set to.
-use Rattle.std.specs.Prelude.{ℕ, ◌+◌, ◌*◌, ◌≡◌, ◌≤◌, Bool, List, [], length, Option}
+use Rattle.std.specs.Prelude.{ℕ, ◌+◌, ◌*◌, ◌≡◌, ◌≤◌, ◌==◌, if◌then◌else◌, Bool, List, [], length, Option, Some}
 use Rattle.lsv_base.specs.declared.time.TimeSpec.{TimeSpec}
 use Rattle.lsv_event.specs.declared.event.Event.{Event}
 use Rattle.lsv_event.specs.declared.event.Event.TheVariants as event
@@ -11,12 +11,13 @@ use Rattle.lsv_request.specs.declared.request.Request.{Request}
 use Rattle.lsv_request.specs.declared.request.Request.TheVariants as request
 use Rattle.lsv_seq.specs.declared.numbers.Numbers.{Numbers}
 use Rattle.lsv_session.specs.declared.connection.ConnId.{ConnId}
+use Rattle.lsv_session.specs.declared.connection.ConnState.TheVariants.{Running}
 use Rattle.lsv_session.specs.declared.table.Table.{Table}
 use Rattle.lsv_session.specs.Table.{Sessions, sessions, spare}
-use Rattle.lsv_machine.specs.Machine.{Settings}
+use Rattle.lsv_machine.specs.Machine.{Settings, same}
 use Rattle.lsv_keeper.specs.declared.logs.OpenLog.{OpenLog}
 use Rattle.lsv_keeper.specs.declared.logs.OpenLogs.{OpenLogs}
-use Rattle.lsv_keeper.specs.Logs.{open_logs}
+use Rattle.lsv_keeper.specs.Logs.{open_logs, with_open}
 
 -- a keeper of a lane
 pub record KeeperView : Type 0 where
@@ -92,7 +93,35 @@ pub record SameSessions (old new : KeeperView) : Type 0 where
   pub numbers : new.numbers ≡ old.numbers
   pub waiting : new.waiting ≡ old.waiting
 
+-- there may be more room for owners and for open logs, and nothing else is otherwise
+pub record IsReserved (old new : KeeperView) : Type 0 where
+  pub sessions_are : sessions_of new ≡ sessions_of old
+  pub room_is : room new ≡ room old
+  pub logs_are : open_logs new.logs ≡ open_logs old.logs
+  pub others : record new { table = old.table; logs = old.logs } ≡ old
+
+-- a connection writes a log: it runs with it and owns it, and the log is open
+pub record Owns (k : ConnId) (n : ℕ) (its : OpenLog) (old new : KeeperView) : Type 0 where
+  pub sessions_are : sessions_of new ≡ record { states = λ j. if same j k then Running (Some n) else (sessions_of old).states j; owner = λ i. if i == n then Some k else (sessions_of old).owner i }
+  pub logs_are : open_logs new.logs ≡ with_open n (Some its) (open_logs old.logs)
+  pub numbers : new.numbers ≡ old.numbers
+  pub events : new.events ≡ old.events
+  pub waiting : new.waiting ≡ old.waiting
+  pub noting : new.noting ≡ old.noting
+
 -- no turn is under way: no log waits, and nobody had an event line
 pub record IsResting (v : KeeperView) : Type 0 where
   pub none_waits : v.waiting ≡ []
   pub nobody_noted : v.noting ≡ []
+
+-- it is set as before
+pub record SameSet (old new : KeeperView) : Type 0 where
+  pub lane : new.lane ≡ old.lane
+  pub lanes : new.lanes ≡ old.lanes
+  pub log_exit : new.log_exit ≡ old.log_exit
+  pub kind : new.kind ≡ old.kind
+  pub texts : new.texts ≡ old.texts
+
+-- the same where nobody is noted
+abbrev pub un_noted : KeeperView → KeeperView
+un_noted v = record v { noting = [] }

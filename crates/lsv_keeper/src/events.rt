@@ -1,6 +1,6 @@
 //! Event lines.
 
-ghost use Rattle.std.specs.Prelude.{◌≡◌, ◌⊎◌, ◌≤◌, ◌+◌, ℕ, true, false, List, length, IfErr, IfOk, OnOk, OnErr};
+ghost use Rattle.std.specs.Prelude.{◌≡◌, ◌++◌, true, None, IfErr, OnOk, OnErr};
 ghost use Rattle.lsv_event.specs.Events.{IsTimed};
 ghost use Rattle.lsv_event.specs.Lines.{line_of};
 ghost use Rattle.lsv_request.specs.declared.refusal.Refusal.{Refusal};
@@ -9,7 +9,7 @@ ghost use Rattle.lsv_machine.specs.Work.{adds_line, line_fits};
 ghost use Rattle.lsv_keeper.specs.Represents.{Represents};
 ghost use Rattle.lsv_keeper.specs.Views.{view_of};
 ghost use Rattle.lsv_keeper.specs.Rows.{Beside, LineFault};
-ghost use Rattle.lsv_keeper.specs.Value.{Keeps, SameSessions, room};
+ghost use Rattle.lsv_keeper.specs.Value.{Keeps, SameSessions};
 
 use crate::Keeper;
 use lsv_bundle::BundleFault;
@@ -34,7 +34,7 @@ impl<F: LineWriter, H: Search> Keeper<F, H> {
         requires timed { IsTimed event.now }
         ensures keeps { Keeps (view_of self.old) (view_of self.new) }
         ensures same { SameSessions (view_of self.old) (view_of self.new) }
-        ensures none { OnErr result (((view_of self.new).noting ≡ (view_of self.old).noting) × (room (view_of self.new) ≡ room (view_of self.old))) }
+        ensures none { OnErr result ((view_of self.new).noting ≡ (view_of self.old).noting) }
         ensures added { D.tells → OnOk result ((m : Machine) → Represents (view_of self.old) (D.view disk.old) m →
             (line_fits (line_of (view_of self.old).kind event.now) m ≡ true) × Represents (view_of self.new) (D.view disk.new) (adds_line conn (line_of (view_of self.old).kind event.now) m)) }
         ensures refused { D.tells → IfErr result (λ why. (m : Machine) → Represents (view_of self.old) (D.view disk.old) m →
@@ -48,14 +48,19 @@ impl<F: LineWriter, H: Search> Keeper<F, H> {
             return Err(Refusal::OutOfMemory);
         }
         self.stage_line(disk, line.as_slice())?;
-        match note(&mut self.noting, conn) {
-            Ok(()) => Ok(()),
-            Err(_) => Err(Refusal::OutOfMemory),
-        }
+        let _ = note(&mut self.noting, conn);
+        Ok(())
     }
 
     /// Adds a line to the event log, which is opened again where it failed.
-    fn stage_line<D: Disk>(&mut self, disk: &mut D, line: &[u8]) -> Result<(), Refusal> {
+    fn stage_line<D: Disk>(&mut self, disk: &mut D, line: &[u8]) -> Result<(), Refusal>
+        ensures same { view_of self.new ≡ record (view_of self.old) { events = (view_of self.new).events } }
+        ensures added { D.tells → OnOk result ((m : Machine) → Represents (view_of self.old) (D.view disk.old) m →
+            (line_fits line.now m ≡ true) × Represents (view_of self.new) (D.view disk.new) (record m { fresh = m.fresh ++ line.now })) }
+        ensures refused { D.tells → IfErr result (λ why. (m : Machine) → Represents (view_of self.old) (D.view disk.old) m →
+            LineFault (view_of self.old).lane line.now m why (D.view disk.old) (D.view disk.new) × Represents (view_of self.new) (D.view disk.new) m) }
+        ensures beside { D.tells → (m : Machine) → Represents (view_of self.old) (D.view disk.old) m → Beside (view_of self.old).lane (view_of self.old).lanes None (D.view disk.old) (D.view disk.new) }
+    {
         match self.events.add(line) {
             Ok(()) => return Ok(()),
             Err(BundleFault::Broken) => {}

@@ -6,7 +6,9 @@ mod events;
 mod keeper;
 mod leave;
 mod logs;
+mod own;
 mod restart;
+mod tail;
 mod told;
 
 pub use keeper::Keeper;

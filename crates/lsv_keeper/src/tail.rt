@@ -1,16 +1,16 @@
 //! The end of a turn: its event lines, and its commit points.
 
-ghost use Rattle.std.specs.Prelude.{◌≡◌, ◌≤◌, ◌+◌, ◌*◌, ℕ, [], length, Some};
+ghost use Rattle.std.specs.Prelude.{◌≡◌, ◌≤◌, ◌+◌, ◌*◌, ℕ, [], ◌∷◌, length, Some};
 ghost use Rattle.lsv_session.specs.declared.connection.ConnId.{ConnId};
 ghost use Rattle.lsv_machine.specs.Machine.{Machine};
 ghost use Rattle.lsv_keeper.specs.Replies.{room_in};
 ghost use Rattle.lsv_keeper.specs.Represents.{Represents};
-ghost use Rattle.lsv_keeper.specs.Tails.{LineGives, LinesGive, LogGives, LogsGive, none_waits};
-ghost use Rattle.lsv_keeper.specs.Value.{Keeps, room, sessions_of};
+ghost use Rattle.lsv_keeper.specs.Tails.{LinesGive, LogGives, LogsGive, RefusedGive, none_waits};
+ghost use Rattle.lsv_keeper.specs.Value.{SameSet, room, un_noted};
 ghost use Rattle.lsv_keeper.specs.Views.{view_of};
 
 use crate::Keeper;
-use crate::told::{Told, put_replies};
+use crate::told::{Told, put_point, put_replies};
 use lsv_base::LogNo;
 use lsv_bundle::BundleFault;
 use lsv_disk::Disk;
@@ -27,7 +27,7 @@ impl<F: LineWriter, H: Search> Keeper<F, H> {
         requires stands { D.tells → (m : Machine) × Represents (view_of self.old) (D.view disk.old) m }
         requires places { length (view_of self.old).noting ≤ room (view_of self.old) }
         requires replies { 2 * length (view_of self.old).noting ≤ room_in out.old }
-        ensures keeps { Keeps (view_of self.old) (view_of self.new) }
+        ensures set { SameSet (view_of self.old) (view_of self.new) }
         ensures none { (view_of self.new).noting ≡ [] }
         ensures fewer { length (view_of self.new).waiting ≤ length (view_of self.old).waiting }
         ensures room { room_in out.old ≤ room_in out.new + 2 * length (view_of self.old).noting }
@@ -41,7 +41,17 @@ impl<F: LineWriter, H: Search> Keeper<F, H> {
     }
 
     /// Each connection that had an event line and isn't shut is refused.
-    fn lose_lines<D: Disk>(&mut self, disk: &mut D, out: &mut Vec<Reply>) {
+    fn lose_lines<D: Disk>(&mut self, disk: &mut D, out: &mut Vec<Reply>)
+        requires stands { D.tells → (m : Machine) × Represents (un_noted (view_of self.old)) (D.view disk.old) m }
+        requires places { length (view_of self.old).noting ≤ room (view_of self.old) }
+        requires replies { 2 * length (view_of self.old).noting ≤ room_in out.old }
+        ensures set { SameSet (view_of self.old) (view_of self.new) }
+        ensures none { (view_of self.new).noting ≡ [] }
+        ensures fewer { length (view_of self.new).waiting ≤ length (view_of self.old).waiting }
+        ensures room { room_in out.old ≤ room_in out.new + 2 * length (view_of self.old).noting }
+        ensures refused { D.tells → (m : Machine) → Represents (un_noted (view_of self.old)) (D.view disk.old) m
+            → RefusedGive (view_of self.old).noting (view_of self.old) m out.old.items out.new.items (view_of self.new) (D.view disk.old) (D.view disk.new) }
+    {
         let noting = mem::replace(&mut self.noting, Vec::new(self.alloc));
         for conn in noting {
             self.lose_line(disk, conn, out);
@@ -49,7 +59,18 @@ impl<F: LineWriter, H: Search> Keeper<F, H> {
     }
 
     /// A connection whose line was lost is refused, where it isn't shut.
-    fn lose_line<D: Disk>(&mut self, disk: &mut D, conn: ConnId, out: &mut Vec<Reply>) {
+    fn lose_line<D: Disk>(&mut self, disk: &mut D, conn: ConnId, out: &mut Vec<Reply>)
+        requires stands { D.tells → (m : Machine) × Represents (view_of self.old) (D.view disk.old) m }
+        requires places { 1 ≤ room (view_of self.old) }
+        requires replies { 2 ≤ room_in out.old }
+        ensures set { SameSet (view_of self.old) (view_of self.new) }
+        ensures noting { (view_of self.new).noting ≡ (view_of self.old).noting }
+        ensures places { room (view_of self.old) ≤ room (view_of self.new) + 1 }
+        ensures fewer { length (view_of self.new).waiting ≤ length (view_of self.old).waiting }
+        ensures room { room_in out.old ≤ room_in out.new + 2 }
+        ensures refused { D.tells → (m : Machine) → Represents (view_of self.old) (D.view disk.old) m
+            → RefusedGive (conn ∷ []) (view_of self.old) m out.old.items out.new.items (view_of self.new) (D.view disk.old) (D.view disk.new) }
+    {
         if self.table.state(conn) == ConnState::Dead {
             return;
         }
@@ -61,7 +82,7 @@ impl<F: LineWriter, H: Search> Keeper<F, H> {
     pub(crate) fn flush_logs<D: Disk>(&mut self, disk: &mut D, out: &mut Vec<Reply>)
         requires stands { D.tells → (m : Machine) × Represents (view_of self.old) (D.view disk.old) m }
         requires replies { 2 * length (view_of self.old).waiting ≤ room_in out.old }
-        ensures keeps { Keeps (view_of self.old) (view_of self.new) }
+        ensures set { SameSet (view_of self.old) (view_of self.new) }
         ensures none { (view_of self.new).waiting ≡ [] }
         ensures noting { (view_of self.new).noting ≡ (view_of self.old).noting }
         ensures logs { D.tells → (m : Machine) → Represents (view_of self.old) (D.view disk.old) m
@@ -77,7 +98,7 @@ impl<F: LineWriter, H: Search> Keeper<F, H> {
     fn flush_log<D: Disk>(&mut self, disk: &mut D, number: LogNo, out: &mut Vec<Reply>)
         requires stands { D.tells → (m : Machine) × Represents (view_of self.old) (D.view disk.old) m }
         requires replies { 2 ≤ room_in out.old }
-        ensures keeps { Keeps (view_of self.old) (view_of self.new) }
+        ensures set { SameSet (view_of self.old) (view_of self.new) }
         ensures waiting { (view_of self.new).waiting ≡ (view_of self.old).waiting }
         ensures noting { (view_of self.new).noting ≡ (view_of self.old).noting }
         ensures room { room_in out.old ≤ room_in out.new + 2 }
@@ -88,7 +109,7 @@ impl<F: LineWriter, H: Search> Keeper<F, H> {
             return;
         };
         match self.logs.flush(disk, number) {
-            Some(point) => put_replies(self.alloc, out, conn, Told::Committed(point)),
+            Some(point) => put_point(out, conn, point),
             None => {
                 self.table.release_log(number);
                 let _ = self.table.set(conn, ConnState::Dead);

@@ -30,9 +30,10 @@ pub fn remove(numbers: &mut Vec<LogNo>, number: LogNo)
     numbers.retain(|other| number.get() != other.get());
 }
 
-/// Puts a connection at the end of others, once.
+/// Puts a connection at the end of others, once. It takes no memory where there is room for one more.
 pub fn note(conns: &mut Vec<ConnId>, conn: ConnId) -> Result<(), NoMem>
-    ensures { OnOk result (conns.new.items ≡ note conn conns.old.items) }
+    ensures noted { OnOk result (conns.new.items ≡ note conn conns.old.items) }
+    ensures room { vec_len conns.old < vec_capacity conns.old → IsOk result }
 {
     for other in conns.iter() {
         if same(*other, conn) {
