@@ -5,3 +5,7 @@ pub mod Acting
 pub mod Standing
 pub mod TailPieces
 pub mod Opens
+pub mod Masking
+pub mod Sizes
+pub mod Recording
+pub mod Requests

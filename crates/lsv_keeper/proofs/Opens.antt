@@ -1,6 +1,6 @@
 -- Open logs, number by number.
 use Rattle.std.proofs.Common.{◌≡◌, ℕ, Bool, ◌==◌, cond, nat_eq, Option, Some, None, refl, sym, ap, ◌∙◌, subst, inl, inr, ◌⊎◌}
-use Rattle.std.specs.Prelude.{◌≤◌, ◌+◌, ◌^◌, ◌<◌, true, false}
+use Rattle.std.specs.Prelude.{◌≤◌, ◌+◌, ◌^◌, ◌<◌, true, false, is_err, Result, Ok, Err, IfErr, IsErrOf, IsOk, OnOk}
 use Rattle.std.proofs.lemmas.Cmp.{nat_eq_equiv}
 use Rattle.lsv_disk.specs.declared.file.Part.{Part}
 use Rattle.lsv_iolog.specs.Room.{IsFullOf}
@@ -47,3 +47,16 @@ append_fault log r fault (inr (inr (inl (part, e)))) long time broken full = sub
   | inr short ↦ (short, full part e)
 ])
 append_fault log r fault (inr (inr (inr e))) long time broken full = subst (IsAppendFault log r) (sym e) tt
+
+-- ---- What calls gave
+
+-- what holds at Ok, where a call succeeded
+pub given_ok : {A E : Type 0} (r : Result A E) (P : Type 0) → IsOk r → OnOk r P → P
+given_ok (Ok a) P ok p = p
+given_ok (Err e) P ok p = absurd (cc)
+
+-- why a flush failed
+pub flush_cause : {A : Type 0} (r : Result A LogFault) (P : Type 0) → IfErr r (λ e. (e ≡ faults.Disk) ⊎ (e ≡ faults.Broken)) → (IsErrOf r faults.Disk → P) → (IsErrOf r faults.Broken → ⊥) → is_err r ≡ true → P
+flush_cause (Ok a) P fault disk broken err = absurd (cc)
+flush_cause (Err e) P (inl is) disk broken err = disk (ap Err is)
+flush_cause (Err e) P (inr is) disk broken err = absurd (broken (ap Err is))

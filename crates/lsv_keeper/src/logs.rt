@@ -4,7 +4,7 @@ ghost use Rattle.std.specs.Prelude.{◌≡◌, ◌≤◌, ℕ, false, Some, None
 ghost use Rattle.lsv_iolog.specs.Represents.{Represents};
 ghost use Rattle.lsv_iolog.specs.Value.{LogValue, is_complete};
 ghost use Rattle.lsv_record.specs.Records.{IsValid};
-ghost use Rattle.lsv_keeper.specs.Logs.{Appends, Flushes, RefusesRecord, TakesRecord, open_logs, spare_logs, with_open};
+ghost use Rattle.lsv_keeper.specs.Logs.{Appends, Flushes, RefusesRecord, TakesRecord, log_refusal, open_logs, spare_logs, with_open};
 ghost use Rattle.lsv_keeper.specs.declared.logs.Appended.{Appended};
 ghost use Rattle.lsv_keeper.specs.declared.logs.OpenLog.{OpenLog};
 
@@ -13,6 +13,7 @@ use lsv_disk::Disk;
 use lsv_iolog::{IoLog, LogFault};
 use lsv_mask::{Mask, Prompt, Search};
 use lsv_record::Record;
+use lsv_request::Refusal;
 use std::alloc::{AllocError, Global};
 use std::collections::HashMap;
 
@@ -38,6 +39,17 @@ pub enum Appended {
 #[derive(Drop)]
 pub struct OpenLogs {
     map: HashMap<u32, OpenLog>,
+}
+
+/// How a connection is refused for a fault of its log.
+pub(crate) fn log_refusal(fault: LogFault) -> Refusal
+    ensures { result ≡ log_refusal fault }
+{
+    match fault {
+        LogFault::TooLong(_) | LogFault::Full(_) => Refusal::LogFull,
+        LogFault::NoMem => Refusal::OutOfMemory,
+        _ => Refusal::DeviceFault,
+    }
 }
 
 impl OpenLogs {
@@ -133,7 +145,9 @@ impl OpenLog {
     {
         let mut r = r;
         self.mask.cover(prompt, &mut r);
-        self.log.append(&r)?;
-        Ok(())
+        match self.log.append(&r) {
+            Ok(_) => Ok(()),
+            Err(fault) => Err(fault),
+        }
     }
 }
