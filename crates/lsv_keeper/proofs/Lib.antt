@@ -9,3 +9,6 @@ pub mod Masking
 pub mod Sizes
 pub mod Recording
 pub mod Requests
+pub mod Refusing
+pub mod Departing
+pub mod Leaving

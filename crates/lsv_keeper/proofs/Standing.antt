@@ -109,7 +109,7 @@ pub its_or : (i : Option ℕ) (n : ℕ) → (i ≡ Some n) ⊎ (i ≢ Some n)
 its_or None n = inr (λ e. cc)
 its_or (Some i) n = elim (eq_or i n) [ equal p t ↦ inl (ap Some p) | unequal p t ↦ inr (λ e. p (let f : i ≡ n = cc in f)) ]
 
-lane_as : (a b a' b' n : ℕ) → a' ≡ a → b' ≡ b → IsOfLane a' b' n → IsOfLane a b n
+pub lane_as : (a b a' b' n : ℕ) → a' ≡ a → b' ≡ b → IsOfLane a' b' n → IsOfLane a b n
 lane_as a b a' b' n e f is = subst (λ x. IsOfLane x b n) e (subst (λ x. IsOfLane a' x n) f is)
 
 -- soundness asks of the settings the lanes alone

@@ -7,6 +7,7 @@ mod keeper;
 mod leave;
 mod logs;
 mod own;
+mod record;
 mod restart;
 mod tail;
 mod told;
