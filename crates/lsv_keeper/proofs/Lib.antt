@@ -10,5 +10,7 @@ pub mod Sizes
 pub mod Recording
 pub mod Requests
 pub mod Refusing
+pub mod ExitSteps
+pub mod ExitRows
 pub mod Departing
 pub mod Leaving

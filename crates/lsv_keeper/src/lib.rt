@@ -3,6 +3,7 @@
 #![tactic(auto)]
 
 mod events;
+mod exit;
 mod keeper;
 mod leave;
 mod logs;
