@@ -1,5 +1,5 @@
 -- Rows of exits: what the log's files hold at each moment, and what the keeper and its disk then stand for.
-use Rattle.std.proofs.Common.{◌≡◌, ◌≢◌, ◌≤◌, ◌<◌, ◌+◌, ◌*◌, ℕ, List, [], ◌∷◌, ◌++◌, length, take, map, refl, sym, ◌∙◌, ap, subst, inl, inr, arith, Option, Some, None, ◌⊎◌, length-append}
+use Rattle.std.proofs.Common.{◌≡◌, ◌≢◌, ◌≤◌, ◌<◌, ◌+◌, ◌*◌, ◌^◌, ℕ, List, [], ◌∷◌, ◌++◌, length, take, map, refl, sym, ◌∙◌, ap, subst, inl, inr, arith, Option, Some, None, ◌⊎◌, length-append}
 use Rattle.std.specs.Prelude.{◌==◌, ◌||◌, Bool, true, false, if◌then◌else◌, nat_le, Contains, Result, Ok, Err}
 use Rattle.std.proofs.lemmas.List.{take_at}
 use Rattle.std.proofs.lemmas.List.Elements.{Contains-push}
@@ -41,7 +41,7 @@ use Rattle.lsv_machine.proofs.Changing.{NotAbove, log_sound, owned_not_above}
 use Rattle.lsv_machine.proofs.Fits.{writes_its}
 use Rattle.lsv_machine.proofs.RecordLemmas.{prefix_all}
 use Rattle.lsv_keeper.specs.Exits.{LineAdded, LineRefused}
-use Rattle.lsv_keeper.specs.Leaving.{Departs, SameBeside}
+use Rattle.lsv_keeper.specs.Leaving.{Departs}
 use Rattle.lsv_keeper.specs.Reading.{reading_of}
 use Rattle.lsv_keeper.specs.Represents.{Free, Held, LogIs, Represents}
 use Rattle.lsv_keeper.specs.Rows.{AllRose, Beside, IsPartOf, LineFault, OwnerRose, RowGives, RowIs, Tells}
@@ -290,6 +290,13 @@ own_on v (Some n) act m a b c laws keeps beside = keeps_before v n act m a b c k
 exit_reads : (n : ℕ) (shut : Bool) (what : Result Request Refusal) (exit : Exit) (answers : List Answer) → what ≡ Ok (request.Exit exit) → reads_log n shut what answers ≡ true → ⊥
 exit_reads n shut what exit answers e reads = let f : reads_log n shut (Ok (request.Exit exit)) answers ≡ true = subst (λ (w : Result Request Refusal). reads_log n shut w answers ≡ true) e reads in cc
 
+-- it is set as before
+pub record SetAlike (old new : KeeperView) : Type 0 where
+  pub lane : new.lane ≡ old.lane
+  pub lanes : new.lanes ≡ old.lanes
+  pub log_exit : new.log_exit ≡ old.log_exit
+  pub kind : new.kind ≡ old.kind
+
 -- what is told of an exit that goes well
 pub record SaysEnd (k : ConnId) (said : List Answer) : Type 0 where
   pub to : AllTo k said
@@ -302,7 +309,7 @@ pub says_told : (k : ConnId) (point : ℕ) → SaysEnd k (told_end k point)
 says_told k point = record { to = (refl, (refl, tt)); no_log = λ n. refl }
 
 module _ (v w w' : KeeperView) (now : TimeSpec) (job : Job) (exit : Exit) (said : List Answer) (whole left m : Machine) (one two three : DiskView) (laws : Laws one) (laws' : Laws two)
-    (request_is : request_in job.body ≡ Ok (request.Exit exit)) (x : Exits v now job exit said whole left m) (same : SameBeside v w)
+    (request_is : request_in job.body ≡ Ok (request.Exit exit)) (x : Exits v now job exit said whole left m) (same : SetAlike v w)
     (first : Beside v.lane v.lanes (log_of (m.states job.conn)) one two) (second : Beside w.lane w.lanes None two three) where
   lane_second : Beside v.lane v.lanes None two three
   lane_second = subst (λ (y : ℕ). Beside y v.lanes None two three) same.lane (subst (λ (y : ℕ). Beside w.lane y None two three) same.lanes second)
@@ -315,8 +322,8 @@ module _ (v w w' : KeeperView) (now : TimeSpec) (job : Job) (exit : Exit) (said 
 
   fits_then : (b : Bool) (line : List ℕ) (y : Machine) → line ≡ line_of_exit v now job exit m → y.lines ≡ m.lines → y.fresh ≡ m.fresh → line_fits line y ≡ b → line_fits (line_of_exit v now job exit m) m ≡ b
   fits_then b line y e lines fresh fits =
-      ap (λ (t : List ℕ). line_fits t m) (sym e) ∙ ap (λ (t : List ℕ). nat_le (length t + length m.fresh + length line) (1099511627776)) (sym lines)
-      ∙ ap (λ (t : List ℕ). nat_le (length y.lines + length t + length line) (1099511627776)) (sym fresh) ∙ fits
+      ap (λ (t : List ℕ). line_fits t m) (sym e) ∙ ap (λ (t : List ℕ). nat_le (length t + length m.fresh + length line) (2 ^ 40)) (sym lines)
+      ∙ ap (λ (t : List ℕ). nat_le (length y.lines + length t + length line) (2 ^ 40)) (sym fresh) ∙ fits
 
   -- its line was added, or exits have none
   pub row_told : SaysEnd job.conn said → ((line : List ℕ) → OwnIf v (log_of (m.states job.conn)) (lined_act job now said line) m one two)

@@ -12,5 +12,6 @@ pub mod Requests
 pub mod Refusing
 pub mod ExitSteps
 pub mod ExitRows
+pub mod ExitEnds
 pub mod Departing
 pub mod Leaving

@@ -9,6 +9,7 @@ use Rattle.lsv_bundle.specs.declared.body.Body.{Body}
 use Rattle.lsv_bundle.specs.declared.shape.Shape.{Shape}
 use Rattle.lsv_bundle.specs.declared.shape.Shape.TheVariants as shapes
 use Rattle.lsv_bundle.specs.Body.{length_of}
+use Rattle.lsv_bundle.specs.Calls.{IsFull}
 use Rattle.lsv_bundle.specs.Committed.{Committed, HoldsEntry, committed}
 use Rattle.lsv_bundle.specs.Shape.{IsPart}
 use Rattle.lsv_bundle.specs.Value.{BundleView, committed_length, next_length, staged}
@@ -31,7 +32,7 @@ use Rattle.lsv_record.specs.declared.records.Shaped.{Shaped}
 use Rattle.lsv_record.specs.declared.records.Stream.{Stream}
 use Rattle.lsv_record.specs.declared.records.Stream.TheVariants as stream
 use Rattle.lsv_record.proofs.Layouts.{stream_of-append, stream_of-push, timing_of-append, timing_of-push}
-use Rattle.lsv_machine.specs.Work.{files_take, stream_takes, takes}
+use Rattle.lsv_machine.specs.Work.{files_take, fits_file, stream_takes, takes}
 use Rattle.lsv_machine.proofs.Choices.{EqOr.equal, EqOr.unequal, eq_or}
 use Rattle.lsv_keeper.specs.Logs.{IsAppendFault}
 
@@ -216,3 +217,22 @@ takes_not log value disk r stored (faults.Damaged part) here at e none ample = a
 takes_not log value disk r stored faults.Complete here at e none ample = absurd none
 takes_not log value disk r stored (faults.NoPoint point) here at e none ample = absurd none
 takes_not log value disk r stored faults.Disk here at e none ample = absurd none
+
+-- ---- The text of an exit
+
+exit_empty : (log : IoLogView) (value : LogValue) (disk : DiskView) → IsCrashImage disk disk.reads → Represents log value disk → value.stored.exit ≡ None → next_length log.bundle Exit ≡ 0
+exit_empty log value disk here at going =
+    let none = subst (λ (o : Option (List ℕ)). HasExit at.entry.body.kind (at.entry.bytes Exit) o) going at.is.exit in
+    let long : committed_length log.bundle Exit ≡ 0 = committed_long log value disk Exit tt here at ∙ ap length none.1 in
+    ap (λ (x : ℕ). x + length (staged log.bundle Exit)) long ∙ ap length at.staged.exit
+
+-- an exit fits where there is room for it in its file, and only there
+pub exit_fits : (log : IoLogView) (value : LogValue) (disk : DiskView) (text : List ℕ) → IsCrashImage disk disk.reads → Represents log value disk → value.stored.exit ≡ None
+    → (IsFull log.bundle Exit (length text) → ⊥) → fits_file text ≡ true
+exit_fits log value disk text here at going room =
+    at_most (length text) (2 ^ 40) (λ more. room (subst (λ (x : ℕ). 2 ^ 40 < x + length text) (sym (exit_empty log value disk here at going)) more))
+
+pub exit_full : (log : IoLogView) (value : LogValue) (disk : DiskView) (text : List ℕ) → IsCrashImage disk disk.reads → Represents log value disk → value.stored.exit ≡ None
+    → IsFull log.bundle Exit (length text) → fits_file text ≡ false
+exit_full log value disk text here at going full =
+    more_than (length text) (2 ^ 40) (subst (λ (x : ℕ). 2 ^ 40 < x + length text) (exit_empty log value disk here at going) full)
