@@ -284,3 +284,24 @@ dropped_row v v' now job m after old new laws dead is beside at' answers e =
           (counts_did act old new beside.monotone (rose_none old new) refl) (silent_concerns m act e dead) beside tt,
       at',
     )
+
+-- a Gone of a dead connection
+pub forgotten_row : (v v' : KeeperView) (noting : List ConnId) (now : TimeSpec) (job : Job) (m : Machine) (old new : DiskView) → Laws old → is_dead (m.states job.conn) ≡ true → job.body ≡ body.Gone
+    → Left job.conn Fresh (record v { noting = noting }) (record m { noting = without_conn job.conn m.noting }) v' old new → RowGives v now job told.Nothing m v' old new
+forgotten_row v v' noting now job m old new laws dead gone l =
+    let mid : Machine = record m { noting = without_conn job.conn m.noting } in
+    let none : log_of (m.states job.conn) ≡ None = dead_none (m.states job.conn) dead in
+    let same : l.left ≡ mid = subst (λ (o : Option ℕ). LeavesLog l.failed o None mid l.left) none l.log in
+    let is : silently (leaves job.conn Fresh l.left) ≡ dropped job.conn job.body m =
+    ap (λ (x : Machine). silently (leaves job.conn Fresh x)) same ∙ ap (λ (b : Body). dropped job.conn b m) (sym gone) in
+    dropped_row v v' now job m (leaves job.conn Fresh l.left) old new laws dead is (subst (λ (o : Option ℕ). Beside v.lane v.lanes o old new) none l.beside) l.represents
+
+-- any other job of one
+pub ignored_row : (v : KeeperView) (now : TimeSpec) (job : Job) (m : Machine) (disk : DiskView) → Laws disk → Represents v disk m → is_dead (m.states job.conn) ≡ true → (job.body ≡ body.Gone → ⊥)
+    → RowGives v now job told.Nothing m v disk disk
+ignored_row v now job m disk laws at dead not_gone_is = dropped_row v v now job m m disk disk laws dead (same job.body refl) (beside_none v.lane v.lanes None disk laws (numbers_fit v disk m at)) at
+  where
+    same : (b : Body) → job.body ≡ b → silently m ≡ dropped job.conn job.body m
+    same (body.Msg message) e = ap (λ (x : Body). dropped job.conn x m) (sym e)
+    same (body.Bad fault) e = ap (λ (x : Body). dropped job.conn x m) (sym e)
+    same body.Gone e = absurd (not_gone_is e)

@@ -15,3 +15,4 @@ pub mod ExitRows
 pub mod ExitEnds
 pub mod Departing
 pub mod Leaving
+pub mod Late
