@@ -16,3 +16,4 @@ pub mod ExitEnds
 pub mod Departing
 pub mod Leaving
 pub mod Late
+pub mod Tailing

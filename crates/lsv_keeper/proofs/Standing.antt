@@ -71,9 +71,9 @@ events_stay lane log old new m m' Touched elsewhere apart lines fresh noting is 
   sound = is.sound;
   reads = rw lines (local_text old.reads new.reads lane m.lines (λ file own. elsewhere.same file (apart file (of_lane lane file own))) is.reads);
   whole = λ whole.
-    let its = is.whole whole in
-    let stays = event_logs.log_stays log Touched old new is.sound elsewhere (λ file own. apart file (own ∙ ap owners.Events is.lane_is)) its.represents in
-    record { represents = stays.0; committed = stays.1 ∙ its.committed ∙ sym lines; added = its.added ∙ sym fresh };
+      let its = is.whole whole in
+      let stays = event_logs.log_stays log Touched old new is.sound elsewhere (λ file own. apart file (own ∙ ap owners.Events is.lane_is)) its.represents in
+      record { represents = stays.0; committed = stays.1 ∙ its.committed ∙ sym lines; added = its.added ∙ sym fresh };
   broken = λ broken. record { none_fresh = fresh ∙ (is.broken broken).none_fresh; nobody_noted = noting (is.broken broken).nobody_noted };
 }
 
@@ -143,10 +143,10 @@ represents_one i v v' old new m m' Touched at elsewhere apart c = record {
   ];
   numbers = c.numbers;
   unmade = λ n is above.
-    let is' : IsOfLane v.lane v.lanes n = lane_as v.lane v.lanes v'.lane v'.lanes n c.lane c.lanes is in
-    elim (its_or i n) [
-      | inl e ↦ c.made n e is above
-      | inr other ↦ unmade_stays n Touched old new (apart n other) elsewhere (at.unmade n is' (let x = c.later in omega arith))
-    ];
+      let is' : IsOfLane v.lane v.lanes n = lane_as v.lane v.lanes v'.lane v'.lanes n c.lane c.lanes is in
+      elim (its_or i n) [
+        | inl e ↦ c.made n e is above
+        | inr other ↦ unmade_stays n Touched old new (apart n other) elsewhere (at.unmade n is' (let x = c.later in omega arith))
+      ];
   events = c.events;
 }

@@ -2,6 +2,7 @@
 //! device calls fail and wherever the machine stops.
 #![tactic(auto)]
 
+mod dummy;
 mod events;
 mod exit;
 mod keeper;
