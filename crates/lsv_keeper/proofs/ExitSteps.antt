@@ -207,10 +207,11 @@ pub plain_too_long : (v : KeeperView) (now : TimeSpec) (job : Job) (exit : Exit)
     → AsksFor (m.states job.conn) job.body (request.Exit exit) → log_of (m.states job.conn) ≡ Some n → m.logs n ≡ There stored promised → fits_file (exit_text exit) ≡ false
     → plain (settings_of v) now job i m ≡ refused job.conn refusals.LogFull m
 plain_too_long v now job exit n i promised stored m alive asks own there full =
+    let too_long : finished job.conn n (exit_text exit) (There stored promised) m ≡ refused job.conn refusals.LogFull m = rw full refl in
+    let does : exited job.conn (log_of (m.states job.conn)) (exit_text exit) m ≡ refused job.conn refusals.LogFull m =
+    ap (λ (o : Option ℕ). exited job.conn o (exit_text exit) m) own ∙ ap (λ (x : LogState). finished job.conn n (exit_text exit) x m) there ∙ too_long in
     plain_asked (settings_of v) now job (request.Exit exit) i m alive asks
-    ∙ ap (λ (d : Done). lined (settings_of v) now job.conn (m.states job.conn) (request.Exit exit) i m d)
-    (ap (λ (o : Option ℕ). exited job.conn o (exit_text exit) m) own ∙ ap (λ (x : LogState). finished job.conn n (exit_text exit) x m) there ∙ rw full refl)
-    ∙ refused_anyway (not v.log_exit)
+    ∙ ap (λ (d : Done). lined (settings_of v) now job.conn (m.states job.conn) (request.Exit exit) i m d) does ∙ refused_anyway (not v.log_exit)
   where
     refused_anyway : (b : Bool) → (if b || true then refused job.conn refusals.LogFull m
         else if line_fits (event_line v.kind now job.conn (request.Exit exit) (log_of (m.states job.conn))) m

@@ -1,6 +1,6 @@
 -- A record that its log refuses, or for which memory is wanting.
-use Rattle.std.proofs.Common.{◌≡◌, ◌≢◌, ℕ, List, refl, sym, ◌∙◌, ap, subst, inl, inr, Option, Some, None, ◌⊎◌}
-use Rattle.std.specs.Prelude.{true, false, Ok}
+use Rattle.std.proofs.Common.{◌≡◌, ◌≢◌, ◌≤◌, ◌+◌, ◌*◌, ℕ, List, [], ◌∷◌, length, refl, sym, ◌∙◌, ap, subst, inl, inr, arith, Option, Some, None, ◌⊎◌}
+use Rattle.std.specs.Prelude.{◌==◌, nat_lt, Bool, true, false, if◌then◌else◌, Ok}
 use Rattle.lsv_base.specs.declared.time.TimeSpec.{TimeSpec}
 use Rattle.lsv_disk.specs.View.{DiskView}
 use Rattle.lsv_iolog.specs.Represents as logs
@@ -19,14 +19,17 @@ use Rattle.lsv_session.specs.declared.job.Body.TheVariants as body
 use Rattle.lsv_session.specs.declared.job.Job.{Job}
 use Rattle.lsv_machine.specs.Answers.{Answer, refusal}
 use Rattle.lsv_machine.specs.Failures.{AsksFor, WantsMemory}
-use Rattle.lsv_machine.specs.Machine.{LogState, Machine, is_dead, leaves, log_of}
+use Rattle.lsv_machine.specs.Machine.{LogState, Machine, insert_once, is_dead, leaves, log_of}
 use Rattle.lsv_machine.specs.Work.{plain, refused, takes}
 use Rattle.lsv_machine.proofs.JudgedLemmas.{judged_ok}
-use Rattle.lsv_keeper.specs.Logs.{IsAppendFault, RefusesRecord, log_refusal}
+use Rattle.lsv_keeper.specs.Leaving.{TakenOut}
+use Rattle.lsv_keeper.specs.Logs.{Appends, IsAppendFault, RefusesRecord, log_refusal, open_logs}
 use Rattle.lsv_keeper.specs.Represents.{Held, LogIs, Represents}
 use Rattle.lsv_keeper.specs.Rows.{Left, RowGives}
-use Rattle.lsv_keeper.specs.Value.{KeeperView, log_in, settings_of}
+use Rattle.lsv_keeper.specs.Value.{Keeps, KeeperView, log_in, owed, settings_of}
+use Rattle.lsv_keeper.specs.declared.logs.Appended.TheVariants as appended
 use Rattle.lsv_keeper.specs.declared.logs.OpenLog.{OpenLog}
+use Rattle.lsv_keeper.specs.declared.logs.OpenLogs.{OpenLogs}
 use Rattle.lsv_keeper.specs.declared.told.Told.TheVariants as told
 use Rattle.lsv_keeper.proofs.Acting.{ends_wants}
 use Rattle.lsv_keeper.proofs.Frames.{Laws}
@@ -93,3 +96,47 @@ record_refused v v' now job n r its after fault m old new laws at asks state her
     go faults.Complete e = absurd (why_is faults.Complete e)
     go (faults.NoPoint point) e = absurd (why_is (faults.NoPoint point) e)
     go faults.Disk e = absurd (why_is faults.Disk e)
+
+-- a log that refused a record was taken out
+pub refused_out : (v : KeeperView) (logs' : OpenLogs) (n : ℕ) (r : Record) (left : OpenLog) (fault : LogFault) → Appends n r (appended.Refused left fault) (open_logs v.logs) (open_logs logs')
+    → TakenOut n left v (record v { logs = logs' })
+refused_out v logs' n r left fault (its, here, no_room, is_logs) = record {
+  beside = record { lane = refl; lanes = refl; log_exit = refl; kind = refl; texts = refl; numbers = refl; events = refl; noting = refl };
+  table = refl;
+  waiting = refl;
+  logs = λ i. ap (λ (f : ℕ → Option OpenLog). f i) is_logs;
+  open_one = its;
+  was = here;
+  same = sym no_room.same;
+}
+
+-- ---- What is kept
+
+insert_longer : (n : ℕ) (ns : List ℕ) → length (insert_once n ns) ≤ length ns + 1
+insert_longer n [] = omega arith
+insert_longer n (x ∷ ns) = go (insert_longer n ns) (n == x) refl (nat_lt n x) refl
+  where
+    go : length (insert_once n ns) ≤ length ns + 1 → (b : Bool) → (n == x) ≡ b → (d : Bool) → nat_lt n x ≡ d → length (insert_once n (x ∷ ns)) ≤ length (x ∷ ns) + 1
+    go rest true e d f = rw e (omega arith)
+    go rest false e true f = rw (e, f) (omega arith)
+    go rest false e false f = rw (e, f) (omega arith)
+
+-- one log more waits at most
+pub staged_keeps : (v : KeeperView) (logs' : OpenLogs) (waiting' : List ℕ) (n : ℕ) → waiting' ≡ insert_once n v.waiting → Keeps v (record v { logs = logs'; waiting = waiting' })
+staged_keeps v logs' waiting' n is = record {
+  lane = refl;
+  lanes = refl;
+  log_exit = refl;
+  kind = refl;
+  texts = refl;
+  room_is = omega arith;
+  owed = let x = insert_longer n v.waiting in let e : length waiting' ≡ length (insert_once n v.waiting) = ap length is in omega arith;
+}
+
+-- a keeper of which nothing is otherwise keeps all
+pub keeps_same : (v : KeeperView) (logs' : OpenLogs) → Keeps v (record v { logs = logs' })
+keeps_same v logs' = record { lane = refl; lanes = refl; log_exit = refl; kind = refl; texts = refl; room_is = omega arith; owed = omega arith }
+
+-- the same logs wait
+pub same_waiting : (v : KeeperView) (waiting' : List ℕ) → waiting' ≡ v.waiting → record v { waiting = waiting' } ≡ v
+same_waiting v waiting' e = ap (λ (ns : List ℕ). record v { waiting = ns }) e
