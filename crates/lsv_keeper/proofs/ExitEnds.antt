@@ -83,7 +83,7 @@ pub record EndsLog (log : IoLogView) (text : List ℕ) (old new : DiskView) : Ty
 module _ (v v1 : KeeperView) (d0 d1 : DiskView) (m : Machine) (n : ℕ) (now : TimeSpec) (job : Job) (exit : Exit) (its : OpenLog) (laws : Laws d0) (laws' : Laws d1) (at : Represents v d0 m)
     (asks : AsksFor (m.states job.conn) job.body (request.Exit exit)) (state : log_of (m.states job.conn) ≡ Some n) (here : log_in v n ≡ Some its) (e : EndsLog its.log (exit_text exit) d0 d1)
     (d : Departs (Some n) job.conn Dead v v1) (open_ones : (i : ℕ) → log_in v1 i ≡ (if i == n then None else log_in v i)) where
-  h : Held v d0 m n
+  pub h : Held v d0 m n
   h = subst (LogIs v d0 m n) (at.sound.owned job.conn n state) (at.logs n)
 
   same_its : h.its ≡ its

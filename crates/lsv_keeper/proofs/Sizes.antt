@@ -224,15 +224,18 @@ exit_empty : (log : IoLogView) (value : LogValue) (disk : DiskView) → IsCrashI
 exit_empty log value disk here at going =
     let none = subst (λ (o : Option (List ℕ)). HasExit at.entry.body.kind (at.entry.bytes Exit) o) going at.is.exit in
     let long : committed_length log.bundle Exit ≡ 0 = committed_long log value disk Exit tt here at ∙ ap length none.1 in
-    ap (λ (x : ℕ). x + length (staged log.bundle Exit)) long ∙ ap length at.staged.exit
+    let staged_none : length (staged log.bundle Exit) ≡ 0 = ap length at.staged.exit in
+    omega arith
 
 -- an exit fits where there is room for it in its file, and only there
 pub exit_fits : (log : IoLogView) (value : LogValue) (disk : DiskView) (text : List ℕ) → IsCrashImage disk disk.reads → Represents log value disk → value.stored.exit ≡ None
     → (IsFull log.bundle Exit (length text) → ⊥) → fits_file text ≡ true
 exit_fits log value disk text here at going room =
-    at_most (length text) (2 ^ 40) (λ more. room (subst (λ (x : ℕ). 2 ^ 40 < x + length text) (sym (exit_empty log value disk here at going)) more))
+    let none = exit_empty log value disk here at going in
+    at_most (length text) (2 ^ 40) (λ more. room (omega arith))
 
 pub exit_full : (log : IoLogView) (value : LogValue) (disk : DiskView) (text : List ℕ) → IsCrashImage disk disk.reads → Represents log value disk → value.stored.exit ≡ None
     → IsFull log.bundle Exit (length text) → fits_file text ≡ false
 exit_full log value disk text here at going full =
-    more_than (length text) (2 ^ 40) (subst (λ (x : ℕ). 2 ^ 40 < x + length text) (exit_empty log value disk here at going) full)
+    let none = exit_empty log value disk here at going in
+    more_than (length text) (2 ^ 40) (omega arith)
