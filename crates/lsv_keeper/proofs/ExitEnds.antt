@@ -1,5 +1,5 @@
 -- The ways in which an exit may go, each as its row.
-use Rattle.std.proofs.Common.{◌≡◌, ◌≢◌, ◌≤◌, ℕ, List, [], ◌∷◌, length, refl, sym, ◌∙◌, ap, subst, inl, inr, Option, Some, None, ◌⊎◌, arith, length-append}
+use Rattle.std.proofs.Common.{◌≡◌, ◌≢◌, ◌≤◌, ◌+◌, ℕ, List, [], ◌∷◌, length, refl, sym, ◌∙◌, ap, subst, inl, inr, Option, Some, None, ◌⊎◌, arith, length-append}
 use Rattle.std.specs.Prelude.{◌==◌, true, false, if◌then◌else◌, Ok}
 use Rattle.lsv_base.specs.declared.time.TimeSpec.{TimeSpec}
 use Rattle.lsv_bundle.specs.Calls.{IsFull}
@@ -19,6 +19,9 @@ use Rattle.lsv_record.specs.declared.records.Record.{Record}
 use Rattle.lsv_request.specs.declared.refusal.Refusal.{Refusal}
 use Rattle.lsv_request.specs.declared.refusal.Refusal.TheVariants as refusals
 use Rattle.lsv_request.specs.declared.request.Request.TheVariants as request
+use Rattle.lsv_session.specs.Table.{spare}
+use Rattle.lsv_session.specs.declared.connection.ConnId.{ConnId}
+use Rattle.lsv_session.specs.declared.connection.ConnState.{ConnState}
 use Rattle.lsv_session.specs.declared.connection.ConnState.TheVariants.{Dead}
 use Rattle.lsv_session.specs.declared.job.Job.{Job}
 use Rattle.lsv_machine.specs.Answers.{Answer, Shut, say}
@@ -28,10 +31,12 @@ use Rattle.lsv_machine.specs.Machine.{LogState.There, Machine, is_dead, leaves, 
 use Rattle.lsv_machine.specs.Work.{fits_file, plain, refused, with_exit}
 use Rattle.lsv_keeper.specs.Exits.{LineAdded, LineRefused}
 use Rattle.lsv_keeper.specs.Leaving.{Departs}
+use Rattle.lsv_keeper.specs.Logs.{open_logs, with_open}
 use Rattle.lsv_keeper.specs.Represents.{Held, LogIs, Represents}
 use Rattle.lsv_keeper.specs.Rows.{Beside, Left, OwnerRose, RowGives, RowIs}
-use Rattle.lsv_keeper.specs.Value.{KeeperView, event_line, log_in, settings_of}
+use Rattle.lsv_keeper.specs.Value.{Keeps, KeeperView, SameSessions, event_line, log_in, owed, room, settings_of}
 use Rattle.lsv_keeper.specs.declared.logs.OpenLog.{OpenLog}
+use Rattle.lsv_keeper.specs.declared.logs.OpenLogs.{OpenLogs}
 use Rattle.lsv_keeper.specs.declared.told.Told.TheVariants as told
 use Rattle.lsv_keeper.proofs.Acting.{OwnIf}
 use Rattle.lsv_keeper.proofs.ExitRows.{SetAlike, beside_end, keeps_ended, keeps_told, let_go_as, row_line_refused, row_log_failed, row_told, says_shut, says_told, told_end}
@@ -183,3 +188,38 @@ pub log_wants : (v v' : KeeperView) (old new : DiskView) (m : Machine) (n : ℕ)
     → AsksFor (m.states job.conn) job.body (request.Exit exit) → log_of (m.states job.conn) ≡ Some n → Left job.conn Dead v m v' old new → RowGives v now job (told.Refused refusals.OutOfMemory) m v' old new
 log_wants v v' old new m n now job exit laws at asks state l =
     wanting_row v v' now job m old new laws at (alive_of (m.states job.conn) n state) (asks_stays (m.states job.conn) job.body (request.Exit exit) asks) l
+
+-- ---- What the calls leave
+
+-- a connection that departs from a keeper of which a log was taken out departs from the keeper before
+pub departs_from : (v v1 : KeeperView) (logs' : OpenLogs) (o : Option ℕ) (k : ConnId) (s : ConnState) → Departs o k s (record v { logs = logs' }) v1 → Departs o k s v v1
+departs_from v v1 logs' o k s d = record {
+  beside = record { lane = d.beside.lane; lanes = d.beside.lanes; log_exit = d.beside.log_exit; kind = d.beside.kind; texts = d.beside.texts; numbers = d.beside.numbers; events = d.beside.events; noting = d.beside.noting };
+  states = d.states;
+  owner = d.owner;
+  waiting = d.waiting;
+}
+
+-- the log isn't open any more
+pub closed_ones : (v v1 : KeeperView) (logs' : OpenLogs) (n : ℕ) → v1.logs ≡ logs' → open_logs logs' ≡ with_open n None (open_logs v.logs) → (i : ℕ) → log_in v1 i ≡ (if i == n then None else log_in v i)
+closed_ones v v1 logs' n same is i = ap (λ (x : OpenLogs). open_logs x i) same ∙ ap (λ (f : ℕ → Option OpenLog). f i) is
+
+-- what a keeper keeps of one of which a log was taken out
+pub keeps_from : (v v1 : KeeperView) (logs' : OpenLogs) → Keeps (record v { logs = logs' }) v1 → Keeps v v1
+keeps_from v v1 logs' k = record { lane = k.lane; lanes = k.lanes; log_exit = k.log_exit; kind = k.kind; texts = k.texts; room_is = k.room_is; owed = k.owed }
+
+-- and then a line is added, or not
+pub keeps_line : (a b c : KeeperView) → Keeps a b → owed b ≤ owed a → Keeps b c → SameSessions b c → Keeps a c
+keeps_line a b c k less line same = record {
+  lane = line.lane ∙ k.lane;
+  lanes = line.lanes ∙ k.lanes;
+  log_exit = line.log_exit ∙ k.log_exit;
+  kind = line.kind ∙ k.kind;
+  texts = line.texts ∙ k.texts;
+  room_is = let x = k.room_is in let e : room c ≡ room b = ap spare same.table in omega arith;
+  owed = let x = line.owed in omega arith;
+}
+
+-- a keeper that keeps is set as before
+pub set_by : (v v1 : KeeperView) → Keeps v v1 → SetAlike v v1
+set_by v v1 k = record { lane = k.lane; lanes = k.lanes; log_exit = k.log_exit; kind = k.kind }

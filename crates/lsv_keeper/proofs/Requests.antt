@@ -17,6 +17,11 @@ use Rattle.lsv_request.specs.declared.request.Request.{Request}
 use Rattle.lsv_request.specs.declared.request.Request.TheVariants as request
 use Rattle.lsv_request.proofs.Meanings.{record_sized}
 use Rattle.lsv_session.specs.declared.connection.ConnState.{ConnState}
+use Rattle.lsv_session.specs.declared.connection.ConnState.TheVariants.{Fresh, Greeted, Alerted, Running, Dead}
+use Rattle.lsv_session.specs.declared.job.Body.{Body}
+use Rattle.lsv_session.specs.declared.job.Body.TheVariants as body
+use Rattle.lsv_machine.specs.Failures.{AsksFor}
+use Rattle.lsv_machine.specs.Machine.{is_dead}
 use Rattle.lsv_machine.specs.Judgement.{judged}
 use Rattle.lsv_machine.proofs.JudgedLemmas.{judged_ok}
 use Rattle.lsv_keeper.specs.Logs.{IsWindowFit}
@@ -80,3 +85,29 @@ asked_timed (client.Suspend m) exit e = absurd (never (suspend_of m) (λ r. requ
 -- the time of an exit is valid
 pub exit_timed : (s : ConnState) (m : ClientMessage) (exit : Exit) → judged s m ≡ Ok (request.Exit exit) → IsSome (nanos_of exit.run)
 exit_timed s m exit e = asked_timed m exit (judged_ok s m (request.Exit exit) e).0
+
+-- ---- A connection that asks for something isn't dead
+
+dead_judged : (m : ClientMessage) (what : Request) → judged Dead m ≡ Ok what → ⊥
+dead_judged (client.Hello m) what e = cc
+dead_judged (client.Accept m) what e = cc
+dead_judged (client.Reject m) what e = cc
+dead_judged (client.Alert m) what e = cc
+dead_judged (client.Restart m) what e = cc
+dead_judged (client.Exit m) what e = cc
+dead_judged (client.Ttyin m) what e = cc
+dead_judged (client.Ttyout m) what e = cc
+dead_judged (client.Stdin m) what e = cc
+dead_judged (client.Stdout m) what e = cc
+dead_judged (client.Stderr m) what e = cc
+dead_judged (client.Winsize m) what e = cc
+dead_judged (client.Suspend m) what e = cc
+
+pub asks_alive : (s : ConnState) (b : Body) (what : Request) → AsksFor s b what → is_dead s ≡ false
+asks_alive Fresh b what asks = refl
+asks_alive Greeted b what asks = refl
+asks_alive Alerted b what asks = refl
+asks_alive (Running log) b what asks = refl
+asks_alive Dead (body.Msg message) what asks = absurd (dead_judged message what asks)
+asks_alive Dead (body.Bad fault) what asks = absurd asks
+asks_alive Dead body.Gone what asks = absurd asks

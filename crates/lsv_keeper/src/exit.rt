@@ -1,6 +1,6 @@
 //! Exits.
 
-ghost use Rattle.std.specs.Prelude.{◌≡◌, ◌×◌, ◌≤◌, ℕ, None, Some, Ok, IfErr, IsSome, OnOk, Option};
+ghost use Rattle.std.specs.Prelude.{◌≡◌, ◌≤◌, ℕ, None, Some, Ok, IfErr, IsSome, OnOk, Option};
 ghost use Rattle.lsv_base.specs.Time.{nanos_of};
 ghost use Rattle.lsv_msg.specs.declared.messages.ClientMessage.{ClientMessage};
 ghost use Rattle.lsv_request.specs.declared.request.Request.TheVariants as request;

@@ -2,8 +2,8 @@ use Rattle.std.proofs.Common.{ap, Err}
 use Rattle.lsv_keeper.proofs.Opens.{append_fault}
 use Rattle.lsv_keeper.proofs.logs.OpenLog.append.Goals as goal
 
-pub returns-in-Err-clause-refused : goal.returns-in-Err-clause-refused
-returns-in-Err-clause-refused g c = record {
+pub returns-clause-refused : goal.returns-clause-refused
+returns-clause-refused g c = record {
   going = c.requires.going;
   stored = c.cover.new.r;
   covers = record { covered = c.cover.ensures.covered; behind = c.cover.ensures.stored; shape = c.cover.ensures.shape };
