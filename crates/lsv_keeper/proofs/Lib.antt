@@ -3,6 +3,16 @@ pub mod Counting
 pub mod Numbering
 pub mod Acting
 pub mod Standing
+pub mod TailPieces
+pub mod Opens
+pub mod Masking
+pub mod Sizes
+pub mod Recording
+pub mod Requests
+pub mod Refusing
+pub mod ExitSteps
+pub mod ExitRows
+pub mod ExitEnds
 pub mod Departing
 pub mod Leaving
 pub mod TailPieces
@@ -21,3 +31,4 @@ pub mod Departing
 pub mod Leaving
 pub mod Drawing
 pub mod Late
+pub mod Tailing

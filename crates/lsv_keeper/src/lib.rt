@@ -5,11 +5,13 @@
 mod dummy;
 mod accept;
 mod events;
+mod exit;
 mod keeper;
 mod leave;
 mod logs;
 mod own;
 mod report;
+mod record;
 mod restart;
 mod tail;
 mod told;
