@@ -32,3 +32,11 @@ pub mod Leaving
 pub mod Drawing
 pub mod Late
 pub mod Tailing
+pub mod Masking
+pub mod Seeing
+pub mod Restarting
+pub mod Reopening
+pub mod RestartRows
+pub mod Viewing
+pub mod ResumedRows
+pub mod Looking

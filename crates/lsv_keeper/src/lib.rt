@@ -14,6 +14,7 @@ mod report;
 mod record;
 mod restart;
 mod tail;
+mod resume;
 mod told;
 
 pub use keeper::Keeper;
