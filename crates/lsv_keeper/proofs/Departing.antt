@@ -446,6 +446,12 @@ departs_owed o k s v v' d =
     let f : length v'.noting ≡ length v.noting = ap (λ (ks : List ConnId). length ks) d.beside.noting in
     omega arith
 
+pub departs_fewer : (o : Option ℕ) (k : ConnId) (s : ConnState) (v v' : KeeperView) → Departs o k s v v' → length v'.waiting ≤ length v.waiting
+departs_fewer o k s v v' d =
+    let x = log_shorter o v.waiting in
+    let e : length v'.waiting ≡ length (without_log o v.waiting) = ap (λ (ns : List ℕ). length ns) d.waiting in
+    omega arith
+
 pub departs_keeps : (o : Option ℕ) (k : ConnId) (s : ConnState) (v v' : KeeperView) → Departs o k s v v' → room v ≤ room v' + 1 → Keeps v v'
 departs_keeps o k s v v' d room_is = record {
   lane = d.beside.lane;

@@ -1,4 +1,4 @@
-use Rattle.std.proofs.Common.{◌≡◌, ◌∙◌, ap, refl, subst, sym}
+use Rattle.std.proofs.Common.{◌≡◌, ◌∙◌, subst, sym}
 use Rattle.std.specs.Prelude.{true}
 use Rattle.lsv_disk.specs.View.{DiskView}
 use Rattle.lsv_session.specs.declared.connection.ConnId.{ConnId}

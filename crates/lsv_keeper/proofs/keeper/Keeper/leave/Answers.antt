@@ -1,9 +1,8 @@
-use Rattle.std.proofs.Common.{◌≡◌, ◌∙◌, None, Some, ap, refl, sym}
+use Rattle.std.proofs.Common.{◌≡◌, ◌∙◌, Some, ap, refl, sym}
 use Rattle.lsv_disk.specs.View.{DiskView}
 use Rattle.lsv_machine.specs.Machine.{log_of}
-use Rattle.lsv_keeper.specs.Value.{KeeperView}
 use Rattle.lsv_keeper.specs.Views.{view_of}
-use Rattle.lsv_keeper.proofs.Departing.{departs_keeps, departs_owed, left_none, not_closed, set_departs, set_states, took_out}
+use Rattle.lsv_keeper.proofs.Departing.{departs_fewer, departs_keeps, departs_owed, left_none, not_closed, set_departs, set_states, took_out}
 use Rattle.lsv_keeper.proofs.Frames.{Laws}
 use Rattle.lsv_keeper.proofs.keeper.Keeper.leave.Goals as goal
 
@@ -30,6 +29,12 @@ returns-in-None-take-clause-keeps g c =
 
 pub returns-in-None-take-clause-shrinks : goal.returns-in-None-take-clause-shrinks
 returns-in-None-take-clause-shrinks g c = departs_owed (Some c.in-Some.log) c.args.conn c.args.state _ (view_of c.release.new.self) c.release.ensures.departs
+
+pub returns-in-None-take-clause-noting : goal.returns-in-None-take-clause-noting
+returns-in-None-take-clause-noting g c = c.release.ensures.departs.beside.noting
+
+pub returns-in-None-take-clause-fewer : goal.returns-in-None-take-clause-fewer
+returns-in-None-take-clause-fewer g c = departs_fewer (Some c.in-Some.log) c.args.conn c.args.state _ (view_of c.release.new.self) c.release.ensures.departs
 
 pub returns-in-None-take-clause-left : goal.returns-in-None-take-clause-left
 returns-in-None-take-clause-left g c told m at =
