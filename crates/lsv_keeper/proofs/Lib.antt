@@ -15,7 +15,6 @@ pub mod ExitRows
 pub mod ExitEnds
 pub mod Departing
 pub mod Leaving
-pub mod TailPieces
 pub mod Tailing
 pub mod Losing
 pub mod TailRows
@@ -26,13 +25,8 @@ pub mod Owning
 pub mod AddingLines
 pub mod Asking
 pub mod Telling
-pub mod TailPieces
-pub mod Departing
-pub mod Leaving
 pub mod Drawing
 pub mod Late
-pub mod Tailing
-pub mod Masking
 pub mod Seeing
 pub mod Restarting
 pub mod Reopening
@@ -40,3 +34,5 @@ pub mod RestartRows
 pub mod Viewing
 pub mod ResumedRows
 pub mod Looking
+pub mod Accepting
+pub mod Beginning

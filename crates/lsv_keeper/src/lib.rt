@@ -10,11 +10,13 @@ mod keeper;
 mod leave;
 mod logs;
 mod own;
-mod report;
 mod record;
+mod report;
 mod restart;
-mod tail;
 mod resume;
+mod tail;
 mod told;
+mod turn;
+mod work;
 
 pub use keeper::Keeper;
