@@ -50,6 +50,12 @@ use Rattle.lsv_keeper.proofs.Sizes.{exit_fits, exit_full}
 
 -- ---- A session without a log
 
+-- what it stands for before its line
+pub session_stands : (v v1 : KeeperView) (d0 d1 : DiskView) (m : Machine) (k : ConnId) → log_of (m.states k) ≡ None → Left k Dead v m v1 d0 d1 → Represents v1 d1 (leaves k Dead m)
+session_stands v v1 d0 d1 m k none l =
+    let same : l.left ≡ m = subst (λ (o : Option ℕ). LeavesLog l.failed o None m l.left) none l.log in
+    subst (λ (y : Machine). Represents v1 d1 (leaves k Dead y)) same l.represents
+
 module _ (v v1 v2 : KeeperView) (d0 d1 d2 : DiskView) (m : Machine) (now : TimeSpec) (job : Job) (exit : Exit) (laws : Laws d0) (laws' : Laws d1) (alive : is_dead (m.states job.conn) ≡ false)
     (asks : AsksFor (m.states job.conn) job.body (request.Exit exit)) (none : log_of (m.states job.conn) ≡ None) (l : Left job.conn Dead v m v1 d0 d1) (same : SetAlike v v1) (second : Beside v1.lane v1.lanes None d1 d2) where
   x : Exits v now job exit (say job.conn Shut ∷ []) m m m
@@ -57,14 +63,6 @@ module _ (v v1 v2 : KeeperView) (d0 d1 d2 : DiskView) (m : Machine) (now : TimeS
 
   request_is : request_in job.body ≡ Ok (request.Exit exit)
   request_is = asked_in (m.states job.conn) job.body (request.Exit exit) asks
-
-  -- the log that it hasn't is left alone
-  left_same : l.left ≡ m
-  left_same = subst (λ (o : Option ℕ). LeavesLog l.failed o None m l.left) none l.log
-
-  -- what it stands for before its line
-  pub session_stands : Represents v1 d1 (leaves job.conn Dead m)
-  session_stands = subst (λ (y : Machine). Represents v1 d1 (leaves job.conn Dead y)) left_same l.represents
 
   pub session_told : LineAdded job.conn (event_line v1.kind now job.conn (request.Exit exit) None) (leaves job.conn Dead m) v1 v2 d2 → RowGives v now job told.Shut m v2 d0 d2
   session_told added answers is = subst (λ (said : List Answer). RowIs v now job said m v2 d0 d2) (sym is)
