@@ -1,10 +1,10 @@
 -- A connection that writes no log any more: its log is flushed, or failed, and let go.
-use Rattle.std.proofs.Common.{◌≡◌, ◌≢◌, ◌≤◌, ◌<◌, ◌+◌, ◌*◌, ℕ, List, [], ◌∷◌, ◌++◌, length, take, refl, sym, ◌∙◌, ap, subst, inl, inr, arith, Option, Some, None, ◌⊎◌}
+use Rattle.std.proofs.Common.{◌≡◌, ◌≢◌, ◌≤◌, ◌<◌, ◌+◌, ◌*◌, ℕ, List, [], ◌∷◌, length, take, refl, sym, ◌∙◌, ap, subst, inl, inr, arith, Option, Some, None, ◌⊎◌}
 use Rattle.std.specs.Prelude.{◌==◌, Bool, true, false, if◌then◌else◌, Contains, Result, Ok, Err, IfErr, IsErrOf, IsOk, OnOk, ◌↔◌}
 use Rattle.std.proofs.Math.Seq.{take-append_seam, take-length}
 use Rattle.std.proofs.lemmas.List.{length-append}
 use Rattle.std.proofs.lemmas.List.Elements.{Contains-push}
-use Rattle.lsv_disk.specs.Throughout.{Jointly, Throughout}
+use Rattle.lsv_disk.specs.Throughout.{Throughout}
 use Rattle.lsv_disk.specs.View.{DiskView, Elsewhere, HasOwnCause, Image, IsCrashImage}
 use Rattle.lsv_disk.specs.declared.file.FileId.{FileId}
 use Rattle.lsv_disk.specs.declared.file.Owner.{Owner}
@@ -27,8 +27,8 @@ use Rattle.lsv_session.specs.declared.connection.ConnState.{ConnState}
 use Rattle.lsv_session.specs.declared.connection.ConnState.TheVariants.{Fresh, Greeted, Alerted, Running, Dead}
 use Rattle.lsv_session.specs.declared.table.Table.{Table}
 use Rattle.lsv_session.specs.Table.{Sessions, room_for, sessions, spare}
-use Rattle.lsv_machine.specs.Failures.{Closes, LeavesLog, LosesTail}
-use Rattle.lsv_machine.specs.Machine.{IsOfLane, LogState, LogState.There, Machine, is_log, leaves, log_of, same, with_log, without, without_conn, without_log}
+use Rattle.lsv_machine.specs.Failures.{Closes, LeavesLog}
+use Rattle.lsv_machine.specs.Machine.{LogState, LogState.There, Machine, is_log, leaves, log_of, same, with_log, without, without_conn, without_log}
 use Rattle.lsv_machine.specs.Stands.{Sound}
 use Rattle.lsv_machine.specs.Starts.{ReadsAs}
 use Rattle.lsv_machine.specs.Work.{next_number}
@@ -37,13 +37,13 @@ use Rattle.lsv_machine.proofs.Choices.{EqOr, EqOr.equal, EqOr.unequal, eq_or}
 use Rattle.lsv_machine.proofs.Leaving.{leaves_sound}
 use Rattle.lsv_keeper.specs.declared.logs.OpenLog.{OpenLog}
 use Rattle.lsv_keeper.specs.declared.logs.OpenLogs.{OpenLogs}
-use Rattle.lsv_keeper.specs.Logs.{open_logs}
+use Rattle.lsv_keeper.specs.Logs.{open_logs, with_open}
 use Rattle.lsv_keeper.specs.Leaving.{Departs, EndsFlush, SameBeside, TakenOut}
 use Rattle.lsv_keeper.specs.Represents.{AllAbove, AllOwned, EventsAre, Free, Held, LogIs, NumbersAre, Represents, Rising, pending_count}
-use Rattle.lsv_keeper.specs.Rows.{AllParts, AllRose, Beside, Closed, ClosedIf, IsPartOf, Left, OwnerRose}
-use Rattle.lsv_keeper.specs.Value.{KeeperView, Keeps, log_in, owed, room, sessions_of, settings_of}
+use Rattle.lsv_keeper.specs.Rows.{AllRose, Beside, Closed, ClosedIf, IsPartOf, Left, OwnerRose}
+use Rattle.lsv_keeper.specs.Value.{KeeperView, Keeps, log_in, owed, room, settings_of}
 use Rattle.lsv_keeper.proofs.Counting.{only, rose_none, rose_one}
-use Rattle.lsv_keeper.proofs.Frames.{IsApart, Laws, beside_none, log_apart}
+use Rattle.lsv_keeper.proofs.Frames.{Laws, beside_none, log_apart}
 use Rattle.lsv_keeper.proofs.Numbering.{beside_its, numbers_fit}
 use Rattle.lsv_keeper.proofs.Standing.{Changes, ItsLog, events_stay, lane_as, numbers_stay, represents_one}
 
@@ -165,20 +165,28 @@ module _ (v : KeeperView) (old new : DiskView) (m : Machine) (i : ℕ) (k : Conn
   long = let x = held.enough in let e = length-append held.value.stored.records held.value.staged in omega arith
 
   part_of : (image : Image) → IsEither i (Some held.value.stored) (Some (flushed held.value)) image → (part : Stored) × Replays image i (Some part) × IsPartOf (flushed held.value) held.promised part
-  part_of image (inl reads) = (held.value.stored, reads, record {
-    head = refl;
-    left = length held.value.stored.records;
-    records = sym (take-append_seam held.value.stored.records held.value.staged);
-    enough = held.enough;
-    going = held.going;
-  })
-  part_of image (inr reads) = (flushed held.value, reads, record {
-    head = refl;
-    left = length (all_of held.value);
-    records = sym (take-length (all_of held.value));
-    enough = long;
-    going = held.going;
-  })
+  part_of image (inl reads) = (
+    held.value.stored,
+    reads,
+    record {
+      head = refl;
+      left = length held.value.stored.records;
+      records = sym (take-append_seam held.value.stored.records held.value.staged);
+      enough = held.enough;
+      going = held.going;
+    },
+  )
+  part_of image (inr reads) = (
+    flushed held.value,
+    reads,
+    record {
+      head = refl;
+      left = length (all_of held.value);
+      records = sym (take-length (all_of held.value));
+      enough = long;
+      going = held.going;
+    },
+  )
 
   now_is : (image : Image) → IsCrashImage new image → IsEither i (Some held.value.stored) (Some (flushed held.value)) image
   now_is image is = moments.each new.moment image moments.later (omega arith) (laws'.is_now image is)
@@ -215,15 +223,18 @@ module _ (v : KeeperView) (old new : DiskView) (m : Machine) (i : ℕ) (k : Conn
     failed = owners.Log i ∷ [];
     stored = record (flushed held.value) { records = take (length held.value.stored.records) (all_of held.value) };
     promised = held.promised;
-    closes = inr (Contains-push [] (owners.Log i), record {
-      stored = flushed held.value;
-      promised = held.promised;
-      was = held.there;
-      unfinished = held.going;
-      left = length held.value.stored.records;
-      enough = held.enough;
-      now = refl;
-    });
+    closes = inr (
+      Contains-push [] (owners.Log i),
+      record {
+        stored = flushed held.value;
+        promised = held.promised;
+        was = held.there;
+        unfinished = held.going;
+        left = length held.value.stored.records;
+        enough = held.enough;
+        now = refl;
+      },
+    );
     own = λ o c. sym (only (owners.Log i) o c);
     rose = rose_one (owners.Log i) old new rose;
     reads = subst (λ (rs : List Record). Replays new.reads i (Some (record held.value.stored { records = rs }))) (sym front) reads;
@@ -379,10 +390,10 @@ left_some v v' old new m k s i laws laws' at is no_log d open_ones flush = recor
       closed = open_ones i ∙ ap (λ (b : Bool). if b then None else log_in v i) (its_log i);
       reads = subst (λ (x : LogState). ReadsAs (Replays new.reads i) x) (sym log_then) gone.reads;
       enough = λ stored promised e.
-        let f : There gone.stored gone.promised ≡ There stored promised = sym log_then ∙ e in
-        let g : gone.stored ≡ stored = cc in
-        let h : gone.promised ≡ promised = cc in
-        subst (λ (x : Stored). promised ≤ length x.records) g (subst (λ (p : ℕ). p ≤ length gone.stored.records) h gone.enough);
+          let f : There gone.stored gone.promised ≡ There stored promised = sym log_then ∙ e in
+          let g : gone.stored ≡ stored = cc in
+          let h : gone.promised ≡ promised = cc in
+          subst (λ (x : Stored). promised ≤ length x.records) g (subst (λ (p : ℕ). p ≤ length gone.stored.records) h gone.enough);
     }
 
     logs_stay : (n : ℕ) → Some i ≢ Some n → left.logs n ≡ m.logs n
@@ -433,6 +444,12 @@ departs_owed o k s v v' d =
     let x = log_shorter o v.waiting in
     let e : length v'.waiting ≡ length (without_log o v.waiting) = ap (λ (ns : List ℕ). length ns) d.waiting in
     let f : length v'.noting ≡ length v.noting = ap (λ (ks : List ConnId). length ks) d.beside.noting in
+    omega arith
+
+pub departs_fewer : (o : Option ℕ) (k : ConnId) (s : ConnState) (v v' : KeeperView) → Departs o k s v v' → length v'.waiting ≤ length v.waiting
+departs_fewer o k s v v' d =
+    let x = log_shorter o v.waiting in
+    let e : length v'.waiting ≡ length (without_log o v.waiting) = ap (λ (ns : List ℕ). length ns) d.waiting in
     omega arith
 
 pub departs_keeps : (o : Option ℕ) (k : ConnId) (s : ConnState) (v v' : KeeperView) → Departs o k s v v' → room v ≤ room v' + 1 → Keeps v v'
@@ -577,3 +594,24 @@ room_fresh Greeted = omega arith
 room_fresh Alerted = omega arith
 room_fresh (Running log) = omega arith
 room_fresh Dead = omega arith
+
+pub set_states : {T E : Type 0} (result : Result T E) (old new : Table) (k : ConnId) (s : ConnState) → OnOk result (sessions new ≡ record (sessions old) { states = λ j. if same j k then s else (sessions old).states j })
+    → (room_for ((sessions old).states k) s ≤ spare old → IsOk result) → room_for ((sessions old).states k) s ≤ spare old → (sessions new).states ≡ (λ j. if same j k then s else (sessions old).states j)
+set_states result old new k s set enough room_is =
+    ap (λ (x : Sessions). x.states) (on_ok result (sessions new ≡ record (sessions old) { states = λ j. if same j k then s else (sessions old).states j }) set (enough room_is))
+
+-- a log was taken out of the open ones
+pub took_out : (v v' : KeeperView) (n : ℕ) (its : OpenLog) (result : Option OpenLog) → SameBeside v v' → v'.table ≡ v.table → v'.waiting ≡ v.waiting → result ≡ open_logs v.logs n
+    → open_logs v'.logs ≡ with_open n None (open_logs v.logs) → result ≡ Some its → TakenOut n its v v'
+took_out v v' n its result beside table waiting taken rest is = record {
+  beside = beside;
+  table = table;
+  waiting = waiting;
+  logs = λ i. ap (λ (f : ℕ → Option OpenLog). f i) rest;
+  open_one = its;
+  was = sym taken ∙ is;
+  same = refl;
+}
+
+pub keeps_same : (v : KeeperView) → Keeps v v
+keeps_same v = record { lane = refl; lanes = refl; log_exit = refl; kind = refl; texts = refl; room_is = omega arith; owed = omega arith }

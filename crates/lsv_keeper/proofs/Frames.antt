@@ -1,8 +1,8 @@
 -- What calls of a job leave as it was: the files of other logs, the numbers and the event log.
-use Rattle.std.proofs.Common.{◌≡◌, ◌≢◌, ◌≤◌, ◌<◌, ℕ, List, refl, sym, ◌∙◌, ap, subst, inl, inr, arith, Option, Some, None, ◌⊎◌}
-use Rattle.std.specs.Prelude.{◌==◌, Bool, true, false, if◌then◌else◌}
+use Rattle.std.proofs.Common.{◌≡◌, ◌≢◌, ◌≤◌, ◌<◌, ℕ, List, refl, sym, ◌∙◌, ap, subst, inl, inr, arith, Option, Some, None}
+use Rattle.std.specs.Prelude.{Bool, true, false, if◌then◌else◌}
 use Rattle.lsv_disk.specs.Throughout.{Jointly, OnlyReads, Throughout}
-use Rattle.lsv_disk.specs.View.{DiskView, Elsewhere, Image, IsCrashImage, Only}
+use Rattle.lsv_disk.specs.View.{DiskView, Elsewhere, Image, IsCrashImage}
 use Rattle.lsv_disk.specs.declared.file.FileId.{FileId}
 use Rattle.lsv_disk.specs.declared.file.Owner.{Owner}
 use Rattle.lsv_disk.specs.declared.file.Owner.TheVariants as owners
@@ -12,7 +12,7 @@ use Rattle.lsv_eventlog.specs.Recovered.{HoldsLines, IsOfEventLog}
 use Rattle.lsv_eventlog.proofs.Laws.{local_text, of_lane}
 use Rattle.lsv_iolog.specs.Recovered.{IsOfLog, IsUnmade, SameFiles}
 use Rattle.lsv_iolog.proofs.Replaying.{local_replay}
-use Rattle.lsv_seq.specs.Drawn.{IsNumbersFile, numbers_file}
+use Rattle.lsv_seq.specs.Drawn.{numbers_file}
 use Rattle.lsv_seq.proofs.Images.{entry_local}
 use Rattle.lsv_seq.proofs.Laws.{drawn_alone, numbers_owner}
 use Rattle.lsv_machine.specs.Counts.{same_owner}

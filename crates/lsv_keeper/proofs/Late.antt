@@ -1,5 +1,5 @@
 -- A job that ends its connection after calls about no log: its log rests through these, and then it is let go.
-use Rattle.std.proofs.Common.{◌≡◌, ◌≢◌, ℕ, List, [], refl, sym, ◌∙◌, ap, subst, Option, Some, None, ◌⊎◌}
+use Rattle.std.proofs.Common.{◌≡◌, ℕ, [], refl, subst, Option, Some, None, ◌⊎◌}
 use Rattle.std.specs.Prelude.{false}
 use Rattle.lsv_base.specs.declared.time.TimeSpec.{TimeSpec}
 use Rattle.lsv_disk.specs.Throughout.{Jointly}

@@ -15,5 +15,9 @@ pub mod ExitRows
 pub mod ExitEnds
 pub mod Departing
 pub mod Leaving
-pub mod Late
 pub mod Tailing
+pub mod Losing
+pub mod TailRows
+pub mod TailLoops
+pub mod TailRefusals
+pub mod Late

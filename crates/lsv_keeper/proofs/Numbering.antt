@@ -1,5 +1,5 @@
 -- The numbers of a keeper's disk.
-use Rattle.std.proofs.Common.{◌≡◌, ◌≢◌, ◌≤◌, ◌<◌, ◌+◌, ◌*◌, ℕ, List, refl, sym, ◌∙◌, ap, subst, inl, inr, arith, Option, Some, None, ◌⊎◌}
+use Rattle.std.proofs.Common.{◌≡◌, ◌≤◌, ◌<◌, ◌+◌, ◌*◌, ℕ, sym, ◌∙◌, ap, subst, inl, inr, arith, Some, None}
 use Rattle.std.specs.Prelude.{◌==◌, if◌then◌else◌}
 use Rattle.lsv_disk.specs.Throughout.{OnlyReads, Throughout}
 use Rattle.lsv_disk.specs.View.{DiskView, Image, IsCrashImage}

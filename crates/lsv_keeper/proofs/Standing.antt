@@ -1,6 +1,5 @@
 -- What a keeper and its disk stand for after calls: all that these didn't touch stays.
-use Rattle.std.proofs.Common.{◌≡◌, ◌≢◌, ◌≤◌, ◌<◌, ◌+◌, ◌*◌, ℕ, List, [], ◌∷◌, refl, sym, ◌∙◌, ap, subst, inl, inr, arith, Option, Some, None, ◌⊎◌}
-use Rattle.std.specs.Prelude.{true, false}
+use Rattle.std.proofs.Common.{◌≡◌, ◌≢◌, ◌≤◌, ◌<◌, ℕ, [], sym, ◌∙◌, ap, subst, inl, inr, arith, Option, Some, None, ◌⊎◌}
 use Rattle.lsv_disk.specs.View.{DiskView, Elsewhere, Image}
 use Rattle.lsv_disk.specs.declared.file.FileId.{FileId}
 use Rattle.lsv_disk.specs.declared.file.Owner.TheVariants as owners
@@ -19,7 +18,7 @@ use Rattle.lsv_machine.specs.Stands.{Sound}
 use Rattle.lsv_machine.specs.Starts.{ReadsAs}
 use Rattle.lsv_machine.specs.Work.{next_number}
 use Rattle.lsv_machine.proofs.Choices.{EqOr.equal, EqOr.unequal, eq_or}
-use Rattle.lsv_keeper.specs.Represents.{AllOwned, EventsAre, Held, Free, LogIs, NumbersAre, Represents, Rising}
+use Rattle.lsv_keeper.specs.Represents.{AllOwned, EventsAre, LogIs, NumbersAre, Represents, Rising}
 use Rattle.lsv_keeper.specs.Value.{KeeperView, log_in, sessions_of, settings_of}
 use Rattle.lsv_keeper.proofs.Frames.{IsApart, unmade_stays}
 

@@ -106,7 +106,7 @@ unwritten n j set k m l s own none e = absurd (let a : as_list (m.owner j) ≡ [
 module _ (n : ℕ) (k : ConnId) (v : KeeperView) (m : Machine) (old new : DiskView) (laws : Laws old) (laws' : Laws new) (at : Represents v old (none_waits m)) (own : m.owner n ≡ Some k)
     (h : Held v old (none_waits m) n) (moments : Throughout (IsOfLog h.its.log.number) (IsEither h.its.log.number (Some h.value.stored) (Some (flushed h.value))) old new)
     (monotone : (file : FileId) → old.faults file ≤ new.faults file) where
-  run : Throughout (IsOfLog n) (IsEither n (Some h.value.stored) (Some (flushed h.value))) old new
+  pub run : Throughout (IsOfLog n) (IsEither n (Some h.value.stored) (Some (flushed h.value))) old new
   run = subst (λ i. Throughout (IsOfLog i) (IsEither i (Some h.value.stored) (Some (flushed h.value))) old new) h.number moments
 
   pub beside : Beside v.lane v.lanes (Some n) old new

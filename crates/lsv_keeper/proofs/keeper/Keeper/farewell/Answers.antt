@@ -35,4 +35,4 @@ returns-clause-row g c told m job now at is gone alive =
     farewell_row v (view_of c.leave.new.self) c.forget.new.conns.items now job m old new laws at
     (subst (λ (k : ConnId). is_dead (m.states k) ≡ false) (sym is) alive) gone
     (subst (λ (k : ConnId). Left k Fresh (record v { noting = c.forget.new.conns.items }) (record m { noting = without_conn k m.noting }) (view_of c.leave.new.self) old new) (sym is)
-        (c.leave.ensures.left told mid (forget_represents v old m c.args.conn c.forget.new.conns.items c.forget.ensures at)))
+    (c.leave.ensures.left told mid (forget_represents v old m c.args.conn c.forget.new.conns.items c.forget.ensures at)))

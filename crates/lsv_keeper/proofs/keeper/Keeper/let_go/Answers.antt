@@ -1,10 +1,8 @@
-use Rattle.std.proofs.Common.{◌≡◌, Some}
+use Rattle.std.proofs.Common.{Some}
 use Rattle.lsv_disk.specs.View.{DiskView}
 use Rattle.lsv_iolog.specs.Value.{IoLogView}
-use Rattle.lsv_machine.specs.Machine.{log_of}
-use Rattle.lsv_keeper.specs.Leaving.{Departs}
 use Rattle.lsv_keeper.specs.Views.{view_of}
-use Rattle.lsv_keeper.proofs.Departing.{departs_keeps, departs_owed, ends_flush, out_left, out_value}
+use Rattle.lsv_keeper.proofs.Departing.{departs_fewer, departs_keeps, departs_owed, ends_flush, out_left, out_value}
 use Rattle.lsv_keeper.proofs.Frames.{Laws}
 use Rattle.lsv_keeper.proofs.keeper.Keeper.let_go.Goals as goal
 
@@ -22,6 +20,12 @@ returns-clause-sessions g c = λ t j. c.release.ensures.departs.states j t
 pub returns-clause-shrinks : goal.returns-clause-shrinks
 returns-clause-shrinks g c = departs_owed (Some c.args.log) c.args.conn c.args.state (view_of c.args.self.now) (view_of c.release.new.self) c.release.ensures.departs
 
+pub returns-clause-noting : goal.returns-clause-noting
+returns-clause-noting g c = c.release.ensures.departs.beside.noting
+
+pub returns-clause-fewer : goal.returns-clause-fewer
+returns-clause-fewer g c = departs_fewer (Some c.args.log) c.args.conn c.args.state (view_of c.args.self.now) (view_of c.release.new.self) c.release.ensures.departs
+
 pub returns-clause-left : goal.returns-clause-left
 returns-clause-left g c told before m out at is =
     let old : DiskView = g.D.Disk.view c.args.disk.now in
@@ -32,4 +36,4 @@ returns-clause-left g c told before m out at is =
     out_left c.args.log c.args.its before (view_of c.args.self.now) (view_of c.release.new.self) old new m c.args.conn c.args.state laws laws' at is c.requires.writes_none out
     c.release.ensures.departs c.release.ensures.logs
     (λ value represents. ends_flush c.args.its.log after value old new c.flush.result represents c.flush.ensures.counts.number (c.flush.ensures.represents told)
-        (c.flush.ensures.any_moment told value represents) c.flush.ensures.fault c.flush.ensures.broken c.flush.ensures.cause)
+    (c.flush.ensures.any_moment told value represents) c.flush.ensures.fault c.flush.ensures.broken c.flush.ensures.cause)
