@@ -20,3 +20,13 @@ want_memory-requires g c = record {
       (m, subst (λ (w : KeeperView). Represents w (g.D.Disk.view c.args.disk.now) m) (sym (same_waiting (view_of c.args.self.now) c.reserve.new.self.items c.reserve.ensures.items)) at);
   room = c.requires.room;
 }
+
+pub returns-then-is_err-clause-row : goal.returns-then-is_err-clause-row
+returns-then-is_err-clause-row g c told m job now at is asks =
+    let v : KeeperView = view_of c.args.self.now in
+    let old : DiskView = g.D.Disk.view c.args.disk.now in
+    let new : DiskView = g.D.Disk.view c.want_memory.new.disk in
+    let same = same_waiting v c.reserve.new.self.items c.reserve.ensures.items in
+    subst (λ (w : KeeperView). RowGives w now job c.want_memory.result m (view_of c.want_memory.new.self) old new) same
+    (c.want_memory.ensures.row told m job now (subst (λ (w : KeeperView). Represents w old m) (sym same) at) is
+    (asks_alive (m.states c.args.conn) job.body (request.Record c.args.r) asks) (asks_stays (m.states c.args.conn) job.body (request.Record c.args.r) asks))
