@@ -148,9 +148,9 @@ module _ (v v1 : KeeperView) (d0 d1 : DiskView) (m : Machine) (n : ℕ) (now : T
       (row_told v v1 v2 now job exit (told_end job.conn (elapsed (all_of h.value))) (with_log n (There (with_exit (exit_text exit) (flushed h.value)) (length (all_of h.value))) m)
       (with_log n (There (with_exit (exit_text exit) (flushed h.value)) h.promised) m) m d0 d1 d2 laws laws' log_request log_x set_alike first second (says_told job.conn (elapsed (all_of h.value)))
       (λ line. subst (λ (o : Option ℕ). OwnIf v o (lined_act job now (told_end job.conn (elapsed (all_of h.value))) line) m d0 d1) (sym state)
-        (keeps_told v d0 d1 m n now job exit laws laws' at state log_request h moments (elapsed (all_of h.value)) line (all_set all)))
+      (keeps_told v d0 d1 m n now job exit laws laws' at state log_request h moments (elapsed (all_of h.value)) line (all_set all)))
       (subst (λ (o : Option ℕ). LineAdded job.conn (event_line v1.kind now job.conn (request.Exit exit) o) (leaves job.conn Dead (with_log n (There (with_exit (exit_text exit) (flushed h.value)) (length (all_of h.value))) m)) v1 v2 d2) (sym state)
-        (added (leaves job.conn Dead (with_log n (There (with_exit (exit_text exit) (flushed h.value)) (length (all_of h.value))) m)) (stands_told all))))
+      (added (leaves job.conn Dead (with_log n (There (with_exit (exit_text exit) (flushed h.value)) (length (all_of h.value))) m)) (stands_told all))))
 
   -- its line was refused
   pub log_line_refused : (v2 : KeeperView) (d2 : DiskView) (why : Refusal) → AllSet → Beside v1.lane v1.lanes None d1 d2
@@ -159,9 +159,9 @@ module _ (v v1 : KeeperView) (d0 d1 : DiskView) (m : Machine) (n : ℕ) (now : T
       row_line_refused v v1 v2 now job exit (told_end job.conn (elapsed (all_of h.value))) (with_log n (There (with_exit (exit_text exit) (flushed h.value)) (length (all_of h.value))) m)
       (with_log n (There (with_exit (exit_text exit) (flushed h.value)) h.promised) m) m d0 d1 d2 laws laws' log_request log_x set_alike first second why
       (λ answers failed ended. subst (λ (o : Option ℕ). OwnIf v o (act_of job now answers failed) m d0 d1) (sym state)
-        (keeps_ended v d0 d1 m n now job exit laws laws' at state log_request h moments answers failed ended))
+      (keeps_ended v d0 d1 m n now job exit laws laws' at state log_request h moments answers failed ended))
       (subst (λ (o : Option ℕ). LineRefused (event_line v1.kind now job.conn (request.Exit exit) o) why (leaves job.conn Dead (with_log n (There (with_exit (exit_text exit) (flushed h.value)) h.promised) m)) v1 v2 d1 d2) (sym state)
-        (not_added (leaves job.conn Dead (with_log n (There (with_exit (exit_text exit) (flushed h.value)) h.promised) m)) (stands_set all)))
+      (not_added (leaves job.conn Dead (with_log n (There (with_exit (exit_text exit) (flushed h.value)) h.promised) m)) (stands_set all)))
 
   -- it failed
   pub log_failed : OwnerRose (owners.Log its.log.number) d0 d1 → RowGives v now job (told.Refused refusals.DeviceFault) m v1 d0 d1
@@ -231,10 +231,10 @@ pub log_not_ended : (v v' : KeeperView) (old new : DiskView) (m : Machine) (n : 
     → (fault ≡ faults.Full parts.Exit → IsFull its.log.bundle parts.Exit (length (exit_text exit))) → Left job.conn Dead v m v' old new → RowGives v now job (told.Refused (log_refusal fault)) m v' old new
 log_not_ended v v' old new m n now job exit its fault laws at asks state here (inl e) alive broken full l = absurd (alive e)
 log_not_ended v v' old new m n now job exit its fault laws at asks state here (inr (inl e)) alive broken full l = absurd (
-  let held : Held v old m n = subst (LogIs v old m n) (at.sound.owned job.conn n state) (at.logs n) in
-  let whole : its.log.is_broken ≡ false = ap (λ (o : OpenLog). o.log.is_broken) (sym (one_open (log_in v) n held.its its held.here here)) ∙ held.represents.whole in
-  let f : false ≡ true = sym whole ∙ broken e in
-  cc)
+    let held : Held v old m n = subst (LogIs v old m n) (at.sound.owned job.conn n state) (at.logs n) in
+    let whole : its.log.is_broken ≡ false = ap (λ (o : OpenLog). o.log.is_broken) (sym (one_open (log_in v) n held.its its held.here here)) ∙ held.represents.whole in
+    let f : false ≡ true = sym whole ∙ broken e in
+    cc)
 log_not_ended v v' old new m n now job exit its fault laws at asks state here (inr (inr (inl e))) alive broken full l =
     subst (λ (f : LogFault). RowGives v now job (told.Refused (log_refusal f)) m v' old new) (sym e) (log_full v v' old new m n now job exit its laws at asks state here (full e) l)
 log_not_ended v v' old new m n now job exit its fault laws at asks state here (inr (inr (inr e))) alive broken full l =

@@ -50,7 +50,7 @@ returns-in-Ok-clause-row g c told_is m job at is state asks =
     let departs = departs_from v v1 c.take.new.self (Some c.args.log) c.args.conn Dead c.release.ensures.departs in
     let closed = closed_ones v v1 c.take.new.self c.args.log c.release.ensures.logs c.take.ensures.rest in
     let all = λ image left value rep. subst (λ (n : ℕ). Replays image n (Some (finished value (exit_text c.args.exit)))) c.finish.ensures.counts.number
-      (every_image c.finish.new.self (bare (finished value (exit_text c.args.exit))) mid (c.in-Ok.ensures.represents told_is value rep) image left) in
+    (every_image c.finish.new.self (bare (finished value (exit_text c.args.exit))) mid (c.in-Ok.ensures.represents told_is value rep) image left) in
     let stands = stands_told v v1 old mid m c.args.log c.args.now its c.args.exit c.in-Some.its laws laws' at asks state here ends departs closed all in
     subst (λ (j : Job). RowGives v c.args.now j (told.Finished c.in-Ok.point) m v2 old new) same_job
     (log_told v v1 old mid m c.args.log c.args.now its c.args.exit c.in-Some.its laws laws' at asks state here ends departs closed v2 new c.in-Ok.point all c.in-Ok.ensures.elapsed (c.exit_line.ensures.beside told_is _ stands) (λ y rep. c.in-Ok-2.ensures.added told_is y rep))
@@ -72,7 +72,7 @@ returns-in-Err-clause-row g c told_is m job at is state asks =
     let departs = departs_from v v1 c.take.new.self (Some c.args.log) c.args.conn Dead c.release.ensures.departs in
     let closed = closed_ones v v1 c.take.new.self c.args.log c.release.ensures.logs c.take.ensures.rest in
     let all = λ image left value rep. subst (λ (n : ℕ). Replays image n (Some (finished value (exit_text c.args.exit)))) c.finish.ensures.counts.number
-      (every_image c.finish.new.self (bare (finished value (exit_text c.args.exit))) mid (c.in-Ok.ensures.represents told_is value rep) image left) in
+    (every_image c.finish.new.self (bare (finished value (exit_text c.args.exit))) mid (c.in-Ok.ensures.represents told_is value rep) image left) in
     let stands = stands_told v v1 old mid m c.args.log c.args.now its c.args.exit c.in-Some.its laws laws' at asks state here ends departs closed all in
     subst (λ (j : Job). RowGives v c.args.now j (told.Refused c.in-Err.why) m v2 old new) same_job
     (log_line_refused v v1 old mid m c.args.log c.args.now its c.args.exit c.in-Some.its laws laws' at asks state here ends departs closed v2 new c.in-Err.why all (c.exit_line.ensures.beside told_is _ stands) (λ y rep. c.in-Err.ensures.refused told_is y rep))

@@ -42,7 +42,7 @@ returns-in-Ok-clause-row g c told_is m job at is none asks =
     let stands = session_stands v v1 d0 d1 m c.args.conn none left in
     subst (λ (j : Job). RowGives v c.args.now j told.Shut m v2 d0 d2) same_job
     (session_told v v1 v2 d0 d1 d2 m c.args.now its c.args.exit laws laws' alive asks none left (set_by v v1 c.leave.ensures.keeps)
-      (c.exit_line.ensures.beside told_is (leaves c.args.conn Dead m) stands) (c.in-Ok.ensures.added told_is (leaves c.args.conn Dead m) stands))
+    (c.exit_line.ensures.beside told_is (leaves c.args.conn Dead m) stands) (c.in-Ok.ensures.added told_is (leaves c.args.conn Dead m) stands))
 
 pub returns-in-Err-clause-keeps : goal.returns-in-Err-clause-keeps
 returns-in-Err-clause-keeps g c = keeps_line (view_of c.args.self.now) (view_of c.leave.new.self) (view_of c.exit_line.new.self) c.leave.ensures.keeps c.leave.ensures.shrinks c.exit_line.ensures.keeps c.exit_line.ensures.same
@@ -64,4 +64,4 @@ returns-in-Err-clause-row g c told_is m job at is none asks =
     let stands = session_stands v v1 d0 d1 m c.args.conn none left in
     subst (λ (j : Job). RowGives v c.args.now j (told.Refused c.in-Err.why) m v2 d0 d2) same_job
     (session_refused v v1 v2 d0 d1 d2 m c.args.now its c.args.exit laws laws' alive asks none left (set_by v v1 c.leave.ensures.keeps)
-      (c.exit_line.ensures.beside told_is (leaves c.args.conn Dead m) stands) c.in-Err.why (c.in-Err.ensures.refused told_is (leaves c.args.conn Dead m) stands))
+    (c.exit_line.ensures.beside told_is (leaves c.args.conn Dead m) stands) c.in-Err.why (c.in-Err.ensures.refused told_is (leaves c.args.conn Dead m) stands))

@@ -21,8 +21,8 @@ use Rattle.lsv_keeper.proofs.keeper.Keeper.take_record.Goals as goal
 pub let_go-requires : goal.let_go-requires
 let_go-requires g c = record {
   taken_out = λ told_is.
-    let (m, at) = c.requires.stands told_is in
-    (view_of c.args.self.now, m, refused_out (view_of c.args.self.now) c.append.new.self c.args.log c.args.r c.in-Refused.its c.in-Refused.fault c.in-Refused.ensures, at);
+      let (m, at) = c.requires.stands told_is in
+      (view_of c.args.self.now, m, refused_out (view_of c.args.self.now) c.append.new.self c.args.log c.args.r c.in-Refused.its c.in-Refused.fault c.in-Refused.ensures, at);
   writes_none = refl;
   room = let x = room_one ((sessions_of (view_of c.args.self.now)).states c.args.conn) Dead in let y = c.requires.room in omega arith;
 }
