@@ -103,15 +103,3 @@ returns-in-Ok-clause-row g c told_is m job at is state asks =
     subst (λ (j : Job). RowGives v c.args.now j (told.Refused c.in-Err-exit_line.why) m v2 old new) same_job
     (log_line_refused v v1 old mid m c.args.log c.args.now its c.args.exit c.in-Some.its laws laws' at asks state here ends departs closed v2 new c.in-Err-exit_line.why all
       (c.exit_line.ensures.beside told_is _ stands) (λ y rep. c.in-Err-exit_line.ensures.refused told_is y rep))
-
-pub returns-in-Err-Disk-clause-keeps : goal.returns-in-Err-Disk-clause-keeps
-returns-in-Err-Disk-clause-keeps g c = ?
-
-pub returns-in-Err-Disk-clause-row : goal.returns-in-Err-Disk-clause-row
-returns-in-Err-Disk-clause-row g c = ?
-
-pub let_go-requires : goal.let_go-requires
-let_go-requires g c = ?
-
-pub returns : goal.returns
-returns g c = ?
