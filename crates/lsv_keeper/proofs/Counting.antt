@@ -1,5 +1,5 @@
 -- What is counted where a call failed.
-use Rattle.std.proofs.Common.{◌≡◌, ◌≤◌, ◌<◌, ◌+◌, ℕ, List, [], ◌∷◌, ◌++◌, refl, sym, ◌∙◌, ap, subst, inl, inr, arith, ◌⊎◌}
+use Rattle.std.proofs.Common.{◌≡◌, ◌≤◌, ◌<◌, ◌+◌, ℕ, List, [], ◌∷◌, ◌++◌, refl, sym, ap, subst, inl, inr, arith}
 use Rattle.std.specs.Prelude.{◌-◌, ◌^◌, ◌&&◌, Bool, true, false, Contains}
 use Rattle.std.proofs.lemmas.List.Elements.{Contains-append_cases, Contains-push_cases}
 use Rattle.std.proofs.lemmas.Map.Views.{Contains-from_any}
@@ -30,7 +30,7 @@ none_fell_on a b c s t file = let x = s file in let y = t file in omega arith
 pub rose_none : (old new : DiskView) → AllRose [] old new
 rose_none old new o (at, low, found) = absurd (let e : at < 0 = low in omega arith)
 
-only : (o p : Owner) → Contains (o ∷ []) p → o ≡ p
+pub only : (o p : Owner) → Contains (o ∷ []) p → o ≡ p
 only o p is = elim (Contains-push_cases [] o p is) [ inl none ↦ absurd (rose_none_at none) | inr e ↦ e ]
   where
     rose_none_at : Contains [] p → ⊥

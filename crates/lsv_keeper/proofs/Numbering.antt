@@ -1,5 +1,5 @@
 -- The numbers of a keeper's disk.
-use Rattle.std.proofs.Common.{◌≡◌, ◌≢◌, ◌≤◌, ◌<◌, ◌+◌, ◌*◌, ℕ, List, refl, sym, ◌∙◌, ap, subst, inl, inr, arith, Option, Some, None, ◌⊎◌}
+use Rattle.std.proofs.Common.{◌≡◌, ◌≤◌, ◌<◌, ◌+◌, ◌*◌, ℕ, sym, ◌∙◌, ap, subst, inl, inr, arith, Some, None}
 use Rattle.std.specs.Prelude.{◌==◌, if◌then◌else◌}
 use Rattle.lsv_disk.specs.Throughout.{OnlyReads, Throughout}
 use Rattle.lsv_disk.specs.View.{DiskView, Image, IsCrashImage}
@@ -38,7 +38,7 @@ not_below last mine lane lanes passed few e = elim (eq_or mine 0) [
   ]
 ]
 
-last_at : (v : KeeperView) (disk : DiskView) (m : Machine) → Represents v disk m → m.last ≤ last_of v.numbers
+pub last_at : (v : KeeperView) (disk : DiskView) (m : Machine) → Represents v disk m → m.last ≤ last_of v.numbers
 last_at v disk m at =
     let n = at.numbers in
     let next : (if last_of v.numbers == 0 then v.lane + 1 else last_of v.numbers + v.lanes) ≡ next_number (settings_of v) m + n.passed * v.lanes =
@@ -63,9 +63,9 @@ pub fits_above : (lane lanes last : ℕ) (images : Image → Type 0) → ((image
 fits_above lane lanes last images drawn bare = record {
   told = λ image is. (let (l, d, le) = drawn image is in (l, inl d));
   none_above = λ a b l n a_is b_is d of_lane above.
-    let (l', d', le) = drawn a a_is in
-    let e : l ≡ l' = one_drawn lane lanes l l' a d (inl d') in
-    bare n of_lane (omega arith) b b_is;
+      let (l', d', le) = drawn a a_is in
+      let e : l ≡ l' = one_drawn lane lanes l l' a d (inl d') in
+      bare n of_lane (omega arith) b b_is;
 }
 
 -- the numbers of a keeper's disk fit

@@ -113,3 +113,15 @@ pub record Owns (k : ConnId) (n : ℕ) (its : OpenLog) (old new : KeeperView) : 
 pub record IsResting (v : KeeperView) : Type 0 where
   pub none_waits : v.waiting ≡ []
   pub nobody_noted : v.noting ≡ []
+
+-- it is set as before
+pub record SameSet (old new : KeeperView) : Type 0 where
+  pub lane : new.lane ≡ old.lane
+  pub lanes : new.lanes ≡ old.lanes
+  pub log_exit : new.log_exit ≡ old.log_exit
+  pub kind : new.kind ≡ old.kind
+  pub texts : new.texts ≡ old.texts
+
+-- the same where nobody is noted
+abbrev pub un_noted : KeeperView → KeeperView
+un_noted v = record v { noting = [] }

@@ -1,9 +1,9 @@
 //! Event lines.
 
-ghost use Rattle.std.specs.Prelude.{◌≡◌, ◌++◌, true, None, IfErr, OnOk, OnErr};
+ghost use Rattle.std.specs.Prelude.{◌≡◌, ◌++◌, true, false, None, IfErr, OnOk, OnErr};
 ghost use Rattle.lsv_event.specs.Events.{IsTimed};
 ghost use Rattle.lsv_event.specs.Lines.{line_of};
-ghost use Rattle.lsv_request.specs.declared.refusal.Refusal.{Refusal};
+ghost use Rattle.lsv_eventlog.specs.Value.{is_broken};
 ghost use Rattle.lsv_machine.specs.Machine.{Machine};
 ghost use Rattle.lsv_machine.specs.Work.{adds_line, line_fits};
 ghost use Rattle.lsv_keeper.specs.Represents.{Represents};
@@ -55,6 +55,7 @@ impl<F: LineWriter, H: Search> Keeper<F, H> {
     /// Adds a line to the event log, which is opened again where it failed.
     fn stage_line<D: Disk>(&mut self, disk: &mut D, line: &[u8]) -> Result<(), Refusal>
         ensures same { view_of self.new ≡ record (view_of self.old) { events = (view_of self.new).events } }
+        ensures whole { OnOk result (is_broken (view_of self.new).events ≡ false) }
         ensures added { D.tells → OnOk result ((m : Machine) → Represents (view_of self.old) (D.view disk.old) m →
             (line_fits line.now m ≡ true) × Represents (view_of self.new) (D.view disk.new) (record m { fresh = m.fresh ++ line.now })) }
         ensures refused { D.tells → IfErr result (λ why. (m : Machine) → Represents (view_of self.old) (D.view disk.old) m →

@@ -2,13 +2,21 @@
 //! device calls fail and wherever the machine stops.
 #![tactic(auto)]
 
+mod dummy;
+mod accept;
 mod events;
+mod exit;
 mod keeper;
 mod leave;
 mod logs;
 mod own;
+mod record;
+mod report;
 mod restart;
 mod resume;
+mod tail;
 mod told;
+mod turn;
+mod work;
 
 pub use keeper::Keeper;

@@ -2,7 +2,7 @@ ghost use Rattle.std.specs.Prelude.{◌≡◌, ◌≤◌, ◌+◌, ◌⊎◌, fa
 ghost use Rattle.lsv_request.specs.declared.refusal.Refusal.TheVariants.{OutOfMemory};
 ghost use Rattle.lsv_session.specs.Connections.{refusal_message};
 ghost use Rattle.lsv_session.specs.declared.reply.ReplyBody.TheVariants as body;
-ghost use Rattle.lsv_machine.specs.Answers.{Answer, refusal, reply_of};
+ghost use Rattle.lsv_machine.specs.Answers.{Answer, CommitPoint, refusal, reply_of, say};
 ghost use Rattle.lsv_machine.specs.Failures.{WantsMemory};
 ghost use Rattle.lsv_keeper.specs.Replies.{room_in};
 ghost use Rattle.lsv_keeper.specs.Rows.{IsTold, Tells};
@@ -101,4 +101,13 @@ pub(crate) fn put_replies(alloc: Global, out: &mut Vec<Reply>, conn: ConnId, tol
         Told::Shut => put(out, shut(conn, false)),
         Told::Farewell => put(out, shut(conn, true)),
     }
+}
+
+/// Puts a commit point at the end, for which there is room.
+pub(crate) fn put_point(out: &mut Vec<Reply>, conn: ConnId, point: Point)
+    requires room { 1 ≤ room_in out.old }
+    ensures told { out.new.items ≡ out.old.items ++ map reply_of (say conn (CommitPoint point) ∷ []) }
+    ensures room { room_in out.old ≤ room_in out.new + 1 }
+{
+    put(out, say(conn, ServerMessage::CommitPoint(point.spec())));
 }

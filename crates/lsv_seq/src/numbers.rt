@@ -138,6 +138,7 @@ impl Numbers {
         ensures drawn { IfOk result (λ n. (last_of self.new ≡ n) × (pending_of self.new ≡ None)) }
         ensures after { IfOk result (IsNextOf self.old) }
         ensures above { IfOk result (λ n. last_of self.old < n) }
+        ensures within { IfOk result (λ n. n ≤ most) }
         ensures kept { OnErr result (IsPassedOver self.old self.new) }
         ensures spent { (m : ℕ) → IsErrOf result (DrawFault.Spent m) → (last_of self.new ≡ m) × (pending_of self.new ≡ None) × (most < next_of self.new) }
         ensures enough { pending_of self.old ≡ None → most < next_of self.old → result ≡ Err (DrawFault.Spent (last_of self.old)) }

@@ -45,3 +45,8 @@ returns-clause-held g c told =
     (of_some c.in_ok-bundle.field-0 c.in-Some.bundle (λ b. b.last ≢ None) c.in-Some.is c.in_ok-bundle.ensures.entry)
     (of_some c.in_ok-bundle.field-0 c.in-Some.bundle (λ b. Represents b new) c.in-Some.is (c.in_ok-bundle.ensures.represents told))
     (g.met.D.Disk.reads_itself told c.open.new.disk) (c.open.ensures.any_moment told) (c.open.ensures.reads told)
+
+pub returns-clause-sound : goal.returns-clause-sound
+returns-clause-sound g c = opened_log c.args.lane c.in-Some.bundle
+    (of_some c.in_ok-bundle.field-0 c.in-Some.bundle (IsFresh (Events c.args.lane) shapes.Lines) c.in-Some.is c.in_ok-bundle.ensures.fresh)
+    (of_some c.in_ok-bundle.field-0 c.in-Some.bundle (λ b. b.last ≢ None) c.in-Some.is c.in_ok-bundle.ensures.entry)
