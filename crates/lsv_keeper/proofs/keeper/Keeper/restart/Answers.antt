@@ -24,14 +24,14 @@ use Rattle.lsv_keeper.proofs.keeper.Keeper.restart.Goals as goal
 pub returns-then-is_some-clause-row : goal.returns-then-is_some-clause-row
 returns-then-is_some-clause-row g c told m job now at conn asks =
     let a = asks_restart m job c.args.restart (subst (λ (k : ConnId). AsksFor (m.states k) job.body (request.Restart c.args.restart)) (sym conn) asks) in
-    let owned : is_some (m.owner c.args.restart.log) ≡ true = ap is_some (at.owner c.args.restart.log ∙ sym c.owner.ensures) ∙ (sym c.is_some.ensures.value ∙ c.if-is_some.true) in
+    let owned : is_some (m.owner c.args.restart.log) ≡ true = ap is_some (at.owner c.args.restart.log ∙ sym c.owner.ensures) ∙ (sym c.is_some.ensures ∙ c.if-is_some.true) in
     c.refuse.ensures.row told m job now at conn (subst (λ (k : ConnId). is_dead (m.states k) ≡ false) conn a.living) refl (in_use (view_of c.args.self.now) now m job c.args.restart c.args.conn conn a owned)
 
 pub leave-requires-clause-stands : goal.leave-requires-clause-stands
 leave-requires-clause-stands g c told =
     let old = c.requires.stands told in
     let one = c.resume.new.disk in
-    let free = old.1.owner c.args.restart.log ∙ (sym c.owner.ensures ∙ none_of c.owner.result (sym c.is_some.ensures.value ∙ c.if-is_some.false)) in
+    let free = old.1.owner c.args.restart.log ∙ (sym c.owner.ensures ∙ none_of c.owner.result (sym c.is_some.ensures ∙ c.if-is_some.false)) in
     fault_stands (view_of c.args.self.now) (view_of c.resume.new.self) (g.D.Disk.view c.args.disk.now) (g.D.Disk.view one) old.0 c.args.restart.log c.args.restart.point
     (record { reads_itself = g.met.D.Disk.reads_itself told c.args.disk.now; is_now = g.met.D.Disk.is_now told c.args.disk.now; only_now = g.met.D.Disk.only_now told c.args.disk.now })
     (record { reads_itself = g.met.D.Disk.reads_itself told one; is_now = g.met.D.Disk.is_now told one; only_now = g.met.D.Disk.only_now told one })
@@ -41,7 +41,7 @@ pub returns-in-Ok-clause-row : goal.returns-in-Ok-clause-row
 returns-in-Ok-clause-row g c told m job now at conn asks answers tells =
     let one = c.resume.new.disk in
     let a = asks_restart m job c.args.restart (subst (λ (k : ConnId). AsksFor (m.states k) job.body (request.Restart c.args.restart)) (sym conn) asks) in
-    let free = at.owner c.args.restart.log ∙ (sym c.owner.ensures ∙ none_of c.owner.result (sym c.is_some.ensures.value ∙ c.if-is_some.false)) in
+    let free = at.owner c.args.restart.log ∙ (sym c.owner.ensures ∙ none_of c.owner.result (sym c.is_some.ensures ∙ c.if-is_some.false)) in
     let owns = c.own.ensures.owns (ap (λ (s : Sessions). s.owner c.args.restart.log) c.resume.ensures.same.sessions_are ∙ (sym (at.owner c.args.restart.log) ∙ free)) in
     subst (λ (said : List Answer). RowIs (view_of c.args.self.now) now job said m (view_of c.own.new.self) (g.D.Disk.view c.args.disk.now) (g.D.Disk.view one)) (sym tells)
     (resumed_row (view_of c.args.self.now) (view_of c.resume.new.self) (view_of c.own.new.self) (g.D.Disk.view c.args.disk.now) (g.D.Disk.view one) m job now c.args.restart c.in-Ok.its
@@ -54,7 +54,7 @@ pub returns-in-Err-clause-row : goal.returns-in-Err-clause-row
 returns-in-Err-clause-row g c told m job now at conn asks answers tells =
     let one = c.resume.new.disk in
     let a = asks_restart m job c.args.restart (subst (λ (k : ConnId). AsksFor (m.states k) job.body (request.Restart c.args.restart)) (sym conn) asks) in
-    let free = at.owner c.args.restart.log ∙ (sym c.owner.ensures ∙ none_of c.owner.result (sym c.is_some.ensures.value ∙ c.if-is_some.false)) in
+    let free = at.owner c.args.restart.log ∙ (sym c.owner.ensures ∙ none_of c.owner.result (sym c.is_some.ensures ∙ c.if-is_some.false)) in
     refused_row (view_of c.args.self.now) (view_of c.resume.new.self) (view_of c.leave.new.self) (g.D.Disk.view c.args.disk.now) (g.D.Disk.view one) (g.D.Disk.view c.leave.new.disk) m job now c.args.restart
     (record { reads_itself = g.met.D.Disk.reads_itself told c.args.disk.now; is_now = g.met.D.Disk.is_now told c.args.disk.now; only_now = g.met.D.Disk.only_now told c.args.disk.now })
     (record { reads_itself = g.met.D.Disk.reads_itself told one; is_now = g.met.D.Disk.is_now told one; only_now = g.met.D.Disk.only_now told one })
