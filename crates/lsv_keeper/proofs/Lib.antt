@@ -21,6 +21,7 @@ pub mod TailRows
 pub mod TailLoops
 pub mod TailRefusals
 pub mod TailLines
+pub mod FlushEnds
 pub mod Owning
 pub mod AddingLines
 pub mod Asking
