@@ -246,8 +246,8 @@ pub fault_stands : (v v' : KeeperView) (old new : DiskView) (m : Machine) (n poi
 fault_stands v v' old new m n point laws laws' at res free faults.Absent (looked, none) = (m, looked_stands v v' old new m n at res free looked)
 fault_stands v v' old new m n point laws laws' at res free (faults.Damaged part) (looked, none) = (m, looked_stands v v' old new m n at res free looked)
 fault_stands v v' old new m n point laws laws' at res free faults.Complete (stored, found, rest) = (m, looked_stands v v' old new m n at res free found.looked)
-fault_stands v v' old new m n point laws laws' at res free (faults.NoPoint other) (stored, found, rest) = (m, looked_stands v v' old new m n at res free found.looked)
-fault_stands v v' old new m n point laws laws' at res free (faults.Full part) (stored, found, rest) = (m, looked_stands v v' old new m n at res free found.looked)
+fault_stands v v' old new m n point laws laws' at res free (faults.NoPoint other) (stored, found, going, none) = (m, looked_stands v v' old new m n at res free found.looked)
+fault_stands v v' old new m n point laws laws' at res free (faults.Full part) (stored, found, going, ends, drop, full) = (m, looked_stands v v' old new m n at res free found.looked)
 fault_stands v v' old new m n point laws laws' at res free faults.NoMem looked = (m, looked_stands v v' old new m n at res free looked)
 fault_stands v v' old new m n point laws laws' at res free (faults.TooLong time) f = absurd f
 fault_stands v v' old new m n point laws laws' at res free faults.Broken f = absurd f

@@ -19,6 +19,7 @@ use crate::Keeper;
 use crate::logs::OpenLog;
 use crate::resume::{restart_refusal, resume_log};
 use crate::told::Told;
+use lsv_base::{LogNo, Point};
 use lsv_disk::Disk;
 use lsv_hook::LineWriter;
 use lsv_iolog::LogFault;
@@ -40,7 +41,7 @@ impl<F: LineWriter, H: Search> Keeper<F, H> {
         if self.table.owner(restart.log).is_some() {
             return self.refuse(disk, conn, Refusal::LogInUse);
         }
-        match self.resume(disk, restart) {
+        match self.resume(disk, restart.log, restart.point) {
             Ok(its) => {
                 self.own(conn, restart.log, its);
                 Told::Nothing
@@ -53,16 +54,21 @@ impl<F: LineWriter, H: Search> Keeper<F, H> {
     }
 
     /// Makes room for one more log that is written, and then opens and cuts this one.
-    fn resume<D: Disk>(&mut self, disk: &mut D, restart: Restart) -> Result<OpenLog, LogFault>
+    fn resume<D: Disk>(
+        &mut self,
+        disk: &mut D,
+        number: LogNo,
+        point: Point,
+    ) -> Result<OpenLog, LogFault>
         ensures same { IsReserved (view_of self.old) (view_of self.new) }
         ensures ok { OnOk result ((1 ≤ spare_owners (view_of self.new).table) × (1 ≤ spare_logs (view_of self.new).logs)) }
-        ensures resumed { D.tells → IfOk result (λ its. IsResumed restart.log restart.point (view_of self.old).texts its (D.view disk.old) (D.view disk.new)) }
-        ensures fault { D.tells → IfErr result (λ e. IsResumeFault restart.log restart.point e (D.view disk.old) (D.view disk.new)) }
+        ensures resumed { D.tells → IfOk result (λ its. IsResumed number point (view_of self.old).texts its (D.view disk.old) (D.view disk.new)) }
+        ensures fault { D.tells → IfErr result (λ e. IsResumeFault number point e (D.view disk.old) (D.view disk.new)) }
         ensures monotone { (file : FileId) → (D.view disk.old).faults file ≤ (D.view disk.new).faults file }
     {
         if self.reserve_log().is_err() {
             return Err(LogFault::NoMem);
         }
-        resume_log(self.alloc, disk, &self.prompt, &self.texts, restart)
+        resume_log(self.alloc, disk, &self.prompt, &self.texts, number, point)
     }
 }

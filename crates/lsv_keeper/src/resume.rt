@@ -15,11 +15,11 @@ ghost use Rattle.lsv_keeper.specs.Represents.{Masks};
 ghost use Rattle.lsv_keeper.specs.Resuming.{IsResumed, IsResumeFault, IsViewOf, restart_refusal};
 
 use crate::logs::OpenLog;
-use lsv_base::{Bytes, List, Point};
+use lsv_base::{Bytes, List, LogNo, Point};
 use lsv_disk::Disk;
 use lsv_iolog::{IoLog, LogFault, LogView};
 use lsv_mask::{Mask, Prompt, Search};
-use lsv_request::{Refusal, Restart};
+use lsv_request::Refusal;
 use std::alloc::Global;
 
 /// Why a log isn't gone on with, as the connection is told.
@@ -78,15 +78,16 @@ fn mask_behind<D: Disk, H: Search>(
     disk: &mut D,
     prompt: &Prompt<H>,
     texts: &List<Bytes>,
-    restart: Restart,
+    number: LogNo,
+    point: Point,
 ) -> Result<Mask, LogFault>
-    ensures masks { D.tells → IfOk result (λ mask. (stored : Stored) → Replays (D.view disk.old).reads restart.log (Some stored) → Masks texts.now mask (cut stored.records restart.point)) }
-    ensures none { D.tells → IsErrOf result (LogFault.NoPoint restart.point) → (stored : Stored) → Replays (D.view disk.old).reads restart.log (Some stored) → first stored.records restart.point ≡ None }
-    ensures damaged { D.tells → (part : Part) → IsErrOf result (LogFault.Damaged part) → (stored : Stored) → Replays (D.view disk.old).reads restart.log (Some stored) → ⊥ }
-    ensures absent { D.tells → IsErrOf result LogFault.Absent → (stored : Stored) → Replays (D.view disk.old).reads restart.log (Some stored) → ⊥ }
+    ensures masks { D.tells → IfOk result (λ mask. (stored : Stored) → Replays (D.view disk.old).reads number (Some stored) → Masks texts.now mask (cut stored.records point)) }
+    ensures none { D.tells → IsErrOf result (LogFault.NoPoint point) → (stored : Stored) → Replays (D.view disk.old).reads number (Some stored) → first stored.records point ≡ None }
+    ensures damaged { D.tells → (part : Part) → IsErrOf result (LogFault.Damaged part) → (stored : Stored) → Replays (D.view disk.old).reads number (Some stored) → ⊥ }
+    ensures absent { D.tells → IsErrOf result LogFault.Absent → (stored : Stored) → Replays (D.view disk.old).reads number (Some stored) → ⊥ }
     ensures reads { D.tells → OnlyReads (D.view disk.old) (D.view disk.new) }
-    ensures fault { IfErr result (λ e. (e ≡ LogFault.NoPoint restart.point) ⊎ IsOpenFault e) }
-    ensures cause { HasOwnCause (IsOfLog restart.log) (IsErrOf result LogFault.Disk) (D.view disk.old) (D.view disk.new) }
+    ensures fault { IfErr result (λ e. (e ≡ LogFault.NoPoint point) ⊎ IsOpenFault e) }
+    ensures cause { HasOwnCause (IsOfLog number) (IsErrOf result LogFault.Disk) (D.view disk.old) (D.view disk.new) }
 {
     let Ok(mut mask) = Mask::new(alloc, texts) else {
         return Err(LogFault::NoMem);
@@ -94,8 +95,8 @@ fn mask_behind<D: Disk, H: Search>(
     if texts.as_slice().is_empty() {
         return Ok(mask);
     }
-    let mut view = LogView::open(alloc, disk, restart.log)?;
-    see_through(disk, prompt, &mut view, &mut mask, restart.point)?;
+    let mut view = LogView::open(alloc, disk, number)?;
+    see_through(disk, prompt, &mut view, &mut mask, point)?;
     Ok(mask)
 }
 
@@ -105,19 +106,20 @@ pub(crate) fn resume_log<D: Disk, H: Search>(
     disk: &mut D,
     prompt: &Prompt<H>,
     texts: &List<Bytes>,
-    restart: Restart,
+    number: LogNo,
+    point: Point,
 ) -> Result<OpenLog, LogFault>
-    ensures resumed { D.tells → IfOk result (λ its. IsResumed restart.log restart.point texts.now its (D.view disk.old) (D.view disk.new)) }
-    ensures fault { D.tells → IfErr result (λ e. IsResumeFault restart.log restart.point e (D.view disk.old) (D.view disk.new)) }
+    ensures resumed { D.tells → IfOk result (λ its. IsResumed number point texts.now its (D.view disk.old) (D.view disk.new)) }
+    ensures fault { D.tells → IfErr result (λ e. IsResumeFault number point e (D.view disk.old) (D.view disk.new)) }
     ensures monotone { (file : FileId) → (D.view disk.old).faults file ≤ (D.view disk.new).faults file }
 {
-    let mut log = IoLog::open(alloc, disk, restart.log)?;
+    let mut log = IoLog::open(alloc, disk, number)?;
     if log.is_complete() {
         return Err(LogFault::Complete);
     }
-    match mask_behind(alloc, disk, prompt, texts, restart) {
+    match mask_behind(alloc, disk, prompt, texts, number, point) {
         Ok(mask) => {
-            log.cut_at(disk, restart.point)?;
+            log.cut_at(disk, point)?;
             Ok(OpenLog { log, mask })
         }
         Err(fault) => Err(fault),
