@@ -53,7 +53,7 @@ use Rattle.lsv_keeper.proofs.Telling.{beside_as, lined_by}
 -- ---- What the table says
 
 -- the accept of this head
-abbrev asked : Head → Request
+abbrev pub asked : Head → Request
 asked head = request.Accept (accept_of head)
 
 pub idle_of : (s : ConnState) → is_running s ≡ false → log_of s ≡ None

@@ -198,7 +198,7 @@ ext_logs : {f g : ℕ → LogState} → ((i : ℕ) → f i ≡ g i) → f ≡ g
 ext_logs h = λ i x. h x i
 
 -- a log that is as it was changes nothing
-same_log : (i : ℕ) (m : Machine) → with_log i (m.logs i) m ≡ m
+pub same_log : (i : ℕ) (m : Machine) → with_log i (m.logs i) m ≡ m
 same_log i m = ap (λ (logs : ℕ → LogState). record m { logs = logs }) (ext_logs each)
   where
     each : (j : ℕ) → (if j == i then m.logs i else m.logs j) ≡ m.logs j

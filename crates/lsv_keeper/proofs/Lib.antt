@@ -11,3 +11,7 @@ pub mod TailPieces
 pub mod Departing
 pub mod Leaving
 pub mod Drawing
+pub mod Beginning
+pub mod Accepting
+pub mod Stopping
+pub mod EventKinds
