@@ -15,3 +15,9 @@ pub mod Beginning
 pub mod Accepting
 pub mod Stopping
 pub mod EventKinds
+pub mod Tailing
+pub mod Losing
+pub mod TailRows
+pub mod TailLoops
+pub mod TailRefusals
+pub mod Late

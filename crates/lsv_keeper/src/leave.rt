@@ -1,6 +1,6 @@
 //! Connections that come to their end: refused, gone, or shut; and what they wrote.
 
-ghost use Rattle.std.specs.Prelude.{◌≡◌, ◌≤◌, ◌+◌, ℕ, true, false, if◌then◌else◌, [], Some, None};
+ghost use Rattle.std.specs.Prelude.{◌≡◌, ◌≤◌, ◌+◌, ℕ, true, false, if◌then◌else◌, [], length, Some, None};
 ghost use Rattle.lsv_base.specs.declared.time.TimeSpec.{TimeSpec};
 ghost use Rattle.lsv_session.specs.declared.connection.ConnState.{ConnState};
 ghost use Rattle.lsv_session.specs.declared.job.Body.{Body};
@@ -40,6 +40,8 @@ impl<F: LineWriter, H: Search> Keeper<F, H> {
         ensures keeps { Keeps (view_of self.old) (view_of self.new) }
         ensures sessions { (sessions_of (view_of self.new)).states ≡ (λ k. if same k conn then state else (sessions_of (view_of self.old)).states k) }
         ensures shrinks { owed (view_of self.new) ≤ owed (view_of self.old) }
+        ensures noting { (view_of self.new).noting ≡ (view_of self.old).noting }
+        ensures fewer { length (view_of self.new).waiting ≤ length (view_of self.old).waiting }
         ensures left { D.tells → (m : Machine) → Represents (view_of self.old) (D.view disk.old) m → Left conn state (view_of self.old) m (view_of self.new) (D.view disk.old) (D.view disk.new) }
     {
         match log_of(self.table.state(conn)) {
@@ -69,6 +71,8 @@ impl<F: LineWriter, H: Search> Keeper<F, H> {
         ensures keeps { Keeps (view_of self.old) (view_of self.new) }
         ensures sessions { (sessions_of (view_of self.new)).states ≡ (λ k. if same k conn then state else (sessions_of (view_of self.old)).states k) }
         ensures shrinks { owed (view_of self.new) ≤ owed (view_of self.old) }
+        ensures noting { (view_of self.new).noting ≡ (view_of self.old).noting }
+        ensures fewer { length (view_of self.new).waiting ≤ length (view_of self.old).waiting }
         ensures left { D.tells → (before : KeeperView) (m : Machine) → TakenOut log its before (view_of self.old) → Represents before (D.view disk.old) m → log_of (m.states conn) ≡ Some log
             → Left conn state before m (view_of self.new) (D.view disk.old) (D.view disk.new) }
     {
