@@ -96,7 +96,7 @@ gone_plain set now job n m alive_is gone =
     ap (λ (b : Bool). if b then dropped job.conn job.body m else alive set now job.conn job.body n m) alive_is ∙ ap (λ (b : Body). alive set now job.conn b n m) gone
 
 -- a refused job whose answers say no text
-wants_step : (set : Settings) (m : Machine) (act : Act) (left : Machine) → is_dead (m.states act.job.conn) ≡ false → act.line ≡ [] → act.in_cut ≡ false → (act.job.body ≡ body.Gone → ⊥)
+pub wants_step : (set : Settings) (m : Machine) (act : Act) (left : Machine) → is_dead (m.states act.job.conn) ≡ false → act.line ≡ [] → act.in_cut ≡ false → (act.job.body ≡ body.Gone → ⊥)
     → WantsMemory act.job.conn act.answers → LeavesLog act.failed (log_of (m.states act.job.conn)) None m left → Step set m act (leaves act.job.conn Dead left)
 wants_step set m act left alive_is line unmarked not_gone_is wants leaving = inr (record { alive = alive_is; no_line = line; how = inl (unmarked, breaks act.job.body refl) })
   where

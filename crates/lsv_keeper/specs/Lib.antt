@@ -1,5 +1,6 @@
 pub mod Reading
 pub mod Logs
+pub mod Exits
 pub mod Value
 pub mod Views
 pub mod Represents

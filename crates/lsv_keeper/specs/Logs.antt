@@ -1,6 +1,10 @@
 -- Open logs by number, and what becomes of one where a record comes or where it is flushed.
 use Rattle.std.specs.Prelude.{ℕ, ◌≡◌, ◌≤◌, ◌<◌, ◌+◌, ◌^◌, ◌==◌, nat_eq, true, false, if◌then◌else◌, List, [], ◌∷◌, ◌++◌, Option, Some, None}
 use Rattle.std.specs.HashMap as hash
+use Rattle.std.specs.Prelude.{FitsSigned}
+use Rattle.std.specs.Int.{w32}
+use Rattle.lsv_msg.specs.declared.messages.ClientMessage.{ClientMessage}
+use Rattle.lsv_msg.specs.declared.messages.ClientMessage.TheVariants as client
 use Rattle.lsv_disk.specs.Throughout.{Throughout}
 use Rattle.lsv_disk.specs.View.{DiskView}
 use Rattle.lsv_disk.specs.declared.file.FileId.{FileId}
@@ -14,6 +18,8 @@ use Rattle.lsv_iolog.specs.declared.fault.LogFault.{LogFault}
 use Rattle.lsv_iolog.specs.declared.fault.LogFault.TheVariants as faults
 use Rattle.lsv_mask.specs.Masking.{Seen, covered, seen}
 use Rattle.lsv_record.specs.Records.{delay_of, shape_of}
+use Rattle.lsv_request.specs.declared.refusal.Refusal.{Refusal}
+use Rattle.lsv_request.specs.declared.refusal.Refusal.TheVariants as refusals
 use Rattle.lsv_record.specs.declared.records.Record.{Record}
 use Rattle.lsv_keeper.specs.declared.logs.Appended.{Appended}
 use Rattle.lsv_keeper.specs.declared.logs.Appended.TheVariants as appended
@@ -60,6 +66,18 @@ IsAppendFault log r faults.Complete = ⊥
 IsAppendFault log r (faults.NoPoint point) = ⊥
 IsAppendFault log r faults.Disk = ⊥
 
+-- how a connection is refused for a fault of its log
+abbrev pub log_refusal : LogFault → Refusal
+log_refusal (faults.TooLong point) = refusals.LogFull
+log_refusal (faults.Full part) = refusals.LogFull
+log_refusal faults.NoMem = refusals.OutOfMemory
+log_refusal faults.Broken = refusals.DeviceFault
+log_refusal faults.Disk = refusals.DeviceFault
+log_refusal faults.Absent = refusals.DeviceFault
+log_refusal (faults.Damaged part) = refusals.DeviceFault
+log_refusal faults.Complete = refusals.DeviceFault
+log_refusal (faults.NoPoint point) = refusals.DeviceFault
+
 -- an open log refused a record: it is as it was, but for its mask
 pub record RefusesRecord (old : OpenLog) (r : Record) (fault : LogFault) (new : OpenLog) : Type 0 where
   pub going : is_complete old.log ≡ false
@@ -89,3 +107,10 @@ pub record Flushes (n : ℕ) (its : OpenLog) (value : LogValue) (point : Option 
   pub calls : CallsOfLog its.log.number 1 2 before after
   pub monotone : (file : FileId) → before.faults file ≤ after.faults file
   pub leaves : FlushLeaves n its value point old new before after
+
+-- ---- What is sent
+
+-- the numbers of a window are of 32 bits, with a sign
+abbrev pub IsWindowFit : ClientMessage → Type 0
+IsWindowFit (client.Winsize m) = FitsSigned w32 m.rows × FitsSigned w32 m.cols
+IsWindowFit m = Unit {0}

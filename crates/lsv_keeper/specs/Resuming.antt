@@ -78,6 +78,7 @@ pub record IsCutInto (n point : ℕ) (stored : Stored) (old new : DiskView) : Ty
   pub was : Replays old.reads n (Some stored)
   pub going : stored.exit ≡ None
   pub ends : first stored.records point ≢ None
+  pub counted : drops stored point ≡ true → stored.cuts < 2 ^ 63 - 1
   pub run : Throughout (IsOfLog n) (λ image. Unit {0}) old new
   pub moments : Jointly (λ images. AllAsBefore n old images ⊎ AllCut n point stored images) old new
   pub now : AllCut n point stored (IsCrashImage new)
@@ -96,7 +97,6 @@ JournalRose n old new = HasRisen (old.faults (journal_of (owner_of n))) (new.fau
 pub record IsResumed (n point : ℕ) (texts : List (List ℕ)) (its : OpenLog) (old new : DiskView) : Type 0 where
   pub stored : Stored
   pub into : IsCutInto n point stored old new
-  pub counted : drops stored point ≡ true → stored.cuts < 2 ^ 63 - 1
   pub represents : Represents its.log (bare (cut_log stored point)) new
   pub number : its.log.number ≡ n
   pub mask : Masks texts its.mask (cut stored.records point)

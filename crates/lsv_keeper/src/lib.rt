@@ -5,12 +5,15 @@
 mod accept;
 mod dummy;
 mod events;
+mod exit;
 mod keeper;
 mod leave;
 mod logs;
 mod own;
+mod record;
 mod report;
 mod restart;
+mod resume;
 mod tail;
 mod told;
 

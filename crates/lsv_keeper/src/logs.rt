@@ -1,12 +1,11 @@
 //! The logs that connections write.
 
-ghost use Rattle.std.specs.Prelude.{◌≡◌, ◌+◌, ◌≤◌, ◌≢◌, ℕ, true, false, Some, None, IfSome, OnOk, OnErr, IfErr, IsOk};
+ghost use Rattle.std.specs.Prelude.{◌≡◌, ◌≤◌, ℕ, false, Some, None, OnOk, IfErr};
 ghost use Rattle.lsv_iolog.specs.Represents.{Represents};
 ghost use Rattle.lsv_iolog.specs.Value.{LogValue, is_complete};
-ghost use Rattle.lsv_iolog.specs.declared.fault.LogFault.{LogFault};
 ghost use Rattle.lsv_record.specs.Records.{IsValid};
-ghost use Rattle.lsv_record.specs.declared.records.Record.{Record};
-ghost use Rattle.lsv_keeper.specs.Logs.{Appends, Flushes, IsAppendFault, RefusesRecord, TakesRecord, open_logs, spare_logs, with_open};
+ghost use Rattle.lsv_keeper.specs.Logs.{Appends, Flushes, RefusesRecord, TakesRecord, log_refusal, open_logs, spare_logs, with_open};
+ghost use Rattle.lsv_keeper.specs.declared.logs.Appended.{Appended};
 ghost use Rattle.lsv_keeper.specs.declared.logs.OpenLog.{OpenLog};
 
 use lsv_base::{LogNo, NoMem, Point};
@@ -14,6 +13,7 @@ use lsv_disk::Disk;
 use lsv_iolog::{IoLog, LogFault};
 use lsv_mask::{Mask, Prompt, Search};
 use lsv_record::Record;
+use lsv_request::Refusal;
 use std::alloc::{AllocError, Global};
 use std::collections::HashMap;
 
@@ -39,6 +39,17 @@ pub enum Appended {
 #[derive(Drop)]
 pub struct OpenLogs {
     map: HashMap<u32, OpenLog>,
+}
+
+/// How a connection is refused for a fault of its log.
+pub(crate) fn log_refusal(fault: LogFault) -> Refusal
+    ensures { result ≡ log_refusal fault }
+{
+    match fault {
+        LogFault::TooLong(_) | LogFault::Full(_) => Refusal::LogFull,
+        LogFault::NoMem => Refusal::OutOfMemory,
+        _ => Refusal::DeviceFault,
+    }
 }
 
 impl OpenLogs {
@@ -83,35 +94,25 @@ impl OpenLogs {
         requires valid { IsValid r }
         ensures { Appends log r result (open_logs self.old) (open_logs self.new) }
     {
-        match self.stage(log, prompt, r) {
+        let Some(its) = self.map.get_mut(&log.get()) else {
+            return Appended::NotOpen;
+        };
+        if its.log.is_complete() {
+            return Appended::NotOpen;
+        }
+        match its.append(prompt, r) {
             Ok(()) => Appended::Staged,
-            Err(None) => Appended::NotOpen,
-            Err(Some(fault)) => match self.take(log) {
-                Some(its) => Appended::Refused(its, fault),
-                None => Appended::NotOpen,
-            },
+            Err(fault) => self.refuse(log, fault),
         }
     }
 
-    /// Covers a record in place, and stages it; else the log's fault, or none where no log is open there that isn't
-    /// complete.
-    fn stage<H: Search>(
-        &mut self,
-        log: LogNo,
-        prompt: &Prompt<H>,
-        r: Record,
-    ) -> Result<(), Option<LogFault>>
-        requires valid { IsValid r }
+    /// Takes out a log that refused a record for this fault.
+    fn refuse(&mut self, log: LogNo, fault: LogFault) -> Appended
+        ensures { (its : OpenLog) → open_logs self.old log ≡ Some its → (result ≡ Appended.Refused its fault) × (open_logs self.new ≡ with_open log None (open_logs self.old)) }
     {
-        let Some(its) = self.map.get_mut(&log.get()) else {
-            return Err(None);
-        };
-        if its.log.is_complete() {
-            return Err(None);
-        }
-        match its.append(prompt, r) {
-            Ok(()) => Ok(()),
-            Err(fault) => Err(Some(fault)),
+        match self.take(log) {
+            Some(its) => Appended::Refused(its, fault),
+            None => Appended::NotOpen,
         }
     }
 
@@ -126,7 +127,7 @@ impl OpenLogs {
         match its.log.flush(disk) {
             Ok(point) => Some(point),
             Err(_) => {
-                let _ = self.map.remove(&log.get());
+                let _ = self.take(log);
                 None
             }
         }
@@ -144,7 +145,9 @@ impl OpenLog {
     {
         let mut r = r;
         self.mask.cover(prompt, &mut r);
-        self.log.append(&r)?;
-        Ok(())
+        match self.log.append(&r) {
+            Ok(_) => Ok(()),
+            Err(fault) => Err(fault),
+        }
     }
 }

@@ -36,7 +36,8 @@ impl<F: LineWriter, H: Search> Keeper<F, H> {
             → LinesGive (view_of self.old) m out.old.items out.new.items (view_of self.new) (D.view disk.old) (D.view disk.new) }
     {
         match self.events.flush(disk) {
-            Ok(()) | Err(BundleFault::Broken) => self.noting.clear(),
+            Ok(()) => self.noting.clear(),
+            Err(BundleFault::Broken) => self.noting.clear(),
             Err(_) => self.lose_lines(disk, out),
         }
     }
@@ -73,7 +74,7 @@ impl<F: LineWriter, H: Search> Keeper<F, H> {
         ensures refused { D.tells → (m : Machine) → Represents (view_of self.old) (D.view disk.old) m
             → RefusedGive (conn ∷ []) (view_of self.old) m out.old.items out.new.items (view_of self.new) (D.view disk.old) (D.view disk.new) }
     {
-        if self.table.state(conn) == ConnState::Dead {
+        if let ConnState::Dead = self.table.state(conn) {
             return;
         }
         self.leave(disk, conn, ConnState::Dead);

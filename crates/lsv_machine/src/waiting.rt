@@ -5,9 +5,10 @@ use crate::connections::same;
 use lsv_base::{LogNo, NoMem};
 use lsv_session::ConnId;
 
-/// Puts a number among rising ones, once.
+/// Puts a number among rising ones, once. It takes no memory where there is room for one more.
 pub fn insert_once(numbers: &mut Vec<LogNo>, number: LogNo) -> Result<(), NoMem>
-    ensures { OnOk result (numbers.new.items ≡ insert_once number numbers.old.items) }
+    ensures inserted { OnOk result (numbers.new.items ≡ insert_once number numbers.old.items) }
+    ensures room { vec_len numbers.old < vec_capacity numbers.old → IsOk result }
 {
     for (place, other) in numbers.iter().enumerate() {
         if number.get() == other.get() {

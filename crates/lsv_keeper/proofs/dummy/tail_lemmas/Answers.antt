@@ -5,6 +5,7 @@ use Rattle.lsv_keeper.proofs.Losing.{lost_log, lost_line}
 use Rattle.lsv_keeper.proofs.TailRows.{committed_gives, lost_gives}
 use Rattle.lsv_keeper.proofs.TailLoops.{logs_start, logs_step, log_given}
 use Rattle.lsv_keeper.proofs.TailRefusals.{refusing_on, refuses_one, refusing_ends}
+use Rattle.lsv_keeper.proofs.TailLines.{lines_written, lines_none, events_failed, lines_refused}
 use Rattle.lsv_keeper.proofs.dummy.tail_lemmas.Goals as goal
 
 pub returns : goal.returns
