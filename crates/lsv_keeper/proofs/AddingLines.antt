@@ -1,6 +1,6 @@
 -- An event line is added: what the keeper then stands for.
 use Rattle.std.proofs.Common.{◌≡◌, ◌≢◌, ◌≤◌, ◌<◌, ◌+◌, ◌*◌, ◌^◌, ℕ, List, [], ◌∷◌, ◌++◌, length, refl, sym, ◌∙◌, ap, subst, inl, inr, arith, Option, Some, None, ◌⊎◌}
-use Rattle.std.specs.Prelude.{Bool, true, false, nat_le, if◌then◌else◌}
+use Rattle.std.specs.Prelude.{Bool, true, false, not, nat_le, if◌then◌else◌}
 use Rattle.std.proofs.lemmas.Bool.Decides.{nat_tests}
 use Rattle.std.proofs.Common.{length-append, slice_index}
 use Rattle.lsv_bundle.proofs.Laws.{one_body}
@@ -90,17 +90,16 @@ pub line_added : (v : KeeperView) (log : EventLogView) (disk : DiskView) (m : Ma
     → text_length v.events + length line ≤ 2 ^ 40 → (line_fits line m ≡ true) × Represents (record v { events = log }) disk (record m { fresh = m.fresh ++ line })
 line_added v log disk m line at whole added sound room =
     let are = at.events.whole whole in
-    let now = event_laws.log_added v.events log disk line added are.represents in
-    (
+    let now = event_laws.log_added v.events log disk line added are.represents in (
       fits_by (text_length v.events) (length m.lines) (length m.fresh) (length line) (text_is v disk m at whole) room,
       subst (λ (ns : List ConnId). Represents (record v { events = log; noting = ns }) disk (record m { fresh = m.fresh ++ line })) at.noting
-      (represents_events v log m.noting disk disk m (m.fresh ++ line) (λ file. ⊥) at (nowhere disk) (λ file t. absurd t) (record {
-        lane_is = added.lane ∙ at.events.lane_is;
-        sound = sound;
-        reads = at.events.reads;
-        whole = λ _. record { represents = now.0; committed = now.1 ∙ are.committed; added = added.text ∙ ap (λ (t : List ℕ). t ++ line) are.added };
-        broken = λ broken. not_broken (is_broken v.events) whole (sym (ap (λ (b : BundleView). b.is_broken) added.others) ∙ broken);
-      })),
+          (represents_events v log m.noting disk disk m (m.fresh ++ line) (λ file. ⊥) at (nowhere disk) (λ file t. absurd t) (record {
+            lane_is = added.lane ∙ at.events.lane_is;
+            sound = sound;
+            reads = at.events.reads;
+            whole = λ _. record { represents = now.0; committed = now.1 ∙ are.committed; added = added.text ∙ ap (λ (t : List ℕ). t ++ line) are.added };
+            broken = λ broken. not_broken (is_broken v.events) whole (sym (ap (λ (b : BundleView). b.is_broken) added.others) ∙ broken);
+          })),
     )
 
 -- and isn't, where it doesn't fit
@@ -212,3 +211,11 @@ failed_is faults.NoMem e = absurd (cc)
 -- an event log that is as it was
 pub same_events : (v : KeeperView) (log : EventLogView) (disk : DiskView) (m : Machine) → log ≡ v.events → Represents v disk m → Represents (record v { events = log }) disk m
 same_events v log disk m e at = subst (λ (x : EventLogView). Represents (record v { events = x }) disk m) (sym e) at
+
+-- an event log to which a line was added is as whole as before
+pub added_whole : (old new : EventLogView) (line : List ℕ) → IsAdded line old new → is_broken old ≡ false → is_broken new ≡ false
+added_whole old new line added whole = ap (λ (b : BundleView). b.is_broken) added.others ∙ whole
+
+pub not_true : (b : Bool) → not b ≡ true → b ≡ false
+not_true true e = absurd (cc)
+not_true false e = refl

@@ -33,10 +33,28 @@ reject_event v now k s report m = go (is_running s) refl
   where
     go : (b : Bool) → is_running s ≡ b → IsReject v now k s report m (if is_running s then next.Stays else next.Ends)
     go true r = subst (λ (b : Bool). IsReject v now k s report m (if b then next.Stays else next.Ends)) (sym r) (record {
-      line_is = refl; has_one = refl; opens_none = refl; does = λ n. rw r refl; first = λ n. refl; idle = tt; lets_go = λ failed left x. x; loses_line = λ failed left x. x; notes_none = λ n l. refl; reads_none = λ n shut answers. refl;
+      line_is = refl;
+      has_one = refl;
+      opens_none = refl;
+      does = λ n. rw r refl;
+      first = λ n. refl;
+      idle = tt;
+      lets_go = λ failed left x. x;
+      loses_line = λ failed left x. x;
+      notes_none = λ n l. refl;
+      reads_none = λ n shut answers. refl;
     })
     go false r = subst (λ (b : Bool). IsReject v now k s report m (if b then next.Stays else next.Ends)) (sym r) (record {
-      line_is = refl; has_one = refl; opens_none = refl; does = λ n. rw r refl; first = λ n. refl; idle = idle_of s r; lets_go = λ failed left x. x; loses_line = λ failed left x. x; notes_none = λ n l. refl; reads_none = λ n shut answers. refl;
+      line_is = refl;
+      has_one = refl;
+      opens_none = refl;
+      does = λ n. rw r refl;
+      first = λ n. refl;
+      idle = idle_of s r;
+      lets_go = λ failed left x. x;
+      loses_line = λ failed left x. x;
+      notes_none = λ n l. refl;
+      reads_none = λ n shut answers. refl;
     })
 
 pub alert_event : (v : KeeperView) (now : TimeSpec) (k : ConnId) (s : ConnState) (report : Report) (m : Machine)
@@ -45,10 +63,28 @@ alert_event v now k s report m = go (is_running s) refl
   where
     go : (b : Bool) → is_running s ≡ b → IsAlert v now k s report m (if is_running s then next.Stays else next.Enters Alerted)
     go true r = subst (λ (b : Bool). IsAlert v now k s report m (if b then next.Stays else next.Enters Alerted)) (sym r) (record {
-      line_is = refl; has_one = refl; opens_none = refl; does = λ n. rw r refl; first = λ n. refl; idle = tt; lets_go = λ failed left x. x; loses_line = λ failed left x. x; notes_none = λ n l. refl; reads_none = λ n shut answers. refl;
+      line_is = refl;
+      has_one = refl;
+      opens_none = refl;
+      does = λ n. rw r refl;
+      first = λ n. refl;
+      idle = tt;
+      lets_go = λ failed left x. x;
+      loses_line = λ failed left x. x;
+      notes_none = λ n l. refl;
+      reads_none = λ n shut answers. refl;
     })
     go false r = subst (λ (b : Bool). IsAlert v now k s report m (if b then next.Stays else next.Enters Alerted)) (sym r) (record {
-      line_is = refl; has_one = refl; opens_none = refl; does = λ n. rw r refl; first = λ n. refl; idle = idle_of s r; lets_go = λ failed left x. x; loses_line = λ failed left x. x; notes_none = λ n l. refl; reads_none = λ n shut answers. refl;
+      line_is = refl;
+      has_one = refl;
+      opens_none = refl;
+      does = λ n. rw r refl;
+      first = λ n. refl;
+      idle = idle_of s r;
+      lets_go = λ failed left x. x;
+      loses_line = λ failed left x. x;
+      notes_none = λ n l. refl;
+      reads_none = λ n shut answers. refl;
     })
 
 pub accept_event : (v : KeeperView) (now : TimeSpec) (k : ConnId) (s : ConnState) (accept : Accept) (m : Machine) → (not (is_running s) && accept.expect_iobufs) ≡ false
@@ -57,10 +93,28 @@ accept_event v now k s accept m none = go (is_running s) refl
   where
     go : (b : Bool) → is_running s ≡ b → IsAccept v now k s accept m (if is_running s then next.Stays else next.Enters (Running None))
     go true r = subst (λ (b : Bool). IsAccept v now k s accept m (if b then next.Stays else next.Enters (Running None))) (sym r) (record {
-      line_is = refl; has_one = refl; opens_none = none; does = λ n. rw r refl; first = λ n. rw none refl; idle = tt; lets_go = λ failed left x. x; loses_line = λ failed left x. inr (none, x); notes_none = λ n l. refl; reads_none = λ n shut answers. refl;
+      line_is = refl;
+      has_one = refl;
+      opens_none = none;
+      does = λ n. rw r refl;
+      first = λ n. rw none refl;
+      idle = tt;
+      lets_go = λ failed left x. x;
+      loses_line = λ failed left x. inr (none, x);
+      notes_none = λ n l. refl;
+      reads_none = λ n shut answers. refl;
     })
     go false r =
         let e : accept.expect_iobufs ≡ false = rw r at none in
         subst (λ (b : Bool). IsAccept v now k s accept m (if b then next.Stays else next.Enters (Running None))) (sym r) (record {
-          line_is = refl; has_one = refl; opens_none = none; does = λ n. rw (r, e) refl; first = λ n. rw none refl; idle = idle_of s r; lets_go = λ failed left x. x; loses_line = λ failed left x. inr (none, x); notes_none = λ n l. refl; reads_none = λ n shut answers. refl;
+          line_is = refl;
+          has_one = refl;
+          opens_none = none;
+          does = λ n. rw (r, e) refl;
+          first = λ n. rw none refl;
+          idle = idle_of s r;
+          lets_go = λ failed left x. x;
+          loses_line = λ failed left x. inr (none, x);
+          notes_none = λ n l. refl;
+          reads_none = λ n shut answers. refl;
         })

@@ -148,9 +148,9 @@ module _ (v v1 : KeeperView) (d0 d1 : DiskView) (m : Machine) (n : ℕ) (now : T
       (row_told v v1 v2 now job exit (told_end job.conn (elapsed (all_of h.value))) (with_log n (There (with_exit (exit_text exit) (flushed h.value)) (length (all_of h.value))) m)
       (with_log n (There (with_exit (exit_text exit) (flushed h.value)) h.promised) m) m d0 d1 d2 laws laws' log_request log_x set_alike first second (says_told job.conn (elapsed (all_of h.value)))
       (λ line. subst (λ (o : Option ℕ). OwnIf v o (lined_act job now (told_end job.conn (elapsed (all_of h.value))) line) m d0 d1) (sym state)
-        (keeps_told v d0 d1 m n now job exit laws laws' at state log_request h moments (elapsed (all_of h.value)) line (all_set all)))
+      (keeps_told v d0 d1 m n now job exit laws laws' at state log_request h moments (elapsed (all_of h.value)) line (all_set all)))
       (subst (λ (o : Option ℕ). LineAdded job.conn (event_line v1.kind now job.conn (request.Exit exit) o) (leaves job.conn Dead (with_log n (There (with_exit (exit_text exit) (flushed h.value)) (length (all_of h.value))) m)) v1 v2 d2) (sym state)
-        (added (leaves job.conn Dead (with_log n (There (with_exit (exit_text exit) (flushed h.value)) (length (all_of h.value))) m)) (stands_told all))))
+      (added (leaves job.conn Dead (with_log n (There (with_exit (exit_text exit) (flushed h.value)) (length (all_of h.value))) m)) (stands_told all))))
 
   -- its line was refused
   pub log_line_refused : (v2 : KeeperView) (d2 : DiskView) (why : Refusal) → AllSet → Beside v1.lane v1.lanes None d1 d2
@@ -159,9 +159,9 @@ module _ (v v1 : KeeperView) (d0 d1 : DiskView) (m : Machine) (n : ℕ) (now : T
       row_line_refused v v1 v2 now job exit (told_end job.conn (elapsed (all_of h.value))) (with_log n (There (with_exit (exit_text exit) (flushed h.value)) (length (all_of h.value))) m)
       (with_log n (There (with_exit (exit_text exit) (flushed h.value)) h.promised) m) m d0 d1 d2 laws laws' log_request log_x set_alike first second why
       (λ answers failed ended. subst (λ (o : Option ℕ). OwnIf v o (act_of job now answers failed) m d0 d1) (sym state)
-        (keeps_ended v d0 d1 m n now job exit laws laws' at state log_request h moments answers failed ended))
+      (keeps_ended v d0 d1 m n now job exit laws laws' at state log_request h moments answers failed ended))
       (subst (λ (o : Option ℕ). LineRefused (event_line v1.kind now job.conn (request.Exit exit) o) why (leaves job.conn Dead (with_log n (There (with_exit (exit_text exit) (flushed h.value)) h.promised) m)) v1 v2 d1 d2) (sym state)
-        (not_added (leaves job.conn Dead (with_log n (There (with_exit (exit_text exit) (flushed h.value)) h.promised) m)) (stands_set all)))
+      (not_added (leaves job.conn Dead (with_log n (There (with_exit (exit_text exit) (flushed h.value)) h.promised) m)) (stands_set all)))
 
   -- it failed
   pub log_failed : OwnerRose (owners.Log its.log.number) d0 d1 → RowGives v now job (told.Refused refusals.DeviceFault) m v1 d0 d1

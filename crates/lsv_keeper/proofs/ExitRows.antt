@@ -269,10 +269,10 @@ let_go_as v v' old new m k n x promised at is d open_ones elsewhere reads enough
       closed = open_ones n ∙ ap (λ (b : Bool). if b then None else log_in v n) (its_log n);
       reads = subst (λ (y : LogState). ReadsAs (Replays new.reads n) y) (sym log_then) reads;
       enough = λ stored p e.
-        let f : There x promised ≡ There stored p = sym log_then ∙ e in
-        let g : x ≡ stored = cc in
-        let i : promised ≡ p = cc in
-        subst (λ (y : Stored). p ≤ length y.records) g (subst (λ (q : ℕ). q ≤ length x.records) i enough);
+          let f : There x promised ≡ There stored p = sym log_then ∙ e in
+          let g : x ≡ stored = cc in
+          let i : promised ≡ p = cc in
+          subst (λ (y : Stored). p ≤ length y.records) g (subst (λ (q : ℕ). q ≤ length x.records) i enough);
     }
 
     changes : Changes (Some n) v v' new m (leaves k Dead left)
@@ -332,8 +332,12 @@ module _ (v w w' : KeeperView) (now : TimeSpec) (job : Job) (exit : Exit) (said 
     leaves job.conn Dead whole,
     acted v now job (log_of (m.states job.conn)) (act_of job now said []) m (leaves job.conn Dead whole) one three laws refl refl
         (step_quiet v now job exit said whole left m x (sym same.log_exit ∙ none)) (counts_did (act_of job now said []) one three both.monotone (rose_none one three) refl)
-        (record { own = λ n e. e; to = says.to; told = λ n e. absurd (let f : false ≡ true = sym (says.no_log n) ∙ e in cc);
-          read = λ n e. absurd (exit_reads n (is_dead (m.states job.conn)) (request_in job.body) exit said request_is e) })
+        (record {
+          own = λ n e. e;
+          to = says.to;
+          told = λ n e. absurd (let f : false ≡ true = sym (says.no_log n) ∙ e in cc);
+          read = λ n e. absurd (exit_reads n (is_dead (m.states job.conn)) (request_in job.body) exit said request_is e);
+        })
         both (own_on v (log_of (m.states job.conn)) (act_of job now said []) m one two three laws' (keeps []) lane_second),
     stands,
   )
@@ -345,8 +349,12 @@ module _ (v w w' : KeeperView) (now : TimeSpec) (job : Job) (exit : Exit) (said 
             (step_lined v now job exit said whole left m x (sym same.log_exit ∙ has)
             (fits_then true (event_line w.kind now job.conn (request.Exit exit) (log_of (m.states job.conn))) (leaves job.conn Dead whole) line_then x.lines.0 x.fresh.0 fits))
             (counts_did (lined_act job now said line) one three both.monotone (rose_none one three) refl)
-            (record { own = λ n e. e; to = says.to; told = λ n e. absurd (let f : false ≡ true = sym (says.no_log n) ∙ e in cc);
-              read = λ n e. absurd (exit_reads n (is_dead (m.states job.conn)) (request_in job.body) exit said request_is e) })
+            (record {
+              own = λ n e. e;
+              to = says.to;
+              told = λ n e. absurd (let f : false ≡ true = sym (says.no_log n) ∙ e in cc);
+              read = λ n e. absurd (exit_reads n (is_dead (m.states job.conn)) (request_in job.body) exit said request_is e);
+            })
             both (own_on v (log_of (m.states job.conn)) (lined_act job now said line) m one two three laws' (keeps line) lane_second),
         subst (λ (t : List ℕ). Represents w' three (adds_line job.conn t (leaves job.conn Dead whole))) line_then stands,
       )

@@ -50,7 +50,6 @@ line_of_exit v now job exit m = event_line v.kind now job.conn (request.Exit exi
 abbrev pub lined_act : Job → TimeSpec → List Answer → List ℕ → Act
 lined_act job now answers line = record { job = job; answers = answers; failed = []; in_cut = false; line = line; now = now }
 
-
 module _ (v : KeeperView) (now : TimeSpec) (job : Job) (exit : Exit) (said : List Answer) (whole left m : Machine) (x : Exits v now job exit said whole left m) where
   plain_is : (i : ℕ) → plain (settings_of v) now job i m ≡ lined (settings_of v) now job.conn (m.states job.conn) (request.Exit exit) i m (ends job.conn said whole)
   plain_is i = plain_asked (settings_of v) now job (request.Exit exit) i m x.alive x.asks ∙ ap (λ (d : Done). lined (settings_of v) now job.conn (m.states job.conn) (request.Exit exit) i m d) (x.does i)
@@ -189,7 +188,7 @@ exits_none v now job exit m alive asks none = record {
 pub exits_log : (v : KeeperView) (now : TimeSpec) (job : Job) (exit : Exit) (n promised : ℕ) (stored : Stored) (m : Machine) → is_dead (m.states job.conn) ≡ false → AsksFor (m.states job.conn) job.body (request.Exit exit)
     → log_of (m.states job.conn) ≡ Some n → m.logs n ≡ There stored promised → fits_file (exit_text exit) ≡ true
     → Exits v now job exit (say job.conn (CommitPoint (elapsed stored.records)) ∷ say job.conn Shut ∷ []) (with_log n (There (with_exit (exit_text exit) stored) (length stored.records)) m)
-        (with_log n (There (with_exit (exit_text exit) stored) promised) m) m
+    (with_log n (There (with_exit (exit_text exit) stored) promised) m) m
 exits_log v now job exit n promised stored m alive asks own there fits = record {
   alive = alive;
   asks = asks;
@@ -215,8 +214,11 @@ plain_too_long v now job exit n i promised stored m alive asks own there full =
   where
     refused_anyway : (b : Bool) → (if b || true then refused job.conn refusals.LogFull m
         else if line_fits (event_line v.kind now job.conn (request.Exit exit) (log_of (m.states job.conn))) m
-          then record { answers = refusal job.conn refusals.LogFull; line = event_line v.kind now job.conn (request.Exit exit) (log_of (m.states job.conn));
-            machine = adds_line job.conn (event_line v.kind now job.conn (request.Exit exit) (log_of (m.states job.conn))) (leaves job.conn Dead m) }
-          else refused job.conn refusals.LogFull (before_line (m.states job.conn) (request.Exit exit) i m)) ≡ refused job.conn refusals.LogFull m
+        then record {
+          answers = refusal job.conn refusals.LogFull;
+          line = event_line v.kind now job.conn (request.Exit exit) (log_of (m.states job.conn));
+          machine = adds_line job.conn (event_line v.kind now job.conn (request.Exit exit) (log_of (m.states job.conn))) (leaves job.conn Dead m);
+        }
+        else refused job.conn refusals.LogFull (before_line (m.states job.conn) (request.Exit exit) i m)) ≡ refused job.conn refusals.LogFull m
     refused_anyway true = refl
     refused_anyway false = refl

@@ -107,13 +107,7 @@ impl<F: LineWriter, H: Search> Keeper<F, H> {
     }
 
     /// A session begins, with a new log; or the connection is refused.
-    fn accept_log<D: Disk>(
-        &mut self,
-        disk: &mut D,
-        now: TimeSpec,
-        conn: ConnId,
-        head: Head,
-    ) -> Told
+    fn accept_log<D: Disk>(&mut self, disk: &mut D, now: TimeSpec, conn: ConnId, head: Head) -> Told
         requires timed { IsSome (nanos_of now) }
         requires head { IsSome (nanos_of head.submit) }
         requires stands { D.tells → (m : Machine) × Represents (view_of self.old) (D.view disk.old) m }

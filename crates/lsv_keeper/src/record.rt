@@ -66,13 +66,7 @@ impl<F: LineWriter, H: Search> Keeper<F, H> {
     }
 
     /// A valid record goes to this log, which waits for its commit point then: there is room for it among the waiting.
-    fn take_record<D: Disk>(
-        &mut self,
-        disk: &mut D,
-        conn: ConnId,
-        log: LogNo,
-        r: Record,
-    ) -> Told
+    fn take_record<D: Disk>(&mut self, disk: &mut D, conn: ConnId, log: LogNo, r: Record) -> Told
         requires stands { D.tells → (m : Machine) × Represents (view_of self.old) (D.view disk.old) m }
         requires room { 1 ≤ room (view_of self.old) }
         requires waiting { vec_len self.old.waiting < vec_capacity self.old.waiting }

@@ -55,11 +55,7 @@ pub(crate) fn peer_of(conn: ConnId) -> Peer
 pub(crate) fn unless_running(state: ConnState, next: Next) -> Next
     ensures { result ≡ unless_running state next }
 {
-    if is_running(state) {
-        Next::Stays
-    } else {
-        next
-    }
+    if is_running(state) { Next::Stays } else { next }
 }
 
 impl<F: LineWriter, H: Search> Keeper<F, H> {
@@ -135,7 +131,12 @@ impl<F: LineWriter, H: Search> Keeper<F, H> {
                 info: report.info,
             },
         };
-        self.tell(disk, conn, &event, unless_running(state, Next::Enters(ConnState::Alerted)))
+        self.tell(
+            disk,
+            conn,
+            &event,
+            unless_running(state, Next::Enters(ConnState::Alerted)),
+        )
     }
 
     /// Adds the line of an event, and then does this; where the line can't be added, the connection is refused.

@@ -29,10 +29,10 @@ returns-in_err-log-clause-fault g c told =
     let e = c.in_err-log.field-0.0 in
     err_as c.from_residual-in_err-log.result e (λ x. IsResumeFault c.args.restart.log c.args.restart.point x (g.D.Disk.view c.args.disk.now) (g.D.Disk.view c.open.new.disk)) c.from_residual-in_err-log.ensures.1
     (opened_fault c.args.restart.log c.args.restart.point e (g.D.Disk.view c.args.disk.now) (g.D.Disk.view c.open.new.disk) c.in_err-log.ensures.fault
-        (record { run = c.open.ensures.any_moment told; reads = c.open.ensures.reads told; unmade = c.open.ensures.unmade told })
-        (λ is. (c.in_err-log.ensures.absent told (log_err e logs.Absent is)).0)
-        (λ part is. damaged (g.D.Disk.view c.args.disk.now).reads c.args.restart.log part (c.in_err-log.ensures.damaged told part (log_err e (logs.Damaged part) is)))
-        (λ is. c.in_err-log.ensures.cause.risen (log_err e logs.Disk is)))
+    (record { run = c.open.ensures.any_moment told; reads = c.open.ensures.reads told; unmade = c.open.ensures.unmade told })
+    (λ is. (c.in_err-log.ensures.absent told (log_err e logs.Absent is)).0)
+    (λ part is. damaged (g.D.Disk.view c.args.disk.now).reads c.args.restart.log part (c.in_err-log.ensures.damaged told part (log_err e (logs.Damaged part) is)))
+    (λ is. c.in_err-log.ensures.cause.risen (log_err e logs.Disk is)))
 
 pub returns-then-is_complete-clause-fault : goal.returns-then-is_complete-clause-fault
 returns-then-is_complete-clause-fault g c told =
