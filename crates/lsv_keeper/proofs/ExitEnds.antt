@@ -14,6 +14,8 @@ use Rattle.lsv_iolog.specs.Moments.{IsEither}
 use Rattle.lsv_iolog.specs.Recovered.{IsOfLog, Replays}
 use Rattle.lsv_iolog.specs.Represents as logs
 use Rattle.lsv_iolog.specs.Value.{IoLogView, LogValue, all_of, finished, flushed}
+use Rattle.lsv_iolog.specs.declared.fault.LogFault.{LogFault}
+use Rattle.lsv_iolog.specs.declared.fault.LogFault.TheVariants as faults
 use Rattle.lsv_record.specs.Records.{elapsed}
 use Rattle.lsv_record.specs.declared.records.Record.{Record}
 use Rattle.lsv_request.specs.declared.refusal.Refusal.{Refusal}
@@ -30,8 +32,8 @@ use Rattle.lsv_machine.specs.History.{request_in}
 use Rattle.lsv_machine.specs.Machine.{LogState.There, Machine, is_dead, leaves, log_of, with_log}
 use Rattle.lsv_machine.specs.Work.{fits_file, plain, refused, with_exit}
 use Rattle.lsv_keeper.specs.Exits.{LineAdded, LineRefused}
-use Rattle.lsv_keeper.specs.Leaving.{Departs}
-use Rattle.lsv_keeper.specs.Logs.{open_logs, with_open}
+use Rattle.lsv_keeper.specs.Leaving.{Departs, TakenOut}
+use Rattle.lsv_keeper.specs.Logs.{log_refusal, open_logs, with_open}
 use Rattle.lsv_keeper.specs.Represents.{Held, LogIs, Represents}
 use Rattle.lsv_keeper.specs.Rows.{Beside, Left, OwnerRose, RowGives, RowIs}
 use Rattle.lsv_keeper.specs.Value.{Keeps, KeeperView, SameSessions, event_line, log_in, owed, room, settings_of}
@@ -50,6 +52,12 @@ use Rattle.lsv_keeper.proofs.Sizes.{exit_fits, exit_full}
 
 -- ---- A session without a log
 
+-- what it stands for before its line
+pub session_stands : (v v1 : KeeperView) (d0 d1 : DiskView) (m : Machine) (k : ConnId) → log_of (m.states k) ≡ None → Left k Dead v m v1 d0 d1 → Represents v1 d1 (leaves k Dead m)
+session_stands v v1 d0 d1 m k none l =
+    let same : l.left ≡ m = subst (λ (o : Option ℕ). LeavesLog l.failed o None m l.left) none l.log in
+    subst (λ (y : Machine). Represents v1 d1 (leaves k Dead y)) same l.represents
+
 module _ (v v1 v2 : KeeperView) (d0 d1 d2 : DiskView) (m : Machine) (now : TimeSpec) (job : Job) (exit : Exit) (laws : Laws d0) (laws' : Laws d1) (alive : is_dead (m.states job.conn) ≡ false)
     (asks : AsksFor (m.states job.conn) job.body (request.Exit exit)) (none : log_of (m.states job.conn) ≡ None) (l : Left job.conn Dead v m v1 d0 d1) (same : SetAlike v v1) (second : Beside v1.lane v1.lanes None d1 d2) where
   x : Exits v now job exit (say job.conn Shut ∷ []) m m m
@@ -57,14 +65,6 @@ module _ (v v1 v2 : KeeperView) (d0 d1 d2 : DiskView) (m : Machine) (now : TimeS
 
   request_is : request_in job.body ≡ Ok (request.Exit exit)
   request_is = asked_in (m.states job.conn) job.body (request.Exit exit) asks
-
-  -- the log that it hasn't is left alone
-  left_same : l.left ≡ m
-  left_same = subst (λ (o : Option ℕ). LeavesLog l.failed o None m l.left) none l.log
-
-  -- what it stands for before its line
-  pub session_stands : Represents v1 d1 (leaves job.conn Dead m)
-  session_stands = subst (λ (y : Machine). Represents v1 d1 (leaves job.conn Dead y)) left_same l.represents
 
   pub session_told : LineAdded job.conn (event_line v1.kind now job.conn (request.Exit exit) None) (leaves job.conn Dead m) v1 v2 d2 → RowGives v now job told.Shut m v2 d0 d2
   session_told added answers is = subst (λ (said : List Answer). RowIs v now job said m v2 d0 d2) (sym is)
@@ -223,3 +223,32 @@ keeps_line a b c k less line same = record {
 -- a keeper that keeps is set as before
 pub set_by : (v v1 : KeeperView) → Keeps v v1 → SetAlike v v1
 set_by v v1 k = record { lane = k.lane; lanes = k.lanes; log_exit = k.log_exit; kind = k.kind }
+
+-- its end was refused, and nothing was done: its exit doesn't fit, or memory was wanting
+pub log_not_ended : (v v' : KeeperView) (old new : DiskView) (m : Machine) (n : ℕ) (now : TimeSpec) (job : Job) (exit : Exit) (its : OpenLog) (fault : LogFault) → Laws old → Represents v old m
+    → AsksFor (m.states job.conn) job.body (request.Exit exit) → log_of (m.states job.conn) ≡ Some n → log_in v n ≡ Some its
+    → ((fault ≡ faults.Disk) ⊎ (fault ≡ faults.Broken) ⊎ (fault ≡ faults.Full parts.Exit) ⊎ (fault ≡ faults.NoMem)) → fault ≢ faults.Disk → (fault ≡ faults.Broken → its.log.is_broken ≡ true)
+    → (fault ≡ faults.Full parts.Exit → IsFull its.log.bundle parts.Exit (length (exit_text exit))) → Left job.conn Dead v m v' old new → RowGives v now job (told.Refused (log_refusal fault)) m v' old new
+log_not_ended v v' old new m n now job exit its fault laws at asks state here (inl e) alive broken full l = absurd (alive e)
+log_not_ended v v' old new m n now job exit its fault laws at asks state here (inr (inl e)) alive broken full l = absurd (
+    let held : Held v old m n = subst (LogIs v old m n) (at.sound.owned job.conn n state) (at.logs n) in
+    let whole : its.log.is_broken ≡ false = ap (λ (o : OpenLog). o.log.is_broken) (sym (one_open (log_in v) n held.its its held.here here)) ∙ held.represents.whole in
+    let f : false ≡ true = sym whole ∙ broken e in
+    cc)
+log_not_ended v v' old new m n now job exit its fault laws at asks state here (inr (inr (inl e))) alive broken full l =
+    subst (λ (f : LogFault). RowGives v now job (told.Refused (log_refusal f)) m v' old new) (sym e) (log_full v v' old new m n now job exit its laws at asks state here (full e) l)
+log_not_ended v v' old new m n now job exit its fault laws at asks state here (inr (inr (inr e))) alive broken full l =
+    subst (λ (f : LogFault). RowGives v now job (told.Refused (log_refusal f)) m v' old new) (sym e) (log_wants v v' old new m n now job exit laws at asks state l)
+
+-- the log that wasn't ended was taken out
+pub unended_out : (v : KeeperView) (logs' : OpenLogs) (n : ℕ) (its left : OpenLog) → log_in v n ≡ Some its → left.log ≡ its.log → open_logs logs' ≡ with_open n None (open_logs v.logs)
+    → TakenOut n left v (record v { logs = logs' })
+unended_out v logs' n its left here same is = record {
+  beside = record { lane = refl; lanes = refl; log_exit = refl; kind = refl; texts = refl; numbers = refl; events = refl; noting = refl };
+  table = refl;
+  waiting = refl;
+  logs = λ i. ap (λ (f : ℕ → Option OpenLog). f i) is;
+  open_one = its;
+  was = here;
+  same = sym same;
+}

@@ -10,7 +10,7 @@ use Rattle.lsv_session.specs.declared.reply.Reply.{Reply}
 use Rattle.lsv_machine.specs.Answers.{reply_of}
 use Rattle.lsv_machine.specs.Disks.{LinesRest}
 use Rattle.lsv_machine.specs.Durable.{Reading}
-use Rattle.lsv_machine.specs.Keeping.{Ended, Going, Turned}
+use Rattle.lsv_machine.specs.Keeping.{Acted, Ended, Going, Turned}
 use Rattle.lsv_machine.specs.Machine.{Machine, Settings}
 use Rattle.lsv_machine.specs.Tails.{LinesEnded, LogEnded, LogsEnded, NoneFailed}
 use Rattle.lsv_machine.specs.Turns.{RefusesAll, Tail}
@@ -71,6 +71,14 @@ pub record LogsGive (numbers : List ℕ) (v : KeeperView) (m : Machine) (said sa
   pub own : (o : Owner) → Contains tail.failed o → (n : ℕ) × (o ≡ owners.Log n) × IsOneOf n numbers
   pub represents : Represents v' new (none_waits after)
 
+-- a job
+pub record JobGives (v : KeeperView) (now : TimeSpec) (job : Job) (m : Machine) (said said' : List Reply) (v' : KeeperView) (old new : DiskView) : Type 0 where
+  pub replies : List Reply
+  pub after : Machine
+  pub told : said' ≡ said ++ replies
+  pub acted : Acted (reading_of v.lane v.lanes) (settings_of v) now job replies m after old new
+  pub represents : Represents v' new after
+
 -- the jobs of a turn so far
 pub record JobsGive (v : KeeperView) (now : TimeSpec) (jobs : List Job) (m : Machine) (said said' : List Reply) (v' : KeeperView) (old new : DiskView) : Type 0 where
   pub replies : List Reply
@@ -86,4 +94,3 @@ pub record TurnGives (v : KeeperView) (now : TimeSpec) (jobs : List Job) (m : Ma
   pub told : said' ≡ said ++ replies
   pub turned : Turned (reading_of v.lane v.lanes) (settings_of v) now jobs replies m after old new
   pub represents : Represents v' new after
-  pub rests : after.fresh ≡ []

@@ -111,14 +111,16 @@ impl<F: LineWriter, H: Search> Keeper<F, H> {
                     Err(why) => Told::Refused(why),
                 }
             }
-            Err(LogFault::Disk) => {
-                self.release(conn, ConnState::Dead, log);
-                Told::Refused(Refusal::DeviceFault)
-            }
-            Err(fault) => {
-                self.let_go(disk, conn, ConnState::Dead, log, its);
-                Told::Refused(log_refusal(fault))
-            }
+            Err(fault) => match fault {
+                LogFault::Disk => {
+                    self.release(conn, ConnState::Dead, log);
+                    Told::Refused(Refusal::DeviceFault)
+                }
+                _ => {
+                    self.let_go(disk, conn, ConnState::Dead, log, its);
+                    Told::Refused(log_refusal(fault))
+                }
+            },
         }
     }
 

@@ -16,5 +16,7 @@ mod restart;
 mod resume;
 mod tail;
 mod told;
+mod turn;
+mod work;
 
 pub use keeper::Keeper;

@@ -35,10 +35,13 @@ impl<F: LineWriter, H: Search> Keeper<F, H> {
         ensures lines { D.tells → (m : Machine) → Represents (view_of self.old) (D.view disk.old) m
             → LinesGive (view_of self.old) m out.old.items out.new.items (view_of self.new) (D.view disk.old) (D.view disk.new) }
     {
-        match self.events.flush(disk) {
-            Ok(()) => self.noting.clear(),
-            Err(BundleFault::Broken) => self.noting.clear(),
-            Err(_) => self.lose_lines(disk, out),
+        let Err(fault) = self.events.flush(disk) else {
+            self.noting.clear();
+            return;
+        };
+        match fault {
+            BundleFault::Broken => self.noting.clear(),
+            _ => self.lose_lines(disk, out),
         }
     }
 

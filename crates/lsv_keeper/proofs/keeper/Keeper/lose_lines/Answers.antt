@@ -1,4 +1,5 @@
 use Rattle.std.proofs.Common.{◌≡◌, ℕ, List, [], length, refl, sym, ◌∙◌, ap, arith}
+use Rattle.std.proofs.lemmas.List.{get_or_default}
 use Rattle.std.specs.Global.{Vec}
 use Rattle.lsv_session.specs.declared.connection.ConnId.{ConnId}
 use Rattle.lsv_machine.specs.Machine.{Machine}
@@ -28,8 +29,8 @@ lose_line-requires-clause-replies g c =
     omega (arith, c.loop-conn.invariant.replies, c.requires.replies, c.loop-conn-test.true, e)
 
 pub loop-conn-preserved : goal.loop-conn-preserved
-loop-conn-preserved g c = refusing_on g.D.Disk.tells c.loop-conn.conn-index c.conn-item.result c.deref-conn-items.result.now (view_of c.args.self.now) (view_of c.loop-conn.self) (view_of c.lose_line.new.self) (room_in c.args.out.now) (room_in c.loop-conn.out) (room_in c.lose_line.new.out)
-    c.args.out.now.items c.loop-conn.out.items c.lose_line.new.out.items (g.D.Disk.view c.args.disk.now) (g.D.Disk.view c.loop-conn.disk) (g.D.Disk.view c.lose_line.new.disk) c.loop-conn-test.true c.conn-item.is
+loop-conn-preserved g c = refusing_on g.D.Disk.tells c.loop-conn.conn-index _ c.deref-conn-items.result.now (view_of c.args.self.now) (view_of c.loop-conn.self) (view_of c.lose_line.new.self) (room_in c.args.out.now) (room_in c.loop-conn.out) (room_in c.lose_line.new.out)
+    c.args.out.now.items c.loop-conn.out.items c.lose_line.new.out.items (g.D.Disk.view c.args.disk.now) (g.D.Disk.view c.loop-conn.disk) (g.D.Disk.view c.lose_line.new.disk) c.loop-conn-test.true (get_or_default _ _ _ _ c.loop-conn-test.true)
     c.loop-conn.invariant c.lose_line.ensures.set c.lose_line.ensures.noting c.lose_line.ensures.fewer c.lose_line.ensures.places c.lose_line.ensures.room c.lose_line.ensures.refused
 
 pub returns-clause-set : goal.returns-clause-set
