@@ -3,7 +3,18 @@ pub mod Counting
 pub mod Numbering
 pub mod Acting
 pub mod Standing
+pub mod Owning
+pub mod AddingLines
+pub mod Asking
+pub mod Telling
 pub mod TailPieces
+pub mod Departing
+pub mod Leaving
+pub mod Drawing
+pub mod Beginning
+pub mod Accepting
+pub mod Stopping
+pub mod EventKinds
 pub mod Opens
 pub mod Masking
 pub mod Sizes
@@ -13,8 +24,6 @@ pub mod Refusing
 pub mod ExitSteps
 pub mod ExitRows
 pub mod ExitEnds
-pub mod Departing
-pub mod Leaving
 pub mod Tailing
 pub mod Losing
 pub mod TailRows
@@ -35,5 +44,3 @@ pub mod RestartRows
 pub mod Viewing
 pub mod ResumedRows
 pub mod Looking
-pub mod Accepting
-pub mod Beginning

@@ -2,8 +2,8 @@
 //! device calls fail and wherever the machine stops.
 #![tactic(auto)]
 
-mod dummy;
 mod accept;
+mod dummy;
 mod events;
 mod exit;
 mod keeper;
