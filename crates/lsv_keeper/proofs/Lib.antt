@@ -31,11 +31,6 @@ pub mod TailLoops
 pub mod TailRefusals
 pub mod TailLines
 pub mod FlushEnds
-pub mod Owning
-pub mod AddingLines
-pub mod Asking
-pub mod Telling
-pub mod Drawing
 pub mod Late
 pub mod Seeing
 pub mod Restarting

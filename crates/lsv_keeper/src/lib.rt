@@ -3,7 +3,6 @@
 #![tactic(auto)]
 
 mod accept;
-mod dummy;
 mod events;
 mod exit;
 mod keeper;
