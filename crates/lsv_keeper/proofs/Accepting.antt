@@ -53,7 +53,7 @@ use Rattle.lsv_keeper.proofs.Telling.{beside_as, lined_by}
 -- ---- What the table says
 
 -- the accept of this head
-abbrev asked : Head → Request
+abbrev pub asked : Head → Request
 asked head = request.Accept (accept_of head)
 
 pub idle_of : (s : ConnState) → is_running s ≡ false → log_of s ≡ None
@@ -92,9 +92,9 @@ did_open k head n m = record { answers = say k (LogId n) ∷ []; line = []; mach
 
 made_lined : (v : KeeperView) (now : TimeSpec) (k : ConnId) (s : ConnState) (head : Head) (n : ℕ) (m : Machine) → is_running s ≡ false → n ≤ last_number → fits_file (head_text head) ≡ true
     → lined (settings_of v) now k s (asked head) n m (work k s (asked head) n m)
-      ≡ (if line_fits (event_line v.kind now k (asked head) (Some n)) m
-        then record { answers = say k (LogId n) ∷ []; line = event_line v.kind now k (asked head) (Some n); machine = adds_line k (event_line v.kind now k (asked head) (Some n)) (did_open k head n m).machine }
-        else refused k LogFull (makes n (head_text head) m))
+    ≡ (if line_fits (event_line v.kind now k (asked head) (Some n)) m
+    then record { answers = say k (LogId n) ∷ []; line = event_line v.kind now k (asked head) (Some n); machine = adds_line k (event_line v.kind now k (asked head) (Some n)) (did_open k head n m).machine }
+    else refused k LogFull (makes n (head_text head) m))
 made_lined v now k s head n m r within fits =
     let low : nat_lt 2176782335 n ≡ false = grind (arith, nat_tests) in
     let e : opened k (head_text head) n m ≡ did_open k head n m = rw (low, fits) refl in
@@ -109,7 +109,7 @@ line_lined v now k s head n m r within fits full = made_lined v now k s head n m
 
 begun_lined : (v : KeeperView) (now : TimeSpec) (k : ConnId) (s : ConnState) (head : Head) (n : ℕ) (m : Machine) → is_running s ≡ false → n ≤ last_number → fits_file (head_text head) ≡ true
     → line_fits (event_line v.kind now k (asked head) (Some n)) m ≡ true → lined (settings_of v) now k s (asked head) n m (work k s (asked head) n m)
-      ≡ record { answers = say k (LogId n) ∷ []; line = event_line v.kind now k (asked head) (Some n); machine = adds_line k (event_line v.kind now k (asked head) (Some n)) (did_open k head n m).machine }
+    ≡ record { answers = say k (LogId n) ∷ []; line = event_line v.kind now k (asked head) (Some n); machine = adds_line k (event_line v.kind now k (asked head) (Some n)) (did_open k head n m).machine }
 begun_lined v now k s head n m r within fits takes = made_lined v now k s head n m r within fits ∙ rw takes refl
 
 -- ---- A log that was being made
@@ -191,11 +191,11 @@ stopped_row v v1 v2 old mid new now job head m why laws laws1 k r a x left answe
     row failed up ends step = (
       leaves job.conn Dead left.left,
       acted v now job x.log (act_of job answers failed [] now) m (leaves job.conn Dead left.left) old new laws refl refl
-      (subst (λ (y : Machine). Step set m (act_of job answers failed [] now) (leaves job.conn Dead y)) (sym stays) step)
-      (counts_did (act_of job answers failed [] now) old new all.monotone up refl)
-      (concerns_ends x.log m (act_of job answers failed [] now) (λ n writes. absurd (let y : None ≡ Some n = sym idle ∙ writes in cc)) ends)
-      all
-      (own x.log (act_of job answers failed [] now) x.making ends late),
+          (subst (λ (y : Machine). Step set m (act_of job answers failed [] now) (leaves job.conn Dead y)) (sym stays) step)
+          (counts_did (act_of job answers failed [] now) old new all.monotone up refl)
+          (concerns_ends x.log m (act_of job answers failed [] now) (λ n writes. absurd (let y : None ≡ Some n = sym idle ∙ writes in cc)) ends)
+          all
+          (own x.log (act_of job answers failed [] now) x.making ends late),
       left.represents,
     )
 
@@ -245,20 +245,20 @@ pub begun_row : (v v' : KeeperView) (old new : DiskView) (now : TimeSpec) (job :
 begun_row v v' old new now job head m n text laws r a x answers e = (
   after,
   acted v now job (Some n) act m after old new laws refl refl
-  (plain_step (settings_of v) now job n m after answers (say job.conn (LogId n) ∷ []) line x.drawn
-    (plain_asks (settings_of v) now job n m (asked head) a ∙ begun_lined v now job.conn (m.states job.conn) head n m r x.within x.fits x.line_fits_in) e)
-  (counts_did act old new x.beside.monotone (rose_none old new) refl)
-  (record {
-    own = λ i writes. absurd (let y : None ≡ Some i = sym (idle_of (m.states job.conn) r) ∙ writes in cc);
-    to = subst (AllTo job.conn) (sym e) (refl, tt);
-    told = λ i tells. its_number i (subst (λ (given : List Answer). tells_log i given ≡ true) e tells);
-    read = λ i read. absurd (let y = subst (λ (what : Result Request Refusal). history.reads_log i (is_dead (m.states job.conn)) what answers ≡ true) asks read in let z : false ≡ true = y in cc);
-  })
-  x.beside
-  (record {
-    settled = λ l stands all. (moments l (stands.untold x.making.of_lane x.making.above), good l);
-    unsettled = λ l stands free was. (either_good v l (noted n l (Did act)) n (IsCrashImage old) old new (moments l (stands.untold x.making.of_lane x.making.above)), inl (good l));
-  }),
+      (plain_step (settings_of v) now job n m after answers (say job.conn (LogId n) ∷ []) line x.drawn
+      (plain_asks (settings_of v) now job n m (asked head) a ∙ begun_lined v now job.conn (m.states job.conn) head n m r x.within x.fits x.line_fits_in) e)
+      (counts_did act old new x.beside.monotone (rose_none old new) refl)
+      (record {
+        own = λ i writes. absurd (let y : None ≡ Some i = sym (idle_of (m.states job.conn) r) ∙ writes in cc);
+        to = subst (AllTo job.conn) (sym e) (refl, tt);
+        told = λ i tells. its_number i (subst (λ (given : List Answer). tells_log i given ≡ true) e tells);
+        read = λ i read. absurd (let y = subst (λ (what : Result Request Refusal). history.reads_log i (is_dead (m.states job.conn)) what answers ≡ true) asks read in let z : false ≡ true = y in cc);
+      })
+      x.beside
+      (record {
+        settled = λ l stands all. (moments l (stands.untold x.making.of_lane x.making.above), good l);
+        unsettled = λ l stands free was. (either_good v l (noted n l (Did act)) n (IsCrashImage old) old new (moments l (stands.untold x.making.of_lane x.making.above)), inl (good l));
+      }),
   x.represents,
 )
   where

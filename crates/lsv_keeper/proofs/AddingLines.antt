@@ -1,8 +1,21 @@
 -- An event line is added: what the keeper then stands for.
 use Rattle.std.proofs.Common.{◌≡◌, ◌≢◌, ◌≤◌, ◌<◌, ◌+◌, ◌*◌, ◌^◌, ℕ, List, [], ◌∷◌, ◌++◌, length, refl, sym, ◌∙◌, ap, subst, inl, inr, arith, Option, Some, None, ◌⊎◌}
-use Rattle.std.specs.Prelude.{Bool, true, false, nat_le, if◌then◌else◌}
+use Rattle.std.specs.Prelude.{Bool, true, false, not, nat_le, if◌then◌else◌}
 use Rattle.std.proofs.lemmas.Bool.Decides.{nat_tests}
+use Rattle.std.proofs.Common.{length-append, slice_index}
+use Rattle.lsv_bundle.proofs.Laws.{one_body}
+use Rattle.lsv_bundle.specs.Body.{encoded}
+use Rattle.lsv_bundle.specs.Calls.{IsOpenFault}
+use Rattle.lsv_bundle.specs.Committed.{HasPrefix, IsDamaged, IsShort}
+use Rattle.lsv_bundle.specs.Shape.{index_of}
 use Rattle.lsv_bundle.specs.Value.{BundleView}
+use Rattle.lsv_bundle.specs.declared.body.Body.{Body}
+use Rattle.lsv_bundle.specs.declared.fault.BundleFault.{BundleFault}
+use Rattle.lsv_bundle.specs.declared.fault.BundleFault.TheVariants as faults
+use Rattle.lsv_bundle.specs.declared.shape.Shape.TheVariants as shapes
+use Rattle.lsv_disk.specs.Files.{file_of}
+use Rattle.lsv_disk.specs.declared.file.Part.{Part}
+use Rattle.lsv_disk.specs.declared.file.Part.TheVariants as parts
 use Rattle.lsv_disk.specs.Throughout.{Throughout}
 use Rattle.lsv_disk.specs.View.{DiskView, Elsewhere, Image}
 use Rattle.lsv_disk.specs.declared.file.FileId.{FileId}
@@ -17,6 +30,8 @@ use Rattle.lsv_machine.specs.Machine.{Machine, note, same}
 use Rattle.lsv_machine.specs.Stands.{Sound}
 use Rattle.lsv_machine.specs.Work.{adds_line, line_fits, next_number}
 use Rattle.lsv_keeper.specs.Represents.{EventsAre, LinesAre, LinesLost, Represents}
+use Rattle.lsv_keeper.specs.Accepting.{failed_before, line_refusal}
+use Rattle.lsv_keeper.specs.Rows.{LineFault, OwnerRose}
 use Rattle.lsv_keeper.specs.Value.{KeeperView, settings_of}
 use Rattle.lsv_keeper.proofs.Frames.{IsApart, Laws}
 use Rattle.lsv_keeper.proofs.Standing.{Changes, numbers_stay, represents_one}
@@ -75,17 +90,16 @@ pub line_added : (v : KeeperView) (log : EventLogView) (disk : DiskView) (m : Ma
     → text_length v.events + length line ≤ 2 ^ 40 → (line_fits line m ≡ true) × Represents (record v { events = log }) disk (record m { fresh = m.fresh ++ line })
 line_added v log disk m line at whole added sound room =
     let are = at.events.whole whole in
-    let now = event_laws.log_added v.events log disk line added are.represents in
-    (
+    let now = event_laws.log_added v.events log disk line added are.represents in (
       fits_by (text_length v.events) (length m.lines) (length m.fresh) (length line) (text_is v disk m at whole) room,
       subst (λ (ns : List ConnId). Represents (record v { events = log; noting = ns }) disk (record m { fresh = m.fresh ++ line })) at.noting
-      (represents_events v log m.noting disk disk m (m.fresh ++ line) (λ file. ⊥) at (nowhere disk) (λ file t. absurd t) (record {
-        lane_is = added.lane ∙ at.events.lane_is;
-        sound = sound;
-        reads = at.events.reads;
-        whole = λ _. record { represents = now.0; committed = now.1 ∙ are.committed; added = added.text ∙ ap (λ (t : List ℕ). t ++ line) are.added };
-        broken = λ broken. not_broken (is_broken v.events) whole (sym (ap (λ (b : BundleView). b.is_broken) added.others) ∙ broken);
-      })),
+          (represents_events v log m.noting disk disk m (m.fresh ++ line) (λ file. ⊥) at (nowhere disk) (λ file t. absurd t) (record {
+            lane_is = added.lane ∙ at.events.lane_is;
+            sound = sound;
+            reads = at.events.reads;
+            whole = λ _. record { represents = now.0; committed = now.1 ∙ are.committed; added = added.text ∙ ap (λ (t : List ℕ). t ++ line) are.added };
+            broken = λ broken. not_broken (is_broken v.events) whole (sym (ap (λ (b : BundleView). b.is_broken) added.others) ∙ broken);
+          })),
     )
 
 -- and isn't, where it doesn't fit
@@ -146,3 +160,62 @@ note_longer k (j ∷ ns) = go (same j k) (note_longer k ns)
     go : (b : Bool) → length (note k ns) ≤ length ns + 1 → length (if b then j ∷ ns else j ∷ note k ns) ≤ length (j ∷ ns) + 1
     go true le = omega arith
     go false le = omega arith
+
+-- ---- A line that isn't added
+
+-- an event log that reads as a text isn't damaged
+short_prefix : (file : Option (List ℕ)) (prefix : List ℕ) (n : ℕ) → length prefix ≡ n → HasPrefix prefix file → IsShort file n → ⊥
+short_prefix None prefix n long begins short = begins
+short_prefix (Some bytes) prefix n long begins short = let e = ap length begins.1 in let f = simp length-append at e in omega arith
+
+pub text_undamaged : (image : Image) (lane : ℕ) (text : List ℕ) (part : Part) → HoldsLines image lane text → IsDamaged (owners.Events lane) shapes.Lines image part → ⊥
+text_undamaged image lane text part (inl (none, e)) damaged = let x : None ≡ Some (encoded damaged.body) = sym none ∙ damaged.entry.last in cc
+text_undamaged image lane text part (inr (entry, holds, is)) damaged =
+    let x : Some (encoded entry.body) ≡ Some (encoded damaged.body) = sym holds.last ∙ damaged.entry.last in
+    let y : encoded entry.body ≡ encoded damaged.body = cc in
+    let same_body = one_body entry.body damaged.body holds.is_body damaged.entry.is_body y in
+    elim damaged.first [
+      | inl (here, short) ↦ short_prefix (image (file_of (owners.Events lane) parts.Lines)) (entry.bytes parts.Lines) (slice_index damaged.body.lens (index_of parts.Lines))
+          (holds.lengths parts.Lines refl ∙ ap (λ (b : Body). slice_index b.lens (index_of parts.Lines)) same_body) (holds.bytes parts.Lines refl) short
+      | inr (enough, other) ↦ other
+    ]
+
+-- why a line isn't added to an event log that is open
+pub add_fault : (v : KeeperView) (disk old new : DiskView) (m : Machine) (line : List ℕ) (fault : BundleFault) → Represents v disk m → (fault ≡ faults.Broken → ⊥) → (fault ≡ faults.Broken) ⊎ (fault ≡ faults.Full parts.Lines) ⊎ (fault ≡ faults.NoMem)
+    → (fault ≡ faults.Full parts.Lines → (is_broken v.events ≡ false) × (2 ^ 40 < text_length v.events + length line)) → LineFault v.lane line m (line_refusal fault) old new
+add_fault v disk old new m line fault at open_one which full = elim which [
+  | inl broken ↦ absurd (open_one broken)
+  | inr (inl over) ↦ (let f = full over in inl (ap line_refusal over, line_full v disk m line at f.0 f.1))
+  | inr (inr none) ↦ inr (inl (ap line_refusal none))
+]
+
+-- why an event log isn't opened again
+pub open_fault : (v : KeeperView) (old new : DiskView) (m : Machine) (line : List ℕ) (fault : BundleFault) → Represents v old m → IsOpenFault fault
+    → ((part : Part) → fault ≡ faults.Damaged part → IsDamaged (owners.Events v.lane) shapes.Lines old.reads part) → (fault ≡ faults.Disk → OwnerRose (owners.Events v.lane) old new) → LineFault v.lane line m (line_refusal fault) old new
+open_fault v old new m line faults.Disk at is damaged rose = inr (inr (refl, rose refl))
+open_fault v old new m line (faults.Damaged part) at is damaged rose = absurd (text_undamaged old.reads v.lane m.lines part at.events.reads (damaged part refl))
+open_fault v old new m line faults.NoMem at is damaged rose = inr (inl refl)
+open_fault v old new m line faults.Broken at is damaged rose = absurd is
+open_fault v old new m line (faults.Full part) at is damaged rose = absurd is
+
+pub not_failed : (fault : BundleFault) → failed_before fault ≡ false → fault ≡ faults.Broken → ⊥
+not_failed fault before e = let x : failed_before fault ≡ true = ap failed_before e in let y : false ≡ true = sym before ∙ x in cc
+
+pub failed_is : (fault : BundleFault) → failed_before fault ≡ true → fault ≡ faults.Broken
+failed_is faults.Broken e = refl
+failed_is faults.Disk e = absurd (cc)
+failed_is (faults.Damaged part) e = absurd (cc)
+failed_is (faults.Full part) e = absurd (cc)
+failed_is faults.NoMem e = absurd (cc)
+
+-- an event log that is as it was
+pub same_events : (v : KeeperView) (log : EventLogView) (disk : DiskView) (m : Machine) → log ≡ v.events → Represents v disk m → Represents (record v { events = log }) disk m
+same_events v log disk m e at = subst (λ (x : EventLogView). Represents (record v { events = x }) disk m) (sym e) at
+
+-- an event log to which a line was added is as whole as before
+pub added_whole : (old new : EventLogView) (line : List ℕ) → IsAdded line old new → is_broken old ≡ false → is_broken new ≡ false
+added_whole old new line added whole = ap (λ (b : BundleView). b.is_broken) added.others ∙ whole
+
+pub not_true : (b : Bool) → not b ≡ true → b ≡ false
+not_true true e = absurd (cc)
+not_true false e = refl

@@ -123,16 +123,16 @@ timed_request : (m : ClientMessage) (what : Request) → request_of m ≡ Ok wha
 timed_request (client.Hello m) what e = let same : request.Hello ≡ what = cc in subst IsTimedRequest same tt
 timed_request (client.Accept m) what e = timed_by (accept_of m) (λ accept. request.Accept accept) what
     (λ accept is. let (submit, valid, q) = passed (valid_time m.submit_time) (λ submit. Ok (record { head = record { submit = submit; info = m.info_msgs }; expect_iobufs = m.expect_iobufs })) accept is in
-      let same : record { head = record { submit = submit; info = m.info_msgs }; expect_iobufs = m.expect_iobufs } ≡ accept = cc in
-      subst (λ (a : Accept). IsSome (nanos_of a.head.submit)) same (time_valid m.submit_time submit valid)) e
+    let same : record { head = record { submit = submit; info = m.info_msgs }; expect_iobufs = m.expect_iobufs } ≡ accept = cc in
+    subst (λ (a : Accept). IsSome (nanos_of a.head.submit)) same (time_valid m.submit_time submit valid)) e
 timed_request (client.Reject m) what e = timed_by (reject_of m) (λ report. request.Reject report) what
     (λ report is. let (time, valid, q) = passed (valid_time m.submit_time) (λ time. Ok (record { time = time; reason = m.reason; info = m.info_msgs })) report is in
-      let same : record { time = time; reason = m.reason; info = m.info_msgs } ≡ report = cc in
-      subst (λ (r : Report). IsSome (nanos_of r.time)) same (time_valid m.submit_time time valid)) e
+    let same : record { time = time; reason = m.reason; info = m.info_msgs } ≡ report = cc in
+    subst (λ (r : Report). IsSome (nanos_of r.time)) same (time_valid m.submit_time time valid)) e
 timed_request (client.Alert m) what e = timed_by (alert_of m) (λ report. request.Alert report) what
     (λ report is. let (time, valid, q) = passed (valid_time m.alert_time) (λ time. Ok (record { time = time; reason = m.reason; info = m.info_msgs })) report is in
-      let same : record { time = time; reason = m.reason; info = m.info_msgs } ≡ report = cc in
-      subst (λ (r : Report). IsSome (nanos_of r.time)) same (time_valid m.alert_time time valid)) e
+    let same : record { time = time; reason = m.reason; info = m.info_msgs } ≡ report = cc in
+    subst (λ (r : Report). IsSome (nanos_of r.time)) same (time_valid m.alert_time time valid)) e
 timed_request (client.Restart m) what e = timed_by (restart_of m) (λ restart. request.Restart restart) what (λ a is. tt) e
 timed_request (client.Exit m) what e = timed_by (exit_of m) (λ exit. request.Exit exit) what (λ a is. tt) e
 timed_request (client.Ttyin m) what e = timed_by (data_of stream.Ttyin m) (λ r. request.Record r) what (λ a is. tt) e
@@ -198,7 +198,7 @@ ext_logs : {f g : ℕ → LogState} → ((i : ℕ) → f i ≡ g i) → f ≡ g
 ext_logs h = λ i x. h x i
 
 -- a log that is as it was changes nothing
-same_log : (i : ℕ) (m : Machine) → with_log i (m.logs i) m ≡ m
+pub same_log : (i : ℕ) (m : Machine) → with_log i (m.logs i) m ≡ m
 same_log i m = ap (λ (logs : ℕ → LogState). record m { logs = logs }) (ext_logs each)
   where
     each : (j : ℕ) → (if j == i then m.logs i else m.logs j) ≡ m.logs j
@@ -233,18 +233,21 @@ refused_step set now job n answers failed why m left drawn lives p leaving e = g
       step = inr (record {
         alive = lives;
         no_line = refl;
-        how = inr (inl (refl, record {
-          number = n;
-          drawn = drawn;
-          lets_go = inl (why, e);
-          answers = e ∙ sym (ap (λ (d : Done). d.answers) p);
-          log = i;
-          writes = writes;
-          did = did;
-          left = log;
-          loses = subst (λ (d : Done). LosesTail (d.machine.logs i) log) (sym p) loses;
-          now = ap (leaves job.conn Dead) is ∙ sym (ap (λ (d : Done). with_log i log d.machine) p);
-        }));
+        how = inr (inl (
+          refl,
+          record {
+            number = n;
+            drawn = drawn;
+            lets_go = inl (why, e);
+            answers = e ∙ sym (ap (λ (d : Done). d.answers) p);
+            log = i;
+            writes = writes;
+            did = did;
+            left = log;
+            loses = subst (λ (d : Done). LosesTail (d.machine.logs i) log) (sym p) loses;
+            now = ap (leaves job.conn Dead) is ∙ sym (ap (λ (d : Done). with_log i log d.machine) p);
+          },
+        ));
       });
     }
 

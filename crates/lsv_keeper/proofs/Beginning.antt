@@ -117,8 +117,17 @@ own_represents v v' disk m k n its value promised at free idle here number going
     let m' = with_state k (Running (Some n)) (with_owner n (Some k) m) in
     let u : KeeperView = record v { table = v'.table; logs = v'.logs } in
     let same_view : v' ≡ u = λ i. record {
-      lane = keeps.lane i; lanes = keeps.lanes i; log_exit = keeps.log_exit i; kind = keeps.kind i; texts = keeps.texts i;
-      table = v'.table; logs = v'.logs; numbers = owns.numbers i; events = owns.events i; waiting = owns.waiting i; noting = owns.noting i;
+      lane = keeps.lane i;
+      lanes = keeps.lanes i;
+      log_exit = keeps.log_exit i;
+      kind = keeps.kind i;
+      texts = keeps.texts i;
+      table = v'.table;
+      logs = v'.logs;
+      numbers = owns.numbers i;
+      events = owns.events i;
+      waiting = owns.waiting i;
+      noting = owns.noting i;
     } in
     let its_owner : m'.owner n ≡ Some k = elim (eq_or n n) [ equal p t ↦ rw t refl | unequal p t ↦ absurd (p refl) ] in
     let its_here : log_in u n ≡ Some its = ap (λ (f : ℕ → Option OpenLog). f n) owns.logs_are ∙ elim (eq_or n n) [ equal p t ↦ rw t refl | unequal p t ↦ absurd (p refl) ] in
@@ -160,6 +169,6 @@ own_represents v v' disk m k n its value promised at free idle here number going
       numbers = at.numbers;
       later = omega arith;
       made = λ i e of_lane above. absurd (let q : n ≡ i = (let f : Some n ≡ Some i = e in cc) in
-        let none = at.sound.none_above i of_lane above in let x : m.logs n ≡ Absent = ap m.logs q ∙ none.0 in let y : Absent ≡ There (flushed value) promised = sym x ∙ there in cc);
+          let none = at.sound.none_above i of_lane above in let x : m.logs n ≡ Absent = ap m.logs q ∙ none.0 in let y : Absent ≡ There (flushed value) promised = sym x ∙ there in cc);
       events = events_stay v.lane v.events disk disk m m' (λ file. ⊥) (nowhere disk) (λ file own t. t) refl refl (λ none. none) at.events;
     }))

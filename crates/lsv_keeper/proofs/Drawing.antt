@@ -114,37 +114,35 @@ pub number_drawn : (v : KeeperView) (drawn : Numbers) (old new : DiskView) (m : 
 number_drawn v drawn old new m n at same last none after here elsewhere =
     let by = next_passed v.lane v.lanes v.numbers old (next_number (settings_of v) m) m.failed_draws n at.numbers after in
     let may : MayDraw (settings_of v) m n = record { passed = by.by; few = by.few; next = by.is } in
-    let is = drawn_is (settings_of v) m n at.sound may in
-    (
+    let is = drawn_is (settings_of v) m n at.sound may in (
       may,
       numbers_change v drawn old new m n 0 at (its_elsewhere v old old new m at elsewhere) (let a = is.1 in omega arith)
-      (record { lane = at.sound.lane; drawn = inr is.0; owns = at.sound.owns; owned = at.sound.owned; there = at.sound.there; none_above = λ j of_lane above. at.sound.none_above j of_lane (let a = is.1 in omega arith) })
-      (record {
-        lane_is = same.lane_is ∙ at.numbers.lane_is;
-        lanes_is = same.lanes_is ∙ at.numbers.lanes_is;
-        represents = here;
-        passed = 0;
-        next_is = next_same (record { last = n; lane = v.lane; lanes = v.lanes }) drawn.kept last (same.lane_is ∙ at.numbers.lane_is) (same.lanes_is ∙ at.numbers.lanes_is) ∙ omega arith;
-        few = subst (λ (o : Option ℕ). 0 + pending_count o ≤ 0) (sym none) (omega arith);
-      }),
+          (record { lane = at.sound.lane; drawn = inr is.0; owns = at.sound.owns; owned = at.sound.owned; there = at.sound.there; none_above = λ j of_lane above. at.sound.none_above j of_lane (let a = is.1 in omega arith) })
+          (record {
+            lane_is = same.lane_is ∙ at.numbers.lane_is;
+            lanes_is = same.lanes_is ∙ at.numbers.lanes_is;
+            represents = here;
+            passed = 0;
+            next_is = next_same (record { last = n; lane = v.lane; lanes = v.lanes }) drawn.kept last (same.lane_is ∙ at.numbers.lane_is) (same.lanes_is ∙ at.numbers.lanes_is) ∙ omega arith;
+            few = subst (λ (o : Option ℕ). 0 + pending_count o ≤ 0) (sym none) (omega arith);
+          }),
     )
 
 pub numbers_spent : (v : KeeperView) (drawn : Numbers) (old new : DiskView) (m : Machine) → Represents v old m → IsSameLane v.numbers drawn → IsPassedOver v.numbers drawn → pending_of drawn ≡ None → last_number < next_of drawn
     → numbers.Represents drawn new → Elsewhere (λ g. g ≡ numbers_file (lane_of v.numbers)) old new → ((n : ℕ) × MayDraw (settings_of v) m n × (last_number < n)) × Represents (record v { numbers = drawn }) new m
 numbers_spent v drawn old new m at same over none spent here elsewhere =
-    let by = passed_over v.lane v.lanes v.numbers drawn old (next_number (settings_of v) m) m.failed_draws at.numbers same over in
-    (
+    let by = passed_over v.lane v.lanes v.numbers drawn old (next_number (settings_of v) m) m.failed_draws at.numbers same over in (
       (next_of drawn, record { passed = by.by; few = by.few; next = by.is }, spent),
       numbers_change v drawn old new m m.last m.failed_draws at (its_elsewhere v old old new m at elsewhere) (omega arith)
-      (record { lane = at.sound.lane; drawn = at.sound.drawn; owns = at.sound.owns; owned = at.sound.owned; there = at.sound.there; none_above = at.sound.none_above })
-      (record {
-        lane_is = same.lane_is ∙ at.numbers.lane_is;
-        lanes_is = same.lanes_is ∙ at.numbers.lanes_is;
-        represents = here;
-        passed = by.by;
-        next_is = by.is;
-        few = subst (λ (o : Option ℕ). by.by + pending_count o ≤ m.failed_draws) (sym none) (let f = by.few in omega arith);
-      }),
+          (record { lane = at.sound.lane; drawn = at.sound.drawn; owns = at.sound.owns; owned = at.sound.owned; there = at.sound.there; none_above = at.sound.none_above })
+          (record {
+            lane_is = same.lane_is ∙ at.numbers.lane_is;
+            lanes_is = same.lanes_is ∙ at.numbers.lanes_is;
+            represents = here;
+            passed = by.by;
+            next_is = by.is;
+            few = subst (λ (o : Option ℕ). by.by + pending_count o ≤ m.failed_draws) (sym none) (let f = by.few in omega arith);
+          }),
     )
 
 pub draw_failed : (v : KeeperView) (drawn : Numbers) (old new : DiskView) (m : Machine) → Represents v old m → IsSameLane v.numbers drawn → IsPassedOver v.numbers drawn → pending_of drawn ≡ Some (next_of drawn)
@@ -176,7 +174,7 @@ pub draw_beside : (v : KeeperView) (drawn : Numbers) (old new : DiskView) (m : M
     → Throughout (λ g. g ≡ numbers_file (lane_of v.numbers)) (λ image. HasDrawn v.numbers image ⊎ HasDrawn drawn image) old new → ((file : FileId) → old.faults file ≤ new.faults file) → Beside v.lane v.lanes None old new
 draw_beside v drawn old new m laws laws' at same low run up =
     let its : Throughout (λ g. g ≡ numbers_file v.lane) (λ image. HasDrawn v.numbers image ⊎ HasDrawn drawn image) old new =
-      subst (λ (x : ℕ). Throughout (λ g. g ≡ numbers_file x) (λ image. HasDrawn v.numbers image ⊎ HasDrawn drawn image) old new) at.numbers.lane_is run in
+    subst (λ (x : ℕ). Throughout (λ g. g ≡ numbers_file x) (λ image. HasDrawn v.numbers image ⊎ HasDrawn drawn image) old new) at.numbers.lane_is run in
     let mine = last_at v old m at in
     beside_numbers v.lane v.lanes (λ image. HasDrawn v.numbers image ⊎ HasDrawn drawn image) old new laws laws'
     (draw_keeps v m (λ image. HasDrawn v.numbers image ⊎ HasDrawn drawn image) old new laws laws' at its (λ image has. elim has [

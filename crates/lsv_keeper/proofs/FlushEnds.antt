@@ -1,6 +1,8 @@
 -- What a flush of the event log says, for the end of a turn.
-use Rattle.std.proofs.Common.{◌≡◌, ◌≤◌, List, ℕ, [], ◌++◌, sym, ◌∙◌, ap, subst}
-use Rattle.std.specs.Prelude.{true, false}
+use Rattle.std.proofs.Common.{◌≡◌, ◌≢◌, ◌≤◌, ◌⊎◌, List, ℕ, [], ◌++◌, refl, sym, ◌∙◌, ap, subst, inl, inr}
+use Rattle.std.specs.Prelude.{Bool, true, false, Result, Ok, Err, IsErrOf, ◌↔◌}
+use Rattle.lsv_bundle.specs.declared.fault.BundleFault.{BundleFault}
+use Rattle.lsv_bundle.specs.declared.fault.BundleFault.TheVariants as faults
 use Rattle.lsv_disk.specs.Throughout.{Throughout}
 use Rattle.lsv_disk.specs.View.{DiskView, HasOwnCause, Image, IsCrashImage}
 use Rattle.lsv_disk.specs.declared.file.FileId.{FileId}
@@ -54,3 +56,30 @@ flush_failed v log m old new failed laws laws' at before run lane sound broken c
     events_failed v log m old new laws laws' at was is lines.0 lines.1
         (subst (λ (n : ℕ). Throughout (IsOfEventLog n) (IsEither n was is) old new) mine run)
         (lane ∙ mine) sound broken (owner_rose (Events v.lane) (IsOfEventLog v.lane) failed old new (of_lane v.lane) own did) cause.monotone
+
+either : (b : Bool) → (b ≡ true) ⊎ (b ≡ false)
+either true = inl refl
+either false = inr refl
+
+-- it is open where it isn't broken
+pub unbroken : (b : Bool) → ((b ≡ true) → ⊥) → b ≡ false
+unbroken b isnt = elim (either b) [ | inl is ↦ absurd (isnt is) | inr is ↦ is ]
+
+-- of two faults it is the other
+other_fault : (e : BundleFault) → (e ≡ faults.Disk) ⊎ (e ≡ faults.Broken) → e ≢ faults.Broken → e ≡ faults.Disk
+other_fault e (inl is) isnt = is
+other_fault e (inr is) isnt = absurd (isnt is)
+
+same_fault : {T : Type 0} (e f : BundleFault) (result : Result T BundleFault) → result ≡ Err e → result ≡ Err f → e ≡ f
+same_fault e f (Err d) is was = cc
+same_fault e f (Ok x) is was = cc
+
+-- where a flush failed and it wasn't broken, the device failed
+pub flush_lost : {T : Type 0} (v : KeeperView) (log : EventLogView) (m : Machine) (old new : DiskView) (result : Result T BundleFault) (fault : BundleFault) → Laws old → Laws new → Represents v old m
+    → result ≡ Err fault → fault ≢ faults.Broken → (fault ≡ faults.Disk) ⊎ (fault ≡ faults.Broken) → (IsErrOf result faults.Broken ↔ (events.is_broken v.events ≡ true)) → (IsErrOf result faults.Disk → events.is_broken log ≡ true)
+    → (events.is_broken v.events ≡ false → Throughout (IsOfEventLog v.events.lane) (IsEither v.events.lane (committed_text v.events old) (committed_text v.events old ++ added_text v.events)) old new)
+    → log.lane ≡ v.events.lane → IsEventLog log → HasOwnCause (IsOfEventLog v.events.lane) (IsErrOf result faults.Disk) old new → EventsFailed v log m old new
+flush_lost v log m old new result fault laws laws' at is isnt which broken disk run lane sound cause =
+    let did : result ≡ Err faults.Disk = is ∙ ap Err (other_fault fault which isnt) in
+    let before : events.is_broken v.events ≡ false = unbroken (events.is_broken v.events) (λ b. isnt (same_fault fault faults.Broken result is (broken.1 b))) in
+    flush_failed v log m old new (IsErrOf result faults.Disk) laws laws' at before (run before) lane sound (disk did) cause did

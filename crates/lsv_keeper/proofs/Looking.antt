@@ -45,8 +45,8 @@ looked_reads n old mid new laws looked reads = record {
   run = followed (IsOfLog n) (IsAsBefore n old) old mid new looked.run
       (unchanged_throughout (IsOfLog n) (IsAsBefore n old) mid new (λ image is. looked.run.each mid.moment image looked.run.later (omega arith) (laws.is_now image is)) reads.unchanged);
   reads =
-    let same = same_files mid.reads new.reads n (λ file own. unchanged_reads mid new reads.unchanged file) in
-    record { forth = λ found is. same.forth found (looked.reads.forth found is); back = λ found is. looked.reads.back found (same.back found is) };
+      let same = same_files mid.reads new.reads n (λ file own. unchanged_reads mid new reads.unchanged file) in
+      record { forth = λ found is. same.forth found (looked.reads.forth found is); back = λ found is. looked.reads.back found (same.back found is) };
   unmade = λ unmade. reads_trans old mid new (looked.unmade unmade) reads;
 }
 

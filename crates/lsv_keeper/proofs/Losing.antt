@@ -58,20 +58,20 @@ module _ (k : ConnId) (v v' : KeeperView) (m : Machine) (old new : DiskView) (la
       → Jointly (AllGood (reading_of v.lane v.lanes) l j) old new × AllGood (reading_of v.lane v.lanes) (heard_all false answers l) j (IsCrashImage new)
   left_settled l j s all = elim (its_or (log_of (m.states k)) j) [
     | inl e ↦ (
-      let c = its_closed j e in
-      let o = (owned v old m j k c.whole c.promised l at laws (at.sound.owned k j e) c.was s (all old.reads laws.reads_itself)).0 in (
-        record { later = c.moments.later; past = c.moments.past; keeps = c.moments.keeps; each = λ i lo hi. parts_good j l c.whole c.promised o (new.crash_images_at i) (c.moments.each i lo hi) },
-        parts_good j (heard_all false answers l) c.whole c.promised (owned_owes l (heard_all false answers l) c.whole c.promised (owes_weaker l (heard_all false answers l) (refused_ledger k answers l told)) o) (IsCrashImage new) c.now,
-      )
-    )
+        let c = its_closed j e in
+        let o = (owned v old m j k c.whole c.promised l at laws (at.sound.owned k j e) c.was s (all old.reads laws.reads_itself)).0 in (
+          record { later = c.moments.later; past = c.moments.past; keeps = c.moments.keeps; each = λ i lo hi. parts_good j l c.whole c.promised o (new.crash_images_at i) (c.moments.each i lo hi) },
+          parts_good j (heard_all false answers l) c.whole c.promised (owned_owes l (heard_all false answers l) c.whole c.promised (owes_weaker l (heard_all false answers l) (refused_ledger k answers l told)) o) (IsCrashImage new) c.now,
+        )
+        )
     | inr ne ↦ (
-      let rest = other_rests j ne in
-      let as_was : (images : Image → Type 0) → AsBefore (reading_of v.lane v.lanes) j (IsCrashImage old) images → AllGood (reading_of v.lane v.lanes) l j images =
-      λ images holds image is. let (was, it, alike) = holds image is in at_same (reading_of v.lane v.lanes) l j was image alike (all was it) in (
-        record { later = rest.moments.later; past = rest.moments.past; keeps = rest.moments.keeps; each = λ i lo hi. as_was (new.crash_images_at i) (rest.moments.each i lo hi) },
-        λ image is. at_weaker (reading_of v.lane v.lanes) l (heard_all false answers l) j image (refused_ledger k answers l told) (as_was (IsCrashImage new) rest.rests.images image is),
-      )
-    )
+        let rest = other_rests j ne in
+        let as_was : (images : Image → Type 0) → AsBefore (reading_of v.lane v.lanes) j (IsCrashImage old) images → AllGood (reading_of v.lane v.lanes) l j images =
+        λ images holds image is. let (was, it, alike) = holds image is in at_same (reading_of v.lane v.lanes) l j was image alike (all was it) in (
+          record { later = rest.moments.later; past = rest.moments.past; keeps = rest.moments.keeps; each = λ i lo hi. as_was (new.crash_images_at i) (rest.moments.each i lo hi) },
+          λ image is. at_weaker (reading_of v.lane v.lanes) l (heard_all false answers l) j image (refused_ledger k answers l told) (as_was (IsCrashImage new) rest.rests.images image is),
+        )
+        )
   ]
 
   unwritten : (l : Ledger) (j : ℕ) → StandsFor (settings_of v) j m l → l.writers ≡ [] → log_of (m.states k) ≢ Some j
@@ -103,7 +103,12 @@ module _ (k : ConnId) (v v' : KeeperView) (m : Machine) (old new : DiskView) (la
 
 loses_nothing : (x y : LogState) (stored : Stored) (promised : ℕ) → x ≡ There stored promised → stored.exit ≡ None → promised ≤ length stored.records → y ≡ x → LosesTail x y
 loses_nothing x y stored promised was going few e = record {
-  stored = stored; promised = promised; was = was; unfinished = going; left = length stored.records; enough = few;
+  stored = stored;
+  promised = promised;
+  was = was;
+  unfinished = going;
+  left = length stored.records;
+  enough = few;
   now = e ∙ was ∙ ap (λ (rs : List Record). There (record stored { records = rs }) promised) (whole stored.records);
 }
   where

@@ -138,23 +138,23 @@ module _ (v : KeeperView) (n : ℕ) (act : Act) (m : Machine) (old new : DiskVie
       → OwnKeeps v n act m old new
   keeps_cut point stored laws into says ends = record {
     settled = λ l stands all.
-      let good = read_good l stored into.was (all old.reads laws.reads_itself) in (
-        jointly_widened (λ images. AllAsBefore n old images ⊎ AllCut n point stored images) (GoodOr r l (noted n l (Did act)) n) old new
-            (λ images either. elim either [
-              | inl before ↦ λ image is. inl (was_good r n l old images all (before_each v.lane v.lanes n old images before) image is)
-              | inr cuts ↦ cut_each point stored l images good (says l stands good) cuts
-            ]) into.moments,
-        ends l stands good,
-      );
+        let good = read_good l stored into.was (all old.reads laws.reads_itself) in (
+          jointly_widened (λ images. AllAsBefore n old images ⊎ AllCut n point stored images) (GoodOr r l (noted n l (Did act)) n) old new
+              (λ images either. elim either [
+                | inl before ↦ λ image is. inl (was_good r n l old images all (before_each v.lane v.lanes n old images before) image is)
+                | inr cuts ↦ cut_each point stored l images good (says l stands good) cuts
+              ]) into.moments,
+          ends l stands good,
+        );
     unsettled = λ l stands none reads.
-      let good = read_good l stored into.was reads in (
-        jointly_widened (λ images. AllAsBefore n old images ⊎ AllCut n point stored images) (λ images. AsBefore r n (IsCrashImage old) images ⊎ GoodOr r l (noted n l (Did act)) n images) old new
-            (λ images either. elim either [
-              | inl before ↦ inl (before_each v.lane v.lanes n old images before)
-              | inr cuts ↦ inr (cut_each point stored l images good (says l stands good) cuts)
-            ]) into.moments,
-        inl (ends l stands good),
-      );
+        let good = read_good l stored into.was reads in (
+          jointly_widened (λ images. AllAsBefore n old images ⊎ AllCut n point stored images) (λ images. AsBefore r n (IsCrashImage old) images ⊎ GoodOr r l (noted n l (Did act)) n images) old new
+              (λ images either. elim either [
+                | inl before ↦ inl (before_each v.lane v.lanes n old images before)
+                | inr cuts ↦ inr (cut_each point stored l images good (says l stands good) cuts)
+              ]) into.moments,
+          inl (ends l stands good),
+        );
   }
     where
       r : Reading
@@ -188,8 +188,8 @@ reserved_one v v' old new m n logs at res elsewhere others sound its above =
           (numbers_stay v.lane v.lanes v.numbers old new (next_number (settings_of v) m) m.failed_draws (IsOfLog n) elsewhere (λ file own mine. let e : owners.Log n ≡ owners.Numbers v.lane = sym mine ∙ own in cc) at.numbers);
       later = omega arith;
       made = λ i e of_lane over.
-        let same : n ≡ i = cc in
-        subst (λ (j : ℕ). IsUnmade j new) same (above (lane_back i same of_lane) (let o : m.last < i = over in omega arith));
+          let same : n ≡ i = cc in
+          subst (λ (j : ℕ). IsUnmade j new) same (above (lane_back i same of_lane) (let o : m.last < i = over in omega arith));
       events = subst (λ (u : KeeperView). EventsAre u.lane u.events new (with_logs logs m)) (sym res.others)
           (events_stay v.lane v.events old new m (with_logs logs m) (IsOfLog n) elsewhere (λ file own mine. let e : owners.Log n ≡ owners.Events v.lane = sym mine ∙ own in cc) refl refl (λ none. none) at.events);
     })
@@ -232,10 +232,10 @@ cut_stands v v' old new m n point stored now promised laws at res free into read
     (log_sound (settings_of v) n now promised m not_above at.sound)
     (subst (LogIs v' new (with_log n (There now promised) m) n) (sym free) (elim (eq_or n n) [
       | equal p t ↦ record {
-          closed = closed_on v v' old m n res was;
-          reads = rw t reads;
-          enough = λ other p e. let e' : There now promised ≡ There other p = rw t at e in let a : now ≡ other = cc in let b : promised ≡ p = cc in subst (λ (y : Stored). p ≤ length y.records) a (omega arith);
-        }
+        closed = closed_on v v' old m n res was;
+        reads = rw t reads;
+        enough = λ other p e. let e' : There now promised ≡ There other p = rw t at e in let a : now ≡ other = cc in let b : promised ≡ p = cc in subst (λ (y : Stored). p ≤ length y.records) a (omega arith);
+      }
       | unequal p t ↦ absurd (p refl)
     ]))
     (λ of_lane over. absurd (not_above of_lane over))

@@ -86,12 +86,12 @@ pub record Quits (v v' : KeeperView) (k : ConnId) (m : Machine) (mid new : DiskV
 pub quits : (v v1 v' : KeeperView) (k : ConnId) (m : Machine) (mid new : DiskView) → IsReserved v v1 → log_of (m.states k) ≡ None → Left k Dead v1 m v' mid new → Quits v v' k m mid new
 quits v v1 v' k m mid new res idle left = record {
   beside =
-    let x : Beside v1.lane v1.lanes None mid new = subst (λ (o : Option ℕ). Beside v1.lane v1.lanes o mid new) idle left.beside in
-    let y : Beside v.lane v1.lanes None mid new = subst (λ (l : ℕ). Beside l v1.lanes None mid new) (ap (λ (u : KeeperView). u.lane) res.others) x in
-    subst (λ (l : ℕ). Beside v.lane l None mid new) (ap (λ (u : KeeperView). u.lanes) res.others) y;
+      let x : Beside v1.lane v1.lanes None mid new = subst (λ (o : Option ℕ). Beside v1.lane v1.lanes o mid new) idle left.beside in
+      let y : Beside v.lane v1.lanes None mid new = subst (λ (l : ℕ). Beside l v1.lanes None mid new) (ap (λ (u : KeeperView). u.lane) res.others) x in
+      subst (λ (l : ℕ). Beside v.lane l None mid new) (ap (λ (u : KeeperView). u.lanes) res.others) y;
   represents =
-    let same : left.left ≡ m = (let z : LeavesLog left.failed None None m left.left = subst (λ (o : Option ℕ). LeavesLog left.failed o None m left.left) idle left.log in z) in
-    subst (λ (x : Machine). Represents v' new (leaves k Dead x)) same left.represents;
+      let same : left.left ≡ m = (let z : LeavesLog left.failed None None m left.left = subst (λ (o : Option ℕ). LeavesLog left.failed o None m left.left) idle left.log in z) in
+      subst (λ (x : Machine). Represents v' new (leaves k Dead x)) same left.represents;
 }
 
 -- ---- Cuts that can be counted, or can't
@@ -128,7 +128,16 @@ pub left_cut : (n point x : ℕ) (stored : Stored) (promised : ℕ) (was : LogSt
 left_cut n point x stored promised was disk is enough going some counted (inl whole) = record {
   now = stored;
   fails = record {
-    stored = stored; promised = promised; was = is; unfinished = going; kept = x; ends = some; left = length stored.records; enough = omega arith; cuts = stored.cuts; counted = inl refl;
+    stored = stored;
+    promised = promised;
+    was = is;
+    unfinished = going;
+    kept = x;
+    ends = some;
+    left = length stored.records;
+    enough = omega arith;
+    cuts = stored.cuts;
+    counted = inl refl;
     now = ap (λ (rs : List Record). There (record stored { records = rs }) (min promised x)) (sym (take_all stored.records));
   };
   reads = whole;
@@ -137,7 +146,15 @@ left_cut n point x stored promised was disk is enough going some counted (inl wh
 left_cut n point x stored promised was disk is enough going some counted (inr short) = record {
   now = cut_to x stored;
   fails = record {
-    stored = stored; promised = promised; was = is; unfinished = going; kept = x; ends = some; left = x; enough = omega arith; cuts = (cut_to x stored).cuts;
+    stored = stored;
+    promised = promised;
+    was = is;
+    unfinished = going;
+    kept = x;
+    ends = some;
+    left = x;
+    enough = omega arith;
+    cuts = (cut_to x stored).cuts;
     counted = go (nat_lt x (length stored.records)) refl;
     now = refl;
   };
@@ -164,14 +181,15 @@ module _ (v v1 v' : KeeperView) (old mid new : DiskView) (m : Machine) (job : Jo
       → OwnKeeps v restart.log (restart_act (settings_of v) now m job restart a answers failed false) m old mid → RowIs v now job answers m v' old new
   ends_row answers failed last looked q rose step keeps =
       let act = restart_act (settings_of v) now m job restart a answers failed false in
-      let up' : NoneFell old new = none_fell_on old mid new up q.beside.monotone in
-      (leaves job.conn Dead m,
-      acted v now job (Some restart.log) act m (leaves job.conn Dead m) old new laws refl refl step
-          (counts_did act old new up' (rose_first failed old mid new q.beside.monotone rose) refl)
-          (concerns_restart now m job restart a act refl (last_to job.conn answers last) (λ i. last_untold job.conn answers i last))
-          (beside_on v.lane v.lanes (Some restart.log) old mid new (looked_beside looked) (beside_wider v.lane v.lanes (Some restart.log) mid new q.beside))
-          (keeps_before v restart.log act m old mid new keeps (resting v.lane v.lanes None restart.log mid new laws1 (λ e. cc) q.beside)),
-      q.represents)
+      let up' : NoneFell old new = none_fell_on old mid new up q.beside.monotone in (
+        leaves job.conn Dead m,
+        acted v now job (Some restart.log) act m (leaves job.conn Dead m) old new laws refl refl step
+            (counts_did act old new up' (rose_first failed old mid new q.beside.monotone rose) refl)
+            (concerns_restart now m job restart a act refl (last_to job.conn answers last) (λ i. last_untold job.conn answers i last))
+            (beside_on v.lane v.lanes (Some restart.log) old mid new (looked_beside looked) (beside_wider v.lane v.lanes (Some restart.log) mid new q.beside))
+            (keeps_before v restart.log act m old mid new keeps (resting v.lane v.lanes None restart.log mid new laws1 (λ e. cc) q.beside)),
+        q.represents,
+      )
 
   -- nothing was told of what the log holds
   unlooked : (answers : List Answer) (failed : List Owner) → Last job.conn answers → is_look answers ≡ false → IsLooked restart.log old mid → OwnKeeps v restart.log (restart_act (settings_of v) now m job restart a answers failed false) m old mid
@@ -236,9 +254,12 @@ module _ (v v1 v' : KeeperView) (old mid new : DiskView) (m : Machine) (job : Jo
       elim (some_or (first stored.records restart.point)) [
         | nothing e ↦ absurd (into.ends e)
         | just x e ↦ record {
-            promised = there.promised; x = x; ends = e; there = there.there;
-            left = left_cut restart.log restart.point x stored there.promised (m.logs restart.log) mid there.there there.enough into.going e into.counted (into.now mid.reads laws1.reads_itself);
-          }
+          promised = there.promised;
+          x = x;
+          ends = e;
+          there = there.there;
+          left = left_cut restart.log restart.point x stored there.promised (m.logs restart.log) mid there.there there.enough into.going e into.counted (into.now mid.reads laws1.reads_itself);
+        }
       ]
 
   -- the machine behind a fault: its log was looked at, and then this is the row of its refusal; or it was cut into
@@ -314,15 +335,16 @@ module _ (v v1 v' : KeeperView) (old mid new : DiskView) (m : Machine) (job : Jo
       let after = leaves job.conn Dead (with_log restart.log (There c.left.now (min c.promised c.x)) m) in
       let last = refused_last job.conn answers refused_so in
       let up' : NoneFell old new = none_fell_on old mid new up q.beside.monotone in
-      let all_rose : AllRose (owners.Log restart.log ∷ []) old mid = rose_one (owners.Log restart.log) old mid (journal_of (owner_of restart.log), refl, rose) in
-      (after,
-      acted v now job (Some restart.log) act m after old new laws refl refl
-          (fails_cut (settings_of v) now m job restart a answers (There c.left.now (min c.promised c.x)) free c.left.fails refused_so)
-          (counts_marked act old new up' (rose_first (owners.Log restart.log ∷ []) old mid new q.beside.monotone all_rose) journal)
-          (concerns_restart now m job restart a act refl (last_to job.conn answers last) (λ i. last_untold job.conn answers i last))
-          (beside_on v.lane v.lanes (Some restart.log) old mid new (cut_into_beside stored into) (beside_wider v.lane v.lanes (Some restart.log) mid new q.beside))
-          (keeps_before v restart.log act m old mid new (marked_keeps answers stored last into c) (resting v.lane v.lanes None restart.log mid new laws1 (λ e. cc) q.beside)),
-      q.represents)
+      let all_rose : AllRose (owners.Log restart.log ∷ []) old mid = rose_one (owners.Log restart.log) old mid (journal_of (owner_of restart.log), refl, rose) in (
+        after,
+        acted v now job (Some restart.log) act m after old new laws refl refl
+            (fails_cut (settings_of v) now m job restart a answers (There c.left.now (min c.promised c.x)) free c.left.fails refused_so)
+            (counts_marked act old new up' (rose_first (owners.Log restart.log ∷ []) old mid new q.beside.monotone all_rose) journal)
+            (concerns_restart now m job restart a act refl (last_to job.conn answers last) (λ i. last_untold job.conn answers i last))
+            (beside_on v.lane v.lanes (Some restart.log) old mid new (cut_into_beside stored into) (beside_wider v.lane v.lanes (Some restart.log) mid new q.beside))
+            (keeps_before v restart.log act m old mid new (marked_keeps answers stored last into c) (resting v.lane v.lanes None restart.log mid new laws1 (λ e. cc) q.beside)),
+        q.represents,
+      )
     where
       named : (i : ℕ) → asks_for i (Ok (request.Restart restart)) ≡ true → restart.log ≡ i
       named i e = elim (eq_or restart.log i) [ equal p t ↦ p | unequal p t ↦ absurd (let x : asks_for i (Ok (request.Restart restart)) ≡ false = rw t refl in cc) ]

@@ -121,13 +121,13 @@ module _ (v v1 v' : KeeperView) (old new : DiskView) (m : Machine) (job : Job) (
             (λ file own mine. let e : owners.Log restart.log ≡ owners.Numbers v.lane = sym mine ∙ own in cc) at.numbers);
         later = omega arith;
         made = λ i e of_lane over.
-          let is : restart.log ≡ i = cc in
-          absurd (there_not_above (settings_of v) m restart.log resumed.stored there.promised at.sound there.there
-          (subst (λ (j : ℕ). IsOfLane v.lane v.lanes j) (sym is) (subst (λ (l : ℕ). IsOfLane l v.lanes i) lane_is (subst (λ (l : ℕ). IsOfLane v'.lane l i) lanes_are of_lane)))
-          (let o : m.last < i = over in omega arith));
+            let is : restart.log ≡ i = cc in
+            absurd (there_not_above (settings_of v) m restart.log resumed.stored there.promised at.sound there.there
+            (subst (λ (j : ℕ). IsOfLane v.lane v.lanes j) (sym is) (subst (λ (l : ℕ). IsOfLane l v.lanes i) lane_is (subst (λ (l : ℕ). IsOfLane v'.lane l i) lanes_are of_lane)))
+            (let o : m.last < i = over in omega arith));
         events =
-          let e : v'.events ≡ v.events = owns.events ∙ ap (λ (u : KeeperView). u.events) res.others in
-          rw (lane_is, e) (events_stay v.lane v.events old new m after (IsOfLog restart.log) elsewhere (λ file own mine. let e : owners.Log restart.log ≡ owners.Events v.lane = sym mine ∙ own in cc) refl refl (λ none. none) at.events);
+            let e : v'.events ≡ v.events = owns.events ∙ ap (λ (u : KeeperView). u.events) res.others in
+            rw (lane_is, e) (events_stay v.lane v.events old new m after (IsOfLog restart.log) elsewhere (λ file own mine. let e : owners.Log restart.log ≡ owners.Events v.lane = sym mine ∙ own in cc) refl refl (λ none. none) at.events);
       })
     where
       states_at : (j : ConnId) → (if same j job.conn then Running (Some restart.log) else m.states j) ≡ (if same j job.conn then Running (Some restart.log) else (sessions_of v1).states j)
@@ -166,9 +166,11 @@ module _ (v v1 v' : KeeperView) (old new : DiskView) (m : Machine) (job : Job) (
       its_beside = beside_asked v m restart.log _ old new laws laws' at (λ of_lane over. absurd (made_of restart.log resumed.stored old laws resumed.into.was (at.unmade restart.log of_lane over))) resumed.into.run up
 
       row : (x : ℕ) → first resumed.stored.records restart.point ≡ Some x → RowIs v now job [] m v' old new
-      row x e = (resumes_at job.conn restart.log x resumed.stored m,
-          acted v now job (Some restart.log) act m (resumes_at job.conn restart.log x resumed.stored m) old new laws refl refl (its_step x e)
-              (counts_did act old new up (rose_none old new) refl)
-              (concerns_restart now m job restart a act refl tt (λ i. refl))
-              its_beside (its_keeps x e),
-          stands_now x e act (its_step x e))
+      row x e = (
+        resumes_at job.conn restart.log x resumed.stored m,
+        acted v now job (Some restart.log) act m (resumes_at job.conn restart.log x resumed.stored m) old new laws refl refl (its_step x e)
+            (counts_did act old new up (rose_none old new) refl)
+            (concerns_restart now m job restart a act refl tt (λ i. refl))
+            its_beside (its_keeps x e),
+        stands_now x e act (its_step x e),
+      )

@@ -43,7 +43,7 @@ next_is all qs more r valid time whole begins =
     elim (one_begins (layout_of all) (qs ++ r ∷ []) all begins (laid_is_read (layout_of all) all valid time laid).begins) [
       | inl (rest, e) ↦ (rest, append_cancel_left qs more (r ∷ rest) (sym whole ∙ (e ∙ append_assoc qs (r ∷ []) rest)))
       | inr (rest, e) ↦ split_next qs more rest r (append_cancel_left qs (r ∷ []) (more ++ rest) (e ∙ (ap (λ (rs : List Record). rs ++ rest) whole ∙ append_assoc qs more rest)))
-        (λ none. longer qs r (subst (λ (rs : List Record). IsPrefix (timing_of (qs ++ r ∷ [])) (timing_of rs)) (whole ∙ (ap (λ (rs : List Record). qs ++ rs) none ∙ append-nil qs)) begins.timing))
+          (λ none. longer qs r (subst (λ (rs : List Record). IsPrefix (timing_of (qs ++ r ∷ [])) (timing_of rs)) (whole ∙ (ap (λ (rs : List Record). qs ++ rs) none ∙ append-nil qs)) begins.timing))
     ]
   where
     same_stream : (s : Stream) → stream_in s (layout_of all) ≡ stream_of s all
@@ -154,16 +154,16 @@ seeing_goes_on told start view next before mask mask' old now new point left lef
   reads = λ t. reads_trans old now new (seeing.reads t) (reads t);
   monotone = λ file. (let a = seeing.monotone file in let b = up file in omega arith);
   saw = λ t stored of behind.
-    let s = saw_next told start view next before mask mask' old now new point left i r stored t seeing number body (reads t) (goes t) sees of behind in
-    record {
-      given = s.given ++ r ∷ [];
-      more = s.more;
-      whole = s.whole ∙ sym (append_assoc s.given (r ∷ []) s.more);
-      count = (let a = length-append s.given (r ∷ []) in let b = s.count in omega arith);
-      behind = s.behind;
-      masked = s.masked;
-      first = s.first ∙ (ap (add_count i) (goes_by s.more) ∙ add_one i (first s.more left'));
-    };
+      let s = saw_next told start view next before mask mask' old now new point left i r stored t seeing number body (reads t) (goes t) sees of behind in
+      record {
+        given = s.given ++ r ∷ [];
+        more = s.more;
+        whole = s.whole ∙ sym (append_assoc s.given (r ∷ []) s.more);
+        count = (let a = length-append s.given (r ∷ []) in let b = s.count in omega arith);
+        behind = s.behind;
+        masked = s.masked;
+        first = s.first ∙ (ap (add_count i) (goes_by s.more) ∙ add_one i (first s.more left'));
+      };
 }
   where
     goes_by : (more : List Record) → first (r ∷ more) left ≡ one_more (first more left')

@@ -143,8 +143,12 @@ lines_none v m disk said laws at broken =
       ended = record {
         ended = record { ends = inl ((λ c. let low = c.1 in omega arith), refl, refl); counts = x.ended.counts; settled_logs = x.ended.settled_logs; unsettled_logs = x.ended.unsettled_logs; numbers = x.ended.numbers };
         lines = record {
-          moments = record { later = omega arith; past = λ k image lo left. left; keeps = λ k image lo left. left;
-            each = λ k lo hi image left. inl (x.lines.moments.each k lo hi image left) };
+          moments = record {
+            later = omega arith;
+            past = λ k image lo left. left;
+            keeps = λ k image lo left. left;
+            each = λ k lo hi image left. inl (x.lines.moments.each k lo hi image left);
+          };
           now = inr (inl (gone.none_fresh, x.lines));
           reads = λ h. subst (HoldsLines disk.reads v.lane) (sym lines) h;
         };

@@ -80,8 +80,13 @@ taken_waiting v disk m at = record {
   logs = λ n. log_left (m.owner n) n (at.logs n);
   numbers = at.numbers;
   unmade = at.unmade;
-  events = record { lane_is = at.events.lane_is; sound = at.events.sound; reads = at.events.reads; whole = λ w. let x = at.events.whole w in record { represents = x.represents; committed = x.committed; added = x.added };
-    broken = λ b. let x = at.events.broken b in record { none_fresh = x.none_fresh; nobody_noted = x.nobody_noted } };
+  events = record {
+    lane_is = at.events.lane_is;
+    sound = at.events.sound;
+    reads = at.events.reads;
+    whole = λ w. let x = at.events.whole w in record { represents = x.represents; committed = x.committed; added = x.added };
+    broken = λ b. let x = at.events.broken b in record { none_fresh = x.none_fresh; nobody_noted = x.nobody_noted };
+  };
 }
   where
     log_left : (o : Option ConnId) (n : ℕ) → LogIs v disk m n o → LogIs (record v { waiting = [] }) disk (none_waits m) n o

@@ -97,9 +97,9 @@ refuses_one k v v' m old new said said' answers laws at living left refused told
   refused = lost_line k v v' m old new laws at left answers refused living;
   logs = λ o c. (let (i, its, is) = left.own o c in (i, is));
   lost = λ n is.
-    let still = leaving_still left.failed (log_of (m.states k)) None m left.left left.log in
-    let r = without_its (log_of (left.left.states k)) n left.left.waiting is in
-    ((λ c. let (i, its, same) = left.own (Log n) c in r.0 (ap (λ (f : ConnId → Rattle.lsv_session.specs.declared.connection.ConnState.ConnState). log_of (f k)) still.states ∙ its ∙ ap Some (sym (one_log n i same)))), left_waiting left.failed (log_of (m.states k)) left.left left.log n r.1);
+      let still = leaving_still left.failed (log_of (m.states k)) None m left.left left.log in
+      let r = without_its (log_of (left.left.states k)) n left.left.waiting is in
+      ((λ c. let (i, its, same) = left.own (Log n) c in r.0 (ap (λ (f : ConnId → Rattle.lsv_session.specs.declared.connection.ConnState.ConnState). log_of (f k)) still.states ∙ its ∙ ap Some (sym (one_log n i same)))), left_waiting left.failed (log_of (m.states k)) left.left left.log n r.1);
   represents = left.represents;
 }
   where
@@ -131,8 +131,8 @@ refuses_more xs ys v v' v'' m said said' said'' one two three a b = record {
   refused = refused_more (reading_of v.lane v.lanes) (settings_of v) xs ys a.tail b.tail m a.after b.after one two three a.refused b.refused;
   logs = λ o c. elim (Contains-append_cases a.tail.failed b.tail.failed o c) [ inl x ↦ a.logs o x | inr y ↦ b.logs o y ];
   lost = λ n is.
-    let y = b.lost n is in let x = a.lost n y.1 in
-    ((λ c. elim (Contains-append_cases a.tail.failed b.tail.failed (Log n) c) [ inl p ↦ x.0 p | inr q ↦ y.0 q ]), x.1);
+      let y = b.lost n is in let x = a.lost n y.1 in
+      ((λ c. elim (Contains-append_cases a.tail.failed b.tail.failed (Log n) c) [ inl p ↦ x.0 p | inr q ↦ y.0 q ]), x.1);
   represents = b.represents;
 }
 
@@ -158,7 +158,7 @@ refusing_start told items v v0 was said disk laws is = record {
   places = let e : room v0 ≡ room v = ap room is in omega arith;
   replies = omega arith;
   gives = λ t m at. given_on [] v (un_noted v) v0 m said said disk disk (record { lane = refl; lanes = refl; log_exit = refl; kind = refl; texts = refl })
-    (refuses_nobody (un_noted v) v0 m disk said (laws t) at (subst (λ (x : KeeperView). Represents x disk m) (sym is) at));
+      (refuses_nobody (un_noted v) v0 m disk said (laws t) at (subst (λ (x : KeeperView). Represents x disk m) (sym is) at));
 }
 
 pub refusing_on : (told : Type 0) (i : ℕ) (k : ConnId) (items : List ConnId) (v v' v'' : KeeperView) (was now then_ : ℕ) (said said' said'' : List Reply) (one two three : DiskView) → i < length items → k ≡ slice_index_or items i k

@@ -144,22 +144,22 @@ module _ (n : ℕ) (k : ConnId) (v : KeeperView) (m : Machine) (old new : DiskVi
       counts = counts_tailed (record { answers = say k (CommitPoint (elapsed (all_of h.value))) ∷ []; failed = [] }) old new monotone (rose_none old new);
       settled_logs = λ l j s all. elim (eq_or j n) [
         | equal p t ↦ (
-          let s' : StandsFor (settings_of v) n m l = subst (λ i. StandsFor (settings_of v) i m l) p s in
-          let all' : AllGood (reading_of v.lane v.lanes) l n (IsCrashImage old) = subst (λ i. AllGood (reading_of v.lane v.lanes) l i (IsCrashImage old)) p all in
-          let o = its_owned l s' all' in
-          let few : h.promised ≤ length (all_of h.value) = (flushed_part v old (none_waits m) n h).enough in
-          subst (λ i. Jointly (AllGood (reading_of v.lane v.lanes) l i) old new × AllGood (reading_of v.lane v.lanes) (noted i l (Tailed (record { answers = say k (CommitPoint (elapsed (all_of h.value))) ∷ []; failed = [] }))) i (IsCrashImage new)) (sym p) (
-            its_moments l o.0,
-            subst (λ (l' : Ledger). AllGood (reading_of v.lane v.lanes) l' n (IsCrashImage new)) (sym (its_ledger n (settings_of v) k (elapsed (all_of h.value)) m l s' own))
-            (λ image is. committed_good v.lane v.lanes n k l (flushed h.value) h.promised image o.0 o.1 few h.going (now image is)),
-          )
-        )
+            let s' : StandsFor (settings_of v) n m l = subst (λ i. StandsFor (settings_of v) i m l) p s in
+            let all' : AllGood (reading_of v.lane v.lanes) l n (IsCrashImage old) = subst (λ i. AllGood (reading_of v.lane v.lanes) l i (IsCrashImage old)) p all in
+            let o = its_owned l s' all' in
+            let few : h.promised ≤ length (all_of h.value) = (flushed_part v old (none_waits m) n h).enough in
+            subst (λ i. Jointly (AllGood (reading_of v.lane v.lanes) l i) old new × AllGood (reading_of v.lane v.lanes) (noted i l (Tailed (record { answers = say k (CommitPoint (elapsed (all_of h.value))) ∷ []; failed = [] }))) i (IsCrashImage new)) (sym p) (
+              its_moments l o.0,
+              subst (λ (l' : Ledger). AllGood (reading_of v.lane v.lanes) l' n (IsCrashImage new)) (sym (its_ledger n (settings_of v) k (elapsed (all_of h.value)) m l s' own))
+                  (λ image is. committed_good v.lane v.lanes n k l (flushed h.value) h.promised image o.0 o.1 few h.going (now image is)),
+            )
+            )
         | unequal p t ↦ (
-          let x = other_moments l j p all in (
-            x.0,
-            subst (λ (l' : Ledger). AllGood (reading_of v.lane v.lanes) l' j (IsCrashImage new)) (sym (committed_ledger n j (settings_of v) k (elapsed (all_of h.value)) m l s own p)) x.1,
-          )
-        )
+            let x = other_moments l j p all in (
+              x.0,
+              subst (λ (l' : Ledger). AllGood (reading_of v.lane v.lanes) l' j (IsCrashImage new)) (sym (committed_ledger n j (settings_of v) k (elapsed (all_of h.value)) m l s own p)) x.1,
+            )
+            )
       ];
       unsettled_logs = λ l j s none. (let rest = other_rests j (unwritten n j (settings_of v) k m l s own none) in (rest.moments, rest.rests));
       numbers = beside.numbers;

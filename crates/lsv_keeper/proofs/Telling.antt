@@ -101,11 +101,11 @@ pub told_stays : (v v' : KeeperView) (old new : DiskView) (now : TimeSpec) (job 
 told_stays v v' old new now job m what line laws b fits at a is answers e = (
   adds_line job.conn line m,
   acted v now job (log_of (m.states job.conn)) act m (adds_line job.conn line m) old new laws refl refl
-  (plain_step (settings_of v) now job (next_number (settings_of v) m + 0 * v.lanes) m (adds_line job.conn line m) answers [] line (next_may (settings_of v) m) (line_plain (settings_of v) now job what line next.Stays m (next_number (settings_of v) m + 0 * v.lanes) a is fits) e)
-  (counts_did act old new b.monotone (rose_none old new) refl)
-  (concerns_silent (log_of (m.states job.conn)) m act e (λ n own. own) reads_none)
-  (beside_wider v.lane v.lanes (log_of (m.states job.conn)) old new b)
-  (own (log_of (m.states job.conn))),
+      (plain_step (settings_of v) now job (next_number (settings_of v) m + 0 * v.lanes) m (adds_line job.conn line m) answers [] line (next_may (settings_of v) m) (line_plain (settings_of v) now job what line next.Stays m (next_number (settings_of v) m + 0 * v.lanes) a is fits) e)
+      (counts_did act old new b.monotone (rose_none old new) refl)
+      (concerns_silent (log_of (m.states job.conn)) m act e (λ n own. own) reads_none)
+      (beside_wider v.lane v.lanes (log_of (m.states job.conn)) old new b)
+      (own (log_of (m.states job.conn))),
   at,
 )
   where
@@ -139,17 +139,17 @@ pub moved : (v v1 v2 : KeeperView) (old mid new : DiskView) (now : TimeSpec) (jo
 moved v v1 v2 old mid new now job m m1 its line state what laws k b left a idle states p to untold reads answers e = (
   leaves job.conn state left.left,
   acted v now job None act m (leaves job.conn state left.left) old new laws refl refl
-  (plain_step (settings_of v) now job (next_number (settings_of v) m + 0 * v.lanes) m (leaves job.conn state left.left) answers its line (next_may (settings_of v) m)
-    (p (next_number (settings_of v) m + 0 * v.lanes) ∙ ap (λ (x : Machine). record { answers = its; line = line; machine = leaves job.conn state x }) (sym stays)) e)
-  (counts_did act old new all.monotone (rose_none old new) refl)
-  (record {
-    own = λ n own. absurd (let x : None ≡ Some n = sym idle ∙ own in cc);
-    to = subst (AllTo job.conn) (sym e) to;
-    told = λ n tells. absurd (let x : false ≡ true = sym (untold n) ∙ subst (λ (given : List Answer). tells_log n given ≡ true) e tells in cc);
-    read = λ n read. absurd (let x : false ≡ true = sym (reads n (is_dead (m.states job.conn)) answers) ∙ subst (λ (r : Result Request Refusal). reads_log n (is_dead (m.states job.conn)) r answers ≡ true) asks read in cc);
-  })
-  all
-  tt,
+      (plain_step (settings_of v) now job (next_number (settings_of v) m + 0 * v.lanes) m (leaves job.conn state left.left) answers its line (next_may (settings_of v) m)
+      (p (next_number (settings_of v) m + 0 * v.lanes) ∙ ap (λ (x : Machine). record { answers = its; line = line; machine = leaves job.conn state x }) (sym stays)) e)
+      (counts_did act old new all.monotone (rose_none old new) refl)
+      (record {
+        own = λ n own. absurd (let x : None ≡ Some n = sym idle ∙ own in cc);
+        to = subst (AllTo job.conn) (sym e) to;
+        told = λ n tells. absurd (let x : false ≡ true = sym (untold n) ∙ subst (λ (given : List Answer). tells_log n given ≡ true) e tells in cc);
+        read = λ n read. absurd (let x : false ≡ true = sym (reads n (is_dead (m.states job.conn)) answers) ∙ subst (λ (r : Result Request Refusal). reads_log n (is_dead (m.states job.conn)) r answers ≡ true) asks read in cc);
+      })
+      all
+      tt,
   left.represents,
 )
   where
@@ -213,10 +213,10 @@ line_refused v v1 v2 old mid new now job m what line nx why laws laws1 at1 k fau
     row failed rose ends step = (
       leaves job.conn Dead left.left,
       acted v now job (log_of (m.states job.conn)) (act_of job answers failed [] now) m (leaves job.conn Dead left.left) old new laws refl refl step
-      (counts_did (act_of job answers failed [] now) old new all.monotone rose refl)
-      (concerns_ends (log_of (m.states job.conn)) m (act_of job answers failed [] now) (λ n own. own) ends)
-      all
-      (own (act_of job answers failed [] now) refl ends (log_of (m.states job.conn)) refl left.closed),
+          (counts_did (act_of job answers failed [] now) old new all.monotone rose refl)
+          (concerns_ends (log_of (m.states job.conn)) m (act_of job answers failed [] now) (λ n own. own) ends)
+          all
+          (own (act_of job answers failed [] now) refl ends (log_of (m.states job.conn)) refl left.closed),
       left.represents,
     )
 

@@ -1,10 +1,12 @@
 -- What a request with an event line does besides; and how far an accept that opens a log comes.
-use Rattle.std.specs.Prelude.{◌≡◌, ◌≤◌, ◌<◌, ◌+◌, ◌⊎◌, ℕ, Bool, true, false, List, [], ◌∷◌, ◌++◌, Option, Some, None, Ok, Contains}
+use Rattle.std.specs.Prelude.{if◌then◌else◌, ◌≡◌, ◌≤◌, ◌<◌, ◌+◌, ◌⊎◌, ℕ, Bool, true, false, List, [], ◌∷◌, ◌++◌, Option, Some, None, Ok, Contains}
 use Rattle.lsv_base.specs.declared.time.TimeSpec.{TimeSpec}
 use Rattle.lsv_disk.specs.Throughout.{Jointly}
 use Rattle.lsv_disk.specs.View.{DiskView, Image, IsCrashImage}
 use Rattle.lsv_disk.specs.declared.file.Owner.{Owner}
 use Rattle.lsv_disk.specs.declared.file.Owner.TheVariants as owners
+use Rattle.lsv_bundle.specs.declared.fault.BundleFault.{BundleFault}
+use Rattle.lsv_bundle.specs.declared.fault.BundleFault.TheVariants as bundle_faults
 use Rattle.lsv_info.specs.Layout.{head_text}
 use Rattle.lsv_info.specs.declared.times.Head.{Head}
 use Rattle.lsv_iolog.specs.Moments.{IsEither}
@@ -25,7 +27,7 @@ use Rattle.lsv_session.specs.declared.connection.ConnState.TheVariants.{Running}
 use Rattle.lsv_machine.specs.Answers.{Answer, Shut, say}
 use Rattle.lsv_machine.specs.Failures.{BreaksOff, FailsAt, LeavesLog, LosesLine, MayDraw, exit_in}
 use Rattle.lsv_machine.specs.History.{Ledger, asked, reads_log}
-use Rattle.lsv_machine.specs.Machine.{IsOfLane, Machine, Settings, log_of, with_owner, with_state}
+use Rattle.lsv_machine.specs.Machine.{IsOfLane, Machine, Settings, is_running, log_of, with_owner, with_state}
 use Rattle.lsv_machine.specs.Work.{Done, adds_line, before_line, ends, fits_file, has_line, last_number, line_fits, lined, makes, opens, refused, silently, work}
 use Rattle.lsv_keeper.specs.declared.report.Next.{Next}
 use Rattle.lsv_keeper.specs.declared.report.Next.TheVariants as next
@@ -55,6 +57,10 @@ done_by next.Stays k m = silently m
 done_by (next.Enters state) k m = silently (with_state k state m)
 done_by next.Ends k m = ends k (say k Shut ∷ []) m
 
+-- in a session a request with an event line is an event alone
+abbrev pub unless_running : ConnState → Next → Next
+unless_running s after = if is_running s then next.Stays else after
+
 -- how it is told
 abbrev pub told_by : Next → Told
 told_by next.Stays = told.Nothing
@@ -73,6 +79,24 @@ pub record IsEventOf (set : Settings) (now : TimeSpec) (k : ConnId) (s : ConnSta
   pub loses_line : (failed : List Owner) (left : Machine) → LeavesLog failed (log_of s) None m left → LosesLine set failed s what m left
   pub notes_none : (n : ℕ) (l : Ledger) → asked n k (Ok what) [] false l ≡ l
   pub reads_none : (n : ℕ) (shut : Bool) (answers : List Answer) → reads_log n shut (Ok what) answers ≡ false
+
+-- ---- A line that isn't added
+
+-- why a line wasn't added, as it is told
+abbrev pub line_refusal : BundleFault → Refusal
+line_refusal (bundle_faults.Full part) = LogFull
+line_refusal bundle_faults.NoMem = OutOfMemory
+line_refusal bundle_faults.Disk = DeviceFault
+line_refusal bundle_faults.Broken = DeviceFault
+line_refusal (bundle_faults.Damaged part) = DeviceFault
+
+-- whether the event log failed before
+abbrev pub failed_before : BundleFault → Bool
+failed_before bundle_faults.Broken = true
+failed_before bundle_faults.Disk = false
+failed_before (bundle_faults.Damaged part) = false
+failed_before (bundle_faults.Full part) = false
+failed_before bundle_faults.NoMem = false
 
 -- ---- A draw
 

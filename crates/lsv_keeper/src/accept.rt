@@ -21,7 +21,7 @@ ghost use Rattle.lsv_keeper.specs.Views.{view_of};
 
 use crate::Keeper;
 use crate::logs::OpenLog;
-use crate::report::{Next, peer_of};
+use crate::report::{Next, peer_of, unless_running};
 use crate::told::Told;
 use lsv_base::{Bytes, LogNo, NoMem, TimeSpec};
 use lsv_disk::Disk;
@@ -96,11 +96,7 @@ impl<F: LineWriter, H: Search> Keeper<F, H> {
         if !is_running(state) && accept.expect_iobufs {
             return self.accept_log(disk, now, conn, accept.head);
         }
-        let next = if is_running(state) {
-            Next::Stays
-        } else {
-            Next::Enters(ConnState::Running(None))
-        };
+        let next = unless_running(state, Next::Enters(ConnState::Running(None)));
         let event = Event::Accept {
             at: now,
             peer: peer_of(conn),
@@ -111,13 +107,7 @@ impl<F: LineWriter, H: Search> Keeper<F, H> {
     }
 
     /// A session begins, with a new log; or the connection is refused.
-    fn accept_log<D: Disk>(
-        &mut self,
-        disk: &mut D,
-        now: TimeSpec,
-        conn: ConnId,
-        head: Head,
-    ) -> Told
+    fn accept_log<D: Disk>(&mut self, disk: &mut D, now: TimeSpec, conn: ConnId, head: Head) -> Told
         requires timed { IsSome (nanos_of now) }
         requires head { IsSome (nanos_of head.submit) }
         requires stands { D.tells → (m : Machine) × Represents (view_of self.old) (D.view disk.old) m }

@@ -2,7 +2,6 @@
 //! device calls fail and wherever the machine stops.
 #![tactic(auto)]
 
-mod dummy;
 mod accept;
 mod events;
 mod exit;

@@ -12,7 +12,7 @@ ghost use Rattle.lsv_msg.specs.declared.messages.ClientMessage.{ClientMessage};
 ghost use Rattle.lsv_machine.specs.Failures.{AsksFor};
 ghost use Rattle.lsv_machine.specs.Judgement.{judged};
 ghost use Rattle.lsv_machine.specs.Machine.{Machine};
-ghost use Rattle.lsv_keeper.specs.Accepting.{EntersNoLog, IsEventOf};
+ghost use Rattle.lsv_keeper.specs.Accepting.{EntersNoLog, IsEventOf, unless_running};
 ghost use Rattle.lsv_keeper.specs.Represents.{Represents};
 ghost use Rattle.lsv_keeper.specs.Rows.{IsTold, RowGives};
 ghost use Rattle.lsv_keeper.specs.Value.{Keeps, peer_of, room, sessions_of, settings_of};
@@ -49,6 +49,13 @@ pub(crate) fn peer_of(conn: ConnId) -> Peer
         worker: conn.worker,
         seq: conn.seq,
     }
+}
+
+/// In a session a request with an event line is an event alone.
+pub(crate) fn unless_running(state: ConnState, next: Next) -> Next
+    ensures { result ≡ unless_running state next }
+{
+    if is_running(state) { Next::Stays } else { next }
 }
 
 impl<F: LineWriter, H: Search> Keeper<F, H> {
@@ -93,12 +100,7 @@ impl<F: LineWriter, H: Search> Keeper<F, H> {
                 info: report.info,
             },
         };
-        let next = if is_running(state) {
-            Next::Stays
-        } else {
-            Next::Ends
-        };
-        self.tell(disk, conn, &event, next)
+        self.tell(disk, conn, &event, unless_running(state, Next::Ends))
     }
 
     /// Something is amiss: in a session that is an event alone, else the connection is one that gave an alert.
@@ -129,12 +131,12 @@ impl<F: LineWriter, H: Search> Keeper<F, H> {
                 info: report.info,
             },
         };
-        let next = if is_running(state) {
-            Next::Stays
-        } else {
-            Next::Enters(ConnState::Alerted)
-        };
-        self.tell(disk, conn, &event, next)
+        self.tell(
+            disk,
+            conn,
+            &event,
+            unless_running(state, Next::Enters(ConnState::Alerted)),
+        )
     }
 
     /// Adds the line of an event, and then does this; where the line can't be added, the connection is refused.

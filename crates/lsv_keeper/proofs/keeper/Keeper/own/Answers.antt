@@ -9,7 +9,7 @@ use Rattle.lsv_keeper.proofs.keeper.Keeper.own.Goals as goal
 pub returns-clause-owns : goal.returns-clause-owns
 returns-clause-owns g c free =
     let owner : sessions c.claim.new.self ≡ record (sessions c.args.self.now.table) { owner = λ i. if i == c.args.number then Some c.args.conn else (sessions c.args.self.now.table).owner i } =
-      claimed _ c.claim.result c.claim.ensures.ok (λ k is. let q = (c.claim.ensures.in_use k).0 is in cc) (λ is. let q = c.claim.ensures.room is in omega (arith, c.requires.owners)) in
+    claimed _ c.claim.result c.claim.ensures.ok (λ k is. let q = (c.claim.ensures.in_use k).0 is in cc) (λ is. let q = c.claim.ensures.room is in omega (arith, c.requires.owners)) in
     let e = ap (λ (s : Sessions). room_for (s.states c.args.conn) (Running (Some c.args.number))) owner in
     let fits : room_for ((sessions c.claim.new.self).states c.args.conn) (Running (Some c.args.number)) ≤ spare c.claim.new.self = omega (arith, e, c.claim.ensures.states, c.requires.room) in
     record {
