@@ -32,10 +32,10 @@ returns-in_err-log-clause-fault g c told =
     let e = c.in_err-log.field-0.0 in
     err_as c.from_residual.result e (λ x. IsResumeFault c.args.number c.args.point x (g.D.Disk.view c.args.disk.now) (g.D.Disk.view c.open.new.disk)) c.from_residual.ensures.1
     (opened_fault c.args.number c.args.point e (g.D.Disk.view c.args.disk.now) (g.D.Disk.view c.open.new.disk) c.in_err-log.ensures.fault
-        (record { run = c.open.ensures.any_moment told; reads = c.open.ensures.reads told; unmade = c.open.ensures.unmade told })
-        (λ is. (c.in_err-log.ensures.absent told (log_err e logs.Absent is)).0)
-        (λ part is. damaged (g.D.Disk.view c.args.disk.now).reads c.args.number part (c.in_err-log.ensures.damaged told part (log_err e (logs.Damaged part) is)))
-        (λ is. c.in_err-log.ensures.cause.risen (log_err e logs.Disk is)))
+    (record { run = c.open.ensures.any_moment told; reads = c.open.ensures.reads told; unmade = c.open.ensures.unmade told })
+    (λ is. (c.in_err-log.ensures.absent told (log_err e logs.Absent is)).0)
+    (λ part is. damaged (g.D.Disk.view c.args.disk.now).reads c.args.number part (c.in_err-log.ensures.damaged told part (log_err e (logs.Damaged part) is)))
+    (λ is. c.in_err-log.ensures.cause.risen (log_err e logs.Disk is)))
 
 pub returns-then-is_complete-clause-fault : goal.returns-then-is_complete-clause-fault
 returns-then-is_complete-clause-fault g c told =
@@ -88,15 +88,15 @@ returns-in_err-cut_at-in-Ok-clause-fault g c told =
     let e = c.in_err-cut_at-in-Ok.field-0.0 in
     err_as c.from_residual-in_err-cut_at-in-Ok.result e (λ x. IsResumeFault c.args.number c.args.point x old three) c.from_residual-in_err-cut_at-in-Ok.ensures.1
     (cut_fault c.args.number c.args.point f.0 e old two three laws2 laws3 found going c.in_err-cut_at-in-Ok.ensures.fault
-        (λ is. let x : false ≡ true = sym c.in_ok-log.ensures.whole ∙ c.in_err-cut_at-in-Ok.ensures.broken.0 (unit_err e logs.Broken is) in cc)
-        (λ is. let x : false ≡ true = sym (sym c.is_complete.ensures ∙ c.if-is_complete.false) ∙ (c.in_err-cut_at-in-Ok.ensures.complete (unit_err e logs.Complete is)).0 in cc)
-        (λ is. c.in_err-cut_at-in-Ok.ensures.none told (unit_err e (logs.NoPoint c.args.point) is) (bare f.0) at)
-        (λ is. c.in_err-cut_at-in-Ok.ensures.full told (unit_err e (logs.Full Slots) is) (bare f.0) at)
-        (λ other. c.in_err-cut_at-in-Ok.ensures.reads told other)
-        (λ is. subst (λ (i : ℕ). IsCutFault i c.args.point f.0 two three) number (c.in_err-cut_at-in-Ok.ensures.blame told (unit_err e logs.Disk is) (bare f.0) at))
-        (λ is. subst (λ (i : ℕ). LogRose i two three) number (c.in_err-cut_at-in-Ok.ensures.cause.risen (unit_err e logs.Disk is)))
-        (subst (λ (i : ℕ). Throughout (IsOfLog i) (IsEither i (Some f.0) (Some (cut_log f.0 c.args.point))) two three) number (c.cut_at.ensures.any_moment told (bare f.0) at))
-        (λ file. (let a = c.open.ensures.cause.monotone file in let b = c.mask_behind.ensures.cause.monotone file in omega arith)))
+    (λ is. let x : false ≡ true = sym c.in_ok-log.ensures.whole ∙ c.in_err-cut_at-in-Ok.ensures.broken.0 (unit_err e logs.Broken is) in cc)
+    (λ is. let x : false ≡ true = sym (sym c.is_complete.ensures ∙ c.if-is_complete.false) ∙ (c.in_err-cut_at-in-Ok.ensures.complete (unit_err e logs.Complete is)).0 in cc)
+    (λ is. c.in_err-cut_at-in-Ok.ensures.none told (unit_err e (logs.NoPoint c.args.point) is) (bare f.0) at)
+    (λ is. c.in_err-cut_at-in-Ok.ensures.full told (unit_err e (logs.Full Slots) is) (bare f.0) at)
+    (λ other. c.in_err-cut_at-in-Ok.ensures.reads told other)
+    (λ is. subst (λ (i : ℕ). IsCutFault i c.args.point f.0 two three) number (c.in_err-cut_at-in-Ok.ensures.blame told (unit_err e logs.Disk is) (bare f.0) at))
+    (λ is. subst (λ (i : ℕ). LogRose i two three) number (c.in_err-cut_at-in-Ok.ensures.cause.risen (unit_err e logs.Disk is)))
+    (subst (λ (i : ℕ). Throughout (IsOfLog i) (IsEither i (Some f.0) (Some (cut_log f.0 c.args.point))) two three) number (c.cut_at.ensures.any_moment told (bare f.0) at))
+    (λ file. (let a = c.open.ensures.cause.monotone file in let b = c.mask_behind.ensures.cause.monotone file in omega arith)))
 
 pub returns-in_ok-cut_at-in-Ok-clause-resumed : goal.returns-in_ok-cut_at-in-Ok-clause-resumed
 returns-in_ok-cut_at-in-Ok-clause-resumed g c told =
