@@ -1,6 +1,6 @@
 -- One job as one fact: its step, what is counted, and what it leaves of each log.
-use Rattle.std.proofs.Common.{◌≡◌, ◌≢◌, ◌≤◌, ◌<◌, ◌+◌, ℕ, List, [], ◌∷◌, ◌++◌, length, take, map, refl, sym, ◌∙◌, ap, subst, inl, inr, arith, Option, Some, None, ◌⊎◌}
-use Rattle.std.specs.Prelude.{◌==◌, ◌&&◌, ◌||◌, not, Bool, true, false, if◌then◌else◌, Result, Ok, Err}
+use Rattle.std.proofs.Common.{◌≡◌, ◌≢◌, ◌≤◌, ℕ, List, [], ◌∷◌, map, refl, sym, ◌∙◌, ap, subst, inl, inr, arith, Option, Some, None, ◌⊎◌}
+use Rattle.std.specs.Prelude.{◌==◌, ◌&&◌, ◌||◌, Bool, true, false, if◌then◌else◌, Result, Ok, Err}
 use Rattle.lsv_base.specs.declared.time.TimeSpec.{TimeSpec}
 use Rattle.lsv_disk.specs.Throughout.{Jointly}
 use Rattle.lsv_disk.specs.View.{DiskView, Image, IsCrashImage}
@@ -222,7 +222,7 @@ keeps_rests v i act m old new rests says = record {
 -- a log that is written owes the first field alone
 pub keeps_owned : (v : KeeperView) (i : ℕ) (k : ConnId) (act : Act) (m : Machine) (old new : DiskView) → m.owner i ≡ Some k
     → ((l : Ledger) → StandsFor (settings_of v) i m l → AllGood (reading_of v.lane v.lanes) l i (IsCrashImage old)
-      → Jointly (GoodOr (reading_of v.lane v.lanes) l (noted i l (Did act)) i) old new × AllGood (reading_of v.lane v.lanes) (noted i l (Did act)) i (IsCrashImage new))
+    → Jointly (GoodOr (reading_of v.lane v.lanes) l (noted i l (Did act)) i) old new × AllGood (reading_of v.lane v.lanes) (noted i l (Did act)) i (IsCrashImage new))
     → OwnKeeps v i act m old new
 keeps_owned v i k act m old new own settled = record {
   settled = settled;
@@ -236,19 +236,19 @@ good_down r i l l' = each_down (λ image. GoodAt r l i image ⊎ GoodAt r l' i i
 pub keeps_after : (v : KeeperView) (i : ℕ) (act : Act) (m : Machine) (a b c : DiskView) → Resting v.lane v.lanes i a b → OwnKeeps v i act m b c → OwnKeeps v i act m a c
 keeps_after v i act m a b c rests keeps = record {
   settled = λ l stands all.
-    let (moments, now) = keeps.settled l stands (was_good r i l a (IsCrashImage b) all rests.rests.images) in (
-      moments_on (AsBefore r i (IsCrashImage a)) (GoodOr r l (noted i l (Did act)) i) (GoodOr r l (noted i l (Did act)) i) a b c (good_down r i l (noted i l (Did act)))
-          (λ images before image is. inl (was_good r i l a images all before image is)) (λ images x. x) rests.moments moments,
-      now,
-    );
+      let (moments, now) = keeps.settled l stands (was_good r i l a (IsCrashImage b) all rests.rests.images) in (
+        moments_on (AsBefore r i (IsCrashImage a)) (GoodOr r l (noted i l (Did act)) i) (GoodOr r l (noted i l (Did act)) i) a b c (good_down r i l (noted i l (Did act)))
+            (λ images before image is. inl (was_good r i l a images all before image is)) (λ images x. x) rests.moments moments,
+        now,
+      );
   unsettled = λ l stands free good.
-    let (moments, now) = keeps.unsettled l stands free (at_same r l i a.reads b.reads rests.rests.reads good) in (
-      moments_on (AsBefore r i (IsCrashImage a)) (λ images. AsBefore r i (IsCrashImage b) images ⊎ GoodOr r l (noted i l (Did act)) i images)
-          (λ images. AsBefore r i (IsCrashImage a) images ⊎ GoodOr r l (noted i l (Did act)) i images) a b c
-          (either_down (AsBefore r i (IsCrashImage a)) (GoodOr r l (noted i l (Did act)) i) (before_down r i (IsCrashImage a)) (good_down r i l (noted i l (Did act))))
-          (λ images x. inl x) (λ images x. elim x [ inl y ↦ inl (as_before_on r i (IsCrashImage a) (IsCrashImage b) images rests.rests.images y) | inr y ↦ inr y ]) rests.moments moments,
-      elim now [ inl all ↦ inl all | inr rested ↦ inr (rested.0, rests_on r i a b c rests.rests rested.1) ],
-    );
+      let (moments, now) = keeps.unsettled l stands free (at_same r l i a.reads b.reads rests.rests.reads good) in (
+        moments_on (AsBefore r i (IsCrashImage a)) (λ images. AsBefore r i (IsCrashImage b) images ⊎ GoodOr r l (noted i l (Did act)) i images)
+            (λ images. AsBefore r i (IsCrashImage a) images ⊎ GoodOr r l (noted i l (Did act)) i images) a b c
+            (either_down (AsBefore r i (IsCrashImage a)) (GoodOr r l (noted i l (Did act)) i) (before_down r i (IsCrashImage a)) (good_down r i l (noted i l (Did act))))
+            (λ images x. inl x) (λ images x. elim x [ inl y ↦ inl (as_before_on r i (IsCrashImage a) (IsCrashImage b) images rests.rests.images y) | inr y ↦ inr y ]) rests.moments moments,
+        elim now [ inl all ↦ inl all | inr rested ↦ inr (rested.0, rests_on r i a b c rests.rests rested.1) ],
+      );
 }
   where
     r : Reading
@@ -257,11 +257,11 @@ keeps_after v i act m a b c rests keeps = record {
 pub keeps_before : (v : KeeperView) (i : ℕ) (act : Act) (m : Machine) (a b c : DiskView) → OwnKeeps v i act m a b → Resting v.lane v.lanes i b c → OwnKeeps v i act m a c
 keeps_before v i act m a b c keeps rests = record {
   settled = λ l stands all.
-    let (moments, now) = keeps.settled l stands all in (
-      moments_on (GoodOr r l (noted i l (Did act)) i) (AsBefore r i (IsCrashImage b)) (GoodOr r l (noted i l (Did act)) i) a b c (good_down r i l (noted i l (Did act)))
-          (λ images x. x) (λ images before image is. inr (was_good r i (noted i l (Did act)) b images now before image is)) moments rests.moments,
-      was_good r i (noted i l (Did act)) b (IsCrashImage c) now rests.rests.images,
-    );
+      let (moments, now) = keeps.settled l stands all in (
+        moments_on (GoodOr r l (noted i l (Did act)) i) (AsBefore r i (IsCrashImage b)) (GoodOr r l (noted i l (Did act)) i) a b c (good_down r i l (noted i l (Did act)))
+            (λ images x. x) (λ images before image is. inr (was_good r i (noted i l (Did act)) b images now before image is)) moments rests.moments,
+        was_good r i (noted i l (Did act)) b (IsCrashImage c) now rests.rests.images,
+      );
   unsettled = λ l stands free good. (let (moments, now) = keeps.unsettled l stands free good in unsettled l moments now);
 }
   where
@@ -310,15 +310,17 @@ owned v disk m i k whole promised l at laws own there stands good =
     let told = holds.is_told k own in
     let reads : Replays disk.reads i (Some h.value.stored) = subst (λ (x : ℕ). Replays disk.reads x (Some h.value.stored)) h.number (every_image h.its.log h.value disk h.represents disk.reads laws.reads_itself) in
     let found : good.found ≡ Some h.value.stored = one_replay disk.reads i good.found (Some h.value.stored) good.is reads in
-    let kept : Keeps l told.0 h.value.stored = subst (λ (t : Option ℕ). GoodFor l t (Some h.value.stored)) told.1 (subst (GoodLog l) found good.good) in
-    (record {
-      head = ap (λ (x : Stored). x.head) (sym is_whole) ∙ kept.head;
-      shown = prefix_all whole.records l.shown shown;
-      told = told.0;
-      is_told = told.1;
-      enough = holds.alike told.0 told.1;
-      unfinished = subst (ExitIs l h.value.stored.records) h.going kept.exit;
-    }, shown)
+    let kept : Keeps l told.0 h.value.stored = subst (λ (t : Option ℕ). GoodFor l t (Some h.value.stored)) told.1 (subst (GoodLog l) found good.good) in (
+      record {
+        head = ap (λ (x : Stored). x.head) (sym is_whole) ∙ kept.head;
+        shown = prefix_all whole.records l.shown shown;
+        told = told.0;
+        is_told = told.1;
+        enough = holds.alike told.0 told.1;
+        unfinished = subst (ExitIs l h.value.stored.records) h.going kept.exit;
+      },
+      shown,
+    )
 
 lower_told : (o o' : Option ℕ) (p : ℕ) → o ≡ Some p → Lower o' o → (q : ℕ) × (o' ≡ Some q) × (q ≤ p)
 lower_told None o' p e low = absurd (cc)

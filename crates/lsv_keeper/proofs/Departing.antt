@@ -1,10 +1,10 @@
 -- A connection that writes no log any more: its log is flushed, or failed, and let go.
-use Rattle.std.proofs.Common.{◌≡◌, ◌≢◌, ◌≤◌, ◌<◌, ◌+◌, ◌*◌, ℕ, List, [], ◌∷◌, ◌++◌, length, take, refl, sym, ◌∙◌, ap, subst, inl, inr, arith, Option, Some, None, ◌⊎◌}
-use Rattle.std.specs.Prelude.{◌==◌, Bool, true, false, if◌then◌else◌, Contains, Result, Ok, Err, IfErr, IsErrOf, OnOk, ◌↔◌}
+use Rattle.std.proofs.Common.{◌≡◌, ◌≢◌, ◌≤◌, ◌<◌, ◌+◌, ◌*◌, ℕ, List, [], ◌∷◌, length, take, refl, sym, ◌∙◌, ap, subst, inl, inr, arith, Option, Some, None, ◌⊎◌}
+use Rattle.std.specs.Prelude.{◌==◌, Bool, true, false, if◌then◌else◌, Contains, Result, Ok, Err, IfErr, IsErrOf, IsOk, OnOk, ◌↔◌}
 use Rattle.std.proofs.Math.Seq.{take-append_seam, take-length}
 use Rattle.std.proofs.lemmas.List.{length-append}
 use Rattle.std.proofs.lemmas.List.Elements.{Contains-push}
-use Rattle.lsv_disk.specs.Throughout.{Jointly, Throughout}
+use Rattle.lsv_disk.specs.Throughout.{Throughout}
 use Rattle.lsv_disk.specs.View.{DiskView, Elsewhere, HasOwnCause, Image, IsCrashImage}
 use Rattle.lsv_disk.specs.declared.file.FileId.{FileId}
 use Rattle.lsv_disk.specs.declared.file.Owner.{Owner}
@@ -24,8 +24,11 @@ use Rattle.lsv_seq.specs.Value.{lane_of, lanes_of, next_of, pending_of}
 use Rattle.lsv_seq.specs.Represents as numbers
 use Rattle.lsv_session.specs.declared.connection.ConnId.{ConnId}
 use Rattle.lsv_session.specs.declared.connection.ConnState.{ConnState}
-use Rattle.lsv_machine.specs.Failures.{Closes, LeavesLog, LosesTail}
-use Rattle.lsv_machine.specs.Machine.{IsOfLane, LogState, LogState.There, Machine, is_log, leaves, log_of, same, with_log, without, without_log}
+use Rattle.lsv_session.specs.declared.connection.ConnState.TheVariants.{Fresh, Greeted, Alerted, Running, Dead}
+use Rattle.lsv_session.specs.declared.table.Table.{Table}
+use Rattle.lsv_session.specs.Table.{Sessions, room_for, sessions, spare}
+use Rattle.lsv_machine.specs.Failures.{Closes, LeavesLog}
+use Rattle.lsv_machine.specs.Machine.{LogState, LogState.There, Machine, is_log, leaves, log_of, same, with_log, without, without_conn, without_log}
 use Rattle.lsv_machine.specs.Stands.{Sound}
 use Rattle.lsv_machine.specs.Starts.{ReadsAs}
 use Rattle.lsv_machine.specs.Work.{next_number}
@@ -33,12 +36,14 @@ use Rattle.lsv_machine.proofs.Changing.{NotAbove, log_sound, owned_not_above}
 use Rattle.lsv_machine.proofs.Choices.{EqOr, EqOr.equal, EqOr.unequal, eq_or}
 use Rattle.lsv_machine.proofs.Leaving.{leaves_sound}
 use Rattle.lsv_keeper.specs.declared.logs.OpenLog.{OpenLog}
-use Rattle.lsv_keeper.specs.Leaving.{Departs, EndsFlush, TakenOut}
+use Rattle.lsv_keeper.specs.declared.logs.OpenLogs.{OpenLogs}
+use Rattle.lsv_keeper.specs.Logs.{open_logs, with_open}
+use Rattle.lsv_keeper.specs.Leaving.{Departs, EndsFlush, SameBeside, TakenOut}
 use Rattle.lsv_keeper.specs.Represents.{AllAbove, AllOwned, EventsAre, Free, Held, LogIs, NumbersAre, Represents, Rising, pending_count}
-use Rattle.lsv_keeper.specs.Rows.{AllParts, AllRose, Beside, Closed, ClosedIf, IsPartOf, Left, OwnerRose}
-use Rattle.lsv_keeper.specs.Value.{KeeperView, log_in, sessions_of, settings_of}
+use Rattle.lsv_keeper.specs.Rows.{AllRose, Beside, Closed, ClosedIf, IsPartOf, Left, OwnerRose}
+use Rattle.lsv_keeper.specs.Value.{KeeperView, Keeps, log_in, owed, room, settings_of}
 use Rattle.lsv_keeper.proofs.Counting.{only, rose_none, rose_one}
-use Rattle.lsv_keeper.proofs.Frames.{IsApart, Laws, beside_none, log_apart}
+use Rattle.lsv_keeper.proofs.Frames.{Laws, beside_none, log_apart}
 use Rattle.lsv_keeper.proofs.Numbering.{beside_its, numbers_fit}
 use Rattle.lsv_keeper.proofs.Standing.{Changes, ItsLog, events_stay, lane_as, numbers_stay, represents_one}
 
@@ -160,20 +165,28 @@ module _ (v : KeeperView) (old new : DiskView) (m : Machine) (i : ℕ) (k : Conn
   long = let x = held.enough in let e = length-append held.value.stored.records held.value.staged in omega arith
 
   part_of : (image : Image) → IsEither i (Some held.value.stored) (Some (flushed held.value)) image → (part : Stored) × Replays image i (Some part) × IsPartOf (flushed held.value) held.promised part
-  part_of image (inl reads) = (held.value.stored, reads, record {
-    head = refl;
-    left = length held.value.stored.records;
-    records = sym (take-append_seam held.value.stored.records held.value.staged);
-    enough = held.enough;
-    going = held.going;
-  })
-  part_of image (inr reads) = (flushed held.value, reads, record {
-    head = refl;
-    left = length (all_of held.value);
-    records = sym (take-length (all_of held.value));
-    enough = long;
-    going = held.going;
-  })
+  part_of image (inl reads) = (
+    held.value.stored,
+    reads,
+    record {
+      head = refl;
+      left = length held.value.stored.records;
+      records = sym (take-append_seam held.value.stored.records held.value.staged);
+      enough = held.enough;
+      going = held.going;
+    },
+  )
+  part_of image (inr reads) = (
+    flushed held.value,
+    reads,
+    record {
+      head = refl;
+      left = length (all_of held.value);
+      records = sym (take-length (all_of held.value));
+      enough = long;
+      going = held.going;
+    },
+  )
 
   now_is : (image : Image) → IsCrashImage new image → IsEither i (Some held.value.stored) (Some (flushed held.value)) image
   now_is image is = moments.each new.moment image moments.later (omega arith) (laws'.is_now image is)
@@ -210,15 +223,18 @@ module _ (v : KeeperView) (old new : DiskView) (m : Machine) (i : ℕ) (k : Conn
     failed = owners.Log i ∷ [];
     stored = record (flushed held.value) { records = take (length held.value.stored.records) (all_of held.value) };
     promised = held.promised;
-    closes = inr (Contains-push [] (owners.Log i), record {
-      stored = flushed held.value;
-      promised = held.promised;
-      was = held.there;
-      unfinished = held.going;
-      left = length held.value.stored.records;
-      enough = held.enough;
-      now = refl;
-    });
+    closes = inr (
+      Contains-push [] (owners.Log i),
+      record {
+        stored = flushed held.value;
+        promised = held.promised;
+        was = held.there;
+        unfinished = held.going;
+        left = length held.value.stored.records;
+        enough = held.enough;
+        now = refl;
+      },
+    );
     own = λ o c. sym (only (owners.Log i) o c);
     rose = rose_one (owners.Log i) old new rose;
     reads = subst (λ (rs : List Record). Replays new.reads i (Some (record held.value.stored { records = rs }))) (sym front) reads;
@@ -374,10 +390,10 @@ left_some v v' old new m k s i laws laws' at is no_log d open_ones flush = recor
       closed = open_ones i ∙ ap (λ (b : Bool). if b then None else log_in v i) (its_log i);
       reads = subst (λ (x : LogState). ReadsAs (Replays new.reads i) x) (sym log_then) gone.reads;
       enough = λ stored promised e.
-        let f : There gone.stored gone.promised ≡ There stored promised = sym log_then ∙ e in
-        let g : gone.stored ≡ stored = cc in
-        let h : gone.promised ≡ promised = cc in
-        subst (λ (x : Stored). promised ≤ length x.records) g (subst (λ (p : ℕ). p ≤ length gone.stored.records) h gone.enough);
+          let f : There gone.stored gone.promised ≡ There stored promised = sym log_then ∙ e in
+          let g : gone.stored ≡ stored = cc in
+          let h : gone.promised ≡ promised = cc in
+          subst (λ (x : Stored). promised ≤ length x.records) g (subst (λ (p : ℕ). p ≤ length gone.stored.records) h gone.enough);
     }
 
     logs_stay : (n : ℕ) → Some i ≢ Some n → left.logs n ≡ m.logs n
@@ -405,3 +421,191 @@ left_none v v' disk m k s laws at is no_log d open_ones = record {
   where
     same : Elsewhere (λ file. ⊥) disk disk
     same = record { same = λ file none. refl; crash = λ file none c left. left }
+
+-- ---- What is kept, and what a table says
+
+pub room_one : (a b : ConnState) → room_for a b ≤ 1
+room_one Fresh Fresh = omega arith
+room_one Fresh Greeted = omega arith
+room_one Fresh Alerted = omega arith
+room_one Fresh (Running log) = omega arith
+room_one Fresh Dead = omega arith
+room_one Greeted b = omega arith
+room_one Alerted b = omega arith
+room_one (Running log) b = omega arith
+room_one Dead b = omega arith
+
+pub on_ok : {T E : Type 0} (r : Result T E) (P : Type 0) → OnOk r P → IsOk r → P
+on_ok (Ok x) P p ok = p
+on_ok (Err e) P p ok = absurd (cc)
+
+pub departs_owed : (o : Option ℕ) (k : ConnId) (s : ConnState) (v v' : KeeperView) → Departs o k s v v' → owed v' ≤ owed v
+departs_owed o k s v v' d =
+    let x = log_shorter o v.waiting in
+    let e : length v'.waiting ≡ length (without_log o v.waiting) = ap (λ (ns : List ℕ). length ns) d.waiting in
+    let f : length v'.noting ≡ length v.noting = ap (λ (ks : List ConnId). length ks) d.beside.noting in
+    omega arith
+
+pub departs_keeps : (o : Option ℕ) (k : ConnId) (s : ConnState) (v v' : KeeperView) → Departs o k s v v' → room v ≤ room v' + 1 → Keeps v v'
+departs_keeps o k s v v' d room_is = record {
+  lane = d.beside.lane;
+  lanes = d.beside.lanes;
+  log_exit = d.beside.log_exit;
+  kind = d.beside.kind;
+  texts = d.beside.texts;
+  room_is = room_is;
+  owed = let x = departs_owed o k s v v' d in omega arith;
+}
+
+-- of a log that is written one is open
+pub not_closed : (v : KeeperView) (disk : DiskView) (m : Machine) (i : ℕ) (k : ConnId) → Represents v disk m → m.owner i ≡ Some k → log_in v i ≡ None → ⊥
+not_closed v disk m i k at own none = let h : Held v disk m i = subst (LogIs v disk m i) own (at.logs i) in let e : None ≡ Some h.its = sym none ∙ h.here in cc
+
+beside_out : (n : ℕ) (its : OpenLog) (a b : KeeperView) (k : ConnId) (s : ConnState) (c : KeeperView) → TakenOut n its a b → Departs (Some n) k s b c → Departs (Some n) k s a c
+beside_out n its a b k s c out d = record {
+  beside = record {
+    lane = d.beside.lane ∙ out.beside.lane;
+    lanes = d.beside.lanes ∙ out.beside.lanes;
+    log_exit = d.beside.log_exit ∙ out.beside.log_exit;
+    kind = d.beside.kind ∙ out.beside.kind;
+    texts = d.beside.texts ∙ out.beside.texts;
+    numbers = d.beside.numbers ∙ out.beside.numbers;
+    events = d.beside.events ∙ out.beside.events;
+    noting = d.beside.noting ∙ out.beside.noting;
+  };
+  states = λ j. d.states j ∙ ap (λ (t : Table). if same j k then s else (sessions t).states j) out.table;
+  owner = λ i. d.owner i ∙ ap (λ (t : Table). if i == n then None else (sessions t).owner i) out.table;
+  waiting = d.waiting ∙ ap (λ (ns : List ℕ). without_log (Some n) ns) out.waiting;
+}
+
+-- the value of a log that was taken out
+pub out_value : (n : ℕ) (its : OpenLog) (a b : KeeperView) (disk : DiskView) (m : Machine) → TakenOut n its a b → Represents a disk m → (value : LogValue) × logs.Represents its.log value disk
+out_value n its a b disk m out at =
+    let (value, is) = value_of a disk m n out.open_one at out.was in
+    (value, subst (λ (log : IoLogView). logs.Represents log value disk) out.same is)
+
+-- a log that was taken out is flushed, and its connection leaves
+pub out_left : (n : ℕ) (its : OpenLog) (a b c : KeeperView) (old new : DiskView) (m : Machine) (k : ConnId) (s : ConnState) → Laws old → Laws new → Represents a old m → log_of (m.states k) ≡ Some n
+    → log_of s ≡ None → TakenOut n its a b → Departs (Some n) k s b c → c.logs ≡ b.logs → ((value : LogValue) → logs.Represents its.log value old → EndsFlush its.log value old new) → Left k s a m c old new
+out_left n its a b c old new m k s laws laws' at is no_log out d same_logs flush = left_some a c old new m k s n laws laws' at is no_log (beside_out n its a b k s c out d) open_ones ends
+  where
+    open_ones : (i : ℕ) → log_in c i ≡ (if i == n then None else log_in a i)
+    open_ones i = ap (λ (x : OpenLogs). open_logs x i) same_logs ∙ out.logs i
+
+    ends : (other : OpenLog) (value : LogValue) → log_in a n ≡ Some other → logs.Represents other.log value old → EndsFlush other.log value old new
+    ends other value here represents =
+        let e : Some out.open_one ≡ Some other = sym out.was ∙ here in
+        let f : out.open_one ≡ other = cc in
+        let g : its.log ≡ other.log = sym out.same ∙ ap (λ (x : OpenLog). let log : IoLogView = x.log in log) f in
+        subst (λ (log : IoLogView). EndsFlush log value old new) g (flush value (subst (λ (log : IoLogView). logs.Represents log value old) (sym g) represents))
+
+-- ---- A connection that is noted no more
+
+pub conn_shorter : (k : ConnId) (ks : List ConnId) → length (without_conn k ks) ≤ length ks
+conn_shorter k [] = omega arith
+conn_shorter k (j ∷ ks) = go (conn_shorter k ks) (same j k) refl
+  where
+    go : length (without_conn k ks) ≤ length ks → (b : Bool) → same j k ≡ b → length (without_conn k (j ∷ ks)) ≤ length (j ∷ ks)
+    go rest true e = rw e (omega arith)
+    go rest false e = rw e (omega arith)
+
+sound_noting : (v : KeeperView) (m : Machine) (noting : List ConnId) → Sound (settings_of v) m → Sound (settings_of v) (record m { noting = noting })
+sound_noting v m noting s = record { lane = s.lane; drawn = s.drawn; owns = s.owns; owned = s.owned; there = s.there; none_above = s.none_above }
+
+pub forget_represents : (v : KeeperView) (disk : DiskView) (m : Machine) (k : ConnId) (noting : List ConnId) → noting ≡ without_conn k v.noting → Represents v disk m
+    → Represents (record v { noting = noting }) disk (record m { noting = without_conn k m.noting })
+forget_represents v disk m k noting is at = represents_one None v (record v { noting = noting }) disk disk m (record m { noting = without_conn k m.noting }) (λ file. ⊥) at same (λ n other file own none. none) (record {
+  lane = refl;
+  lanes = refl;
+  keeps_texts = refl;
+  sound = sound_noting v m (without_conn k m.noting) at.sound;
+  texts = refl;
+  states = at.states;
+  owner = at.owner;
+  waiting = at.waiting;
+  noting = ap (without_conn k) at.noting ∙ sym is;
+  rising = at.rising;
+  waits = at.waits;
+  others = λ n other. (refl, refl, refl);
+  its = tt;
+  numbers = at.numbers;
+  later = omega arith;
+  made = λ n e. absurd (cc);
+  events = events_stay v.lane v.events disk disk m (record m { noting = without_conn k m.noting }) (λ file. ⊥) same (λ file own none. none) refl refl (λ e. ap (without_conn k) e) at.events;
+})
+  where
+    same : Elsewhere (λ file. ⊥) disk disk
+    same = record { same = λ file none. refl; crash = λ file none c left. left }
+
+pub keeps_forget : (v v' : KeeperView) (k : ConnId) (noting : List ConnId) → noting ≡ without_conn k v.noting → Keeps (record v { noting = noting }) v' → Keeps v v'
+keeps_forget v v' k noting is s = record {
+  lane = s.lane;
+  lanes = s.lanes;
+  log_exit = s.log_exit;
+  kind = s.kind;
+  texts = s.texts;
+  room_is = s.room_is;
+  owed = let x = s.owed in let y = conn_shorter k v.noting in let e : length noting ≡ length (without_conn k v.noting) = ap (λ (ks : List ConnId). length ks) is in omega arith;
+}
+
+-- ---- What a table says
+
+-- a log was released, and a state set for which there is room
+pub released_departs : {T E : Type 0} (result : Result T E) (v v' : KeeperView) (released : Table) (n : ℕ) (k : ConnId) (s : ConnState) → SameBeside v v' → v'.waiting ≡ without_log (Some n) v.waiting
+    → sessions released ≡ record (sessions v.table) { owner = λ i. if i == n then None else (sessions v.table).owner i } → spare released ≡ spare v.table
+    → OnOk result (sessions v'.table ≡ record (sessions released) { states = λ j. if same j k then s else (sessions released).states j })
+    → (room_for ((sessions released).states k) s ≤ spare released → IsOk result) → room_for ((sessions v.table).states k) s ≤ spare v.table → Departs (Some n) k s v v'
+released_departs result v v' released n k s beside waiting free spares set enough room_is =
+    let states : (sessions released).states ≡ (sessions v.table).states = ap (λ (x : Sessions). x.states) free in
+    let room' : room_for ((sessions released).states k) s ≤ spare released =
+    subst (λ (x : ℕ). room_for ((sessions released).states k) s ≤ x) (sym spares) (subst (λ (f : ConnId → ConnState). room_for (f k) s ≤ spare v.table) (sym states) room_is) in
+    let then_is : sessions v'.table ≡ record (sessions released) { states = λ j. if same j k then s else (sessions released).states j } =
+    on_ok result (sessions v'.table ≡ record (sessions released) { states = λ j. if same j k then s else (sessions released).states j }) set (enough room') in
+    record {
+      beside = beside;
+      states = λ j. ap (λ (x : Sessions). x.states j) then_is ∙ ap (λ (f : ConnId → ConnState). if same j k then s else f j) states;
+      owner = λ i. ap (λ (x : Sessions). x.owner i) then_is ∙ ap (λ (x : Sessions). x.owner i) free;
+      waiting = waiting;
+    }
+
+-- a state was set for which there is room
+pub set_departs : {T E : Type 0} (result : Result T E) (v v' : KeeperView) (k : ConnId) (s : ConnState) → SameBeside v v' → v'.waiting ≡ v.waiting
+    → OnOk result (sessions v'.table ≡ record (sessions v.table) { states = λ j. if same j k then s else (sessions v.table).states j })
+    → (room_for ((sessions v.table).states k) s ≤ spare v.table → IsOk result) → room_for ((sessions v.table).states k) s ≤ spare v.table → Departs None k s v v'
+set_departs result v v' k s beside waiting set enough room_is =
+    let then_is : sessions v'.table ≡ record (sessions v.table) { states = λ j. if same j k then s else (sessions v.table).states j } =
+    on_ok result (sessions v'.table ≡ record (sessions v.table) { states = λ j. if same j k then s else (sessions v.table).states j }) set (enough room_is) in
+    record {
+      beside = beside;
+      states = λ j. ap (λ (x : Sessions). x.states j) then_is;
+      owner = λ i. ap (λ (x : Sessions). x.owner i) then_is;
+      waiting = waiting;
+    }
+
+pub room_fresh : (a : ConnState) → room_for a Fresh ≤ 0
+room_fresh Fresh = omega arith
+room_fresh Greeted = omega arith
+room_fresh Alerted = omega arith
+room_fresh (Running log) = omega arith
+room_fresh Dead = omega arith
+
+pub set_states : {T E : Type 0} (result : Result T E) (old new : Table) (k : ConnId) (s : ConnState) → OnOk result (sessions new ≡ record (sessions old) { states = λ j. if same j k then s else (sessions old).states j })
+    → (room_for ((sessions old).states k) s ≤ spare old → IsOk result) → room_for ((sessions old).states k) s ≤ spare old → (sessions new).states ≡ (λ j. if same j k then s else (sessions old).states j)
+set_states result old new k s set enough room_is =
+    ap (λ (x : Sessions). x.states) (on_ok result (sessions new ≡ record (sessions old) { states = λ j. if same j k then s else (sessions old).states j }) set (enough room_is))
+
+-- a log was taken out of the open ones
+pub took_out : (v v' : KeeperView) (n : ℕ) (its : OpenLog) (result : Option OpenLog) → SameBeside v v' → v'.table ≡ v.table → v'.waiting ≡ v.waiting → result ≡ open_logs v.logs n
+    → open_logs v'.logs ≡ with_open n None (open_logs v.logs) → result ≡ Some its → TakenOut n its v v'
+took_out v v' n its result beside table waiting taken rest is = record {
+  beside = beside;
+  table = table;
+  waiting = waiting;
+  logs = λ i. ap (λ (f : ℕ → Option OpenLog). f i) rest;
+  open_one = its;
+  was = sym taken ∙ is;
+  same = refl;
+}
+
+pub keeps_same : (v : KeeperView) → Keeps v v
+keeps_same v = record { lane = refl; lanes = refl; log_exit = refl; kind = refl; texts = refl; room_is = omega arith; owed = omega arith }

@@ -1,8 +1,8 @@
 -- What calls of a job leave as it was: the files of other logs, the numbers and the event log.
-use Rattle.std.proofs.Common.{◌≡◌, ◌≢◌, ◌≤◌, ◌<◌, ℕ, List, refl, sym, ◌∙◌, ap, subst, inl, inr, arith, Option, Some, None, ◌⊎◌}
-use Rattle.std.specs.Prelude.{◌==◌, Bool, true, false, if◌then◌else◌}
+use Rattle.std.proofs.Common.{◌≡◌, ◌≢◌, ◌≤◌, ◌<◌, ℕ, List, refl, sym, ◌∙◌, ap, subst, inl, inr, arith, Option, Some, None}
+use Rattle.std.specs.Prelude.{Bool, true, false, if◌then◌else◌}
 use Rattle.lsv_disk.specs.Throughout.{Jointly, OnlyReads, Throughout}
-use Rattle.lsv_disk.specs.View.{DiskView, Elsewhere, Image, IsCrashImage, Only}
+use Rattle.lsv_disk.specs.View.{DiskView, Elsewhere, Image, IsCrashImage}
 use Rattle.lsv_disk.specs.declared.file.FileId.{FileId}
 use Rattle.lsv_disk.specs.declared.file.Owner.{Owner}
 use Rattle.lsv_disk.specs.declared.file.Owner.TheVariants as owners
@@ -12,7 +12,7 @@ use Rattle.lsv_eventlog.specs.Recovered.{HoldsLines, IsOfEventLog}
 use Rattle.lsv_eventlog.proofs.Laws.{local_text, of_lane}
 use Rattle.lsv_iolog.specs.Recovered.{IsOfLog, IsUnmade, SameFiles}
 use Rattle.lsv_iolog.proofs.Replaying.{local_replay}
-use Rattle.lsv_seq.specs.Drawn.{IsNumbersFile, numbers_file}
+use Rattle.lsv_seq.specs.Drawn.{numbers_file}
 use Rattle.lsv_seq.proofs.Images.{entry_local}
 use Rattle.lsv_seq.proofs.Laws.{drawn_alone, numbers_owner}
 use Rattle.lsv_machine.specs.Counts.{same_owner}
@@ -174,15 +174,15 @@ ReadsAbove lane lanes n old new = (image : Image) (last : ℕ) → IsCrashImage 
 pub numbers_as : (lane lanes : ℕ) (old : DiskView) (images : Image → Type 0) → Laws old → NumbersFit (reading_of lane lanes) lane lanes (IsCrashImage old)
     → ((image : Image) → images image → (file : FileId) → file.owner ≡ owners.Numbers lane → old.crash_states file (image file))
     → ((n : ℕ) (was : Image) (last : ℕ) → IsCrashImage old was → IsDrawn lane lanes was last → IsOfLane lane lanes n → last < n
-      → (image : Image) → images image → (file : FileId) → IsOfLog n file → old.crash_states file (image file))
+    → (image : Image) → images image → (file : FileId) → IsOfLog n file → old.crash_states file (image file))
     → NumbersFit (reading_of lane lanes) lane lanes images
 numbers_as lane lanes old images laws fit drawn logs = record {
   told = λ image is. (let (last, d) = fit.told (was image) (left image is) in (last, drawn_same lane lanes last (was image) image (λ file own. mix_same (owners.Numbers lane) image old.reads file own) d));
   none_above = λ a b last n a_is b_is d of_lane above.
-    let d' : IsDrawn lane lanes (was a) last = drawn_same lane lanes last a (was a) (λ file own. sym (mix_same (owners.Numbers lane) a old.reads file own)) d in
-    let its : IsCrashImage old (mix (owners.Log n) b old.reads) = mix_image (owners.Log n) b old laws (λ file own. logs n (was a) last (left a a_is) d' of_lane above b b_is file own) in
-    let bare : IsBare (mix (owners.Log n) b old.reads) n = fit.none_above (was a) (mix (owners.Log n) b old.reads) last n (left a a_is) its d' of_lane above in
-    λ file own. mix_same (owners.Log n) b old.reads file own ∙ bare file own;
+      let d' : IsDrawn lane lanes (was a) last = drawn_same lane lanes last a (was a) (λ file own. sym (mix_same (owners.Numbers lane) a old.reads file own)) d in
+      let its : IsCrashImage old (mix (owners.Log n) b old.reads) = mix_image (owners.Log n) b old laws (λ file own. logs n (was a) last (left a a_is) d' of_lane above b b_is file own) in
+      let bare : IsBare (mix (owners.Log n) b old.reads) n = fit.none_above (was a) (mix (owners.Log n) b old.reads) last n (left a a_is) its d' of_lane above in
+      λ file own. mix_same (owners.Log n) b old.reads file own ∙ bare file own;
 }
   where
     was : Image → Image
@@ -195,7 +195,7 @@ numbers_as lane lanes old images laws fit drawn logs = record {
 pub keeps_files : (lane lanes : ℕ) (Touched : FileId → Type 0) (P : Image → Type 0) (old new : DiskView) → Laws old → Laws new → NumbersFit (reading_of lane lanes) lane lanes (IsCrashImage old)
     → Throughout Touched P old new → ((file : FileId) → file.owner ≡ owners.Numbers lane → Touched file → ⊥)
     → ((n : ℕ) (was : Image) (last : ℕ) → IsCrashImage old was → IsDrawn lane lanes was last → IsOfLane lane lanes n → last < n
-      → (k : ℕ) (image : Image) → old.moment ≤ k → k ≤ new.moment → new.crash_images_at k image → (file : FileId) → IsOfLog n file → old.crash_states file (image file))
+    → (k : ℕ) (image : Image) → old.moment ≤ k → k ≤ new.moment → new.crash_images_at k image → (file : FileId) → IsOfLog n file → old.crash_states file (image file))
     → KeepsNumbers (reading_of lane lanes) lane lanes old new
 keeps_files lane lanes Touched P old new laws laws' fit run apart logs = record {
   moments = record { later = run.later; past = run.past; keeps = run.keeps; each = fits };

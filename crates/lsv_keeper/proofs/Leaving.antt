@@ -1,9 +1,8 @@
 -- Rows by which a connection is refused, goes, or is dropped.
-use Rattle.std.proofs.Common.{◌≡◌, ◌≢◌, ◌≤◌, ◌<◌, ◌+◌, ◌*◌, ℕ, List, [], ◌∷◌, ◌++◌, length, map, refl, sym, ◌∙◌, ap, subst, inl, inr, arith, Option, Some, None, ◌⊎◌}
+use Rattle.std.proofs.Common.{◌≡◌, ◌+◌, ◌*◌, ℕ, List, [], refl, sym, ◌∙◌, ap, subst, inl, inr, arith, Option, Some, None, ◌⊎◌}
 use Rattle.std.specs.Prelude.{◌==◌, ◌&&◌, Bool, true, false, if◌then◌else◌, Contains, Result, Ok, Err}
 use Rattle.lsv_base.specs.declared.time.TimeSpec.{TimeSpec}
 use Rattle.lsv_disk.specs.View.{DiskView}
-use Rattle.lsv_disk.specs.declared.file.FileId.{FileId}
 use Rattle.lsv_disk.specs.declared.file.Owner.{Owner}
 use Rattle.lsv_disk.specs.declared.file.Owner.TheVariants as owners
 use Rattle.lsv_request.specs.declared.refusal.Refusal.{Refusal}
@@ -15,18 +14,15 @@ use Rattle.lsv_session.specs.declared.connection.ConnState.TheVariants.{Fresh, G
 use Rattle.lsv_session.specs.declared.job.Body.{Body}
 use Rattle.lsv_session.specs.declared.job.Body.TheVariants as body
 use Rattle.lsv_session.specs.declared.job.Job.{Job}
-use Rattle.lsv_machine.specs.Answers.{Answer, farewell, refusal, reply_of}
-use Rattle.lsv_machine.specs.Counts.{Counts}
-use Rattle.lsv_machine.specs.Failures.{Act, Breaks, BreaksOff, BrokenOff, Closes, Deviates, LeavesLog, LosesLog, LosesTail, MayDraw, Plainly, Step, WantsMemory, exit_in}
+use Rattle.lsv_machine.specs.Answers.{Answer, farewell, refusal}
+use Rattle.lsv_machine.specs.Failures.{Act, Breaks, LeavesLog, LosesTail, MayDraw, Step, WantsMemory, exit_in}
 use Rattle.lsv_machine.specs.History.{is_look, reads_log, request_in}
 use Rattle.lsv_machine.specs.Judgement.{fault_refusal, judged}
-use Rattle.lsv_machine.specs.Keeping.{Acted}
-use Rattle.lsv_machine.specs.Machine.{LogState, LogState.There, Machine, Settings, forgets, is_dead, leaves, log_of, with_log, without_conn}
+use Rattle.lsv_machine.specs.Machine.{LogState, Machine, Settings, forgets, is_dead, leaves, log_of, with_log, without_conn}
 use Rattle.lsv_machine.proofs.Choices.{EqOr.equal, EqOr.unequal, eq_or}
 use Rattle.lsv_machine.specs.Work.{Done, alive, dropped, next_number, plain, refused, silently}
-use Rattle.lsv_keeper.specs.Reading.{reading_of}
 use Rattle.lsv_keeper.specs.Represents.{Represents}
-use Rattle.lsv_keeper.specs.Rows.{AllRose, Beside, Closed, ClosedIf, Left, RowGives, RowIs, Tells}
+use Rattle.lsv_keeper.specs.Rows.{AllRose, Beside, ClosedIf, Left, RowGives, RowIs}
 use Rattle.lsv_keeper.specs.Value.{KeeperView, settings_of}
 use Rattle.lsv_keeper.specs.declared.told.Told.TheVariants as told
 use Rattle.lsv_keeper.proofs.Acting.{Concerns, Ends, OwnIf, acted, closed_keeps, concerns_ends, concerns_silent, ends_farewell, ends_refusal, ends_wants}
@@ -150,18 +146,21 @@ refused_row v v' now job why m old new laws at alive_is look is l answers tells 
         (inr (record {
           alive = alive_is;
           no_line = refl;
-          how = inr (inl (refl, record {
-            number = number;
-            drawn = may_draw (settings_of v) m;
-            lets_go = inl (why, e);
-            answers = e ∙ ap (λ (d : Done). d.answers) (sym (is number));
-            log = i;
-            writes = writes;
-            did = did;
-            left = x;
-            loses = subst (λ (d : Done). LosesTail (d.machine.logs i) x) (sym (is number)) loses;
-            now = ap (leaves k Dead) now_is ∙ ap (λ (d : Done). with_log i x d.machine) (sym (is number));
-          }));
+          how = inr (inl (
+            refl,
+            record {
+              number = number;
+              drawn = may_draw (settings_of v) m;
+              lets_go = inl (why, e);
+              answers = e ∙ ap (λ (d : Done). d.answers) (sym (is number));
+              log = i;
+              writes = writes;
+              did = did;
+              left = x;
+              loses = subst (λ (d : Done). LosesTail (d.machine.logs i) x) (sym (is number)) loses;
+              now = ap (leaves k Dead) now_is ∙ ap (λ (d : Done). with_log i x d.machine) (sym (is number));
+            },
+          ));
         }))
         rose l.beside l.closed l.represents
 
@@ -219,18 +218,21 @@ farewell_row v v' noting now job m old new laws at alive_is gone l answers e =
         (inr (record {
           alive = alive_is;
           no_line = refl;
-          how = inr (inl (refl, record {
-            number = number;
-            drawn = may_draw (settings_of v) m;
-            lets_go = inr gone;
-            answers = e ∙ ap (λ (d : Done). d.answers) (sym is);
-            log = i;
-            writes = writes;
-            did = did;
-            left = x;
-            loses = subst (λ (d : Done). LosesTail (d.machine.logs i) x) (sym is) loses;
-            now = ap (leaves k Fresh) now_is ∙ ap (λ (d : Done). with_log i x d.machine) (sym is);
-          }));
+          how = inr (inl (
+            refl,
+            record {
+              number = number;
+              drawn = may_draw (settings_of v) m;
+              lets_go = inr gone;
+              answers = e ∙ ap (λ (d : Done). d.answers) (sym is);
+              log = i;
+              writes = writes;
+              did = did;
+              left = x;
+              loses = subst (λ (d : Done). LosesTail (d.machine.logs i) x) (sym is) loses;
+              now = ap (leaves k Fresh) now_is ∙ ap (λ (d : Done). with_log i x d.machine) (sym is);
+            },
+          ));
         }))
         rose l.beside closed l.represents
 
@@ -284,3 +286,24 @@ dropped_row v v' now job m after old new laws dead is beside at' answers e =
           (counts_did act old new beside.monotone (rose_none old new) refl) (silent_concerns m act e dead) beside tt,
       at',
     )
+
+-- a Gone of a dead connection
+pub forgotten_row : (v v' : KeeperView) (noting : List ConnId) (now : TimeSpec) (job : Job) (m : Machine) (old new : DiskView) → Laws old → is_dead (m.states job.conn) ≡ true → job.body ≡ body.Gone
+    → Left job.conn Fresh (record v { noting = noting }) (record m { noting = without_conn job.conn m.noting }) v' old new → RowGives v now job told.Nothing m v' old new
+forgotten_row v v' noting now job m old new laws dead gone l =
+    let mid : Machine = record m { noting = without_conn job.conn m.noting } in
+    let none : log_of (m.states job.conn) ≡ None = dead_none (m.states job.conn) dead in
+    let same : l.left ≡ mid = subst (λ (o : Option ℕ). LeavesLog l.failed o None mid l.left) none l.log in
+    let is : silently (leaves job.conn Fresh l.left) ≡ dropped job.conn job.body m =
+    ap (λ (x : Machine). silently (leaves job.conn Fresh x)) same ∙ ap (λ (b : Body). dropped job.conn b m) (sym gone) in
+    dropped_row v v' now job m (leaves job.conn Fresh l.left) old new laws dead is (subst (λ (o : Option ℕ). Beside v.lane v.lanes o old new) none l.beside) l.represents
+
+-- any other job of one
+pub ignored_row : (v : KeeperView) (now : TimeSpec) (job : Job) (m : Machine) (disk : DiskView) → Laws disk → Represents v disk m → is_dead (m.states job.conn) ≡ true → (job.body ≡ body.Gone → ⊥)
+    → RowGives v now job told.Nothing m v disk disk
+ignored_row v now job m disk laws at dead not_gone_is = dropped_row v v now job m m disk disk laws dead (same job.body refl) (beside_none v.lane v.lanes None disk laws (numbers_fit v disk m at)) at
+  where
+    same : (b : Body) → job.body ≡ b → silently m ≡ dropped job.conn job.body m
+    same (body.Msg message) e = ap (λ (x : Body). dropped job.conn x m) (sym e)
+    same (body.Bad fault) e = ap (λ (x : Body). dropped job.conn x m) (sym e)
+    same body.Gone e = absurd (not_gone_is e)

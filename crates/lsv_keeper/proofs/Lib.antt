@@ -11,3 +11,9 @@ pub mod TailPieces
 pub mod Departing
 pub mod Leaving
 pub mod Drawing
+pub mod Tailing
+pub mod Losing
+pub mod TailRows
+pub mod TailLoops
+pub mod TailRefusals
+pub mod Late

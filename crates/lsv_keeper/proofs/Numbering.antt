@@ -1,5 +1,5 @@
 -- The numbers of a keeper's disk.
-use Rattle.std.proofs.Common.{◌≡◌, ◌≢◌, ◌≤◌, ◌<◌, ◌+◌, ◌*◌, ℕ, List, refl, sym, ◌∙◌, ap, subst, inl, inr, arith, Option, Some, None, ◌⊎◌}
+use Rattle.std.proofs.Common.{◌≡◌, ◌≤◌, ◌<◌, ◌+◌, ◌*◌, ℕ, sym, ◌∙◌, ap, subst, inl, inr, arith, Some, None}
 use Rattle.std.specs.Prelude.{◌==◌, if◌then◌else◌}
 use Rattle.lsv_disk.specs.Throughout.{OnlyReads, Throughout}
 use Rattle.lsv_disk.specs.View.{DiskView, Image, IsCrashImage}
@@ -63,9 +63,9 @@ pub fits_above : (lane lanes last : ℕ) (images : Image → Type 0) → ((image
 fits_above lane lanes last images drawn bare = record {
   told = λ image is. (let (l, d, le) = drawn image is in (l, inl d));
   none_above = λ a b l n a_is b_is d of_lane above.
-    let (l', d', le) = drawn a a_is in
-    let e : l ≡ l' = one_drawn lane lanes l l' a d (inl d') in
-    bare n of_lane (omega arith) b b_is;
+      let (l', d', le) = drawn a a_is in
+      let e : l ≡ l' = one_drawn lane lanes l l' a d (inl d') in
+      bare n of_lane (omega arith) b b_is;
 }
 
 -- the numbers of a keeper's disk fit

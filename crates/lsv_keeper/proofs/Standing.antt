@@ -1,6 +1,5 @@
 -- What a keeper and its disk stand for after calls: all that these didn't touch stays.
-use Rattle.std.proofs.Common.{◌≡◌, ◌≢◌, ◌≤◌, ◌<◌, ◌+◌, ◌*◌, ℕ, List, [], ◌∷◌, refl, sym, ◌∙◌, ap, subst, inl, inr, arith, Option, Some, None, ◌⊎◌}
-use Rattle.std.specs.Prelude.{true, false}
+use Rattle.std.proofs.Common.{◌≡◌, ◌≢◌, ◌≤◌, ◌<◌, ℕ, [], sym, ◌∙◌, ap, subst, inl, inr, arith, Option, Some, None, ◌⊎◌}
 use Rattle.lsv_disk.specs.View.{DiskView, Elsewhere, Image}
 use Rattle.lsv_disk.specs.declared.file.FileId.{FileId}
 use Rattle.lsv_disk.specs.declared.file.Owner.TheVariants as owners
@@ -19,7 +18,7 @@ use Rattle.lsv_machine.specs.Stands.{Sound}
 use Rattle.lsv_machine.specs.Starts.{ReadsAs}
 use Rattle.lsv_machine.specs.Work.{next_number}
 use Rattle.lsv_machine.proofs.Choices.{EqOr.equal, EqOr.unequal, eq_or}
-use Rattle.lsv_keeper.specs.Represents.{AllOwned, EventsAre, Held, Free, LogIs, NumbersAre, Represents, Rising}
+use Rattle.lsv_keeper.specs.Represents.{AllOwned, EventsAre, LogIs, NumbersAre, Represents, Rising}
 use Rattle.lsv_keeper.specs.Value.{KeeperView, log_in, sessions_of, settings_of}
 use Rattle.lsv_keeper.proofs.Frames.{IsApart, unmade_stays}
 
@@ -71,9 +70,9 @@ events_stay lane log old new m m' Touched elsewhere apart lines fresh noting is 
   sound = is.sound;
   reads = rw lines (local_text old.reads new.reads lane m.lines (λ file own. elsewhere.same file (apart file (of_lane lane file own))) is.reads);
   whole = λ whole.
-    let its = is.whole whole in
-    let stays = event_logs.log_stays log Touched old new is.sound elsewhere (λ file own. apart file (own ∙ ap owners.Events is.lane_is)) its.represents in
-    record { represents = stays.0; committed = stays.1 ∙ its.committed ∙ sym lines; added = its.added ∙ sym fresh };
+      let its = is.whole whole in
+      let stays = event_logs.log_stays log Touched old new is.sound elsewhere (λ file own. apart file (own ∙ ap owners.Events is.lane_is)) its.represents in
+      record { represents = stays.0; committed = stays.1 ∙ its.committed ∙ sym lines; added = its.added ∙ sym fresh };
   broken = λ broken. record { none_fresh = fresh ∙ (is.broken broken).none_fresh; nobody_noted = noting (is.broken broken).nobody_noted };
 }
 
@@ -143,10 +142,10 @@ represents_one i v v' old new m m' Touched at elsewhere apart c = record {
   ];
   numbers = c.numbers;
   unmade = λ n is above.
-    let is' : IsOfLane v.lane v.lanes n = lane_as v.lane v.lanes v'.lane v'.lanes n c.lane c.lanes is in
-    elim (its_or i n) [
-      | inl e ↦ c.made n e is above
-      | inr other ↦ unmade_stays n Touched old new (apart n other) elsewhere (at.unmade n is' (let x = c.later in omega arith))
-    ];
+      let is' : IsOfLane v.lane v.lanes n = lane_as v.lane v.lanes v'.lane v'.lanes n c.lane c.lanes is in
+      elim (its_or i n) [
+        | inl e ↦ c.made n e is above
+        | inr other ↦ unmade_stays n Touched old new (apart n other) elsewhere (at.unmade n is' (let x = c.later in omega arith))
+      ];
   events = c.events;
 }

@@ -1,5 +1,5 @@
 -- What the end of a turn gives, piece by piece, and what a turn gives.
-use Rattle.std.specs.Prelude.{◌≡◌, ◌⊎◌, ℕ, List, [], ◌++◌, map, Contains}
+use Rattle.std.specs.Prelude.{◌≡◌, ◌≢◌, ◌⊎◌, ℕ, List, [], ◌∷◌, ◌++◌, map, Contains}
 use Rattle.lsv_base.specs.declared.time.TimeSpec.{TimeSpec}
 use Rattle.lsv_disk.specs.View.{DiskView}
 use Rattle.lsv_disk.specs.declared.file.Owner.{Owner}
@@ -22,6 +22,11 @@ use Rattle.lsv_keeper.specs.Value.{KeeperView, settings_of}
 abbrev pub none_waits : Machine → Machine
 none_waits m = record m { waiting = [] }
 
+-- a number is one of these
+abbrev pub IsOneOf : ℕ → List ℕ → Type 0
+IsOneOf n [] = ⊥
+IsOneOf n (i ∷ numbers) = (n ≡ i) ⊎ IsOneOf n numbers
+
 -- these connections are refused, one after another, where they aren't shut
 pub record Refused (r : Reading) (set : Settings) (conns : List ConnId) (tail : Tail) (m after : Machine) (old new : DiskView) : Type 0 where
   pub ended : Ended r set tail (λ x y. RefusesAll tail.failed conns tail.answers x y) m after old new
@@ -34,7 +39,8 @@ pub record RefusedGive (conns : List ConnId) (v : KeeperView) (m : Machine) (sai
   pub after : Machine
   pub told : said' ≡ said ++ map reply_of tail.answers
   pub refused : Refused (reading_of v.lane v.lanes) (settings_of v) conns tail m after old new
-  pub lost : NoneFailed after.waiting tail.failed
+  pub logs : (o : Owner) → Contains tail.failed o → (n : ℕ) × (o ≡ owners.Log n)
+  pub lost : (n : ℕ) → IsOneOf n after.waiting → (Contains tail.failed (owners.Log n) → ⊥) × IsOneOf n m.waiting
   pub represents : Represents v' new after
 
 -- the event lines are flushed; of the logs that failed none waits any more
@@ -43,7 +49,7 @@ pub record LinesGive (v : KeeperView) (m : Machine) (said said' : List Reply) (v
   pub after : Machine
   pub told : said' ≡ said ++ map reply_of tail.answers
   pub ended : LinesEnded (reading_of v.lane v.lanes) (settings_of v) tail m after old new
-  pub lost : NoneFailed after.waiting tail.failed
+  pub lost : (n : ℕ) → IsOneOf n after.waiting → Contains tail.failed (owners.Log n) → ⊥
   pub represents : Represents v' new after
 
 -- log n is flushed
@@ -53,6 +59,7 @@ pub record LogGives (n : ℕ) (v : KeeperView) (m : Machine) (said said' : List 
   pub told : said' ≡ said ++ map reply_of tail.answers
   pub ended : LogEnded (reading_of v.lane v.lanes) (settings_of v) n tail m after old new
   pub own : (o : Owner) → Contains tail.failed o → o ≡ owners.Log n
+  pub others : (i : ℕ) → i ≢ n → after.owner i ≡ m.owner i
   pub represents : Represents v' new (none_waits after)
 
 -- these logs are flushed, one after another
@@ -61,7 +68,7 @@ pub record LogsGive (numbers : List ℕ) (v : KeeperView) (m : Machine) (said sa
   pub after : Machine
   pub told : said' ≡ said ++ map reply_of tail.answers
   pub ended : LogsEnded (reading_of v.lane v.lanes) (settings_of v) numbers tail m after old new
-  pub own : (o : Owner) → Contains tail.failed o → (n : ℕ) × (Contains numbers n) × (o ≡ owners.Log n)
+  pub own : (o : Owner) → Contains tail.failed o → (n : ℕ) × (o ≡ owners.Log n) × IsOneOf n numbers
   pub represents : Represents v' new (none_waits after)
 
 -- the jobs of a turn so far

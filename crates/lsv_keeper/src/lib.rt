@@ -3,6 +3,7 @@
 #![tactic(auto)]
 
 mod accept;
+mod dummy;
 mod events;
 mod keeper;
 mod leave;

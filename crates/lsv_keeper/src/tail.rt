@@ -30,6 +30,7 @@ impl<F: LineWriter, H: Search> Keeper<F, H> {
         ensures set { SameSet (view_of self.old) (view_of self.new) }
         ensures none { (view_of self.new).noting ≡ [] }
         ensures fewer { length (view_of self.new).waiting ≤ length (view_of self.old).waiting }
+        ensures places { room (view_of self.old) ≤ room (view_of self.new) + length (view_of self.old).noting }
         ensures room { room_in out.old ≤ room_in out.new + 2 * length (view_of self.old).noting }
         ensures lines { D.tells → (m : Machine) → Represents (view_of self.old) (D.view disk.old) m
             → LinesGive (view_of self.old) m out.old.items out.new.items (view_of self.new) (D.view disk.old) (D.view disk.new) }
@@ -48,13 +49,14 @@ impl<F: LineWriter, H: Search> Keeper<F, H> {
         ensures set { SameSet (view_of self.old) (view_of self.new) }
         ensures none { (view_of self.new).noting ≡ [] }
         ensures fewer { length (view_of self.new).waiting ≤ length (view_of self.old).waiting }
+        ensures places { room (view_of self.old) ≤ room (view_of self.new) + length (view_of self.old).noting }
         ensures room { room_in out.old ≤ room_in out.new + 2 * length (view_of self.old).noting }
         ensures refused { D.tells → (m : Machine) → Represents (un_noted (view_of self.old)) (D.view disk.old) m
             → RefusedGive (view_of self.old).noting (view_of self.old) m out.old.items out.new.items (view_of self.new) (D.view disk.old) (D.view disk.new) }
     {
         let noting = mem::replace(&mut self.noting, Vec::new(self.alloc));
-        for conn in noting {
-            self.lose_line(disk, conn, out);
+        for conn in noting.iter() {
+            self.lose_line(disk, *conn, out);
         }
     }
 
@@ -81,6 +83,7 @@ impl<F: LineWriter, H: Search> Keeper<F, H> {
     /// The logs that took a record in this turn have their commit points, by rising number.
     pub(crate) fn flush_logs<D: Disk>(&mut self, disk: &mut D, out: &mut Vec<Reply>)
         requires stands { D.tells → (m : Machine) × Represents (view_of self.old) (D.view disk.old) m }
+        requires places { length (view_of self.old).waiting ≤ room (view_of self.old) }
         requires replies { 2 * length (view_of self.old).waiting ≤ room_in out.old }
         ensures set { SameSet (view_of self.old) (view_of self.new) }
         ensures none { (view_of self.new).waiting ≡ [] }
@@ -89,18 +92,21 @@ impl<F: LineWriter, H: Search> Keeper<F, H> {
             → LogsGive m.waiting (view_of self.old) m out.old.items out.new.items (view_of self.new) (D.view disk.old) (D.view disk.new) }
     {
         let waiting = mem::replace(&mut self.waiting, Vec::new(self.alloc));
-        for number in waiting {
-            self.flush_log(disk, number, out);
+        for number in waiting.iter() {
+            self.flush_log(disk, *number, out);
         }
     }
 
     /// The writer of a log has its commit point; or it is refused, where the log failed, which then is let go.
     fn flush_log<D: Disk>(&mut self, disk: &mut D, number: LogNo, out: &mut Vec<Reply>)
         requires stands { D.tells → (m : Machine) × Represents (view_of self.old) (D.view disk.old) m }
+        requires none_waits { (view_of self.old).waiting ≡ [] }
+        requires places { 1 ≤ room (view_of self.old) }
         requires replies { 2 ≤ room_in out.old }
         ensures set { SameSet (view_of self.old) (view_of self.new) }
-        ensures waiting { (view_of self.new).waiting ≡ (view_of self.old).waiting }
+        ensures waiting { (view_of self.new).waiting ≡ [] }
         ensures noting { (view_of self.new).noting ≡ (view_of self.old).noting }
+        ensures places { room (view_of self.old) ≤ room (view_of self.new) + 1 }
         ensures room { room_in out.old ≤ room_in out.new + 2 }
         ensures log { D.tells → (m : Machine) (k : ConnId) → Represents (view_of self.old) (D.view disk.old) (none_waits m) → m.owner number ≡ Some k
             → LogGives number (view_of self.old) m out.old.items out.new.items (view_of self.new) (D.view disk.old) (D.view disk.new) }
@@ -111,8 +117,7 @@ impl<F: LineWriter, H: Search> Keeper<F, H> {
         match self.logs.flush(disk, number) {
             Some(point) => put_point(out, conn, point),
             None => {
-                self.table.release_log(number);
-                let _ = self.table.set(conn, ConnState::Dead);
+                self.release(conn, ConnState::Dead, number);
                 put_replies(self.alloc, out, conn, Told::Refused(Refusal::DeviceFault));
             }
         }

@@ -19,12 +19,20 @@ refused_with : (k : ConnId) (why : Refusal) (message : ServerMessage) (first las
     → one ≡ said ++ first ∷ [] → two ≡ one ++ last ∷ []
     → first ≡ record { conn = k; body = body.Say message; last = false } → last ≡ record { conn = k; body = body.Shut; last = false }
     → (answers : List Answer) × ((answers ≡ refusal k why) ⊎ WantsMemory k answers) × (two ≡ said ++ map reply_of answers)
-refused_with k why message first last said one two (inl is) a b f l = (refusal k why, inl refl, b ∙ ap (λ (rs : List Reply). rs ++ last ∷ []) a ∙ append_assoc said (first ∷ []) (last ∷ [])
-    ∙ ap (λ (r : Reply). said ++ r ∷ last ∷ []) (f ∙ ap (λ (m : ServerMessage). let r : Reply = record { conn = k; body = body.Say m; last = false } in r) is)
-    ∙ ap (λ (r : Reply). said ++ (record { conn = k; body = body.Say (refusal_message why); last = false }) ∷ r ∷ []) l)
-refused_with k why message first last said one two (inr is) a b f l = (refusal k OutOfMemory, inr (inl refl), b ∙ ap (λ (rs : List Reply). rs ++ last ∷ []) a ∙ append_assoc said (first ∷ []) (last ∷ [])
-    ∙ ap (λ (r : Reply). said ++ r ∷ last ∷ []) (f ∙ ap (λ (m : ServerMessage). let r : Reply = record { conn = k; body = body.Say m; last = false } in r) is)
-    ∙ ap (λ (r : Reply). said ++ (record { conn = k; body = body.Say (refusal_message OutOfMemory); last = false }) ∷ r ∷ []) l)
+refused_with k why message first last said one two (inl is) a b f l = (
+  refusal k why,
+  inl refl,
+  b ∙ ap (λ (rs : List Reply). rs ++ last ∷ []) a ∙ append_assoc said (first ∷ []) (last ∷ [])
+      ∙ ap (λ (r : Reply). said ++ r ∷ last ∷ []) (f ∙ ap (λ (m : ServerMessage). let r : Reply = record { conn = k; body = body.Say m; last = false } in r) is)
+      ∙ ap (λ (r : Reply). said ++ (record { conn = k; body = body.Say (refusal_message why); last = false }) ∷ r ∷ []) l,
+)
+refused_with k why message first last said one two (inr is) a b f l = (
+  refusal k OutOfMemory,
+  inr (inl refl),
+  b ∙ ap (λ (rs : List Reply). rs ++ last ∷ []) a ∙ append_assoc said (first ∷ []) (last ∷ [])
+      ∙ ap (λ (r : Reply). said ++ r ∷ last ∷ []) (f ∙ ap (λ (m : ServerMessage). let r : Reply = record { conn = k; body = body.Say m; last = false } in r) is)
+      ∙ ap (λ (r : Reply). said ++ (record { conn = k; body = body.Say (refusal_message OutOfMemory); last = false }) ∷ r ∷ []) l,
+)
 
 pub returns-clause-told : goal.returns-clause-told
 returns-clause-told c = elim c.match-message_of.branch [

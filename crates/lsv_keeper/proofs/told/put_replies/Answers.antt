@@ -12,9 +12,11 @@ use Rattle.lsv_keeper.proofs.told.put_replies.Goals as goal
 
 pub returns-in-Log-clause-told : goal.returns-in-Log-clause-told
 returns-in-Log-clause-told c =
-    let id_is : c.in-Log.id ≡ digits_of c.in-Log.field-0 = subst IsTold c.in-Log.is c.requires.told in
-    (say c.args.conn (LogId c.in-Log.field-0) ∷ [], subst (λ (t : Told). Tells c.args.conn t (say c.args.conn (LogId c.in-Log.field-0) ∷ [])) (sym c.in-Log.is) refl,
-    c.put.ensures.items ∙ ap (λ (r : Reply). c.args.out.now.items ++ r ∷ []) (c.say.ensures ∙ ap (λ (t : List ℕ). let r : Reply = record { conn = c.args.conn; body = body.Say (server.LogId t); last = false } in r) id_is))
+    let id_is : c.in-Log.id ≡ digits_of c.in-Log.field-0 = subst IsTold c.in-Log.is c.requires.told in (
+      say c.args.conn (LogId c.in-Log.field-0) ∷ [],
+      subst (λ (t : Told). Tells c.args.conn t (say c.args.conn (LogId c.in-Log.field-0) ∷ [])) (sym c.in-Log.is) refl,
+      c.put.ensures.items ∙ ap (λ (r : Reply). c.args.out.now.items ++ r ∷ []) (c.say.ensures ∙ ap (λ (t : List ℕ). let r : Reply = record { conn = c.args.conn; body = body.Say (server.LogId t); last = false } in r) id_is),
+    )
 
 pub returns-in-Finished-clause-told : goal.returns-in-Finished-clause-told
 returns-in-Finished-clause-told c = (
