@@ -16,3 +16,5 @@ pub mod Opening
 pub mod Cutting
 pub mod Shortening
 pub mod Dropping
+pub mod Deciding
+pub mod Decided

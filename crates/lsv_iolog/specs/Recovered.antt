@@ -98,7 +98,3 @@ pub record SameLog (n : ℕ) (a b : Image) : Type 0 where
 -- none of the log's files is there, nor does a crash leave one
 abbrev pub IsUnmade : ℕ → DiskView → Type 0
 IsUnmade n disk = (file : FileId) → IsOfLog n file → Only None (disk.crash_states file)
-
--- each file of the log has bytes
-abbrev pub HasBytes : ℕ → Image → Type 0
-HasBytes n image = (file : FileId) → IsOfLog n file → (bytes : List ℕ) → image file ≡ Some bytes → All (λ byte. byte < 256) bytes

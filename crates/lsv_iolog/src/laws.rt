@@ -2,11 +2,13 @@
 
 ghost use Rattle.std.specs.Prelude.{◌≡◌, ℕ, Option, Some, None};
 ghost use Rattle.lsv_disk.specs.declared.file.FileId.{FileId};
+ghost use Rattle.lsv_disk.specs.declared.file.Part.{Part};
 ghost use Rattle.lsv_disk.specs.View.{Image, IsCrashImage, Elsewhere};
 ghost use Rattle.lsv_record.specs.declared.records.Record.{Record};
 ghost use Rattle.lsv_record.specs.Points.{Stored};
 ghost use Rattle.lsv_record.specs.Records.{IsValid};
-ghost use Rattle.lsv_iolog.specs.Recovered.{IsOfLog, Replays, SameFiles, HasBytes, Decided};
+ghost use Rattle.lsv_iolog.specs.Recovered.{IsOfLog, Replays, ReplaysNothing, SameFiles, Decided};
+ghost use Rattle.lsv_iolog.specs.Damage.{IsDamagedAt};
 ghost use Rattle.lsv_iolog.specs.Value.{LogValue, with_record};
 ghost use Rattle.lsv_iolog.specs.Represents.{Represents, Stages};
 
@@ -15,11 +17,13 @@ use lsv_disk::{Claim, Disk};
 use std::marker::PhantomData;
 
 /// What an image holds of a log hangs on the log's files alone, and is one thing; where no file of it is there, the log
-/// is absent; and of an image whose files are bytes it is decided whether the log is absent, there, or damaged.
+/// is absent; and whether it is absent, there, or damaged is decided. Where a part is at fault, nothing is there.
 pub fn a_log_is_recovered_in_one_way()
     ensures once { (image : Image) (n : ℕ) (found other : Option Stored) → Replays image n found → Replays image n other → found ≡ other }
     ensures own_files { (image other : Image) (n : ℕ) (found : Option Stored) → SameFiles n image other → Replays image n found → Replays other n found }
     ensures absent { (image : Image) (n : ℕ) → ((file : FileId) → IsOfLog n file → image file ≡ None) → Replays image n None }
+    ensures decided { (image : Image) (n : ℕ) → Decided image n }
+    ensures damaged { (image : Image) (n : ℕ) (part : Part) → IsDamagedAt n part image → ReplaysNothing image n }
 {}
 
 /// Each crash image replays what an open log has committed. It stays represented where calls on the disk touched none of
