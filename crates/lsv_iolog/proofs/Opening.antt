@@ -186,16 +186,16 @@ open_calls n owner old new owned calls = record {
 }
 
 -- a file that isn't short has as many bytes
-not_short : (file : Option (List ℕ)) (n : ℕ) → (IsShort file n → ⊥) → length (take n (bytes_of file)) ≡ n
+pub not_short : (file : Option (List ℕ)) (n : ℕ) → (IsShort file n → ⊥) → length (take n (bytes_of file)) ≡ n
 not_short None n whole = absurd (whole tt)
 not_short (Some bytes) n whole = omega (arith, length-take n bytes, whole)
 
-has_taken : (file : Option (List ℕ)) (n : ℕ) → (IsShort file n → ⊥) → HasPrefix (take n (bytes_of file)) file
+pub has_taken : (file : Option (List ℕ)) (n : ℕ) → (IsShort file n → ⊥) → HasPrefix (take n (bytes_of file)) file
 has_taken None n whole = absurd (whole tt)
 has_taken (Some bytes) n whole = (drop n bytes, sym (take-append-drop n bytes))
 
 -- an entry with the same bytes is the same log
-is_log_same : (a c : Committed) (log : Stored) → a.body ≡ c.body → ((part : Part) → IsPart shapes.Log part → c.bytes part ≡ a.bytes part) → IsLog a log → IsLog c log
+pub is_log_same : (a c : Committed) (log : Stored) → a.body ≡ c.body → ((part : Part) → IsPart shapes.Log part → c.bytes part ≡ a.bytes part) → IsLog a log → IsLog c log
 is_log_same a c log body bytes is = record {
   head = bytes Head tt ∙ is.head;
   is_head = is.is_head;
