@@ -17,3 +17,4 @@ pub mod TailRows
 pub mod TailLoops
 pub mod TailRefusals
 pub mod Late
+pub mod Opening

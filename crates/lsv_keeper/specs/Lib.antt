@@ -9,3 +9,4 @@ pub mod Rows
 pub mod Accepting
 pub mod Tails
 pub mod Leaving
+pub mod Opening

@@ -5,13 +5,20 @@
 mod accept;
 mod dummy;
 mod events;
+mod fault;
 mod keeper;
+mod laws;
 mod leave;
 mod logs;
+mod open;
 mod own;
 mod report;
 mod restart;
 mod tail;
 mod told;
 
+pub use fault::StoreFault;
 pub use keeper::Keeper;
+pub use laws::{
+    a_number_that_was_told_is_drawn, a_run_recovers_turn_by_turn, all_runs_recover, runs_recover,
+};
