@@ -1,12 +1,12 @@
 -- Opening a store: what it leaves at each moment, and what the keeper then stands for.
 use Rattle.std.proofs.Common.{◌≡◌, ◌≢◌, ◌≤◌, ◌<◌, ◌+◌, ◌*◌, ℕ, List, [], length, refl, sym, ◌∙◌, ap, subst, inl, inr, arith, Option, Some, None, Ok, Err, ◌⊎◌}
-use Rattle.std.specs.Prelude.{◌==◌, ◌&&◌, ◌||◌, ◌-◌, ◌%◌, ◌/◌, slice_index, nat_le, nat_lt, Bool, true, false, if◌then◌else◌, Result}
+use Rattle.std.specs.Prelude.{◌==◌, ◌&&◌, ◌||◌, ◌-◌, ◌%◌, ◌/◌, slice_index, nat_le, nat_lt, IfErr, IsErrAnd, IsErrOf, Bool, true, false, if◌then◌else◌, Result}
 use Rattle.std.proofs.Math.Nat.{mod-add-div'}
 use Rattle.lsv_bundle.specs.Calls.{IsOpenFault}
 use Rattle.lsv_bundle.specs.declared.fault.BundleFault.{BundleFault}
 use Rattle.lsv_bundle.specs.declared.fault.BundleFault.TheVariants as bundle_faults
 use Rattle.lsv_bundle.specs.Committed.{IsDamaged, IsFirstShort, IsShort}
-use Rattle.lsv_bundle.specs.Shape.{journal_of}
+use Rattle.lsv_bundle.specs.Shape.{journal_of, parts_of}
 use Rattle.lsv_bundle.specs.declared.shape.Shape.TheVariants as shapes
 use Rattle.lsv_disk.specs.Files.{file_of, same_file}
 use Rattle.lsv_disk.specs.Throughout.{Throughout}
@@ -34,15 +34,14 @@ use Rattle.lsv_words.specs.Causes.{HasRisen}
 use Rattle.lsv_disk.specs.declared.file.Owner.{Owner}
 use Rattle.lsv_seq.specs.declared.numbers.Numbers.{Numbers}
 use Rattle.lsv_seq.specs.Drawn.{IsAsSomeCrash, IsNumbersFile, LastDrawn, entry_at, judged, judged_entry, numbers_file}
-use Rattle.lsv_seq.specs.Entry.{is_entry, is_of_lane, most}
+use Rattle.lsv_seq.specs.Entry.{is_of_lane, most}
 use Rattle.lsv_seq.specs.Value.{lane_of, lanes_of, last_of, next_of, pending_of}
 use Rattle.lsv_session.specs.Table.{Sessions}
-use Rattle.lsv_session.specs.declared.connection.ConnId.{ConnId}
 use Rattle.lsv_session.specs.declared.connection.ConnState.TheVariants.{Fresh}
 use Rattle.lsv_machine.specs.Disks.{KeepsNumbers, LinesAsBefore, NumbersFit}
-use Rattle.lsv_machine.specs.Durable.{Reading, Recovered}
+use Rattle.lsv_machine.specs.Durable.{Recovered}
 use Rattle.lsv_machine.specs.Keeping.{Opened, OpensStore}
-use Rattle.lsv_machine.specs.Machine.{IsOfLane, LogState, LogState.Absent, LogState.Damaged, LogState.There, Machine, log_of}
+use Rattle.lsv_machine.specs.Machine.{IsOfLane, LogState, LogState.Absent, LogState.Damaged, LogState.There, Machine}
 use Rattle.lsv_machine.specs.Stands.{Sound}
 use Rattle.lsv_machine.specs.Starts.{ReadsAs, StartsAs}
 use Rattle.lsv_machine.specs.Work.{next_number}
@@ -56,7 +55,7 @@ use Rattle.lsv_keeper.specs.Value.{KeeperView, sessions_of, settings_of}
 use Rattle.lsv_keeper.specs.declared.fault.StoreFault.{StoreFault}
 use Rattle.lsv_keeper.specs.declared.fault.StoreFault.TheVariants as store_faults
 use Rattle.lsv_keeper.specs.declared.logs.OpenLog.{OpenLog}
-use Rattle.lsv_keeper.proofs.Frames.{IsApart, Laws, Resting, beside_events, lines_apart, mix, mix_image, mix_same, resting_apart, resting_on, unmade_stays}
+use Rattle.lsv_keeper.proofs.Frames.{IsApart, Laws, beside_events, lines_apart, mix, mix_image, mix_same, resting_apart, resting_on, unmade_stays}
 use Rattle.lsv_keeper.proofs.Standing.{numbers_stay}
 
 -- ---- Numbers
@@ -195,7 +194,7 @@ damaged_alike lane a b part same d = record {
   first = go d.first;
 }
   where
-    go : IsFirstShort (owners.Events lane) a d.body.lens (Lines ∷ []) part → IsFirstShort (owners.Events lane) b d.body.lens (Lines ∷ []) part
+    go : IsFirstShort (owners.Events lane) a d.body.lens (parts_of shapes.Lines) part → IsFirstShort (owners.Events lane) b d.body.lens (parts_of shapes.Lines) part
     go (inl (is, short)) = inl (is, subst (λ (o : Option (List ℕ)). IsShort o (slice_index d.body.lens 0)) (sym (same (file_of (owners.Events lane) Lines) refl)) short)
     go (inr (whole, none)) = absurd none
 
@@ -232,14 +231,14 @@ of_lane_is : (last lane lanes : ℕ) → (last == 0 || (nat_le last most && ((la
 of_lane_is last lane lanes e = elim (eq_or last 0) [
   | equal p t ↦ inl p
   | unequal p t ↦ let f : (nat_le last most && ((last - 1) % lanes == lane)) ≡ true = rw t at e in
-    inr ((last - 1) / lanes, sum_is last lane ((last - 1) % lanes) ((last - 1) / lanes * lanes) p (equal_is ((last - 1) % lanes) lane (both_second (nat_le last most) ((last - 1) % lanes == lane) f)) (mod-add-div' (last - 1) lanes))
+      inr ((last - 1) / lanes, sum_is last lane ((last - 1) % lanes) ((last - 1) / lanes * lanes) p (equal_is ((last - 1) % lanes) lane (both_second (nat_le last most) ((last - 1) % lanes == lane) f)) (mod-add-div' (last - 1) lanes))
 ]
 
 -- the last number of a lane's numbers is one of its, or none was drawn
 number_is : (lane lanes : ℕ) (n : Numbers) → lane_of n ≡ lane → lanes_of n ≡ lanes → (last_of n ≡ 0) ⊎ IsOfLane lane lanes (last_of n)
 number_is lane lanes n lane_is lanes_is =
     subst (λ (x : ℕ). (last_of n ≡ 0) ⊎ IsOfLane x lanes (last_of n)) lane_is (subst (λ (x : ℕ). (last_of n ≡ 0) ⊎ IsOfLane (lane_of n) x (last_of n)) lanes_is
-        (of_lane_is (last_of n) (lane_of n) (lanes_of n) (last_test (nat_lt n.kept.lane n.kept.lanes) (nat_le n.kept.lanes 8) (is_of_lane n.kept) n.sound.entry)))
+    (of_lane_is (last_of n) (lane_of n) (lanes_of n) (last_test (nat_lt n.kept.lane n.kept.lanes) (nat_le n.kept.lanes 8) (is_of_lane n.kept) n.sound.entry)))
   where
     last_test : (a b c : Bool) → (a && b && c) ≡ true → c ≡ true
     last_test true true c e = e
@@ -325,7 +324,6 @@ module _ (v : KeeperView) (old mid new : DiskView) (P Q : Image → Type 0) (law
     (first_run : Throughout (λ g. g ≡ numbers_file v.lane) P old mid) (second_run : Throughout (IsOfEventLog v.lane) Q mid new)
     (first_store : OpensStore (reading_of v.lane v.lanes) v.lane v.lanes old mid) (second_store : OpensStore (reading_of v.lane v.lanes) v.lane v.lanes mid new)
     (fit : NumbersFit (reading_of v.lane v.lanes) v.lane v.lanes (IsCrashImage old)) where
-
   abbrev its : Machine
   its = machine_of v.texts old.reads (last_of v.numbers) (committed_text v.events new)
 
@@ -428,7 +426,7 @@ module _ (v : KeeperView) (old mid new : DiskView) (P Q : Image → Type 0) (law
         numbers = numbers_are;
         unmade = λ n of above. unmade_stays n (IsOfEventLog v.lane) mid new (log_not_events v.lane n) second_run.elsewhere
             (unmade_stays n (λ g. g ≡ numbers_file v.lane) old mid (log_not_numbers v.lane n) first_run.elsewhere
-                (unmade_at v.lane v.lanes n (last_of v.numbers) old old.reads laws fit laws.reads_itself drawn of above));
+            (unmade_at v.lane v.lanes n (last_of v.numbers) old old.reads laws fit laws.reads_itself drawn of above));
         events = events_are;
       }
 
@@ -497,3 +495,12 @@ cause_after o failed a b c up cause = record {
   where
     risen_since : (x y z : ℕ) → x ≤ y → HasRisen y z → HasRisen x z
     risen_since x y z le risen below = let s : y < z = risen below in omega arith
+
+-- a fault that is passed on
+pub same_error : {T E : Type 0} (r : Result T E) (e d : E) → IsErrAnd r (λ x. x ≡ e) → IsErrOf r d → e ≡ d
+same_error {T} {E} (Ok x) e d is same = absurd is
+same_error {T} {E} (Err x) e d is same = sym is ∙ err_is {T = T} x d same
+
+pub passed : {T E : Type 0} (P : E → Type 0) (r : Result T E) (e : E) → IsErrAnd r (λ x. x ≡ e) → P e → IfErr r P
+passed {T} {E} P (Ok x) e is holds = tt
+passed {T} {E} P (Err x) e is holds = subst P (sym is) holds

@@ -49,9 +49,7 @@ fn number_fault(lane: u32, fault: SeqFault) -> StoreFault
     match fault {
         SeqFault::Disk => StoreFault::Device(Owner::Numbers(lane)),
         SeqFault::LanesDiffer { kept, asked } => StoreFault::LanesDiffer { kept, asked },
-        SeqFault::Damaged => {
-            StoreFault::Damaged(FileId::new(Owner::Numbers(lane), Part::Slots))
-        }
+        SeqFault::Damaged => { StoreFault::Damaged(FileId::new(Owner::Numbers(lane), Part::Slots)) }
     }
 }
 

@@ -1,8 +1,5 @@
-use Rattle.std.proofs.Common.{Ok}
-use Rattle.lsv_disk.specs.View.{DiskView}
 use Rattle.lsv_bundle.specs.declared.fault.BundleFault.TheVariants as bundle_faults
 use Rattle.lsv_keeper.specs.declared.fault.StoreFault.TheVariants.{Device}
-use Rattle.lsv_keeper.proofs.Frames.{Laws}
 use Rattle.lsv_keeper.proofs.Opening.{err_is, events_cause, events_faults, events_store, in_err, some_run}
 use Rattle.lsv_keeper.proofs.open.open_events.Goals as goal
 

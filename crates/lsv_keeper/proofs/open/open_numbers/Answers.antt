@@ -1,9 +1,5 @@
-use Rattle.std.proofs.Common.{Ok}
-use Rattle.lsv_disk.specs.View.{DiskView}
 use Rattle.lsv_seq.specs.declared.fault.SeqFault.TheVariants as seq_faults
-use Rattle.lsv_seq.specs.Drawn.{numbers_file}
 use Rattle.lsv_keeper.specs.declared.fault.StoreFault.TheVariants.{Device}
-use Rattle.lsv_keeper.proofs.Frames.{Laws}
 use Rattle.lsv_keeper.proofs.Opening.{err_is, in_err, number_moments, numbers_cause, numbers_faults, numbers_store, some_run}
 use Rattle.lsv_keeper.proofs.open.open_numbers.Goals as goal
 
