@@ -39,3 +39,4 @@ pub mod RestartRows
 pub mod Viewing
 pub mod ResumedRows
 pub mod Looking
+pub mod Opening

@@ -10,3 +10,4 @@ pub mod Rows
 pub mod Accepting
 pub mod Tails
 pub mod Leaving
+pub mod Opening

@@ -5,9 +5,12 @@
 mod accept;
 mod events;
 mod exit;
+mod fault;
 mod keeper;
+mod laws;
 mod leave;
 mod logs;
+mod open;
 mod own;
 mod record;
 mod report;
@@ -18,4 +21,8 @@ mod told;
 mod turn;
 mod work;
 
+pub use fault::StoreFault;
 pub use keeper::Keeper;
+pub use laws::{
+    a_number_that_was_told_is_drawn, a_run_recovers_turn_by_turn, all_runs_recover, runs_recover,
+};
