@@ -20,7 +20,7 @@ ghost use Rattle.lsv_keeper.specs.Value.{Keeps, room, sessions_of};
 ghost use Rattle.lsv_keeper.specs.Views.{view_of};
 
 use crate::Keeper;
-use crate::record::window_fits;
+use crate::record::windowed;
 use crate::told::{Told, put_replies};
 use lsv_base::TimeSpec;
 use lsv_disk::Disk;
@@ -91,8 +91,7 @@ impl<F: LineWriter, H: Search> Keeper<F, H> {
             → RowGives (view_of self.old) now job result m (view_of self.new) (D.view disk.old) (D.view disk.new) }
     {
         let state = self.table.state(conn);
-        window_fits(&message);
-        match judged(state, message) {
+        match judged(state, windowed(message)) {
             Ok(asked) => self.work(disk, now, conn, state, asked),
             Err(why) => self.refuse(disk, conn, why),
         }
