@@ -90,9 +90,11 @@ impl<F: LineWriter, H: Search> Keeper<F, H> {
         ensures row { D.tells → (m : Machine) (job : Job) → Represents (view_of self.old) (D.view disk.old) m → job.conn ≡ conn → job.body ≡ bodies.Msg message → is_dead (m.states conn) ≡ false
             → RowGives (view_of self.old) now job result m (view_of self.new) (D.view disk.old) (D.view disk.new) }
     {
-        let state = self.table.state(conn);
-        match judged(state, windowed(message)) {
-            Ok(asked) => self.work(disk, now, conn, state, asked),
+        match judged(self.table.state(conn), windowed(message)) {
+            Ok(asked) => {
+                let state = self.table.state(conn);
+                self.work(disk, now, conn, state, asked)
+            }
             Err(why) => self.refuse(disk, conn, why),
         }
     }
