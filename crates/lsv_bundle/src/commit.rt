@@ -1,6 +1,6 @@
 ghost use Rattle.std.specs.Prelude.{◌≡◌, ◌⊎◌, ◌↔◌, ℕ, ◌+◌, ◌≤◌, true, false, Some, IsErr, IfErr, OnOk, IsErrOf, length, map, slice_index};
 ghost use Rattle.lsv_disk.specs.declared.file.Part.{Part};
-ghost use Rattle.lsv_disk.specs.View.{Image, HasOwnCause};
+ghost use Rattle.lsv_disk.specs.View.{Image, HasCause, HasOwnCause};
 ghost use Rattle.lsv_disk.specs.Throughout.{Throughout, CallsAtMost};
 ghost use Rattle.lsv_journal.specs.Last.{IsOwn};
 ghost use Rattle.lsv_bundle.specs.declared.body.Body.{Body};
@@ -209,6 +209,7 @@ impl Bundle {
         ensures disk { IsErrOf result BundleFault.Disk → self.new.is_broken ≡ true }
         ensures fault { IfErr result (λ e. (e ≡ BundleFault.Disk) ⊎ (e ≡ BundleFault.Broken)) }
         ensures cause { HasOwnCause (IsOwn (journal_of self.old.owner)) (IsErrOf result BundleFault.Disk) (D.view disk.old) (D.view disk.new) }
+        ensures blame { HasCause (journal_of self.old.owner) (IsErrOf result BundleFault.Disk) (D.view disk.old) (D.view disk.new) }
         ensures broken { IsErrOf result BundleFault.Broken ↔ (self.old.is_broken ≡ true) }
         ensures kept { KeptAtError (IsErr result) (IsErrOf result BundleFault.Broken) self.old self.new disk.old disk.new }
     {

@@ -166,6 +166,7 @@ empty_as_before lane old image itself none empty = record {
   before = old.reads;
   was = itself;
   same = λ text holds. subst (HoldsLines image lane) (one_text old.reads lane [] text none holds) empty;
+  back = λ text holds. subst (HoldsLines old.reads lane) (one_text image lane [] text empty holds) none;
 }
 
 pub made_as_before : (lane : ℕ) (old mid new : DiskView) → IsCrashImage old old.reads → HoldsLines old.reads lane [] → Throughout (IsOfEventLog lane) (IsAsBefore lane old) old mid → Throughout (IsOfEventLog lane) (IsEmpty lane) mid new

@@ -88,6 +88,7 @@ opens lane old new run = widened (λ g. g ≡ journal_of (Events lane)) (IsOfEve
       before = mixed was image;
       was = λ file. by_part file (is_journal file.part) refl;
       same = λ text holds. same_lines lane (mixed was image) image text (same ∙ sym (same_journal was image)) refl holds;
+      back = λ text holds. same_lines lane image (mixed was image) text (same_journal was image ∙ sym same) refl holds;
     }
       where
         by_part : (file : FileId) (b : Bool) → is_journal file.part ≡ b → old.crash_states file (if b then was file else image file)

@@ -1,4 +1,4 @@
--- For proofs alone: what holds of each value of an event log.
+-- What holds of each value of an event log.
 use Rattle.std.specs.Prelude.{◌≡◌, ◌≢◌, ℕ, ◌≤◌, [], None, true}
 use Rattle.lsv_disk.specs.declared.file.Owner.TheVariants.{Events}
 use Rattle.lsv_bundle.specs.declared.shape.Shape.TheVariants as shapes

@@ -12,3 +12,4 @@ pub record IsAsBefore (lane : ℕ) (disk : DiskView) (image : Image) : Type 0 wh
   pub before : Image
   pub was : IsCrashImage disk before
   pub same : (text : List ℕ) → HoldsLines before lane text → HoldsLines image lane text
+  pub back : (text : List ℕ) → HoldsLines image lane text → HoldsLines before lane text

@@ -5,6 +5,7 @@ ghost use Rattle.lsv_disk.specs.Throughout.{Throughout};
 ghost use Rattle.lsv_bundle.specs.declared.fault.BundleFault.{BundleFault};
 ghost use Rattle.lsv_bundle.specs.Calls.{CallsOfFlush};
 ghost use Rattle.lsv_bundle.specs.Value.{next_body};
+ghost use Rattle.lsv_eventlog.specs.Inner.{IsEventLog};
 ghost use Rattle.lsv_eventlog.specs.Recovered.{HoldsLines, IsOfEventLog};
 ghost use Rattle.lsv_eventlog.specs.Value.{IsAdded, IsFlushed, IsKept, Represents, added_text, committed_text, counted, is_broken, line_count, text_length};
 ghost use Rattle.lsv_eventlog.specs.Moments.{IsEither};
@@ -40,6 +41,7 @@ impl EventLog {
     /// Adds a line behind those that are there, with its line feed. `Full(Lines)` exactly where the text would pass
     /// 2^40 bytes with it, `Broken` exactly where the log is: where it fails, it is unchanged.
     pub fn add(&mut self, line: &[u8]) -> Result<(), BundleFault>
+        ensures sound { IsEventLog self.new }
         ensures value { OnOk result (IsAdded line.now self.old self.new) }
         ensures refused { OnErr result (self.new ≡ self.old) }
         ensures room { OnOk result ((is_broken self.old ≡ false) × (text_length self.old + length line.now ≤ 2 ^ 40)) }
@@ -57,6 +59,7 @@ impl EventLog {
     /// file of this log failed; from then on `Broken`, until it is opened again. It takes no memory.
     pub fn flush<D: Disk>(&mut self, disk: &mut D) -> Result<(), BundleFault>
         requires represents { D.tells → is_broken self.old ≡ false → Represents self.old (D.view disk.old) }
+        ensures sound { IsEventLog self.new }
         ensures nothing { self.old.added ≡ 0 → IsOk result × (self.new ≡ self.old) × (disk.new ≡ disk.old) }
         ensures value { OnOk result (IsFlushed self.old self.new) }
         ensures entry { OnOk result (self.old.added ≢ 0 → self.new.bundle.last ≡ Some (next_body self.old.bundle 1 (counted (line_count self.old) self.old.added) 0 0)) }

@@ -9,6 +9,7 @@ ghost use Rattle.lsv_bundle.specs.declared.shape.Shape.TheVariants as shapes;
 ghost use Rattle.lsv_bundle.specs.Shape.{journal_of};
 ghost use Rattle.lsv_bundle.specs.Committed.{IsDamaged};
 ghost use Rattle.lsv_bundle.specs.Calls.{IsOpenFault};
+ghost use Rattle.lsv_eventlog.specs.Inner.{IsEventLog};
 ghost use Rattle.lsv_eventlog.specs.Recovered.{HoldsLines, IsOfEventLog};
 ghost use Rattle.lsv_eventlog.specs.Value.{CountsAsIn, IsOpened, Represents, committed_text, line_count};
 ghost use Rattle.lsv_eventlog.specs.Moments.{IsAsBefore};
@@ -23,6 +24,7 @@ const MADE: u8 = 0;
 
 /// The event log of a lane, where it has an entry.
 fn find<D: Disk>(alloc: Global, disk: &mut D, lane: u32) -> Result<Option<EventLog>, BundleFault>
+    ensures sound { IfOk result (λ o. IfSome o IsEventLog) }
     ensures value { IfOk result (λ o. IfSome o (IsOpened lane)) }
     ensures held { D.tells → IfOk result (λ o. IfSome o (λ log. HoldsLines (D.view disk.old).reads lane (committed_text log (D.view disk.new)))) }
     ensures counted { D.tells → IfOk result (λ o. IfSome o (CountsAsIn lane (D.view disk.old).reads)) }
@@ -53,6 +55,7 @@ fn find<D: Disk>(alloc: Global, disk: &mut D, lane: u32) -> Result<Option<EventL
 fn make<D: Disk>(alloc: Global, disk: &mut D, lane: u32) -> Result<EventLog, BundleFault>
     requires may_be_made { D.tells → MayBeMade 89 (journal_of (Events lane)) (D.view disk.old) }
     requires no_entry { D.tells → (image : Image) → IsCrashImage (D.view disk.old) image → LastAt 89 (journal_of (Events lane)) image ≡ None }
+    ensures sound { IfOk result IsEventLog }
     ensures value { IfOk result (IsOpened lane) }
     ensures count { IfOk result (λ log. line_count log ≡ 0) }
     ensures empty { D.tells → IfOk result (λ log. committed_text log (D.view disk.new) ≡ []) }
@@ -76,6 +79,7 @@ impl EventLog {
     /// fault ended has left. `Damaged(Lines)` where its lines are absent or fewer than the last entry says; `Disk` only
     /// where a device call on a file of this log failed. Also where it fails it reads as before.
     pub fn open<D: Disk>(alloc: Global, disk: &mut D, lane: u32) -> Result<EventLog, BundleFault>
+        ensures sound { IfOk result IsEventLog }
         ensures value { IfOk result (IsOpened lane) }
         ensures held { D.tells → IfOk result (λ log. HoldsLines (D.view disk.old).reads lane (committed_text log (D.view disk.new))) }
         ensures counted { D.tells → IfOk result (CountsAsIn lane (D.view disk.old).reads) }

@@ -131,6 +131,12 @@ make_moment n owner after old new owned unmade run =
     (writes_owner (owner_of n) shapes.Log) (λ image making beside. inl (made_absent n old image unmade making))
     (subst (λ (o : Owner). Throughout (IsWritable o shapes.Log) (IsBeingMade o shapes.Log old) old new) owned run)
 
+-- the same, where none of its images has the log
+pub make_nothing : (n : ℕ) (owner : Owner) (old new : DiskView) → owner ≡ owner_of n → IsUnmade n old → Throughout (IsWritable owner shapes.Log) (IsBeingMade owner shapes.Log old) old new → Throughout (IsOfLog n) (λ image. Replays image n None) old new
+make_nothing n owner old new owned unmade run =
+    widened (IsOfLog n) (IsOfLog n) (IsEither n None None) (λ image. Replays image n None) old new (λ f own. own) (λ image either beside. elim either [ inl none ↦ none | inr none ↦ none ])
+    (make_moment n owner None old new owned unmade run)
+
 -- it may be made
 pub unmade_may_be_made : (n : ℕ) (owner : Owner) (disk : DiskView) → owner ≡ owner_of n → IsCrashImage disk disk.reads → IsUnmade n disk → MayBeMade 89 (journal_of owner) disk
 unmade_may_be_made n owner disk owned reads unmade =
@@ -220,6 +226,12 @@ make_then_flush n owner b old mid new owned of one two =
 -- a log that isn't made is absent in each crash image
 pub unmade_started : (n : ℕ) (after : Option Stored) (disk : DiskView) → OnlyNow disk → IsUnmade n disk → Throughout (IsOfLog n) (IsEither n None after) disk disk
 unmade_started n after disk now unmade = started (IsOfLog n) (IsEither n None after) disk now (λ image is. inl (absent_replay image n (unmade_image n disk image unmade is)))
+
+-- and where nothing was called yet
+pub nothing_started : (n : ℕ) (disk : DiskView) → ((image : Image) → disk.crash_images_at disk.moment image → IsCrashImage disk image) → IsUnmade n disk → Throughout (IsOfLog n) (λ image. Replays image n None) disk disk
+nothing_started n disk only_now unmade =
+    widened (IsOfLog n) (IsOfLog n) (IsEither n None None) (λ image. Replays image n None) disk disk (λ f own. own) (λ image either beside. elim either [ inl none ↦ none | inr none ↦ none ])
+    (unmade_started n None disk only_now unmade)
 
 -- files of which a call kept what is committed and staged are the log's as before
 pub kept_files : (n : ℕ) (old new : BundleView) → IsKept old new → IsOfNumber n old → IsOfNumber n new

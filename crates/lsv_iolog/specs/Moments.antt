@@ -1,13 +1,12 @@
 -- What crash images hold of a log while calls go on, and what calls sync.
-use Rattle.std.specs.Prelude.{◌≡◌, ◌≢◌, ℕ, ◌+◌, ◌≤◌, ◌⊎◌, Option, Some, None}
+use Rattle.std.specs.Prelude.{◌≡◌, ◌≢◌, ℕ, ◌+◌, ◌-◌, ◌^◌, ◌<◌, ◌≤◌, ◌⊎◌, true, Option, Some, None}
 use Rattle.lsv_disk.specs.declared.file.FileId.{FileId}
-use Rattle.lsv_disk.specs.View.{Image, DiskView, IsCrashImage, HasOwnCause}
+use Rattle.lsv_disk.specs.View.{Image, DiskView, IsCrashImage, HasCause}
 use Rattle.lsv_disk.specs.Throughout.{OnlyReads}
-use Rattle.lsv_journal.specs.Last.{IsOwn}
 use Rattle.lsv_bundle.specs.Shape.{journal_of}
-use Rattle.lsv_record.specs.Points.{Stored}
+use Rattle.lsv_record.specs.Points.{Stored, first}
 use Rattle.lsv_iolog.specs.Recovered.{owner_of, IsOfLog, Replays, SameLog}
-use Rattle.lsv_iolog.specs.Later.{IsLater}
+use Rattle.lsv_iolog.specs.Later.{IsLater, drops}
 
 -- the log is there as it was before a call, or as it is after
 abbrev pub IsEither : ℕ → Option Stored → Option Stored → Image → Type 0
@@ -34,6 +33,8 @@ pub record CallsOfLog (n d j : ℕ) (old new : DiskView) : Type 0 where
   pub writes : RoseOfLog n d j old.writes new.writes
   pub syncs : RoseOfLog n d j old.syncs new.syncs
 
--- why a cut failed: a call on the journal did, and a record ends at the point; or a read did, and nothing was changed
-abbrev pub IsCutFault : ℕ → Option ℕ → DiskView → DiskView → Type 0
-IsCutFault n found old new = ((found ≢ None) × HasOwnCause (IsOwn (journal_of (owner_of n))) (Unit {0}) old new) ⊎ OnlyReads old new
+-- why a cut of this log at a point failed: a call on the journal did, a record ends at the point, and the cut could be counted; or a read did, and nothing was changed
+abbrev pub IsCutFault : ℕ → (point : ℕ) → Stored → DiskView → DiskView → Type 0
+IsCutFault n point stored old new =
+    ((first stored.records point ≢ None) × (drops stored point ≡ true → stored.cuts < 2 ^ 63 - 1) × HasCause (journal_of (owner_of n)) (Unit {0}) old new)
+    ⊎ OnlyReads old new

@@ -57,7 +57,8 @@ impl IoLog {
 
     /// Commits all staged records with the text of this exit, by one entry; the log wasn't complete, and is then. The
     /// exit's run time is valid. Crashes leave what they leave of a flush, and `Disk` and `Broken` come as there.
-    /// `Full(Exit)` exactly where the exit's text is too long for its file, which then is unchanged.
+    /// `Full(Exit)` exactly where the exit's text is too long for its file, which then is unchanged: so it fits where the
+    /// disk failed.
     pub fn finish<D: Disk>(&mut self, disk: &mut D, exit: &Exit) -> Result<Point, LogFault>
         requires represents { D.tells → self.old.is_broken ≡ false → (value : LogValue) × Represents self.old value (D.view disk.old) }
         requires going { is_complete self.old ≡ false }
@@ -78,6 +79,7 @@ impl IoLog {
         ensures broken { IsErrOf result LogFault.Broken ↔ (self.old.is_broken ≡ true) }
         ensures full { IsErrOf result (LogFault.Full Part.Exit) → IsFull self.old.bundle Part.Exit (length (exit_text exit.now)) }
         ensures fits { OnOk result (IsFull self.old.bundle Part.Exit (length (exit_text exit.now)) → ⊥) }
+        ensures room { IsErrOf result LogFault.Disk → IsFull self.old.bundle Part.Exit (length (exit_text exit.now)) → ⊥ }
         ensures unchanged { IfErr result (λ e. e ≢ LogFault.Disk → (self.new ≡ self.old) × (disk.new ≡ disk.old)) }
         ensures cause { HasOwnCause (IsOfLog self.old.number) (IsErrOf result LogFault.Disk) (D.view disk.old) (D.view disk.new) }
     {

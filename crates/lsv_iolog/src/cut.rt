@@ -72,7 +72,7 @@ impl IoLog {
         ensures disk { IsErrOf result LogFault.Disk → (self.new.is_broken ≡ true) × (is_complete self.old ≡ false) }
         ensures fault { IfErr result (λ e. (e ≡ LogFault.Broken) ⊎ (e ≡ LogFault.Complete) ⊎ (e ≡ LogFault.NoPoint point) ⊎ (e ≡ LogFault.Full Part.Slots) ⊎ (e ≡ LogFault.Disk) ⊎ (e ≡ LogFault.NoMem)) }
         ensures cause { HasOwnCause (IsOfLog self.old.number) (IsErrOf result LogFault.Disk) (D.view disk.old) (D.view disk.new) }
-        ensures blame { D.tells → IsErrOf result LogFault.Disk → (value : LogValue) → Represents self.old value (D.view disk.old) → IsCutFault self.old.number (first value.stored.records point) (D.view disk.old) (D.view disk.new) }
+        ensures blame { D.tells → IsErrOf result LogFault.Disk → (value : LogValue) → Represents self.old value (D.view disk.old) → IsCutFault self.old.number point value.stored (D.view disk.old) (D.view disk.new) }
     {
         if self.is_broken {
             return Err(LogFault::Broken);
@@ -151,6 +151,7 @@ impl IoLog {
         ensures calls { D.tells → CallsAtMost 2 2 (λ g. g ≡ journal_of self.old.bundle.owner) (D.view disk.old) (D.view disk.new) }
         ensures fault { IfErr result (λ e. e ≡ LogFault.Disk) }
         ensures cause { HasOwnCause (IsOwn (journal_of self.old.bundle.owner)) (IsErrOf result LogFault.Disk) (D.view disk.old) (D.view disk.new) }
+        ensures blame { HasCause (journal_of self.old.bundle.owner) (IsErrOf result LogFault.Disk) (D.view disk.old) (D.view disk.new) }
     {
         let lens = lengths_behind(&self.bundle.last(), kept);
         match self

@@ -10,7 +10,7 @@ ghost use Rattle.std.specs.List.{AllByRecursion};
 ghost use Rattle.std.specs.Int.{w64};
 ghost use Rattle.lsv_iolog.specs.declared.fault.LogFault.{LogFault};
 ghost use Rattle.lsv_bundle.specs.Value.{committed_length};
-ghost use Rattle.lsv_iolog.specs.Recovered.{owner_of, IsOfLog, IsUnmade, IsHeadText};
+ghost use Rattle.lsv_iolog.specs.Recovered.{owner_of, IsOfLog, IsUnmade, IsHeadText, Replays};
 ghost use Rattle.lsv_iolog.specs.Inner.Invariant.{IsSettled, HasCommitted};
 ghost use Rattle.lsv_iolog.specs.Value.{is_complete, bare, made, IsFlushed};
 ghost use Rattle.lsv_iolog.specs.Represents.{Represents};
@@ -131,6 +131,7 @@ fn make_files<D: Disk>(
     ensures empty { IfOk result (λ b. committed_length b Part.Timing ≡ 0) }
     ensures holds { D.tells → IfOk result (λ b. HasCommitted b (made text.now) (D.view disk.new)) }
     ensures any_moment { D.tells → Throughout (IsOfLog number) (IsEither number None (Some (made text.now))) (D.view disk.old) (D.view disk.new) }
+    ensures nothing { D.tells → 2 ^ 40 < length text.now → Throughout (IsOfLog number) (λ image. Replays image number None) (D.view disk.old) (D.view disk.new) }
     ensures calls { D.tells → CallsOfLog number 3 4 (D.view disk.old) (D.view disk.new) }
     ensures fault { IfErr result (λ e. (e ≡ LogFault.Disk) ⊎ (e ≡ LogFault.Full Part.Head) ⊎ (e ≡ LogFault.NoMem)) }
     ensures full { IsErrOf result (LogFault.Full Part.Head) → 2 ^ 40 < length text.now }
@@ -146,7 +147,8 @@ fn make_files<D: Disk>(
 impl IoLog {
     /// Makes a log of this head, with no record. None of its files is there, and its head's time is valid. At every
     /// moment a crash leaves nothing of it or the whole log, and after Ok the log. `Disk` only where a device call on
-    /// a file of this log failed, `Full(Head)` where the head's text has more than 2^40 bytes.
+    /// a file of this log failed, `Full(Head)` where the head's text has more than 2^40 bytes; then nothing of it is left
+    /// whatever failed.
     pub fn create<D: Disk>(
         alloc: Global,
         disk: &mut D,
@@ -162,6 +164,7 @@ impl IoLog {
         ensures counts { IfOk result (λ log. (log.count ≡ 0) × (log.elapsed ≡ 0)) }
         ensures represents { D.tells → IfOk result (λ log. Represents log (bare (made (head_text head.now))) (D.view disk.new)) }
         ensures any_moment { D.tells → Throughout (IsOfLog number) (IsEither number None (Some (made (head_text head.now)))) (D.view disk.old) (D.view disk.new) }
+        ensures nothing { D.tells → 2 ^ 40 < length (head_text head.now) → Throughout (IsOfLog number) (λ image. Replays image number None) (D.view disk.old) (D.view disk.new) }
         ensures calls { D.tells → CallsOfLog number 3 4 (D.view disk.old) (D.view disk.new) }
         ensures fault { IfErr result (λ e. (e ≡ LogFault.Disk) ⊎ (e ≡ LogFault.Full Part.Head) ⊎ (e ≡ LogFault.NoMem)) }
         ensures full { IsErrOf result (LogFault.Full Part.Head) → 2 ^ 40 < length (head_text head.now) }

@@ -46,7 +46,8 @@ impl IoLog {
     /// synced or written. `Damaged(part)` exactly where what its files hold is no log, and it is the first part at
     /// fault: a file that is absent or shorter than the last entry says, then the head, the exit, the timing, and the
     /// streams. Whatever it answers, the log reads as it read before, and at every moment a crash leaves of it what it
-    /// could leave before. `Disk` only where a device call on a file of this log failed.
+    /// could leave before. Where none of its files is there, nothing is synced or written. `Disk` only where a device
+    /// call on a file of this log failed.
     pub fn open<D: Disk>(alloc: Global, disk: &mut D, number: LogNo) -> Result<IoLog, LogFault>
         ensures number { IfOk result (λ log. log.number ≡ number) }
         ensures whole { IfOk result (λ log. log.is_broken ≡ false) }
@@ -56,7 +57,7 @@ impl IoLog {
         ensures damaged { D.tells → (part : Part) → IsErrOf result (LogFault.Damaged part) → IsDamagedAt number part (D.view disk.old).reads }
         ensures reads { D.tells → SameLog number (D.view disk.old).reads (D.view disk.new).reads }
         ensures any_moment { D.tells → Throughout (IsOfLog number) (IsAsBefore number (D.view disk.old)) (D.view disk.old) (D.view disk.new) }
-        ensures stays_unmade { D.tells → IsUnmade number (D.view disk.old) → IsUnmade number (D.view disk.new) }
+        ensures unmade { D.tells → IsUnmade number (D.view disk.old) → OnlyReads (D.view disk.old) (D.view disk.new) }
         ensures calls { D.tells → WritesOneOf (journal_of (owner_of number)) 3 5 (IsOfLog number) (D.view disk.old) (D.view disk.new) }
         ensures fault { IfErr result IsOpenFault }
         ensures cause { HasOwnCause (IsOfLog number) (IsErrOf result LogFault.Disk) (D.view disk.old) (D.view disk.new) }

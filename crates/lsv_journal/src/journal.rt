@@ -25,7 +25,7 @@ pub struct Journal<const N: usize> {
 impl<const N: usize> Journal<N> {
     ghost use Rattle.lsv_disk.specs.declared.file.FileId.{FileId};
     ghost use Rattle.lsv_disk.specs.declared.file.Part.{Part};
-    ghost use Rattle.lsv_disk.specs.View.{Image, IsCrashImage, HasOwnCause};
+    ghost use Rattle.lsv_disk.specs.View.{HasCause, Image, IsCrashImage, HasOwnCause};
     ghost use Rattle.lsv_disk.specs.Throughout.{Throughout, OnlyReads, CallsAtMost};
     ghost use Rattle.lsv_journal.specs.Last.{IsOwn, IsAbsent, LastAt, JournalHolds, IsBeforeOrAfter, SameJournal, IsSomeCrashOf, OpeningCalls, MayBeMade, KeepsSelected, SelectsSame, IsNoLonger};
     ghost use Rattle.lsv_journal.specs.Value.{file, last, prepared, is_broken, KeptAtError};
@@ -142,6 +142,7 @@ impl<const N: usize> Journal<N> {
         ensures calls { D.tells → CallsAtMost 1 1 (λ g. g ≡ file self.old) (D.view disk.old) (D.view disk.new) }
         ensures fault { IsErrOf result JournalFault.Disk → is_broken self.new ≡ true }
         ensures cause { HasOwnCause (IsOwn (file self.old)) (IsErrOf result JournalFault.Disk) (D.view disk.old) (D.view disk.new) }
+        ensures blame { HasCause (file self.old) (IsErrOf result JournalFault.Disk) (D.view disk.old) (D.view disk.new) }
         ensures broken { IsErrOf result JournalFault.Broken ↔ (is_broken self.old ≡ true) }
         ensures kept { KeptAtError (IsErr result) (IsErrOf result JournalFault.Broken) self.old self.new disk.old disk.new }
     {
@@ -173,6 +174,7 @@ impl<const N: usize> Journal<N> {
         ensures calls { D.tells → CallsAtMost 1 1 (λ g. g ≡ file self.old) (D.view disk.old) (D.view disk.new) }
         ensures fault { IsErrOf result JournalFault.Disk → is_broken self.new ≡ true }
         ensures cause { HasOwnCause (IsOwn (file self.old)) (IsErrOf result JournalFault.Disk) (D.view disk.old) (D.view disk.new) }
+        ensures blame { HasCause (file self.old) (IsErrOf result JournalFault.Disk) (D.view disk.old) (D.view disk.new) }
         ensures broken { IsErrOf result JournalFault.Broken ↔ (is_broken self.old ≡ true) }
         ensures kept { KeptAtError (IsErr result) (IsErrOf result JournalFault.Broken) self.old self.new disk.old disk.new }
     {
@@ -206,6 +208,7 @@ impl<const N: usize> Journal<N> {
         ensures calls { D.tells → CallsAtMost 2 2 (λ g. g ≡ file self.old) (D.view disk.old) (D.view disk.new) }
         ensures fault { IsErrOf result JournalFault.Disk → is_broken self.new ≡ true }
         ensures cause { HasOwnCause (IsOwn (file self.old)) (IsErrOf result JournalFault.Disk) (D.view disk.old) (D.view disk.new) }
+        ensures blame { HasCause (file self.old) (IsErrOf result JournalFault.Disk) (D.view disk.old) (D.view disk.new) }
         ensures broken { IsErrOf result JournalFault.Broken ↔ (is_broken self.old ≡ true) }
         ensures kept { KeptAtError (IsErr result) (IsErrOf result JournalFault.Broken) self.old self.new disk.old disk.new }
     {

@@ -27,3 +27,4 @@ pub mod Wholes
 pub mod Cases
 pub mod Starters
 pub mod EventLines
+pub mod WaitingLemmas

@@ -87,14 +87,14 @@ all_flushed good set n failed [] answers m new l f t = rw (t.1, t.0) f
 all_flushed good set n failed (i ∷ numbers) answers m new l f (mid, its, rest, parts, one, more) =
     rw (parts, heard_append false its rest l) (all_flushed good set n failed numbers rest mid new (heard_all false its l) (flushed_together good set n m l f failed i its mid one) more)
 
-all_refused : (good : Type 0) (set : Settings) (n : ℕ) (failed : List Owner) (conns : List ConnId) (answers : List Answer) (m new : Machine) (l : Ledger) → Fits good set n m l → RefusesAll failed conns answers m new
+pub all_refused : (good : Type 0) (set : Settings) (n : ℕ) (failed : List Owner) (conns : List ConnId) (answers : List Answer) (m new : Machine) (l : Ledger) → Fits good set n m l → RefusesAll failed conns answers m new
     → Fits good set n new (heard_all false answers l)
 all_refused good set n failed [] answers m new l f t = rw (t.1, t.0) f
 all_refused good set n failed (k ∷ conns) answers m new l f (inl t) = all_refused good set n failed conns answers m new l f t.1
 all_refused good set n failed (k ∷ conns) answers m new l f (inr (living, (mid, its, rest, parts, one, more))) =
     rw (parts, heard_append false its rest l) (all_refused good set n failed conns rest mid new (heard_all false its l) (refused_one good set n m l f failed k its mid one) more)
 
-with_lines_together : (good : Type 0) (set : Settings) (n : ℕ) (m : Machine) (wrote : Bool) (l : Ledger) → Fits good set n m l → Fits good set n (with_lines wrote m) l
+pub with_lines_together : (good : Type 0) (set : Settings) (n : ℕ) (m : Machine) (wrote : Bool) (l : Ledger) → Fits good set n m l → Fits good set n (with_lines wrote m) l
 with_lines_together good set n m wrote l f = fits_beside good set n m m.failed_draws m.waiting (with_lines wrote m).lines [] [] l f
 
 pub lines_together : (good : Type 0) (set : Settings) (n : ℕ) (failed : List Owner) (answers : List Answer) (m new : Machine) (l : Ledger) → Fits good set n m l → FlushesLines set failed answers m new → Fits good set n new (heard_all false answers l)

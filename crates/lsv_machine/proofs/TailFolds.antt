@@ -37,7 +37,7 @@ wider_leaves : (f g : List Owner) (o : Option ℕ) (m left : Machine) → ((o : 
 wider_leaves f g None m left w t = t
 wider_leaves f g (Some n) m left w t = (t.0, wider_closes f g n (m.logs n) t.0 w t.1, t.2)
 
-wider_refuses : (f g : List Owner) (conns : List ConnId) (answers : List Answer) (m new : Machine) → ((o : Owner) → Contains f o → Contains g o) → RefusesAll f conns answers m new → RefusesAll g conns answers m new
+pub wider_refuses : (f g : List Owner) (conns : List ConnId) (answers : List Answer) (m new : Machine) → ((o : Owner) → Contains f o → Contains g o) → RefusesAll f conns answers m new → RefusesAll g conns answers m new
 wider_refuses f g [] answers m new w t = t
 wider_refuses f g (k ∷ conns) answers m new w (inl t) = inl (t.0, wider_refuses f g conns answers m new w t.1)
 wider_refuses f g (k ∷ conns) answers m new w (inr (living, (mid, its, rest, parts, one, more))) =
@@ -101,7 +101,7 @@ heard_back k Shut l = record { head = refl; sent = refl; shown = refl; exit = re
 heard_back k (LogId i) l = weaker_same l
 heard_back k (Error why) l = weaker_same l
 
-heard_all_back : (answers : List Answer) (l : Ledger) → Weaker (heard_all false answers l) l
+pub heard_all_back : (answers : List Answer) (l : Ledger) → Weaker (heard_all false answers l) l
 heard_all_back [] l = weaker_same l
 heard_all_back (a ∷ answers) l = weaker_on (heard_all false answers (heard false a.conn a.says l)) (heard false a.conn a.says l) l (heard_all_back answers (heard false a.conn a.says l)) (heard_back a.conn a.says l)
 
@@ -129,7 +129,7 @@ tail_counts s t one two three a b = record {
 -- ---- Two pieces of one tail
 
 -- what two pieces are together
-ended_on : (r : Reading) (set : Settings) (s t : Tail) (P Q R : Machine → Machine → Type 0) (m mid after : Machine) (one two three : DiskView)
+pub ended_on : (r : Reading) (set : Settings) (s t : Tail) (P Q R : Machine → Machine → Type 0) (m mid after : Machine) (one two three : DiskView)
     → ((n : ℕ) (l : Ledger) → StandsFor set n m l → StandsFor set n mid (noted n l (Tailed s))) → R m after
     → Ended r set s P m mid one two → Ended r set t Q mid after two three → Ended r set (joined s t) R m after one three
 ended_on r set s t P Q R m mid after one two three stands ends a b = record {

@@ -6,7 +6,7 @@ use Rattle.lsv_mask.specs.Masking.{covered}
 use Rattle.lsv_record.specs.Points.{Stored, first}
 use Rattle.lsv_record.specs.Records.{delay_of, elapsed, stream_of, timing_of}
 use Rattle.lsv_record.specs.declared.records.Record.{Record}
-use Rattle.lsv_record.specs.declared.records.Stream.TheVariants.{Stdin, Stdout, Stderr, Ttyin, Ttyout}
+use Rattle.lsv_record.specs.declared.records.Record.TheVariants.{Io, Winsize, Suspend}
 use Rattle.lsv_request.specs.declared.refusal.Refusal.{Refusal}
 use Rattle.lsv_request.specs.declared.refusal.Refusal.TheVariants.{LogInUse, NoSuchLog, LogComplete, NoSuchResumePoint, LogDamaged, NumbersSpent, LogFull}
 use Rattle.lsv_request.specs.declared.request.Request.{Request}
@@ -45,15 +45,19 @@ refused k why m = ends k (refusal k why) m
 abbrev pub fits_file : List ℕ → Bool
 fits_file text = nat_le (length text) (2 ^ 40)
 
--- the files of a log take these records
-abbrev pub files_take : List Record → Bool
-files_take records =
-    fits_file (timing_of records) && fits_file (stream_of Stdin records) && fits_file (stream_of Stdout records) && fits_file (stream_of Stderr records)
-    && fits_file (stream_of Ttyin records) && fits_file (stream_of Ttyout records)
+-- the file of a record's stream takes its data behind these records
+abbrev pub stream_takes : List Record → Record → Bool
+stream_takes records (Io delay stream bytes) = fits_file (stream_of stream (records ++ Io delay stream bytes ∷ []))
+stream_takes records (Winsize delay rows cols) = true
+stream_takes records (Suspend delay signal) = true
 
--- a log takes one more record: its elapsed time stays below 2 ^ 63 ns, and its files take it
+-- the files that a record goes to take it behind these records: the timing, and that of its stream
+abbrev pub files_take : List Record → Record → Bool
+files_take records r = fits_file (timing_of (records ++ r ∷ [])) && stream_takes records r
+
+-- a log takes one more record: its elapsed time stays below 2 ^ 63 ns, and the files that it goes to take it
 abbrev pub takes : Stored → Record → Bool
-takes stored r = nat_lt (elapsed stored.records + delay_of r) (2 ^ 63) && files_take (stored.records ++ r ∷ [])
+takes stored r = nat_lt (elapsed stored.records + delay_of r) (2 ^ 63) && files_take stored.records r
 
 -- the last log number that has six digits: 36 ^ 6 - 1
 abbrev pub last_number : ℕ

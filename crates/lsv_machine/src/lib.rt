@@ -1,17 +1,23 @@
-//! The session machine: what a log server is, as definitions, and laws over them. Nothing here does anything when it runs.
+//! The session machine: what a log server is, as definitions, and laws over them; and the plain functions of it that
+//! whatever runs the machine calls.
 #![tactic(auto)]
 
+mod connections;
 mod examples;
+mod judgement;
 mod laws;
 mod outcomes;
 mod reading;
 mod runs;
 mod turns;
+mod waiting;
 
+pub use connections::{is_running, log_of, same};
 pub use examples::{
     a_log_above_the_last_number_has_two_writers, a_promise_can_be_lost, an_uncut_log_may_come_back,
     images_of_a_moment_go_together, no_history_serves_both_starts,
 };
+pub use judgement::{fault_refusal, judged};
 pub use laws::{
     a_log_has_one_writer, records_are_shown, runs_join, the_event_log_is_of_the_history,
     the_invariant_is_kept, what_is_promised_is_held, what_is_promised_was_sent,
@@ -26,3 +32,4 @@ pub use runs::{
     a_number_that_was_told_is_drawn, a_run_recovers_turn_by_turn, all_runs_recover, runs_recover,
 };
 pub use turns::{a_turn_is_its_jobs, an_end_is_its_pieces, other_logs_stay_good};
+pub use waiting::{forget, insert_once, note, remove};

@@ -143,7 +143,7 @@ pub masked_twice : (texts : List (List ℕ)) (rs : List Record) → mask texts (
 masked_twice texts rs = twice_behind texts [] [] rs (record { output = refl; heat = refl })
 
 -- what masking keeps
-length_typed : (heat : Bool) (bytes : List ℕ) → length (if heat then starred bytes else bytes) ≡ length bytes
+pub length_typed : (heat : Bool) (bytes : List ℕ) → length (if heat then starred bytes else bytes) ≡ length bytes
 length_typed true bytes = length-starred bytes
 length_typed false bytes = refl
 

@@ -1,4 +1,4 @@
-mod Covers
+pub mod Covers
 mod Prompts
 mod Stars
 mod Steps

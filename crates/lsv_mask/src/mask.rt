@@ -1,6 +1,7 @@
 ghost use Rattle.std.specs.Prelude.{◌≡◌, ℕ, List, [], ◌∷◌, ◌++◌, Bool, ◌&&◌, not, if◌then◌else◌, IfOk};
 ghost use Rattle.lsv_mask.specs.Inner.{tail_with};
 ghost use Rattle.lsv_mask.specs.Masking.{Seen, covered, ends_line, prompted, seen, starred};
+ghost use Rattle.lsv_record.specs.Records.{shape_of};
 ghost use Rattle.lsv_record.specs.declared.records.Record.{Record};
 
 use crate::star::{ends_line, star};
@@ -55,6 +56,7 @@ impl Mask {
         ensures covered { (texts : List (List ℕ)) (records : List Record) → self.old ≡ seen texts records → r.new ≡ covered texts records r.old }
         ensures mask { (texts : List (List ℕ)) (records : List Record) → self.old ≡ seen texts records → self.new ≡ seen texts (records ++ r.old ∷ []) }
         ensures stored { (texts : List (List ℕ)) (records : List Record) → self.old ≡ seen texts records → self.new ≡ seen texts (records ++ r.new ∷ []) }
+        ensures shape { shape_of r.new ≡ shape_of r.old }
     {
         match r {
             Record::Io { stream, bytes, .. } => match stream {

@@ -3,5 +3,4 @@ pub mod RecordLemmas
 pub mod StopLemmas
 pub mod TableLemmas
 pub mod TurnLemmas
-pub mod WaitingLemmas
 pub mod WorkLemmas

@@ -7,7 +7,7 @@ use Rattle.lsv_record.specs.Points.{first, one_more}
 use Rattle.lsv_record.specs.Records.{delay_of, elapsed}
 use Rattle.lsv_record.specs.declared.laid.Laid.{Laid}
 use Rattle.lsv_record.specs.declared.records.Record.{Record}
-use Rattle.lsv_record.specs.declared.records.Stream.TheVariants.{Stdin, Stdout, Stderr, Ttyin, Ttyout}
+use Rattle.lsv_record.specs.declared.records.Record.TheVariants.{Io, Winsize, Suspend}
 use Rattle.lsv_machine.specs.Work.{files_take}
 use Rattle.lsv_model.specs.Inner.{fits_files}
 
@@ -38,5 +38,7 @@ first_ends (r ∷ rs) point n h = go (delay_of r == point) refl (nat_lt point (d
         let e = ih m refl in
         subst (λ k. Ends (r ∷ rs) point k) z (record { ends = omega (arith, e.ends, below); within = omega (arith, e.within, below) })
 
-pub layout_fits : (l : Laid) (records : List Record) → IsLayout l records → fits_files l ≡ files_take records
-layout_fits l records h = rw (h.timing, h.streams Stdin, h.streams Stdout, h.streams Stderr, h.streams Ttyin, h.streams Ttyout) refl
+pub layout_fits : (l : Laid) (records : List Record) (r : Record) → IsLayout l (records ++ r ∷ []) → fits_files l r ≡ files_take records r
+layout_fits l records (Io delay stream bytes) h = rw (h.timing, h.streams stream) refl
+layout_fits l records (Winsize delay rows cols) h = rw h.timing refl
+layout_fits l records (Suspend delay signal) h = rw h.timing refl

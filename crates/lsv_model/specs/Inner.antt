@@ -1,8 +1,10 @@
 -- What proofs alone need: no public clause cites it.
 use Rattle.std.specs.Prelude.{◌≡◌, ℕ, Bool, true, ◌&&◌, ◌==◌, nat_lt, if◌then◌else◌, List, [], ◌∷◌, ◌++◌, Option, Some, None}
+use Rattle.lsv_record.specs.Layout.{stream_in}
 use Rattle.lsv_record.specs.Points.{Stored, one_more}
 use Rattle.lsv_record.specs.declared.laid.Laid.{Laid}
 use Rattle.lsv_record.specs.declared.records.Record.{Record}
+use Rattle.lsv_record.specs.declared.records.Record.TheVariants.{Io, Winsize, Suspend}
 use Rattle.lsv_request.specs.declared.refusal.Refusal.TheVariants.{LogFull}
 use Rattle.lsv_request.specs.declared.request.Request.{Request}
 use Rattle.lsv_request.specs.declared.request.Request.TheVariants as request
@@ -93,8 +95,12 @@ IsLineOf (request.Reject report) line = Unit {0}
 IsLineOf (request.Alert report) line = Unit {0}
 IsLineOf (request.Exit exit) line = Unit {0}
 
--- the files of a log take this layout
-abbrev pub fits_files : Laid → Bool
-fits_files l =
-    fits_file l.timing && fits_file l.stdin && fits_file l.stdout && fits_file l.stderr
-    && fits_file l.ttyin && fits_file l.ttyout
+-- the file of a record's stream takes what it has in this layout
+abbrev pub fits_stream : Laid → Record → Bool
+fits_stream l (Io delay stream bytes) = fits_file (stream_in stream l)
+fits_stream l (Winsize delay rows cols) = true
+fits_stream l (Suspend delay signal) = true
+
+-- the files that a record goes to take what they have in this layout
+abbrev pub fits_files : Laid → Record → Bool
+fits_files l r = fits_file l.timing && fits_stream l r

@@ -1,9 +1,10 @@
 ghost use Rattle.std.specs.Prelude.{◌≡◌, ◌<◌, length, IfSome, if◌then◌else◌, OnOk};
-ghost use Rattle.lsv_machine.specs.Machine.{is_running, log_of, same};
+ghost use Rattle.lsv_machine.specs.Machine.{same};
 ghost use Rattle.lsv_model.specs.Inner.{connection_place};
 ghost use Rattle.lsv_model.specs.Views.{state_in};
 
-use lsv_base::{LogNo, NoMem};
+use lsv_base::NoMem;
+use lsv_machine::same;
 use lsv_session::{ConnId, ConnState};
 
 /// What a connection is doing.
@@ -11,13 +12,6 @@ use lsv_session::{ConnId, ConnState};
 pub struct Connection {
     pub id: ConnId,
     pub state: ConnState,
-}
-
-/// Whether two connections are one.
-pub fn same(a: ConnId, b: ConnId) -> bool
-    ensures { result ≡ same a b }
-{
-    a.worker == b.worker && a.seq == b.seq
 }
 
 /// The place of a connection.
@@ -58,21 +52,4 @@ pub fn put_state(
         None => connections.push(Connection { id, state })?,
     }
     Ok(())
-}
-
-/// The log that a connection in this state writes.
-pub fn log_of(state: ConnState) -> Option<LogNo>
-    ensures { result ≡ log_of state }
-{
-    match state {
-        ConnState::Running(log) => log,
-        _ => None,
-    }
-}
-
-/// Whether a session runs.
-pub fn is_running(state: ConnState) -> bool
-    ensures { result ≡ is_running state }
-{
-    matches!(state, ConnState::Running(_))
 }

@@ -3,7 +3,6 @@
 #![tactic(auto)]
 
 mod connections;
-mod judgement;
 mod limits;
 mod logs;
 mod model;
@@ -12,7 +11,6 @@ mod records;
 mod settings;
 mod told;
 mod turn;
-mod waiting;
 mod work;
 
 pub use logs::Log;

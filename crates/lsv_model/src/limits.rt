@@ -1,7 +1,7 @@
-ghost use Rattle.std.specs.Prelude.{◌≡◌, ◌++◌, [], ◌∷◌, ◌+◌, ◌<◌, ◌^◌, IfOk, SomeIff, IsTrue};
+ghost use Rattle.std.specs.Prelude.{◌≡◌, ◌+◌, ◌<◌, ◌^◌, IfOk, SomeIff, IsTrue};
 ghost use Rattle.lsv_machine.specs.Work.{files_take, fits_file, takes};
 ghost use Rattle.lsv_mask.specs.Masking.{covered};
-ghost use Rattle.lsv_model.specs.Inner.{bare, fits_files};
+ghost use Rattle.lsv_model.specs.Inner.{bare, fits_files, fits_stream};
 ghost use Rattle.lsv_record.specs.Records.{delay_of, elapsed};
 
 use crate::Records;
@@ -23,20 +23,25 @@ pub fn fits_file(text: &Bytes) -> bool
     text.as_slice().len() <= LONGEST_FILE
 }
 
-/// Whether the files of a log take this layout.
-fn fits_files(l: &Laid) -> bool
-    ensures { result ≡ fits_files l.now }
+/// Whether the file of a record's stream takes what it has in this layout.
+fn fits_stream(l: &Laid, r: &Record) -> bool
+    ensures { result ≡ fits_stream l.now r.now }
 {
-    fits_file(&l.timing)
-        && fits_file(&l.stdin)
-        && fits_file(&l.stdout)
-        && fits_file(&l.stderr)
-        && fits_file(&l.ttyin)
-        && fits_file(&l.ttyout)
+    match r {
+        Record::Io { stream, .. } => fits_file(l.stream(*stream)),
+        _ => true,
+    }
+}
+
+/// Whether the files that a record goes to take what they have in this layout.
+fn fits_files(l: &Laid, r: &Record) -> bool
+    ensures { result ≡ fits_files l.now r.now }
+{
+    fits_file(&l.timing) && fits_stream(l, r)
 }
 
 /// The point at which a record would end behind these. None where the elapsed time would reach 2^63 nanoseconds or a file
-/// of the log doesn't take it.
+/// that it goes to doesn't take it.
 pub fn end_with(alloc: Global, records: &Records, r: &Record) -> Result<Option<u64>, NoMem>
     ensures { IfOk result (λ found. SomeIff found (IsTrue (takes (bare records.now) r.now)) (elapsed records.now + delay_of r.now)) }
 {
@@ -49,14 +54,14 @@ pub fn end_with(alloc: Global, records: &Records, r: &Record) -> Result<Option<u
     Ok(None)
 }
 
-/// Whether the files of a log take one more record.
+/// Whether the files that a record goes to take it behind these.
 #[tactic(auto, using(crate::proofs::RecordLemmas::layout_fits))]
 fn files_take(alloc: Global, records: &[Record], r: &Record) -> Result<bool, NoMem>
-    ensures { IfOk result (λ fits. fits ≡ files_take (records.now ++ r.now ∷ [])) }
+    ensures { IfOk result (λ fits. fits ≡ files_take records.now r.now) }
 {
     let mut laid = lay(alloc, records)?;
     laid.add(r)?;
-    Ok(fits_files(&laid))
+    Ok(fits_files(&laid, r))
 }
 
 /// The point so many nanoseconds later. None where it reaches 2^63.

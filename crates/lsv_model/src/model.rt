@@ -4,10 +4,10 @@ ghost use Rattle.lsv_model.specs.Starting.{begins, empty_machine};
 ghost use Rattle.lsv_model.specs.Views.{logs_in, machine_of};
 ghost use Rattle.lsv_session.specs.declared.connection.ConnState.TheVariants.{Fresh};
 
-use crate::connections::{Connection, log_of, put_state, state_of};
+use crate::connections::{Connection, put_state, state_of};
 use crate::logs::{Log, free};
-use crate::waiting::{forget, remove};
 use lsv_base::{Bytes, List, LogNo, NoMem};
+use lsv_machine::{forget, log_of, remove};
 use lsv_session::{ConnId, ConnState};
 use std::alloc::Global;
 

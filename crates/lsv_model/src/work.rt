@@ -9,16 +9,14 @@ ghost use Rattle.lsv_model.specs.Views.{machine_of, settings_of, stored_of};
 ghost use Rattle.lsv_request.specs.declared.request.Request.TheVariants as request;
 ghost use Rattle.lsv_session.specs.declared.connection.ConnState.TheVariants.{Running};
 
-use crate::connections::{is_running, log_of};
-use crate::judgement::{fault_refusal, judged};
 use crate::limits::{covered, end_with, fits_file};
 use crate::logs::{Log, add_record, find_log, finish_log, owner_of, put_log, resume_log};
 use crate::points::first;
 use crate::told::Told;
-use crate::waiting::{insert_once, note};
 use crate::{EventLines, Model, Records, RunSettings};
 use lsv_base::{Bytes, LogNo, NoMem, TimeSpec};
 use lsv_info::{write_exit, write_head};
+use lsv_machine::{fault_refusal, insert_once, is_running, judged, log_of, note};
 use lsv_record::Record;
 use lsv_request::{Accept, Refusal, Request, Restart};
 use lsv_session::{Body, ConnId, ConnState, Job};

@@ -116,17 +116,21 @@ recorded_is part r e =
 no_record : {A : Type 0} (part : Result A Refusal) (f : A → Request) (r : Record) → ((a : A) → f a ≡ request.Record r → ⊥) → and_then part (λ a. done (f a)) ≡ Ok (request.Record r) → ⊥
 no_record part f r other e = let b = bound part (λ a. done (f a)) (request.Record r) e in other b.value (ok_is (f b.value) (request.Record r) b.then)
 
+-- a record is valid, where the numbers of a window are of 32 bits, with a sign
+pub record_sized : (m : ClientMessage) (r : Record) → ((w : ChangeWindowSize) → m ≡ client.Winsize w → FitsSigned w32 w.rows × FitsSigned w32 w.cols) → request_of m ≡ Ok (request.Record r) → IsValid r
+record_sized (client.Ttyin m) r fits e = data_valid Ttyin m r (recorded_is (data_of Ttyin m) r e)
+record_sized (client.Ttyout m) r fits e = data_valid Ttyout m r (recorded_is (data_of Ttyout m) r e)
+record_sized (client.Stdin m) r fits e = data_valid Stdin m r (recorded_is (data_of Stdin m) r e)
+record_sized (client.Stdout m) r fits e = data_valid Stdout m r (recorded_is (data_of Stdout m) r e)
+record_sized (client.Stderr m) r fits e = data_valid Stderr m r (recorded_is (data_of Stderr m) r e)
+record_sized (client.Winsize m) r fits e = window_valid m r (fits m refl).0 (fits m refl).1 (recorded_is (window_of m) r e)
+record_sized (client.Suspend m) r fits e = suspend_valid m r (recorded_is (suspend_of m) r e)
+record_sized (client.Hello m) r fits e = absurd cc
+record_sized (client.Accept m) r fits e = absurd (no_record _ (λ a. request.Accept a) r (λ a e. cc) e)
+record_sized (client.Reject m) r fits e = absurd (no_record _ (λ a. request.Reject a) r (λ a e. cc) e)
+record_sized (client.Alert m) r fits e = absurd (no_record _ (λ a. request.Alert a) r (λ a e. cc) e)
+record_sized (client.Restart m) r fits e = absurd (no_record _ (λ a. request.Restart a) r (λ a e. cc) e)
+record_sized (client.Exit m) r fits e = absurd (no_record _ (λ a. request.Exit a) r (λ a e. cc) e)
+
 pub record_valid : (m : ClientMessage) (r : Record) → FitsClient m → request_of m ≡ Ok (request.Record r) → IsValid r
-record_valid (client.Ttyin m) r fits e = data_valid Ttyin m r (recorded_is (data_of Ttyin m) r e)
-record_valid (client.Ttyout m) r fits e = data_valid Ttyout m r (recorded_is (data_of Ttyout m) r e)
-record_valid (client.Stdin m) r fits e = data_valid Stdin m r (recorded_is (data_of Stdin m) r e)
-record_valid (client.Stdout m) r fits e = data_valid Stdout m r (recorded_is (data_of Stdout m) r e)
-record_valid (client.Stderr m) r fits e = data_valid Stderr m r (recorded_is (data_of Stderr m) r e)
-record_valid (client.Winsize m) r fits e = window_valid m r fits.1 fits.2 (recorded_is (window_of m) r e)
-record_valid (client.Suspend m) r fits e = suspend_valid m r (recorded_is (suspend_of m) r e)
-record_valid (client.Hello m) r fits e = absurd cc
-record_valid (client.Accept m) r fits e = absurd (no_record _ (λ a. request.Accept a) r (λ a e. cc) e)
-record_valid (client.Reject m) r fits e = absurd (no_record _ (λ a. request.Reject a) r (λ a e. cc) e)
-record_valid (client.Alert m) r fits e = absurd (no_record _ (λ a. request.Alert a) r (λ a e. cc) e)
-record_valid (client.Restart m) r fits e = absurd (no_record _ (λ a. request.Restart a) r (λ a e. cc) e)
-record_valid (client.Exit m) r fits e = absurd (no_record _ (λ a. request.Exit a) r (λ a e. cc) e)
+record_valid m r fits e = record_sized m r (λ w is. let its : FitsClient (client.Winsize w) = subst FitsClient is fits in (its.1, its.2)) e

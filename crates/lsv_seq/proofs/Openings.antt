@@ -72,6 +72,12 @@ module _ (lane lanes : ℕ) (f : FileId) (is : f ≡ numbers_file lane) where
       widened (λ g. g ≡ f) (λ g. g ≡ numbers_file lane) (IsSomeCrashOf 12 f disk) (λ image. IsAsSomeCrash lane disk image ⊎ LastDrawn lane lanes 0 image) disk disk_now (λ g e. e ∙ is)
       (λ image some beside. inl (some_crash lane disk image (subst (λ h. IsSomeCrashOf 12 h disk image) is some))) run
 
+  -- where there is an entry, it stays
+  pub kept_moments : (disk disk_now : DiskView) → Throughout (λ g. g ≡ f) (IsSomeCrashOf 12 f disk) disk disk_now → Throughout (λ g. g ≡ numbers_file lane) (IsAsSomeCrash lane disk) disk disk_now
+  kept_moments disk disk_now run =
+      widened (λ g. g ≡ f) (λ g. g ≡ numbers_file lane) (IsSomeCrashOf 12 f disk) (IsAsSomeCrash lane disk) disk disk_now (λ g e. e ∙ is)
+      (λ image some beside. some_crash lane disk image (subst (λ h. IsSomeCrashOf 12 h disk image) is some)) run
+
   -- and then made
   pub made_moments : (disk disk_mid disk_now : DiskView) → IsCrashImage disk disk.reads → ((image : Image) → IsCrashImage disk_mid image → disk_mid.crash_images_at disk_mid.moment image) → entry_at lane disk.reads ≡ None
       → Throughout (λ g. g ≡ f) (IsSomeCrashOf 12 f disk) disk disk_mid → Throughout (λ g. g ≡ numbers_file lane) (WhileMade lane lanes disk_mid) disk_mid disk_now

@@ -54,6 +54,7 @@ impl Numbers {
         ensures refused { D.tells → IfErr result (λ e. e ≢ faults.Disk → judged lane lanes (entry_at lane (D.view disk.old).reads) ≡ Err e) }
         ensures represents { D.tells → IfOk result (λ n. Represents n (D.view disk.new)) }
         ensures any_moment { D.tells → Throughout (λ g. g ≡ numbers_file lane) (λ image. IsAsSomeCrash lane (D.view disk.old) image ⊎ LastDrawn lane lanes 0 image) (D.view disk.old) (D.view disk.new) }
+        ensures kept { D.tells → entry_at lane (D.view disk.old).reads ≢ None → Throughout (λ g. g ≡ numbers_file lane) (IsAsSomeCrash lane (D.view disk.old)) (D.view disk.old) (D.view disk.new) }
         ensures durable { D.tells → IfOk result (λ n. (image : Image) → IsCrashImage (D.view disk.new) image → LastDrawn lane lanes (last_of n) image) }
         ensures calls { D.tells → WritesOneOf (numbers_file lane) 6 9 (IsNumbersFile lane) (D.view disk.old) (D.view disk.new) }
         ensures cause { HasOwnCause (IsNumbersFile lane) (IsErrOf result SeqFault.Disk) (D.view disk.old) (D.view disk.new) }
@@ -138,6 +139,7 @@ impl Numbers {
         ensures drawn { IfOk result (λ n. (last_of self.new ≡ n) × (pending_of self.new ≡ None)) }
         ensures after { IfOk result (IsNextOf self.old) }
         ensures above { IfOk result (λ n. last_of self.old < n) }
+        ensures within { IfOk result (λ n. n ≤ most) }
         ensures kept { OnErr result (IsPassedOver self.old self.new) }
         ensures spent { (m : ℕ) → IsErrOf result (DrawFault.Spent m) → (last_of self.new ≡ m) × (pending_of self.new ≡ None) × (most < next_of self.new) }
         ensures enough { pending_of self.old ≡ None → most < next_of self.old → result ≡ Err (DrawFault.Spent (last_of self.old)) }

@@ -42,3 +42,8 @@ returns-clause-counted g c told =
     let read : (body : Body) × (c.in-Some.bundle.last ≡ Some body) × HasEntry (Events c.args.lane) body old.reads =
     of_some c.in_ok-bundle.field-0 c.in-Some.bundle (λ b. (body : Body) × (b.last ≡ Some body) × HasEntry (Events c.args.lane) body old.reads) c.in-Some.is (c.in_ok-bundle.ensures.last told) in
     counts_entry c.args.lane old.reads (record { lane = c.args.lane; added = 0; bundle = c.in-Some.bundle }) read.0 read.1 read.2
+
+pub returns-clause-sound : goal.returns-clause-sound
+returns-clause-sound g c = opened_log c.args.lane c.in-Some.bundle
+    (of_some c.in_ok-bundle.field-0 c.in-Some.bundle (IsFresh (Events c.args.lane) shapes.Lines) c.in-Some.is c.in_ok-bundle.ensures.fresh)
+    (of_some c.in_ok-bundle.field-0 c.in-Some.bundle (λ b. b.last ≢ None) c.in-Some.is c.in_ok-bundle.ensures.entry)

@@ -56,3 +56,6 @@ returns-clause-empty g c told = made_empty c.args.lane c.in_ok-bundle.bundle c.f
 
 pub returns-in_err-bundle-clause-any_moment : goal.returns-in_err-bundle-clause-any_moment
 returns-in_err-bundle-clause-any_moment g c told = makes c.args.lane (g.D.Disk.view c.args.disk.now) (g.D.Disk.view c.create.new.disk) (c.requires.no_entry told) (c.create.ensures.any_moment told)
+
+pub returns-clause-sound : goal.returns-clause-sound
+returns-clause-sound g c = made_log c.args.lane c.in_ok-bundle.bundle c.flush.new.self _ _ c.in_ok-bundle.ensures.fresh c.in_ok-flush.ensures.value

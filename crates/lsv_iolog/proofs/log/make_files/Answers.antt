@@ -14,7 +14,7 @@ use Rattle.lsv_bundle.specs.Committed.{committed_next}
 use Rattle.lsv_bundle.proofs.Laws.{of_owner}
 use Rattle.lsv_iolog.specs.declared.fault.LogFault.TheVariants as logs
 use Rattle.lsv_iolog.proofs.Results.{given_fault, full_is, disk_cause}
-use Rattle.lsv_iolog.proofs.Committing.{unmade_may_be_made, make_moment, make_calls, make_then_flush, settled_next}
+use Rattle.lsv_iolog.proofs.Committing.{unmade_may_be_made, make_moment, make_nothing, make_calls, make_then_flush, settled_next}
 use Rattle.lsv_iolog.proofs.Making.{staged_owner, staged_shape, staged_whole, full_text, empty_timing, made_log, made_moment}
 use Rattle.lsv_iolog.proofs.log.make_files.Goals as goal
 
@@ -24,6 +24,10 @@ create-requires g c = record { may_be_made = λ told. unmade_may_be_made c.args.
 pub returns-in_err-bundle-clause-any_moment : goal.returns-in_err-bundle-clause-any_moment
 returns-in_err-bundle-clause-any_moment g c told =
     make_moment c.args.number c.owner_of.result (Some (made c.args.text.now)) (g.D.Disk.view c.args.disk.now) (g.D.Disk.view c.create.new.disk) c.owner_of.ensures (c.requires.unmade told) (c.create.ensures.any_moment told)
+
+pub returns-in_err-bundle-clause-nothing : goal.returns-in_err-bundle-clause-nothing
+returns-in_err-bundle-clause-nothing g c told long =
+    make_nothing c.args.number c.owner_of.result (g.D.Disk.view c.args.disk.now) (g.D.Disk.view c.create.new.disk) c.owner_of.ensures (c.requires.unmade told) (c.create.ensures.any_moment told)
 
 pub returns-in_err-bundle-clause-calls : goal.returns-in_err-bundle-clause-calls
 returns-in_err-bundle-clause-calls g c told =
@@ -37,6 +41,10 @@ returns-in_err-bundle-clause-cause g c =
 pub returns-in_err-stage-clause-any_moment : goal.returns-in_err-stage-clause-any_moment
 returns-in_err-stage-clause-any_moment g c told =
     make_moment c.args.number c.owner_of.result (Some (made c.args.text.now)) (g.D.Disk.view c.args.disk.now) (g.D.Disk.view c.create.new.disk) c.owner_of.ensures (c.requires.unmade told) (c.create.ensures.any_moment told)
+
+pub returns-in_err-stage-clause-nothing : goal.returns-in_err-stage-clause-nothing
+returns-in_err-stage-clause-nothing g c told long =
+    make_nothing c.args.number c.owner_of.result (g.D.Disk.view c.args.disk.now) (g.D.Disk.view c.create.new.disk) c.owner_of.ensures (c.requires.unmade told) (c.create.ensures.any_moment told)
 
 pub returns-in_err-stage-clause-calls : goal.returns-in_err-stage-clause-calls
 returns-in_err-stage-clause-calls g c told =

@@ -50,3 +50,6 @@ returns-clause-acknowledged g c told image left =
     let old = g.D.Disk.view c.args.disk.now in
     subst (λ (l : EventLogView). HoldsLines image l.lane (committed_text l old ++ added_text l)) c.self.view_is
     (after_text _ old image 1 c.saturating_add-lines.result 0 0 c.self.invariant (c.in_ok-flush.ensures.acknowledged told image (λ file own. left file)))
+
+pub returns-clause-sound : goal.returns-clause-sound
+returns-clause-sound g c = flushed _ c.flush.new.self _ _ c.self.invariant c.in_ok-flush.ensures.value

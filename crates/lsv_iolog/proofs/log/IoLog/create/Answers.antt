@@ -4,7 +4,7 @@ use Rattle.lsv_bundle.specs.declared.body.Body.{Body}
 use Rattle.std.proofs.Common.{false, ℕ, Some, List, refl, subst, arith}
 use Rattle.lsv_iolog.specs.Value.{IoLogView, bare, made}
 use Rattle.lsv_iolog.specs.Represents.{Represents}
-use Rattle.lsv_iolog.proofs.Committing.{unmade_started}
+use Rattle.lsv_iolog.proofs.Committing.{unmade_started, nothing_started}
 use Rattle.lsv_iolog.proofs.Representing.{settled_represents, settled_invariant, settled_small}
 use Rattle.lsv_iolog.proofs.log.IoLog.create.Goals as goal
 
@@ -13,6 +13,12 @@ returns-in_err-text-clause-any_moment g c told = unmade_started c.args.number (S
 
 pub returns-in_err-head-clause-any_moment : goal.returns-in_err-head-clause-any_moment
 returns-in_err-head-clause-any_moment g c told = unmade_started c.args.number (Some (made (head_text c.args.head.now))) (g.D.Disk.view c.args.disk.now) (g.met.D.Disk.only_now told c.args.disk.now) (c.requires.unmade told)
+
+pub returns-in_err-text-clause-nothing : goal.returns-in_err-text-clause-nothing
+returns-in_err-text-clause-nothing g c told long = nothing_started c.args.number (g.D.Disk.view c.args.disk.now) (g.met.D.Disk.only_now told c.args.disk.now) (c.requires.unmade told)
+
+pub returns-in_err-head-clause-nothing : goal.returns-in_err-head-clause-nothing
+returns-in_err-head-clause-nothing g c told long = nothing_started c.args.number (g.D.Disk.view c.args.disk.now) (g.met.D.Disk.only_now told c.args.disk.now) (c.requires.unmade told)
 
 pub invariant_of-result : goal.invariant_of-result
 invariant_of-result g c =

@@ -2,8 +2,8 @@
 use Rattle.std.proofs.Common.{◌≡◌, ◌≢◌, ◌≤◌, ◌<◌, ◌^◌, ◌-◌, inl, inr, ℕ, true, false, Option, Some, None, Result, Err, IsErrOf, sym, ◌∙◌, ap, subst}
 use Rattle.lsv_disk.specs.declared.file.Owner.{Owner}
 use Rattle.lsv_disk.specs.Throughout.{Throughout, CallsAtMost}
-use Rattle.lsv_disk.specs.View.{DiskView}
-use Rattle.lsv_disk.proofs.Composition.{followed, calls_trans, uncounted_at_most, cause_second, cause_widened}
+use Rattle.lsv_disk.specs.View.{DiskView, HasCause, HasOwnCause}
+use Rattle.lsv_disk.proofs.Composition.{started, followed, calls_trans, uncounted_at_most, cause_second, cause_widened, risen_second}
 use Rattle.lsv_bundle.specs.Shape.{journal_of}
 use Rattle.lsv_bundle.specs.Committed.{committed}
 use Rattle.lsv_bundle.specs.Represents as bundles
@@ -214,9 +214,12 @@ returns-clause-blame g c told failed value at =
     let found : IsFound value.stored.records c.args.point (Some c.in-Some.kept) = subst (λ (o : Option Totals). IsFound value.stored.records c.args.point o) c.in-Some.is (c.in_ok-kept.ensures.found told value at) in
     let going = going_exit log value old at (sym c.is_complete.ensures ∙ c.if-is_complete.false) in
     let none = none_left log value old at c.requires.flushed in
+    let last : cuts_in files.bundle.last ≡ value.stored.cuts = ap cuts_in (has_body files value mid there c.in-Some.kept c.args.point 0 found going) ∙ there.is.cuts in
     inl (
       some_first (first value.stored.records c.args.point) c.in-Some.kept.count found.0,
-      cause_second (IsOwn (journal_of (owner_of log.number))) (Unit {0}) old mid new c.find.ensures.cause.monotone
-          (cause_widened (IsOwn (journal_of files.bundle.owner)) (IsOwn (journal_of (owner_of log.number))) (IsErrOf c.cut_behind.result logs.Disk) (Unit {0}) mid new
-          (λ f is. subst (λ (o : Owner). IsOwn (journal_of o) f) own is) (λ is. failed) c.cut_behind.ensures.cause),
+      λ is. subst (λ (n : ℕ). n < 2 ^ 63 - 1) last (c.in_ok-cuts.ensures.room (drops_is files value mid there c.in-Some.kept c.args.point 0 found going none ∙ is)),
+      subst (λ (o : Owner). HasCause (journal_of o) (Unit {0}) old new) own (record {
+        monotone = λ f. omega (arith, c.find.ensures.cause.monotone f, c.cut_behind.ensures.blame.monotone f);
+        risen = λ is. risen_second (old.faults (journal_of files.bundle.owner)) (mid.faults (journal_of files.bundle.owner)) (new.faults (journal_of files.bundle.owner)) (c.find.ensures.cause.monotone (journal_of files.bundle.owner)) (c.cut_behind.ensures.blame.risen failed);
+      }),
     )

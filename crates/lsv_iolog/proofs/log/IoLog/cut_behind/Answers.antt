@@ -1,8 +1,17 @@
 -- One cut of the files commits the records through the point.
-use Rattle.std.proofs.Common.{◌≡◌, ℕ, ◌≤◌, ◌^◌, List, [], Some, refl, sym, ◌∙◌, ap, subst, arith, length}
+use Rattle.std.proofs.Common.{◌≡◌, ℕ, ◌≤◌, ◌<◌, ◌^◌, List, [], Some, true, false, Result, Err, IsErrOf, refl, sym, ◌∙◌, ap, subst, arith, length}
+use Rattle.lsv_disk.specs.declared.file.Part.{Part}
 use Rattle.lsv_disk.specs.declared.file.Part.TheVariants.{Timing}
 use Rattle.lsv_disk.specs.Throughout.{Throughout, CallsAtMost}
-use Rattle.lsv_disk.specs.View.{DiskView}
+use Rattle.lsv_disk.specs.View.{DiskView, HasCause, HasOwnCause}
+use Rattle.lsv_journal.specs.Last.{IsOwn}
+use Rattle.lsv_bundle.specs.declared.fault.BundleFault.{BundleFault}
+use Rattle.lsv_bundle.specs.declared.fault.BundleFault.TheVariants as bundles
+use Rattle.lsv_iolog.specs.Faults.{fault_of}
+use Rattle.lsv_iolog.specs.declared.fault.LogFault.{LogFault}
+use Rattle.lsv_iolog.specs.declared.fault.LogFault.TheVariants as logs
+use Rattle.lsv_iolog.proofs.Results.{disk_is}
+use Rattle.lsv_bundle.specs.declared.body.Body.{Body}
 use Rattle.lsv_bundle.specs.declared.shape.Shape.{Shape}
 use Rattle.lsv_bundle.specs.Body.{length_of}
 use Rattle.lsv_bundle.specs.Committed.{IsBeforeOrAfter, committed, committed_cut}
@@ -84,3 +93,17 @@ returns-in-Ok-clause-calls g c told = subst (λ (v : IoLogView). CallsAtMost 2 2
 
 pub returns-in-Err-clause-calls : goal.returns-in-Err-clause-calls
 returns-in-Err-clause-calls g c told = subst (λ (v : IoLogView). CallsAtMost 2 2 (λ f. f ≡ journal_of v.bundle.owner) (g.D.Disk.view c.args.disk.now) (g.D.Disk.view c.cut.new.disk)) c.self.view_is (c.cut.ensures.calls told)
+
+-- the fault of the files is that of the log
+disk_fault : (e : BundleFault) (x : LogFault) → x ≡ fault_of e → IsErrOf {T = Unit {0}} (Err x) logs.Disk → IsErrOf {T = Unit {0}} (Err e) bundles.Disk
+disk_fault e x is failed = let h : x ≡ logs.Disk = cc in let d : e ≡ bundles.Disk = disk_is e (sym is ∙ h) in ap (λ (y : BundleFault). let r : Result (Unit {0}) BundleFault = Err y in r) d
+
+pub returns-in-Err-clause-cause : goal.returns-in-Err-clause-cause
+returns-in-Err-clause-cause g c =
+    subst (λ (v : IoLogView). HasOwnCause (IsOwn (journal_of v.bundle.owner)) (IsErrOf {T = Unit {0}} (Err c.from.result) logs.Disk) (g.D.Disk.view c.args.disk.now) (g.D.Disk.view c.cut.new.disk)) c.self.view_is
+    (record { monotone = c.in-Err.ensures.cause.monotone; risen = λ failed. c.in-Err.ensures.cause.risen (disk_fault c.in-Err.fault c.from.result c.from.ensures failed) })
+
+pub returns-in-Err-clause-blame : goal.returns-in-Err-clause-blame
+returns-in-Err-clause-blame g c =
+    subst (λ (v : IoLogView). HasCause (journal_of v.bundle.owner) (IsErrOf {T = Unit {0}} (Err c.from.result) logs.Disk) (g.D.Disk.view c.args.disk.now) (g.D.Disk.view c.cut.new.disk)) c.self.view_is
+    (record { monotone = c.in-Err.ensures.blame.monotone; risen = λ failed. c.in-Err.ensures.blame.risen (disk_fault c.in-Err.fault c.from.result c.from.ensures failed) })

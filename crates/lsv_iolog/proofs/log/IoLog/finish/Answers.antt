@@ -68,6 +68,13 @@ returns-clause-fits g c =
     (λ full. c.in_ok-stage.ensures.room.1 (subst (λ (xs : List ℕ). IsFull c.self.inside.bundle Exit (length xs)) (sym (c.as_slice.ensures ∙ c.in_ok-text.ensures))
     (subst (λ (w : IoLogView). IsFull w.bundle Exit (length text)) (sym c.self.view_is) full)))
 
+pub returns-clause-room : goal.returns-clause-room
+returns-clause-room g c failed full =
+    let log : IoLogView = c.args.self.now in
+    let text : List ℕ = exit_text c.args.exit.now in
+    c.in_ok-stage.ensures.room.1 (subst (λ (xs : List ℕ). IsFull c.self.inside.bundle Exit (length xs)) (sym (c.as_slice.ensures ∙ c.in_ok-text.ensures))
+    (subst (λ (w : IoLogView). IsFull w.bundle Exit (length text)) (sym c.self.view_is) full))
+
 pub returns-clause-represents : goal.returns-clause-represents
 returns-clause-represents g c told =
     let old : DiskView = g.D.Disk.view c.args.disk.now in

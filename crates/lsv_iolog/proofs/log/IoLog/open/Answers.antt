@@ -84,16 +84,16 @@ returns-in_err-bundle-clause-damaged g c told part is_damaged =
     let same : one.reads ≡ old.reads = λ i f. unchanged_reads old one first.unchanged f i in
     inl (subst (λ (image : Image). IsDamaged (owner_of n) shapes.Log image part) same (c.in_err-bundle.ensures.damaged told part (ap (λ (x : LogFault). let y : Result Bundle LogFault = Err x in y) e)))
 
-pub returns-in_err-bundle-clause-stays_unmade : goal.returns-in_err-bundle-clause-stays_unmade
-returns-in_err-bundle-clause-stays_unmade g c told unmade =
+pub returns-in_err-bundle-clause-unmade : goal.returns-in_err-bundle-clause-unmade
+returns-in_err-bundle-clause-unmade g c told unmade =
     absurd (c.in_ok-check_entry.ensures.there told (unmade_last c.args.number (g.D.Disk.view c.args.disk.now) (g.met.D.Disk.reads_itself told c.args.disk.now) unmade))
 
-pub returns-in_err-head-clause-stays_unmade : goal.returns-in_err-head-clause-stays_unmade
-returns-in_err-head-clause-stays_unmade g c told unmade =
+pub returns-in_err-head-clause-unmade : goal.returns-in_err-head-clause-unmade
+returns-in_err-head-clause-unmade g c told unmade =
     absurd (c.in_ok-check_entry.ensures.there told (unmade_last c.args.number (g.D.Disk.view c.args.disk.now) (g.met.D.Disk.reads_itself told c.args.disk.now) unmade))
 
-pub returns-clause-stays_unmade : goal.returns-clause-stays_unmade
-returns-clause-stays_unmade g c told unmade =
+pub returns-clause-unmade : goal.returns-clause-unmade
+returns-clause-unmade g c told unmade =
     absurd (c.in_ok-check_entry.ensures.there told (unmade_last c.args.number (g.D.Disk.view c.args.disk.now) (g.met.D.Disk.reads_itself told c.args.disk.now) unmade))
 
 pub returns-in_err-head-clause-reads : goal.returns-in_err-head-clause-reads

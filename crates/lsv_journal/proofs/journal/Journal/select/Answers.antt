@@ -90,3 +90,9 @@ returns-clause-represents g c told whole =
 
 pub returns-clause-cause : goal.returns-clause-cause
 returns-clause-cause g c = own_cause c.args.self.now.file _ (g.D.Disk.view c.args.disk.now) (g.D.Disk.view c.select_free.new.disk) (record { monotone = c.select_free.ensures.cause.monotone; risen = λ none. absurd (let no : ⊥ = search rules in no) })
+
+pub returns-then-is_err-clause-blame : goal.returns-then-is_err-clause-blame
+returns-then-is_err-clause-blame g c = record { monotone = c.select_free.ensures.cause.monotone; risen = λ _. c.select_free.ensures.cause.risen (search rules) }
+
+pub returns-clause-blame : goal.returns-clause-blame
+returns-clause-blame g c = record { monotone = c.select_free.ensures.cause.monotone; risen = λ none. absurd (let no : ⊥ = search rules in no) }

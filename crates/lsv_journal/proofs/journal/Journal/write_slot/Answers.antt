@@ -70,3 +70,6 @@ returns-clause-represents g c told whole =
       prepared = subst (λ (m : ℕ). IsPrepared m (bytes_of (new.reads f)) slot (Some c.args.body)) long (ok_of c.write_free.result _ no_error (c.write_free.ensures.prepared told));
       no_old = λ none. no_old_stays g.row.N f (λ h. h ≡ f) old new (c.write_free.ensures.any_moment told).elsewhere (old_other f r.part) (r.no_old none);
     }
+
+pub returns-then-is_err-clause-blame : goal.returns-then-is_err-clause-blame
+returns-then-is_err-clause-blame g c = record { monotone = c.write_free.ensures.cause.monotone; risen = λ _. c.write_free.ensures.cause.risen (search rules) }

@@ -20,4 +20,4 @@ returns c =
     let fits : takes (stored_of log) c.args.r ≡ true = ends.0 in
     let on_records : List Record → Record = λ rs. covered c.args.self.now.texts rs c.args.r in
     take_gives c.args.conn n c.args.r c.in_ok-r.r m (stored_of log) log.promised (logs_in c.add_record.new.logs.items) (owner_in c.add_record.new.logs.items) c.insert_once.new.numbers.items
-    t fits (c.in_ok-r.ensures ∙ ap on_records c.as_slice.ensures) (c.in_ok-add_record.ensures.logs (stored_of log) log.promised t) c.in_ok-add_record.ensures.owners c.in_ok-insert_once.ensures
+    t fits (c.in_ok-r.ensures ∙ ap on_records c.as_slice.ensures) (c.in_ok-add_record.ensures.logs (stored_of log) log.promised t) c.in_ok-add_record.ensures.owners c.in_ok-insert_once.ensures.inserted

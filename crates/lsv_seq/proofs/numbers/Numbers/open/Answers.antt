@@ -2,7 +2,7 @@ use Rattle.std.proofs.Common.{sym, ap, ◌∙◌, refl}
 use Rattle.std.specs.Option.{option_map}
 use Rattle.lsv_seq.specs.Entry.{entry_in}
 use Rattle.lsv_seq.specs.Inner.{last_in}
-use Rattle.lsv_seq.proofs.Openings.{made_reads, made_moments, opened_moments, opened_calls, resumed_represents}
+use Rattle.lsv_seq.proofs.Openings.{made_reads, kept_moments, made_moments, opened_moments, opened_calls, resumed_represents}
 use Rattle.lsv_seq.proofs.Runs.{draw_calls, reopened_entry}
 use Rattle.lsv_seq.proofs.numbers.Numbers.open.Goals as goal
 
@@ -46,3 +46,19 @@ returns-clause-represents g c told =
 pub returns-clause-any_moment : goal.returns-clause-any_moment
 returns-clause-any_moment g c told =
     opened_moments c.args.lane c.args.lanes c.numbers_file.result c.numbers_file.ensures (g.D.Disk.view c.args.disk.now) (g.D.Disk.view c.open.new.disk) (c.open.ensures.any_moment told)
+
+pub returns-in_default-clause-kept : goal.returns-in_default-clause-kept
+returns-in_default-clause-kept g c told some =
+    let reads = (g.D.Disk.view c.args.disk.now).reads in
+    let found = reopened_entry c.args.lane c.numbers_file.result reads c.in_ok-journal.field-0 c.numbers_file.ensures (c.in_ok-journal.ensures.absent told).0 (c.in_ok-journal.ensures.last told) in
+    absurd (some (sym found ∙ ap (λ o. option_map entry_in (last_in o)) c.in_default.is))
+
+pub returns-in_default-last-clause-kept : goal.returns-in_default-last-clause-kept
+returns-in_default-last-clause-kept g c told some =
+    let reads = (g.D.Disk.view c.args.disk.now).reads in
+    let found = reopened_entry c.args.lane c.numbers_file.result reads c.in_ok-journal.field-0 c.numbers_file.ensures (c.in_ok-journal.ensures.absent told).0 (c.in_ok-journal.ensures.last told) in
+    absurd (some (sym found ∙ ap (λ o. option_map entry_in (last_in o)) c.in-Some.is ∙ ap (option_map entry_in) (sym c.last.ensures ∙ c.in_default-last.is)))
+
+pub returns-clause-kept : goal.returns-clause-kept
+returns-clause-kept g c told some =
+    kept_moments c.args.lane c.args.lanes c.numbers_file.result c.numbers_file.ensures (g.D.Disk.view c.args.disk.now) (g.D.Disk.view c.open.new.disk) (c.open.ensures.any_moment told)

@@ -1,0 +1,45 @@
+use Rattle.std.proofs.Common.{◌≡◌, ◌∙◌, subst, sym}
+use Rattle.std.specs.Prelude.{true}
+use Rattle.lsv_disk.specs.View.{DiskView}
+use Rattle.lsv_session.specs.declared.connection.ConnId.{ConnId}
+use Rattle.lsv_session.specs.declared.connection.ConnState.TheVariants.{Fresh}
+use Rattle.lsv_machine.specs.Machine.{Machine, is_dead, without_conn}
+use Rattle.lsv_keeper.specs.Rows.{Left, RowGives}
+use Rattle.lsv_keeper.specs.Value.{KeeperView, Keeps}
+use Rattle.lsv_keeper.specs.Views.{view_of}
+use Rattle.lsv_keeper.specs.declared.told.Told.TheVariants.{Nothing}
+use Rattle.lsv_keeper.proofs.Departing.{forget_represents, keeps_forget, keeps_same}
+use Rattle.lsv_keeper.proofs.Frames.{Laws}
+use Rattle.lsv_keeper.proofs.Leaving.{forgotten_row, ignored_row}
+use Rattle.lsv_keeper.proofs.keeper.Keeper.drop_job.Goals as goal
+use Rattle.lsv_keeper.proofs.keeper.Keeper.drop_job.Goals.{in-Gone, in_default}
+
+pub leave-requires-clause-stands : goal.leave-requires-clause-stands
+leave-requires-clause-stands g c told = let (m, at) = c.requires.stands told in (
+  record m { noting = without_conn c.args.conn m.noting },
+  forget_represents (view_of c.args.self.now) (g.D.Disk.view c.args.disk.now) m c.args.conn c.forget.new.conns.items c.forget.ensures at,
+)
+
+pub returns-clause-keeps : goal.returns-clause-keeps
+returns-clause-keeps g c = elim c.match-body.branch [
+  | in-Gone w ↦ subst (λ s. Keeps (view_of c.args.self.now) (view_of s)) (sym w.self-is)
+      (keeps_forget (view_of c.args.self.now) (view_of w.leave.new.self) c.args.conn w.forget.new.conns.items w.forget.ensures w.leave.ensures.keeps)
+  | in_default w ↦ subst (λ s. Keeps (view_of c.args.self.now) (view_of s)) (sym w.self-is) (keeps_same (view_of c.args.self.now))
+]
+
+pub returns-clause-row : goal.returns-clause-row
+returns-clause-row g c told m job now at is body dead =
+    let old : DiskView = g.D.Disk.view c.args.disk.now in
+    let laws : Laws old = record { reads_itself = g.met.D.Disk.reads_itself told c.args.disk.now; is_now = g.met.D.Disk.is_now told c.args.disk.now; only_now = g.met.D.Disk.only_now told c.args.disk.now } in
+    let v : KeeperView = view_of c.args.self.now in
+    let mid : Machine = record m { noting = without_conn c.args.conn m.noting } in
+    let dead' : is_dead (m.states job.conn) ≡ true = subst (λ (k : ConnId). is_dead (m.states k) ≡ true) (sym is) dead in
+    elim c.match-body.branch [
+      | in-Gone w ↦ subst (λ s. RowGives v now job Nothing m (view_of s) old (g.D.Disk.view c.match-body.disk)) (sym w.self-is)
+          (subst (λ d. RowGives v now job Nothing m (view_of w.leave.new.self) old (g.D.Disk.view d)) (sym w.disk-is)
+          (forgotten_row v (view_of w.leave.new.self) w.forget.new.conns.items now job m old (g.D.Disk.view w.leave.new.disk) laws dead' (body ∙ w.in-Gone.is)
+          (subst (λ (k : ConnId). Left k Fresh (record v { noting = w.forget.new.conns.items }) (record m { noting = without_conn k m.noting }) (view_of w.leave.new.self) old (g.D.Disk.view w.leave.new.disk)) (sym is)
+          (w.leave.ensures.left told mid (forget_represents v old m c.args.conn w.forget.new.conns.items w.forget.ensures at)))))
+      | in_default w ↦ subst (λ s. RowGives v now job Nothing m (view_of s) old (g.D.Disk.view c.match-body.disk)) (sym w.self-is)
+          (subst (λ d. RowGives v now job Nothing m v old (g.D.Disk.view d)) (sym w.disk-is) (ignored_row v now job m old laws at dead' (λ gone. w.in_default.not-Gone (sym body ∙ gone))))
+    ]

@@ -1,0 +1,54 @@
+use Rattle.std.proofs.Common.{◌≡◌, ◌∙◌, Some, ap, refl, sym}
+use Rattle.lsv_disk.specs.View.{DiskView}
+use Rattle.lsv_machine.specs.Machine.{log_of}
+use Rattle.lsv_keeper.specs.Views.{view_of}
+use Rattle.lsv_keeper.proofs.Departing.{departs_fewer, departs_keeps, departs_owed, left_none, not_closed, set_departs, set_states, took_out}
+use Rattle.lsv_keeper.proofs.Frames.{Laws}
+use Rattle.lsv_keeper.proofs.keeper.Keeper.leave.Goals as goal
+
+pub let_go-requires-clause-taken_out : goal.let_go-requires-clause-taken_out
+let_go-requires-clause-taken_out g c told = let (m, at) = c.requires.stands told in (
+  view_of c.args.self.now,
+  m,
+  took_out (view_of c.args.self.now) _ c.in-Some.log c.in-Some-take.its c.take.result (record { lane = refl; lanes = refl; log_exit = refl; kind = refl; texts = refl; numbers = refl; events = refl; noting = refl }) refl refl
+      c.take.ensures.taken c.take.ensures.rest c.in-Some-take.is,
+  at,
+)
+
+pub returns-in-Some-take-clause-left : goal.returns-in-Some-take-clause-left
+returns-in-Some-take-clause-left g c told m at =
+    c.let_go.ensures.left told (view_of c.args.self.now) m
+    (took_out (view_of c.args.self.now) _ c.in-Some.log c.in-Some-take.its c.take.result (record { lane = refl; lanes = refl; log_exit = refl; kind = refl; texts = refl; numbers = refl; events = refl; noting = refl }) refl refl
+    c.take.ensures.taken c.take.ensures.rest c.in-Some-take.is)
+    at (ap log_of (at.states c.args.conn ∙ sym c.state.ensures) ∙ sym c.log_of.ensures ∙ c.in-Some.is)
+
+pub returns-in-None-take-clause-keeps : goal.returns-in-None-take-clause-keeps
+returns-in-None-take-clause-keeps g c =
+    let k = departs_keeps (Some c.in-Some.log) c.args.conn c.args.state _ (view_of c.release.new.self) c.release.ensures.departs c.release.ensures.room in
+    record { lane = k.lane; lanes = k.lanes; log_exit = k.log_exit; kind = k.kind; texts = k.texts; room_is = k.room_is; owed = k.owed }
+
+pub returns-in-None-take-clause-shrinks : goal.returns-in-None-take-clause-shrinks
+returns-in-None-take-clause-shrinks g c = departs_owed (Some c.in-Some.log) c.args.conn c.args.state _ (view_of c.release.new.self) c.release.ensures.departs
+
+pub returns-in-None-take-clause-noting : goal.returns-in-None-take-clause-noting
+returns-in-None-take-clause-noting g c = c.release.ensures.departs.beside.noting
+
+pub returns-in-None-take-clause-fewer : goal.returns-in-None-take-clause-fewer
+returns-in-None-take-clause-fewer g c = departs_fewer (Some c.in-Some.log) c.args.conn c.args.state _ (view_of c.release.new.self) c.release.ensures.departs
+
+pub returns-in-None-take-clause-left : goal.returns-in-None-take-clause-left
+returns-in-None-take-clause-left g c told m at =
+    let is : log_of (m.states c.args.conn) ≡ Some c.in-Some.log = ap log_of (at.states c.args.conn ∙ sym c.state.ensures) ∙ sym c.log_of.ensures ∙ c.in-Some.is in
+    absurd (not_closed (view_of c.args.self.now) (g.D.Disk.view c.args.disk.now) m c.in-Some.log c.args.conn at (at.sound.owned c.args.conn c.in-Some.log is) (sym c.take.ensures.taken ∙ c.in-None-take.is))
+
+pub returns-in-None-clause-sessions : goal.returns-in-None-clause-sessions
+returns-in-None-clause-sessions g c = set_states c.set.result c.args.self.now.table c.set.new.self c.args.conn c.args.state c.set.ensures.ok c.set.ensures.room c.requires.room
+
+pub returns-in-None-clause-left : goal.returns-in-None-clause-left
+returns-in-None-clause-left g c told m at =
+    let disk : DiskView = g.D.Disk.view c.args.disk.now in
+    let laws : Laws disk = record { reads_itself = g.met.D.Disk.reads_itself told c.args.disk.now; is_now = g.met.D.Disk.is_now told c.args.disk.now; only_now = g.met.D.Disk.only_now told c.args.disk.now } in
+    left_none (view_of c.args.self.now) _ disk m c.args.conn c.args.state laws at (ap log_of (at.states c.args.conn ∙ sym c.state.ensures) ∙ sym c.log_of.ensures ∙ c.in-None.is) c.requires.writes_none
+    (set_departs c.set.result (view_of c.args.self.now) _ c.args.conn c.args.state (record { lane = refl; lanes = refl; log_exit = refl; kind = refl; texts = refl; numbers = refl; events = refl; noting = refl }) refl
+    c.set.ensures.ok c.set.ensures.room c.requires.room)
+    (λ n. refl)

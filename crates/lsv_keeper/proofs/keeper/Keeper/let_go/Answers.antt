@@ -1,0 +1,39 @@
+use Rattle.std.proofs.Common.{Some}
+use Rattle.lsv_disk.specs.View.{DiskView}
+use Rattle.lsv_iolog.specs.Value.{IoLogView}
+use Rattle.lsv_keeper.specs.Views.{view_of}
+use Rattle.lsv_keeper.proofs.Departing.{departs_fewer, departs_keeps, departs_owed, ends_flush, out_left, out_value}
+use Rattle.lsv_keeper.proofs.Frames.{Laws}
+use Rattle.lsv_keeper.proofs.keeper.Keeper.let_go.Goals as goal
+
+pub flush-requires : goal.flush-requires
+flush-requires g c = record {
+  represents = λ told whole. let (before, m, out, at) = c.requires.taken_out told in out_value c.args.log c.args.its before (view_of c.args.self.now) (g.D.Disk.view c.args.disk.now) m out at;
+}
+
+pub returns-clause-keeps : goal.returns-clause-keeps
+returns-clause-keeps g c = departs_keeps (Some c.args.log) c.args.conn c.args.state (view_of c.args.self.now) (view_of c.release.new.self) c.release.ensures.departs c.release.ensures.room
+
+pub returns-clause-sessions : goal.returns-clause-sessions
+returns-clause-sessions g c = λ t j. c.release.ensures.departs.states j t
+
+pub returns-clause-shrinks : goal.returns-clause-shrinks
+returns-clause-shrinks g c = departs_owed (Some c.args.log) c.args.conn c.args.state (view_of c.args.self.now) (view_of c.release.new.self) c.release.ensures.departs
+
+pub returns-clause-noting : goal.returns-clause-noting
+returns-clause-noting g c = c.release.ensures.departs.beside.noting
+
+pub returns-clause-fewer : goal.returns-clause-fewer
+returns-clause-fewer g c = departs_fewer (Some c.args.log) c.args.conn c.args.state (view_of c.args.self.now) (view_of c.release.new.self) c.release.ensures.departs
+
+pub returns-clause-left : goal.returns-clause-left
+returns-clause-left g c told before m out at is =
+    let old : DiskView = g.D.Disk.view c.args.disk.now in
+    let new : DiskView = g.D.Disk.view c.flush.new.disk in
+    let laws : Laws old = record { reads_itself = g.met.D.Disk.reads_itself told c.args.disk.now; is_now = g.met.D.Disk.is_now told c.args.disk.now; only_now = g.met.D.Disk.only_now told c.args.disk.now } in
+    let laws' : Laws new = record { reads_itself = g.met.D.Disk.reads_itself told c.flush.new.disk; is_now = g.met.D.Disk.is_now told c.flush.new.disk; only_now = g.met.D.Disk.only_now told c.flush.new.disk } in
+    let after : IoLogView = c.flush.new.self in
+    out_left c.args.log c.args.its before (view_of c.args.self.now) (view_of c.release.new.self) old new m c.args.conn c.args.state laws laws' at is c.requires.writes_none out
+    c.release.ensures.departs c.release.ensures.logs
+    (λ value represents. ends_flush c.args.its.log after value old new c.flush.result represents c.flush.ensures.counts.number (c.flush.ensures.represents told)
+    (c.flush.ensures.any_moment told value represents) c.flush.ensures.fault c.flush.ensures.broken c.flush.ensures.cause)

@@ -1,0 +1,31 @@
+use Rattle.std.proofs.Common.{◌≡◌, ◌∷◌, List, [], refl, sym, ◌∙◌, ap}
+use Rattle.std.specs.Prelude.{false}
+use Rattle.lsv_session.specs.declared.connection.ConnState.{ConnState}
+use Rattle.lsv_session.specs.declared.connection.ConnState.TheVariants.{Fresh, Greeted, Alerted, Running, Dead}
+use Rattle.lsv_machine.specs.Machine.{is_dead}
+use Rattle.lsv_keeper.specs.Views.{view_of}
+use Rattle.lsv_keeper.proofs.TailRefusals.{refuses_no_more, refuses_one}
+use Rattle.lsv_keeper.proofs.keeper.Keeper.lose_line.Goals as goal
+
+living : (s : ConnState) → (s ≡ Dead → ⊥) → is_dead s ≡ false
+living Fresh ne = refl
+living Greeted ne = refl
+living Alerted ne = refl
+living (Running log) ne = refl
+living Dead ne = absurd (ne refl)
+
+pub returns-in-Dead-clause-refused : goal.returns-in-Dead-clause-refused
+returns-in-Dead-clause-refused g c = λ told m at. refuses_no_more c.args.conn (view_of c.args.self.now) m (g.D.Disk.view c.args.disk.now) c.args.out.now.items
+    (record { reads_itself = g.met.D.Disk.reads_itself told c.args.disk.now; is_now = g.met.D.Disk.is_now told c.args.disk.now; only_now = g.met.D.Disk.only_now told c.args.disk.now }) at
+    (ap is_dead (at.states c.args.conn ∙ sym c.state.ensures ∙ c.in-Dead.is))
+
+pub returns-clause-noting : goal.returns-clause-noting
+returns-clause-noting g c = c.leave.ensures.noting
+
+pub returns-clause-fewer : goal.returns-clause-fewer
+returns-clause-fewer g c = c.leave.ensures.fewer
+
+pub returns-clause-refused : goal.returns-clause-refused
+returns-clause-refused g c = λ told m at. refuses_one c.args.conn (view_of c.args.self.now) (view_of c.leave.new.self) m (g.D.Disk.view c.args.disk.now) (g.D.Disk.view c.leave.new.disk) c.args.out.now.items c.put_replies.new.out.items c.put_replies.ensures.told.0
+    (record { reads_itself = g.met.D.Disk.reads_itself told c.args.disk.now; is_now = g.met.D.Disk.is_now told c.args.disk.now; only_now = g.met.D.Disk.only_now told c.args.disk.now }) at
+    (living (m.states c.args.conn) (λ e. c.in_default.not-Dead (c.state.ensures ∙ sym (at.states c.args.conn) ∙ e))) (c.leave.ensures.left told m at) c.put_replies.ensures.told.1 c.put_replies.ensures.told.2

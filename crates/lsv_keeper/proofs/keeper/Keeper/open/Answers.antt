@@ -1,0 +1,66 @@
+use Rattle.std.proofs.Common.{inr, refl}
+use Rattle.lsv_seq.specs.Value.{last_of}
+use Rattle.lsv_keeper.specs.Opening.{IsStoreFault}
+use Rattle.lsv_keeper.specs.declared.fault.StoreFault.TheVariants.{Device}
+use Rattle.lsv_keeper.proofs.Opening.{cause_after, events_alike, fault_alike, in_err, opens_as, passed, same_error, store_on}
+use Rattle.lsv_keeper.proofs.keeper.Keeper.open.Goals as goal
+
+pub returns-clause-set : goal.returns-clause-set
+returns-clause-set g c = record { lane_is = refl; lanes_is = refl; kind_is = refl; log_exit_is = refl; texts_are = refl }
+
+pub returns-clause-read : goal.returns-clause-read
+returns-clause-read g c told = (c.in_ok-numbers.ensures.opened told).read
+
+pub returns-clause-store : goal.returns-clause-store
+returns-clause-store g c told =
+    store_on c.args.lane c.args.lanes (g.D.Disk.view c.args.disk.now) (g.D.Disk.view c.open_numbers.new.disk) (g.D.Disk.view c.open_events.new.disk)
+    (c.open_numbers.ensures.store told) (c.open_events.ensures.store told c.args.lanes)
+
+pub returns-clause-opened : goal.returns-clause-opened
+returns-clause-opened g c told fit =
+    let old = c.args.disk.now in
+    opens_as _ (g.D.Disk.view old) (g.D.Disk.view c.open_numbers.new.disk) (g.D.Disk.view c.open_events.new.disk) _ _
+    (record { reads_itself = g.met.D.Disk.reads_itself told old; is_now = g.met.D.Disk.is_now told old; only_now = g.met.D.Disk.only_now told old })
+    c.requires.lane c.requires.lanes (c.in_ok-numbers.ensures.opened told) (c.in_ok-events.ensures.opened told) (c.open_numbers.ensures.run told) (c.open_events.ensures.run told)
+    (c.open_numbers.ensures.store told) (c.open_events.ensures.store told c.args.lanes) fit c.new-table.ensures c.new-logs.ensures c.new-waiting.ensures.items c.new-noting.ensures.items
+
+pub returns-clause-cause : goal.returns-clause-cause
+returns-clause-cause g c o = record {
+  monotone = (cause_after o _ (g.D.Disk.view c.args.disk.now) (g.D.Disk.view c.open_numbers.new.disk) (g.D.Disk.view c.open_events.new.disk) (c.open_numbers.ensures.cause o).monotone (c.open_events.ensures.cause o)).monotone;
+  risen = λ e. absurd (cc e);
+}
+
+pub returns-in_err-numbers-clause-cause : goal.returns-in_err-numbers-clause-cause
+returns-in_err-numbers-clause-cause g c o =
+    let fault = c.in_err-numbers.field-0.0 in
+    record {
+      monotone = (c.open_numbers.ensures.cause o).monotone;
+      risen = λ e. (c.in_err-numbers.ensures.cause o).risen (in_err fault (Device o) (same_error c.from_residual.result fault (Device o) c.from_residual.ensures.1 e));
+    }
+
+pub returns-in_err-events-clause-fault : goal.returns-in_err-events-clause-fault
+returns-in_err-events-clause-fault g c told =
+    let old = g.D.Disk.view c.args.disk.now in
+    let mid = g.D.Disk.view c.open_numbers.new.disk in
+    let fault = c.in_err-events.field-0.0 in
+    passed (IsStoreFault c.args.lane c.args.lanes old.reads) c.from_residual-in_err-events.result fault c.from_residual-in_err-events.ensures.1
+    (inr (
+      (last_of c.in_ok-numbers.numbers, (c.in_ok-numbers.ensures.opened told).read),
+      fault_alike c.args.lane mid.reads old.reads fault (events_alike c.args.lane _ old mid (c.open_numbers.ensures.run told)) (c.in_err-events.ensures.fault told),
+    ))
+
+pub returns-in_err-events-clause-store : goal.returns-in_err-events-clause-store
+returns-in_err-events-clause-store g c told =
+    store_on c.args.lane c.args.lanes (g.D.Disk.view c.args.disk.now) (g.D.Disk.view c.open_numbers.new.disk) (g.D.Disk.view c.open_events.new.disk)
+    (c.open_numbers.ensures.store told) (c.open_events.ensures.store told c.args.lanes)
+
+pub returns-in_err-events-clause-cause : goal.returns-in_err-events-clause-cause
+returns-in_err-events-clause-cause g c o =
+    let old = g.D.Disk.view c.args.disk.now in
+    let mid = g.D.Disk.view c.open_numbers.new.disk in
+    let new = g.D.Disk.view c.open_events.new.disk in
+    let fault = c.in_err-events.field-0.0 in
+    cause_after o _ old mid new (c.open_numbers.ensures.cause o).monotone (record {
+      monotone = (c.open_events.ensures.cause o).monotone;
+      risen = λ e. (c.in_err-events.ensures.cause o).risen (in_err fault (Device o) (same_error c.from_residual-in_err-events.result fault (Device o) c.from_residual-in_err-events.ensures.1 e));
+    })

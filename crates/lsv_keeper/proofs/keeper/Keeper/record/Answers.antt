@@ -1,0 +1,32 @@
+use Rattle.std.proofs.Common.{◌≡◌, ◌∙◌, ap, subst, sym}
+use Rattle.lsv_disk.specs.View.{DiskView}
+use Rattle.lsv_request.specs.declared.request.Request.TheVariants as request
+use Rattle.lsv_machine.specs.Machine.{log_of}
+use Rattle.lsv_keeper.specs.Represents.{Represents}
+use Rattle.lsv_keeper.specs.Rows.{RowGives}
+use Rattle.lsv_keeper.specs.Value.{Keeps, KeeperView}
+use Rattle.lsv_keeper.specs.Views.{view_of}
+use Rattle.lsv_keeper.proofs.Refusing.{asks_stays, keeps_same, record_writes, same_waiting}
+use Rattle.lsv_keeper.proofs.Requests.{asks_alive}
+use Rattle.lsv_keeper.proofs.keeper.Keeper.record.Goals as goal
+
+pub returns-in_default-clause-row : goal.returns-in_default-clause-row
+returns-in_default-clause-row g c told m job now at is asks =
+    absurd (record_writes (m.states c.args.conn) job.body c.args.r asks (ap log_of (at.states c.args.conn ∙ sym c.requires.state) ∙ sym c.log_of.ensures ∙ c.in_default.is))
+
+pub want_memory-requires : goal.want_memory-requires
+want_memory-requires g c = record {
+  stands = λ told. let (m, at) = c.requires.stands told in
+      (m, subst (λ (w : KeeperView). Represents w (g.D.Disk.view c.args.disk.now) m) (sym (same_waiting (view_of c.args.self.now) c.reserve.new.self.items c.reserve.ensures.items)) at);
+  room = c.requires.room;
+}
+
+pub returns-then-is_err-clause-row : goal.returns-then-is_err-clause-row
+returns-then-is_err-clause-row g c told m job now at is asks =
+    let v : KeeperView = view_of c.args.self.now in
+    let old : DiskView = g.D.Disk.view c.args.disk.now in
+    let new : DiskView = g.D.Disk.view c.want_memory.new.disk in
+    let same = same_waiting v c.reserve.new.self.items c.reserve.ensures.items in
+    subst (λ (w : KeeperView). RowGives w now job c.want_memory.result m (view_of c.want_memory.new.self) old new) same
+    (c.want_memory.ensures.row told m job now (subst (λ (w : KeeperView). Represents w old m) (sym same) at) is
+    (asks_alive (m.states c.args.conn) job.body (request.Record c.args.r) asks) (asks_stays (m.states c.args.conn) job.body (request.Record c.args.r) asks))

@@ -1,0 +1,63 @@
+-- A restart that is refused at once, accepted, or refused by what is found.
+use Rattle.std.proofs.Common.{◌≡◌, ◌≤◌, ℕ, List, [], Option, Some, None, Result, Err, true, false, refl, sym, ◌∙◌, ap, subst, arith}
+use Rattle.std.specs.Prelude.{is_some}
+use Rattle.lsv_disk.specs.View.{DiskView}
+use Rattle.lsv_request.specs.declared.request.Request.TheVariants as request
+use Rattle.lsv_session.specs.Table.{Sessions, room_for}
+use Rattle.lsv_session.specs.declared.connection.ConnId.{ConnId}
+use Rattle.lsv_session.specs.declared.connection.ConnState.TheVariants.{Dead}
+use Rattle.lsv_machine.specs.Answers.{Answer}
+use Rattle.lsv_machine.specs.Failures.{AsksFor}
+use Rattle.lsv_machine.specs.Machine.{Machine, is_dead}
+use Rattle.lsv_keeper.specs.Represents.{Represents}
+use Rattle.lsv_keeper.specs.Rows.{Left, RowIs, Tells}
+use Rattle.lsv_keeper.specs.Value.{KeeperView, Owns, sessions_of}
+use Rattle.lsv_keeper.specs.Views.{view_of}
+use Rattle.lsv_keeper.specs.declared.told.Told.TheVariants as told_variants
+use Rattle.lsv_keeper.proofs.Frames.{Laws}
+use Rattle.lsv_keeper.proofs.Reopening.{fault_stands}
+use Rattle.lsv_keeper.proofs.RestartRows.{in_use, none_of, refused_row}
+use Rattle.lsv_keeper.proofs.ResumedRows.{resumed_row}
+use Rattle.lsv_keeper.proofs.Restarting.{asks_restart}
+use Rattle.lsv_keeper.proofs.keeper.Keeper.restart.Goals as goal
+
+pub returns-then-is_some-clause-row : goal.returns-then-is_some-clause-row
+returns-then-is_some-clause-row g c told m job now at conn asks =
+    let a = asks_restart m job c.args.restart (subst (λ (k : ConnId). AsksFor (m.states k) job.body (request.Restart c.args.restart)) (sym conn) asks) in
+    let owned : is_some (m.owner c.args.restart.log) ≡ true = ap is_some (at.owner c.args.restart.log ∙ sym c.owner.ensures) ∙ (sym c.is_some.ensures ∙ c.if-is_some.true) in
+    c.refuse.ensures.row told m job now at conn (subst (λ (k : ConnId). is_dead (m.states k) ≡ false) conn a.living) refl (in_use (view_of c.args.self.now) now m job c.args.restart c.args.conn conn a owned)
+
+pub leave-requires-clause-stands : goal.leave-requires-clause-stands
+leave-requires-clause-stands g c told =
+    let old = c.requires.stands told in
+    let one = c.resume.new.disk in
+    let free = old.1.owner c.args.restart.log ∙ (sym c.owner.ensures ∙ none_of c.owner.result (sym c.is_some.ensures ∙ c.if-is_some.false)) in
+    fault_stands (view_of c.args.self.now) (view_of c.resume.new.self) (g.D.Disk.view c.args.disk.now) (g.D.Disk.view one) old.0 c.args.restart.log c.args.restart.point
+    (record { reads_itself = g.met.D.Disk.reads_itself told c.args.disk.now; is_now = g.met.D.Disk.is_now told c.args.disk.now; only_now = g.met.D.Disk.only_now told c.args.disk.now })
+    (record { reads_itself = g.met.D.Disk.reads_itself told one; is_now = g.met.D.Disk.is_now told one; only_now = g.met.D.Disk.only_now told one })
+    old.1 c.resume.ensures.same free c.in-Err.fault (c.in-Err.ensures.fault told)
+
+pub returns-in-Ok-clause-row : goal.returns-in-Ok-clause-row
+returns-in-Ok-clause-row g c told m job now at conn asks answers tells =
+    let one = c.resume.new.disk in
+    let a = asks_restart m job c.args.restart (subst (λ (k : ConnId). AsksFor (m.states k) job.body (request.Restart c.args.restart)) (sym conn) asks) in
+    let free = at.owner c.args.restart.log ∙ (sym c.owner.ensures ∙ none_of c.owner.result (sym c.is_some.ensures ∙ c.if-is_some.false)) in
+    let owns = c.own.ensures.owns (ap (λ (s : Sessions). s.owner c.args.restart.log) c.resume.ensures.same.sessions_are ∙ (sym (at.owner c.args.restart.log) ∙ free)) in
+    subst (λ (said : List Answer). RowIs (view_of c.args.self.now) now job said m (view_of c.own.new.self) (g.D.Disk.view c.args.disk.now) (g.D.Disk.view one)) (sym tells)
+    (resumed_row (view_of c.args.self.now) (view_of c.resume.new.self) (view_of c.own.new.self) (g.D.Disk.view c.args.disk.now) (g.D.Disk.view one) m job now c.args.restart c.in-Ok.its
+    (record { reads_itself = g.met.D.Disk.reads_itself told c.args.disk.now; is_now = g.met.D.Disk.is_now told c.args.disk.now; only_now = g.met.D.Disk.only_now told c.args.disk.now })
+    (record { reads_itself = g.met.D.Disk.reads_itself told one; is_now = g.met.D.Disk.is_now told one; only_now = g.met.D.Disk.only_now told one })
+    at c.resume.ensures.same a free c.resume.ensures.monotone (c.in-Ok.ensures.resumed told)
+    (subst (λ (k : ConnId). Owns k c.args.restart.log c.in-Ok.its (view_of c.resume.new.self) (view_of c.own.new.self)) (sym conn) owns) c.own.ensures.keeps)
+
+pub returns-in-Err-clause-row : goal.returns-in-Err-clause-row
+returns-in-Err-clause-row g c told m job now at conn asks answers tells =
+    let one = c.resume.new.disk in
+    let a = asks_restart m job c.args.restart (subst (λ (k : ConnId). AsksFor (m.states k) job.body (request.Restart c.args.restart)) (sym conn) asks) in
+    let free = at.owner c.args.restart.log ∙ (sym c.owner.ensures ∙ none_of c.owner.result (sym c.is_some.ensures ∙ c.if-is_some.false)) in
+    refused_row (view_of c.args.self.now) (view_of c.resume.new.self) (view_of c.leave.new.self) (g.D.Disk.view c.args.disk.now) (g.D.Disk.view one) (g.D.Disk.view c.leave.new.disk) m job now c.args.restart
+    (record { reads_itself = g.met.D.Disk.reads_itself told c.args.disk.now; is_now = g.met.D.Disk.is_now told c.args.disk.now; only_now = g.met.D.Disk.only_now told c.args.disk.now })
+    (record { reads_itself = g.met.D.Disk.reads_itself told one; is_now = g.met.D.Disk.is_now told one; only_now = g.met.D.Disk.only_now told one })
+    at c.resume.ensures.same a free c.resume.ensures.monotone c.in-Err.fault (c.in-Err.ensures.fault told)
+    (λ m1 at1. subst (λ (k : ConnId). Left k Dead (view_of c.resume.new.self) m1 (view_of c.leave.new.self) (g.D.Disk.view one) (g.D.Disk.view c.leave.new.disk)) (sym conn) (c.leave.ensures.left told m1 at1))
+    answers (subst (λ why. Tells job.conn (told_variants.Refused why) answers) c.restart_refusal.ensures tells)

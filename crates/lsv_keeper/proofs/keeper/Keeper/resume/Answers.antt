@@ -1,0 +1,15 @@
+-- Room is made, and then the log is opened and cut.
+use Rattle.std.proofs.Common.{ℕ, List, sym, ap, subst, IfOk}
+use Rattle.lsv_disk.specs.View.{DiskView}
+use Rattle.lsv_keeper.specs.Resuming.{IsResumed}
+use Rattle.lsv_keeper.specs.Value.{KeeperView}
+use Rattle.lsv_keeper.proofs.Looking.{looked_none}
+use Rattle.lsv_keeper.proofs.keeper.Keeper.resume.Goals as goal
+
+pub returns-then-is_err-clause-fault : goal.returns-then-is_err-clause-fault
+returns-then-is_err-clause-fault g c told = looked_none c.args.number (g.D.Disk.view c.args.disk.now) (g.met.D.Disk.only_now told c.args.disk.now)
+
+pub returns-clause-resumed : goal.returns-clause-resumed
+returns-clause-resumed g c told =
+    subst (λ (t : List (List ℕ)). IfOk c.resume_log.result (λ its. IsResumed c.args.number c.args.point t its (g.D.Disk.view c.args.disk.now) (g.D.Disk.view c.resume_log.new.disk)))
+    (ap (λ (u : KeeperView). u.texts) c.reserve_log.ensures.same.others) (c.resume_log.ensures.resumed told)

@@ -1,0 +1,6 @@
+use Rattle.lsv_machine.proofs.Chains.{runs_within}
+use Rattle.lsv_keeper.specs.Reading.{reading_of}
+use Rattle.lsv_keeper.proofs.laws.runs_recover.Goals as goal
+
+pub returns : goal.returns
+returns g c = λ tells lane lanes first lives n chain. runs_within (reading_of lane lanes) lane lanes g.D.Disk.view (g.met.D.Disk.reads_itself tells) first lives n chain

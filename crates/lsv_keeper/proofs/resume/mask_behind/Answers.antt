@@ -1,0 +1,66 @@
+-- A mask of no texts covers nothing; else the records are read.
+use Rattle.std.proofs.Common.{◌≡◌, ℕ, List, [], ◌∷◌, length, true, Option, Some, None, Result, Err, IsErrOf, refl, sym, ◌∙◌, ap, subst, arith}
+use Rattle.std.specs.Prelude.{◌==◌}
+use Rattle.std.proofs.lemmas.Bool.Decides.{nat_tests}
+use Rattle.lsv_disk.specs.View.{DiskView}
+use Rattle.lsv_iolog.specs.Faults.{IsOpenFault}
+use Rattle.lsv_iolog.specs.Reading.{ViewState}
+use Rattle.lsv_iolog.specs.declared.fault.LogFault.{LogFault}
+use Rattle.lsv_iolog.specs.declared.fault.LogFault.TheVariants as logs
+use Rattle.lsv_iolog.proofs.Replaying.{one_replay}
+use Rattle.lsv_iolog.proofs.Results.{same_log_fault}
+use Rattle.lsv_record.specs.Points.{cut}
+use Rattle.lsv_keeper.proofs.Masking.{masks_any, masks_now}
+use Rattle.lsv_keeper.proofs.Viewing.{viewed, view_whole}
+use Rattle.lsv_keeper.proofs.resume.mask_behind.Goals as goal
+
+view_err : (e d : LogFault) → e ≡ d → IsErrOf {T = ViewState} (Err e) d
+view_err e d is = ap (λ (x : LogFault). let y : Result ViewState LogFault = Err x in y) is
+
+unit_err : (e d : LogFault) → e ≡ d → IsErrOf {T = Unit {0}} (Err e) d
+unit_err e d is = ap (λ (x : LogFault). let y : Result (Unit {0}) LogFault = Err x in y) is
+
+empty_of : (xs : List (List ℕ)) → (length xs == 0) ≡ true → xs ≡ []
+empty_of [] e = refl
+empty_of (x ∷ xs) e = absurd (let h : length (x ∷ xs) ≡ 0 = grind (arith, nat_tests) in omega (arith, h))
+
+pub returns-then-is_empty-clause-masks : goal.returns-then-is_empty-clause-masks
+returns-then-is_empty-clause-masks g c told stored holds =
+    masks_any c.args.texts.now c.in-Ok.mask (cut stored.records c.args.point)
+    (empty_of c.args.texts.now (ap (λ (xs : List (List ℕ)). length xs == 0) (sym c.as_slice.ensures) ∙ (sym c.is_empty.ensures ∙ c.if-is_empty.true))) c.in-Ok.ensures
+
+pub returns-in_err-view-clause-none : goal.returns-in_err-view-clause-none
+returns-in_err-view-clause-none g c told is stored holds =
+    absurd (subst IsOpenFault (same_log_fault c.from_residual.result c.in_err-view.field-0.0 (logs.NoPoint c.args.point) c.from_residual.ensures.1 is) c.in_err-view.ensures.fault)
+
+pub returns-in_err-view-clause-damaged : goal.returns-in_err-view-clause-damaged
+returns-in_err-view-clause-damaged g c told part is stored holds =
+    let fault = same_log_fault c.from_residual.result c.in_err-view.field-0.0 (logs.Damaged part) c.from_residual.ensures.1 is in
+    view_whole c.args.number part stored (g.D.Disk.view c.args.disk.now).reads holds (c.in_err-view.ensures.damaged told part (view_err c.in_err-view.field-0.0 (logs.Damaged part) fault))
+
+pub returns-in_err-view-clause-absent : goal.returns-in_err-view-clause-absent
+returns-in_err-view-clause-absent g c told is stored holds =
+    let fault = same_log_fault c.from_residual.result c.in_err-view.field-0.0 logs.Absent c.from_residual.ensures.1 is in
+    let none = c.in_err-view.ensures.absent told (view_err c.in_err-view.field-0.0 logs.Absent fault) in
+    let w : None ≡ Some stored = one_replay (g.D.Disk.view c.args.disk.now).reads c.args.number None (Some stored) none holds in cc
+
+pub returns-in_err-see_through-clause-none : goal.returns-in_err-see_through-clause-none
+returns-in_err-see_through-clause-none g c told is stored holds =
+    let fault = same_log_fault c.from_residual-in_err-see_through.result c.in_err-see_through.field-0.0 (logs.NoPoint c.args.point) c.from_residual-in_err-see_through.ensures.1 is in
+    c.in_err-see_through.ensures.none told (unit_err c.in_err-see_through.field-0.0 (logs.NoPoint c.args.point) fault) stored
+    (viewed c.args.number c.in_ok-view.view stored (g.D.Disk.view c.args.disk.now) (g.D.Disk.view c.open.new.disk) c.in_ok-view.ensures.number (c.in_ok-view.ensures.entry told) (c.open.ensures.reads told) holds)
+    (c.in_ok-view.ensures.behind told)
+
+pub returns-in_err-see_through-clause-damaged : goal.returns-in_err-see_through-clause-damaged
+returns-in_err-see_through-clause-damaged g c told part is stored holds =
+    let fault = same_log_fault c.from_residual-in_err-see_through.result c.in_err-see_through.field-0.0 (logs.Damaged part) c.from_residual-in_err-see_through.ensures.1 is in
+    c.in_err-see_through.ensures.damaged told part (unit_err c.in_err-see_through.field-0.0 (logs.Damaged part) fault) stored
+    (viewed c.args.number c.in_ok-view.view stored (g.D.Disk.view c.args.disk.now) (g.D.Disk.view c.open.new.disk) c.in_ok-view.ensures.number (c.in_ok-view.ensures.entry told) (c.open.ensures.reads told) holds)
+    (c.in_ok-view.ensures.behind told)
+
+pub returns-clause-masks : goal.returns-clause-masks
+returns-clause-masks g c told stored holds =
+    masks_now c.args.texts.now c.see_through.new.mask (cut stored.records c.args.point)
+    (c.in_ok-see_through.ensures.seen told c.args.texts.now stored c.in-Ok.ensures
+    (viewed c.args.number c.in_ok-view.view stored (g.D.Disk.view c.args.disk.now) (g.D.Disk.view c.open.new.disk) c.in_ok-view.ensures.number (c.in_ok-view.ensures.entry told) (c.open.ensures.reads told) holds)
+    (c.in_ok-view.ensures.behind told))

@@ -1,0 +1,13 @@
+pub mod Reading
+pub mod Logs
+pub mod Exits
+pub mod Value
+pub mod Views
+pub mod Represents
+pub mod Replies
+pub mod Resuming
+pub mod Rows
+pub mod Accepting
+pub mod Tails
+pub mod Leaving
+pub mod Opening

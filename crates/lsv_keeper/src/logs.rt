@@ -1,0 +1,153 @@
+//! The logs that connections write.
+
+ghost use Rattle.std.specs.Prelude.{◌≡◌, ◌≤◌, ℕ, false, Some, None, OnOk, IfErr};
+ghost use Rattle.lsv_iolog.specs.Represents.{Represents};
+ghost use Rattle.lsv_iolog.specs.Value.{LogValue, is_complete};
+ghost use Rattle.lsv_record.specs.Records.{IsValid};
+ghost use Rattle.lsv_keeper.specs.Logs.{Appends, Flushes, RefusesRecord, TakesRecord, log_refusal, open_logs, spare_logs, with_open};
+ghost use Rattle.lsv_keeper.specs.declared.logs.Appended.{Appended};
+ghost use Rattle.lsv_keeper.specs.declared.logs.OpenLog.{OpenLog};
+
+use lsv_base::{LogNo, NoMem, Point};
+use lsv_disk::Disk;
+use lsv_iolog::{IoLog, LogFault};
+use lsv_mask::{Mask, Prompt, Search};
+use lsv_record::Record;
+use lsv_request::Refusal;
+use std::alloc::{AllocError, Global};
+use std::collections::HashMap;
+
+/// A log that a connection writes, and the mask behind its records.
+#[derive(Drop)]
+pub struct OpenLog {
+    pub log: IoLog,
+    pub mask: Mask,
+}
+
+/// What came of a record.
+#[derive(Drop)]
+pub enum Appended {
+    /// It is staged.
+    Staged,
+    /// The log refused it, and isn't among the open ones any more, since its mask has moved on.
+    Refused(OpenLog, LogFault),
+    /// No log is open there that isn't complete.
+    NotOpen,
+}
+
+/// Open logs, by number. A look-up takes the same time however many there are.
+#[derive(Drop)]
+pub struct OpenLogs {
+    map: HashMap<u32, OpenLog>,
+}
+
+/// How a connection is refused for a fault of its log.
+pub(crate) fn log_refusal(fault: LogFault) -> Refusal
+    ensures { result ≡ log_refusal fault }
+{
+    match fault {
+        LogFault::TooLong(_) | LogFault::Full(_) => Refusal::LogFull,
+        LogFault::NoMem => Refusal::OutOfMemory,
+        _ => Refusal::DeviceFault,
+    }
+}
+
+impl OpenLogs {
+    /// No log is open. It takes no memory yet.
+    pub fn new(alloc: Global) -> Self
+        ensures { open_logs result ≡ (λ n. None) }
+    {
+        OpenLogs {
+            map: HashMap::new(alloc),
+        }
+    }
+
+    /// Room for one log more.
+    pub fn reserve(&mut self) -> Result<(), NoMem>
+        ensures same { open_logs self.new ≡ open_logs self.old }
+        ensures ok { OnOk result (1 ≤ spare_logs self.new) }
+        ensures kept { spare_logs self.old ≤ spare_logs self.new }
+    {
+        self.map.reserve(1)?;
+        Ok(())
+    }
+
+    /// A log is open under its number. There is room for one more.
+    pub fn put(&mut self, log: LogNo, its: OpenLog)
+        requires room { 1 ≤ spare_logs self.old }
+        ensures { open_logs self.new ≡ with_open log (Some its) (open_logs self.old) }
+    {
+        let _ = self.map.insert(log.get(), its);
+    }
+
+    /// Takes out the log of a number.
+    pub fn take(&mut self, log: LogNo) -> Option<OpenLog>
+        ensures taken { result ≡ open_logs self.old log }
+        ensures rest { open_logs self.new ≡ with_open log None (open_logs self.old) }
+        ensures room { spare_logs self.old ≤ spare_logs self.new }
+    {
+        self.map.remove(&log.get())
+    }
+
+    /// Covers a valid record as the log's mask says, and stages it. A log that refuses it is taken out and handed out.
+    pub fn append<H: Search>(&mut self, log: LogNo, prompt: &Prompt<H>, r: Record) -> Appended
+        requires valid { IsValid r }
+        ensures { Appends log r result (open_logs self.old) (open_logs self.new) }
+    {
+        let Some(its) = self.map.get_mut(&log.get()) else {
+            return Appended::NotOpen;
+        };
+        if its.log.is_complete() {
+            return Appended::NotOpen;
+        }
+        match its.append(prompt, r) {
+            Ok(()) => Appended::Staged,
+            Err(fault) => self.refuse(log, fault),
+        }
+    }
+
+    /// Takes out a log that refused a record for this fault.
+    fn refuse(&mut self, log: LogNo, fault: LogFault) -> Appended
+        ensures { (its : OpenLog) → open_logs self.old log ≡ Some its → (result ≡ Appended.Refused its fault) × (open_logs self.new ≡ with_open log None (open_logs self.old)) }
+    {
+        match self.take(log) {
+            Some(its) => Appended::Refused(its, fault),
+            None => Appended::NotOpen,
+        }
+    }
+
+    /// Flushes the log of a number, and answers the point that it ends at. None where it isn't open; or where it failed, and
+    /// then it isn't open any more.
+    pub fn flush<D: Disk>(&mut self, disk: &mut D, log: LogNo) -> Option<Point>
+        requires represents { D.tells → (its : OpenLog) → open_logs self.old log ≡ Some its → its.log.is_broken ≡ false → (value : LogValue) × Represents its.log value (D.view disk.old) }
+        ensures flushed { D.tells → (its : OpenLog) (value : LogValue) → open_logs self.old log ≡ Some its → Represents its.log value (D.view disk.old)
+            → Flushes log its value result (open_logs self.old) (open_logs self.new) (D.view disk.old) (D.view disk.new) }
+    {
+        let its = self.map.get_mut(&log.get())?;
+        match its.log.flush(disk) {
+            Ok(point) => Some(point),
+            Err(_) => {
+                let _ = self.take(log);
+                None
+            }
+        }
+    }
+}
+
+impl OpenLog {
+    /// Covers a valid record as the mask says, and stages it in a log that isn't complete. Where the log refuses it, its
+    /// mask alone has moved on.
+    fn append<H: Search>(&mut self, prompt: &Prompt<H>, r: Record) -> Result<(), LogFault>
+        requires valid { IsValid r }
+        requires going { is_complete self.old.log ≡ false }
+        ensures staged { OnOk result (TakesRecord self.old r self.new) }
+        ensures refused { IfErr result (λ fault. RefusesRecord self.old r fault self.new) }
+    {
+        let mut r = r;
+        self.mask.cover(prompt, &mut r);
+        match self.log.append(&r) {
+            Ok(_) => Ok(()),
+            Err(fault) => Err(fault),
+        }
+    }
+}

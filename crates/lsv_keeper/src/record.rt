@@ -1,0 +1,109 @@
+//! Records.
+
+ghost use Rattle.std.specs.Prelude.{◌≡◌, ◌≤◌, ◌<◌, ℕ, false, Some, vec_capacity, vec_len};
+ghost use Rattle.lsv_base.specs.declared.time.TimeSpec.{TimeSpec};
+ghost use Rattle.lsv_record.specs.Records.{IsValid};
+ghost use Rattle.lsv_request.specs.declared.request.Request.TheVariants as request;
+ghost use Rattle.lsv_session.specs.declared.job.Body.TheVariants as bodies;
+ghost use Rattle.lsv_session.specs.declared.job.Job.{Job};
+ghost use Rattle.lsv_machine.specs.Failures.{AsksFor};
+ghost use Rattle.lsv_machine.specs.Machine.{Machine, is_dead, log_of};
+ghost use Rattle.lsv_keeper.specs.Logs.{IsWindowFit};
+ghost use Rattle.lsv_keeper.specs.Represents.{Represents};
+ghost use Rattle.lsv_keeper.specs.Rows.{IsTold, RowGives};
+ghost use Rattle.lsv_keeper.specs.Value.{Keeps, room, sessions_of};
+ghost use Rattle.lsv_keeper.specs.Views.{view_of};
+
+use crate::Keeper;
+use crate::logs::{Appended, log_refusal};
+use crate::told::Told;
+use lsv_base::LogNo;
+use lsv_disk::Disk;
+use lsv_hook::LineWriter;
+use lsv_machine::{insert_once, log_of};
+use lsv_mask::Search;
+use lsv_msg::ClientMessage;
+use lsv_record::Record;
+use lsv_request::Refusal;
+use lsv_session::{ConnId, ConnState};
+
+/// A message as it is: the numbers of a window are of 32 bits, which only their reading shows.
+pub(crate) fn windowed(message: ClientMessage) -> ClientMessage
+    ensures same { result ≡ message }
+    ensures fits { IsWindowFit result }
+{
+    match message {
+        ClientMessage::Winsize(m) => {
+            let _rows = m.rows;
+            let _cols = m.cols;
+            ClientMessage::Winsize(m)
+        }
+        other => other,
+    }
+}
+
+impl<F: LineWriter, H: Search> Keeper<F, H> {
+    /// A valid record goes to the log that the connection writes, masked as it is behind the others, and the log waits for
+    /// its commit point. A log that doesn't take it is let go, and so is one for which memory is wanting.
+    pub(crate) fn record<D: Disk>(
+        &mut self,
+        disk: &mut D,
+        conn: ConnId,
+        state: ConnState,
+        r: Record,
+    ) -> Told
+        requires stands { D.tells → (m : Machine) × Represents (view_of self.old) (D.view disk.old) m }
+        requires room { 1 ≤ room (view_of self.old) }
+        requires state { state ≡ (sessions_of (view_of self.old)).states conn }
+        requires valid { IsValid r }
+        ensures keeps { Keeps (view_of self.old) (view_of self.new) }
+        ensures told { IsTold result }
+        ensures row { D.tells → (m : Machine) (job : Job) (now : TimeSpec) → Represents (view_of self.old) (D.view disk.old) m → job.conn ≡ conn → AsksFor (m.states conn) job.body (request.Record r)
+            → RowGives (view_of self.old) now job result m (view_of self.new) (D.view disk.old) (D.view disk.new) }
+    {
+        let Some(log) = log_of(state) else {
+            return Told::Nothing;
+        };
+        if self.waiting.reserve(1).is_err() {
+            return self.want_memory(disk, conn);
+        }
+        self.take_record(disk, conn, log, r)
+    }
+
+    /// A valid record goes to this log, which waits for its commit point then: there is room for it among the waiting.
+    fn take_record<D: Disk>(&mut self, disk: &mut D, conn: ConnId, log: LogNo, r: Record) -> Told
+        requires stands { D.tells → (m : Machine) × Represents (view_of self.old) (D.view disk.old) m }
+        requires room { 1 ≤ room (view_of self.old) }
+        requires waiting { vec_len self.old.waiting < vec_capacity self.old.waiting }
+        requires valid { IsValid r }
+        ensures keeps { Keeps (view_of self.old) (view_of self.new) }
+        ensures told { IsTold result }
+        ensures row { D.tells → (m : Machine) (job : Job) (now : TimeSpec) → Represents (view_of self.old) (D.view disk.old) m → job.conn ≡ conn → log_of (m.states conn) ≡ Some log → AsksFor (m.states conn) job.body (request.Record r)
+            → RowGives (view_of self.old) now job result m (view_of self.new) (D.view disk.old) (D.view disk.new) }
+    {
+        match self.logs.append(log, &self.prompt, r) {
+            Appended::Staged => {
+                let _ = insert_once(&mut self.waiting, log);
+                Told::Nothing
+            }
+            Appended::Refused(its, fault) => {
+                self.let_go(disk, conn, ConnState::Dead, log, its);
+                Told::Refused(log_refusal(fault))
+            }
+            Appended::NotOpen => Told::Nothing,
+        }
+    }
+
+    /// Memory is wanting: the connection is refused, and the log that it wrote let go.
+    pub(crate) fn want_memory<D: Disk>(&mut self, disk: &mut D, conn: ConnId) -> Told
+        requires stands { D.tells → (m : Machine) × Represents (view_of self.old) (D.view disk.old) m }
+        requires room { 1 ≤ room (view_of self.old) }
+        ensures keeps { Keeps (view_of self.old) (view_of self.new) }
+        ensures told { IsTold result }
+        ensures row { D.tells → (m : Machine) (job : Job) (now : TimeSpec) → Represents (view_of self.old) (D.view disk.old) m → job.conn ≡ conn → is_dead (m.states conn) ≡ false → (job.body ≡ bodies.Gone → ⊥)
+            → RowGives (view_of self.old) now job result m (view_of self.new) (D.view disk.old) (D.view disk.new) }
+    {
+        self.leave(disk, conn, ConnState::Dead);
+        Told::Refused(Refusal::OutOfMemory)
+    }
+}

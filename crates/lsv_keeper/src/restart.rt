@@ -1,0 +1,74 @@
+//! Restarts: a connection goes on with a log.
+
+ghost use Rattle.std.specs.Prelude.{◌≡◌, ◌≤◌, OnOk, IfOk, IfErr};
+ghost use Rattle.lsv_base.specs.declared.time.TimeSpec.{TimeSpec};
+ghost use Rattle.lsv_disk.specs.declared.file.FileId.{FileId};
+ghost use Rattle.lsv_request.specs.declared.request.Request.TheVariants as request;
+ghost use Rattle.lsv_session.specs.Table.{spare_owners};
+ghost use Rattle.lsv_session.specs.declared.job.Job.{Job};
+ghost use Rattle.lsv_machine.specs.Failures.{AsksFor};
+ghost use Rattle.lsv_machine.specs.Machine.{Machine};
+ghost use Rattle.lsv_keeper.specs.Logs.{spare_logs};
+ghost use Rattle.lsv_keeper.specs.Represents.{Represents};
+ghost use Rattle.lsv_keeper.specs.Resuming.{IsResumed, IsResumeFault};
+ghost use Rattle.lsv_keeper.specs.Rows.{IsTold, RowGives};
+ghost use Rattle.lsv_keeper.specs.Value.{IsReserved, Keeps, room};
+ghost use Rattle.lsv_keeper.specs.Views.{view_of};
+
+use crate::Keeper;
+use crate::logs::OpenLog;
+use crate::resume::{restart_refusal, resume_log};
+use crate::told::Told;
+use lsv_base::{LogNo, Point};
+use lsv_disk::Disk;
+use lsv_hook::LineWriter;
+use lsv_iolog::LogFault;
+use lsv_mask::Search;
+use lsv_request::{Refusal, Restart};
+use lsv_session::{ConnId, ConnState};
+
+impl<F: LineWriter, H: Search> Keeper<F, H> {
+    /// Goes on with a log that nobody writes behind its first record that ends at a point, and drops the records behind that
+    /// one; or refuses the connection.
+    pub(crate) fn restart<D: Disk>(&mut self, disk: &mut D, conn: ConnId, restart: Restart) -> Told
+        requires stands { D.tells → (m : Machine) × Represents (view_of self.old) (D.view disk.old) m }
+        requires room { 1 ≤ room (view_of self.old) }
+        ensures keeps { Keeps (view_of self.old) (view_of self.new) }
+        ensures told { IsTold result }
+        ensures row { D.tells → (m : Machine) (job : Job) (now : TimeSpec) → Represents (view_of self.old) (D.view disk.old) m → job.conn ≡ conn → AsksFor (m.states conn) job.body (request.Restart restart)
+            → RowGives (view_of self.old) now job result m (view_of self.new) (D.view disk.old) (D.view disk.new) }
+    {
+        if self.table.owner(restart.log).is_some() {
+            return self.refuse(disk, conn, Refusal::LogInUse);
+        }
+        match self.resume(disk, restart.log, restart.point) {
+            Ok(its) => {
+                self.own(conn, restart.log, its);
+                Told::Nothing
+            }
+            Err(fault) => {
+                self.leave(disk, conn, ConnState::Dead);
+                Told::Refused(restart_refusal(fault))
+            }
+        }
+    }
+
+    /// Makes room for one more log that is written, and then opens and cuts this one.
+    fn resume<D: Disk>(
+        &mut self,
+        disk: &mut D,
+        number: LogNo,
+        point: Point,
+    ) -> Result<OpenLog, LogFault>
+        ensures same { IsReserved (view_of self.old) (view_of self.new) }
+        ensures ok { OnOk result ((1 ≤ spare_owners (view_of self.new).table) × (1 ≤ spare_logs (view_of self.new).logs)) }
+        ensures resumed { D.tells → IfOk result (λ its. IsResumed number point (view_of self.old).texts its (D.view disk.old) (D.view disk.new)) }
+        ensures fault { D.tells → IfErr result (λ e. IsResumeFault number point e (D.view disk.old) (D.view disk.new)) }
+        ensures monotone { (file : FileId) → (D.view disk.old).faults file ≤ (D.view disk.new).faults file }
+    {
+        if self.reserve_log().is_err() {
+            return Err(LogFault::NoMem);
+        }
+        resume_log(self.alloc, disk, &self.prompt, &self.texts, number, point)
+    }
+}

@@ -1,0 +1,129 @@
+//! The end of a turn: its event lines, and its commit points.
+
+ghost use Rattle.std.specs.Prelude.{◌≡◌, ◌≤◌, ◌+◌, ◌*◌, ℕ, [], ◌∷◌, length, Some};
+ghost use Rattle.lsv_session.specs.declared.connection.ConnId.{ConnId};
+ghost use Rattle.lsv_machine.specs.Machine.{Machine};
+ghost use Rattle.lsv_keeper.specs.Replies.{room_in};
+ghost use Rattle.lsv_keeper.specs.Represents.{Represents};
+ghost use Rattle.lsv_keeper.specs.Tails.{LinesGive, LogGives, LogsGive, RefusedGive, none_waits};
+ghost use Rattle.lsv_keeper.specs.Value.{SameSet, room, un_noted};
+ghost use Rattle.lsv_keeper.specs.Views.{view_of};
+
+use crate::Keeper;
+use crate::told::{Told, put_point, put_replies};
+use lsv_base::LogNo;
+use lsv_bundle::BundleFault;
+use lsv_disk::Disk;
+use lsv_hook::LineWriter;
+use lsv_mask::Search;
+use lsv_request::Refusal;
+use lsv_session::{ConnId, ConnState, Reply};
+use std::mem;
+
+impl<F: LineWriter, H: Search> Keeper<F, H> {
+    /// The event lines of the turn become lines of the event log. Where it fails, each connection that had one and isn't
+    /// shut is refused, in the order of their first ones.
+    pub(crate) fn flush_lines<D: Disk>(&mut self, disk: &mut D, out: &mut Vec<Reply>)
+        requires stands { D.tells → (m : Machine) × Represents (view_of self.old) (D.view disk.old) m }
+        requires places { length (view_of self.old).noting ≤ room (view_of self.old) }
+        requires replies { 2 * length (view_of self.old).noting ≤ room_in out.old }
+        ensures set { SameSet (view_of self.old) (view_of self.new) }
+        ensures none { (view_of self.new).noting ≡ [] }
+        ensures fewer { length (view_of self.new).waiting ≤ length (view_of self.old).waiting }
+        ensures places { room (view_of self.old) ≤ room (view_of self.new) + length (view_of self.old).noting }
+        ensures room { room_in out.old ≤ room_in out.new + 2 * length (view_of self.old).noting }
+        ensures lines { D.tells → (m : Machine) → Represents (view_of self.old) (D.view disk.old) m
+            → LinesGive (view_of self.old) m out.old.items out.new.items (view_of self.new) (D.view disk.old) (D.view disk.new) }
+    {
+        let Err(fault) = self.events.flush(disk) else {
+            self.noting.clear();
+            return;
+        };
+        match fault {
+            BundleFault::Broken => self.noting.clear(),
+            _ => self.lose_lines(disk, out),
+        }
+    }
+
+    /// Each connection that had an event line and isn't shut is refused.
+    fn lose_lines<D: Disk>(&mut self, disk: &mut D, out: &mut Vec<Reply>)
+        requires stands { D.tells → (m : Machine) × Represents (un_noted (view_of self.old)) (D.view disk.old) m }
+        requires places { length (view_of self.old).noting ≤ room (view_of self.old) }
+        requires replies { 2 * length (view_of self.old).noting ≤ room_in out.old }
+        ensures set { SameSet (view_of self.old) (view_of self.new) }
+        ensures none { (view_of self.new).noting ≡ [] }
+        ensures fewer { length (view_of self.new).waiting ≤ length (view_of self.old).waiting }
+        ensures places { room (view_of self.old) ≤ room (view_of self.new) + length (view_of self.old).noting }
+        ensures room { room_in out.old ≤ room_in out.new + 2 * length (view_of self.old).noting }
+        ensures refused { D.tells → (m : Machine) → Represents (un_noted (view_of self.old)) (D.view disk.old) m
+            → RefusedGive (view_of self.old).noting (view_of self.old) m out.old.items out.new.items (view_of self.new) (D.view disk.old) (D.view disk.new) }
+    {
+        let noting = mem::replace(&mut self.noting, Vec::new(self.alloc));
+        for conn in noting.iter() {
+            self.lose_line(disk, *conn, out);
+        }
+    }
+
+    /// A connection whose line was lost is refused, where it isn't shut.
+    fn lose_line<D: Disk>(&mut self, disk: &mut D, conn: ConnId, out: &mut Vec<Reply>)
+        requires stands { D.tells → (m : Machine) × Represents (view_of self.old) (D.view disk.old) m }
+        requires places { 1 ≤ room (view_of self.old) }
+        requires replies { 2 ≤ room_in out.old }
+        ensures set { SameSet (view_of self.old) (view_of self.new) }
+        ensures noting { (view_of self.new).noting ≡ (view_of self.old).noting }
+        ensures places { room (view_of self.old) ≤ room (view_of self.new) + 1 }
+        ensures fewer { length (view_of self.new).waiting ≤ length (view_of self.old).waiting }
+        ensures room { room_in out.old ≤ room_in out.new + 2 }
+        ensures refused { D.tells → (m : Machine) → Represents (view_of self.old) (D.view disk.old) m
+            → RefusedGive (conn ∷ []) (view_of self.old) m out.old.items out.new.items (view_of self.new) (D.view disk.old) (D.view disk.new) }
+    {
+        if let ConnState::Dead = self.table.state(conn) {
+            return;
+        }
+        self.leave(disk, conn, ConnState::Dead);
+        put_replies(self.alloc, out, conn, Told::Refused(Refusal::DeviceFault));
+    }
+
+    /// The logs that took a record in this turn have their commit points, by rising number.
+    pub(crate) fn flush_logs<D: Disk>(&mut self, disk: &mut D, out: &mut Vec<Reply>)
+        requires stands { D.tells → (m : Machine) × Represents (view_of self.old) (D.view disk.old) m }
+        requires places { length (view_of self.old).waiting ≤ room (view_of self.old) }
+        requires replies { 2 * length (view_of self.old).waiting ≤ room_in out.old }
+        ensures set { SameSet (view_of self.old) (view_of self.new) }
+        ensures none { (view_of self.new).waiting ≡ [] }
+        ensures noting { (view_of self.new).noting ≡ (view_of self.old).noting }
+        ensures logs { D.tells → (m : Machine) → Represents (view_of self.old) (D.view disk.old) m
+            → LogsGive m.waiting (view_of self.old) m out.old.items out.new.items (view_of self.new) (D.view disk.old) (D.view disk.new) }
+    {
+        let waiting = mem::replace(&mut self.waiting, Vec::new(self.alloc));
+        for number in waiting.iter() {
+            self.flush_log(disk, *number, out);
+        }
+    }
+
+    /// The writer of a log has its commit point; or it is refused, where the log failed, which then is let go.
+    fn flush_log<D: Disk>(&mut self, disk: &mut D, number: LogNo, out: &mut Vec<Reply>)
+        requires stands { D.tells → (m : Machine) × Represents (view_of self.old) (D.view disk.old) m }
+        requires none_waits { (view_of self.old).waiting ≡ [] }
+        requires places { 1 ≤ room (view_of self.old) }
+        requires replies { 2 ≤ room_in out.old }
+        ensures set { SameSet (view_of self.old) (view_of self.new) }
+        ensures waiting { (view_of self.new).waiting ≡ [] }
+        ensures noting { (view_of self.new).noting ≡ (view_of self.old).noting }
+        ensures places { room (view_of self.old) ≤ room (view_of self.new) + 1 }
+        ensures room { room_in out.old ≤ room_in out.new + 2 }
+        ensures log { D.tells → (m : Machine) (k : ConnId) → Represents (view_of self.old) (D.view disk.old) (none_waits m) → m.owner number ≡ Some k
+            → LogGives number (view_of self.old) m out.old.items out.new.items (view_of self.new) (D.view disk.old) (D.view disk.new) }
+    {
+        let Some(conn) = self.table.owner(number) else {
+            return;
+        };
+        match self.logs.flush(disk, number) {
+            Some(point) => put_point(out, conn, point),
+            None => {
+                self.release(conn, ConnState::Dead, number);
+                put_replies(self.alloc, out, conn, Told::Refused(Refusal::DeviceFault));
+            }
+        }
+    }
+}
