@@ -2,9 +2,6 @@
 //! device calls fail and wherever the machine stops.
 #![tactic(auto)]
 
-mod accept;
-mod events;
-mod exit;
 mod fault;
 mod keeper;
 mod laws;
@@ -13,13 +10,10 @@ mod logs;
 mod open;
 mod own;
 mod record;
-mod report;
 mod restart;
 mod resume;
 mod tail;
 mod told;
-mod turn;
-mod work;
 
 pub use fault::StoreFault;
 pub use keeper::Keeper;
