@@ -4,17 +4,12 @@ pub mod Numbering
 pub mod Acting
 pub mod Standing
 pub mod Owning
-pub mod AddingLines
 pub mod Asking
-pub mod Telling
 pub mod TailPieces
 pub mod Departing
 pub mod Leaving
 pub mod Drawing
 pub mod Beginning
-pub mod Accepting
-pub mod Stopping
-pub mod EventKinds
 pub mod Opens
 pub mod Masking
 pub mod Sizes

@@ -7,7 +7,6 @@ pub mod Represents
 pub mod Replies
 pub mod Resuming
 pub mod Rows
-pub mod Accepting
 pub mod Tails
 pub mod Leaving
 pub mod Opening

@@ -1,5 +1,8 @@
 -- The point is found, and then the files are cut.
-use Rattle.std.proofs.Common.{◌≡◌, ◌≢◌, ◌≤◌, ◌<◌, ◌^◌, ◌-◌, inl, inr, ℕ, true, false, Option, Some, None, Result, Err, IsErrOf, sym, ◌∙◌, ap, subst}
+use Rattle.std.specs.Prelude.{nat_lt}
+use Rattle.lsv_disk.specs.declared.file.FileId.{FileId}
+use Rattle.lsv_record.specs.declared.tally.Tally.{Tally}
+use Rattle.std.proofs.Common.{◌≡◌, ◌≢◌, ◌≤◌, ◌<◌, ◌^◌, ◌-◌, inl, inr, ℕ, true, false, List, [], Option, Some, None, Result, Ok, Err, OnOk, IsErrOf, refl, sym, ◌∙◌, ap, subst, arith}
 use Rattle.lsv_disk.specs.declared.file.Owner.{Owner}
 use Rattle.lsv_disk.specs.Throughout.{Throughout, CallsAtMost}
 use Rattle.lsv_disk.specs.View.{DiskView, HasCause, HasOwnCause}
@@ -23,7 +26,7 @@ use Rattle.lsv_iolog.specs.Inner.Cutting.{IsFound, IsCutTo, entry_behind}
 use Rattle.lsv_iolog.proofs.Flushing.{idle_moment, either_later, on_ok_always}
 use Rattle.lsv_iolog.proofs.Finishing.{going_exit}
 use Rattle.lsv_iolog.proofs.Results.{same_log_fault}
-use Rattle.lsv_iolog.proofs.Scans.{none_there}
+use Rattle.lsv_iolog.proofs.Scans.{none_there, if_some_at}
 use Rattle.lsv_iolog.proofs.Dropping.{read_stays, read_moment, none_left, on_ok_five, some_first, cut_later, cut_moment, cut_represents, cuts_are, drops_is, has_body}
 use Rattle.lsv_iolog.proofs.log.IoLog.cut_at.Goals as goal
 
