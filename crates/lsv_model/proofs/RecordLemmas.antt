@@ -1,14 +1,14 @@
 -- Records, and the points at which they end.
-use Rattle.std.proofs.Common.{◌≡◌, ◌≤◌, ◌+◌, ◌-◌, ℕ, suc, List, [], ◌∷◌, ◌++◌, take, refl, subst, arith, Option, Some, None}
-use Rattle.std.specs.Prelude.{◌==◌, nat_lt, Bool, true, false, if◌then◌else◌}
+use Rattle.std.proofs.Common.{◌≡◌, ◌≤◌, ◌+◌, ◌-◌, ℕ, suc, List, [], ◌∷◌, ◌++◌, take, refl, ◌∙◌, ap, subst, arith, Option, Some, None}
+use Rattle.std.specs.Prelude.{◌==◌, ◌&&◌, nat_lt, Bool, true, false, if◌then◌else◌}
 use Rattle.std.proofs.lemmas.Bool.Decides.{nat_tests}
-use Rattle.lsv_record.specs.Layout.{IsLayout}
+use Rattle.lsv_record.specs.Layout.{IsLayout, stream_in}
 use Rattle.lsv_record.specs.Points.{first, one_more}
-use Rattle.lsv_record.specs.Records.{delay_of, elapsed}
+use Rattle.lsv_record.specs.Records.{delay_of, elapsed, timing_of}
 use Rattle.lsv_record.specs.declared.laid.Laid.{Laid}
 use Rattle.lsv_record.specs.declared.records.Record.{Record}
 use Rattle.lsv_record.specs.declared.records.Record.TheVariants.{Io, Winsize, Suspend}
-use Rattle.lsv_machine.specs.Work.{files_take}
+use Rattle.lsv_machine.specs.Work.{files_take, fits_file}
 use Rattle.lsv_model.specs.Inner.{fits_files}
 
 pub elapsed_push : (rs : List Record) (r : Record) → elapsed (rs ++ r ∷ []) ≡ elapsed rs + delay_of r
@@ -39,6 +39,8 @@ first_ends (r ∷ rs) point n h = go (delay_of r == point) refl (nat_lt point (d
         subst (λ k. Ends (r ∷ rs) point k) z (record { ends = omega (arith, e.ends, below); within = omega (arith, e.within, below) })
 
 pub layout_fits : (l : Laid) (records : List Record) (r : Record) → IsLayout l (records ++ r ∷ []) → fits_files l r ≡ files_take records r
-layout_fits l records (Io delay stream bytes) h = rw (h.timing, h.streams stream) refl
+layout_fits l records (Io delay stream bytes) h =
+    ap (λ (t : List ℕ). fits_file t && fits_file (stream_in stream l)) h.timing
+    ∙ ap (λ (t : List ℕ). fits_file (timing_of (records ++ Io delay stream bytes ∷ [])) && fits_file t) (h.streams stream)
 layout_fits l records (Winsize delay rows cols) h = rw h.timing refl
 layout_fits l records (Suspend delay signal) h = rw h.timing refl
