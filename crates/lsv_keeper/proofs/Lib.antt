@@ -35,3 +35,9 @@ pub mod Viewing
 pub mod ResumedRows
 pub mod Looking
 pub mod Opening
+pub mod AddingLines
+pub mod Telling
+pub mod Reporting
+pub mod Accepting
+pub mod Stopping
+pub mod EventKinds

@@ -10,3 +10,4 @@ pub mod Rows
 pub mod Tails
 pub mod Leaving
 pub mod Opening
+pub mod Accepting

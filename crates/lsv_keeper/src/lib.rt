@@ -2,6 +2,8 @@
 //! device calls fail and wherever the machine stops.
 #![tactic(auto)]
 
+mod events;
+mod exit;
 mod fault;
 mod keeper;
 mod laws;
@@ -10,6 +12,7 @@ mod logs;
 mod open;
 mod own;
 mod record;
+mod report;
 mod restart;
 mod resume;
 mod tail;

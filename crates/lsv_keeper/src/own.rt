@@ -4,7 +4,7 @@ ghost use Rattle.std.specs.Prelude.{◌≡◌, ◌≤◌, None, Some, OnOk};
 ghost use Rattle.lsv_session.specs.Table.{room_for, spare_owners};
 ghost use Rattle.lsv_session.specs.declared.connection.ConnState.TheVariants.{Running};
 ghost use Rattle.lsv_keeper.specs.Logs.{spare_logs};
-ghost use Rattle.lsv_keeper.specs.Value.{IsReserved, Keeps, Owns, room, sessions_of};
+ghost use Rattle.lsv_keeper.specs.Value.{IsReserved, Keeps, Owns, owed, room, sessions_of};
 ghost use Rattle.lsv_keeper.specs.Views.{view_of};
 
 use crate::Keeper;
@@ -30,6 +30,7 @@ impl<F: LineWriter, H: Search> Keeper<F, H> {
         requires logs { 1 ≤ spare_logs (view_of self.old).logs }
         requires room { room_for ((sessions_of (view_of self.old)).states conn) (Running (Some number)) ≤ room (view_of self.old) }
         ensures keeps { Keeps (view_of self.old) (view_of self.new) }
+        ensures owed { owed (view_of self.new) ≡ owed (view_of self.old) }
         ensures owns { (sessions_of (view_of self.old)).owner number ≡ None → Owns conn number its (view_of self.old) (view_of self.new) }
     {
         let _ = self.table.claim(number, conn);

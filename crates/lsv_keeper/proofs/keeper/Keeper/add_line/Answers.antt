@@ -1,0 +1,70 @@
+-- The line is written and added, and then its connection is noted, for which there is room.
+use Rattle.std.proofs.Common.{◌≡◌, ◌≤◌, ◌<◌, ◌+◌, ◌++◌, ℕ, List, true, length, vec_capacity, vec_len, refl, sym, ◌∙◌, ap, subst, arith}
+use Rattle.lsv_event.specs.Lines.{line_of}
+use Rattle.lsv_request.specs.declared.refusal.Refusal.{Refusal}
+use Rattle.lsv_session.specs.declared.connection.ConnId.{ConnId}
+use Rattle.lsv_machine.specs.Machine.{Machine, note}
+use Rattle.lsv_machine.specs.Work.{line_fits}
+use Rattle.lsv_keeper.specs.Represents.{Represents}
+use Rattle.lsv_keeper.specs.Rows.{LineFault}
+use Rattle.lsv_keeper.specs.Value.{KeeperView}
+use Rattle.lsv_keeper.specs.Views.{view_of}
+use Rattle.lsv_keeper.proofs.AddingLines.{line_noted, note_longer}
+use Rattle.lsv_keeper.proofs.Frames.{Laws, beside_none}
+use Rattle.lsv_keeper.proofs.Numbering.{numbers_fit}
+use Rattle.lsv_keeper.proofs.Owning.{on_ok}
+use Rattle.lsv_keeper.proofs.Reporting.{if_err_as, ok_of}
+use Rattle.lsv_keeper.proofs.keeper.Keeper.add_line.Goals as goal
+
+pub returns-in_default-clause-beside : goal.returns-in_default-clause-beside
+returns-in_default-clause-beside g c told m at =
+    let v : KeeperView = view_of c.args.self.now in
+    let disk = c.args.disk.now in
+    beside_none v.lane v.lanes _ (g.D.Disk.view disk) (record { reads_itself = g.met.D.Disk.reads_itself told disk; is_now = g.met.D.Disk.is_now told disk; only_now = g.met.D.Disk.only_now told disk }) (numbers_fit v (g.D.Disk.view disk) m at)
+
+pub returns-then-is_err-clause-beside : goal.returns-then-is_err-clause-beside
+returns-then-is_err-clause-beside g c told m at =
+    let v : KeeperView = view_of c.args.self.now in
+    let disk = c.args.disk.now in
+    beside_none v.lane v.lanes _ (g.D.Disk.view disk) (record { reads_itself = g.met.D.Disk.reads_itself told disk; is_now = g.met.D.Disk.is_now told disk; only_now = g.met.D.Disk.only_now told disk }) (numbers_fit v (g.D.Disk.view disk) m at)
+
+pub returns-in_err-stage_line-clause-beside : goal.returns-in_err-stage_line-clause-beside
+returns-in_err-stage_line-clause-beside g c told m at = c.stage_line.ensures.beside told (view_of c.args.self.now) m refl refl at
+
+pub returns-in_err-stage_line-clause-refused : goal.returns-in_err-stage_line-clause-refused
+returns-in_err-stage_line-clause-refused g c told =
+    let v : KeeperView = view_of c.args.self.now in
+    let old = g.D.Disk.view c.args.disk.now in
+    let new = g.D.Disk.view c.stage_line.new.disk in
+    let line_is : c.as_slice.result.now ≡ line_of v.kind c.args.event.now = c.as_slice.ensures ∙ c.in-Ok.ensures in
+    if_err_as _ c.from_residual.result c.in_err-stage_line.field-0.0 c.from_residual.ensures.1 (λ m at.
+    let r = c.in_err-stage_line.ensures.refused told v m refl refl at in (
+      subst (λ (x : List ℕ). LineFault v.lane x m c.in_err-stage_line.field-0.0 old new) line_is r.0,
+      subst (λ (ns : List ConnId). Represents (record v { events = c.stage_line.new.events; noting = ns }) new m) (sym c.reserve.ensures.items) r.1,
+    ))
+
+pub returns-clause-keeps : goal.returns-clause-keeps
+returns-clause-keeps g c =
+    let room : vec_len c.reserve.new.self + 1 ≤ vec_capacity c.reserve.new.self = on_ok _ c.reserve.result (ok_of c.reserve.result c.is_err.result c.if-is_err.false c.is_err.ensures.negation) c.reserve.ensures.ok in
+    let noted : c.note.new.conns.items ≡ note c.args.conn c.reserve.new.self.items = on_ok _ c.note.result (c.note.ensures.room (omega arith)) c.note.ensures.noted in
+    let long = ap length (noted ∙ ap (note c.args.conn) c.reserve.ensures.items) in
+    let most = note_longer c.args.conn c.args.self.now.noting.items in
+    record { lane = refl; lanes = refl; log_exit = refl; kind = refl; texts = refl; room_is = omega arith; owed = omega (arith, long, most) }
+
+pub returns-clause-beside : goal.returns-clause-beside
+returns-clause-beside g c told m at = c.stage_line.ensures.beside told (view_of c.args.self.now) m refl refl at
+
+pub returns-clause-added : goal.returns-clause-added
+returns-clause-added g c told m at =
+    let v : KeeperView = view_of c.args.self.now in
+    let new = g.D.Disk.view c.stage_line.new.disk in
+    let room : vec_len c.reserve.new.self + 1 ≤ vec_capacity c.reserve.new.self = on_ok _ c.reserve.result (ok_of c.reserve.result c.is_err.result c.if-is_err.false c.is_err.ensures.negation) c.reserve.ensures.ok in
+    let noted : c.note.new.conns.items ≡ note c.args.conn c.reserve.new.self.items = on_ok _ c.note.result (c.note.ensures.room (omega arith)) c.note.ensures.noted in
+    let line_is : c.as_slice.result.now ≡ line_of v.kind c.args.event.now = c.as_slice.ensures ∙ c.in-Ok.ensures in
+    let r = c.in_ok-stage_line.ensures.added told v m refl refl at in
+    let its : Represents (record v { events = c.stage_line.new.events; noting = note c.args.conn v.noting }) new (record m { fresh = m.fresh ++ c.as_slice.result.now; noting = note c.args.conn m.noting }) =
+    line_noted (record v { events = c.stage_line.new.events }) new (record m { fresh = m.fresh ++ c.as_slice.result.now }) c.args.conn c.in_ok-stage_line.ensures.whole r.1 in (
+      subst (λ (x : List ℕ). line_fits x m ≡ true) line_is r.0,
+      subst (λ (ns : List ConnId). Represents (record v { events = c.stage_line.new.events; noting = ns }) new (record m { fresh = m.fresh ++ line_of v.kind c.args.event.now; noting = note c.args.conn m.noting })) (sym (noted ∙ ap (note c.args.conn) c.reserve.ensures.items))
+          (subst (λ (x : List ℕ). Represents (record v { events = c.stage_line.new.events; noting = note c.args.conn v.noting }) new (record m { fresh = m.fresh ++ x; noting = note c.args.conn m.noting })) line_is its),
+    )

@@ -1,0 +1,172 @@
+use Rattle.std.proofs.Common.{◌≡◌, ◌∙◌, ℕ, None, Some, ap, arith, inl, refl, subst, sym}
+use Rattle.std.specs.Prelude.{Err, false, true}
+use Rattle.lsv_disk.specs.View.{DiskView, Image, IsCrashImage}
+use Rattle.lsv_info.specs.Layout.{exit_text}
+use Rattle.lsv_iolog.specs.Recovered.{Replays}
+use Rattle.lsv_iolog.specs.Represents.{Represents}
+use Rattle.lsv_iolog.specs.Value.{LogValue, bare, finished, is_complete}
+use Rattle.lsv_iolog.specs.declared.fault.LogFault.{LogFault}
+use Rattle.lsv_iolog.specs.declared.fault.LogFault.TheVariants as faults
+use Rattle.lsv_iolog.proofs.Representing.{every_image}
+use Rattle.lsv_request.specs.declared.refusal.Refusal.{Refusal}
+use Rattle.lsv_request.specs.declared.refusal.Refusal.TheVariants as refusals
+use Rattle.lsv_request.specs.declared.request.Request.TheVariants as request
+use Rattle.lsv_session.specs.declared.connection.ConnState.TheVariants.{Dead}
+use Rattle.lsv_session.specs.declared.job.Job.{Job}
+use Rattle.lsv_machine.specs.Machine.{Machine}
+use Rattle.lsv_keeper.specs.Leaving.{Departs, TakenOut}
+use Rattle.lsv_keeper.specs.Represents as keepers
+use Rattle.lsv_keeper.specs.Rows.{Left, RowGives}
+use Rattle.lsv_keeper.specs.declared.logs.OpenLog.{OpenLog}
+use Rattle.lsv_keeper.specs.Value.{KeeperView, log_in, sessions_of}
+use Rattle.lsv_keeper.specs.Views.{view_of}
+use Rattle.lsv_keeper.specs.declared.told.Told.TheVariants as told
+use Rattle.lsv_keeper.proofs.Departing.{departs_keeps, departs_owed, room_one, value_of}
+use Rattle.lsv_keeper.proofs.ExitEnds.{EndsLog, closed_ones, departs_from, keeps_from, keeps_line, log_failed, log_line_refused, log_not_ended, log_told, stands_told, unended_out}
+use Rattle.lsv_keeper.proofs.Frames.{Laws}
+use Rattle.lsv_keeper.proofs.Opens.{one_open}
+use Rattle.lsv_keeper.proofs.Refusing.{keeps_same, written_open}
+use Rattle.lsv_keeper.proofs.keeper.Keeper.end_log.Goals as goal
+
+pub returns-in_default-clause-row : goal.returns-in_default-clause-row
+returns-in_default-clause-row g c told_is m job at is state asks =
+    absurd (written_open (view_of c.args.self.now) (g.D.Disk.view c.args.disk.now) m c.args.conn c.args.log at state (λ its here. let e : None ≡ Some its = sym c.in_default.is ∙ c.take.ensures.taken ∙ here in absurd (cc)))
+
+pub release-requires : goal.release-requires
+release-requires g c = record { room = let x = room_one ((sessions_of (view_of c.args.self.now)).states c.args.conn) Dead in let y = c.requires.room in omega arith }
+
+pub returns-then-is_complete-clause-row : goal.returns-then-is_complete-clause-row
+returns-then-is_complete-clause-row g c told_is m job at is state asks =
+    let v : KeeperView = view_of c.args.self.now in
+    let here : log_in v c.args.log ≡ Some c.in-Some.its = sym c.in-Some.ensures.taken in
+    absurd (written_open v (g.D.Disk.view c.args.disk.now) m c.args.conn c.args.log at state
+    (λ o there. subst (λ (x : OpenLog). is_complete x.log ≡ true) (one_open (log_in v) c.args.log c.in-Some.its o here there) (sym c.is_complete.ensures ∙ c.if-is_complete.true)))
+
+pub finish-requires-clause-represents : goal.finish-requires-clause-represents
+finish-requires-clause-represents g c told_is whole =
+    let (m, at) = c.requires.stands told_is in
+    value_of (view_of c.args.self.now) (g.D.Disk.view c.args.disk.now) m c.args.log c.in-Some.its at (sym c.in-Some.ensures.taken)
+
+pub returns-in-Ok-exit_line-clause-keeps : goal.returns-in-Ok-exit_line-clause-keeps
+returns-in-Ok-exit_line-clause-keeps g c =
+    let v1 : KeeperView = view_of c.release.new.self in
+    let departs : Departs (Some c.args.log) c.args.conn Dead (view_of c.args.self.now) v1 = departs_from (view_of c.args.self.now) v1 c.take.new.self (Some c.args.log) c.args.conn Dead c.release.ensures.departs in
+    keeps_line (view_of c.args.self.now) v1 (view_of c.exit_line.new.self) (departs_keeps (Some c.args.log) c.args.conn Dead (view_of c.args.self.now) v1 departs c.release.ensures.room)
+    (departs_owed (Some c.args.log) c.args.conn Dead (view_of c.args.self.now) v1 departs) c.exit_line.ensures.keeps c.exit_line.ensures.same
+
+pub returns-in-Ok-exit_line-clause-row : goal.returns-in-Ok-exit_line-clause-row
+returns-in-Ok-exit_line-clause-row g c told_is m job at is state asks =
+    let v : KeeperView = view_of c.args.self.now in
+    let old : DiskView = g.D.Disk.view c.args.disk.now in
+    let mid : DiskView = g.D.Disk.view c.finish.new.disk in
+    let laws : Laws old = record { reads_itself = g.met.D.Disk.reads_itself told_is c.args.disk.now; is_now = g.met.D.Disk.is_now told_is c.args.disk.now; only_now = g.met.D.Disk.only_now told_is c.args.disk.now } in
+    let laws' : Laws mid = record { reads_itself = g.met.D.Disk.reads_itself told_is c.finish.new.disk; is_now = g.met.D.Disk.is_now told_is c.finish.new.disk; only_now = g.met.D.Disk.only_now told_is c.finish.new.disk } in
+    let its : Job = record { conn = c.args.conn; body = job.body } in
+    let same_job : its ≡ job = λ i. record { conn = sym is i; body = job.body } in
+    let here : log_in v c.args.log ≡ Some c.in-Some.its = sym c.in-Some.ensures.taken in
+    let v1 : KeeperView = view_of c.release.new.self in
+    let v2 : KeeperView = view_of c.exit_line.new.self in
+    let new : DiskView = g.D.Disk.view c.exit_line.new.disk in
+    let ends : EndsLog c.in-Some.its.log (exit_text c.args.exit) old mid = record { moments = λ value rep. c.finish.ensures.any_moment told_is value rep; monotone = c.finish.ensures.cause.monotone; room = c.in-Ok.ensures.fits } in
+    let departs : Departs (Some c.args.log) c.args.conn Dead v v1 = departs_from v v1 c.take.new.self (Some c.args.log) c.args.conn Dead c.release.ensures.departs in
+    let closed = closed_ones v v1 c.take.new.self c.args.log c.release.ensures.logs c.take.ensures.rest in
+    let all : (image : Image) → IsCrashImage mid image → (value : LogValue) → Represents c.in-Some.its.log value old → Replays image c.in-Some.its.log.number (Some (finished value (exit_text c.args.exit))) =
+    (λ image left value rep. subst (λ (n : ℕ). Replays image n (Some (finished value (exit_text c.args.exit)))) c.finish.ensures.counts.number
+    (every_image c.finish.new.self (bare (finished value (exit_text c.args.exit))) mid (c.in-Ok.ensures.represents told_is value rep) image left)) in
+    let stands = stands_told v v1 old mid m c.args.log c.args.now its c.args.exit c.in-Some.its laws laws' at asks state here ends departs closed all in
+    subst (λ (j : Job). RowGives v c.args.now j (told.Finished c.in-Ok.point) m v2 old new) same_job
+    (log_told v v1 old mid m c.args.log c.args.now its c.args.exit c.in-Some.its laws laws' at asks state here ends departs closed v2 new c.in-Ok.point all c.in-Ok.ensures.elapsed
+    (c.exit_line.ensures.beside told_is _ stands) (λ y rep. c.in-Ok-exit_line.ensures.added told_is y rep))
+
+pub returns-in-Ok-clause-keeps : goal.returns-in-Ok-clause-keeps
+returns-in-Ok-clause-keeps g c =
+    let v1 : KeeperView = view_of c.release.new.self in
+    let departs : Departs (Some c.args.log) c.args.conn Dead (view_of c.args.self.now) v1 = departs_from (view_of c.args.self.now) v1 c.take.new.self (Some c.args.log) c.args.conn Dead c.release.ensures.departs in
+    keeps_line (view_of c.args.self.now) v1 (view_of c.exit_line.new.self) (departs_keeps (Some c.args.log) c.args.conn Dead (view_of c.args.self.now) v1 departs c.release.ensures.room)
+    (departs_owed (Some c.args.log) c.args.conn Dead (view_of c.args.self.now) v1 departs) c.exit_line.ensures.keeps c.exit_line.ensures.same
+
+pub returns-in-Ok-clause-row : goal.returns-in-Ok-clause-row
+returns-in-Ok-clause-row g c told_is m job at is state asks =
+    let v : KeeperView = view_of c.args.self.now in
+    let old : DiskView = g.D.Disk.view c.args.disk.now in
+    let mid : DiskView = g.D.Disk.view c.finish.new.disk in
+    let laws : Laws old = record { reads_itself = g.met.D.Disk.reads_itself told_is c.args.disk.now; is_now = g.met.D.Disk.is_now told_is c.args.disk.now; only_now = g.met.D.Disk.only_now told_is c.args.disk.now } in
+    let laws' : Laws mid = record { reads_itself = g.met.D.Disk.reads_itself told_is c.finish.new.disk; is_now = g.met.D.Disk.is_now told_is c.finish.new.disk; only_now = g.met.D.Disk.only_now told_is c.finish.new.disk } in
+    let its : Job = record { conn = c.args.conn; body = job.body } in
+    let same_job : its ≡ job = λ i. record { conn = sym is i; body = job.body } in
+    let here : log_in v c.args.log ≡ Some c.in-Some.its = sym c.in-Some.ensures.taken in
+    let v1 : KeeperView = view_of c.release.new.self in
+    let v2 : KeeperView = view_of c.exit_line.new.self in
+    let new : DiskView = g.D.Disk.view c.exit_line.new.disk in
+    let ends : EndsLog c.in-Some.its.log (exit_text c.args.exit) old mid = record { moments = λ value rep. c.finish.ensures.any_moment told_is value rep; monotone = c.finish.ensures.cause.monotone; room = c.in-Ok.ensures.fits } in
+    let departs : Departs (Some c.args.log) c.args.conn Dead v v1 = departs_from v v1 c.take.new.self (Some c.args.log) c.args.conn Dead c.release.ensures.departs in
+    let closed = closed_ones v v1 c.take.new.self c.args.log c.release.ensures.logs c.take.ensures.rest in
+    let all : (image : Image) → IsCrashImage mid image → (value : LogValue) → Represents c.in-Some.its.log value old → Replays image c.in-Some.its.log.number (Some (finished value (exit_text c.args.exit))) =
+    (λ image left value rep. subst (λ (n : ℕ). Replays image n (Some (finished value (exit_text c.args.exit)))) c.finish.ensures.counts.number
+    (every_image c.finish.new.self (bare (finished value (exit_text c.args.exit))) mid (c.in-Ok.ensures.represents told_is value rep) image left)) in
+    let stands = stands_told v v1 old mid m c.args.log c.args.now its c.args.exit c.in-Some.its laws laws' at asks state here ends departs closed all in
+    subst (λ (j : Job). RowGives v c.args.now j (told.Refused c.in-Err-exit_line.why) m v2 old new) same_job
+    (log_line_refused v v1 old mid m c.args.log c.args.now its c.args.exit c.in-Some.its laws laws' at asks state here ends departs closed v2 new c.in-Err-exit_line.why all
+    (c.exit_line.ensures.beside told_is _ stands) (λ y rep. c.in-Err-exit_line.ensures.refused told_is y rep))
+
+pub returns-in-Disk-clause-keeps : goal.returns-in-Disk-clause-keeps
+returns-in-Disk-clause-keeps g c =
+    let v : KeeperView = view_of c.args.self.now in
+    let v1 : KeeperView = view_of c.release-in-Disk.new.self in
+    departs_keeps (Some c.args.log) c.args.conn Dead v v1 (departs_from v v1 c.take.new.self (Some c.args.log) c.args.conn Dead c.release-in-Disk.ensures.departs) c.release-in-Disk.ensures.room
+
+pub returns-in-Disk-clause-row : goal.returns-in-Disk-clause-row
+returns-in-Disk-clause-row g c told_is m job at is state asks =
+    let v : KeeperView = view_of c.args.self.now in
+    let v1 : KeeperView = view_of c.release-in-Disk.new.self in
+    let old : DiskView = g.D.Disk.view c.args.disk.now in
+    let mid : DiskView = g.D.Disk.view c.finish.new.disk in
+    let laws : Laws old = record { reads_itself = g.met.D.Disk.reads_itself told_is c.args.disk.now; is_now = g.met.D.Disk.is_now told_is c.args.disk.now; only_now = g.met.D.Disk.only_now told_is c.args.disk.now } in
+    let laws' : Laws mid = record { reads_itself = g.met.D.Disk.reads_itself told_is c.finish.new.disk; is_now = g.met.D.Disk.is_now told_is c.finish.new.disk; only_now = g.met.D.Disk.only_now told_is c.finish.new.disk } in
+    let its : Job = record { conn = c.args.conn; body = job.body } in
+    let same_job : its ≡ job = λ i. record { conn = sym is i; body = job.body } in
+    let here : log_in v c.args.log ≡ Some c.in-Some.its = sym c.in-Some.ensures.taken in
+    let failed : c.finish.result ≡ Err faults.Disk = c.in-Err.is ∙ ap (λ (f : LogFault). Err f) c.in-Disk.is in
+    let ends : EndsLog c.in-Some.its.log (exit_text c.args.exit) old mid = record { moments = λ value rep. c.finish.ensures.any_moment told_is value rep; monotone = c.finish.ensures.cause.monotone; room = c.finish.ensures.room failed } in
+    let departs : Departs (Some c.args.log) c.args.conn Dead v v1 = departs_from v v1 c.take.new.self (Some c.args.log) c.args.conn Dead c.release-in-Disk.ensures.departs in
+    let closed = closed_ones v v1 c.take.new.self c.args.log c.release-in-Disk.ensures.logs c.take.ensures.rest in
+    subst (λ (j : Job). RowGives v c.args.now j (told.Refused refusals.DeviceFault) m v1 old mid) same_job
+    (log_failed v v1 old mid m c.args.log c.args.now its c.args.exit c.in-Some.its laws laws' at asks state here ends departs closed (c.finish.ensures.cause.risen failed))
+
+pub let_go-requires : goal.let_go-requires
+let_go-requires g c = record {
+  taken_out = λ told_is.
+      let v : KeeperView = view_of c.args.self.now in
+      let (m, at) = c.requires.stands told_is in
+      let here : log_in v c.args.log ≡ Some c.in-Some.its = sym c.in-Some.ensures.taken in
+      let left : OpenLog = record { log = c.finish.new.self; mask = c.in-Some.its.mask } in
+      let un = c.in-Err.ensures.unchanged c.in_default-fault.not-Disk in
+      (v, m, unended_out v c.take.new.self c.args.log c.in-Some.its left here un.0 c.take.ensures.rest, subst (λ d. keepers.Represents v (g.D.Disk.view d) m) (sym un.1) at);
+  writes_none = refl;
+  room = let x = room_one ((sessions_of (view_of c.args.self.now)).states c.args.conn) Dead in let y = c.requires.room in omega arith;
+}
+
+pub returns : goal.returns
+returns g c = record {
+  keeps = keeps_from (view_of c.args.self.now) (view_of c.let_go.new.self) c.take.new.self c.let_go.ensures.keeps;
+  told = tt;
+  row = λ told_is m job at is state asks.
+      let v : KeeperView = view_of c.args.self.now in
+      let v' : KeeperView = view_of c.let_go.new.self in
+      let old : DiskView = g.D.Disk.view c.args.disk.now in
+      let new : DiskView = g.D.Disk.view c.let_go.new.disk in
+      let laws : Laws old = record { reads_itself = g.met.D.Disk.reads_itself told_is c.args.disk.now; is_now = g.met.D.Disk.is_now told_is c.args.disk.now; only_now = g.met.D.Disk.only_now told_is c.args.disk.now } in
+      let its : Job = record { conn = c.args.conn; body = job.body } in
+      let same_job : its ≡ job = λ i. record { conn = sym is i; body = job.body } in
+      let here : log_in v c.args.log ≡ Some c.in-Some.its = sym c.in-Some.ensures.taken in
+      let left : OpenLog = record { log = c.finish.new.self; mask = c.in-Some.its.mask } in
+      let un = c.in-Err.ensures.unchanged c.in_default-fault.not-Disk in
+      let out : TakenOut c.args.log left v (record v { logs = c.take.new.self }) = unended_out v c.take.new.self c.args.log c.in-Some.its left here un.0 c.take.ensures.rest in
+      let gone : Left c.args.conn Dead v m v' old new =
+      subst (λ d. Left c.args.conn Dead v m v' (g.D.Disk.view d) new) un.1
+      (c.let_go.ensures.left told_is v m out (subst (λ d. keepers.Represents v (g.D.Disk.view d) m) (sym un.1) at) state) in
+      subst (λ (j : Job). RowGives v c.args.now j (told.Refused c.log_refusal.result) m v' old new) same_job
+      (subst (λ (why : Refusal). RowGives v c.args.now its (told.Refused why) m v' old new) (sym c.log_refusal.ensures)
+      (log_not_ended v v' old new m c.args.log c.args.now its c.args.exit c.in-Some.its c.in-Err.fault laws at asks state here c.in-Err.ensures.fault c.in_default-fault.not-Disk
+      (λ e. c.finish.ensures.broken.0 (c.in-Err.is ∙ ap (λ (f : LogFault). Err f) e)) (λ e. c.finish.ensures.full (c.in-Err.is ∙ ap (λ (f : LogFault). Err f) e)) gone));
+}

@@ -1,0 +1,67 @@
+use Rattle.std.proofs.Common.{◌≡◌, None, arith, refl, subst, sym}
+use Rattle.std.specs.Prelude.{false}
+use Rattle.lsv_disk.specs.View.{DiskView}
+use Rattle.lsv_request.specs.declared.request.Request.TheVariants as request
+use Rattle.lsv_session.specs.declared.connection.ConnState.TheVariants.{Dead}
+use Rattle.lsv_session.specs.declared.job.Job.{Job}
+use Rattle.lsv_machine.specs.Machine.{Machine, is_dead, leaves}
+use Rattle.lsv_keeper.specs.Rows.{RowGives}
+use Rattle.lsv_keeper.specs.Value.{KeeperView, sessions_of}
+use Rattle.lsv_keeper.specs.Views.{view_of}
+use Rattle.lsv_keeper.specs.declared.told.Told.TheVariants as told
+use Rattle.lsv_keeper.proofs.Departing.{room_one}
+use Rattle.lsv_keeper.proofs.ExitEnds.{keeps_line, session_refused, session_stands, session_told, set_by}
+use Rattle.lsv_keeper.proofs.Frames.{Laws}
+use Rattle.lsv_keeper.proofs.Requests.{asks_alive}
+use Rattle.lsv_keeper.proofs.keeper.Keeper.end_session.Goals as goal
+
+pub leave-requires : goal.leave-requires
+leave-requires g c = record {
+  stands = c.requires.stands;
+  writes_none = refl;
+  room = let x = room_one ((sessions_of (view_of c.args.self.now)).states c.args.conn) Dead in let y = c.requires.room in omega arith;
+}
+
+pub returns-in-Ok-clause-keeps : goal.returns-in-Ok-clause-keeps
+returns-in-Ok-clause-keeps g c = keeps_line (view_of c.args.self.now) (view_of c.leave.new.self) (view_of c.exit_line.new.self) c.leave.ensures.keeps c.leave.ensures.shrinks c.exit_line.ensures.keeps c.exit_line.ensures.same
+
+pub returns-in-Ok-clause-row : goal.returns-in-Ok-clause-row
+returns-in-Ok-clause-row g c told_is m job at is none asks =
+    let v : KeeperView = view_of c.args.self.now in
+    let v1 : KeeperView = view_of c.leave.new.self in
+    let v2 : KeeperView = view_of c.exit_line.new.self in
+    let d0 : DiskView = g.D.Disk.view c.args.disk.now in
+    let d1 : DiskView = g.D.Disk.view c.leave.new.disk in
+    let d2 : DiskView = g.D.Disk.view c.exit_line.new.disk in
+    let laws : Laws d0 = record { reads_itself = g.met.D.Disk.reads_itself told_is c.args.disk.now; is_now = g.met.D.Disk.is_now told_is c.args.disk.now; only_now = g.met.D.Disk.only_now told_is c.args.disk.now } in
+    let laws' : Laws d1 = record { reads_itself = g.met.D.Disk.reads_itself told_is c.leave.new.disk; is_now = g.met.D.Disk.is_now told_is c.leave.new.disk; only_now = g.met.D.Disk.only_now told_is c.leave.new.disk } in
+    let its : Job = record { conn = c.args.conn; body = job.body } in
+    let same_job : its ≡ job = λ i. record { conn = sym is i; body = job.body } in
+    let alive : is_dead (m.states c.args.conn) ≡ false = asks_alive (m.states c.args.conn) job.body (request.Exit c.args.exit) asks in
+    let left = c.leave.ensures.left told_is m at in
+    let stands = session_stands v v1 d0 d1 m c.args.conn none left in
+    subst (λ (j : Job). RowGives v c.args.now j told.Shut m v2 d0 d2) same_job
+    (session_told v v1 v2 d0 d1 d2 m c.args.now its c.args.exit laws laws' alive asks none left (set_by v v1 c.leave.ensures.keeps)
+    (c.exit_line.ensures.beside told_is (leaves c.args.conn Dead m) stands) (c.in-Ok.ensures.added told_is (leaves c.args.conn Dead m) stands))
+
+pub returns-in-Err-clause-keeps : goal.returns-in-Err-clause-keeps
+returns-in-Err-clause-keeps g c = keeps_line (view_of c.args.self.now) (view_of c.leave.new.self) (view_of c.exit_line.new.self) c.leave.ensures.keeps c.leave.ensures.shrinks c.exit_line.ensures.keeps c.exit_line.ensures.same
+
+pub returns-in-Err-clause-row : goal.returns-in-Err-clause-row
+returns-in-Err-clause-row g c told_is m job at is none asks =
+    let v : KeeperView = view_of c.args.self.now in
+    let v1 : KeeperView = view_of c.leave.new.self in
+    let v2 : KeeperView = view_of c.exit_line.new.self in
+    let d0 : DiskView = g.D.Disk.view c.args.disk.now in
+    let d1 : DiskView = g.D.Disk.view c.leave.new.disk in
+    let d2 : DiskView = g.D.Disk.view c.exit_line.new.disk in
+    let laws : Laws d0 = record { reads_itself = g.met.D.Disk.reads_itself told_is c.args.disk.now; is_now = g.met.D.Disk.is_now told_is c.args.disk.now; only_now = g.met.D.Disk.only_now told_is c.args.disk.now } in
+    let laws' : Laws d1 = record { reads_itself = g.met.D.Disk.reads_itself told_is c.leave.new.disk; is_now = g.met.D.Disk.is_now told_is c.leave.new.disk; only_now = g.met.D.Disk.only_now told_is c.leave.new.disk } in
+    let its : Job = record { conn = c.args.conn; body = job.body } in
+    let same_job : its ≡ job = λ i. record { conn = sym is i; body = job.body } in
+    let alive : is_dead (m.states c.args.conn) ≡ false = asks_alive (m.states c.args.conn) job.body (request.Exit c.args.exit) asks in
+    let left = c.leave.ensures.left told_is m at in
+    let stands = session_stands v v1 d0 d1 m c.args.conn none left in
+    subst (λ (j : Job). RowGives v c.args.now j (told.Refused c.in-Err.why) m v2 d0 d2) same_job
+    (session_refused v v1 v2 d0 d1 d2 m c.args.now its c.args.exit laws laws' alive asks none left (set_by v v1 c.leave.ensures.keeps)
+    (c.exit_line.ensures.beside told_is (leaves c.args.conn Dead m) stands) c.in-Err.why (c.in-Err.ensures.refused told_is (leaves c.args.conn Dead m) stands))

@@ -1,0 +1,43 @@
+-- In a session a reject is an event alone; else it ends the connection.
+use Rattle.std.proofs.Common.{◌≡◌, refl, sym, ◌∙◌, ap, subst}
+use Rattle.lsv_event.specs.Lines.{line_of}
+use Rattle.lsv_event.specs.declared.event.Event.TheVariants as event
+use Rattle.lsv_event.specs.declared.event.Peer.{Peer}
+use Rattle.lsv_request.specs.declared.request.Request.TheVariants as request
+use Rattle.lsv_session.specs.declared.connection.ConnState.{ConnState}
+use Rattle.lsv_keeper.specs.declared.report.Next.{Next}
+use Rattle.lsv_keeper.specs.declared.report.Next.TheVariants as next
+use Rattle.lsv_keeper.specs.Accepting.{EntersNoLog, IsEventOf, unless_running}
+use Rattle.lsv_keeper.specs.Value.{KeeperView, settings_of}
+use Rattle.lsv_keeper.specs.Views.{view_of}
+use Rattle.lsv_keeper.proofs.Asking.{reject_timed}
+use Rattle.lsv_keeper.proofs.EventKinds.{reject_event, enters_none}
+use Rattle.lsv_keeper.proofs.keeper.Keeper.reject.Goals as goal
+
+pub tell-requires-clause-timed : goal.tell-requires-clause-timed
+tell-requires-clause-timed g c = (c.requires.timed, reject_timed c.args.state c.requires.asked.0 c.args.report c.requires.asked.1)
+
+pub tell-requires-clause-writes_none : goal.tell-requires-clause-writes_none
+tell-requires-clause-writes_none g c = subst EntersNoLog (sym c.unless_running.ensures) (enters_none c.args.state next.Ends tt)
+
+pub tell-requires-clause-stands : goal.tell-requires-clause-stands
+tell-requires-clause-stands g c told = c.requires.stands told
+
+pub tell-requires-clause-room : goal.tell-requires-clause-room
+tell-requires-clause-room g c = c.requires.room
+
+pub returns-clause-keeps : goal.returns-clause-keeps
+returns-clause-keeps g c = c.tell.ensures.keeps
+
+pub returns-clause-told : goal.returns-clause-told
+returns-clause-told g c = c.tell.ensures.told
+
+pub returns-clause-row : goal.returns-clause-row
+returns-clause-row g c told m job at e a =
+    let v : KeeperView = view_of c.args.self.now in
+    let its : c.unless_running.result ≡ unless_running (m.states c.args.conn) next.Ends =
+    c.unless_running.ensures ∙ ap (λ (s : ConnState). unless_running s next.Ends) (c.requires.state ∙ sym (at.states c.args.conn)) in
+    c.tell.ensures.row told m job c.args.now (request.Reject c.args.report) at e a
+    (subst (λ (x : Next). IsEventOf (settings_of v) c.args.now c.args.conn (m.states c.args.conn) (request.Reject c.args.report) (line_of v.kind (event.Reject c.args.now c.peer_of.result c.args.report.reason (record { submit = c.args.report.time; info = c.args.report.info }))) x m) (sym its)
+    (subst (λ (p : Peer). IsEventOf (settings_of v) c.args.now c.args.conn (m.states c.args.conn) (request.Reject c.args.report) (line_of v.kind (event.Reject c.args.now p c.args.report.reason (record { submit = c.args.report.time; info = c.args.report.info }))) (unless_running (m.states c.args.conn) next.Ends) m) (sym c.peer_of.ensures)
+    (reject_event v c.args.now c.args.conn (m.states c.args.conn) c.args.report m)))

@@ -1,0 +1,87 @@
+-- The line is added, and then the connection does what it is to do; or it is refused.
+use Rattle.std.proofs.Common.{◌≡◌, ◌≤◌, refl, sym, ◌∙◌, ap, subst}
+use Rattle.lsv_event.specs.Lines.{line_of}
+use Rattle.lsv_session.specs.declared.connection.ConnState.TheVariants.{Dead}
+use Rattle.lsv_machine.specs.Work.{adds_line}
+use Rattle.lsv_keeper.specs.declared.report.Next.{Next}
+use Rattle.lsv_keeper.specs.Accepting.{EntersNoLog, IsEventOf}
+use Rattle.lsv_keeper.specs.Value.{KeeperView, sessions_of, settings_of}
+use Rattle.lsv_keeper.specs.Views.{view_of}
+use Rattle.lsv_keeper.proofs.Reporting.{ends_at, enters_at, keeps_left, refused_at, room_after, stays_at}
+use Rattle.lsv_keeper.proofs.keeper.Keeper.tell.Goals as goal
+
+pub leave-requires-clause-stands : goal.leave-requires-clause-stands
+leave-requires-clause-stands g c told = let s = c.requires.stands told in (s.0, (c.in-Err.ensures.refused told s.0 s.1).1)
+
+pub leave-requires-clause-room : goal.leave-requires-clause-room
+leave-requires-clause-room g c = room_after (view_of c.args.self.now) (view_of c.add_line.new.self) ((sessions_of (view_of c.add_line.new.self)).states c.args.conn) Dead c.add_line.ensures.same c.requires.room
+
+pub returns-in-Err-clause-keeps : goal.returns-in-Err-clause-keeps
+returns-in-Err-clause-keeps g c = keeps_left (view_of c.args.self.now) (view_of c.add_line.new.self) (view_of c.leave.new.self) c.add_line.ensures.keeps c.add_line.ensures.same c.leave.ensures.keeps c.leave.ensures.shrinks
+
+pub returns-in-Err-clause-row : goal.returns-in-Err-clause-row
+returns-in-Err-clause-row g c told m job now what at e a is =
+    let v : KeeperView = view_of c.args.self.now in
+    let d0 = c.args.disk.now in
+    let d1 = c.add_line.new.disk in
+    let refused = c.in-Err.ensures.refused told m at in
+    refused_at v (view_of c.add_line.new.self) (view_of c.leave.new.self) (g.D.Disk.view d0) (g.D.Disk.view d1) (g.D.Disk.view c.leave.new.disk) c.args.conn m (line_of v.kind c.args.event.now) c.args.next c.in-Err.why
+    (record { reads_itself = g.met.D.Disk.reads_itself told d0; is_now = g.met.D.Disk.is_now told d0; only_now = g.met.D.Disk.only_now told d0 })
+    (record { reads_itself = g.met.D.Disk.reads_itself told d1; is_now = g.met.D.Disk.is_now told d1; only_now = g.met.D.Disk.only_now told d1 })
+    refused.1 c.add_line.ensures.keeps refused.0 (c.add_line.ensures.beside told m at) (c.leave.ensures.left told m refused.1) job now what e a is
+
+pub returns-in-Stays-clause-keeps : goal.returns-in-Stays-clause-keeps
+returns-in-Stays-clause-keeps g c = c.add_line.ensures.keeps
+
+pub returns-in-Stays-clause-row : goal.returns-in-Stays-clause-row
+returns-in-Stays-clause-row g c told m job now what at e a is =
+    let v : KeeperView = view_of c.args.self.now in
+    let d0 = c.args.disk.now in
+    let added = c.in_default.ensures.added told m at in
+    stays_at v (view_of c.add_line.new.self) (g.D.Disk.view d0) (g.D.Disk.view c.add_line.new.disk) c.args.conn m (line_of v.kind c.args.event.now)
+    (record { reads_itself = g.met.D.Disk.reads_itself told d0; is_now = g.met.D.Disk.is_now told d0; only_now = g.met.D.Disk.only_now told d0 })
+    (c.add_line.ensures.beside told m at) added.0 added.1 job now what e a
+    (subst (λ (x : Next). IsEventOf (settings_of v) now c.args.conn (m.states c.args.conn) what (line_of v.kind c.args.event.now) x m) c.in-Stays.is is)
+
+pub leave-requires-in-Enters-clause-stands : goal.leave-requires-in-Enters-clause-stands
+leave-requires-in-Enters-clause-stands g c told = let s = c.requires.stands told in (adds_line c.args.conn (line_of (view_of c.args.self.now).kind c.args.event.now) s.0, (c.in_default.ensures.added told s.0 s.1).1)
+
+pub leave-requires-in-Enters-clause-writes_none : goal.leave-requires-in-Enters-clause-writes_none
+leave-requires-in-Enters-clause-writes_none g c = subst EntersNoLog c.in-Enters.is c.requires.writes_none
+
+pub leave-requires-in-Enters-clause-room : goal.leave-requires-in-Enters-clause-room
+leave-requires-in-Enters-clause-room g c = room_after (view_of c.args.self.now) (view_of c.add_line.new.self) ((sessions_of (view_of c.add_line.new.self)).states c.args.conn) c.in-Enters.state c.add_line.ensures.same c.requires.room
+
+pub returns-in-Enters-clause-keeps : goal.returns-in-Enters-clause-keeps
+returns-in-Enters-clause-keeps g c = keeps_left (view_of c.args.self.now) (view_of c.add_line.new.self) (view_of c.leave-in-Enters.new.self) c.add_line.ensures.keeps c.add_line.ensures.same c.leave-in-Enters.ensures.keeps c.leave-in-Enters.ensures.shrinks
+
+pub returns-in-Enters-clause-row : goal.returns-in-Enters-clause-row
+returns-in-Enters-clause-row g c told m job now what at e a is =
+    let v : KeeperView = view_of c.args.self.now in
+    let d0 = c.args.disk.now in
+    let added = c.in_default.ensures.added told m at in
+    let line = line_of v.kind c.args.event.now in
+    enters_at v (view_of c.add_line.new.self) (view_of c.leave-in-Enters.new.self) (g.D.Disk.view d0) (g.D.Disk.view c.add_line.new.disk) (g.D.Disk.view c.leave-in-Enters.new.disk) c.args.conn m line c.in-Enters.state
+    (record { reads_itself = g.met.D.Disk.reads_itself told d0; is_now = g.met.D.Disk.is_now told d0; only_now = g.met.D.Disk.only_now told d0 })
+    c.add_line.ensures.keeps (c.add_line.ensures.beside told m at) added.0 (c.leave-in-Enters.ensures.left told (adds_line c.args.conn line m) added.1) job now what e a
+    (subst (λ (x : Next). IsEventOf (settings_of v) now c.args.conn (m.states c.args.conn) what line x m) c.in-Enters.is is)
+
+pub leave-requires-in-Ends-clause-stands : goal.leave-requires-in-Ends-clause-stands
+leave-requires-in-Ends-clause-stands g c told = let s = c.requires.stands told in (adds_line c.args.conn (line_of (view_of c.args.self.now).kind c.args.event.now) s.0, (c.in_default.ensures.added told s.0 s.1).1)
+
+pub leave-requires-in-Ends-clause-room : goal.leave-requires-in-Ends-clause-room
+leave-requires-in-Ends-clause-room g c = room_after (view_of c.args.self.now) (view_of c.add_line.new.self) ((sessions_of (view_of c.add_line.new.self)).states c.args.conn) Dead c.add_line.ensures.same c.requires.room
+
+pub returns-in-Ends-clause-keeps : goal.returns-in-Ends-clause-keeps
+returns-in-Ends-clause-keeps g c = keeps_left (view_of c.args.self.now) (view_of c.add_line.new.self) (view_of c.leave-in-Ends.new.self) c.add_line.ensures.keeps c.add_line.ensures.same c.leave-in-Ends.ensures.keeps c.leave-in-Ends.ensures.shrinks
+
+pub returns-in-Ends-clause-row : goal.returns-in-Ends-clause-row
+returns-in-Ends-clause-row g c told m job now what at e a is =
+    let v : KeeperView = view_of c.args.self.now in
+    let d0 = c.args.disk.now in
+    let added = c.in_default.ensures.added told m at in
+    let line = line_of v.kind c.args.event.now in
+    ends_at v (view_of c.add_line.new.self) (view_of c.leave-in-Ends.new.self) (g.D.Disk.view d0) (g.D.Disk.view c.add_line.new.disk) (g.D.Disk.view c.leave-in-Ends.new.disk) c.args.conn m line
+    (record { reads_itself = g.met.D.Disk.reads_itself told d0; is_now = g.met.D.Disk.is_now told d0; only_now = g.met.D.Disk.only_now told d0 })
+    c.add_line.ensures.keeps (c.add_line.ensures.beside told m at) added.0 (c.leave-in-Ends.ensures.left told (adds_line c.args.conn line m) added.1) job now what e a
+    (subst (λ (x : Next). IsEventOf (settings_of v) now c.args.conn (m.states c.args.conn) what line x m) c.in-Ends.is is)
