@@ -40,9 +40,9 @@ flush_written v log m old new said laws laws' at before run now lane sound whole
     let was = committed_text v.events old in
     let is = committed_text v.events old ++ added_text v.events in
     lines_written v log m old new said laws laws' at was is lines.0 lines.1
-        (subst (λ (n : ℕ). Throughout (IsOfEventLog n) (IsEither n was is) old new) mine run)
-        (λ image crash. subst (λ (n : ℕ). HoldsLines image n is) mine (now image crash))
-        (lane ∙ mine) sound whole rep committed none monotone
+    (subst (λ (n : ℕ). Throughout (IsOfEventLog n) (IsEither n was is) old new) mine run)
+    (λ image crash. subst (λ (n : ℕ). HoldsLines image n is) mine (now image crash))
+    (lane ∙ mine) sound whole rep committed none monotone
 
 pub flush_failed : (v : KeeperView) (log : EventLogView) (m : Machine) (old new : DiskView) (failed : Type 0) → Laws old → Laws new → Represents v old m → events.is_broken v.events ≡ false
     → Throughout (IsOfEventLog v.events.lane) (IsEither v.events.lane (committed_text v.events old) (committed_text v.events old ++ added_text v.events)) old new
@@ -54,8 +54,8 @@ flush_failed v log m old new failed laws laws' at before run lane sound broken c
     let is = committed_text v.events old ++ added_text v.events in
     let own : HasOwnCause (IsOfEventLog v.lane) failed old new = subst (λ (n : ℕ). HasOwnCause (IsOfEventLog n) failed old new) mine cause in
     events_failed v log m old new laws laws' at was is lines.0 lines.1
-        (subst (λ (n : ℕ). Throughout (IsOfEventLog n) (IsEither n was is) old new) mine run)
-        (lane ∙ mine) sound broken (owner_rose (Events v.lane) (IsOfEventLog v.lane) failed old new (of_lane v.lane) own did) cause.monotone
+    (subst (λ (n : ℕ). Throughout (IsOfEventLog n) (IsEither n was is) old new) mine run)
+    (lane ∙ mine) sound broken (owner_rose (Events v.lane) (IsOfEventLog v.lane) failed old new (of_lane v.lane) own did) cause.monotone
 
 either : (b : Bool) → (b ≡ true) ⊎ (b ≡ false)
 either true = inl refl
@@ -63,7 +63,7 @@ either false = inr refl
 
 -- it is open where it isn't broken
 pub unbroken : (b : Bool) → ((b ≡ true) → ⊥) → b ≡ false
-unbroken b isnt = elim (either b) [ | inl is ↦ absurd (isnt is) | inr is ↦ is ]
+unbroken b isnt = elim (either b) [ inl is ↦ absurd (isnt is) | inr is ↦ is ]
 
 -- of two faults it is the other
 other_fault : (e : BundleFault) → (e ≡ faults.Disk) ⊎ (e ≡ faults.Broken) → e ≢ faults.Broken → e ≡ faults.Disk

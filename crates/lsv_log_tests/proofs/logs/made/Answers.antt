@@ -8,6 +8,6 @@ use Rattle.lsv_log_tests.proofs.logs.made.Goals as goal
 pub flush-requires : goal.flush-requires
 flush-requires g c = record {
   represents = λ tells whole.
-    let value : LogValue = bare (made (head_text c.args.head.now)) in
-    (with_record value c.args.r.now, stages_represents c.in_ok-log.log c.append.new.self value c.args.r.now (g.D.Disk.view c.create.new.disk) c.in_ok-append.ensures.staged c.requires.valid refl (c.in_ok-log.ensures.represents tells));
+      let value : LogValue = bare (made (head_text c.args.head.now)) in
+      (with_record value c.args.r.now, stages_represents c.in_ok-log.log c.append.new.self value c.args.r.now (g.D.Disk.view c.create.new.disk) c.in_ok-append.ensures.staged c.requires.valid refl (c.in_ok-log.ensures.represents tells));
 }

@@ -21,10 +21,10 @@ returns-in_default-clause-lines g c = λ told m at.
     let e = c.in_default.ensures in
     let before = unbroken c.args.self.now.events.bundle.is_broken (λ b. c.in_default.not-Err faults.Broken (c.flush.ensures.broken.1 b)) in
     subst (λ (w : List ConnId). LinesGive (view_of c.args.self.now) m c.args.out.now.items c.args.out.now.items (record (view_of c.args.self.now) { events = c.flush.new.self; noting = w }) (g.D.Disk.view c.args.disk.now) (g.D.Disk.view c.flush.new.disk)) (sym c.clear.ensures.items)
-        (flush_written (view_of c.args.self.now) c.flush.new.self m (g.D.Disk.view c.args.disk.now) (g.D.Disk.view c.flush.new.disk) c.args.out.now.items
-            (record { reads_itself = g.met.D.Disk.reads_itself told c.args.disk.now; is_now = g.met.D.Disk.is_now told c.args.disk.now; only_now = g.met.D.Disk.only_now told c.args.disk.now })
-            (record { reads_itself = g.met.D.Disk.reads_itself told c.flush.new.disk; is_now = g.met.D.Disk.is_now told c.flush.new.disk; only_now = g.met.D.Disk.only_now told c.flush.new.disk })
-            at before (e.any_moment told before) (e.acknowledged told) e.value.lane e.sound e.whole (e.represents told e.whole) (e.committed told) e.none_left e.cause.monotone)
+    (flush_written (view_of c.args.self.now) c.flush.new.self m (g.D.Disk.view c.args.disk.now) (g.D.Disk.view c.flush.new.disk) c.args.out.now.items
+    (record { reads_itself = g.met.D.Disk.reads_itself told c.args.disk.now; is_now = g.met.D.Disk.is_now told c.args.disk.now; only_now = g.met.D.Disk.only_now told c.args.disk.now })
+    (record { reads_itself = g.met.D.Disk.reads_itself told c.flush.new.disk; is_now = g.met.D.Disk.is_now told c.flush.new.disk; only_now = g.met.D.Disk.only_now told c.flush.new.disk })
+    at before (e.any_moment told before) (e.acknowledged told) e.value.lane e.sound e.whole (e.represents told e.whole) (e.committed told) e.none_left e.cause.monotone)
 
 lost_at : (g : _) (c : goal.After-lose_lines-arg-in_default-fault-2-1 g) → g.D.Disk.tells → (m : Machine) → Represents (view_of c.args.self.now) (g.D.Disk.view c.args.disk.now) m
     → EventsFailed (view_of c.args.self.now) c.flush.new.self m (g.D.Disk.view c.args.disk.now) (g.D.Disk.view c.flush.new.disk)
@@ -48,8 +48,8 @@ returns-in-Broken-clause-lines g c = λ told m at.
     let said = c.args.out.now.items in
     let old = g.D.Disk.view c.args.disk.now in
     let gives = lines_none v m old said
-        (record { reads_itself = g.met.D.Disk.reads_itself told c.args.disk.now; is_now = g.met.D.Disk.is_now told c.args.disk.now; only_now = g.met.D.Disk.only_now told c.args.disk.now })
-        at (c.flush.ensures.broken.0 is) in
+    (record { reads_itself = g.met.D.Disk.reads_itself told c.args.disk.now; is_now = g.met.D.Disk.is_now told c.args.disk.now; only_now = g.met.D.Disk.only_now told c.args.disk.now })
+    at (c.flush.ensures.broken.0 is) in
     let there = subst (λ d. LinesGive v m said said (record v { noting = [] }) old (g.D.Disk.view d)) (sym same.1) gives in
     let log = subst (λ (e : EventLogView). LinesGive v m said said (record v { events = e; noting = [] }) old (g.D.Disk.view c.flush.new.disk)) (sym same.0) there in
     subst (λ (w : List ConnId). LinesGive v m said said (record v { events = c.flush.new.self; noting = w }) old (g.D.Disk.view c.flush.new.disk)) (sym c.clear-in-Broken.ensures.items) log
@@ -63,9 +63,9 @@ returns-in_default-fault g c = record {
   room = c.lose_lines.ensures.room;
   lines = λ told m at.
       let f = flush_lost (view_of c.args.self.now) c.flush.new.self m (g.D.Disk.view c.args.disk.now) (g.D.Disk.view c.flush.new.disk) c.flush.result c.in-Err.fault
-          (record { reads_itself = g.met.D.Disk.reads_itself told c.args.disk.now; is_now = g.met.D.Disk.is_now told c.args.disk.now; only_now = g.met.D.Disk.only_now told c.args.disk.now })
-          (record { reads_itself = g.met.D.Disk.reads_itself told c.flush.new.disk; is_now = g.met.D.Disk.is_now told c.flush.new.disk; only_now = g.met.D.Disk.only_now told c.flush.new.disk })
-          at c.in-Err.is c.in_default-fault.not-Broken c.in-Err.ensures.fault c.flush.ensures.broken c.flush.ensures.disk (c.flush.ensures.any_moment told) c.in-Err.ensures.kept.lane c.flush.ensures.sound c.flush.ensures.cause in
+      (record { reads_itself = g.met.D.Disk.reads_itself told c.args.disk.now; is_now = g.met.D.Disk.is_now told c.args.disk.now; only_now = g.met.D.Disk.only_now told c.args.disk.now })
+      (record { reads_itself = g.met.D.Disk.reads_itself told c.flush.new.disk; is_now = g.met.D.Disk.is_now told c.flush.new.disk; only_now = g.met.D.Disk.only_now told c.flush.new.disk })
+      at c.in-Err.is c.in_default-fault.not-Broken c.in-Err.ensures.fault c.flush.ensures.broken c.flush.ensures.disk (c.flush.ensures.any_moment told) c.in-Err.ensures.kept.lane c.flush.ensures.sound c.flush.ensures.cause in
       lines_refused (view_of c.args.self.now) (view_of c.lose_lines.new.self) c.flush.new.self m (g.D.Disk.view c.args.disk.now) (g.D.Disk.view c.flush.new.disk) (g.D.Disk.view c.lose_lines.new.disk) c.args.out.now.items c.lose_lines.new.out.items
-          f at.noting (c.lose_lines.ensures.refused told (with_lines f.wrote m) f.represents);
+      f at.noting (c.lose_lines.ensures.refused told (with_lines f.wrote m) f.represents);
 }
