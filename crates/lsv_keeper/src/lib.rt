@@ -2,6 +2,7 @@
 //! device calls fail and wherever the machine stops.
 #![tactic(auto)]
 
+mod accept;
 mod events;
 mod exit;
 mod fault;
@@ -17,6 +18,8 @@ mod restart;
 mod resume;
 mod tail;
 mod told;
+mod turn;
+mod work;
 
 pub use fault::StoreFault;
 pub use keeper::Keeper;
