@@ -2,6 +2,7 @@
 #![tactic(auto)]
 
 mod call;
+mod clock;
 mod disk;
 mod folders;
 mod limit;
@@ -12,6 +13,7 @@ mod store;
 mod streams;
 mod unsynced;
 
+pub use clock::WallClock;
 pub use disk::FileDisk;
 pub use read_only::ReadOnlyDisk;
 pub use streams::{StdScreen, StdSink, StdSource};

@@ -1,12 +1,1 @@
 pub mod Status
-pub mod Said
-pub mod Staged
-pub mod Reply
-pub mod ReplyView
-pub mod Machine
-pub mod Store
-pub mod Filing
-pub mod Steps
-pub mod Once
-pub mod Course
-pub mod Conversation

@@ -1,20 +1,15 @@
 //! The top call of `sudo_logsrvd`.
 #![tactic(auto)]
 
-mod connection;
-mod judge;
-mod laws;
-mod log;
+mod answers;
+mod incoming;
 mod once;
-mod reply;
-mod session;
-mod staged;
+mod outside;
+mod program;
+mod server;
 mod status;
-mod turn;
 
-pub use laws::one_text_has_one_answer;
-pub use once::{Outside, logsrvd};
+pub use once::run_once;
+pub use outside::{Kept, Options, Outside};
+pub use program::logsrvd;
 pub use status::Status;
-
-#[cfg(test)]
-mod tests;

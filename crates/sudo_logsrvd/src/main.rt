@@ -2,8 +2,10 @@
 #![tactic(auto)]
 
 use lsv_base::{Bytes, List};
-use lsv_real::{FileDisk, StdSink, StdSource};
-use lsv_serve::{Outside, Status, logsrvd};
+use lsv_hook::Formatter;
+use lsv_mask::{Prompt, TextSearch};
+use lsv_real::{FileDisk, StdSink, StdSource, WallClock};
+use lsv_serve::{Kept, Outside, Status, logsrvd};
 use std::alloc::Global;
 use std::env;
 use std::io::ErrorKind;
@@ -38,8 +40,14 @@ fn run(rt: HostRuntime) -> Status {
         source: StdSource::new(rt),
         sink: StdSink::new(rt),
         disk: FileDisk::new(rt, "sudo_logsrvd"),
+        clock: WallClock::new(rt),
     };
-    logsrvd(alloc, &words, &mut out)
+    let kept = Kept {
+        sudo: Formatter::sudo(),
+        json: Formatter::json(),
+        prompt: Prompt::new(TextSearch),
+    };
+    logsrvd(alloc, &words, &mut out, kept)
 }
 
 /// Prints why the run failed, where it did.

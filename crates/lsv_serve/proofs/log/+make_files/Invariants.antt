@@ -1,5 +1,0 @@
-use Rattle.std.proofs.Common.{length}
-use Rattle.lsv_serve.proofs.log.+make_files.Given as goal
-
-abbrev pub decreases-make_files : goal.decreases-make_files
-decreases-make_files g l = length l.parts.now
