@@ -1,1 +1,6 @@
 pub mod Status
+pub mod World
+pub mod Tape
+pub mod Once
+pub mod Causes
+pub mod InnerRun

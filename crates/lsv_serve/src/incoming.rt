@@ -1,5 +1,11 @@
 //! The bytes of the one connection, and the jobs that they are.
 
+ghost use Rattle.std.specs.Prelude.{◌≡◌, ◌<◌, ◌++◌, ◌∷◌, [], true, false, length, IfOk, OnOk};
+ghost use Rattle.std.specs.Bool.{OnTrue, OnFalse};
+ghost use Rattle.lsv_serve.specs.InnerRun.{CutsAll, CutsOn, Takes};
+ghost use Rattle.lsv_serve.specs.Tape.{once_conn};
+ghost use Rattle.lsv_session.specs.declared.job.Body.TheVariants as bodies;
+
 use crate::server::CONN;
 use lsv_base::NoMem;
 use lsv_msg::{MsgFault, decode_client};
@@ -16,7 +22,10 @@ pub(crate) struct Incoming {
 }
 
 impl Incoming {
-    pub fn new(alloc: Global) -> Self {
+    pub fn new(alloc: Global) -> Self
+        ensures framer { result.framer ≡ [] }
+        ensures over { result.is_over ≡ false }
+    {
         Incoming {
             alloc,
             framer: Framer::new(alloc),
@@ -25,7 +34,9 @@ impl Incoming {
     }
 
     /// The jobs that this piece completes.
-    pub fn take(&mut self, piece: &[u8]) -> Result<Vec<Job>, NoMem> {
+    pub fn take(&mut self, piece: &[u8]) -> Result<Vec<Job>, NoMem>
+        ensures { IfOk result (λ jobs. Takes piece.now self.old.is_over self.old.framer jobs.items self.new.is_over self.new.framer) }
+    {
         let mut jobs = Vec::new(self.alloc);
         if self.is_over {
             return Ok(jobs);
@@ -36,13 +47,22 @@ impl Incoming {
     }
 
     /// Puts all jobs at the end that the unread bytes complete.
-    fn cut_all(&mut self, jobs: &mut Vec<Job>) -> Result<(), NoMem> {
+    fn cut_all(&mut self, jobs: &mut Vec<Job>) -> Result<(), NoMem>
+        requires { self.old.is_over ≡ false }
+        ensures { OnOk result (CutsAll jobs.old.items self.old.is_over self.old.framer jobs.new.items self.new.is_over self.new.framer) }
+    {
         while self.cut_next(jobs)? {}
         Ok(())
     }
 
     /// Puts the next job at the end, if there is one. It says whether there may be another.
-    fn cut_next(&mut self, jobs: &mut Vec<Job>) -> Result<bool, NoMem> {
+    fn cut_next(&mut self, jobs: &mut Vec<Job>) -> Result<bool, NoMem>
+        requires { self.old.is_over ≡ false }
+        ensures more { IfOk result (λ more. OnTrue more (CutsOn jobs.old.items self.old.is_over self.old.framer jobs.new.items self.new.is_over self.new.framer)) }
+        ensures not_over { IfOk result (λ more. OnTrue more (self.new.is_over ≡ false)) }
+        ensures shorter { IfOk result (λ more. OnTrue more (length self.new.framer < length self.old.framer)) }
+        ensures none { IfOk result (λ more. OnFalse more (CutsAll jobs.old.items self.old.is_over self.old.framer jobs.new.items self.new.is_over self.new.framer)) }
+    {
         match self.framer.peek() {
             Ok(None) => Ok(false),
             Ok(Some(message)) => {
@@ -62,7 +82,12 @@ impl Incoming {
     }
 
     /// Puts a last job at the end: what follows is no message.
-    fn end(&mut self, jobs: &mut Vec<Job>, fault: Fault) -> Result<bool, NoMem> {
+    fn end(&mut self, jobs: &mut Vec<Job>, fault: Fault) -> Result<bool, NoMem>
+        ensures none { IfOk result (λ more. more ≡ false) }
+        ensures over { OnOk result (self.new.is_over ≡ true) }
+        ensures framer { self.new.framer ≡ self.old.framer }
+        ensures put { OnOk result (jobs.new.items ≡ jobs.old.items ++ record { conn = once_conn; body = bodies.Bad fault } ∷ []) }
+    {
         put_job(jobs, Body::Bad(fault))?;
         self.is_over = true;
         Ok(false)
@@ -70,7 +95,9 @@ impl Incoming {
 }
 
 /// Puts a job of the connection at the end.
-pub(crate) fn put_job(jobs: &mut Vec<Job>, body: Body) -> Result<(), NoMem> {
+pub(crate) fn put_job(jobs: &mut Vec<Job>, body: Body) -> Result<(), NoMem>
+    ensures { OnOk result (jobs.new.items ≡ jobs.old.items ++ record { conn = once_conn; body = body } ∷ []) }
+{
     jobs.push(Job { conn: CONN, body })?;
     Ok(())
 }

@@ -1,5 +1,15 @@
 //! The command `once`: one connection, from a source to a sink.
 
+ghost use Rattle.std.specs.Prelude.{◌≡◌, [], ⊥};
+ghost use Rattle.lsv_disk.specs.View.{IsCrashImage};
+ghost use Rattle.lsv_event.specs.declared.event.Kind.TheVariants as kinds;
+ghost use Rattle.lsv_machine.specs.Disks.{NumbersFit};
+ghost use Rattle.lsv_keeper.specs.Reading.{reading_of};
+ghost use Rattle.lsv_serve.specs.Causes.{HasPlaces, HasStatusCause};
+ghost use Rattle.lsv_serve.specs.InnerRun.{store_status};
+ghost use Rattle.lsv_serve.specs.Once.{IsFresh, RunsOnce, once_settings};
+ghost use Rattle.lsv_serve.specs.World.{world_of};
+
 use crate::outside::{Kept, Options, Outside};
 use crate::server::Server;
 use crate::status::Status;
@@ -16,7 +26,8 @@ const STORE: &str = "store";
 
 const EVENTS: &str = "store/events";
 
-/// Serves one connection, from the source to the sink, over the store.
+/// Serves one connection, from the source to the sink, over the store of one lane. Nothing else changes the store while it
+/// runs.
 pub fn run_once<
     S: Source,
     K: Sink,
@@ -30,7 +41,19 @@ pub fn run_once<
     options: Options,
     out: &mut Outside<S, K, D, C>,
     kept: Kept<F, J, H>,
-) -> Status {
+) -> Status
+    requires sudo { kept.sudo.kind ≡ kinds.Sudo }
+    requires json { kept.json.kind ≡ kinds.Json }
+    requires fresh { D.tells → IsFresh (D.view out.old.disk) }
+    ensures runs { RunsOnce (once_settings options.form options.log_exit) options.prompts
+        (world_of ⟦<S as Source>⟧ ⟦<K as Sink>⟧ ⟦<D as Disk>⟧ out.old.source out.old.sink out.old.disk)
+        (world_of ⟦<S as Source>⟧ ⟦<K as Sink>⟧ ⟦<D as Disk>⟧ out.new.source out.new.sink out.new.disk) result }
+    ensures cause { HasStatusCause
+        (world_of ⟦<S as Source>⟧ ⟦<K as Sink>⟧ ⟦<D as Disk>⟧ out.old.source out.old.sink out.old.disk)
+        (world_of ⟦<S as Source>⟧ ⟦<K as Sink>⟧ ⟦<D as Disk>⟧ out.new.source out.new.sink out.new.disk) result }
+    ensures not_usage { result ≡ Status.Usage → ⊥ }
+    ensures fresh_again { D.tells → NumbersFit (reading_of 0 1) 0 1 (IsCrashImage (D.view out.old.disk)) → NumbersFit (reading_of 0 1) 0 1 (IsCrashImage (D.view out.new.disk)) }
+{
     out.disk.root(STORE, EVENTS);
     let Options {
         form,
@@ -38,20 +61,30 @@ pub fn run_once<
         prompts,
     } = options;
     match form {
-        Kind::Sudo => serve(alloc, out, kept.sudo, log_exit, prompts, kept.prompt),
-        Kind::Json => serve(alloc, out, kept.json, log_exit, prompts, kept.prompt),
+        Kind::Sudo => serve_store(alloc, out, kept.sudo, log_exit, prompts, kept.prompt),
+        Kind::Json => serve_store(alloc, out, kept.json, log_exit, prompts, kept.prompt),
     }
 }
 
-/// Opens the store and serves the connection.
-fn serve<S: Source, K: Sink, D: Disk, C: Clock, F: LineWriter + Drop, H: Search + Drop>(
+/// Opens the store, whose places the disk was given, and serves the connection.
+fn serve_store<S: Source, K: Sink, D: Disk, C: Clock, F: LineWriter + Drop, H: Search + Drop>(
     alloc: Global,
     out: &mut Outside<S, K, D, C>,
     formatter: Formatter<F>,
     log_exit: bool,
     prompts: List<Bytes>,
     prompt: Prompt<H>,
-) -> Status {
+) -> Status
+    requires places { D.tells → HasPlaces (D.view out.old.disk) }
+    requires fresh { D.tells → IsFresh (D.view out.old.disk) }
+    ensures runs { RunsOnce (once_settings formatter.kind log_exit) prompts
+        (world_of ⟦<S as Source>⟧ ⟦<K as Sink>⟧ ⟦<D as Disk>⟧ out.old.source out.old.sink out.old.disk)
+        (world_of ⟦<S as Source>⟧ ⟦<K as Sink>⟧ ⟦<D as Disk>⟧ out.new.source out.new.sink out.new.disk) result }
+    ensures cause { HasStatusCause
+        (world_of ⟦<S as Source>⟧ ⟦<K as Sink>⟧ ⟦<D as Disk>⟧ out.old.source out.old.sink out.old.disk)
+        (world_of ⟦<S as Source>⟧ ⟦<K as Sink>⟧ ⟦<D as Disk>⟧ out.new.source out.new.sink out.new.disk) result }
+    ensures not_usage { result ≡ Status.Usage → ⊥ }
+{
     let keeper = match Keeper::open(
         alloc,
         &mut out.disk,
@@ -75,7 +108,9 @@ fn serve<S: Source, K: Sink, D: Disk, C: Clock, F: LineWriter + Drop, H: Search 
 }
 
 /// How a run ends whose store isn't opened.
-fn refused(fault: StoreFault) -> Status {
+fn refused(fault: StoreFault) -> Status
+    ensures { result ≡ store_status fault }
+{
     match fault {
         StoreFault::NoMem => Status::NoMem,
         fault => Status::Store(fault),

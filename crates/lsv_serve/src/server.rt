@@ -1,8 +1,22 @@
 //! A run whose store is open.
 
+ghost use Rattle.std.specs.Prelude.{◌≡◌, ◌≤◌, ◌<◌, ◌^◌, ◌++◌, ℕ, List, [], ◌∷◌, false, length, None, IfErr, IfNone, IfSome, OnOk, OnErr};
+ghost use Rattle.lsv_wire.specs.Frame.{frame_of};
+ghost use Rattle.lsv_msg.specs.Messages.{server_bytes};
+ghost use Rattle.lsv_session.specs.Connections.{server_hello};
+ghost use Rattle.lsv_session.specs.Transcript.{frames_of, said_to};
+ghost use Rattle.lsv_session.specs.declared.job.Body.TheVariants as bodies;
+ghost use Rattle.lsv_machine.specs.Machine.{Machine, Settings};
+ghost use Rattle.lsv_keeper.specs.Represents.{Represents};
+ghost use Rattle.lsv_keeper.specs.Value.{IsResting, IsRoomier, SameSet};
+ghost use Rattle.lsv_keeper.specs.Views.{view_of};
+ghost use Rattle.lsv_serve.specs.InnerRun.{AnswerEnds, Begun, Ended, HelloEnds, Serves, TurnDone, UnderWay, unput};
+ghost use Rattle.lsv_serve.specs.Tape.{jobs_of, once_conn, shuts};
+ghost use Rattle.lsv_serve.specs.World.{world_of};
+
+use crate::answers::{put_hello, put_replies, shuts, write_answers};
 use crate::incoming::{Incoming, put_job};
 use crate::status::Status;
-use crate::answers::{put_hello, put_replies, shuts, write_answers};
 use lsv_base::{Bytes, Clock, NoMem, Sink, Source};
 use lsv_disk::Disk;
 use lsv_hook::LineWriter;
@@ -37,7 +51,12 @@ pub(crate) struct Server<F: LineWriter, H: Search> {
 }
 
 impl<F: LineWriter + Drop, H: Search + Drop> Server<F, H> {
-    pub fn new(alloc: Global, keeper: Keeper<F, H>) -> Self {
+    pub fn new(alloc: Global, keeper: Keeper<F, H>) -> Self
+        ensures keeper { result.keeper ≡ keeper }
+        ensures unread { result.incoming.framer ≡ [] }
+        ensures over { result.incoming.is_over ≡ false }
+        ensures answers { result.answers ≡ [] }
+    {
         Server {
             alloc,
             keeper,
@@ -54,16 +73,60 @@ impl<F: LineWriter + Drop, H: Search + Drop> Server<F, H> {
         sink: &mut K,
         disk: &mut D,
         clock: &mut C,
-    ) -> Status {
-        let end = match self.greet(sink) {
+    ) -> Status
+        requires rests { IsResting (view_of self.old.keeper) }
+        requires unread { self.old.incoming.framer ≡ [] }
+        requires not_over { self.old.incoming.is_over ≡ false }
+        requires answers { self.old.answers ≡ [] }
+        requires known { (set : Settings) × (texts : List (List ℕ)) × (s : S) × (k : K) × (d : D) ×
+            Begun set texts (world_of ⟦<S as Source>⟧ ⟦<K as Sink>⟧ ⟦<D as Disk>⟧ s k d) (world_of ⟦<S as Source>⟧ ⟦<K as Sink>⟧ ⟦<D as Disk>⟧ source.old sink.old disk.old) (view_of self.old.keeper) }
+        ensures runs { (set : Settings) (texts : List (List ℕ)) (s : S) (k : K) (d : D) →
+            Begun set texts (world_of ⟦<S as Source>⟧ ⟦<K as Sink>⟧ ⟦<D as Disk>⟧ s k d) (world_of ⟦<S as Source>⟧ ⟦<K as Sink>⟧ ⟦<D as Disk>⟧ source.old sink.old disk.old) (view_of self.old.keeper) →
+            Serves set texts (world_of ⟦<S as Source>⟧ ⟦<K as Sink>⟧ ⟦<D as Disk>⟧ s k d) (world_of ⟦<S as Source>⟧ ⟦<K as Sink>⟧ ⟦<D as Disk>⟧ source.new sink.new disk.new) result }
+    {
+        match self.take_in(source, sink, disk, clock) {
+            End::Last(status) => status,
+            End::Open(status) => match self.let_go(disk, clock) {
+                Ok(()) => status,
+                Err(_) => Status::NoMem,
+            },
+        }
+    }
+
+    /// Puts the server's hello, and serves the connection until its reads end.
+    fn take_in<S: Source, K: Sink, D: Disk, C: Clock>(
+        &mut self,
+        source: &mut S,
+        sink: &mut K,
+        disk: &mut D,
+        clock: &mut C,
+    ) -> End
+        requires rests { IsResting (view_of self.old.keeper) }
+        requires unread { self.old.incoming.framer ≡ [] }
+        requires not_over { self.old.incoming.is_over ≡ false }
+        requires answers { self.old.answers ≡ [] }
+        requires known { (set : Settings) × (texts : List (List ℕ)) × (s : S) × (k : K) × (d : D) ×
+            Begun set texts (world_of ⟦<S as Source>⟧ ⟦<K as Sink>⟧ ⟦<D as Disk>⟧ s k d) (world_of ⟦<S as Source>⟧ ⟦<K as Sink>⟧ ⟦<D as Disk>⟧ source.old sink.old disk.old) (view_of self.old.keeper) }
+        ensures ends { (set : Settings) (texts : List (List ℕ)) (s : S) (k : K) (d : D) →
+            Begun set texts (world_of ⟦<S as Source>⟧ ⟦<K as Sink>⟧ ⟦<D as Disk>⟧ s k d) (world_of ⟦<S as Source>⟧ ⟦<K as Sink>⟧ ⟦<D as Disk>⟧ source.old sink.old disk.old) (view_of self.old.keeper) →
+            Ended set texts (world_of ⟦<S as Source>⟧ ⟦<K as Sink>⟧ ⟦<D as Disk>⟧ s k d) (world_of ⟦<S as Source>⟧ ⟦<K as Sink>⟧ ⟦<D as Disk>⟧ source.new sink.new disk.new) (view_of self.new.keeper) result }
+        ensures rests { IsResting (view_of self.new.keeper) }
+    {
+        match self.greet(sink) {
             Ok(()) => self.read(source, sink, disk, clock),
             Err(end) => end,
-        };
-        self.leave(end, disk, clock)
+        }
     }
 
     /// Puts the server's hello.
-    fn greet<K: Sink>(&mut self, sink: &mut K) -> Result<(), End> {
+    fn greet<K: Sink>(&mut self, sink: &mut K) -> Result<(), End>
+        requires { self.old.answers ≡ [] }
+        ensures put { K.tells → OnOk result (K.put sink.new ≡ K.put sink.old ++ frame_of (server_bytes server_hello)) }
+        ensures ends { IfErr result (HelloEnds K.tells (K.put sink.old) (K.put sink.new) (K.faults sink.old) (K.faults sink.new)) }
+        ensures faults { K.faults sink.old ≤ K.faults sink.new }
+        ensures keeper { self.new.keeper ≡ self.old.keeper }
+        ensures incoming { self.new.incoming ≡ self.old.incoming }
+    {
         let Ok(()) = put_hello(self.alloc, &mut self.answers) else {
             return Err(End::Last(Status::NoMem));
         };
@@ -80,18 +143,49 @@ impl<F: LineWriter + Drop, H: Search + Drop> Server<F, H> {
         sink: &mut K,
         disk: &mut D,
         clock: &mut C,
-    ) -> End {
+    ) -> End
+        requires rests { IsResting (view_of self.old.keeper) }
+        requires known { (set : Settings) × (texts : List (List ℕ)) × (s : S) × (k : K) × (d : D) ×
+            UnderWay set texts (world_of ⟦<S as Source>⟧ ⟦<K as Sink>⟧ ⟦<D as Disk>⟧ s k d) (world_of ⟦<S as Source>⟧ ⟦<K as Sink>⟧ ⟦<D as Disk>⟧ source.old sink.old disk.old) (view_of self.old.keeper) self.old.incoming.is_over self.old.incoming.framer }
+        ensures ends { (set : Settings) (texts : List (List ℕ)) (s : S) (k : K) (d : D) →
+            UnderWay set texts (world_of ⟦<S as Source>⟧ ⟦<K as Sink>⟧ ⟦<D as Disk>⟧ s k d) (world_of ⟦<S as Source>⟧ ⟦<K as Sink>⟧ ⟦<D as Disk>⟧ source.old sink.old disk.old) (view_of self.old.keeper) self.old.incoming.is_over self.old.incoming.framer →
+            Ended set texts (world_of ⟦<S as Source>⟧ ⟦<K as Sink>⟧ ⟦<D as Disk>⟧ s k d) (world_of ⟦<S as Source>⟧ ⟦<K as Sink>⟧ ⟦<D as Disk>⟧ source.new sink.new disk.new) (view_of self.new.keeper) result }
+        ensures rests { IsResting (view_of self.new.keeper) }
+    {
         let Ok(mut buf) = vec![in self.alloc; 0u8; PIECE] else {
             return End::Last(Status::NoMem);
         };
+        self.read_into(source, sink, disk, clock, &mut buf)
+    }
+
+    /// The same, with a buffer for the pieces.
+    fn read_into<S: Source, K: Sink, D: Disk, C: Clock>(
+        &mut self,
+        source: &mut S,
+        sink: &mut K,
+        disk: &mut D,
+        clock: &mut C,
+        buf: &mut [u8],
+    ) -> End
+        requires room { 0 < length buf.old }
+        requires small { length buf.old ≤ 65536 }
+        requires rests { IsResting (view_of self.old.keeper) }
+        requires known { (set : Settings) × (texts : List (List ℕ)) × (s : S) × (k : K) × (d : D) ×
+            UnderWay set texts (world_of ⟦<S as Source>⟧ ⟦<K as Sink>⟧ ⟦<D as Disk>⟧ s k d) (world_of ⟦<S as Source>⟧ ⟦<K as Sink>⟧ ⟦<D as Disk>⟧ source.old sink.old disk.old) (view_of self.old.keeper) self.old.incoming.is_over self.old.incoming.framer }
+        ensures ends { (set : Settings) (texts : List (List ℕ)) (s : S) (k : K) (d : D) →
+            UnderWay set texts (world_of ⟦<S as Source>⟧ ⟦<K as Sink>⟧ ⟦<D as Disk>⟧ s k d) (world_of ⟦<S as Source>⟧ ⟦<K as Sink>⟧ ⟦<D as Disk>⟧ source.old sink.old disk.old) (view_of self.old.keeper) self.old.incoming.is_over self.old.incoming.framer →
+            Ended set texts (world_of ⟦<S as Source>⟧ ⟦<K as Sink>⟧ ⟦<D as Disk>⟧ s k d) (world_of ⟦<S as Source>⟧ ⟦<K as Sink>⟧ ⟦<D as Disk>⟧ source.new sink.new disk.new) (view_of self.new.keeper) result }
+        ensures rests { IsResting (view_of self.new.keeper) }
+    {
         loop {
-            if let Some(end) = self.read_piece(source, sink, disk, clock, &mut buf) {
+            if let Some(end) = self.read_piece(source, sink, disk, clock, buf) {
                 return end;
             }
         }
     }
 
-    /// Reads a piece, does a turn of the jobs that it completes, and puts the answers.
+    /// Reads a piece, does a turn of the jobs that it completes, and puts the answers. It says how the reads end, where they
+    /// do.
     fn read_piece<S: Source, K: Sink, D: Disk, C: Clock>(
         &mut self,
         source: &mut S,
@@ -99,7 +193,22 @@ impl<F: LineWriter + Drop, H: Search + Drop> Server<F, H> {
         disk: &mut D,
         clock: &mut C,
         buf: &mut [u8],
-    ) -> Option<End> {
+    ) -> Option<End>
+        requires room { 0 < length buf.old }
+        requires small { length buf.old ≤ 65536 }
+        requires rests { IsResting (view_of self.old.keeper) }
+        requires known { (set : Settings) × (texts : List (List ℕ)) × (s : S) × (k : K) × (d : D) ×
+            UnderWay set texts (world_of ⟦<S as Source>⟧ ⟦<K as Sink>⟧ ⟦<D as Disk>⟧ s k d) (world_of ⟦<S as Source>⟧ ⟦<K as Sink>⟧ ⟦<D as Disk>⟧ source.old sink.old disk.old) (view_of self.old.keeper) self.old.incoming.is_over self.old.incoming.framer }
+        ensures on { IfNone result ((set : Settings) (texts : List (List ℕ)) (s : S) (k : K) (d : D) →
+            UnderWay set texts (world_of ⟦<S as Source>⟧ ⟦<K as Sink>⟧ ⟦<D as Disk>⟧ s k d) (world_of ⟦<S as Source>⟧ ⟦<K as Sink>⟧ ⟦<D as Disk>⟧ source.old sink.old disk.old) (view_of self.old.keeper) self.old.incoming.is_over self.old.incoming.framer →
+            UnderWay set texts (world_of ⟦<S as Source>⟧ ⟦<K as Sink>⟧ ⟦<D as Disk>⟧ s k d) (world_of ⟦<S as Source>⟧ ⟦<K as Sink>⟧ ⟦<D as Disk>⟧ source.new sink.new disk.new) (view_of self.new.keeper) self.new.incoming.is_over self.new.incoming.framer) }
+        ensures ends { IfSome result (λ end. (set : Settings) (texts : List (List ℕ)) (s : S) (k : K) (d : D) →
+            UnderWay set texts (world_of ⟦<S as Source>⟧ ⟦<K as Sink>⟧ ⟦<D as Disk>⟧ s k d) (world_of ⟦<S as Source>⟧ ⟦<K as Sink>⟧ ⟦<D as Disk>⟧ source.old sink.old disk.old) (view_of self.old.keeper) self.old.incoming.is_over self.old.incoming.framer →
+            Ended set texts (world_of ⟦<S as Source>⟧ ⟦<K as Sink>⟧ ⟦<D as Disk>⟧ s k d) (world_of ⟦<S as Source>⟧ ⟦<K as Sink>⟧ ⟦<D as Disk>⟧ source.new sink.new disk.new) (view_of self.new.keeper) end) }
+        ensures rests { IsResting (view_of self.new.keeper) }
+        ensures progress { IfNone result (S.count source.old < S.count source.new) }
+        ensures limit { S.count source.new < 2 ^ 63 }
+    {
         let Ok(count) = source.read(buf) else {
             return Some(End::Open(Status::ReadFault));
         };
@@ -121,7 +230,16 @@ impl<F: LineWriter + Drop, H: Search + Drop> Server<F, H> {
         disk: &mut D,
         clock: &mut C,
         jobs: Vec<Job>,
-    ) -> Result<(), NoMem> {
+    ) -> Result<(), NoMem>
+        requires stands { D.tells → (m : Machine) × Represents (view_of self.old.keeper) (D.view disk.old) m }
+        requires rests { IsResting (view_of self.old.keeper) }
+        ensures set { SameSet (view_of self.old.keeper) (view_of self.new.keeper) }
+        ensures rests { IsResting (view_of self.new.keeper) }
+        ensures incoming { self.new.incoming ≡ self.old.incoming }
+        ensures done { OnOk result (TurnDone D.tells jobs.items (view_of self.old.keeper) (view_of self.new.keeper) self.new.replies.items (D.view disk.old) (D.view disk.new)) }
+        ensures disk { OnErr result (disk.new ≡ disk.old) }
+        ensures roomier { OnErr result (IsRoomier (view_of self.old.keeper) (view_of self.new.keeper)) }
+    {
         self.replies.clear();
         self.keeper.ready(jobs.len(), &mut self.replies)?;
         let now = clock.now();
@@ -129,38 +247,50 @@ impl<F: LineWriter + Drop, H: Search + Drop> Server<F, H> {
         Ok(())
     }
 
-    /// Puts the answers of a turn.
-    fn answer<K: Sink>(&mut self, sink: &mut K) -> Option<End> {
+    /// Puts the answers of a turn. It says how the reads end, where they do.
+    fn answer<K: Sink>(&mut self, sink: &mut K) -> Option<End>
+        ensures on { IfNone result (shuts self.old.replies.items ≡ false) }
+        ensures put { K.tells → IfNone result (K.put sink.new ≡ K.put sink.old ++ frames_of (said_to once_conn self.old.replies.items)) }
+        ensures ends { IfSome result (AnswerEnds K.tells (shuts self.old.replies.items) (frames_of (said_to once_conn self.old.replies.items)) (K.put sink.old) (K.put sink.new) (K.faults sink.old) (K.faults sink.new)) }
+        ensures faults { K.faults sink.old ≤ K.faults sink.new }
+        ensures keeper { self.new.keeper ≡ self.old.keeper }
+        ensures incoming { self.new.incoming ≡ self.old.incoming }
+    {
         self.answers.truncate(0);
         let Ok(()) = put_replies(self.alloc, &mut self.answers, &self.replies) else {
             return Some(End::Last(Status::NoMem));
         };
         let is_shut = shuts(&self.replies);
-        match write_answers(sink, self.answers.as_slice()) {
-            Ok(()) => if is_shut { Some(End::Last(Status::Served)) } else { None },
-            Err(_) => Some(if is_shut {
-                End::Last(Status::WriteFault)
-            } else {
-                End::Open(Status::WriteFault)
-            }),
+        let Ok(()) = write_answers(sink, self.answers.as_slice()) else {
+            return Some(unput(is_shut));
+        };
+        if is_shut {
+            return Some(End::Last(Status::Served));
         }
-    }
-
-    /// Lets the connection go, where it has to: a turn with its end alone.
-    fn leave<D: Disk, C: Clock>(&mut self, end: End, disk: &mut D, clock: &mut C) -> Status {
-        match end {
-            End::Last(status) => status,
-            End::Open(status) => match self.let_go(disk, clock) {
-                Ok(()) => status,
-                Err(_) => Status::NoMem,
-            },
-        }
+        None
     }
 
     /// A turn with the end of the connection alone.
-    fn let_go<D: Disk, C: Clock>(&mut self, disk: &mut D, clock: &mut C) -> Result<(), NoMem> {
+    fn let_go<D: Disk, C: Clock>(&mut self, disk: &mut D, clock: &mut C) -> Result<(), NoMem>
+        requires stands { D.tells → (m : Machine) × Represents (view_of self.old.keeper) (D.view disk.old) m }
+        requires rests { IsResting (view_of self.old.keeper) }
+        ensures set { SameSet (view_of self.old.keeper) (view_of self.new.keeper) }
+        ensures done { OnOk result (TurnDone D.tells (jobs_of (bodies.Gone ∷ [])) (view_of self.old.keeper) (view_of self.new.keeper) self.new.replies.items (D.view disk.old) (D.view disk.new)) }
+        ensures disk { OnErr result (disk.new ≡ disk.old) }
+    {
         let mut jobs = Vec::new(self.alloc);
         put_job(&mut jobs, Body::Gone)?;
         self.turn(disk, clock, jobs)
+    }
+}
+
+/// How the reads end where answers couldn't be put.
+fn unput(is_shut: bool) -> End
+    ensures { result ≡ unput is_shut }
+{
+    if is_shut {
+        End::Last(Status::WriteFault)
+    } else {
+        End::Open(Status::WriteFault)
     }
 }

@@ -1,0 +1,174 @@
+-- For proofs of a run under way: what its reads have made so far.
+use Rattle.std.specs.Prelude.{◌≡◌, ◌≤◌, ◌<◌, ◌-◌, ◌^◌, ◌⊎◌, ◌++◌, ℕ, Bool, true, false, List, [], ◌∷◌, length, All, IsSome}
+use Rattle.std.specs.List.{concat}
+use Rattle.lsv_words.specs.Causes.{HasRisen}
+use Rattle.lsv_words.specs.Pieces.{IsPrefix}
+use Rattle.lsv_base.specs.Time.{nanos_of}
+use Rattle.lsv_base.specs.declared.time.TimeSpec.{TimeSpec}
+use Rattle.lsv_disk.specs.View.{DiskView}
+use Rattle.lsv_wire.specs.Frame.{frame_of}
+use Rattle.lsv_msg.specs.Messages.{server_bytes}
+use Rattle.lsv_session.specs.Connections.{server_hello}
+use Rattle.lsv_session.specs.Transcript.{AreAllJobs, AreJobs, HasCut, answers}
+use Rattle.lsv_session.specs.declared.job.Body.{Body}
+use Rattle.lsv_session.specs.declared.job.Job.{Job}
+use Rattle.lsv_session.specs.declared.reply.Reply.{Reply}
+use Rattle.lsv_machine.specs.InnerSoFar.{SoFar}
+use Rattle.lsv_machine.specs.Machine.{Machine, Settings}
+use Rattle.lsv_machine.specs.Recovery.{Story}
+use Rattle.lsv_keeper.specs.Reading.{reading_of}
+use Rattle.lsv_keeper.specs.Represents.{Represents}
+use Rattle.lsv_keeper.specs.Tails.{TurnGives}
+use Rattle.lsv_keeper.specs.Value.{KeeperView, settings_of}
+use Rattle.lsv_keeper.specs.declared.fault.StoreFault.{StoreFault}
+use Rattle.lsv_keeper.specs.declared.fault.StoreFault.TheVariants as faults
+use Rattle.lsv_serve.specs.declared.server.End.{End}
+use Rattle.lsv_serve.specs.declared.server.End.TheVariants as ends
+use Rattle.lsv_serve.specs.declared.status.Status.{Status}
+use Rattle.lsv_serve.specs.declared.status.Status.TheVariants.{Served, Usage, Store, ReadFault, WriteFault, NoMem}
+use Rattle.lsv_serve.specs.Causes.{HasStatusCause}
+use Rattle.lsv_serve.specs.Once.{AreTurns, RunsOnce}
+use Rattle.lsv_serve.specs.Tape.{PutsFor, ShutLast, TapeTurn, TurnsOf, bodies_in, jobs_of, once_conn, replies_in, was_shut}
+use Rattle.lsv_serve.specs.World.{World}
+
+-- ---- Jobs
+
+-- how far the jobs of what was read are cut; where a job was no message they are all, however the bytes go on
+abbrev pub Cuts : (over : Bool) → (read : List ℕ) (said : List Body) (unread : List ℕ) → Type 0
+Cuts true read said unread = AreAllJobs read said
+Cuts false read said unread = HasCut read said unread
+
+-- some jobs more were cut from the front of what is unread, and put behind others
+pub record CutsOn (jobs : List Job) (over : Bool) (unread : List ℕ) (jobs' : List Job) (over' : Bool) (unread' : List ℕ) : Type 0 where
+  pub bodies : List Body
+  pub are : jobs' ≡ jobs ++ jobs_of bodies
+  pub goes : (read : List ℕ) (said : List Body) → Cuts over read said unread → Cuts over' read (said ++ bodies) unread'
+
+-- the same, and no job is left
+pub record CutsAll (jobs : List Job) (over : Bool) (unread : List ℕ) (jobs' : List Job) (over' : Bool) (unread' : List ℕ) : Type 0 where
+  pub cuts : CutsOn jobs over unread jobs' over' unread'
+  pub all : (read : List ℕ) (said : List Body) → Cuts over read said unread → AreJobs read (said ++ cuts.bodies)
+
+-- a piece was read, and these are the jobs that it completes
+pub record Takes (piece : List ℕ) (over : Bool) (unread : List ℕ) (jobs : List Job) (over' : Bool) (unread' : List ℕ) : Type 0 where
+  pub bodies : List Body
+  pub are : jobs ≡ jobs_of bodies
+  pub goes : (read : List ℕ) (said : List Body) → Cuts over read said unread → Cuts over' (read ++ piece) (said ++ bodies) unread'
+  pub all : (read : List ℕ) (said : List Body) → Cuts over read said unread → AreJobs (read ++ piece) (said ++ bodies)
+
+-- ---- Turns
+
+-- a turn was made of these jobs
+pub record TurnDone (tells : Type 0) (jobs : List Job) (v v' : KeeperView) (replies : List Reply) (old new : DiskView) : Type 0 where
+  pub now : TimeSpec
+  pub valid : IsSome (nanos_of now)
+  pub gives : tells → (m : Machine) → Represents v old m → TurnGives v now jobs m [] replies v' old new
+
+-- the turns so far are the machine's, for which the keeper and the disk stand
+pub record Standing (set : Settings) (texts : List (List ℕ)) (found now : DiskView) (v : KeeperView) (turns : List TapeTurn) : Type 0 where
+  pub machine : Machine
+  pub story : Story
+  pub so_far : SoFar (reading_of set.lane set.lanes) set texts (record { found = found; left = now }) machine story
+  pub same : AreTurns turns story.turns
+  pub represents : Represents v now machine
+
+-- ---- The reads of a run
+
+-- what was read so far, and no count of faults fell
+pub record HasRead (old now : World) (pieces : List (List ℕ)) : Type 0 where
+  pub given : old.source_tells → now.given ≡ old.given ++ pieces
+  pub rest : old.source_tells → old.rest ≡ concat pieces ++ now.rest
+  pub small : All (λ piece. length piece ≤ 65536) pieces
+  pub read_faults : old.read_faults ≤ now.read_faults
+  pub write_faults : old.write_faults ≤ now.write_faults
+
+-- a run between two reads
+pub record UnderWay (set : Settings) (texts : List (List ℕ)) (old now : World) (v : KeeperView) (over : Bool) (unread : List ℕ) : Type 0 where
+  pub pieces : List (List ℕ)
+  pub reads : List TapeTurn
+  pub read : HasRead old now pieces
+  pub turns : TurnsOf [] [] pieces reads
+  pub moments : All (λ t. IsSome (nanos_of t.now)) reads
+  pub not_shut : was_shut reads ≡ false
+  pub cuts : Cuts over (concat pieces) (bodies_in reads) unread
+  pub put : old.sink_tells → now.put ≡ old.put ++ answers once_conn (replies_in reads)
+  pub set_is : settings_of v ≡ set
+  pub standing : old.disk_tells → Standing set texts old.disk now.disk v reads
+
+-- how the reads of a run may end, where the connection was shut or not
+abbrev pub MayEnd : End → (shut : Bool) → Type 0
+MayEnd (ends.Open Served) shut = shut ≡ false
+MayEnd (ends.Open ReadFault) shut = shut ≡ false
+MayEnd (ends.Open WriteFault) shut = shut ≡ false
+MayEnd (ends.Open status) shut = ⊥
+MayEnd (ends.Last Served) shut = shut ≡ true
+MayEnd (ends.Last WriteFault) shut = shut ≡ true
+MayEnd (ends.Last NoMem) shut = Unit {0}
+MayEnd (ends.Last status) shut = ⊥
+
+-- the status of such an end
+abbrev pub status_in : End → Status
+status_in (ends.Open status) = status
+status_in (ends.Last status) = status
+
+-- the reads of a run came to an end
+pub record Ended (set : Settings) (texts : List (List ℕ)) (old now : World) (v : KeeperView) (end : End) : Type 0 where
+  pub pieces : List (List ℕ)
+  pub lost : List (List ℕ)
+  pub reads : List TapeTurn
+  pub read : HasRead old now (pieces ++ lost)
+  pub turns : TurnsOf [] [] pieces reads
+  pub moments : All (λ t. IsSome (nanos_of t.now)) reads
+  pub shut_last : ShutLast reads
+  pub ends : MayEnd end (was_shut reads)
+  pub few_lost : (lost ≡ []) ⊎ ((status_in end ≡ NoMem) × (was_shut reads ≡ false) × ((piece : List ℕ) × (lost ≡ piece ∷ [])))
+  pub ended : status_in end ≡ Served → was_shut reads ≡ false → old.source_tells → now.count < 2 ^ 63 - 1 → now.rest ≡ []
+  pub put : old.sink_tells → (bytes : List ℕ) × (now.put ≡ old.put ++ bytes) × PutsFor (status_in end) reads bytes
+  pub set_is : settings_of v ≡ set
+  pub standing : old.disk_tells → Standing set texts old.disk now.disk v reads
+  pub cause : HasStatusCause old now (status_in end)
+
+-- ---- What is put
+
+-- the server's hello was put in part: memory was wanting, or the write failed
+abbrev pub HelloEnds : (tells : Type 0) (put put' : List ℕ) (faults faults' : ℕ) → End → Type 0
+HelloEnds tells put put' faults faults' (ends.Last NoMem) = tells → put' ≡ put
+HelloEnds tells put put' faults faults' (ends.Open WriteFault) = HasRisen faults faults' × (tells → (front : List ℕ) × IsPrefix front (frame_of (server_bytes server_hello)) × (put' ≡ put ++ front))
+HelloEnds tells put put' faults faults' end = ⊥
+
+-- the answers of a turn were put in part, or all of them and the connection was shut
+abbrev pub AnswerEnds : (tells : Type 0) (shut : Bool) (frames put put' : List ℕ) (faults faults' : ℕ) → End → Type 0
+AnswerEnds tells shut frames put put' faults faults' (ends.Last NoMem) = tells → put' ≡ put
+AnswerEnds tells shut frames put put' faults faults' (ends.Last Served) = (shut ≡ true) × (tells → put' ≡ put ++ frames)
+AnswerEnds tells shut frames put put' faults faults' (ends.Last WriteFault) = (shut ≡ true) × HasRisen faults faults' × (tells → (front : List ℕ) × IsPrefix front frames × (put' ≡ put ++ front))
+AnswerEnds tells shut frames put put' faults faults' (ends.Open WriteFault) = (shut ≡ false) × HasRisen faults faults' × (tells → (front : List ℕ) × IsPrefix front frames × (put' ≡ put ++ front))
+AnswerEnds tells shut frames put put' faults faults' end = ⊥
+
+-- how the reads end where answers couldn't be put
+abbrev pub unput : (shut : Bool) → End
+unput true = ends.Last WriteFault
+unput false = ends.Open WriteFault
+
+-- ---- The start and the end
+
+-- a run whose store was opened, before anything was put or read
+pub record Begun (set : Settings) (texts : List (List ℕ)) (old now : World) (v : KeeperView) : Type 0 where
+  pub given : old.source_tells → now.given ≡ old.given
+  pub rest : old.source_tells → now.rest ≡ old.rest
+  pub put : old.sink_tells → now.put ≡ old.put
+  pub read_faults : old.read_faults ≤ now.read_faults
+  pub write_faults : old.write_faults ≤ now.write_faults
+  pub set_is : settings_of v ≡ set
+  pub standing : old.disk_tells → Standing set texts old.disk now.disk v []
+
+-- a run is over
+pub record Serves (set : Settings) (texts : List (List ℕ)) (old new : World) (status : Status) : Type 0 where
+  pub runs : RunsOnce set texts old new status
+  pub cause : HasStatusCause old new status
+
+-- the status of a run whose store isn't opened
+abbrev pub store_status : StoreFault → Status
+store_status faults.NoMem = NoMem
+store_status (faults.Device o) = Store (faults.Device o)
+store_status (faults.Damaged file) = Store (faults.Damaged file)
+store_status (faults.LanesDiffer kept asked) = Store (faults.LanesDiffer kept asked)
