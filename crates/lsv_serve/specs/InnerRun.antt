@@ -1,6 +1,6 @@
 -- For proofs of a run under way: what its reads have made so far.
-use Rattle.std.specs.Prelude.{◌≡◌, ◌≤◌, ◌<◌, ◌-◌, ◌^◌, ◌⊎◌, ◌++◌, ℕ, Bool, true, false, List, [], ◌∷◌, length, All, IsSome}
-use Rattle.std.specs.List.{concat}
+use Rattle.std.specs.Prelude.{◌≡◌, ◌≤◌, ◌<◌, ◌-◌, ◌^◌, ◌⊎◌, ◌++◌, ℕ, Bool, true, false, List, [], ◌∷◌, length, IsSome}
+use Rattle.std.specs.List.{AllByRecursion, concat}
 use Rattle.lsv_words.specs.Causes.{HasRisen}
 use Rattle.lsv_words.specs.Pieces.{IsPrefix}
 use Rattle.lsv_base.specs.Time.{nanos_of}
@@ -78,7 +78,7 @@ pub record Standing (set : Settings) (texts : List (List ℕ)) (found now : Disk
 pub record HasRead (old now : World) (pieces : List (List ℕ)) : Type 0 where
   pub given : old.source_tells → now.given ≡ old.given ++ pieces
   pub rest : old.source_tells → old.rest ≡ concat pieces ++ now.rest
-  pub small : All (λ piece. length piece ≤ 65536) pieces
+  pub small : AllByRecursion (λ piece. length piece ≤ 65536) pieces
   pub read_faults : old.read_faults ≤ now.read_faults
   pub write_faults : old.write_faults ≤ now.write_faults
 
@@ -88,12 +88,27 @@ pub record UnderWay (set : Settings) (texts : List (List ℕ)) (old now : World)
   pub reads : List TapeTurn
   pub read : HasRead old now pieces
   pub turns : TurnsOf [] [] pieces reads
-  pub moments : All (λ t. IsSome (nanos_of t.now)) reads
+  pub moments : AllByRecursion (λ t. IsSome (nanos_of t.now)) reads
   pub not_shut : was_shut reads ≡ false
   pub cuts : Cuts over (concat pieces) (bodies_in reads) unread
   pub put : old.sink_tells → now.put ≡ old.put ++ answers once_conn (replies_in reads)
   pub set_is : settings_of v ≡ set
   pub standing : old.disk_tells → Standing set texts old.disk now.disk v reads
+
+-- a run behind a turn, whose answers are not put yet
+pub record Unput (set : Settings) (texts : List (List ℕ)) (old now : World) (v : KeeperView) (over : Bool) (unread : List ℕ) (replies : List Reply) : Type 0 where
+  pub pieces : List (List ℕ)
+  pub earlier : List TapeTurn
+  pub last : TapeTurn
+  pub replies_are : last.replies ≡ replies
+  pub read : HasRead old now pieces
+  pub turns : TurnsOf [] [] pieces (earlier ++ last ∷ [])
+  pub moments : AllByRecursion (λ t. IsSome (nanos_of t.now)) (earlier ++ last ∷ [])
+  pub not_shut : was_shut earlier ≡ false
+  pub cuts : Cuts over (concat pieces) (bodies_in (earlier ++ last ∷ [])) unread
+  pub put : old.sink_tells → now.put ≡ old.put ++ answers once_conn (replies_in earlier)
+  pub set_is : settings_of v ≡ set
+  pub standing : old.disk_tells → Standing set texts old.disk now.disk v (earlier ++ last ∷ [])
 
 -- how the reads of a run may end, where the connection was shut or not
 abbrev pub MayEnd : End → (shut : Bool) → Type 0
@@ -118,7 +133,7 @@ pub record Ended (set : Settings) (texts : List (List ℕ)) (old now : World) (v
   pub reads : List TapeTurn
   pub read : HasRead old now (pieces ++ lost)
   pub turns : TurnsOf [] [] pieces reads
-  pub moments : All (λ t. IsSome (nanos_of t.now)) reads
+  pub moments : AllByRecursion (λ t. IsSome (nanos_of t.now)) reads
   pub shut_last : ShutLast reads
   pub ends : MayEnd end (was_shut reads)
   pub few_lost : (lost ≡ []) ⊎ ((status_in end ≡ NoMem) × (was_shut reads ≡ false) × ((piece : List ℕ) × (lost ≡ piece ∷ [])))

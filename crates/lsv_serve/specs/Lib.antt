@@ -2,5 +2,7 @@ pub mod Status
 pub mod World
 pub mod Tape
 pub mod Once
+pub mod Complete
 pub mod Causes
+pub mod Room
 pub mod InnerRun

@@ -1,6 +1,6 @@
 -- A run of the command `once`: what it read, what it put, and what it did with the store, also where device calls fail and wherever the machine stops.
-use Rattle.std.specs.Prelude.{◌≡◌, ◌≢◌, ◌≤◌, ◌<◌, ◌-◌, ◌^◌, ◌⊎◌, ◌++◌, ℕ, Bool, false, List, [], ◌∷◌, length, map, All, IsSome, None, Ok, codes}
-use Rattle.std.specs.List.{concat, flat_map}
+use Rattle.std.specs.Prelude.{◌≡◌, ◌≢◌, ◌≤◌, ◌<◌, ◌-◌, ◌^◌, ◌⊎◌, ◌++◌, ℕ, Bool, false, List, [], ◌∷◌, length, map, IsSome, None, Ok, codes}
+use Rattle.std.specs.List.{AllByRecursion, concat, flat_map}
 use Rattle.lsv_base.specs.Time.{nanos_of}
 use Rattle.lsv_disk.specs.View.{DiskView, IsCrashImage}
 use Rattle.lsv_event.specs.declared.event.Kind.{Kind}
@@ -43,13 +43,13 @@ pub record Reads (old new : World) (status : Status) (tape : Tape) : Type 0 wher
   pub pieces : List (List ℕ)
   -- the piece for which memory was wanting
   pub lost : List (List ℕ)
-  pub given : old.source_tells → new.given ≡ old.given ++ pieces ++ lost
+  pub given : old.source_tells → new.given ≡ old.given ++ (pieces ++ lost)
   pub read : old.source_tells → old.rest ≡ concat (pieces ++ lost) ++ new.rest
-  pub small : All (λ piece. length piece ≤ 65536) (pieces ++ lost)
+  pub small : AllByRecursion (λ piece. length piece ≤ 65536) (pieces ++ lost)
   pub turns : TurnsOf [] [] pieces tape.reads
   pub shut_last : ShutLast tape.reads
   pub ends : EndsFor status tape
-  pub moments : All (λ t. IsSome (nanos_of t.now)) (turns_in tape)
+  pub moments : AllByRecursion (λ t. IsSome (nanos_of t.now)) (turns_in tape)
   -- a piece is lost only where memory was wanting, and was read while the connection wasn't shut
   pub few_lost : (lost ≡ []) ⊎ ((status ≡ NoMem) × (was_shut tape.reads ≡ false) × ((piece : List ℕ) × (lost ≡ piece ∷ [])))
   -- a connection that is served and wasn't shut came to the end of the input
@@ -101,16 +101,16 @@ pub record Conforms (set : Settings) (texts : List (List ℕ)) (o : Outside) (ta
 abbrev pub outside_of : World → World → Outside
 outside_of old new = record { found = old.disk; left = new.disk }
 
--- a run with these settings and prompts, whatever its status
+-- what a run did with the store, at whatever status: its turns are the machine's, and at each moment each log recovers from a crash
+pub record KeepsStore (set : Settings) (texts : List (List ℕ)) (o : Outside) (status : Status) (tape : Tape) : Type 0 where
+  pub story : Story
+  pub turns : AreTurns (turns_in tape) story.turns
+  pub conforms : IsOpened status tape → Conforms set texts o tape story
+  pub recovers : Recovers (reading_of set.lane set.lanes) set.lane set.lanes texts o story
+
+-- a run with these settings and prompts: its turns are what was read, what was put are their answers, and the store is kept
 pub record RunsOnce (set : Settings) (texts : List (List ℕ)) (old new : World) (status : Status) : Type 0 where
   pub tape : Tape
-  pub story : Story
-  -- the turns are what was read
   pub reads : Reads old new status tape
-  -- what was put are their answers
   pub puts : old.sink_tells → (bytes : List ℕ) × (new.put ≡ old.put ++ bytes) × PutsFor status tape.reads bytes
-  -- they are the machine's
-  pub turns : old.disk_tells → AreTurns (turns_in tape) story.turns
-  pub conforms : old.disk_tells → IsOpened status tape → Conforms set texts (outside_of old new) tape story
-  -- and at each moment each log recovers from a crash
-  pub recovers : old.disk_tells → Recovers (reading_of set.lane set.lanes) set.lane set.lanes texts (outside_of old new) story
+  pub keeps : old.disk_tells → KeepsStore set texts (outside_of old new) status tape

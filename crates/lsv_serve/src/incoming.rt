@@ -1,10 +1,12 @@
 //! The bytes of the one connection, and the jobs that they are.
 
-ghost use Rattle.std.specs.Prelude.{◌≡◌, ◌<◌, ◌++◌, ◌∷◌, [], true, false, length, IfOk, OnOk};
+ghost use Rattle.std.specs.Prelude.{◌≡◌, ◌≢◌, ◌<◌, ◌++◌, ◌∷◌, [], true, false, length, IfOk, OnOk};
 ghost use Rattle.std.specs.Bool.{OnTrue, OnFalse};
 ghost use Rattle.lsv_serve.specs.InnerRun.{CutsAll, CutsOn, Takes};
 ghost use Rattle.lsv_serve.specs.Tape.{once_conn};
+ghost use Rattle.lsv_msg.specs.declared.fault.MsgFault.TheVariants as message_faults;
 ghost use Rattle.lsv_session.specs.declared.job.Body.TheVariants as bodies;
+ghost use Rattle.lsv_session.specs.declared.job.Fault.TheVariants as faults;
 
 use crate::server::CONN;
 use lsv_base::NoMem;
@@ -73,24 +75,39 @@ impl Incoming {
                         self.framer.consume(length);
                         Ok(true)
                     }
-                    Err(MsgFault::NoMem) => Err(NoMem),
-                    Err(fault) => self.end(jobs, Fault::Malformed(fault)),
+                    Err(fault) => {
+                        self.end(jobs, malformed(fault)?)?;
+                        Ok(false)
+                    }
                 }
             }
-            Err(stated) => self.end(jobs, Fault::TooLarge(stated)),
+            Err(stated) => {
+                self.end(jobs, Fault::TooLarge(stated))?;
+                Ok(false)
+            }
         }
     }
 
     /// Puts a last job at the end: what follows is no message.
-    fn end(&mut self, jobs: &mut Vec<Job>, fault: Fault) -> Result<bool, NoMem>
-        ensures none { IfOk result (λ more. more ≡ false) }
+    fn end(&mut self, jobs: &mut Vec<Job>, fault: Fault) -> Result<(), NoMem>
         ensures over { OnOk result (self.new.is_over ≡ true) }
         ensures framer { self.new.framer ≡ self.old.framer }
         ensures put { OnOk result (jobs.new.items ≡ jobs.old.items ++ record { conn = once_conn; body = bodies.Bad fault } ∷ []) }
     {
         put_job(jobs, Body::Bad(fault))?;
         self.is_over = true;
-        Ok(false)
+        Ok(())
+    }
+}
+
+/// Why the bytes of a frame are no message, unless memory was wanting.
+fn malformed(fault: MsgFault) -> Result<Fault, NoMem>
+    ensures is { IfOk result (λ why. why ≡ faults.Malformed fault) }
+    ensures known { OnOk result (fault ≢ message_faults.NoMem) }
+{
+    match fault {
+        MsgFault::NoMem => Err(NoMem),
+        fault => Ok(Fault::Malformed(fault)),
     }
 }
 

