@@ -1,6 +1,6 @@
 -- Accepts, as the methods have them: what each of their ends gives.
 use Rattle.std.proofs.Common.{◌≡◌, ◌≢◌, ◌≤◌, ◌<◌, ◌+◌, ◌*◌, ℕ, List, length, refl, sym, ◌∙◌, ap, subst, inl, inr, arith, Option, Some, None, ◌⊎◌}
-use Rattle.std.specs.Prelude.{true, false, Result, Err, IsErrOf}
+use Rattle.std.specs.Prelude.{◌&&◌, not, Bool, true, false, Result, Err, IsErrOf}
 use Rattle.lsv_disk.specs.View.{DiskView, Elsewhere}
 use Rattle.lsv_disk.specs.declared.file.Owner.TheVariants as owners
 use Rattle.lsv_base.specs.declared.time.TimeSpec.{TimeSpec}
@@ -165,6 +165,12 @@ named_line v v2 now k head n peer keeps is =
 -- an accept that opens a log says that records will follow
 pub opening_is : (accept : Accept) → accept.expect_iobufs ≡ true → accept_of accept.head ≡ accept
 opening_is accept e = λ i. record { head = accept.head; expect_iobufs = sym e i }
+
+-- where a session runs, or no records will follow, it opens none
+pub opens_none : (running more : Bool) → (running ≡ true) ⊎ (more ≡ false) → (not running && more) ≡ false
+opens_none running more (inl e) = ap (λ (x : Bool). not x && more) e
+opens_none true more (inr e) = refl
+opens_none false more (inr e) = e
 
 -- its log was begun
 pub begun_at : (v v' : KeeperView) (old new : DiskView) (now : TimeSpec) (k : ConnId) (head : Head) (m : Machine) (n : ℕ) (text : List ℕ) → Laws old → is_running (m.states k) ≡ false → Begun v now k n head m v' old new
