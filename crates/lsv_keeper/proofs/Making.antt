@@ -1,5 +1,5 @@
 -- Accepts, as the methods have them: what each of their ends gives.
-use Rattle.std.proofs.Common.{◌≡◌, ◌≢◌, ◌≤◌, ◌<◌, ◌+◌, ◌*◌, ℕ, List, length, refl, sym, ◌∙◌, ap, subst, inl, inr, arith, Option, Some, None, ◌⊎◌}
+use Rattle.std.proofs.Common.{◌≡◌, ◌≢◌, ◌≤◌, ◌<◌, ℕ, List, refl, sym, ◌∙◌, ap, subst, inl, inr, arith, Option, Some, None, ◌⊎◌}
 use Rattle.std.specs.Prelude.{◌&&◌, not, Bool, true, false, Result, Err, IsErrOf}
 use Rattle.lsv_disk.specs.View.{DiskView, Elsewhere}
 use Rattle.lsv_disk.specs.declared.file.Owner.TheVariants as owners

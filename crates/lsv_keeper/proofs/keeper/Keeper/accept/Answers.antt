@@ -1,5 +1,5 @@
 -- In a session, or where no records will follow, an accept is an event alone; else it opens a log.
-use Rattle.std.proofs.Common.{◌≡◌, refl, sym, ◌∙◌, ap, subst, inl, inr, ℕ, Option, None}
+use Rattle.std.proofs.Common.{◌≡◌, sym, ◌∙◌, ap, subst, inl, inr, ℕ, Option, None}
 use Rattle.std.specs.Prelude.{◌&&◌, not, Bool, true, false}
 use Rattle.lsv_event.specs.Lines.{line_of}
 use Rattle.lsv_event.specs.declared.event.Event.TheVariants as event
@@ -8,16 +8,14 @@ use Rattle.lsv_request.specs.declared.request.Accept.{Accept}
 use Rattle.lsv_request.specs.declared.request.Request.TheVariants as request
 use Rattle.lsv_session.specs.declared.connection.ConnState.{ConnState}
 use Rattle.lsv_session.specs.declared.connection.ConnState.TheVariants.{Running}
-use Rattle.lsv_machine.specs.Failures.{AsksFor}
-use Rattle.lsv_machine.specs.Machine.{Machine, is_running, log_of}
+use Rattle.lsv_machine.specs.Machine.{is_running, log_of}
 use Rattle.lsv_keeper.specs.declared.report.Next.{Next}
 use Rattle.lsv_keeper.specs.declared.report.Next.TheVariants as next
-use Rattle.lsv_keeper.specs.Accepting.{EntersNoLog, IsEventOf, unless_running}
-use Rattle.lsv_keeper.specs.Value.{KeeperView, peer_of, settings_of}
+use Rattle.lsv_keeper.specs.Accepting.{IsEventOf, unless_running}
+use Rattle.lsv_keeper.specs.Value.{KeeperView, settings_of}
 use Rattle.lsv_keeper.specs.Views.{view_of}
-use Rattle.lsv_keeper.proofs.Asking.{accept_timed}
-use Rattle.lsv_keeper.proofs.EventKinds.{accept_event, enters_none}
-use Rattle.lsv_keeper.proofs.Making.{opening_is, opens_none}
+use Rattle.lsv_keeper.proofs.EventKinds.{accept_event}
+use Rattle.lsv_keeper.proofs.Making.{opens_none}
 use Rattle.lsv_keeper.proofs.keeper.Keeper.accept.Goals.{else-not-is_running-via-then-not-is_running+else-expect_iobufs, else-not-is_running-via-else-not-is_running}
 use Rattle.lsv_keeper.proofs.keeper.Keeper.accept.Goals as goal
 

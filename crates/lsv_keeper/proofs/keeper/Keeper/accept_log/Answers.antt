@@ -1,10 +1,8 @@
 -- A log is opened, and its number told; or the connection is refused, however far the accept came.
-use Rattle.std.proofs.Common.{◌≡◌, ◌≤◌, refl, sym, ◌∙◌, ap, subst}
-use Rattle.std.specs.Prelude.{false}
-use Rattle.lsv_session.specs.declared.connection.ConnState.{ConnState}
+use Rattle.std.proofs.Common.{◌∙◌, ap}
 use Rattle.lsv_session.specs.declared.connection.ConnState.TheVariants.{Dead}
 use Rattle.lsv_machine.specs.Machine.{is_running}
-use Rattle.lsv_keeper.specs.Value.{KeeperView, sessions_of}
+use Rattle.lsv_keeper.specs.Value.{sessions_of}
 use Rattle.lsv_keeper.specs.Views.{view_of}
 use Rattle.lsv_keeper.proofs.Making.{begun_at, keeps_then, room_in_any, stopped_at}
 use Rattle.lsv_keeper.proofs.keeper.Keeper.accept_log.Goals as goal

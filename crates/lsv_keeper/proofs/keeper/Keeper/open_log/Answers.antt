@@ -1,36 +1,29 @@
 -- Each place where an accept that opens a log may stop, and its end.
-use Rattle.std.proofs.Common.{◌≡◌, ◌≤◌, ◌+◌, ℕ, List, Some, None, refl, sym, ◌∙◌, ap, subst, arith}
-use Rattle.std.specs.Prelude.{true, false}
-use Rattle.lsv_disk.specs.View.{DiskView}
+use Rattle.std.proofs.Common.{◌≡◌, ◌≤◌, Some, None, sym, ◌∙◌, ap, subst}
 use Rattle.lsv_disk.specs.declared.file.Owner.TheVariants as owners
 use Rattle.lsv_disk.specs.declared.file.Part.TheVariants as parts
 use Rattle.lsv_event.specs.Lines.{line_of}
 use Rattle.lsv_event.specs.declared.event.Event.TheVariants as event
-use Rattle.lsv_event.specs.declared.event.Kind.{Kind}
-use Rattle.lsv_event.specs.declared.event.Peer.{Peer}
 use Rattle.lsv_info.specs.Layout.{head_text}
 use Rattle.lsv_iolog.specs.Recovered.{IsOfLog, Replays}
-use Rattle.lsv_iolog.specs.Value.{bare, made}
+use Rattle.lsv_iolog.specs.Value.{made}
 use Rattle.lsv_iolog.specs.declared.fault.LogFault.TheVariants as faults
-use Rattle.lsv_iolog.proofs.Representing.{every_image}
 use Rattle.lsv_request.specs.declared.refusal.Refusal.{Refusal}
 use Rattle.lsv_session.specs.Table.{sessions, spare_owners}
 use Rattle.lsv_session.specs.declared.connection.ConnState.TheVariants.{Running}
 use Rattle.lsv_session.specs.declared.table.Table.{Table}
 use Rattle.lsv_machine.specs.Machine.{Machine, is_running}
-use Rattle.lsv_machine.specs.Work.{draws, makes}
-use Rattle.lsv_keeper.specs.declared.logs.OpenLog.{OpenLog}
+use Rattle.lsv_machine.specs.Work.{makes}
 use Rattle.lsv_keeper.specs.declared.logs.OpenLogs.{OpenLogs}
 use Rattle.lsv_keeper.specs.Accepting.{Stopped}
 use Rattle.lsv_keeper.specs.Logs.{spare_logs}
 use Rattle.lsv_keeper.specs.Represents.{Represents}
-use Rattle.lsv_keeper.specs.Value.{KeeperView, event_line, sessions_of}
+use Rattle.lsv_keeper.specs.Value.{KeeperView, sessions_of}
 use Rattle.lsv_keeper.specs.Views.{view_of}
-use Rattle.lsv_keeper.proofs.Accepting.{asked}
 use Rattle.lsv_keeper.proofs.Beginning.{reserved_keeps, reserved_represents}
 use Rattle.lsv_keeper.proofs.Counting.{owner_rose}
 use Rattle.lsv_keeper.proofs.Frames.{Laws}
-use Rattle.lsv_keeper.proofs.Making.{Ready, begun_keeps, create_err, drawn_keeps, drawn_room, lined_keeps, lined_room, made_reads, named_line, ready, room_in_any}
+use Rattle.lsv_keeper.proofs.Making.{begun_keeps, create_err, drawn_keeps, lined_keeps, lined_room, made_reads, named_line, ready, room_in_any}
 use Rattle.lsv_keeper.proofs.Reporting.{if_err_as}
 use Rattle.lsv_keeper.proofs.Stopping.{MadeIt, begins, line_stops, made_it, none_drawn, not_made, nothing_done}
 use Rattle.lsv_keeper.proofs.keeper.Keeper.open_log.Goals as goal
