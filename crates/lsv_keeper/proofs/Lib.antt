@@ -41,3 +41,4 @@ pub mod Reporting
 pub mod Accepting
 pub mod Stopping
 pub mod EventKinds
+pub mod Making

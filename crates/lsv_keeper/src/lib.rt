@@ -2,6 +2,7 @@
 //! device calls fail and wherever the machine stops.
 #![tactic(auto)]
 
+mod accept;
 mod events;
 mod exit;
 mod fault;
