@@ -63,8 +63,7 @@ lives_on {D} r lane lanes view law only_now first l ls n lives ((p, lived, withi
     let found_fit : NumbersFit r lane lanes (IsCrashImage found) = record { told = λ image is. fit.told image (lives.finds image is); none_above = λ a b last i x y. fit.none_above a b last i (lives.finds a x) (lives.finds b y) } in
     let rec = lives.recovers found_fit in
     let good = good_begun r l.texts (p.history ++ all_acted (take w.done p.acts)) reads n w.good in
-    let kept = rec.logs n p g old on good in
-    (
+    let kept = rec.logs n p g old on good in (
       stopped_at p g lived on good kept rec.spans (place l.story l.stopped),
       rec.numbers found_fit l.stopped lives.from lives.to,
     )
