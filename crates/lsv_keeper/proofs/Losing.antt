@@ -31,7 +31,7 @@ use Rattle.lsv_keeper.specs.Tails.{Refused, none_waits}
 use Rattle.lsv_keeper.specs.Value.{KeeperView, settings_of}
 use Rattle.lsv_keeper.proofs.Acting.{Owes, Owned, owned, owned_owes, owes_weaker, part_good}
 use Rattle.lsv_keeper.proofs.Counting.{counts_tailed, rose_one}
-use Rattle.lsv_keeper.proofs.Frames.{Laws, Resting, resting}
+use Rattle.lsv_keeper.proofs.Frames.{Laws, Resting, resting, touches_store}
 use Rattle.lsv_keeper.proofs.Standing.{its_or}
 use Rattle.lsv_keeper.proofs.Tailing.{waits_none}
 
@@ -94,6 +94,7 @@ module _ (k : ConnId) (v v' : KeeperView) (m : Machine) (old new : DiskView) (la
       settled_logs = left_settled;
       unsettled_logs = left_unsettled;
       numbers = left.beside.numbers;
+      files = touches_store v.lane v.lanes (log_of (m.states k)) old new left.beside;
     };
     lines = left.beside.lines;
     text = (leaving_still left.failed (log_of (m.states k)) None m left.left left.log).lines;
@@ -144,6 +145,7 @@ lost_log n k v v' m old new laws at left answers told own rose its = record {
     settled_logs = λ l j s all. left_settled k v v' (none_waits m) old new laws at left answers told l j (waits_none (settings_of v) j m l s) all;
     unsettled_logs = λ l j s none. left_unsettled k v v' (none_waits m) old new laws at left answers told l j (waits_none (settings_of v) j m l s) none;
     numbers = left.beside.numbers;
+    files = touches_store v.lane v.lanes (log_of (m.states k)) old new left.beside;
   };
   lines = left.beside.lines;
   text = refl;

@@ -33,7 +33,7 @@ use Rattle.lsv_keeper.specs.Rows.{OwnerRose}
 use Rattle.lsv_keeper.specs.Tails.{IsOneOf, LinesGive, RefusedGive}
 use Rattle.lsv_keeper.specs.Value.{KeeperView, settings_of, un_noted}
 use Rattle.lsv_keeper.proofs.Counting.{counts_tailed, rose_none, rose_one}
-use Rattle.lsv_keeper.proofs.Frames.{IsApart, Laws, Resting, keeps_files, resting_apart}
+use Rattle.lsv_keeper.proofs.Frames.{IsApart, Laws, Resting, events_touch, keeps_files, resting_apart}
 use Rattle.lsv_keeper.proofs.Numbering.{numbers_fit}
 use Rattle.lsv_keeper.proofs.Standing.{numbers_stay, represents_one}
 use Rattle.lsv_keeper.proofs.TailPieces.{LinesFailed, lines_lost}
@@ -108,6 +108,7 @@ lines_written v log m old new said laws laws' at before after was is run now lan
       settled_logs = λ l j s all. stays_good v m old new laws laws' at (IsEither v.lane before after) run l j all;
       unsettled_logs = λ l j s none. (let rest = log_rests v m old new laws laws' at (IsEither v.lane before after) run j in (rest.moments, rest.rests));
       numbers = numbers_keep v m old new laws laws' at (IsEither v.lane before after) run;
+      files = events_touch v.lane (IsEither v.lane before after) old new run;
     };
     lines = record {
       moments = record { later = run.later; past = run.past; keeps = run.keeps; each = λ k lo hi image left. held image (run.each k image lo hi left) };
@@ -141,7 +142,7 @@ lines_none v m disk said laws at broken =
       after = with_lines true m;
       told = sym (nothing_more said);
       ended = record {
-        ended = record { ends = inl ((λ c. let low = c.1 in omega arith), refl, refl); counts = x.ended.counts; settled_logs = x.ended.settled_logs; unsettled_logs = x.ended.unsettled_logs; numbers = x.ended.numbers };
+        ended = record { ends = inl ((λ c. let low = c.1 in omega arith), refl, refl); counts = x.ended.counts; settled_logs = x.ended.settled_logs; unsettled_logs = x.ended.unsettled_logs; numbers = x.ended.numbers; files = x.ended.files };
         lines = record {
           moments = record {
             later = omega arith;
@@ -197,6 +198,7 @@ events_failed v log m old new laws laws' at before after was is run lane sound b
           settled_logs = λ l j s all. stays_good v m old new laws laws' at (IsEither v.lane before after) run l j all;
           unsettled_logs = λ l j s none. (let rest = log_rests v m old new laws laws' at (IsEither v.lane before after) run j in (rest.moments, rest.rests));
           numbers = numbers_keep v m old new laws laws' at (IsEither v.lane before after) run;
+          files = events_touch v.lane (IsEither v.lane before after) old new run;
         };
         moments = record { later = run.later; past = run.past; keeps = run.keeps; each = λ k lo hi image left. as_was image (run.each k image lo hi left) };
         now = λ image i. as_was image (run.each new.moment image run.later (omega arith) (laws'.is_now image i));

@@ -41,7 +41,7 @@ refuses_nobody v v' m disk said laws at at' =
       after = m;
       told = sym (append_nil said);
       refused = record {
-        ended = record { ends = (refl, refl); counts = x.ended.counts; settled_logs = x.ended.settled_logs; unsettled_logs = x.ended.unsettled_logs; numbers = x.ended.numbers };
+        ended = record { ends = (refl, refl); counts = x.ended.counts; settled_logs = x.ended.settled_logs; unsettled_logs = x.ended.unsettled_logs; numbers = x.ended.numbers; files = x.ended.files };
         lines = x.lines;
         text = refl;
       };
@@ -58,7 +58,7 @@ refuses_no_more k v m disk said laws at dead =
       after = m;
       told = sym (append_nil said);
       refused = record {
-        ended = record { ends = inl (dead, (refl, refl)); counts = x.ended.counts; settled_logs = x.ended.settled_logs; unsettled_logs = x.ended.unsettled_logs; numbers = x.ended.numbers };
+        ended = record { ends = inl (dead, (refl, refl)); counts = x.ended.counts; settled_logs = x.ended.settled_logs; unsettled_logs = x.ended.unsettled_logs; numbers = x.ended.numbers; files = x.ended.files };
         lines = x.lines;
         text = refl;
       };

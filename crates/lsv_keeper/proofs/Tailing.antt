@@ -39,7 +39,7 @@ use Rattle.lsv_keeper.specs.Tails.{LogGives, none_waits}
 use Rattle.lsv_keeper.specs.Value.{KeeperView, log_in, settings_of}
 use Rattle.lsv_keeper.proofs.Acting.{Owned, owned, part_good}
 use Rattle.lsv_keeper.proofs.Counting.{counts_tailed, rose_none}
-use Rattle.lsv_keeper.proofs.Frames.{Laws, Resting, resting}
+use Rattle.lsv_keeper.proofs.Frames.{Laws, Resting, resting, touches_store}
 use Rattle.lsv_keeper.proofs.Numbering.{beside_its}
 
 -- ---- What a flush leaves of a log
@@ -163,6 +163,7 @@ module _ (n : ℕ) (k : ConnId) (v : KeeperView) (m : Machine) (old new : DiskVi
       ];
       unsettled_logs = λ l j s none. (let rest = other_rests j (unwritten n j (settings_of v) k m l s own none) in (rest.moments, rest.rests));
       numbers = beside.numbers;
+      files = touches_store v.lane v.lanes (Some n) old new beside;
     };
     lines = beside.lines;
     text = refl;
