@@ -41,3 +41,5 @@ pub mod Reporting
 pub mod Accepting
 pub mod Stopping
 pub mod EventKinds
+pub mod Judging
+pub mod Turning
