@@ -17,7 +17,8 @@ use Rattle.lsv_keeper.specs.declared.logs.OpenLog.{OpenLog}
 use Rattle.lsv_keeper.specs.declared.logs.OpenLogs.{OpenLogs}
 use Rattle.lsv_keeper.specs.Logs.{open_logs, with_open}
 use Rattle.lsv_keeper.specs.Represents.{AllOwned, LogIs, Masks, Represents}
-use Rattle.lsv_keeper.specs.Value.{IsReserved, IsRoomier, Keeps, KeeperView, Owns, log_in, owed, room, sessions_of, settings_of}
+use Rattle.lsv_keeper.specs.Room.{IsRoomier}
+use Rattle.lsv_keeper.specs.Value.{IsReserved, Keeps, KeeperView, Owns, log_in, owed, room, sessions_of, settings_of}
 use Rattle.lsv_keeper.proofs.Standing.{events_stay, represents_one}
 
 nowhere : (disk : DiskView) → Elsewhere (λ file. ⊥) disk disk

@@ -100,12 +100,6 @@ pub record IsReserved (old new : KeeperView) : Type 0 where
   pub logs_are : open_logs new.logs ≡ open_logs old.logs
   pub others : record new { table = old.table; logs = old.logs } ≡ old
 
--- there may be more room for connections, and nothing else is otherwise
-pub record IsRoomier (old new : KeeperView) : Type 0 where
-  pub sessions_are : sessions_of new ≡ sessions_of old
-  pub room_is : room old ≤ room new
-  pub others : record new { table = old.table } ≡ old
-
 -- a connection writes a log: it runs with it and owns it, and the log is open
 pub record Owns (k : ConnId) (n : ℕ) (its : OpenLog) (old new : KeeperView) : Type 0 where
   pub sessions_are : sessions_of new ≡ record { states = λ j. if same j k then Running (Some n) else (sessions_of old).states j; owner = λ i. if i == n then Some k else (sessions_of old).owner i }
