@@ -3,8 +3,6 @@ use Rattle.std.proofs.Common.{◌≡◌, ℕ, List, refl, sym, ◌∙◌, ap, su
 use Rattle.std.specs.Prelude.{Bool, true, false, ◌||◌, if◌then◌else◌, is_some, not, Result, Ok, Err}
 use Rattle.lsv_base.specs.LogNo.{log_no_in}
 use Rattle.lsv_base.specs.declared.time.TimeSpec.{TimeSpec}
-use Rattle.lsv_msg.specs.declared.fault.MsgFault.{MsgFault}
-use Rattle.lsv_msg.specs.declared.fault.MsgFault.TheVariants as message_faults
 use Rattle.lsv_msg.specs.declared.messages.ClientMessage.{ClientMessage}
 use Rattle.lsv_msg.specs.declared.messages.ClientMessage.TheVariants as client
 use Rattle.lsv_request.specs.Judged.{content_refusal, first_of, has_good_time, is_little, is_negative, refusal_in, time_refusal, unless}
@@ -16,15 +14,12 @@ use Rattle.lsv_request.specs.declared.request.Request.TheVariants as request
 use Rattle.lsv_request.proofs.Refusing.{refused}
 use Rattle.lsv_session.specs.declared.connection.ConnId.{ConnId}
 use Rattle.lsv_session.specs.declared.connection.ConnState.{ConnState}
-use Rattle.lsv_session.specs.declared.connection.ConnState.TheVariants.{Fresh, Greeted, Alerted, Running, Dead}
 use Rattle.lsv_session.specs.declared.job.Body.{Body}
 use Rattle.lsv_session.specs.declared.job.Body.TheVariants as body
-use Rattle.lsv_session.specs.declared.job.Fault.{Fault}
-use Rattle.lsv_session.specs.declared.job.Fault.TheVariants as faults
 use Rattle.lsv_session.specs.declared.job.Job.{Job}
 use Rattle.lsv_machine.specs.Answers.{refusal}
 use Rattle.lsv_machine.specs.History.{is_look}
-use Rattle.lsv_machine.specs.Judgement.{allows, fault_refusal, judged, with_keys}
+use Rattle.lsv_machine.specs.Judgement.{allows, judged, with_keys}
 use Rattle.lsv_machine.specs.Machine.{Machine, Settings, is_dead, is_running}
 use Rattle.lsv_machine.specs.Work as work
 use Rattle.lsv_machine.specs.Work.{alive, answered, plain}
@@ -93,17 +88,7 @@ judged_fair s m why e = go (allows m s) why (ap (λ (w : Result Request Refusal)
     go true = fair_keys s (request_of m) (fair_request m)
     go false = fair_some refusals.UnexpectedMessage (λ k. refl)
 
--- bytes that are no message
-pub fault_fair : (fault : Fault) → IsNoLook (fault_refusal fault)
-fault_fair (faults.Malformed message_faults.NoMem) k = refl
-fault_fair (faults.Malformed (message_faults.Wire fault)) k = refl
-fault_fair (faults.Malformed message_faults.Untyped) k = refl
-fault_fair (faults.Malformed (message_faults.Twice field)) k = refl
-fault_fair (faults.Malformed (message_faults.WrongType field)) k = refl
-fault_fair (faults.TooLarge size) k = refl
-fault_fair faults.NoMem k = refl
-
--- ---- What the table says of them
+-- ---- What the table says of it
 
 alive_is : (set : Settings) (now : TimeSpec) (job : Job) (m : Machine) (n : ℕ) → is_dead (m.states job.conn) ≡ false → plain set now job n m ≡ alive set now job.conn job.body n m
 alive_is set now job m n living = rw living refl
@@ -114,17 +99,3 @@ pub message_refused : (set : Settings) (now : TimeSpec) (job : Job) (message : C
 message_refused set now job message why m k conn is living e n =
     alive_is set now job m n (ap (λ (j : ConnId). is_dead (m.states j)) conn ∙ living) ∙ ap (λ (j : ConnId). alive set now j job.body n m) conn ∙ ap (λ (b : Body). alive set now k b n m) is
     ∙ ap (λ (w : Result Request Refusal). answered set now k (m.states k) w n m) e
-
--- bytes that are no message
-pub fault_refused : (set : Settings) (now : TimeSpec) (job : Job) (fault : Fault) (m : Machine) (k : ConnId) → job.conn ≡ k → job.body ≡ body.Bad fault → is_dead (m.states k) ≡ false
-    → (n : ℕ) → plain set now job n m ≡ work.refused k (fault_refusal fault) m
-fault_refused set now job fault m k conn is living n =
-    alive_is set now job m n (ap (λ (j : ConnId). is_dead (m.states j)) conn ∙ living) ∙ ap (λ (j : ConnId). alive set now j job.body n m) conn ∙ ap (λ (b : Body). alive set now k b n m) is
-
--- who isn't dead
-pub living : (s : ConnState) → (s ≡ Dead → ⊥) → is_dead s ≡ false
-living Fresh ne = refl
-living Greeted ne = refl
-living Alerted ne = refl
-living (Running log) ne = refl
-living Dead ne = absurd (ne refl)
