@@ -17,6 +17,7 @@ use Rattle.lsv_keeper.specs.declared.logs.OpenLog.{OpenLog}
 use Rattle.lsv_keeper.specs.declared.logs.OpenLogs.{OpenLogs}
 use Rattle.lsv_keeper.specs.Logs.{open_logs, with_open}
 use Rattle.lsv_keeper.specs.Represents.{AllOwned, LogIs, Masks, Represents}
+use Rattle.lsv_keeper.specs.Room.{IsRoomier}
 use Rattle.lsv_keeper.specs.Value.{IsReserved, Keeps, KeeperView, Owns, log_in, owed, room, sessions_of, settings_of}
 use Rattle.lsv_keeper.proofs.Standing.{events_stay, represents_one}
 
@@ -62,6 +63,12 @@ pub reserved_represents : (v v' : KeeperView) (disk : DiskView) (m : Machine) �
 reserved_represents v v' disk m r at =
     let e : v' ≡ record v { table = v'.table; logs = v'.logs } = ap (λ (x : KeeperView). record x { table = v'.table; logs = v'.logs }) r.others in
     subst (λ (x : KeeperView). Represents x disk m) (sym e) (same_tables v v'.table v'.logs disk m r.sessions_are r.logs_are at)
+
+-- a keeper with room for more connections
+pub roomier_represents : (v v' : KeeperView) (disk : DiskView) (m : Machine) → IsRoomier v v' → Represents v disk m → Represents v' disk m
+roomier_represents v v' disk m r at =
+    let e : v' ≡ record v { table = v'.table } = ap (λ (x : KeeperView). record x { table = v'.table }) r.others in
+    subst (λ (x : KeeperView). Represents x disk m) (sym e) (same_tables v v'.table v.logs disk m r.sessions_are refl at)
 
 -- ---- A log that a connection comes to write
 

@@ -42,3 +42,5 @@ pub mod Accepting
 pub mod Stopping
 pub mod EventKinds
 pub mod Making
+pub mod Judging
+pub mod Turning

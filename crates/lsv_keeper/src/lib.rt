@@ -18,6 +18,8 @@ mod restart;
 mod resume;
 mod tail;
 mod told;
+mod turn;
+mod work;
 
 pub use fault::StoreFault;
 pub use keeper::Keeper;

@@ -1,0 +1,85 @@
+//! A turn: its jobs, one after another, then its event lines, and then its commit points.
+
+ghost use Rattle.std.specs.Prelude.{◌≡◌, ◌≤◌, ◌+◌, ◌*◌, length, IsSome, OnOk};
+ghost use Rattle.lsv_base.specs.Time.{nanos_of};
+ghost use Rattle.lsv_machine.specs.Machine.{Machine};
+ghost use Rattle.lsv_keeper.specs.Replies.{room_in};
+ghost use Rattle.lsv_keeper.specs.Represents.{Represents};
+ghost use Rattle.lsv_keeper.specs.Room.{HasRoom, IsRoomier};
+ghost use Rattle.lsv_keeper.specs.Tails.{JobsGive, TurnGives};
+ghost use Rattle.lsv_keeper.specs.Value.{IsResting, SameSet, owed, room};
+ghost use Rattle.lsv_keeper.specs.Views.{view_of};
+
+use crate::Keeper;
+use lsv_base::{NoMem, TimeSpec};
+use lsv_disk::Disk;
+use lsv_hook::LineWriter;
+use lsv_mask::Search;
+use lsv_session::{Job, Reply};
+
+impl<F: LineWriter, H: Search> Keeper<F, H> {
+    /// Makes room for a turn of so many jobs: for two connections and four replies a job. It changes nothing else, and what
+    /// it stands for.
+    pub fn ready(&mut self, jobs: usize, out: &mut Vec<Reply>) -> Result<(), NoMem>
+        ensures same { IsRoomier (view_of self.old) (view_of self.new) }
+        ensures replies { out.new.items ≡ out.old.items }
+        ensures ok { OnOk result (HasRoom jobs (view_of self.new) out.new) }
+    {
+        let Some(places) = jobs.checked_mul(2) else {
+            return Err(NoMem);
+        };
+        let Some(replies) = jobs.checked_mul(4) else {
+            return Err(NoMem);
+        };
+        self.table.reserve(places)?;
+        out.reserve(replies)?;
+        Ok(())
+    }
+
+    /// Does one turn of these jobs at this moment, and puts its replies at the end. Its answers for want of memory are the
+    /// machine's; the turn itself can't be refused.
+    pub fn turn<D: Disk>(
+        &mut self,
+        disk: &mut D,
+        now: TimeSpec,
+        jobs: Vec<Job>,
+        out: &mut Vec<Reply>,
+    )
+        requires timed { IsSome (nanos_of now) }
+        requires stands { D.tells → (m : Machine) × Represents (view_of self.old) (D.view disk.old) m }
+        requires rests { IsResting (view_of self.old) }
+        requires room { HasRoom (length jobs.items) (view_of self.old) out.old }
+        ensures set { SameSet (view_of self.old) (view_of self.new) }
+        ensures rests { IsResting (view_of self.new) }
+        ensures turned { D.tells → (m : Machine) → Represents (view_of self.old) (D.view disk.old) m
+            → TurnGives (view_of self.old) now jobs.items m out.old.items out.new.items (view_of self.new) (D.view disk.old) (D.view disk.new) }
+    {
+        self.answer_jobs(disk, now, jobs, out);
+        self.flush_lines(disk, out);
+        self.flush_logs(disk, out);
+    }
+
+    /// The jobs of a turn are done, one after another.
+    fn answer_jobs<D: Disk>(
+        &mut self,
+        disk: &mut D,
+        now: TimeSpec,
+        jobs: Vec<Job>,
+        out: &mut Vec<Reply>,
+    )
+        requires timed { IsSome (nanos_of now) }
+        requires stands { D.tells → (m : Machine) × Represents (view_of self.old) (D.view disk.old) m }
+        requires places { length jobs.items ≤ room (view_of self.old) }
+        requires replies { 2 * length jobs.items ≤ room_in out.old }
+        ensures set { SameSet (view_of self.old) (view_of self.new) }
+        ensures owed { owed (view_of self.new) ≤ owed (view_of self.old) + 2 * length jobs.items }
+        ensures places { room (view_of self.old) ≤ room (view_of self.new) + length jobs.items }
+        ensures room { room_in out.old ≤ room_in out.new + 2 * length jobs.items }
+        ensures answered { D.tells → (m : Machine) → Represents (view_of self.old) (D.view disk.old) m
+            → JobsGive (view_of self.old) now jobs.items m out.old.items out.new.items (view_of self.new) (D.view disk.old) (D.view disk.new) }
+    {
+        for job in jobs {
+            self.answer_job(disk, now, job, out);
+        }
+    }
+}

@@ -1,0 +1,144 @@
+//! Jobs: what a connection brings is judged, worked on and answered.
+
+ghost use Rattle.std.specs.Prelude.{◌≡◌, ◌≤◌, ◌+◌, false, Ok, IsSome};
+ghost use Rattle.lsv_base.specs.Time.{nanos_of};
+ghost use Rattle.lsv_msg.specs.declared.messages.ClientMessage.{ClientMessage};
+ghost use Rattle.lsv_session.specs.declared.job.Body.TheVariants as bodies;
+ghost use Rattle.lsv_session.specs.declared.job.Job.{Job};
+ghost use Rattle.lsv_machine.specs.Failures.{AsksFor};
+ghost use Rattle.lsv_machine.specs.Judgement.{judged};
+ghost use Rattle.lsv_machine.specs.Machine.{Machine, is_dead};
+ghost use Rattle.lsv_keeper.specs.Logs.{IsWindowFit};
+ghost use Rattle.lsv_keeper.specs.Replies.{room_in};
+ghost use Rattle.lsv_keeper.specs.Represents.{Represents};
+ghost use Rattle.lsv_keeper.specs.Rows.{IsTold, RowGives};
+ghost use Rattle.lsv_keeper.specs.Tails.{JobGives};
+ghost use Rattle.lsv_keeper.specs.Value.{Keeps, room, sessions_of};
+ghost use Rattle.lsv_keeper.specs.Views.{view_of};
+
+use crate::Keeper;
+use crate::record::windowed;
+use crate::told::{Told, put_replies};
+use lsv_base::TimeSpec;
+use lsv_disk::Disk;
+use lsv_hook::LineWriter;
+use lsv_machine::{fault_refusal, judged};
+use lsv_mask::Search;
+use lsv_msg::ClientMessage;
+use lsv_request::Request;
+use lsv_session::{Body, ConnId, ConnState, Job, Reply};
+
+impl<F: LineWriter, H: Search> Keeper<F, H> {
+    /// A job is done, and its replies are put at the end, for which there is room.
+    pub(crate) fn answer_job<D: Disk>(
+        &mut self,
+        disk: &mut D,
+        now: TimeSpec,
+        job: Job,
+        out: &mut Vec<Reply>,
+    )
+        requires timed { IsSome (nanos_of now) }
+        requires stands { D.tells → (m : Machine) × Represents (view_of self.old) (D.view disk.old) m }
+        requires places { 1 ≤ room (view_of self.old) }
+        requires replies { 2 ≤ room_in out.old }
+        ensures keeps { Keeps (view_of self.old) (view_of self.new) }
+        ensures room { room_in out.old ≤ room_in out.new + 2 }
+        ensures answered { D.tells → (m : Machine) → Represents (view_of self.old) (D.view disk.old) m
+            → JobGives (view_of self.old) now job m out.old.items out.new.items (view_of self.new) (D.view disk.old) (D.view disk.new) }
+    {
+        let Job { conn, body } = job;
+        let told = self.answer(disk, now, conn, body);
+        put_replies(self.alloc, out, conn, told);
+    }
+
+    /// What a connection brings is done, or dropped where it was shut.
+    fn answer<D: Disk>(&mut self, disk: &mut D, now: TimeSpec, conn: ConnId, body: Body) -> Told
+        requires timed { IsSome (nanos_of now) }
+        requires stands { D.tells → (m : Machine) × Represents (view_of self.old) (D.view disk.old) m }
+        requires room { 1 ≤ room (view_of self.old) }
+        ensures keeps { Keeps (view_of self.old) (view_of self.new) }
+        ensures told { IsTold result }
+        ensures row { D.tells → (m : Machine) (job : Job) → Represents (view_of self.old) (D.view disk.old) m → job.conn ≡ conn → job.body ≡ body
+            → RowGives (view_of self.old) now job result m (view_of self.new) (D.view disk.old) (D.view disk.new) }
+    {
+        if let ConnState::Dead = self.table.state(conn) {
+            return self.drop_job(disk, conn, &body);
+        }
+        self.act(disk, now, conn, body)
+    }
+
+    /// What a connection brings that wasn't shut is done.
+    fn act<D: Disk>(&mut self, disk: &mut D, now: TimeSpec, conn: ConnId, body: Body) -> Told
+        requires timed { IsSome (nanos_of now) }
+        requires alive { is_dead ((sessions_of (view_of self.old)).states conn) ≡ false }
+        requires stands { D.tells → (m : Machine) × Represents (view_of self.old) (D.view disk.old) m }
+        requires room { 1 ≤ room (view_of self.old) }
+        ensures keeps { Keeps (view_of self.old) (view_of self.new) }
+        ensures told { IsTold result }
+        ensures row { D.tells → (m : Machine) (job : Job) → Represents (view_of self.old) (D.view disk.old) m → job.conn ≡ conn → job.body ≡ body
+            → RowGives (view_of self.old) now job result m (view_of self.new) (D.view disk.old) (D.view disk.new) }
+    {
+        match body {
+            Body::Msg(message) => self.hear(disk, now, conn, message),
+            Body::Bad(fault) => self.refuse(disk, conn, fault_refusal(fault)),
+            Body::Gone => self.farewell(disk, conn),
+        }
+    }
+
+    /// A message of a connection that wasn't shut is judged, and then worked on or refused.
+    fn hear<D: Disk>(
+        &mut self,
+        disk: &mut D,
+        now: TimeSpec,
+        conn: ConnId,
+        message: ClientMessage,
+    ) -> Told
+        requires timed { IsSome (nanos_of now) }
+        requires alive { is_dead ((sessions_of (view_of self.old)).states conn) ≡ false }
+        requires stands { D.tells → (m : Machine) × Represents (view_of self.old) (D.view disk.old) m }
+        requires room { 1 ≤ room (view_of self.old) }
+        ensures keeps { Keeps (view_of self.old) (view_of self.new) }
+        ensures told { IsTold result }
+        ensures row { D.tells → (m : Machine) (job : Job) → Represents (view_of self.old) (D.view disk.old) m → job.conn ≡ conn → job.body ≡ bodies.Msg message
+            → RowGives (view_of self.old) now job result m (view_of self.new) (D.view disk.old) (D.view disk.new) }
+    {
+        let message = windowed(message);
+        match judged(self.table.state(conn), message) {
+            Ok(request) => {
+                let state = self.table.state(conn);
+                self.work(disk, now, conn, state, request)
+            }
+            Err(why) => self.refuse(disk, conn, why),
+        }
+    }
+
+    /// A request that its judgement lets through is worked on.
+    fn work<D: Disk>(
+        &mut self,
+        disk: &mut D,
+        now: TimeSpec,
+        conn: ConnId,
+        state: ConnState,
+        request: Request,
+    ) -> Told
+        requires timed { IsSome (nanos_of now) }
+        requires state { state ≡ (sessions_of (view_of self.old)).states conn }
+        requires asked { (message : ClientMessage) × IsWindowFit message × (judged state message ≡ Ok request) }
+        requires stands { D.tells → (m : Machine) × Represents (view_of self.old) (D.view disk.old) m }
+        requires room { 1 ≤ room (view_of self.old) }
+        ensures keeps { Keeps (view_of self.old) (view_of self.new) }
+        ensures told { IsTold result }
+        ensures row { D.tells → (m : Machine) (job : Job) → Represents (view_of self.old) (D.view disk.old) m → job.conn ≡ conn → AsksFor (m.states conn) job.body request
+            → RowGives (view_of self.old) now job result m (view_of self.new) (D.view disk.old) (D.view disk.new) }
+    {
+        match request {
+            Request::Hello => self.greet(disk, conn),
+            Request::Accept(accept) => self.accept(disk, now, conn, state, accept),
+            Request::Reject(report) => self.reject(disk, now, conn, state, report),
+            Request::Alert(report) => self.alert(disk, now, conn, state, report),
+            Request::Restart(restart) => self.restart(disk, conn, restart),
+            Request::Record(r) => self.record(disk, conn, state, r),
+            Request::Exit(exit) => self.exit(disk, now, conn, state, exit),
+        }
+    }
+}
