@@ -15,7 +15,6 @@ use Rattle.lsv_iolog.specs.Value.{IoLogView, bare, made}
 use Rattle.lsv_iolog.proofs.Representing.{every_image}
 use Rattle.lsv_iolog.specs.declared.fault.LogFault.{LogFault}
 use Rattle.lsv_request.specs.declared.refusal.Refusal.{Refusal}
-use Rattle.lsv_request.specs.declared.request.Accept.{Accept}
 use Rattle.lsv_seq.specs.Drawn.{numbers_file}
 use Rattle.lsv_seq.specs.Entry.{most}
 use Rattle.lsv_seq.specs.Represents as numbers
@@ -33,7 +32,7 @@ use Rattle.lsv_machine.specs.Machine.{Machine, Settings, is_running}
 use Rattle.lsv_machine.specs.Work.{draws}
 use Rattle.lsv_machine.proofs.Changing.{drawn_is}
 use Rattle.lsv_keeper.specs.declared.told.Told.TheVariants as told
-use Rattle.lsv_keeper.specs.Accepting.{Begun, DrawsNone, Stopped, accept_of, draw_refusal}
+use Rattle.lsv_keeper.specs.Accepting.{Begun, DrawsNone, Stopped, draw_refusal}
 use Rattle.lsv_keeper.specs.Represents.{Represents}
 use Rattle.lsv_keeper.specs.Rows.{Beside, IsOfJob, Left, OwnerRose, RowGives}
 use Rattle.lsv_keeper.specs.Value.{IsReserved, Keeps, KeeperView, SameSessions, event_line, owed, peer_of, room, sessions_of, settings_of}
@@ -161,10 +160,6 @@ named_line v v2 now k head n peer keeps is =
     ap (λ (x : Kind). line_of x (event.Accept now peer (Some n) head)) keeps.kind ∙ ap (λ (p : Peer). line_of v.kind (event.Accept now p (Some n) head)) is
 
 -- ---- Rows
-
--- an accept that opens a log says that records will follow
-pub opening_is : (accept : Accept) → accept.expect_iobufs ≡ true → accept_of accept.head ≡ accept
-opening_is accept e = λ i. record { head = accept.head; expect_iobufs = sym e i }
 
 -- where a session runs, or no records will follow, it opens none
 pub opens_none : (running more : Bool) → (running ≡ true) ⊎ (more ≡ false) → (not running && more) ≡ false

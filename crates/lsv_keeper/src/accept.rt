@@ -107,6 +107,7 @@ impl<F: LineWriter, H: Search> Keeper<F, H> {
             head,
             expect_iobufs,
         } = accept;
+        // The table says what `state` is, which the borrow checker lets be handed on once.
         if !is_running(self.table.state(conn)) && expect_iobufs {
             return self.accept_log(disk, now, conn, head);
         }
