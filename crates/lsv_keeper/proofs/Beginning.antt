@@ -17,7 +17,7 @@ use Rattle.lsv_keeper.specs.declared.logs.OpenLogs.{OpenLogs}
 use Rattle.lsv_keeper.specs.Logs.{open_logs}
 use Rattle.lsv_keeper.specs.Represents.{AllOwned, LogIs, Masks, Represents}
 use Rattle.lsv_keeper.specs.Room.{IsRoomier}
-use Rattle.lsv_keeper.specs.Value.{IsReserved, Keeps, KeeperView, Owns, log_in, owed, settings_of}
+use Rattle.lsv_keeper.specs.Value.{IsReserved, IsResting, Keeps, KeeperView, Owns, log_in, owed, settings_of}
 use Rattle.lsv_keeper.proofs.Standing.{events_stay, represents_one}
 
 nowhere : (disk : DiskView) → Elsewhere (λ file. ⊥) disk disk
@@ -68,6 +68,9 @@ pub roomier_represents : (v v' : KeeperView) (disk : DiskView) (m : Machine) →
 roomier_represents v v' disk m r at =
     let e : v' ≡ record v { table = v'.table } = ap (λ (x : KeeperView). record x { table = v'.table }) r.others in
     subst (λ (x : KeeperView). Represents x disk m) (sym e) (same_tables v v'.table v.logs disk m r.sessions_are refl at)
+
+pub roomier_rests : (v v' : KeeperView) → IsRoomier v v' → IsResting v → IsResting v'
+roomier_rests v v' r rests = record { none_waits = ap (λ (x : KeeperView). x.waiting) r.others ∙ rests.none_waits; nobody_noted = ap (λ (x : KeeperView). x.noting) r.others ∙ rests.nobody_noted }
 
 -- ---- A log that a connection comes to write
 
