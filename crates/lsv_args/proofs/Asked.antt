@@ -84,7 +84,7 @@ given_value id acc rows (Some r) e given good =
     let v = good r e in
     (v.0, ap (option_and_then (λ (x : Row). slice_get x.values 0)) e ∙ v.1, v.2)
 
-load_count : Text → Bool
+pub load_count : Text → Bool
 load_count = accepts false (from_to 1 10000)
 
 counted : (rows : List Row) (v : Text) (n : ℕ) → first_of (codes "count") rows ≡ Some v → number_in v ≡ Some n → number rows "count" ≡ Some n
@@ -137,7 +137,7 @@ ranges_of : (s : Shape) (words : List Text) → s.args_override_self ≡ false �
     → level_fault s [] nothing_held words false [] ≡ [] → HasRanges (options_of (rows_after s.rules [] words))
 ranges_of s words single lanes_plain stop_plain none = in_ranges (rows_after s.rules [] words) (level_passes (codes "lanes") lanes_value s words single lanes_plain none).0 (level_passes (codes "stop-after") stop_value s words single stop_plain none).0
 
-once_lanes : AllPlain (codes "lanes") lanes_value (made once).rules
+pub once_lanes : AllPlain (codes "lanes") lanes_value (made once).rules
 once_lanes = (record { sets = refl; one = refl; passes = λ e v. absurd (cc); defaults = refl }, tt)
 
 once_stop : AllPlain (codes "stop-after") stop_value (made once).rules
@@ -151,7 +151,7 @@ serve_stop : AllPlain (codes "stop-after") stop_value (made serve).rules
 unfolding stop_value
 serve_stop = (record { sets = refl; one = refl; passes = λ e v. absurd (cc); defaults = refl }, (record { sets = refl; one = refl; passes = λ e v. absurd (cc); defaults = refl }, (record { sets = refl; one = refl; passes = λ e v. refl; defaults = refl }, tt)))
 
-load_lanes : AllPlain (codes "lanes") lanes_value (made load).rules
+pub load_lanes : AllPlain (codes "lanes") lanes_value (made load).rules
 load_lanes = (record { sets = refl; one = refl; passes = λ e v. absurd (cc); defaults = refl }, (record { sets = refl; one = refl; passes = λ e v. absurd (cc); defaults = refl }, tt))
 
 load_stop : AllPlain (codes "stop-after") stop_value (made load).rules
@@ -165,7 +165,7 @@ asks_serve : (words : List Text) → Asks (made serve) words
 asks_serve words none =
     (Serve (options_of (rows_after (made serve).rules [] words)), refl, ranges_of (made serve) words refl serve_lanes serve_stop none)
 
-load_plain : AllPlain (codes "count") load_count (made load).rules
+pub load_plain : AllPlain (codes "count") load_count (made load).rules
 unfolding load_count
 load_plain = (record { sets = refl; one = refl; passes = λ e v. absurd (cc); defaults = refl }, (record { sets = refl; one = refl; passes = λ e v. refl; defaults = refl }, tt))
 

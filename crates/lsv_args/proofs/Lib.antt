@@ -3,4 +3,6 @@ mod Building
 mod Numbers
 mod Parsed
 mod Walks
+mod Options
 mod FormLemmas
+mod OtherForms

@@ -72,3 +72,23 @@ told given = record {
   lanes = unwrap_or (option_and_then number_in (lanes_in given)) 1;
   stop_after = option_and_then number_in (stop_after_in given);
 }
+
+-- ---- `once` and `load`
+
+-- the words of `-f FILE`, where it is given
+abbrev pub file_words : Option (List ℕ) → List (List ℕ)
+file_words None = []
+file_words (Some v) = codes "-f" ∷ v ∷ []
+
+-- the file is a value, where it is given
+abbrev pub is_file : Option (List ℕ) → Bool
+is_file None = true
+is_file (Some v) = is_value v
+
+-- the N of `load` is a value, from 1 to 10,000
+abbrev pub is_count : List ℕ → Bool
+is_count n = is_value n && accepts false (from_to 1 10000) n
+
+-- what a command is told by its settings file alone, and by the defaults
+abbrev pub told_file : Option (List ℕ) → Options
+told_file file = record { conf = unwrap_or file (codes "/etc/sudo_logsrvd.conf"); lanes = 1; stop_after = None }

@@ -38,7 +38,7 @@ use Rattle.lsv_keeper.specs.Reading.{reading_of}
 use Rattle.lsv_keeper.specs.Represents.{Held, LogIs, Represents}
 use Rattle.lsv_keeper.specs.Rows.{AllParts, Beside, Closed, IsPartOf}
 use Rattle.lsv_keeper.specs.Value.{KeeperView, settings_of}
-use Rattle.lsv_keeper.proofs.Frames.{Laws, Resting, resting}
+use Rattle.lsv_keeper.proofs.Frames.{Laws, Resting, resting, touches_store}
 use Rattle.lsv_keeper.proofs.Standing.{its_or}
 
 -- ---- What a job concerns
@@ -410,6 +410,7 @@ acted v now job i act m after old new laws job_is now_is step counts concerns be
   counts = counts;
   settled_logs = λ l n. (keeps n).settled l;
   unsettled_logs = λ l n. (keeps n).unsettled l;
+  files = touches_store v.lane v.lanes i old new beside;
   numbers = beside.numbers;
   lines = beside.lines;
 }

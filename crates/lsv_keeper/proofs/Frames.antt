@@ -16,7 +16,7 @@ use Rattle.lsv_seq.specs.Drawn.{numbers_file}
 use Rattle.lsv_seq.proofs.Images.{entry_local}
 use Rattle.lsv_seq.proofs.Laws.{drawn_alone, numbers_owner}
 use Rattle.lsv_machine.specs.Counts.{same_owner}
-use Rattle.lsv_machine.specs.Disks.{AsBefore, KeepsNumbers, LinesAsBefore, LinesRest, NumbersFit, Rests, SameLines, SameLog}
+use Rattle.lsv_machine.specs.Disks.{AsBefore, IsOfStore, KeepsNumbers, LinesAsBefore, LinesRest, NumbersFit, Rests, SameLines, SameLog, TouchesStore}
 use Rattle.lsv_machine.specs.Machine.{IsOfLane}
 use Rattle.lsv_machine.proofs.Choices.{EqOr.equal, EqOr.unequal, eq_or}
 use Rattle.lsv_machine.proofs.Folds.{as_before_on, before_down, lines_rest_on, lines_still, moments_on, numbers_down, numbers_on, rests_on, rests_still, same_log, still}
@@ -43,6 +43,20 @@ job_apart lane n None other file own (inr t) = let e : owners.Log n ≡ owners.E
 job_apart lane n (Some i) other file own (inl t) = let e : owners.Log n ≡ owners.Log i = sym own ∙ t in let f : n ≡ i = cc in other (ap Some (sym f))
 job_apart lane n (Some i) other file own (inr (inl t)) = let e : owners.Log n ≡ owners.Numbers lane = sym own ∙ t in absurd (cc)
 job_apart lane n (Some i) other file own (inr (inr t)) = let e : owners.Log n ≡ owners.Events lane = sym own ∙ t in absurd (cc)
+
+-- the files of a job are of the store
+job_store : (lane : ℕ) (o : Option ℕ) (file : FileId) → IsOfJob lane o file → IsOfStore lane file
+job_store lane None file (inl t) = inr (inl t)
+job_store lane None file (inr t) = inr (inr t)
+job_store lane (Some i) file (inl t) = inl (i, t)
+job_store lane (Some i) file (inr t) = inr t
+
+pub touches_store : (lane lanes : ℕ) (o : Option ℕ) (old new : DiskView) → Beside lane lanes o old new → TouchesStore lane old new
+touches_store lane lanes o old new b = widened (IsOfJob lane o) (IsOfStore lane) (λ image. Unit {0}) (λ image. Unit {0}) old new (job_store lane o) (λ image t rest. t) b.run
+
+-- so are those of the event log
+pub events_touch : (lane : ℕ) (P : Image → Type 0) (old new : DiskView) → Throughout (IsOfEventLog lane) P old new → TouchesStore lane old new
+events_touch lane P old new run = widened (IsOfEventLog lane) (IsOfStore lane) P (λ image. Unit {0}) old new (λ file own. inr (inr (of_lane lane file own))) (λ image p rest. tt) run
 
 -- nor do calls on the files of another log
 pub log_apart : (n i : ℕ) → n ≢ i → IsApart n (IsOfLog i)

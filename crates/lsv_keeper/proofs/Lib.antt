@@ -41,3 +41,6 @@ pub mod Reporting
 pub mod Accepting
 pub mod Stopping
 pub mod EventKinds
+pub mod Making
+pub mod Judging
+pub mod Turning

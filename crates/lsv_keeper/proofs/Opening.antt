@@ -15,12 +15,12 @@ use Rattle.lsv_disk.specs.declared.file.FileId.{FileId}
 use Rattle.lsv_disk.specs.declared.file.Owner.TheVariants as owners
 use Rattle.lsv_disk.specs.declared.file.Part.{Part}
 use Rattle.lsv_disk.specs.declared.file.Part.TheVariants.{Lines}
-use Rattle.lsv_disk.proofs.Composition.{widened}
+use Rattle.lsv_disk.proofs.Composition.{followed, widened}
 use Rattle.lsv_disk.proofs.Same.{same_is, same_itself}
 use Rattle.lsv_eventlog.specs.Moments.{IsAsBefore}
 use Rattle.lsv_eventlog.specs.Recovered.{HoldsLines, IsOfEventLog}
 use Rattle.lsv_eventlog.specs.Value.{committed_text}
-use Rattle.lsv_eventlog.proofs.Laws.{of_lane}
+use Rattle.lsv_eventlog.proofs.Laws.{local_text, of_lane}
 use Rattle.lsv_iolog.specs.Recovered.{Decided, IsOfLog, IsUnmade, Replays}
 use Rattle.lsv_iolog.proofs.Decided.{decided}
 use Rattle.lsv_iolog.proofs.Replaying.{absent_replay, one_replay}
@@ -38,7 +38,7 @@ use Rattle.lsv_seq.specs.Entry.{is_of_lane, most}
 use Rattle.lsv_seq.specs.Value.{lane_of, lanes_of, last_of, next_of, pending_of}
 use Rattle.lsv_session.specs.Table.{Sessions}
 use Rattle.lsv_session.specs.declared.connection.ConnState.TheVariants.{Fresh}
-use Rattle.lsv_machine.specs.Disks.{KeepsNumbers, LinesAsBefore, NumbersFit}
+use Rattle.lsv_machine.specs.Disks.{IsOfStore, KeepsNumbers, LinesAsBefore, NumbersFit}
 use Rattle.lsv_machine.specs.Durable.{Recovered}
 use Rattle.lsv_machine.specs.Keeping.{Opened, OpensStore}
 use Rattle.lsv_machine.specs.Machine.{IsOfLane, LogState, LogState.Absent, LogState.Damaged, LogState.There, Machine}
@@ -55,7 +55,7 @@ use Rattle.lsv_keeper.specs.Value.{KeeperView, sessions_of, settings_of}
 use Rattle.lsv_keeper.specs.declared.fault.StoreFault.{StoreFault}
 use Rattle.lsv_keeper.specs.declared.fault.StoreFault.TheVariants as store_faults
 use Rattle.lsv_keeper.specs.declared.logs.OpenLog.{OpenLog}
-use Rattle.lsv_keeper.proofs.Frames.{IsApart, Laws, beside_events, lines_apart, mix, mix_image, mix_same, resting_apart, resting_on, unmade_stays}
+use Rattle.lsv_keeper.proofs.Frames.{IsApart, Laws, beside_events, events_touch, lines_apart, mix, mix_image, mix_same, resting_apart, resting_on, unmade_stays}
 use Rattle.lsv_keeper.proofs.Standing.{numbers_stay}
 
 -- ---- Numbers
@@ -156,6 +156,7 @@ numbers_store lane lanes old new laws laws' run up = record {
   logs = λ n. let x = resting_apart lane lanes n (λ g. g ≡ numbers_file lane) (AtOpening lane lanes old) old new laws (log_not_numbers lane n) run in (x.moments, x.rests);
   numbers = λ fit. numbers_opening lane lanes old new laws laws' run fit;
   lines = lines_apart lane lanes (λ g. g ≡ numbers_file lane) (AtOpening lane lanes old) old new laws laws' (events_not_numbers lane) run;
+  files = widened (λ g. g ≡ numbers_file lane) (IsOfStore lane) (AtOpening lane lanes old) (λ image. Unit {0}) old new (λ file e. inr (inl (ap (λ (f : FileId). f.owner) e))) (λ image p rest. tt) run;
 }
 
 -- so was the event log
@@ -171,6 +172,7 @@ events_store lane lanes old new laws laws' run to back up = record {
     now = λ image is. each new.moment run.later (omega arith) image (laws'.is_now image is);
     reads = record { to = to; back = back };
   };
+  files = events_touch lane (IsAsBefore lane old) old new run;
 }
   where
     each : (k : ℕ) → old.moment ≤ k → k ≤ new.moment → LinesAsBefore (reading_of lane lanes) (IsCrashImage old) (new.crash_images_at k)
@@ -183,6 +185,7 @@ store_on lane lanes a b c s t = record {
   logs = λ n. let x = resting_on lane lanes n a b c (record { moments = (s.logs n).0; rests = (s.logs n).1 }) (record { moments = (t.logs n).0; rests = (t.logs n).1 }) in (x.moments, x.rests);
   numbers = λ fit. let x = s.numbers fit in numbers_on (reading_of lane lanes) lane lanes a b c x (t.numbers x.now);
   lines = lines_rest_on (reading_of lane lanes) a b c s.lines t.lines;
+  files = followed (IsOfStore lane) (λ image. Unit {0}) a b c s.files t.files;
 }
 
 -- ---- Why the event log isn't opened
@@ -207,6 +210,9 @@ fault_alike lane a b store_faults.NoMem same is = is
 
 pub events_alike : (lane : ℕ) (P : Image → Type 0) (old new : DiskView) → Throughout (λ g. g ≡ numbers_file lane) P old new → (file : FileId) → file.owner ≡ owners.Events lane → old.reads file ≡ new.reads file
 events_alike lane P old new run file own = sym (run.elsewhere.same file (events_not_numbers lane file own))
+
+pub lines_alike : (lane : ℕ) (P : Image → Type 0) (old mid : DiskView) (text : List ℕ) → Throughout (λ g. g ≡ numbers_file lane) P old mid → HoldsLines mid.reads lane text → HoldsLines old.reads lane text
+lines_alike lane P old mid text run is = local_text mid.reads old.reads lane text (λ file own. events_alike lane P old mid run file (of_lane lane file own)) is
 
 -- ---- The last number
 

@@ -1,11 +1,10 @@
 -- The end of a turn: the event lines are flushed, or the event log failed.
-use Rattle.std.proofs.Common.{◌≡◌, ◌≢◌, ◌≤◌, ◌<◌, ℕ, List, [], ◌∷◌, ◌++◌, length, map, refl, sym, ◌∙◌, ap, subst, inl, inr, arith, Option, Some, None, ◌⊎◌}
-use Rattle.std.specs.Prelude.{Bool, true, false, if◌then◌else◌, Contains}
+use Rattle.std.proofs.Common.{◌≡◌, ◌≤◌, ℕ, List, [], ◌∷◌, ◌++◌, refl, sym, ◌∙◌, ap, subst, inl, inr, arith, Some, None, ◌⊎◌}
+use Rattle.std.specs.Prelude.{Bool, true, false}
 use Rattle.std.proofs.lemmas.Grind.{common_steps}
 use Rattle.lsv_disk.specs.Throughout.{Jointly, Throughout}
 use Rattle.lsv_disk.specs.View.{DiskView, Image, IsCrashImage}
 use Rattle.lsv_disk.specs.declared.file.FileId.{FileId}
-use Rattle.lsv_disk.specs.declared.file.Owner.{Owner}
 use Rattle.lsv_disk.specs.declared.file.Owner.TheVariants.{Log, Numbers, Events}
 use Rattle.lsv_eventlog.specs.Inner.{IsEventLog}
 use Rattle.lsv_eventlog.specs.Moments.{IsEither}
@@ -13,27 +12,23 @@ use Rattle.lsv_eventlog.specs.Recovered.{HoldsLines, IsOfEventLog}
 use Rattle.lsv_eventlog.specs.Value as events
 use Rattle.lsv_eventlog.specs.Value.{EventLogView}
 use Rattle.lsv_eventlog.proofs.Laws.{of_lane, one_text}
-use Rattle.lsv_iolog.specs.Recovered.{IsOfLog}
 use Rattle.lsv_session.specs.declared.connection.ConnId.{ConnId}
 use Rattle.lsv_session.specs.declared.reply.Reply.{Reply}
-use Rattle.lsv_machine.specs.Disks.{AllGood, AsBefore, KeepsNumbers, LinesAs, LinesAsBeforeOr, LinesRest, Rests, SameLines}
+use Rattle.lsv_machine.specs.Disks.{AllGood, AsBefore, KeepsNumbers, LinesAs, SameLines}
 use Rattle.lsv_machine.specs.History.{Ledger}
-use Rattle.lsv_machine.specs.Keeping.{Ended, LinesFlushed}
-use Rattle.lsv_machine.specs.Machine.{Machine, Settings}
-use Rattle.lsv_machine.specs.Stands.{Sound, StandsFor}
+use Rattle.lsv_machine.specs.Machine.{Machine}
 use Rattle.lsv_machine.specs.Tails.{LinesEnded, no_answer}
-use Rattle.lsv_machine.specs.Turns.{FlushesLines, Tail, with_lines}
+use Rattle.lsv_machine.specs.Turns.{with_lines}
 use Rattle.lsv_machine.specs.Work.{next_number}
-use Rattle.lsv_machine.proofs.Folds.{lines_still}
 use Rattle.lsv_machine.proofs.TailFolds.{logs_none}
 use Rattle.lsv_machine.proofs.Weaken.{at_same}
 use Rattle.lsv_keeper.specs.Reading.{reading_of}
 use Rattle.lsv_keeper.specs.Represents.{EventsAre, Represents}
 use Rattle.lsv_keeper.specs.Rows.{OwnerRose}
 use Rattle.lsv_keeper.specs.Tails.{IsOneOf, LinesGive, RefusedGive}
-use Rattle.lsv_keeper.specs.Value.{KeeperView, settings_of, un_noted}
+use Rattle.lsv_keeper.specs.Value.{KeeperView, settings_of}
 use Rattle.lsv_keeper.proofs.Counting.{counts_tailed, rose_none, rose_one}
-use Rattle.lsv_keeper.proofs.Frames.{IsApart, Laws, Resting, keeps_files, resting_apart}
+use Rattle.lsv_keeper.proofs.Frames.{IsApart, Laws, Resting, events_touch, keeps_files, resting_apart}
 use Rattle.lsv_keeper.proofs.Numbering.{numbers_fit}
 use Rattle.lsv_keeper.proofs.Standing.{numbers_stay, represents_one}
 use Rattle.lsv_keeper.proofs.TailPieces.{LinesFailed, lines_lost}
@@ -108,6 +103,7 @@ lines_written v log m old new said laws laws' at before after was is run now lan
       settled_logs = λ l j s all. stays_good v m old new laws laws' at (IsEither v.lane before after) run l j all;
       unsettled_logs = λ l j s none. (let rest = log_rests v m old new laws laws' at (IsEither v.lane before after) run j in (rest.moments, rest.rests));
       numbers = numbers_keep v m old new laws laws' at (IsEither v.lane before after) run;
+      files = events_touch v.lane (IsEither v.lane before after) old new run;
     };
     lines = record {
       moments = record { later = run.later; past = run.past; keeps = run.keeps; each = λ k lo hi image left. held image (run.each k image lo hi left) };
@@ -141,7 +137,7 @@ lines_none v m disk said laws at broken =
       after = with_lines true m;
       told = sym (nothing_more said);
       ended = record {
-        ended = record { ends = inl ((λ c. let low = c.1 in omega arith), refl, refl); counts = x.ended.counts; settled_logs = x.ended.settled_logs; unsettled_logs = x.ended.unsettled_logs; numbers = x.ended.numbers };
+        ended = record { ends = inl ((λ c. let low = c.1 in omega arith), refl, refl); counts = x.ended.counts; settled_logs = x.ended.settled_logs; unsettled_logs = x.ended.unsettled_logs; numbers = x.ended.numbers; files = x.ended.files };
         lines = record {
           moments = record {
             later = omega arith;
@@ -197,6 +193,7 @@ events_failed v log m old new laws laws' at before after was is run lane sound b
           settled_logs = λ l j s all. stays_good v m old new laws laws' at (IsEither v.lane before after) run l j all;
           unsettled_logs = λ l j s none. (let rest = log_rests v m old new laws laws' at (IsEither v.lane before after) run j in (rest.moments, rest.rests));
           numbers = numbers_keep v m old new laws laws' at (IsEither v.lane before after) run;
+          files = events_touch v.lane (IsEither v.lane before after) old new run;
         };
         moments = record { later = run.later; past = run.past; keeps = run.keeps; each = λ k lo hi image left. as_was image (run.each k image lo hi left) };
         now = λ image i. as_was image (run.each new.moment image run.later (omega arith) (laws'.is_now image i));

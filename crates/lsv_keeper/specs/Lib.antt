@@ -8,6 +8,7 @@ pub mod Replies
 pub mod Resuming
 pub mod Rows
 pub mod Tails
+pub mod Room
 pub mod Leaving
 pub mod Opening
 pub mod Accepting

@@ -1,7 +1,6 @@
 -- A keeper, as contracts see it, and what it is set to.
 use Rattle.std.specs.Prelude.{ℕ, ◌+◌, ◌*◌, ◌≡◌, ◌≤◌, ◌==◌, if◌then◌else◌, Bool, List, [], length, Option, Some}
 use Rattle.lsv_base.specs.declared.time.TimeSpec.{TimeSpec}
-use Rattle.lsv_event.specs.declared.event.Event.{Event}
 use Rattle.lsv_event.specs.declared.event.Event.TheVariants as event
 use Rattle.lsv_event.specs.declared.event.Kind.{Kind}
 use Rattle.lsv_event.specs.declared.event.Peer.{Peer}
@@ -99,12 +98,6 @@ pub record IsReserved (old new : KeeperView) : Type 0 where
   pub room_is : room new ≡ room old
   pub logs_are : open_logs new.logs ≡ open_logs old.logs
   pub others : record new { table = old.table; logs = old.logs } ≡ old
-
--- there may be more room for connections, and nothing else is otherwise
-pub record IsRoomier (old new : KeeperView) : Type 0 where
-  pub sessions_are : sessions_of new ≡ sessions_of old
-  pub room_is : room old ≤ room new
-  pub others : record new { table = old.table } ≡ old
 
 -- a connection writes a log: it runs with it and owns it, and the log is open
 pub record Owns (k : ConnId) (n : ℕ) (its : OpenLog) (old new : KeeperView) : Type 0 where

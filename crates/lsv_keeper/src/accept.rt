@@ -1,47 +1,220 @@
-//! Accepts.
+//! Accepts: an event alone, or a log that is opened.
 
-ghost use Rattle.std.specs.Prelude.{◌≡◌, ◌≤◌, Ok, IsSome};
+ghost use Rattle.std.specs.Prelude.{◌≡◌, ◌≤◌, false, [], None, Ok, IfErr, IfOk, IsSome, OnErr, OnOk, vec_capacity};
+ghost use Rattle.lsv_base.specs.LogNo.{digits_of};
 ghost use Rattle.lsv_base.specs.Time.{nanos_of};
+ghost use Rattle.lsv_mask.specs.Masking.{seen};
 ghost use Rattle.lsv_msg.specs.declared.messages.ClientMessage.{ClientMessage};
 ghost use Rattle.lsv_request.specs.declared.request.Request.TheVariants as requests;
+ghost use Rattle.lsv_session.specs.Table.{spare_owners};
 ghost use Rattle.lsv_session.specs.declared.job.Job.{Job};
-ghost use Rattle.lsv_machine.specs.Failures.{AsksFor};
+ghost use Rattle.lsv_machine.specs.Failures.{AsksFor, MayDraw};
 ghost use Rattle.lsv_machine.specs.Judgement.{judged};
-ghost use Rattle.lsv_machine.specs.Machine.{Machine};
+ghost use Rattle.lsv_machine.specs.Machine.{Machine, is_running};
+ghost use Rattle.lsv_machine.specs.Work.{draws, last_number};
+ghost use Rattle.lsv_keeper.specs.Accepting.{Begun, DrawsNone, Stopped, accept_of, create_refusal, draw_refusal};
+ghost use Rattle.lsv_keeper.specs.Logs.{spare_logs};
 ghost use Rattle.lsv_keeper.specs.Represents.{Represents};
-ghost use Rattle.lsv_keeper.specs.Rows.{IsTold, RowGives};
-ghost use Rattle.lsv_keeper.specs.Value.{Keeps, room, sessions_of};
+ghost use Rattle.lsv_keeper.specs.Rows.{Beside, IsTold, RowGives};
+ghost use Rattle.lsv_keeper.specs.Value.{IsReserved, Keeps, room, sessions_of, settings_of};
 ghost use Rattle.lsv_keeper.specs.Views.{view_of};
 
 use crate::Keeper;
+use crate::logs::OpenLog;
+use crate::report::{Next, peer_of, unless_running};
 use crate::told::Told;
-use lsv_base::TimeSpec;
+use lsv_base::{Bytes, LogNo, NoMem, TimeSpec};
 use lsv_disk::Disk;
+use lsv_event::Event;
 use lsv_hook::LineWriter;
-use lsv_mask::Search;
-use lsv_request::Accept;
+use lsv_info::Head;
+use lsv_iolog::{IoLog, LogFault};
+use lsv_machine::{is_running, log_of};
+use lsv_mask::{Mask, Search};
+use lsv_request::{Accept, Refusal};
+use lsv_seq::DrawFault;
 use lsv_session::{ConnId, ConnState};
 
+/// What is made for a log before its number is drawn.
+#[derive(Drop)]
+struct Prepared {
+    mask: Mask,
+    /// Room for the text of its identifier.
+    id: Vec<u8>,
+}
+
+/// A log that was opened, with the text of its identifier.
+#[derive(Drop)]
+struct Opened {
+    number: LogNo,
+    id: Bytes,
+}
+
+/// Why no number was drawn, as the connection is told.
+fn draw_refusal(fault: DrawFault) -> Refusal
+    ensures { result ≡ draw_refusal fault }
+{
+    match fault {
+        DrawFault::Spent(_) => Refusal::NumbersSpent,
+        DrawFault::Disk | DrawFault::Changed { .. } => Refusal::DeviceFault,
+    }
+}
+
+/// Why a log wasn't made, as the connection is told.
+fn create_refusal(fault: LogFault) -> Refusal
+    ensures { result ≡ create_refusal fault }
+{
+    match fault {
+        LogFault::Full(_) => Refusal::LogFull,
+        LogFault::NoMem => Refusal::OutOfMemory,
+        _ => Refusal::DeviceFault,
+    }
+}
+
+/// The text of an identifier, for which there is room.
+fn id_text(room: Vec<u8>, number: LogNo) -> Bytes
+    requires empty { room.items ≡ [] }
+    requires enough { 6 ≤ vec_capacity room }
+    ensures { result ≡ digits_of number }
+{
+    let mut text = room;
+    let _ = text.extend_from_slice(&number.digits());
+    Bytes::from_vec(text)
+}
+
 impl<F: LineWriter, H: Search> Keeper<F, H> {
-    /// A command was accepted.
+    /// A command was accepted: in a session, and where no records will follow, that is an event alone; else a log is opened,
+    /// which the connection writes from now on.
     pub(crate) fn accept<D: Disk>(
         &mut self,
-        _disk: &mut D,
-        _now: TimeSpec,
-        _conn: ConnId,
-        _state: ConnState,
-        _accept: Accept,
+        disk: &mut D,
+        now: TimeSpec,
+        conn: ConnId,
+        state: ConnState,
+        accept: Accept,
     ) -> Told
-        requires timed { IsSome (nanos_of _now) }
-        requires state { _state ≡ (sessions_of (view_of self.old)).states _conn }
-        requires asked { (message : ClientMessage) × (judged _state message ≡ Ok (requests.Accept _accept)) }
-        requires stands { D.tells → (m : Machine) × Represents (view_of self.old) (D.view _disk.old) m }
+        requires timed { IsSome (nanos_of now) }
+        requires state { state ≡ (sessions_of (view_of self.old)).states conn }
+        requires asked { (message : ClientMessage) × (judged state message ≡ Ok (requests.Accept accept)) }
+        requires stands { D.tells → (m : Machine) × Represents (view_of self.old) (D.view disk.old) m }
         requires room { 1 ≤ room (view_of self.old) }
         ensures keeps { Keeps (view_of self.old) (view_of self.new) }
         ensures told { IsTold result }
-        ensures row { D.tells → (m : Machine) (job : Job) → Represents (view_of self.old) (D.view _disk.old) m → job.conn ≡ _conn → AsksFor (m.states _conn) job.body (requests.Accept _accept)
-            → RowGives (view_of self.old) _now job result m (view_of self.new) (D.view _disk.old) (D.view _disk.new) }
+        ensures row { D.tells → (m : Machine) (job : Job) → Represents (view_of self.old) (D.view disk.old) m → job.conn ≡ conn → AsksFor (m.states conn) job.body (requests.Accept accept)
+            → RowGives (view_of self.old) now job result m (view_of self.new) (D.view disk.old) (D.view disk.new) }
     {
-        Told::Nothing
+        let Accept {
+            head,
+            expect_iobufs,
+        } = accept;
+        // The table says what `state` is, which the borrow checker lets be handed on once.
+        if !is_running(self.table.state(conn)) && expect_iobufs {
+            return self.accept_log(disk, now, conn, head);
+        }
+        let event = Event::Accept {
+            at: now,
+            peer: peer_of(conn),
+            log: log_of(state),
+            head,
+        };
+        let next = Next::Enters(ConnState::Running(None));
+        let next = unless_running(self.table.state(conn), next);
+        self.tell(disk, conn, &event, next)
+    }
+
+    /// A log is opened, and the connection told its identifier; or the connection is refused.
+    fn accept_log<D: Disk>(&mut self, disk: &mut D, now: TimeSpec, conn: ConnId, head: Head) -> Told
+        requires timed { IsSome (nanos_of now) }
+        requires submit { IsSome (nanos_of head.submit) }
+        requires free { is_running ((sessions_of (view_of self.old)).states conn) ≡ false }
+        requires stands { D.tells → (m : Machine) × Represents (view_of self.old) (D.view disk.old) m }
+        requires room { 1 ≤ room (view_of self.old) }
+        ensures keeps { Keeps (view_of self.old) (view_of self.new) }
+        ensures told { IsTold result }
+        ensures row { D.tells → (m : Machine) (job : Job) → Represents (view_of self.old) (D.view disk.old) m → job.conn ≡ conn → AsksFor (m.states conn) job.body (requests.Accept (accept_of head))
+            → RowGives (view_of self.old) now job result m (view_of self.new) (D.view disk.old) (D.view disk.new) }
+    {
+        match self.open_log(disk, now, conn, head) {
+            Ok(opened) => Told::Log(opened.number, opened.id),
+            Err(why) => {
+                self.leave(disk, conn, ConnState::Dead);
+                Told::Refused(why)
+            }
+        }
+    }
+
+    /// A log of this head is made, with a number drawn for it, its event line is added, and the connection, which writes no
+    /// log, writes it. A log whose line isn't added stays, and nobody writes it.
+    fn open_log<D: Disk>(
+        &mut self,
+        disk: &mut D,
+        now: TimeSpec,
+        conn: ConnId,
+        head: Head,
+    ) -> Result<Opened, Refusal>
+        requires timed { IsSome (nanos_of now) }
+        requires submit { IsSome (nanos_of head.submit) }
+        requires free { is_running ((sessions_of (view_of self.old)).states conn) ≡ false }
+        requires stands { D.tells → (m : Machine) × Represents (view_of self.old) (D.view disk.old) m }
+        requires room { 1 ≤ room (view_of self.old) }
+        ensures keeps { Keeps (view_of self.old) (view_of self.new) }
+        ensures room { OnErr result (room (view_of self.new) ≡ room (view_of self.old)) }
+        ensures id { IfOk result (λ opened. opened.id ≡ digits_of opened.number) }
+        ensures begun { D.tells → IfOk result (λ opened. (m : Machine) → Represents (view_of self.old) (D.view disk.old) m
+            → Begun (view_of self.old) now conn opened.number head m (view_of self.new) (D.view disk.old) (D.view disk.new)) }
+        ensures stopped { D.tells → IfErr result (λ why. (m : Machine) → Represents (view_of self.old) (D.view disk.old) m
+            → Stopped (view_of self.old) now conn (m.states conn) head m why (view_of self.new) (D.view disk.old) (D.view disk.new)) }
+    {
+        let Ok(prepared) = self.prepare() else {
+            return Err(Refusal::OutOfMemory);
+        };
+        let number = self.draw(disk)?;
+        let log = match IoLog::create(self.alloc, disk, number, &head) {
+            Ok(log) => log,
+            Err(fault) => return Err(create_refusal(fault)),
+        };
+        let event = Event::Accept {
+            at: now,
+            peer: peer_of(conn),
+            log: Some(number),
+            head,
+        };
+        self.add_line(disk, conn, &event)?;
+        let Prepared { mask, id } = prepared;
+        self.own(conn, number, OpenLog { log, mask });
+        Ok(Opened {
+            number,
+            id: id_text(id, number),
+        })
+    }
+
+    /// Makes what can be made of a log before its number is drawn, so that no number is wasted for want of that memory.
+    fn prepare(&mut self) -> Result<Prepared, NoMem>
+        ensures same { IsReserved (view_of self.old) (view_of self.new) }
+        ensures ok { OnOk result ((1 ≤ spare_owners (view_of self.new).table) × (1 ≤ spare_logs (view_of self.new).logs)) }
+        ensures mask { IfOk result (λ prepared. prepared.mask ≡ seen (view_of self.old).texts []) }
+        ensures id { IfOk result (λ prepared. (prepared.id.items ≡ []) × (6 ≤ vec_capacity prepared.id)) }
+    {
+        self.reserve_log()?;
+        let mask = Mask::new(self.alloc, &self.texts)?;
+        let id = Vec::with_capacity(self.alloc, 6)?;
+        Ok(Prepared { mask, id })
+    }
+
+    /// Draws the next number. Nothing but the numbers is otherwise.
+    fn draw<D: Disk>(&mut self, disk: &mut D) -> Result<LogNo, Refusal>
+        requires stands { D.tells → (m : Machine) × Represents (view_of self.old) (D.view disk.old) m }
+        ensures same { view_of self.new ≡ record (view_of self.old) { numbers = (view_of self.new).numbers } }
+        ensures within { IfOk result (λ n. n ≤ last_number) }
+        ensures drawn { D.tells → IfOk result (λ n. (m : Machine) → Represents (view_of self.old) (D.view disk.old) m
+            → MayDraw (settings_of (view_of self.old)) m n × Represents (view_of self.new) (D.view disk.new) (draws n m)) }
+        ensures none { D.tells → IfErr result (λ why. (m : Machine) → Represents (view_of self.old) (D.view disk.old) m
+            → DrawsNone (view_of self.old) m why (view_of self.new) (D.view disk.old) (D.view disk.new)) }
+        ensures beside { D.tells → (m : Machine) → Represents (view_of self.old) (D.view disk.old) m → Beside (view_of self.old).lane (view_of self.old).lanes None (D.view disk.old) (D.view disk.new) }
+    {
+        match self.numbers.draw(disk) {
+            Ok(number) => Ok(number),
+            Err(fault) => Err(draw_refusal(fault)),
+        }
     }
 }

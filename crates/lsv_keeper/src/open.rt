@@ -6,7 +6,8 @@ ghost use Rattle.lsv_disk.specs.View.{HasOwnCause, IsCrashImage};
 ghost use Rattle.lsv_disk.specs.declared.file.Owner.{Owner};
 ghost use Rattle.lsv_seq.specs.Drawn.{entry_at, judged, numbers_file};
 ghost use Rattle.lsv_seq.specs.Value.{last_of};
-ghost use Rattle.lsv_eventlog.specs.Recovered.{IsOfEventLog};
+ghost use Rattle.lsv_eventlog.specs.Recovered.{HoldsLines, IsOfEventLog};
+ghost use Rattle.lsv_eventlog.specs.Value.{committed_text};
 ghost use Rattle.lsv_machine.specs.Disks.{NumbersFit};
 ghost use Rattle.lsv_machine.specs.Keeping.{OpensStore};
 ghost use Rattle.lsv_keeper.specs.Opening.{IsEventsFault, IsNumbersFault, IsSetTo, IsStoreFault, OpensAs, OpensEvents, OpensNumbers, events_fault, number_fault};
@@ -101,6 +102,7 @@ impl<F: LineWriter + Drop, H: Search + Drop> Keeper<F, H> {
         ensures set { IfOk result (λ k. IsSetTo lane lanes formatter.kind log_exit texts (view_of k)) }
         ensures rests { IfOk result (λ k. IsResting (view_of k)) }
         ensures read { D.tells → IfOk result (λ k. judged lane lanes (entry_at lane (D.view disk.old).reads) ≡ Ok (last_of (view_of k).numbers)) }
+        ensures held { D.tells → IfOk result (λ k. HoldsLines (D.view disk.old).reads lane (committed_text (view_of k).events (D.view disk.new))) }
         ensures fault { D.tells → IfErr result (IsStoreFault lane lanes (D.view disk.old).reads) }
         ensures store { D.tells → OpensStore (reading_of lane lanes) lane lanes (D.view disk.old) (D.view disk.new) }
         ensures opened { D.tells → NumbersFit (reading_of lane lanes) lane lanes (IsCrashImage (D.view disk.old)) → IfOk result (λ k. OpensAs lane lanes texts (D.view disk.old) (D.view disk.new) (view_of k)) }

@@ -3,10 +3,11 @@
 ghost use Rattle.std.specs.Prelude.{◌≡◌, ◌≤◌, ◌+◌, ◌*◌, length, IsSome, OnOk};
 ghost use Rattle.lsv_base.specs.Time.{nanos_of};
 ghost use Rattle.lsv_machine.specs.Machine.{Machine};
-ghost use Rattle.lsv_keeper.specs.Replies.{HasRoom, room_in};
+ghost use Rattle.lsv_keeper.specs.Replies.{room_in};
 ghost use Rattle.lsv_keeper.specs.Represents.{Represents};
+ghost use Rattle.lsv_keeper.specs.Room.{HasRoom, IsRoomier};
 ghost use Rattle.lsv_keeper.specs.Tails.{JobsGive, TurnGives};
-ghost use Rattle.lsv_keeper.specs.Value.{IsResting, IsRoomier, SameSet, owed, room};
+ghost use Rattle.lsv_keeper.specs.Value.{IsResting, SameSet, owed, room};
 ghost use Rattle.lsv_keeper.specs.Views.{view_of};
 
 use crate::Keeper;

@@ -104,7 +104,10 @@ impl<F: LineWriter, H: Search> Keeper<F, H> {
     {
         let message = windowed(message);
         match judged(self.table.state(conn), message) {
-            Ok(request) => self.work(disk, now, conn, self.table.state(conn), request),
+            Ok(request) => {
+                let state = self.table.state(conn);
+                self.work(disk, now, conn, state, request)
+            }
             Err(why) => self.refuse(disk, conn, why),
         }
     }

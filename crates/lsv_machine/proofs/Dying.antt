@@ -136,7 +136,7 @@ module _ (good : Type 0) (set : Settings) (n : ℕ) (k : ConnId) (m : Machine) (
 
   made_log : good → (i : ℕ) (head : List ℕ) (x : LogState) → IsOfLane set.lane set.lanes i → m.last < i → (x ≡ m.logs i) ⊎ (x ≡ There (empty_log head) 0) → n ≡ i → HoldsAt x (m.owner n) l.shown l.promised
   made_log g i head x lane above made p = elim made [
-    | inl same ↦ rw (same, (f.sound.none_above i lane above).0) tt
+    | inl same ↦ rw (same, (f.sound.none_above i lane above).0) (f.untold g (subst (IsOfLane set.lane set.lanes) (sym p) lane) (let lo = above in omega arith))
     | inr empty ↦ rw empty (record {
       prefix = record { rest = l.shown; is = refl };
       whole = λ j o. absurd (no_owner j o);

@@ -17,7 +17,8 @@ use Rattle.lsv_session.specs.declared.job.Job.{Job}
 use Rattle.lsv_session.specs.declared.reply.Reply.{Reply}
 use Rattle.lsv_machine.specs.Answers.{Answer, reply_of}
 use Rattle.lsv_machine.specs.Counts.{Counts, IsCounted, all_parts, faults_among}
-use Rattle.lsv_machine.specs.Disks.{AllGood, AllWithin, AsBefore, GoodOr, KeepsNumbers, LinesAs, LinesAsBefore, LinesAsBeforeOr, LinesRest, NumbersFit, Past, Rests, SameLines, SameLog}
+use Rattle.lsv_disk.proofs.Composition.{followed, started}
+use Rattle.lsv_machine.specs.Disks.{AllGood, AllWithin, AsBefore, GoodOr, KeepsNumbers, LinesAs, LinesAsBefore, LinesAsBeforeOr, LinesRest, IsOfStore, NumbersFit, Past, Rests, SameLines, SameLog}
 use Rattle.lsv_machine.specs.Durable.{Good, GoodAt, Reading, Within}
 use Rattle.lsv_machine.specs.Failures.{Act}
 use Rattle.lsv_machine.specs.History.{Ledger, blank, ledger, noted, settled, settles}
@@ -208,6 +209,7 @@ going_none r set now m here is_now fit = record {
     inr (refl, rests_still r n here),
   );
   numbers = record { moments = still (NumbersFit r set.lane set.lanes) here (numbers_down r set.lane set.lanes (IsCrashImage here) (here.crash_images_at here.moment) is_now fit); now = fit };
+  files = started (IsOfStore set.lane) (λ image. Unit {0}) here is_now (λ image is. tt);
   lines = lines_still r here is_now;
 }
   where
@@ -314,6 +316,7 @@ module _ (r : Reading) (set : Settings) (now : TimeSpec) (jobs : List Job) (job 
     settled_logs = more_settled;
     unsettled_logs = more_unsettled;
     numbers = numbers_on r set.lane set.lanes one two three s.numbers t.numbers;
+    files = followed (IsOfStore set.lane) (λ image. Unit {0}) one two three s.files t.files;
     lines = lines_rest_on r one two three s.lines t.lines;
   }
 
@@ -461,6 +464,7 @@ going_ends r set now jobs replies tail m mid after one two three itself s t = re
   settled_logs = λ g n stands all. ends_settled r set g s.acts tail n m mid after one two three s.run s.settled_logs t.ended stands all;
   unsettled_logs = λ g n stands free good. let a = s.unsettled_logs g n stands free good in ends_unsettled r set g s.acts tail n m mid after one two three s.run t.ended stands free a.0 a.1;
   numbers = numbers_on r set.lane set.lanes one two three s.numbers t.ended.numbers;
+  files = followed (IsOfStore set.lane) (λ image. Unit {0}) one two three s.files t.ended.files;
   lines = keeps_lines r set s.acts tail m mid after one two three itself s.run s.lines t.lines;
   lines_read = lines_read r set s.acts tail m mid after one two three itself s.run s.lines t.lines;
 }

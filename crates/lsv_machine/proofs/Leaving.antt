@@ -101,8 +101,8 @@ writers_left set k s m n h = elim (left_owner k s m n) [
 
 -- fewer may write
 pub holds_left : (x : LogState) (o o' : Option ConnId) (all : List Record) (told : Option ℕ) → ((k : ConnId) → o' ≡ Some k → o ≡ Some k) → HoldsAt x o all told → HoldsAt x o' all told
-holds_left Absent o o' all told s h = tt
-holds_left Damaged o o' all told s h = tt
+holds_left Absent o o' all told s h = h
+holds_left Damaged o o' all told s h = h
 holds_left (There stored promised) o o' all told s h = record {
   prefix = h.prefix;
   whole = λ k e. h.whole k (s k e);

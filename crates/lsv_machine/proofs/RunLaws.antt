@@ -51,14 +51,14 @@ good_holds l (Some q) stored promised e good = record {
   bare = λ e. absurd (cc);
 }
 
-good_state : (l : Ledger) (x : LogState) → ((stored : Stored) (promised : ℕ) → x ≡ There stored promised → promised ≡ length stored.records) → GoodState l x → HoldsAt x None l.shown l.promised
-good_state l Absent all good = tt
-good_state l Damaged all good = absurd good
-good_state l (There stored promised) all good = good_holds l l.promised stored promised (all stored promised refl) good
-
 not_told : (l : Ledger) (told : Option ℕ) → GoodFor l told None → told ≡ None
 not_told l None good = refl
 not_told l (Some p) good = absurd good
+
+good_state : (l : Ledger) (x : LogState) → ((stored : Stored) (promised : ℕ) → x ≡ There stored promised → promised ≡ length stored.records) → GoodState l x → HoldsAt x None l.shown l.promised
+good_state l Absent all good = not_told l l.promised good
+good_state l Damaged all good = absurd good
+good_state l (There stored promised) all good = good_holds l l.promised stored promised (all stored promised refl) good
 
 -- a run starts: what a history says of a log is what the machine holds, where that is good
 pub start_fits : (good : Type 0) (set : Settings) (n : ℕ) (texts : List (List ℕ)) (m : Machine) (l : Ledger) → StartsAs set texts m → (good → GoodState l (m.logs n)) → Fits good set n m (noted n l (Begins texts))
@@ -123,10 +123,16 @@ records_shown set n h end stored p c e = (stands_holds set n h end stored p (con
 pub all_shown : (set : Settings) (n : ℕ) (h : List Happened) (end : Machine) (stored : Stored) (p : ℕ) (k : ConnId) → Continues set n h end → end.logs n ≡ There stored p → end.owner n ≡ Some k → stored.records ≡ shown h n
 all_shown set n h end stored p k c e o = (stands_holds set n h end stored p (continues_stands set n h end c) e).whole k o
 
-pub promises_kept : (set : Settings) (n : ℕ) (h : List Happened) (end : Machine) (stored : Stored) (p q : ℕ) → Continues set n h end → end.logs n ≡ There stored p → promised h n ≡ Some q → q ≤ length stored.records
-promises_kept set n h end stored p q c e told =
-    let holds = stands_holds set n h end stored p (continues_stands set n h end c) e in
-    let a = holds.alike q told in let b = holds.enough in omega arith
+-- a log that was told of is there, with all that was promised
+held_at : (x : LogState) (writer : Option ConnId) (shown : List Record) (told : Option ℕ) (q : ℕ) → HoldsAt x writer shown told → told ≡ Some q
+    → (stored : Stored) × (kept : ℕ) × (x ≡ There stored kept) × (q ≤ length stored.records)
+held_at Absent writer shown told q holds e = absurd (cc)
+held_at Damaged writer shown told q holds e = absurd holds
+held_at (There stored kept) writer shown told q holds e = (stored, kept, refl, (let a = holds.alike q e in let b = holds.enough in omega arith))
+
+pub promises_kept : (set : Settings) (n : ℕ) (h : List Happened) (end : Machine) (q : ℕ) → Continues set n h end → promised h n ≡ Some q
+    → (stored : Stored) × (kept : ℕ) × (end.logs n ≡ There stored kept) × (q ≤ length stored.records)
+promises_kept set n h end q c told = held_at (end.logs n) (end.owner n) (shown h n) (promised h n) q (continues_stands set n h end c).holds told
 
 -- ---- Runs join
 

@@ -11,7 +11,8 @@ use Rattle.lsv_record.specs.declared.records.Record.{Record}
 use Rattle.lsv_session.specs.declared.connection.ConnId.{ConnId}
 use Rattle.lsv_machine.specs.Answers.{Answer, Saying, Saying.LogId, Saying.CommitPoint, Saying.Error, Saying.Shut}
 use Rattle.lsv_machine.specs.Counts.{Counts, is_among, one_if, same_owner}
-use Rattle.lsv_machine.specs.Disks.{AllGood, AsBefore, LinesAs, LinesAsBefore, LinesAsBeforeOr, LinesRest, NumbersFit}
+use Rattle.lsv_disk.proofs.Composition.{followed, started}
+use Rattle.lsv_machine.specs.Disks.{AllGood, AsBefore, IsOfStore, LinesAs, LinesAsBefore, LinesAsBeforeOr, LinesRest, NumbersFit}
 use Rattle.lsv_machine.specs.Durable.{GoodAt, Reading}
 use Rattle.lsv_machine.specs.Failures.{Closes, LeavesLog}
 use Rattle.lsv_machine.specs.History.{Ledger, heard, heard_all, noted, raised_to, writes}
@@ -151,6 +152,7 @@ ended_on r set s t P Q R m mid after one two three stands ends a b = record {
         rests_on r n one two three x.1 y.1,
       );
   numbers = numbers_on r set.lane set.lanes one two three a.numbers b.numbers;
+  files = followed (IsOfStore set.lane) (λ image. Unit {0}) one two three a.files b.files;
 }
 
 logs_stand : (set : Settings) (n : ℕ) (failed : List Owner) (numbers : List ℕ) (answers : List Answer) (m new : Machine) (l : Ledger) → StandsFor set n m l → FlushesLogs failed numbers answers m new → StandsFor set n new (heard_all false answers l)
@@ -170,6 +172,7 @@ logs_none r set m here is_now fit = record {
     settled_logs = λ l n stands all. (still (AllGood r l n) here (λ image is. all image (is_now image is)), all);
     unsettled_logs = λ l n stands free. (still (AsBefore r n (IsCrashImage here)) here (λ image is. (image, is_now image is, record { to = λ found x. x; back = λ found x. x })), rests_still r n here);
     numbers = record { moments = still (NumbersFit r set.lane set.lanes) here (numbers_down r set.lane set.lanes (IsCrashImage here) (here.crash_images_at here.moment) is_now fit); now = fit };
+    files = started (IsOfStore set.lane) (λ image. Unit {0}) here is_now (λ image is. tt);
   };
   lines = lines_still r here is_now;
   text = refl;
@@ -220,7 +223,7 @@ pub tail_ends : (r : Reading) (set : Settings) (s t : Tail) (m mid last : Machin
 tail_ends r set s t m mid last one two three apart_t apart_s a b = record {
   ended = ended_on r set s t (λ x y. FlushesLines set s.failed s.answers x y) (λ x y. (x ≡ mid) × (y ≡ record last { waiting = [] })) (λ x y. EndOfTurn set x (joined s t) y)
       m mid (record last { waiting = [] }) one two three (λ i l stands. lines_stand set i s.failed s.answers m mid l stands a.ended.ends) whole a.ended
-      (record { ends = (refl, refl); counts = b.ended.counts; settled_logs = b.ended.settled_logs; unsettled_logs = b.ended.unsettled_logs; numbers = b.ended.numbers });
+      (record { ends = (refl, refl); counts = b.ended.counts; settled_logs = b.ended.settled_logs; unsettled_logs = b.ended.unsettled_logs; numbers = b.ended.numbers; files = b.ended.files });
   lines = record {
     moments = moments_on (LinesAsBeforeOr r (IsCrashImage one) (m.lines ++ m.fresh)) (LinesAsBefore r (IsCrashImage two)) (LinesAsBeforeOr r (IsCrashImage one) (m.lines ++ m.fresh)) one two three
         (each_down (λ image. LinesAs r (IsCrashImage one) image ⊎ r.lines image (m.lines ++ m.fresh)))

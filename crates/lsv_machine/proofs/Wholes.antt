@@ -5,10 +5,10 @@ use Rattle.lsv_disk.specs.View.{DiskView, Image, IsCrashImage}
 use Rattle.lsv_machine.specs.Disks.{Past}
 use Rattle.lsv_machine.specs.Durable.{Good, Reading}
 use Rattle.lsv_machine.specs.History.{Ledger, blank, ledger, ledger_from, noted, settled}
-use Rattle.lsv_machine.specs.Lives.{AllRuns, Chained, InTurn, Life, Lived, Unsettled, left_by}
-use Rattle.lsv_machine.specs.Recovery.{GoesOn, all_turns, past_of}
+use Rattle.lsv_machine.specs.Lives.{AllRuns, Chained, Life, Lived, Stop, Stop.Behind, Stop.Inside, Stop.Opening, Went, ended, left_by, under_way}
+use Rattle.lsv_machine.specs.Recovery.{GoesOn, all_turns}
 use Rattle.lsv_machine.specs.Turns.{Happened, Happened.Begins, all_acted}
-use Rattle.lsv_machine.proofs.Chains.{chained}
+use Rattle.lsv_machine.proofs.Chains.{OnlyNows, chained}
 use Rattle.lsv_machine.proofs.RunLaws.{ledger_append}
 use Rattle.lsv_machine.proofs.Splits.{append_nil}
 use Rattle.lsv_machine.proofs.Under.{Under, ledger_under, settled_shut, under_weaker, weaker_begun}
@@ -32,48 +32,52 @@ then_begun n texts x y w = weaker_on (ledger x n) (ledger y n) (ledger (y ++ Beg
 abbrev Told : {D : Type 0} → ℕ → List (Life D) → Past → Type 0
 Told n ls p = (j : ℕ) → j ≤ length p.acts → (h : List Happened) × AllRuns ls h × Weaker (ledger (p.history ++ all_acted (take j p.acts)) n) (ledger h n)
 
-told_went : {D : Type 0} (n : ℕ) (l : Life D) (ls : List (Life D)) (before : Past) (g : List Happened) → Told n ls before → GoesOn l.texts before g → (at : InTurn l.story l.stopped) → Told n (l ∷ ls) (past_of g at.before at.turn)
+told_went : {D : Type 0} (n : ℕ) (l : Life D) (ls : List (Life D)) (before : Past) (g : List Happened) → Told n ls before → GoesOn l.texts before g → (at : Stop l.story l.stopped)
+    → Told n (l ∷ ls) (record { history = g ++ all_turns (ended at); acts = under_way at })
 told_went {D} n l ls before g told on at j le =
     let x = before.history ++ all_acted (take on.done before.acts) in
     let (y, runs, weak) = told on.done on.some in
     let z = y ++ Begins l.texts ∷ [] in
     let under : Under (ledger g n) (ledger z n) = subst (λ (k : List Happened). Under (ledger k n) (ledger z n)) (sym on.is) (begun_under n l.texts x y weak) in
-    let mid = under_append n g z (all_turns at.before) under in
-    let end = under_append n (g ++ all_turns at.before) (z ++ all_turns at.before) (all_acted (take j at.turn.acts)) mid in
-    let h = (z ++ all_turns at.before) ++ all_acted (take j at.turn.acts) in
-    (h, (y, runs, inl (record { at = at; done = j; some = le; is = refl })), under_weaker (ledger ((g ++ all_turns at.before) ++ all_acted (take j at.turn.acts)) n) (ledger h n) end)
+    let mid = under_append n g z (all_turns (ended at)) under in
+    let end = under_append n (g ++ all_turns (ended at)) (z ++ all_turns (ended at)) (all_acted (take j (under_way at))) mid in
+    let h = (z ++ all_turns (ended at)) ++ all_acted (take j (under_way at)) in
+    (h, (y, runs, record { at = at; done = j; some = le; is = refl }), under_weaker (ledger ((g ++ all_turns (ended at)) ++ all_acted (take j (under_way at))) n) (ledger h n) end)
 
-told_stayed : {D : Type 0} (n : ℕ) (l : Life D) (ls : List (Life D)) (before : Past) (g : List Happened) → Told n ls before → GoesOn l.texts before g → Unsettled n l g → Told n (l ∷ ls) before
-told_stayed {D} n l ls before g told on (inl early) j le =
-    let (y, runs, weak) = told j le in
-    (y ++ Begins l.texts ∷ [], (y, runs, inr (early, refl)), then_begun n l.texts (before.history ++ all_acted (take j before.acts)) y weak)
-told_stayed {D} n l ls before g told on (inr (at, e)) j le =
+went_as : {D : Type 0} (n : ℕ) (l : Life D) (ls : List (Life D)) (before p : Past) (g : List Happened) → Told n ls before → GoesOn l.texts before g → (at : Stop l.story l.stopped) → Went at g p → Told n (l ∷ ls) p
+went_as {D} n l ls before p g told on (Opening early) no_way = absurd no_way
+went_as {D} n l ls before p g told on (Inside at) e = subst (λ (q : Past). Told n (l ∷ ls) q) (sym e) (told_went n l ls before g told on (Inside at))
+went_as {D} n l ls before p g told on (Behind late) e = subst (λ (q : Past). Told n (l ∷ ls) q) (sym e) (told_went n l ls before g told on (Behind late))
+
+told_stayed : {D : Type 0} (n : ℕ) (l : Life D) (ls : List (Life D)) (before : Past) (g : List Happened) → Told n ls before → GoesOn l.texts before g → (at : Stop l.story l.stopped)
+    → settled n g (all_turns (ended at)) ≡ false → Told n (l ∷ ls) before
+told_stayed {D} n l ls before g told on at e j le =
     let x = before.history ++ all_acted (take j before.acts) in
     let (y, runs, weak) = told j le in
     let z = y ++ Begins l.texts ∷ [] in
     let x' = before.history ++ all_acted (take on.done before.acts) in
     let same_shut : (ledger g n).shut ≡ (ledger z n).shut =
     ap (λ (h : List Happened). (ledger h n).shut) on.is ∙ (ap (λ (l : Ledger). l.shut) (begun_ledger n l.texts x') ∙ sym (ap (λ (l : Ledger). l.shut) (begun_ledger n l.texts y))) in
-    let e' : settled n z (all_turns at.before) ≡ false = sym (settled_shut n (all_turns at.before) (ledger g n) (ledger z n) same_shut) ∙ e in
+    let e' : settled n z (all_turns (ended at)) ≡ false = sym (settled_shut n (all_turns (ended at)) (ledger g n) (ledger z n) same_shut) ∙ e in
     let free : (ledger z n).writers ≡ [] = ap (λ (l : Ledger). l.writers) (begun_ledger n l.texts y) in
-    let w = weaker_on (ledger x n) (ledger z n) (ledger (z ++ all_turns at.before) n) (then_begun n l.texts x y weak) (untouched z (all_turns at.before) n free e').weaker in
-    let h = (z ++ all_turns at.before) ++ all_acted (take 0 at.turn.acts) in
-    let alike : z ++ all_turns at.before ≡ h = sym (append_nil (z ++ all_turns at.before)) in
-    (h, (y, runs, inl (record { at = at; done = 0; some = omega arith; is = refl })), subst (λ (k : List Happened). Weaker (ledger x n) (ledger k n)) alike w)
+    let w = weaker_on (ledger x n) (ledger z n) (ledger (z ++ all_turns (ended at)) n) (then_begun n l.texts x y weak) (untouched z (all_turns (ended at)) n free e').weaker in
+    let h = (z ++ all_turns (ended at)) ++ all_acted (take 0 (under_way at)) in
+    let alike : z ++ all_turns (ended at) ≡ h = sym (append_nil (z ++ all_turns (ended at))) in
+    (h, (y, runs, record { at = at; done = 0; some = omega arith; is = refl }), subst (λ (k : List Happened). Weaker (ledger x n) (ledger k n)) alike w)
 
 told_all : {D : Type 0} (r : Reading) (view : D → DiskView) (n : ℕ) (ls : List (Life D)) (p : Past) → Lived r view n ls p → Told n ls p
 told_all {D} r view n [] p e = subst (λ (q : Past). Told {D = D} n [] q) (sym e) (λ j le. ([], refl, nothing j le))
   where
     nothing : (j : ℕ) → j ≤ 0 → Weaker (ledger ([] ++ all_acted (take j [])) n) (ledger [] n)
     nothing j le = let e : 0 ≡ j = omega arith in subst (λ (k : ℕ). Weaker (ledger ([] ++ all_acted (take k [])) n) (ledger [] n)) e (weaker_same blank)
-told_all {D} r view n (l ∷ ls) p (before, g, lived, on, good, inl went) = subst (λ (q : Past). Told n (l ∷ ls) q) (sym went.is) (told_went n l ls before g (told_all r view n ls before lived) on went.at)
-told_all {D} r view n (l ∷ ls) p (before, g, lived, on, good, inr (u, e)) = subst (λ (q : Past). Told n (l ∷ ls) q) (sym e) (told_stayed n l ls before g (told_all r view n ls before lived) on u)
+told_all {D} r view n (l ∷ ls) p (before, g, lived, on, good, at, inl went) = went_as n l ls before p g (told_all r view n ls before lived) on at went
+told_all {D} r view n (l ∷ ls) p (before, g, lived, on, good, at, inr (u, e)) = subst (λ (q : Past). Told n (l ∷ ls) q) (sym e) (told_stayed n l ls before g (told_all r view n ls before lived) on at u)
 
 -- each image is good for a history of all runs
-pub good_of_all : {D : Type 0} (r : Reading) (lane lanes : ℕ) (view : D → DiskView) (law : (d : D) → IsCrashImage (view d) (view d).reads) (first : D) (ls : List (Life D)) (n : ℕ) → Chained r lane lanes view first ls
+pub good_of_all : {D : Type 0} (r : Reading) (lane lanes : ℕ) (view : D → DiskView) (law : (d : D) → IsCrashImage (view d) (view d).reads) (only_now : OnlyNows view) (first : D) (ls : List (Life D)) (n : ℕ) → Chained r lane lanes view first ls
     → (image : Image) → left_by view first ls image → (h : List Happened) × AllRuns ls h × Good r h image n
-good_of_all {D} r lane lanes view law first ls n chain image is =
-    let (p, lived, within) = (chained r lane lanes view law first ls n chain).0 in
+good_of_all {D} r lane lanes view law only_now first ls n chain image is =
+    let (p, lived, within) = (chained r lane lanes view law only_now first ls n chain).0 in
     let w = within image is in
     let (h, runs, weak) = told_all r view n ls p lived w.done w.some in
     (h, runs, at_weaker r (ledger (p.history ++ all_acted (take w.done p.acts)) n) (ledger h n) n image weak w.good)

@@ -1,7 +1,9 @@
 -- What crash images hold of a log, of the numbers and of the event log: the words in which a keeper says what it leaves.
-use Rattle.std.specs.Prelude.{◌<◌, ◌⊎◌, ℕ, List}
-use Rattle.lsv_disk.specs.Throughout.{Jointly}
+use Rattle.std.specs.Prelude.{◌≡◌, ◌<◌, ◌⊎◌, ℕ, List}
+use Rattle.lsv_disk.specs.Throughout.{Jointly, Throughout}
 use Rattle.lsv_disk.specs.View.{DiskView, Image, IsCrashImage}
+use Rattle.lsv_disk.specs.declared.file.FileId.{FileId}
+use Rattle.lsv_disk.specs.declared.file.Owner.TheVariants.{Events, Log, Numbers}
 use Rattle.lsv_machine.specs.Durable.{GoodAt, Reading, Recovered, Within}
 use Rattle.lsv_machine.specs.Failures.{Act}
 use Rattle.lsv_machine.specs.History.{Ledger}
@@ -12,6 +14,16 @@ use Rattle.lsv_machine.specs.Turns.{Happened}
 pub record Past : Type 0 where
   pub history : List Happened
   pub acts : List Act
+
+-- ---- The files
+
+-- the files of a lane: those of logs, of the lane's numbers and of its event log
+abbrev pub IsOfStore : (lane : ℕ) → FileId → Type 0
+IsOfStore lane file = ((n : ℕ) × (file.owner ≡ Log n)) ⊎ (file.owner ≡ Numbers lane) ⊎ (file.owner ≡ Events lane)
+
+-- no other file was touched, and the store lies where it lay
+abbrev pub TouchesStore : (lane : ℕ) → DiskView → DiskView → Type 0
+TouchesStore lane old new = Throughout (IsOfStore lane) (λ image. Unit {0}) old new
 
 -- ---- A log
 

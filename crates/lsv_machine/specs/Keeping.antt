@@ -10,7 +10,7 @@ use Rattle.lsv_session.specs.declared.job.Job.{Job}
 use Rattle.lsv_session.specs.declared.reply.Reply.{Reply}
 use Rattle.lsv_machine.specs.Answers.{reply_of}
 use Rattle.lsv_machine.specs.Counts.{Counts}
-use Rattle.lsv_machine.specs.Disks.{AllGood, AllWithin, AsBefore, GoodOr, KeepsNumbers, NumbersFit, LinesAsBeforeOr, LinesRest, Rests}
+use Rattle.lsv_machine.specs.Disks.{AllGood, AllWithin, AsBefore, GoodOr, KeepsNumbers, NumbersFit, LinesAsBeforeOr, LinesRest, Rests, TouchesStore}
 use Rattle.lsv_machine.specs.Durable.{GoodAt, Reading}
 use Rattle.lsv_machine.specs.Failures.{Act, Step}
 use Rattle.lsv_machine.specs.History.{Ledger, ledger, noted, settled, settles}
@@ -39,6 +39,7 @@ pub record Acted (r : Reading) (set : Settings) (now : TimeSpec) (job : Job) (re
       → Jointly (λ images. AsBefore r n (IsCrashImage old) images ⊎ GoodOr r l (noted n l (Did act)) n images) old new
       × (AllGood r (noted n l (Did act)) n (IsCrashImage new) ⊎ ((settles n l (Did act) ≡ false) × Rests r n old new))
   pub numbers : KeepsNumbers r set.lane set.lanes old new
+  pub files : TouchesStore set.lane old new
   pub lines : LinesRest r old new
 
 -- ---- The end of a turn
@@ -52,6 +53,7 @@ pub record Ended (r : Reading) (set : Settings) (tail : Tail) (Ends : Machine �
   pub unsettled_logs : (l : Ledger) (n : ℕ) → StandsFor set n m l → l.writers ≡ []
       → Jointly (AsBefore r n (IsCrashImage old)) old new × Rests r n old new
   pub numbers : KeepsNumbers r set.lane set.lanes old new
+  pub files : TouchesStore set.lane old new
 
 -- the event lines of the turn are flushed: at each moment the event log is as before or has them, and at the end it has them, unless it failed; and in each case it reads as the machine says
 pub record LinesFlushed (r : Reading) (set : Settings) (tail : Tail) (m after : Machine) (old new : DiskView) : Type 0 where
@@ -104,6 +106,7 @@ pub record Going (r : Reading) (set : Settings) (now : TimeSpec) (jobs : List Jo
   pub settled_logs : KeepsSettled r set acts (all_acted acts) m old new
   pub unsettled_logs : KeepsUnsettled r set acts (all_acted acts) m old new
   pub numbers : KeepsNumbers r set.lane set.lanes old new
+  pub files : TouchesStore set.lane old new
   pub lines : LinesRest r old new
 
 -- a turn of these jobs at this moment
@@ -118,6 +121,7 @@ pub record Turned (r : Reading) (set : Settings) (now : TimeSpec) (jobs : List J
   pub settled_logs : KeepsSettled r set acts (turn_of acts tail) m old new
   pub unsettled_logs : KeepsUnsettled r set acts (turn_of acts tail) m old new
   pub numbers : KeepsNumbers r set.lane set.lanes old new
+  pub files : TouchesStore set.lane old new
   pub lines : KeepsLines r set acts (turn_of acts tail) m old new
   pub lines_read : r.lines old.reads m.lines → r.lines new.reads after.lines
 
@@ -129,6 +133,7 @@ pub record OpensStore (r : Reading) (lane lanes : ℕ) (found new : DiskView) : 
   pub logs : (n : ℕ) → Jointly (AsBefore r n (IsCrashImage found)) found new × Rests r n found new
   pub numbers : NumbersFit r lane lanes (IsCrashImage found) → KeepsNumbers r lane lanes found new
   pub lines : LinesRest r found new
+  pub files : TouchesStore lane found new
 
 -- the store was opened, and the machine is what the disk reads as
 pub record Opened (r : Reading) (set : Settings) (texts : List (List ℕ)) (m : Machine) (found new : DiskView) : Type 0 where

@@ -42,10 +42,10 @@ pub record HoldsRecords (stored : Stored) (promised : ℕ) (writer : Option Conn
   -- a log whose number wasn't told has no records
   pub bare : told ≡ None → stored.records ≡ []
 
--- the same of a log that may be absent or damaged
+-- the same of a log that may be absent, and then its number was not told; of a damaged log nothing is said that would stand for a history
 abbrev pub HoldsAt : LogState → Option ConnId → List Record → Option ℕ → Type 0
-HoldsAt Absent writer shown told = Unit {0}
-HoldsAt Damaged writer shown told = Unit {0}
+HoldsAt Absent writer shown told = told ≡ None
+HoldsAt Damaged writer shown told = ⊥
 HoldsAt (There stored promised) writer shown told = HoldsRecords stored promised writer shown told
 
 -- the machine stands for what a history says of log n

@@ -30,10 +30,10 @@ pub fn what_is_promised_was_sent()
     lsv_record::a_cut_ends_at_the_first_record_of_its_point();
 }
 
-/// What is promised of a log stays held by the machine, over runs and stops.
+/// What is promised of a log stays held by the machine, over runs and stops: a log whose number was told is there.
 pub fn what_is_promised_is_held()
-    ensures { (set : Settings) (n : ℕ) (h : List Happened) (end : Machine) (stored : Stored) (kept p : ℕ) → Continues set n h end →
-        end.logs n ≡ There stored kept → promised h n ≡ Some p → p ≤ length stored.records }
+    ensures { (set : Settings) (n : ℕ) (h : List Happened) (end : Machine) (p : ℕ) → Continues set n h end → promised h n ≡ Some p →
+        (stored : Stored) × (kept : ℕ) × (end.logs n ≡ There stored kept) × (p ≤ length stored.records) }
 {}
 
 /// The records of a log are a prefix of those shown, and all of them while a connection writes it.

@@ -1,4 +1,5 @@
 use Rattle.lsv_args.proofs.FormLemmas.{serve_asked, serve_taken}
+use Rattle.lsv_args.proofs.OtherForms.{load_asked, load_taken, once_asked, once_taken}
 use Rattle.lsv_args.proofs.forms.options_stand_in_any_order.Goals as goal
 
 pub returns-clause-taken : goal.returns-clause-taken
@@ -6,3 +7,15 @@ returns-clause-taken c = serve_taken
 
 pub returns-clause-asked : goal.returns-clause-asked
 returns-clause-asked c = serve_asked
+
+pub returns-clause-once_taken : goal.returns-clause-once_taken
+returns-clause-once_taken c = once_taken
+
+pub returns-clause-once_asked : goal.returns-clause-once_asked
+returns-clause-once_asked c = once_asked
+
+pub returns-clause-load_taken : goal.returns-clause-load_taken
+returns-clause-load_taken c = load_taken
+
+pub returns-clause-load_asked : goal.returns-clause-load_asked
+returns-clause-load_asked c = load_asked

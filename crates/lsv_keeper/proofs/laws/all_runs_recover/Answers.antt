@@ -3,4 +3,4 @@ use Rattle.lsv_keeper.specs.Reading.{reading_of}
 use Rattle.lsv_keeper.proofs.laws.all_runs_recover.Goals as goal
 
 pub returns : goal.returns
-returns g c = λ tells lane lanes first lives n chain image is. good_of_all (reading_of lane lanes) lane lanes g.D.Disk.view (g.met.D.Disk.reads_itself tells) first lives n chain image is
+returns g c = λ tells lane lanes first lives n chain image is. good_of_all (reading_of lane lanes) lane lanes g.D.Disk.view (g.met.D.Disk.reads_itself tells) (g.met.D.Disk.only_now tells) first lives n chain image is

@@ -2,7 +2,7 @@ use Rattle.std.proofs.Common.{inr, refl}
 use Rattle.lsv_seq.specs.Value.{last_of}
 use Rattle.lsv_keeper.specs.Opening.{IsStoreFault}
 use Rattle.lsv_keeper.specs.declared.fault.StoreFault.TheVariants.{Device}
-use Rattle.lsv_keeper.proofs.Opening.{cause_after, events_alike, fault_alike, in_err, opens_as, passed, same_error, store_on}
+use Rattle.lsv_keeper.proofs.Opening.{cause_after, events_alike, fault_alike, in_err, lines_alike, opens_as, passed, same_error, store_on}
 use Rattle.lsv_keeper.proofs.keeper.Keeper.open.Goals as goal
 
 pub returns-clause-set : goal.returns-clause-set
@@ -10,6 +10,10 @@ returns-clause-set g c = record { lane_is = refl; lanes_is = refl; kind_is = ref
 
 pub returns-clause-read : goal.returns-clause-read
 returns-clause-read g c told = (c.in_ok-numbers.ensures.opened told).read
+
+pub returns-clause-held : goal.returns-clause-held
+returns-clause-held g c told =
+    lines_alike c.args.lane _ (g.D.Disk.view c.args.disk.now) (g.D.Disk.view c.open_numbers.new.disk) _ (c.open_numbers.ensures.run told) (c.in_ok-events.ensures.opened told).held
 
 pub returns-clause-store : goal.returns-clause-store
 returns-clause-store g c told =

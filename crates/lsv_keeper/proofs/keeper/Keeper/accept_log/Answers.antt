@@ -1,0 +1,34 @@
+-- A log is opened, and its number told; or the connection is refused, however far the accept came.
+use Rattle.std.proofs.Common.{◌∙◌, ap}
+use Rattle.lsv_session.specs.declared.connection.ConnState.TheVariants.{Dead}
+use Rattle.lsv_machine.specs.Machine.{is_running}
+use Rattle.lsv_keeper.specs.Value.{sessions_of}
+use Rattle.lsv_keeper.specs.Views.{view_of}
+use Rattle.lsv_keeper.proofs.Making.{begun_at, keeps_then, room_in_any, stopped_at}
+use Rattle.lsv_keeper.proofs.keeper.Keeper.accept_log.Goals as goal
+
+pub leave-requires-clause-stands : goal.leave-requires-clause-stands
+leave-requires-clause-stands g c told = let (m, at) = c.requires.stands told in let x = c.in-Err.ensures.stopped told m at in (x.left, x.represents)
+
+pub leave-requires-clause-room : goal.leave-requires-clause-room
+leave-requires-clause-room g c = room_in_any (view_of c.args.self.now) (view_of c.open_log.new.self) ((sessions_of (view_of c.open_log.new.self)).states c.args.conn) Dead c.in-Err.ensures.room c.requires.room
+
+pub returns-in-Ok-clause-row : goal.returns-in-Ok-clause-row
+returns-in-Ok-clause-row g c told m job at e a =
+    let d0 = c.args.disk.now in
+    begun_at (view_of c.args.self.now) (view_of c.open_log.new.self) (g.D.Disk.view d0) (g.D.Disk.view c.open_log.new.disk) c.args.now c.args.conn c.args.head m c.in-Ok.opened.number c.in-Ok.opened.id
+    (record { reads_itself = g.met.D.Disk.reads_itself told d0; is_now = g.met.D.Disk.is_now told d0; only_now = g.met.D.Disk.only_now told d0 })
+    (ap is_running (at.states c.args.conn) ∙ c.requires.free) (c.in-Ok.ensures.begun told m at) job e a
+
+pub returns-in-Err-clause-keeps : goal.returns-in-Err-clause-keeps
+returns-in-Err-clause-keeps g c = keeps_then (view_of c.args.self.now) (view_of c.open_log.new.self) (view_of c.leave.new.self) c.open_log.ensures.keeps c.in-Err.ensures.room c.leave.ensures.keeps c.leave.ensures.shrinks
+
+pub returns-in-Err-clause-row : goal.returns-in-Err-clause-row
+returns-in-Err-clause-row g c told m job at e a =
+    let d0 = c.args.disk.now in
+    let d1 = c.open_log.new.disk in
+    let x = c.in-Err.ensures.stopped told m at in
+    stopped_at (view_of c.args.self.now) (view_of c.open_log.new.self) (view_of c.leave.new.self) (g.D.Disk.view d0) (g.D.Disk.view d1) (g.D.Disk.view c.leave.new.disk) c.args.now c.args.conn c.args.head m c.in-Err.why
+    (record { reads_itself = g.met.D.Disk.reads_itself told d0; is_now = g.met.D.Disk.is_now told d0; only_now = g.met.D.Disk.only_now told d0 })
+    (record { reads_itself = g.met.D.Disk.reads_itself told d1; is_now = g.met.D.Disk.is_now told d1; only_now = g.met.D.Disk.only_now told d1 })
+    c.open_log.ensures.keeps (ap is_running (at.states c.args.conn) ∙ c.requires.free) x (c.leave.ensures.left told x.left x.represents) job e a

@@ -1,0 +1,43 @@
+use Rattle.std.proofs.Common.{◌≡◌, ◌∷◌, ◌++◌, List, [], length, refl, sym, ◌∙◌, ap, subst, arith, append_assoc, append-nil}
+use Rattle.std.specs.Vec.Iter.{into_iter_items}
+use Rattle.lsv_session.specs.declared.job.Job.{Job}
+use Rattle.lsv_keeper.specs.Replies.{room_in}
+use Rattle.lsv_keeper.specs.Tails.{JobsGive}
+use Rattle.lsv_keeper.specs.Views.{view_of}
+use Rattle.lsv_keeper.proofs.Turning.{answering_on, answering_start}
+use Rattle.lsv_keeper.proofs.keeper.Keeper.answer_jobs.Goals as goal
+
+nothing_left : (jobs : List Job) → length jobs ≡ 0 → jobs ≡ []
+nothing_left [] none = refl
+nothing_left (job ∷ jobs) none = absurd (omega arith)
+
+pub loop-job-init : goal.loop-job-init
+loop-job-init g c =
+    let gives = c.into_iter-job-iterator.ensures.into_iter_gives in
+    record {
+      items = gives.0;
+      counted = let e = ap length gives.0 in omega (arith, gives.1, c.args.jobs.ok.0, e);
+      done = answering_start g.D.Disk.tells c.args.now (view_of c.args.self.now) (room_in c.args.out.now) c.args.out.now.items (g.D.Disk.view c.args.disk.now)
+          (λ told. record { reads_itself = g.met.D.Disk.reads_itself told c.args.disk.now; is_now = g.met.D.Disk.is_now told c.args.disk.now; only_now = g.met.D.Disk.only_now told c.args.disk.now });
+    }
+
+pub answer_job-requires-clause-stands : goal.answer_job-requires-clause-stands
+answer_job-requires-clause-stands g c told = let (m, at) = c.requires.stands told in let d = c.loop-job.invariant.done.jobs told m at in (d.after, d.represents)
+
+pub loop-job-preserved : goal.loop-job-preserved
+loop-job-preserved g c =
+    let steps : into_iter_items c.loop-job.job-iterator ≡ c.in-Some.job ∷ into_iter_items c.next.new.self = c.in-Some.ensures.steps.0 in
+    record {
+      items = append_assoc c.loop-job.yielded (c.in-Some.job ∷ []) (into_iter_items c.next.new.self) ∙ (ap (λ (x : List Job). c.loop-job.yielded ++ x) (sym steps) ∙ c.loop-job.invariant.items);
+      counted = let was = c.loop-job.invariant.counted in let gone = c.in-Some.ensures.steps.1 in let short = ap length steps in omega arith;
+      done = answering_on g.D.Disk.tells c.args.now c.loop-job.yielded c.in-Some.job (view_of c.args.self.now) (view_of c.loop-job.self) (view_of c.answer_job.new.self)
+          (room_in c.args.out.now) (room_in c.loop-job.out) (room_in c.answer_job.new.out) c.args.out.now.items c.loop-job.out.items c.answer_job.new.out.items
+          (g.D.Disk.view c.args.disk.now) (g.D.Disk.view c.loop-job.disk) (g.D.Disk.view c.answer_job.new.disk) c.loop-job.invariant.done c.answer_job.ensures.keeps c.answer_job.ensures.room c.answer_job.ensures.answered;
+    }
+
+pub returns-clause-answered : goal.returns-clause-answered
+returns-clause-answered g c told m at =
+    let empty : into_iter_items c.loop-job.job-iterator ≡ [] = nothing_left (into_iter_items c.loop-job.job-iterator) (sym c.loop-job.invariant.counted ∙ c.in-None.ensures.steps.0) in
+    let all : c.loop-job.yielded ≡ c.args.jobs.items = sym (append-nil c.loop-job.yielded) ∙ (ap (λ (x : List Job). c.loop-job.yielded ++ x) (sym empty) ∙ c.loop-job.invariant.items) in
+    subst (λ (jobs : List Job). JobsGive (view_of c.args.self.now) c.args.now jobs m c.args.out.now.items c.loop-job.out.items (view_of c.loop-job.self) (g.D.Disk.view c.args.disk.now) (g.D.Disk.view c.loop-job.disk)) all
+    (c.loop-job.invariant.done.jobs told m at)

@@ -1,0 +1,55 @@
+-- A number is drawn; or none is, since they are spent or the number file failed.
+use Rattle.std.proofs.Common.{◌<◌, sym, subst, arith}
+use Rattle.lsv_disk.specs.declared.file.Owner.TheVariants as owners
+use Rattle.lsv_request.specs.declared.refusal.Refusal.{Refusal}
+use Rattle.lsv_seq.specs.Drawn.{IsNumbersFile}
+use Rattle.lsv_seq.specs.Value.{lane_of, last_of}
+use Rattle.lsv_seq.specs.declared.fault.DrawFault.TheVariants as faults
+use Rattle.lsv_seq.proofs.Laws.{numbers_owner}
+use Rattle.lsv_keeper.specs.Accepting.{DrawsNone}
+use Rattle.lsv_keeper.specs.Value.{KeeperView}
+use Rattle.lsv_keeper.specs.Views.{view_of}
+use Rattle.lsv_keeper.proofs.Counting.{owner_rose}
+use Rattle.lsv_keeper.proofs.Drawing.{draw_beside, last_rises, number_drawn}
+use Rattle.lsv_keeper.proofs.Making.{draw_err, draws_none}
+use Rattle.lsv_keeper.proofs.keeper.Keeper.draw.Goals as goal
+
+pub draw-requires : goal.draw-requires
+draw-requires g c = record { represents = λ told. (let (m, at) = c.requires.stands told in at.numbers.represents) }
+
+pub returns-in-Ok-clause-drawn : goal.returns-in-Ok-clause-drawn
+returns-in-Ok-clause-drawn g c told m at =
+    number_drawn (view_of c.args.self.now) c.draw.new.self (g.D.Disk.view c.args.disk.now) (g.D.Disk.view c.draw.new.disk) m c.in-Ok.number at c.draw.ensures.lane c.in-Ok.ensures.drawn.0 c.in-Ok.ensures.drawn.1 c.in-Ok.ensures.after
+    (c.draw.ensures.represents told) (c.draw.ensures.any_moment told).elsewhere
+
+pub returns-in-Ok-clause-beside : goal.returns-in-Ok-clause-beside
+returns-in-Ok-clause-beside g c told m at =
+    let d0 = c.args.disk.now in
+    let d1 = c.draw.new.disk in
+    draw_beside (view_of c.args.self.now) c.draw.new.self (g.D.Disk.view d0) (g.D.Disk.view d1) m
+    (record { reads_itself = g.met.D.Disk.reads_itself told d0; is_now = g.met.D.Disk.is_now told d0; only_now = g.met.D.Disk.only_now told d0 })
+    (record { reads_itself = g.met.D.Disk.reads_itself told d1; is_now = g.met.D.Disk.is_now told d1; only_now = g.met.D.Disk.only_now told d1 })
+    at c.draw.ensures.lane (let above : last_of c.args.self.now.numbers < c.in-Ok.number = c.in-Ok.ensures.above in let is = c.in-Ok.ensures.drawn.0 in omega arith) (c.draw.ensures.any_moment told) c.draw.ensures.cause.monotone
+
+pub returns-in-Err-clause-none : goal.returns-in-Err-clause-none
+returns-in-Err-clause-none g c told m at =
+    let v : KeeperView = view_of c.args.self.now in
+    let old = g.D.Disk.view c.args.disk.now in
+    let new = g.D.Disk.view c.draw.new.disk in
+    let fault = c.in-Err.fault in
+    subst (λ (why : Refusal). DrawsNone v m why (record v { numbers = c.draw.new.self }) old new) (sym c.draw_refusal.ensures)
+    (draws_none v c.draw.new.self old new m fault at c.draw.ensures.lane c.in-Err.ensures.kept
+    (λ last is. c.in-Err.ensures.spent last (draw_err fault (faults.Spent last) is))
+    (λ is. c.in-Err.ensures.fault (draw_err fault faults.Disk is))
+    (λ kept now is. c.in-Err.ensures.unchanged told kept now (draw_err fault (faults.Changed kept now) is))
+    (λ is. owner_rose (owners.Numbers (lane_of v.numbers)) (IsNumbersFile (lane_of v.numbers)) _ old new (numbers_owner (lane_of v.numbers)) c.in-Err.ensures.cause (draw_err fault faults.Disk is))
+    (c.draw.ensures.represents told) (c.draw.ensures.any_moment told).elsewhere)
+
+pub returns-in-Err-clause-beside : goal.returns-in-Err-clause-beside
+returns-in-Err-clause-beside g c told m at =
+    let d0 = c.args.disk.now in
+    let d1 = c.draw.new.disk in
+    draw_beside (view_of c.args.self.now) c.draw.new.self (g.D.Disk.view d0) (g.D.Disk.view d1) m
+    (record { reads_itself = g.met.D.Disk.reads_itself told d0; is_now = g.met.D.Disk.is_now told d0; only_now = g.met.D.Disk.only_now told d0 })
+    (record { reads_itself = g.met.D.Disk.reads_itself told d1; is_now = g.met.D.Disk.is_now told d1; only_now = g.met.D.Disk.only_now told d1 })
+    at c.draw.ensures.lane (last_rises c.args.self.now.numbers c.draw.new.self c.in-Err.ensures.kept) (c.draw.ensures.any_moment told) c.draw.ensures.cause.monotone

@@ -1,0 +1,18 @@
+use Rattle.std.proofs.Common.{◌≡◌, ◌∙◌, Err, ap, sym}
+use Rattle.std.specs.Prelude.{false}
+use Rattle.lsv_msg.specs.declared.messages.ClientMessage.{ClientMessage}
+use Rattle.lsv_session.specs.declared.connection.ConnState.{ConnState}
+use Rattle.lsv_machine.specs.Judgement.{judged}
+use Rattle.lsv_machine.specs.Machine.{is_dead}
+use Rattle.lsv_keeper.specs.Value.{settings_of}
+use Rattle.lsv_keeper.specs.Views.{view_of}
+use Rattle.lsv_keeper.proofs.Judging.{judged_fair, message_refused}
+use Rattle.lsv_keeper.proofs.keeper.Keeper.hear.Goals as goal
+
+pub returns-in-Err-clause-row : goal.returns-in-Err-clause-row
+returns-in-Err-clause-row g c told m job at conn is =
+    let alive : is_dead (m.states c.args.conn) ≡ false = ap is_dead (at.states c.args.conn) ∙ c.requires.alive in
+    let e : judged (m.states c.args.conn) c.args.message ≡ Err c.in-Err.why =
+    ap (λ (s : ConnState). judged s c.args.message) (at.states c.args.conn ∙ sym c.state.ensures) ∙ ap (λ (x : ClientMessage). judged c.state.result x) (sym c.windowed-message.ensures.same) ∙ sym c.in-Err.ensures in
+    c.refuse.ensures.row told m job c.args.now at conn alive (judged_fair (m.states c.args.conn) c.args.message c.in-Err.why e c.args.conn)
+    (message_refused (settings_of (view_of c.args.self.now)) c.args.now job c.args.message c.in-Err.why m c.args.conn conn is alive e)

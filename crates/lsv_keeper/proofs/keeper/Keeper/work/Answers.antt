@@ -1,0 +1,10 @@
+use Rattle.std.proofs.Common.{◌≡◌, Ok, subst}
+use Rattle.lsv_request.specs.declared.request.Request.{Request}
+use Rattle.lsv_machine.specs.Judgement.{judged}
+use Rattle.lsv_keeper.proofs.Requests.{valid_record}
+use Rattle.lsv_keeper.proofs.keeper.Keeper.work.Goals as goal
+
+pub record-requires-clause-valid : goal.record-requires-clause-valid
+record-requires-clause-valid g c =
+    let (message, fits, asked) = c.requires.asked in
+    valid_record c.args.state message c.in-Record.r fits (subst (λ (x : Request). judged c.args.state message ≡ Ok x) c.in-Record.is asked)
