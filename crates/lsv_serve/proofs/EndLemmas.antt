@@ -96,6 +96,8 @@ module _ (set : Settings) (texts : List (List ℕ)) (old now : World) (v : Keepe
           keeps = λ told. keeps set texts old.disk now.disk v e.reads status (last_tape e.reads) same refl (e.standing told);
         };
         cause = e.cause;
+        places = λ told. (e.standing told).places;
+        not_usage = λ is. subst (λ (x : Status). MayEnd (ends.Last x) (was_shut e.reads)) is e.ends;
       }
 
   -- ---- Where the connection has still to go
@@ -160,6 +162,10 @@ module _ (set : Settings) (texts : List (List ℕ)) (old now : World) (v : Keepe
                   (standing_turn set texts old.disk now.disk disk v w e.reads t e.set_is s gives);
         };
         cause = cause_stays status disk g.0 e.cause;
+        places = λ told.
+            let s = e.standing told in
+            (standing_turn set texts old.disk now.disk disk v w e.reads t e.set_is s (d.gives told s.machine s.represents)).places;
+        not_usage = λ is. subst (λ (x : Status). MayEnd (ends.Open x) (was_shut e.reads)) is e.ends;
       }
 
   put_part : (status : Status) (reads : List TapeTurn) (bytes : List ℕ) → Goes status → PutsFor status reads bytes → PutsPart reads bytes
@@ -192,4 +198,6 @@ module _ (set : Settings) (texts : List (List ℕ)) (old now : World) (v : Keepe
           keeps = λ told. keeps set texts old.disk now.disk v e.reads NoMem (last_tape e.reads) same refl (e.standing told);
         };
         cause = tt;
+        places = λ told. (e.standing told).places;
+        not_usage = λ is. cc;
       }

@@ -29,6 +29,7 @@ pub cuts_none : (jobs : List Job) (over : Bool) (unread : List ℕ) → CutsOn j
 cuts_none jobs over unread = record { bodies = []; are = sym (append-nil jobs); goes = λ read said h. subst (λ (l : List Body). Cuts over read l unread) (sym (append-nil said)) h }
 
 pub cuts_partial : (jobs : List Job) (unread : List ℕ) → IsPartial unread → CutsAll jobs false unread jobs false unread
+unfolding cuts_none
 cuts_partial jobs unread partial = record {
   cuts = cuts_none jobs false unread;
   all = λ read said h. subst (λ (l : List Body). AreJobs read l) (sym (append-nil said)) (cut_rest read unread said h partial);

@@ -4,8 +4,9 @@ use Rattle.lsv_words.specs.Causes.{HasRisen}
 use Rattle.lsv_disk.specs.Throughout.{Jointly}
 use Rattle.lsv_disk.specs.View.{DiskView, HasOwnCause, Image, IsCrashImage, IsLeftAlone, IsUntouched}
 use Rattle.lsv_disk.specs.declared.file.FileId.{FileId}
+use Rattle.lsv_disk.proofs.Composition.{started}
 use Rattle.lsv_machine.specs.Counts.{Counts}
-use Rattle.lsv_machine.specs.Disks.{AllWithin, AsBefore, KeepsNumbers, LinesAsBefore, NumbersFit, Past, Rests, SameLines, SameLog}
+use Rattle.lsv_machine.specs.Disks.{AsBefore, IsOfStore, LinesAsBefore, NumbersFit, Past, SameLines, SameLog}
 use Rattle.lsv_machine.specs.Durable.{Good, Reading}
 use Rattle.lsv_machine.specs.Keeping.{OpensStore}
 use Rattle.lsv_machine.specs.Machine.{LogState, Machine, Settings}
@@ -14,18 +15,21 @@ use Rattle.lsv_machine.specs.Starts.{ReadsAs}
 use Rattle.lsv_machine.specs.Turns.{Happened}
 use Rattle.lsv_machine.proofs.Recovering.{only_opened}
 use Rattle.lsv_seq.specs.Drawn.{entry_at, judged}
-use Rattle.lsv_keeper.specs.Opening.{IsStoreFault}
+use Rattle.lsv_event.specs.declared.event.Kind.{Kind}
+use Rattle.lsv_keeper.specs.Opening.{IsSetTo, IsStoreFault, OpensAs}
 use Rattle.lsv_keeper.specs.Reading.{reading_of}
+use Rattle.lsv_keeper.specs.Value.{KeeperView}
 use Rattle.lsv_keeper.specs.declared.fault.StoreFault.{StoreFault}
 use Rattle.lsv_keeper.specs.declared.fault.StoreFault.TheVariants as faults
 use Rattle.lsv_serve.specs.declared.status.Status.{Status}
 use Rattle.lsv_serve.specs.declared.status.Status.TheVariants.{Served, Usage, Store, ReadFault, WriteFault, NoMem}
 use Rattle.lsv_serve.specs.Causes.{HasStatusCause, HasStoreCause, OwnerFailed}
-use Rattle.lsv_serve.specs.InnerRun.{store_status}
-use Rattle.lsv_serve.specs.Once.{IsFresh, IsOpened, KeepsStore, RunsOnce}
+use Rattle.lsv_serve.specs.InnerRun.{Begun, store_status}
+use Rattle.lsv_serve.specs.Once.{IsFresh, IsOpened, KeepsStore, RunsOnce, once_settings}
 use Rattle.lsv_serve.specs.Tape.{EndsFor, PutsFor, Tape}
 use Rattle.lsv_serve.specs.World.{World}
 use Rattle.lsv_serve.proofs.ReadLemmas.{hello, with_disk}
+use Rattle.lsv_serve.proofs.TurnLemmas.{set_to, standing_open}
 
 -- ---- A disk that was left alone
 
@@ -230,8 +234,34 @@ module _ (disk : DiskView) (only_now : (image : Image) → disk.crash_images_at 
 
   pub opens_nothing : (r : Reading) (lane lanes : ℕ) → OpensStore r lane lanes disk disk
   opens_nothing r lane lanes = record {
+    files = started (IsOfStore lane) (λ image. Unit {0}) disk only_now (λ image is. tt);
     monotone = λ file. omega arith;
     logs = λ n. (jointly_now (AsBefore r n (IsCrashImage disk)) (as_now r n), record { images = as_now r n (IsCrashImage disk) (λ image is. is); reads = same_log r n disk.reads });
     numbers = λ fit. record { moments = jointly_now (NumbersFit r lane lanes) (λ images sub. fewer r lane lanes images fit sub); now = fit };
     lines = record { moments = jointly_now (LinesAsBefore r (IsCrashImage disk)) (lines_now r); now = lines_now r (IsCrashImage disk) (λ image is. is); reads = same_lines r disk.reads };
   }
+
+-- ---- A store that was opened
+
+pub begun : (kind : Kind) (log_exit : Bool) (texts : List (List ℕ)) (old : World) (disk : DiskView) (v : KeeperView) → IsSetTo 0 1 kind log_exit texts v → (old.disk_tells → IsFresh old.disk)
+    → (old.disk_tells → (last : ℕ) × (judged 0 1 (entry_at 0 old.disk.reads) ≡ Ok last)) → (old.disk_tells → NumbersFit (reading_of 0 1) 0 1 (IsCrashImage old.disk) → OpensAs 0 1 texts old.disk disk v)
+    → Begun (once_settings kind log_exit) texts old (with_disk old disk) v
+begun kind log_exit texts old disk v is fresh read opens = record {
+  given = λ told. refl;
+  rest = λ told. refl;
+  put = λ told. refl;
+  read_faults = omega arith;
+  write_faults = omega arith;
+  set_is = set_to kind log_exit texts v is;
+  standing = λ told. let r = read told in let fit = fresh told r.0 r.1 in standing_open kind log_exit texts old.disk disk v is fit (opens told fit);
+}
+
+-- the numbers fit at the end of a run
+pub fit_now : (set : Settings) (texts : List (List ℕ)) (old new : World) (status : Status) → RunsOnce set texts old new status → ((image : Image) → IsCrashImage new.disk image → new.disk.crash_images_at new.disk.moment image)
+    → old.disk_tells → NumbersFit (reading_of set.lane set.lanes) set.lane set.lanes (IsCrashImage old.disk) → NumbersFit (reading_of set.lane set.lanes) set.lane set.lanes (IsCrashImage new.disk)
+fit_now set texts old new status r is_now told fit =
+    let k = r.keeps told in
+    let spans = k.recovers.spans in
+    let later : old.disk.moment ≤ new.disk.moment = let a = spans.first in let b = spans.within [] k.story.turns refl in omega arith in
+    let at = k.recovers.numbers fit new.disk.moment later (omega arith) in
+    record { told = λ image is. at.told image (is_now image is); none_above = λ a b last n is it. at.none_above a b last n (is_now a is) (is_now b it) }

@@ -16,8 +16,8 @@ use Rattle.lsv_keeper.specs.Opening.{IsSetTo, OpensAs}
 use Rattle.lsv_keeper.specs.Reading.{reading_of}
 use Rattle.lsv_keeper.specs.Represents.{Free, Held, LogIs, Represents}
 use Rattle.lsv_keeper.specs.Tails.{TurnGives}
-use Rattle.lsv_keeper.specs.Value.{KeeperView, SameSet, event_line, settings_of}
-use Rattle.lsv_serve.specs.Room.{IsRoomier}
+use Rattle.lsv_keeper.specs.Value.{IsResting, KeeperView, SameSet, event_line, settings_of}
+use Rattle.lsv_keeper.specs.Room.{IsRoomier}
 use Rattle.lsv_serve.specs.InnerRun.{Standing}
 use Rattle.lsv_serve.specs.Once.{once_settings}
 use Rattle.lsv_serve.specs.Tape.{TapeTurn, jobs_of}
@@ -82,7 +82,7 @@ pub standing_open : (kind : Kind) (log_exit : Bool) (texts : List (List ℕ)) (f
 standing_open kind log_exit texts found new v is fit (m, opened, represents, none) =
     let set = once_settings kind log_exit in
     let opens : Opened (reading_of 0 1) set texts m found new = subst (λ (s : Settings). Opened (reading_of 0 1) s texts m found new) (set_to kind log_exit texts v is) opened in
-    record { machine = m; story = record { opened = new.moment; turns = [] }; so_far = opening_begins (reading_of 0 1) set texts m found new fit opens; same = tt; represents = represents }
+    record { machine = m; story = record { opened = new.moment; turns = [] }; so_far = opening_begins (reading_of 0 1) set texts m found new fit opens; same = tt; represents = represents; places = opens.store.files.places }
 
 -- behind a turn
 pub standing_turn : (set : Settings) (texts : List (List ℕ)) (found old new : DiskView) (v v' : KeeperView) (turns : List TapeTurn) (t : TapeTurn) → settings_of v ≡ set → (s : Standing set texts found old v turns)
@@ -96,8 +96,15 @@ standing_turn set texts found old new v v' turns t is s g =
       so_far = turn_joins (reading_of set.lane set.lanes) set texts found s.story t.now (jobs_of t.bodies) g.replies s.machine g.after old new s.so_far turned;
       same = are_turns_last turns s.story.turns t _ s.same (record { now = refl; jobs = turned.jobs_are; replies = turned.replies_are ∙ sym g.told });
       represents = g.represents;
+      places = turned.files.places ∙ s.places;
     }
 
 -- with another keeper that is set so and has more room
 pub standing_roomier : (set : Settings) (texts : List (List ℕ)) (found old : DiskView) (v w : KeeperView) (turns : List TapeTurn) → IsRoomier v w → Standing set texts found old v turns → Standing set texts found old w turns
-standing_roomier set texts found old v w turns r s = record { machine = s.machine; story = s.story; so_far = s.so_far; same = s.same; represents = roomier_stands v w old s.machine r s.represents }
+standing_roomier set texts found old v w turns r s = record { machine = s.machine; story = s.story; so_far = s.so_far; same = s.same; represents = roomier_stands v w old s.machine r s.represents; places = s.places }
+
+pub set_then : (u v w : KeeperView) → SameSet u v → SameSet v w → SameSet u w
+set_then u v w a b = record { lane = b.lane ∙ a.lane; lanes = b.lanes ∙ a.lanes; log_exit = b.log_exit ∙ a.log_exit; kind = b.kind ∙ a.kind; texts = b.texts ∙ a.texts }
+
+pub roomier_rests : (v w : KeeperView) → IsRoomier v w → IsResting v → IsResting w
+roomier_rests v w r rests = record { none_waits = ap (λ (y : KeeperView). y.waiting) r.others ∙ rests.none_waits; nobody_noted = ap (λ (y : KeeperView). y.noting) r.others ∙ rests.nobody_noted }

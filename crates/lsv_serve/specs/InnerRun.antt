@@ -71,6 +71,7 @@ pub record Standing (set : Settings) (texts : List (List ℕ)) (found now : Disk
   pub so_far : SoFar (reading_of set.lane set.lanes) set texts (record { found = found; left = now }) machine story
   pub same : AreTurns turns story.turns
   pub represents : Represents v now machine
+  pub places : now.places ≡ found.places
 
 -- ---- The reads of a run
 
@@ -180,6 +181,8 @@ pub record Begun (set : Settings) (texts : List (List ℕ)) (old now : World) (v
 pub record Serves (set : Settings) (texts : List (List ℕ)) (old new : World) (status : Status) : Type 0 where
   pub runs : RunsOnce set texts old new status
   pub cause : HasStatusCause old new status
+  pub places : old.disk_tells → new.disk.places ≡ old.disk.places
+  pub not_usage : status ≡ Usage → ⊥
 
 -- the status of a run whose store isn't opened
 abbrev pub store_status : StoreFault → Status

@@ -4,5 +4,4 @@ pub mod Tape
 pub mod Once
 pub mod Complete
 pub mod Causes
-pub mod Room
 pub mod InnerRun

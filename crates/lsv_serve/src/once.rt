@@ -52,6 +52,7 @@ pub fn run_once<
         (world_of ⟦<S as Source>⟧ ⟦<K as Sink>⟧ ⟦<D as Disk>⟧ out.old.source out.old.sink out.old.disk)
         (world_of ⟦<S as Source>⟧ ⟦<K as Sink>⟧ ⟦<D as Disk>⟧ out.new.source out.new.sink out.new.disk) result }
     ensures not_usage { result ≡ Status.Usage → ⊥ }
+    ensures places { D.tells → HasPlaces (D.view out.new.disk) }
     ensures fresh_again { D.tells → NumbersFit (reading_of 0 1) 0 1 (IsCrashImage (D.view out.old.disk)) → NumbersFit (reading_of 0 1) 0 1 (IsCrashImage (D.view out.new.disk)) }
 {
     out.disk.root(STORE, EVENTS);
@@ -75,7 +76,6 @@ fn serve_store<S: Source, K: Sink, D: Disk, C: Clock, F: LineWriter + Drop, H: S
     prompts: List<Bytes>,
     prompt: Prompt<H>,
 ) -> Status
-    requires places { D.tells → HasPlaces (D.view out.old.disk) }
     requires fresh { D.tells → IsFresh (D.view out.old.disk) }
     ensures runs { RunsOnce (once_settings formatter.kind log_exit) prompts
         (world_of ⟦<S as Source>⟧ ⟦<K as Sink>⟧ ⟦<D as Disk>⟧ out.old.source out.old.sink out.old.disk)
@@ -84,6 +84,7 @@ fn serve_store<S: Source, K: Sink, D: Disk, C: Clock, F: LineWriter + Drop, H: S
         (world_of ⟦<S as Source>⟧ ⟦<K as Sink>⟧ ⟦<D as Disk>⟧ out.old.source out.old.sink out.old.disk)
         (world_of ⟦<S as Source>⟧ ⟦<K as Sink>⟧ ⟦<D as Disk>⟧ out.new.source out.new.sink out.new.disk) result }
     ensures not_usage { result ≡ Status.Usage → ⊥ }
+    ensures same_places { D.tells → (D.view out.new.disk).places ≡ (D.view out.old.disk).places }
 {
     let keeper = match Keeper::open(
         alloc,

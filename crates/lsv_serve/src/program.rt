@@ -3,7 +3,7 @@ ghost use Rattle.lsv_disk.specs.View.{IsCrashImage};
 ghost use Rattle.lsv_event.specs.declared.event.Kind.TheVariants as kinds;
 ghost use Rattle.lsv_machine.specs.Disks.{NumbersFit};
 ghost use Rattle.lsv_keeper.specs.Reading.{reading_of};
-ghost use Rattle.lsv_serve.specs.Causes.{HasStatusCause};
+ghost use Rattle.lsv_serve.specs.Causes.{HasPlaces, HasStatusCause};
 ghost use Rattle.lsv_serve.specs.Once.{IsFresh, IsOnce, RunsOnce, once_settings};
 ghost use Rattle.lsv_serve.specs.World.{world_of};
 
@@ -59,6 +59,7 @@ pub fn logsrvd<
     ensures cause { HasStatusCause
         (world_of ⟦<S as Source>⟧ ⟦<K as Sink>⟧ ⟦<D as Disk>⟧ out.old.source out.old.sink out.old.disk)
         (world_of ⟦<S as Source>⟧ ⟦<K as Sink>⟧ ⟦<D as Disk>⟧ out.new.source out.new.sink out.new.disk) result }
+    ensures places { IsOnce words.now → D.tells → HasPlaces (D.view out.new.disk) }
     ensures fresh_again { D.tells → NumbersFit (reading_of 0 1) 0 1 (IsCrashImage (D.view out.old.disk)) → NumbersFit (reading_of 0 1) 0 1 (IsCrashImage (D.view out.new.disk)) }
 {
     if !asks_once(words) {

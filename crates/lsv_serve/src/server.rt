@@ -9,7 +9,7 @@ ghost use Rattle.lsv_session.specs.declared.job.Body.TheVariants as bodies;
 ghost use Rattle.lsv_machine.specs.Machine.{Machine, Settings};
 ghost use Rattle.lsv_keeper.specs.Represents.{Represents};
 ghost use Rattle.lsv_keeper.specs.Value.{IsResting, SameSet};
-ghost use Rattle.lsv_serve.specs.Room.{IsRoomier};
+ghost use Rattle.lsv_keeper.specs.Room.{IsRoomier};
 ghost use Rattle.lsv_keeper.specs.Views.{view_of};
 ghost use Rattle.lsv_serve.specs.InnerRun.{AnswerEnds, Begun, Ended, HelloEnds, Serves, TurnDone, UnderWay, unput};
 ghost use Rattle.lsv_serve.specs.Tape.{jobs_of, once_conn, shuts};
@@ -222,7 +222,9 @@ impl<F: LineWriter + Drop, H: Search + Drop> Server<F, H> {
         let Ok(()) = self.turn(disk, clock, jobs) else {
             return Err(End::Last(Status::NoMem));
         };
-        self.answer(sink)?;
+        if let Err(end) = self.answer(sink) {
+            return Err(end);
+        }
         Ok(())
     }
 
@@ -243,7 +245,10 @@ impl<F: LineWriter + Drop, H: Search + Drop> Server<F, H> {
         ensures roomier { OnErr result (IsRoomier (view_of self.old.keeper) (view_of self.new.keeper)) }
     {
         self.replies.clear();
-        Err(NoMem)
+        self.keeper.ready(jobs.len(), &mut self.replies)?;
+        let now = clock.now();
+        self.keeper.turn(disk, now, jobs, &mut self.replies);
+        Ok(())
     }
 
     /// Puts the answers of a turn. It says how the reads end, where they do.

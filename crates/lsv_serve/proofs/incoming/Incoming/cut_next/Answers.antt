@@ -13,7 +13,14 @@ returns-in_ok-put_job-in-Ok-clause-more c =
     rw (c.requires, c.in_ok-put_job-in-Ok.ensures, c.consume.ensures) (cuts_message _ _ c.in-Ok-Some.message.now _ c.in-Ok.message (record { is_message = next.0; whole = next.1 }) c.in-Ok.ensures.message)
 
 pub returns-in_ok-end-in-Err-decode_client-clause-none : goal.returns-in_ok-end-in-Err-decode_client-clause-none
-returns-in_ok-end-in-Err-decode_client-clause-none c = ?
+returns-in_ok-end-in-Err-decode_client-clause-none c =
+    let next = rw c.in-Ok-Some.field-0-is at c.in-Ok-Some.ensures.message in
+    let is = c.in-Err-decode_client.ensures.refused (c.in_ok-malformed-in-Err-decode_client.ensures.known) in
+    let put = rw c.in_ok-malformed-in-Err-decode_client.ensures.is at c.in_ok-end-in-Err-decode_client.ensures.put in
+    rw (c.requires, put, c.in_ok-end-in-Err-decode_client.ensures.over, c.in_ok-end-in-Err-decode_client.ensures.framer)
+    (cuts_last _ _ _ (λ read said h. cut_no_message read _ c.in-Ok-Some.message.now _ said c.in-Err-decode_client.fault h (record { is_message = next.0; whole = next.1 }) is))
 
 pub returns-in_ok-end-in-Err-clause-none : goal.returns-in_ok-end-in-Err-clause-none
-returns-in_ok-end-in-Err-clause-none c = ?
+returns-in_ok-end-in-Err-clause-none c =
+    rw (c.requires, c.in_ok-end-in-Err.ensures.put, c.in_ok-end-in-Err.ensures.over, c.in_ok-end-in-Err.ensures.framer)
+    (cuts_last _ _ _ (λ read said h. cut_too_long read _ said c.in-Err.stated h c.in-Err.ensures.too_large))

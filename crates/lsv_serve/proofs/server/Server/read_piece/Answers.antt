@@ -7,9 +7,6 @@ use Rattle.lsv_serve.proofs.ReadLemmas.{ended_answering, ended_lost, ended_readi
 use Rattle.lsv_serve.proofs.TurnLemmas.{roomier_set, set_same, standing_roomier}
 use Rattle.lsv_serve.proofs.server.Server.read_piece.Goals as goal
 
-pub turn-requires-clause-stands : goal.turn-requires-clause-stands
-turn-requires-clause-stands g c = λ told. let s = c.requires.known.5.standing told in (s.machine, s.represents)
-
 pub returns-in_default-clause-ends : goal.returns-in_default-clause-ends
 returns-in_default-clause-ends g c = λ set texts s k d u.
     ended_reading set texts (world_of g.S.Source g.K.Sink g.D.Disk s k d) (ends.Open _) _ _ _ _ _ _ _ _ u refl (λ reads bytes all. all) (λ told. (c.in_default.ensures.failed told).0) (λ told. (c.in_default.ensures.failed told).1)
@@ -38,12 +35,12 @@ returns-in_default-turn-clause-ends g c = λ set texts s k d u.
     (ended_lost set texts (world_of g.S.Source g.K.Sink g.D.Disk s k d) _ (view_of c.args.self.now.keeper) (view_of c.turn.new.self.keeper) _ _ _ _ _ _ (take c.in-Ok.count c.read.new.buf) u (λ told. c.in-Ok.ensures.piece told (omega arith))
     (λ told. c.in-Ok.ensures.rest told) short c.in-Ok.ensures.cause.monotone (set_same _ _ (roomier_set _ _ r)) (λ turns st. standing_roomier set texts _ _ _ _ turns r st))
 
-pub returns-in_err-answer-clause-ends : goal.returns-in_err-answer-clause-ends
-returns-in_err-answer-clause-ends g c = λ set texts s k d u.
+pub returns-in-Err-clause-ends : goal.returns-in-Err-clause-ends
+returns-in-Err-clause-ends g c = λ set texts s k d u.
     let short : length (take c.in-Ok.count c.read.new.buf) ≤ 65536 = omega (arith, length-take-le c.in-Ok.count c.read.new.buf (omega arith)) in
     let p = unput_turn set texts (world_of g.S.Source g.K.Sink g.D.Disk s k d) _ (view_of c.args.self.now.keeper) (view_of c.turn.new.self.keeper) _ _ _ _ (g.S.Source.given c.read.new.self) (g.S.Source.rest c.read.new.self) (g.S.Source.count c.read.new.self) (g.S.Source.faults c.read.new.self)
         (take c.in-Ok.count c.read.new.buf) _ _ _ u (λ told. c.in-Ok.ensures.piece told (omega arith)) (λ told. c.in-Ok.ensures.rest told) short c.in-Ok.ensures.cause.monotone c.in-Ok-take.ensures c.in-Ok-turn.ensures.done c.in-Ok-turn.ensures.set in
-    rw c.answer.ensures.keeper (ended_answering set texts (world_of g.S.Source g.K.Sink g.D.Disk s k d) _ _ _ _ _ _ _ _ p c.answer.ensures.faults c.in_err-answer.ensures.ends)
+    rw c.answer.ensures.keeper (ended_answering set texts (world_of g.S.Source g.K.Sink g.D.Disk s k d) _ _ _ _ _ _ _ _ p c.answer.ensures.faults c.in-Err.ensures.ends)
 
 pub returns-clause-on : goal.returns-clause-on
 returns-clause-on g c = λ set texts s k d u.
@@ -51,4 +48,4 @@ returns-clause-on g c = λ set texts s k d u.
     let p = unput_turn set texts (world_of g.S.Source g.K.Sink g.D.Disk s k d) _ (view_of c.args.self.now.keeper) (view_of c.turn.new.self.keeper) _ _ _ _ (g.S.Source.given c.read.new.self) (g.S.Source.rest c.read.new.self) (g.S.Source.count c.read.new.self) (g.S.Source.faults c.read.new.self)
         (take c.in-Ok.count c.read.new.buf) _ _ _ u (λ told. c.in-Ok.ensures.piece told (omega arith)) (λ told. c.in-Ok.ensures.rest told) short c.in-Ok.ensures.cause.monotone c.in-Ok-take.ensures c.in-Ok-turn.ensures.done c.in-Ok-turn.ensures.set in
     rw (c.answer.ensures.keeper, c.answer.ensures.incoming, c.in-Ok-turn.ensures.incoming)
-    (under_way set texts (world_of g.S.Source g.K.Sink g.D.Disk s k d) _ _ _ _ _ _ _ p c.in_ok-answer.ensures.on c.in_ok-answer.ensures.put c.answer.ensures.faults)
+    (under_way set texts (world_of g.S.Source g.K.Sink g.D.Disk s k d) _ _ _ _ _ _ _ p c.in_default-answer.ensures.on c.in_default-answer.ensures.put c.answer.ensures.faults)
