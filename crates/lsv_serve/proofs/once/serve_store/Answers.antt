@@ -25,25 +25,25 @@ pub returns-clause-runs : goal.returns-clause-runs
 returns-clause-runs g c =
     let w = world_of g.S.Source g.K.Sink g.D.Disk c.args.out.now.source c.args.out.now.sink c.args.out.now.disk in
     let b = begun c.args.formatter.kind c.args.log_exit c.args.prompts w (g.D.Disk.view c.open.new.disk) (view_of c.in-Ok.keeper) c.in-Ok.ensures.set c.requires.fresh (λ told. (_, c.in-Ok.ensures.read told)) c.in-Ok.ensures.opened in
-    (c.serve.ensures _ c.args.prompts c.args.out.now.source c.args.out.now.sink c.args.out.now.disk (rw c.new-server.ensures.keeper b)).runs
+    (c.serve.ensures.runs (once_settings c.args.formatter.kind c.args.log_exit) c.args.prompts c.args.out.now.source c.args.out.now.sink c.args.out.now.disk (rw c.new-server.ensures.keeper b)).runs
 
 pub returns-clause-cause : goal.returns-clause-cause
 returns-clause-cause g c =
     let w = world_of g.S.Source g.K.Sink g.D.Disk c.args.out.now.source c.args.out.now.sink c.args.out.now.disk in
     let b = begun c.args.formatter.kind c.args.log_exit c.args.prompts w (g.D.Disk.view c.open.new.disk) (view_of c.in-Ok.keeper) c.in-Ok.ensures.set c.requires.fresh (λ told. (_, c.in-Ok.ensures.read told)) c.in-Ok.ensures.opened in
-    (c.serve.ensures _ c.args.prompts c.args.out.now.source c.args.out.now.sink c.args.out.now.disk (rw c.new-server.ensures.keeper b)).cause
+    (c.serve.ensures.runs (once_settings c.args.formatter.kind c.args.log_exit) c.args.prompts c.args.out.now.source c.args.out.now.sink c.args.out.now.disk (rw c.new-server.ensures.keeper b)).cause
 
 pub returns-clause-not_usage : goal.returns-clause-not_usage
 returns-clause-not_usage g c =
     let w = world_of g.S.Source g.K.Sink g.D.Disk c.args.out.now.source c.args.out.now.sink c.args.out.now.disk in
     let b = begun c.args.formatter.kind c.args.log_exit c.args.prompts w (g.D.Disk.view c.open.new.disk) (view_of c.in-Ok.keeper) c.in-Ok.ensures.set c.requires.fresh (λ told. (_, c.in-Ok.ensures.read told)) c.in-Ok.ensures.opened in
-    (c.serve.ensures _ c.args.prompts c.args.out.now.source c.args.out.now.sink c.args.out.now.disk (rw c.new-server.ensures.keeper b)).not_usage
+    (c.serve.ensures.runs (once_settings c.args.formatter.kind c.args.log_exit) c.args.prompts c.args.out.now.source c.args.out.now.sink c.args.out.now.disk (rw c.new-server.ensures.keeper b)).not_usage
 
 pub returns-clause-same_places : goal.returns-clause-same_places
 returns-clause-same_places g c =
     let w = world_of g.S.Source g.K.Sink g.D.Disk c.args.out.now.source c.args.out.now.sink c.args.out.now.disk in
     let b = begun c.args.formatter.kind c.args.log_exit c.args.prompts w (g.D.Disk.view c.open.new.disk) (view_of c.in-Ok.keeper) c.in-Ok.ensures.set c.requires.fresh (λ told. (_, c.in-Ok.ensures.read told)) c.in-Ok.ensures.opened in
-    (c.serve.ensures _ c.args.prompts c.args.out.now.source c.args.out.now.sink c.args.out.now.disk (rw c.new-server.ensures.keeper b)).places
+    (c.serve.ensures.runs (once_settings c.args.formatter.kind c.args.log_exit) c.args.prompts c.args.out.now.source c.args.out.now.sink c.args.out.now.disk (rw c.new-server.ensures.keeper b)).places
 
 pub returns-in-Err-clause-same_places : goal.returns-in-Err-clause-same_places
 returns-in-Err-clause-same_places g c = λ told. (c.in-Err.ensures.store told).files.places

@@ -10,13 +10,15 @@ let_go-requires-clause-stands g c = λ told.
     (s.machine, s.represents)
 
 pub returns-in-Last : goal.returns-in-Last
-returns-in-Last g c = λ set texts s k d b.
-    runs_last set texts (world_of g.S.Source g.K.Sink g.D.Disk s k d) _ _ c.in-Last.status (c.in-Last.ensures.ends set texts s k d b)
+returns-in-Last g c = record { runs = λ set texts s k d b. runs_last set texts (world_of g.S.Source g.K.Sink g.D.Disk s k d) _ _ c.in-Last.status (c.in-Last.ensures.ends set texts s k d b) }
 
 pub returns-in-Ok : goal.returns-in-Ok
-returns-in-Ok g c = λ set texts s k d b.
-    runs_gone set texts (world_of g.S.Source g.K.Sink g.D.Disk s k d) _ _ c.in-Open.status _ _ _ (c.in-Open.ensures.ends set texts s k d b) c.in-Open.ensures.rests c.in-Ok.ensures.done
+returns-in-Ok g c = record {
+  runs = λ set texts s k d b.
+      runs_gone set texts (world_of g.S.Source g.K.Sink g.D.Disk s k d) _ _ c.in-Open.status _ _ _ (c.in-Open.ensures.ends set texts s k d b) c.in-Open.ensures.rests c.in-Ok.ensures.done;
+}
 
 pub returns-in-Err : goal.returns-in-Err
-returns-in-Err g c = λ set texts s k d b.
-    rw c.in-Err.ensures.disk (runs_out set texts (world_of g.S.Source g.K.Sink g.D.Disk s k d) _ _ c.in-Open.status (c.in-Open.ensures.ends set texts s k d b))
+returns-in-Err g c = record {
+  runs = λ set texts s k d b. rw c.in-Err.ensures.disk (runs_out set texts (world_of g.S.Source g.K.Sink g.D.Disk s k d) _ _ c.in-Open.status (c.in-Open.ensures.ends set texts s k d b));
+}

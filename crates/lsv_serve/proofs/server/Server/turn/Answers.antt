@@ -1,7 +1,5 @@
-use Rattle.std.proofs.Common.{[], List, ◌∙◌, subst}
-use Rattle.lsv_session.specs.declared.reply.Reply.{Reply}
-use Rattle.lsv_keeper.specs.Tails.{TurnGives}
-use Rattle.lsv_serve.proofs.TurnLemmas.{roomier_gives, roomier_rests, roomier_set, roomier_stands, set_then}
+use Rattle.std.proofs.Common.{◌∙◌}
+use Rattle.lsv_serve.proofs.TurnLemmas.{gives_first, roomier_rests, roomier_set, roomier_stands, set_then}
 use Rattle.lsv_serve.proofs.server.Server.turn.Goals as goal
 
 pub turn-requires-clause-stands : goal.turn-requires-clause-stands
@@ -19,6 +17,5 @@ returns-clause-done g c = record {
   valid = c.now-now.ensures;
   gives = λ told m is.
       let r = c.in_ok-ready.ensures.same in
-      let t = c.turn.ensures.turned told m (roomier_stands _ _ _ m r is) in
-      roomier_gives _ _ _ _ m _ _ _ _ _ r (subst (λ (said : List Reply). TurnGives _ _ _ m said _ _ _ _) (c.in_ok-ready.ensures.replies ∙ c.clear.ensures) t);
+      gives_first _ _ _ _ m _ _ _ _ _ (c.in_ok-ready.ensures.replies ∙ c.clear.ensures.items) r (c.turn.ensures.turned told m (roomier_stands _ _ _ m r is));
 }
