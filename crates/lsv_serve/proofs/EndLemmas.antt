@@ -158,8 +158,8 @@ module _ (set : Settings) (texts : List (List ℕ)) (old now : World) (v : Keepe
               let s = e.standing told in
               let gives : TurnGives v d.now (jobs_of (Gone ∷ [])) s.machine [] replies w now.disk disk = d.gives told s.machine s.represents in
               keeps set texts old.disk disk w (e.reads ++ t ∷ []) status tape refl
-                  (ap (said_to once_conn) (append-nil replies) ∙ gone_silent v w d.now s.machine replies now.disk disk rests s.represents gives)
-                  (standing_turn set texts old.disk now.disk disk v w e.reads t e.set_is s gives);
+              (ap (said_to once_conn) (append-nil replies) ∙ gone_silent v w d.now s.machine replies now.disk disk rests s.represents gives)
+              (standing_turn set texts old.disk now.disk disk v w e.reads t e.set_is s gives);
         };
         cause = cause_stays status disk g.0 e.cause;
         places = λ told.

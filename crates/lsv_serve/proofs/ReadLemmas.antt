@@ -210,8 +210,7 @@ module _ (set : Settings) (texts : List (List ℕ)) (old : World) where
   part_of : (now : World) (v : KeeperView) (over : Bool) (unread : List ℕ) (replies : List Reply) (put : List ℕ) → (u : Unput set texts old now v over unread replies)
       → (old.sink_tells → (front : List ℕ) × IsPrefix front (frames replies) × (put ≡ now.put ++ front)) → old.sink_tells → (bytes : List ℕ) × (put ≡ old.put ++ bytes) × PutsFor WriteFault (u.earlier ++ u.last ∷ []) bytes
   part_of now v over unread replies put u e told =
-      let f = e told in
-      (
+      let f = e told in (
         answers once_conn (replies_in u.earlier) ++ f.0,
         part_put now v over unread replies put f.0 u told f.2,
         inr (record { earlier = u.earlier; last = u.last; are = refl; front = f.0; of_last = subst (λ (r : List Reply). IsPrefix f.0 (frames r)) (sym u.replies_are) f.1; whole = refl }),

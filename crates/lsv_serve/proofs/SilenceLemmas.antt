@@ -51,12 +51,12 @@ gone_step set m after act gone calm (inr d) = elim d.how [
   | inl breaks ↦ absurd (subst (λ (b : Body). Breaks set m act b after) gone breaks.1)
   | inr more ↦ elim more [
     | inl lost ↦
-      let l = lost.1 in
-      let q = plain_gone set act l.number m gone calm in
-      record {
-        told = subst (λ (a : List Answer). (a ≡ []) ⊎ (a ≡ farewell act.job.conn)) (sym l.answers) q.told;
-        calm = subst IsCalm (sym l.now) (record { waiting = q.calm.waiting; noting = q.calm.noting });
-      }
+        let l = lost.1 in
+        let q = plain_gone set act l.number m gone calm in
+        record {
+          told = subst (λ (a : List Answer). (a ≡ []) ⊎ (a ≡ farewell act.job.conn)) (sym l.answers) q.told;
+          calm = subst IsCalm (sym l.now) (record { waiting = q.calm.waiting; noting = q.calm.noting });
+        }
     | inr cut ↦ absurd (subst (λ (b : Body). AsksFor (m.states act.job.conn) b (request.Restart cut.1.restart)) gone cut.1.asks)
   ]
 ]
@@ -103,7 +103,7 @@ turn_quiet set m after acts tail replies calm jobs run are =
     let q = gone_step set m mid act (ap (λ (j : Job). j.body) one.2) calm r.1 in
     let t = tail_quiet set mid r.2.0 tail q.calm r.2.1 in
     let a : flat_map (λ (x : Act). x.answers) acts ++ tail.answers ≡ act.answers =
-        ap (λ (l : List Act). flat_map (λ (x : Act). x.answers) l ++ tail.answers) one.1 ∙ ap (λ (l : List Answer). (act.answers ++ []) ++ l) t ∙ append-nil (act.answers ++ []) ∙ append-nil act.answers in
+    ap (λ (l : List Act). flat_map (λ (x : Act). x.answers) l ++ tail.answers) one.1 ∙ ap (λ (l : List Answer). (act.answers ++ []) ++ l) t ∙ append-nil (act.answers ++ []) ∙ append-nil act.answers in
     ap (said_to once_conn) (sym are ∙ ap (map reply_of) a) ∙ said_nothing act.job.conn act.answers (ap (λ (j : Job). j.conn) one.2) q.told
 
 -- a turn with the connection's end alone tells it nothing

@@ -68,9 +68,11 @@ turns_last read said [] (u ∷ turns) piece t each are = absurd each
 turns_last read said (p ∷ pieces) [] piece t each are = absurd each
 turns_last read said (p ∷ pieces) (u ∷ turns) piece t each are =
     let bytes : (read ++ (p ++ concat pieces)) ++ piece ≡ ((read ++ p) ++ concat pieces) ++ piece = ap (λ (b : List ℕ). b ++ piece) (sym (append_assoc read p (concat pieces))) in
-    let bodies : (said ++ (u.bodies ++ bodies_in turns)) ++ t.bodies ≡ ((said ++ u.bodies) ++ bodies_in turns) ++ t.bodies = ap (λ (l : List Body). l ++ t.bodies) (sym (append_assoc said u.bodies (bodies_in turns))) in
-    (each.0, turns_last (read ++ p) (said ++ u.bodies) pieces turns piece t each.1
-    (subst (λ (l : List Body). AreJobs (((read ++ p) ++ concat pieces) ++ piece) l) bodies (subst (λ (b : List ℕ). AreJobs b ((said ++ (u.bodies ++ bodies_in turns)) ++ t.bodies)) bytes are)))
+    let bodies : (said ++ (u.bodies ++ bodies_in turns)) ++ t.bodies ≡ ((said ++ u.bodies) ++ bodies_in turns) ++ t.bodies = ap (λ (l : List Body). l ++ t.bodies) (sym (append_assoc said u.bodies (bodies_in turns))) in (
+      each.0,
+      turns_last (read ++ p) (said ++ u.bodies) pieces turns piece t each.1
+          (subst (λ (l : List Body). AreJobs (((read ++ p) ++ concat pieces) ++ piece) l) bodies (subst (λ (b : List ℕ). AreJobs b ((said ++ (u.bodies ++ bodies_in turns)) ++ t.bodies)) bytes are)),
+    )
 
 pub are_turns_last : (tape : List TapeTurn) (turns : List Turn) (t : TapeTurn) (turn : Turn) → AreTurns tape turns → IsTurn t turn → AreTurns (tape ++ t ∷ []) (turns ++ turn ∷ [])
 are_turns_last [] [] t turn are is = (is, tt)
@@ -92,9 +94,9 @@ by_last (t ∷ turns) = elim (by_last turns) [
 pub all_is_part : (turns : List TapeTurn) (bytes : List ℕ) → PutsAll turns bytes → PutsPart turns bytes
 all_is_part turns bytes all = elim (by_last turns) [
   | inl none ↦
-    let hello : List ℕ = frame_of (server_bytes server_hello) in
-    let is : bytes ≡ hello ++ [] = all ∙ ap (λ (ts : List TapeTurn). answers once_conn (replies_in ts)) none in
-    inl (none, ([], sym (append-nil bytes ∙ is ∙ append-nil hello)))
+      let hello : List ℕ = frame_of (server_bytes server_hello) in
+      let is : bytes ≡ hello ++ [] = all ∙ ap (λ (ts : List TapeTurn). answers once_conn (replies_in ts)) none in
+      inl (none, ([], sym (append-nil bytes ∙ is ∙ append-nil hello)))
   | inr (earlier, last, is) ↦ inr (record {
     earlier = earlier;
     last = last;

@@ -94,7 +94,7 @@ pub standing_turn : (set : Settings) (texts : List (List ℕ)) (found old new : 
     → TurnGives v t.now (jobs_of t.bodies) s.machine [] t.replies v' old new → Standing set texts found new v' (turns ++ t ∷ [])
 standing_turn set texts found old new v v' turns t is s g =
     let turned : Turned (reading_of set.lane set.lanes) set t.now (jobs_of t.bodies) g.replies s.machine g.after old new =
-        subst (λ (x : Settings). Turned (reading_of x.lane x.lanes) x t.now (jobs_of t.bodies) g.replies s.machine g.after old new) is g.turned in
+    subst (λ (x : Settings). Turned (reading_of x.lane x.lanes) x t.now (jobs_of t.bodies) g.replies s.machine g.after old new) is g.turned in
     record {
       machine = g.after;
       story = with_turn s.story t.now turned.acts turned.tail new.moment;

@@ -36,12 +36,7 @@ pub fn run_once<
     F: LineWriter + Drop,
     J: LineWriter + Drop,
     H: Search + Drop,
->(
-    alloc: Global,
-    options: Options,
-    out: &mut Outside<S, K, D, C>,
-    kept: Kept<F, J, H>,
-) -> Status
+>(alloc: Global, options: Options, out: &mut Outside<S, K, D, C>, kept: Kept<F, J, H>) -> Status
     requires sudo { kept.sudo.kind ≡ kinds.Sudo }
     requires json { kept.json.kind ≡ kinds.Json }
     requires fresh { D.tells → IsFresh (D.view out.old.disk) }

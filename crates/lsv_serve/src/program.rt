@@ -42,12 +42,7 @@ pub fn logsrvd<
     F: LineWriter + Drop,
     J: LineWriter + Drop,
     H: Search + Drop,
->(
-    alloc: Global,
-    words: &List<Bytes>,
-    out: &mut Outside<S, K, D, C>,
-    kept: Kept<F, J, H>,
-) -> Status
+>(alloc: Global, words: &List<Bytes>, out: &mut Outside<S, K, D, C>, kept: Kept<F, J, H>) -> Status
     requires sudo { kept.sudo.kind ≡ kinds.Sudo }
     requires json { kept.json.kind ≡ kinds.Json }
     requires fresh { D.tells → IsFresh (D.view out.old.disk) }

@@ -39,13 +39,13 @@ pub returns-in-Err-clause-ends : goal.returns-in-Err-clause-ends
 returns-in-Err-clause-ends g c = λ set texts s k d u.
     let short : length (take c.in-Ok.count c.read.new.buf) ≤ 65536 = omega (arith, length-take c.in-Ok.count c.read.new.buf) in
     let p = unput_turn set texts (world_of g.S.Source g.K.Sink g.D.Disk s k d) _ (view_of c.args.self.now.keeper) (view_of c.turn.new.self.keeper) _ _ _ _ (g.S.Source.given c.read.new.self) (g.S.Source.rest c.read.new.self) (g.S.Source.count c.read.new.self) (g.S.Source.faults c.read.new.self)
-        (take c.in-Ok.count c.read.new.buf) _ _ _ u (λ told. c.in-Ok.ensures.piece told (omega arith)) (λ told. c.in-Ok.ensures.rest told) short c.in-Ok.ensures.cause.monotone c.in-Ok-take.ensures c.in-Ok-turn.ensures.done c.in-Ok-turn.ensures.set in
+    (take c.in-Ok.count c.read.new.buf) _ _ _ u (λ told. c.in-Ok.ensures.piece told (omega arith)) (λ told. c.in-Ok.ensures.rest told) short c.in-Ok.ensures.cause.monotone c.in-Ok-take.ensures c.in-Ok-turn.ensures.done c.in-Ok-turn.ensures.set in
     rw c.answer.ensures.keeper (ended_answering set texts (world_of g.S.Source g.K.Sink g.D.Disk s k d) _ _ _ _ _ _ _ _ p c.answer.ensures.faults c.in-Err.ensures.ends)
 
 pub returns-clause-on : goal.returns-clause-on
 returns-clause-on g c = λ set texts s k d u.
     let short : length (take c.in-Ok.count c.read.new.buf) ≤ 65536 = omega (arith, length-take c.in-Ok.count c.read.new.buf) in
     let p = unput_turn set texts (world_of g.S.Source g.K.Sink g.D.Disk s k d) _ (view_of c.args.self.now.keeper) (view_of c.turn.new.self.keeper) _ _ _ _ (g.S.Source.given c.read.new.self) (g.S.Source.rest c.read.new.self) (g.S.Source.count c.read.new.self) (g.S.Source.faults c.read.new.self)
-        (take c.in-Ok.count c.read.new.buf) _ _ _ u (λ told. c.in-Ok.ensures.piece told (omega arith)) (λ told. c.in-Ok.ensures.rest told) short c.in-Ok.ensures.cause.monotone c.in-Ok-take.ensures c.in-Ok-turn.ensures.done c.in-Ok-turn.ensures.set in
+    (take c.in-Ok.count c.read.new.buf) _ _ _ u (λ told. c.in-Ok.ensures.piece told (omega arith)) (λ told. c.in-Ok.ensures.rest told) short c.in-Ok.ensures.cause.monotone c.in-Ok-take.ensures c.in-Ok-turn.ensures.done c.in-Ok-turn.ensures.set in
     rw (c.answer.ensures.keeper, c.answer.ensures.incoming, c.in-Ok-turn.ensures.incoming)
     (under_way set texts (world_of g.S.Source g.K.Sink g.D.Disk s k d) _ _ _ _ _ _ _ p c.in_default-answer.ensures.on c.in_default-answer.ensures.put c.answer.ensures.faults)

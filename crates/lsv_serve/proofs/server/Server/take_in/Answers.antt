@@ -4,8 +4,7 @@ use Rattle.lsv_serve.proofs.server.Server.take_in.Goals as goal
 
 pub read-requires-clause-known : goal.read-requires-clause-known
 read-requires-clause-known g c =
-    let n = c.requires.known in
-    (
+    let n = c.requires.known in (
       n.0,
       n.1,
       n.2,
