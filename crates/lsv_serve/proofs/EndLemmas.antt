@@ -1,7 +1,7 @@
 -- The end of a run.
-use Rattle.std.proofs.Common.{◌≡◌, ◌≢◌, ◌≤◌, ◌<◌, ◌-◌, ◌^◌, ◌⊎◌, inl, inr, ◌++◌, ◌∷◌, [], List, ℕ, Bool, true, false, length, Option, Some, None, refl, sym, ap, subst, ◌∙◌, append_assoc, append-nil, arith}
-use Rattle.std.specs.Prelude.{map, IsSome}
-use Rattle.std.specs.List.{AllByRecursion, concat}
+use Rattle.std.proofs.Common.{◌≡◌, ◌⊎◌, inl, inr, ◌++◌, ◌∷◌, [], List, ℕ, Bool, false, Option, None, refl, sym, ap, subst, ◌∙◌, append-nil}
+use Rattle.std.specs.Prelude.{IsSome}
+use Rattle.std.specs.List.{AllByRecursion}
 use Rattle.lsv_base.specs.Time.{nanos_of}
 use Rattle.lsv_disk.specs.View.{DiskView}
 use Rattle.lsv_session.specs.Transcript.{said_to}
@@ -11,17 +11,16 @@ use Rattle.lsv_session.specs.declared.reply.Reply.{Reply}
 use Rattle.lsv_machine.specs.Machine.{Machine, Settings}
 use Rattle.lsv_machine.specs.Turns.{Happened, Run}
 use Rattle.lsv_machine.proofs.RunLaws.{one_writer}
-use Rattle.lsv_keeper.specs.Represents.{Free, LogIs, Represents}
+use Rattle.lsv_keeper.specs.Represents.{Free, LogIs}
 use Rattle.lsv_keeper.specs.Tails.{TurnGives}
-use Rattle.lsv_keeper.specs.Value.{IsResting, KeeperView, settings_of}
-use Rattle.lsv_serve.specs.declared.server.End.{End}
+use Rattle.lsv_keeper.specs.Value.{IsResting, KeeperView}
 use Rattle.lsv_serve.specs.declared.server.End.TheVariants as ends
 use Rattle.lsv_serve.specs.declared.status.Status.{Status}
 use Rattle.lsv_serve.specs.declared.status.Status.TheVariants.{Served, Usage, Store, ReadFault, WriteFault, NoMem}
 use Rattle.lsv_serve.specs.Causes.{HasStatusCause}
-use Rattle.lsv_serve.specs.InnerRun.{Ended, HasRead, MayEnd, Serves, Standing, TurnDone}
-use Rattle.lsv_serve.specs.Once.{AreTurns, Conforms, IsOpened, KeepsStore, RunsOnce}
-use Rattle.lsv_serve.specs.Tape.{EndsFor, IsGone, Leaves, PutsAll, PutsFor, PutsPart, Tape, TapeTurn, jobs_of, once_conn, replies_in, turns_in, was_shut}
+use Rattle.lsv_serve.specs.InnerRun.{Ended, MayEnd, Serves, Standing, TurnDone}
+use Rattle.lsv_serve.specs.Once.{AreTurns, Conforms, KeepsStore}
+use Rattle.lsv_serve.specs.Tape.{EndsFor, IsGone, Leaves, PutsFor, PutsPart, Tape, TapeTurn, jobs_of, once_conn, replies_in, turns_in, was_shut}
 use Rattle.lsv_serve.specs.World.{World}
 use Rattle.lsv_serve.proofs.ReadLemmas.{with_disk}
 use Rattle.lsv_serve.proofs.SilenceLemmas.{gone_silent}

@@ -1,5 +1,5 @@
 -- What each end of a read, of a turn and of a write makes of a run under way.
-use Rattle.std.proofs.Common.{◌≡◌, ◌≤◌, ◌<◌, ◌-◌, ◌^◌, ◌⊎◌, inl, inr, ◌++◌, ◌∷◌, [], List, ℕ, Bool, true, false, length, refl, sym, ap, subst, ◌∙◌, append_assoc, append-nil, arith}
+use Rattle.std.proofs.Common.{◌≡◌, ◌≤◌, ◌<◌, ◌-◌, ◌^◌, inl, inr, ◌++◌, ◌∷◌, [], List, ℕ, Bool, true, false, length, refl, sym, ap, subst, ◌∙◌, append_assoc, append-nil, arith}
 use Rattle.std.specs.Prelude.{IsSome}
 use Rattle.std.specs.List.{concat}
 use Rattle.lsv_base.specs.Time.{nanos_of}
@@ -22,7 +22,7 @@ use Rattle.lsv_serve.specs.declared.server.End.TheVariants as ends
 use Rattle.lsv_serve.specs.declared.status.Status.TheVariants.{Served, Usage, Store, ReadFault, WriteFault, NoMem}
 use Rattle.lsv_serve.specs.Causes.{HasStatusCause}
 use Rattle.lsv_serve.specs.InnerRun.{AnswerEnds, Begun, Cuts, Ended, HasRead, HelloEnds, MayEnd, Standing, Takes, TurnDone, UnderWay, Unput, status_in}
-use Rattle.lsv_serve.specs.Tape.{PutsAll, PutsFor, TapeTurn, bodies_in, jobs_of, once_conn, replies_in, shuts, was_shut}
+use Rattle.lsv_serve.specs.Tape.{PutsAll, PutsFor, TapeTurn, bodies_in, once_conn, replies_in, shuts, was_shut}
 use Rattle.lsv_serve.specs.World.{World}
 use Rattle.lsv_serve.proofs.TapeLemmas.{all_is_part, all_last, answers_last, bodies_last, concat_last, last_shut, none_shut, shut_more, turns_last}
 use Rattle.lsv_serve.proofs.TurnLemmas.{set_same, standing_turn}

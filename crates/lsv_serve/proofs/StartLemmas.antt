@@ -1,16 +1,16 @@
 -- The start of a run: the places that the disk is given, a store that isn't opened, and words that ask for nothing.
-use Rattle.std.proofs.Common.{◌≡◌, ◌≢◌, ◌≤◌, ◌<◌, ◌⊎◌, inl, inr, ◌++◌, ◌∷◌, [], List, ℕ, Bool, length, Ok, Err, refl, sym, ap, subst, ◌∙◌, append-nil, arith}
+use Rattle.std.proofs.Common.{◌≡◌, ◌≤◌, ◌⊎◌, inl, inr, [], List, ℕ, Bool, Ok, refl, sym, subst, append-nil, arith}
 use Rattle.lsv_words.specs.Causes.{HasRisen}
 use Rattle.lsv_disk.specs.Throughout.{Jointly}
-use Rattle.lsv_disk.specs.View.{DiskView, HasOwnCause, Image, IsCrashImage, IsLeftAlone, IsUntouched}
+use Rattle.lsv_disk.specs.View.{DiskView, Image, IsCrashImage, IsLeftAlone, IsUntouched}
 use Rattle.lsv_disk.specs.declared.file.FileId.{FileId}
 use Rattle.lsv_disk.proofs.Composition.{started}
 use Rattle.lsv_machine.specs.Counts.{Counts}
 use Rattle.lsv_machine.specs.Disks.{AsBefore, IsOfStore, LinesAsBefore, NumbersFit, Past, SameLines, SameLog}
 use Rattle.lsv_machine.specs.Durable.{Good, Reading}
 use Rattle.lsv_machine.specs.Keeping.{OpensStore}
-use Rattle.lsv_machine.specs.Machine.{LogState, Machine, Settings}
-use Rattle.lsv_machine.specs.Recovery.{GoesOn, Kept, Outside, Ran, Recovers, Story}
+use Rattle.lsv_machine.specs.Machine.{Machine, Settings}
+use Rattle.lsv_machine.specs.Recovery.{Kept, Ran, Recovers, Story}
 use Rattle.lsv_machine.specs.Starts.{ReadsAs}
 use Rattle.lsv_machine.specs.Turns.{Happened}
 use Rattle.lsv_machine.proofs.Recovering.{only_opened}

@@ -1,10 +1,9 @@
 -- A tape with one turn more.
 use Rattle.std.proofs.Common.{◌≡◌, ◌⊎◌, inl, inr, ◌++◌, ◌∷◌, [], List, ℕ, Bool, true, false, refl, sym, ap, subst, ◌∙◌, append_assoc, append-nil}
 use Rattle.std.specs.Prelude.{◌||◌}
-use Rattle.std.specs.List.{AllByRecursion, concat, flat_map, list_any}
+use Rattle.std.specs.List.{AllByRecursion, concat}
 use Rattle.std.proofs.lemmas.Grind.{flat_map-append}
 use Rattle.std.proofs.lemmas.List.Folds.{list_any-append}
-use Rattle.lsv_words.specs.Pieces.{IsPrefix}
 use Rattle.lsv_wire.specs.Frame.{frame_of}
 use Rattle.lsv_msg.specs.Messages.{server_bytes}
 use Rattle.lsv_session.specs.Connections.{server_hello}

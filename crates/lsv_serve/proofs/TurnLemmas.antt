@@ -14,7 +14,7 @@ use Rattle.lsv_machine.specs.Machine.{Machine, Settings}
 use Rattle.lsv_machine.proofs.Recovering.{opening_begins, turn_joins}
 use Rattle.lsv_keeper.specs.Opening.{IsSetTo, OpensAs}
 use Rattle.lsv_keeper.specs.Reading.{reading_of}
-use Rattle.lsv_keeper.specs.Represents.{Free, Held, LogIs, Represents}
+use Rattle.lsv_keeper.specs.Represents.{LogIs, Represents}
 use Rattle.lsv_keeper.specs.Tails.{TurnGives}
 use Rattle.lsv_keeper.specs.Value.{IsResting, KeeperView, SameSet, event_line, settings_of}
 use Rattle.lsv_keeper.specs.Room.{IsRoomier}

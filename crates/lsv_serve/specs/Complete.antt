@@ -1,5 +1,5 @@
 -- A conversation that opens a log and comes to its exit, and how it is served where nothing fails.
-use Rattle.std.specs.Prelude.{◌≡◌, ◌≢◌, ◌⊎◌, ◌<◌, ◌+◌, ◌-◌, ◌^◌, ◌++◌, ℕ, Bool, true, false, if◌then◌else◌, List, [], ◌∷◌, map, Some, None, Result, Ok, Contains}
+use Rattle.std.specs.Prelude.{◌≡◌, ◌⊎◌, ◌<◌, ◌+◌, ◌-◌, ◌^◌, ◌++◌, ℕ, true, List, [], ◌∷◌, map, Some, Result, Ok, Contains}
 use Rattle.std.specs.List.{flat_map}
 use Rattle.lsv_words.specs.Causes.{HasRisen}
 use Rattle.lsv_base.specs.LogNo.{digits_of}
@@ -12,7 +12,6 @@ use Rattle.lsv_mask.specs.Masking.{mask}
 use Rattle.lsv_msg.specs.declared.messages.ClientMessage.{ClientMessage}
 use Rattle.lsv_msg.specs.declared.messages.ServerMessage.{ServerMessage}
 use Rattle.lsv_msg.specs.declared.messages.ServerMessage.TheVariants as server
-use Rattle.lsv_record.specs.Points.{Stored}
 use Rattle.lsv_record.specs.Records.{elapsed}
 use Rattle.lsv_record.specs.declared.records.Record.{Record}
 use Rattle.lsv_request.specs.declared.refusal.Refusal.{Refusal}

@@ -1,4 +1,4 @@
-use Rattle.std.proofs.Common.{◌∙◌, ap, sym, arith, append-nil, ◌≡◌, take, List, ℕ, ◌++◌, length}
+use Rattle.std.proofs.Common.{◌∙◌, ap, sym, arith, append-nil, ◌≡◌, take, List, ◌++◌}
 use Rattle.std.proofs.lemmas.List.{take_all}
 use Rattle.lsv_session.specs.Transcript.{frames_of, said_to}
 use Rattle.lsv_session.specs.declared.reply.Reply.{Reply}

@@ -1,4 +1,4 @@
-use Rattle.std.proofs.Common.{◌≡◌, inl, inr, ◌∙◌, sym, subst}
+use Rattle.std.proofs.Common.{inl, inr, ◌∙◌, sym, subst}
 use Rattle.lsv_event.specs.declared.event.Kind.{Kind}
 use Rattle.lsv_event.specs.declared.event.Kind.TheVariants as kinds
 use Rattle.lsv_serve.specs.Once.{RunsOnce, once_settings}

@@ -1,4 +1,4 @@
-use Rattle.std.proofs.Common.{◌≡◌, ◌-◌, ◌^◌, ℕ, List}
+use Rattle.std.proofs.Common.{◌-◌, ◌^◌, ℕ, List}
 use Rattle.lsv_machine.specs.Machine.{Settings}
 use Rattle.lsv_keeper.specs.Value.{IsResting}
 use Rattle.lsv_keeper.specs.Views.{view_of}
