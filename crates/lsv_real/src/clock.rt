@@ -1,4 +1,6 @@
 // The system's clock.
+ghost use Rattle.std.specs.Prelude.{IsSome};
+ghost use Rattle.lsv_base.specs.Time.{nanos_of};
 
 use lsv_base::{Clock, TimeSpec};
 use std::time::SystemTime;
@@ -29,7 +31,9 @@ impl Clock for WallClock {
 }
 
 /// The time of so many seconds and nanoseconds, or 0 where it isn't valid.
-fn time_of(secs: u64, nanos: u32) -> TimeSpec {
+fn time_of(secs: u64, nanos: u32) -> TimeSpec
+    ensures { IsSome (nanos_of result) }
+{
     let zero = TimeSpec { sec: 0, nsec: 0 };
     let (Ok(sec), Ok(nsec)) = (i64::try_from(secs), i32::try_from(nanos)) else {
         return zero;
