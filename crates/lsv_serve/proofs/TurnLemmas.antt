@@ -72,7 +72,7 @@ pub roomier_gives : (v w : KeeperView) (now : TimeSpec) (jobs : List Job) (m : M
     → TurnGives w now jobs m said said' v' old new → TurnGives v now jobs m said said' v' old new
 roomier_gives v w now jobs m said said' v' old new r g =
     let t : TurnGives (record v { table = w.table }) now jobs m said said' v' old new = subst (λ (y : KeeperView). TurnGives y now jobs m said said' v' old new) (other_table v w r) g in
-    record { replies = t.replies; after = t.after; told = t.told; turned = t.turned; represents = t.represents }
+    record { replies = t.replies; after = t.after; told = t.told; turned = t.turned; no_line = t.no_line; represents = t.represents }
 
 -- the same, where nothing was said before it
 pub gives_first : (v w : KeeperView) (now : TimeSpec) (jobs : List Job) (m : Machine) (said said' : List Reply) (v' : KeeperView) (old new : DiskView) → said ≡ [] → IsRoomier v w → TurnGives w now jobs m said said' v' old new
