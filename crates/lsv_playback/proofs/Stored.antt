@@ -72,8 +72,16 @@ line_some r = omega (arith, length-append (text_of (shape_of r)) (10 ∷ []))
 no_more : (l : Laid) (rs : List Record) (r : Record) (more : List Record) → IsLayout l rs → Begins l (rs ++ r ∷ more) → ⊥
 no_more l rs r more laid begins =
     let rest = begins.timing in
-    omega (arith, ap length rest.1, length-append (timing_of (rs ++ r ∷ more)) rest.0, ap length (timing_of-append rs (r ∷ more)), length-append (timing_of rs) (timing_of (r ∷ more)),
-      length-append (line_of r) (timing_of more), line_some r, ap length laid.timing)
+    omega (
+      arith,
+      ap length rest.1,
+      length-append (timing_of (rs ++ r ∷ more)) rest.0,
+      ap length (timing_of-append rs (r ∷ more)),
+      length-append (timing_of rs) (timing_of (r ∷ more)),
+      length-append (line_of r) (timing_of more),
+      line_some r,
+      ap length laid.timing,
+    )
 
 some_of_all : (l : Laid) (all rs : List Record) → IsLayout l all → Begins l all → Begins l rs → OneBegins rs all → (more : List Record) × (all ≡ rs ++ more)
 some_of_all l all rs laid begins begun (inl (more, e)) = (more, e)

@@ -115,5 +115,5 @@ fraction_some digits v le e =
     let small : v < 10 ^ length digits = omega (arith, is.1, short_value digits le is.0) in (
       small,
       ap (λ (n : ℕ). Some (n * 10 ^ (9 - length digits))) is.1
-      ∙ sym (chosen (is_digits digits && nat_le (length digits) 9) (digits_value 10 digits * 10 ^ (9 - length digits)) (both (is_digits digits) (nat_le (length digits) 9) is.0 (within (length digits) 9 le))),
+          ∙ sym (chosen (is_digits digits && nat_le (length digits) 9) (digits_value 10 digits * 10 ^ (9 - length digits)) (both (is_digits digits) (nat_le (length digits) 9) is.0 (within (length digits) 9 le))),
     )

@@ -19,9 +19,7 @@ fn flag<'a>(alloc: Global, id: &'a str, short: char) -> Arg<'a>
     ensures rule { rule_of result ≡ flag id.now short }
     ensures local { result.global ≡ false }
 {
-    Arg::new(alloc, id)
-        .short(short)
-        .action(ArgAction::SetTrue)
+    Arg::new(alloc, id).short(short).action(ArgAction::SetTrue)
 }
 
 /// The identifier of a log, or the words of a search.

@@ -11,9 +11,9 @@ ghost use Rattle.lsv_replay_args.specs.Request.{IsRefused, asked, dir_of, is_set
 use crate::decimal::billionths;
 use crate::program::program;
 use crate::streams::streams_in;
+use crate::words::texts_of;
 use clap::ArgMatches;
 use clap::error::ErrorKind;
-use crate::words::texts_of;
 use lsv_args::ArgFault;
 use lsv_base::{Bytes, List, NoMem};
 use lsv_play::Options;

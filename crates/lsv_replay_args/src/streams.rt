@@ -5,9 +5,13 @@ ghost use Rattle.lsv_replay_args.specs.Streams.{index_in, streams_in};
 use crate::words::cut;
 
 const STDIN: &[u8] = b"stdin";
+
 const STDOUT: &[u8] = b"stdout";
+
 const STDERR: &[u8] = b"stderr";
+
 const TTYIN: &[u8] = b"ttyin";
+
 const TTYOUT: &[u8] = b"ttyout";
 
 /// The streams that names with commas between them list. None where one is no stream's name.
