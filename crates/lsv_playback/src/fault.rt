@@ -1,0 +1,55 @@
+ghost use Rattle.std.specs.Prelude.{◌≡◌};
+ghost use Rattle.lsv_playback.specs.Faults.{of_log};
+ghost use Rattle.lsv_playback.specs.declared.fault.PlayFault.TheVariants as faults;
+
+use lsv_base::SinkFault;
+use lsv_disk::Part;
+use lsv_iolog::LogFault;
+use thiserror::Error;
+
+/// Why a log isn't played to its end.
+#[derive(Clone, Copy, Debug, PartialEq, Eq, Error)]
+pub enum PlayFault {
+    /// There is no log of this number.
+    #[error("there is no such log")]
+    Absent,
+    /// This part of the log is at fault.
+    #[error("the log is damaged")]
+    Damaged(Part),
+    /// A device call on a file of the log failed.
+    #[error("a call on a file of the log failed")]
+    Disk,
+    /// The screen failed.
+    #[error("the screen failed")]
+    Screen,
+    /// Out of memory.
+    #[error("out of memory")]
+    NoMem,
+}
+
+impl From<LogFault> for PlayFault {
+    ghost from_gives = { λ fault given. given ≡ of_log fault };
+
+    fn from(fault: LogFault) -> Self {
+        match fault {
+            LogFault::Absent => PlayFault::Absent,
+            LogFault::Damaged(part) => PlayFault::Damaged(part),
+            LogFault::Disk => PlayFault::Disk,
+            LogFault::NoMem => PlayFault::NoMem,
+            // Who only reads a log is never answered these.
+            LogFault::Complete
+            | LogFault::NoPoint(_)
+            | LogFault::Broken
+            | LogFault::Full(_)
+            | LogFault::TooLong(_) => PlayFault::NoMem,
+        }
+    }
+}
+
+impl From<SinkFault> for PlayFault {
+    ghost from_gives = { λ _ given. given ≡ faults.Screen };
+
+    fn from(_: SinkFault) -> Self {
+        PlayFault::Screen
+    }
+}

@@ -1,0 +1,19 @@
+use Rattle.std.proofs.lemmas.Result.{IfOk-weaker}
+use Rattle.clap.specs.Simple.{new_app}
+use Rattle.std.proofs.Common.{codes}
+use Rattle.lsv_replay_args.specs.Program.{bare, flag, value, words}
+use Rattle.lsv_replay_args.proofs.Building.{IsMade, set_up, with_arg}
+use Rattle.lsv_replay_args.proofs.program.program.Goals as goal
+
+pub returns : goal.returns
+returns c =
+    let made : IsMade c.new.result (new_app (codes "sudoreplay")) = record { app = c.new.ensures.app; local = c.new.ensures.local } in
+    let top = set_up c.new.result c.no_binary_name.result c.disable_help_flag.result c.disable_version_flag.result _ made c.no_binary_name.ensures c.disable_help_flag.ensures c.disable_version_flag.ensures in
+    let one = with_arg c.disable_version_flag.result c.in_ok-arg.field-0 c.value.result bare (value (codes "dir") 100) top c.value.ensures.rule c.value.ensures.local c.in_ok-arg.ensures in
+    let two = with_arg c.in_ok-arg.field-0 c.in_ok-arg-2.field-0 c.value-2.result _ (value (codes "streams") 102) one c.value-2.ensures.rule c.value-2.ensures.local c.in_ok-arg-2.ensures in
+    let three = with_arg c.in_ok-arg-2.field-0 c.in_ok-arg-3.field-0 c.value-3.result _ (value (codes "longest") 109) two c.value-3.ensures.rule c.value-3.ensures.local c.in_ok-arg-3.ensures in
+    let four = with_arg c.in_ok-arg-3.field-0 c.in_ok-arg-4.field-0 c.value-4.result _ (value (codes "speed") 115) three c.value-4.ensures.rule c.value-4.ensures.local c.in_ok-arg-4.ensures in
+    let five = with_arg c.in_ok-arg-4.field-0 c.in_ok-arg-5.field-0 c.flag.result _ (flag (codes "suspended") 83) four c.flag.ensures.rule c.flag.ensures.local c.in_ok-arg-5.ensures in
+    let six = with_arg c.in_ok-arg-5.field-0 c.in_ok-arg-6.field-0 c.flag-2.result _ (flag (codes "unused") 110) five c.flag-2.ensures.rule c.flag-2.ensures.local c.in_ok-arg-6.ensures in
+    let seven = with_arg c.in_ok-arg-6.field-0 c.in_ok-arg-7.field-0 c.flag-3.result _ (flag (codes "list") 108) six c.flag-3.ensures.rule c.flag-3.ensures.local c.in_ok-arg-7.ensures in
+    IfOk-weaker c.arg-8.result _ _ (λ r h. (with_arg c.in_ok-arg-7.field-0 r c.words.result _ words seven c.words.ensures.rule c.words.ensures.local h).app) c.arg-8.ensures
