@@ -1,19 +1,15 @@
 -- An accept that opens a log: what the table says of it, and what it gives, however far it comes.
-use Rattle.std.proofs.Common.{◌≡◌, ◌≢◌, ◌≤◌, ◌<◌, ◌+◌, ◌*◌, ◌^◌, ℕ, List, [], ◌∷◌, ◌++◌, length, map, refl, sym, ◌∙◌, ap, subst, inl, inr, arith, Option, Some, None, ◌⊎◌}
-use Rattle.std.specs.Prelude.{◌==◌, ◌&&◌, ◌||◌, not, nat_le, nat_lt, Bool, true, false, if◌then◌else◌, Result, Ok, Err, Contains}
+use Rattle.std.proofs.Common.{◌≡◌, ◌≤◌, ◌<◌, ℕ, List, [], ◌∷◌, refl, sym, ◌∙◌, ap, subst, inl, inr, arith, Option, Some, None, ◌⊎◌}
+use Rattle.std.specs.Prelude.{◌==◌, ◌||◌, nat_lt, Bool, true, false, if◌then◌else◌, Result, Ok}
 use Rattle.std.proofs.lemmas.Bool.Decides.{nat_tests}
 use Rattle.lsv_base.specs.declared.time.TimeSpec.{TimeSpec}
-use Rattle.lsv_disk.specs.Throughout.{Jointly, Throughout}
+use Rattle.lsv_disk.specs.Throughout.{Jointly}
 use Rattle.lsv_disk.specs.View.{DiskView, Image, IsCrashImage}
 use Rattle.lsv_disk.specs.declared.file.Owner.{Owner}
-use Rattle.lsv_disk.specs.declared.file.Owner.TheVariants as owners
-use Rattle.lsv_disk.proofs.Composition.{jointly_followed}
 use Rattle.lsv_info.specs.Layout.{head_text}
 use Rattle.lsv_info.specs.declared.times.Head.{Head}
 use Rattle.lsv_iolog.specs.Moments.{IsEither}
-use Rattle.lsv_iolog.specs.Recovered.{Replays}
 use Rattle.lsv_iolog.specs.Value.{made}
-use Rattle.lsv_record.specs.Points.{Stored}
 use Rattle.lsv_request.specs.declared.refusal.Refusal.{Refusal}
 use Rattle.lsv_request.specs.declared.refusal.Refusal.TheVariants.{DeviceFault, LogFull, NumbersSpent, OutOfMemory, UnexpectedMessage, MalformedMessage, MessageTooLarge, MissingKey, BadTime, BadSizeOrSignal, LogInUse, NoSuchLog, LogComplete, NoSuchResumePoint, LogDamaged}
 use Rattle.lsv_request.specs.declared.request.Request.{Request}
@@ -24,28 +20,25 @@ use Rattle.lsv_session.specs.declared.connection.ConnState.TheVariants.{Fresh, G
 use Rattle.lsv_session.specs.declared.job.Body.{Body}
 use Rattle.lsv_session.specs.declared.job.Body.TheVariants as body
 use Rattle.lsv_session.specs.declared.job.Job.{Job}
-use Rattle.lsv_machine.specs.Answers.{Answer, LogId, refusal, reply_of, say}
-use Rattle.lsv_machine.specs.Disks.{AllGood, AsBefore, GoodOr, Rests}
-use Rattle.lsv_machine.specs.Durable.{GoodAt, GoodFor, Recovered}
+use Rattle.lsv_machine.specs.Answers.{Answer, LogId, refusal, say}
+use Rattle.lsv_machine.specs.Disks.{AllGood, AsBefore, GoodOr}
+use Rattle.lsv_machine.specs.Durable.{GoodAt, GoodFor}
 use Rattle.lsv_machine.specs.Failures.{Act, AsksFor, LeavesLog, MayDraw, Step, WantsMemory}
 use Rattle.lsv_machine.specs.History.{Ledger, is_look, noted, request_in, settles, tells_log}
 use Rattle.lsv_machine.specs.History as history
 use Rattle.lsv_machine.specs.Silence.{AllTo}
 use Rattle.lsv_machine.specs.Machine.{Machine, Settings, is_dead, is_running, leaves, log_of, with_owner, with_state}
-use Rattle.lsv_machine.specs.Stands.{StandsFor}
 use Rattle.lsv_machine.specs.Turns.{Happened.Did}
-use Rattle.lsv_machine.specs.Work.{Done, adds_line, draws, fits_file, last_number, line_fits, line_in, lined, makes, next_number, opened, opens, plain, refused, work}
-use Rattle.lsv_machine.proofs.Changing.{drawn_is}
+use Rattle.lsv_machine.specs.Work.{Done, adds_line, draws, fits_file, last_number, line_fits, line_in, lined, makes, opened, opens, refused, work}
 use Rattle.lsv_machine.proofs.Weaken.{Lower}
 use Rattle.lsv_machine.proofs.Choices.{EqOr.equal, EqOr.unequal, eq_or}
 use Rattle.lsv_keeper.specs.declared.told.Told.TheVariants as told
-use Rattle.lsv_keeper.specs.Accepting.{AllMade, Begun, Making, MakingIf, Stopped, StopsFor, accept_of}
+use Rattle.lsv_keeper.specs.Accepting.{Begun, Making, MakingIf, Stopped, StopsFor, accept_of}
 use Rattle.lsv_keeper.specs.Reading.{reading_of}
-use Rattle.lsv_keeper.specs.Represents.{Represents}
 use Rattle.lsv_keeper.specs.Rows.{AllRose, Beside, Left, RowGives, RowIs}
 use Rattle.lsv_keeper.specs.Value.{Keeps, KeeperView, event_line, settings_of}
-use Rattle.lsv_keeper.proofs.Acting.{Concerns, Ends, Owes, OwnIf, OwnKeeps, acted, concerns_ends, ends_owes, ends_refusal, ends_refused, ends_wants, keeps_before}
-use Rattle.lsv_keeper.proofs.Asking.{act_of, asks_in, fault_step, next_may, plain_asks, plain_step, wants_step}
+use Rattle.lsv_keeper.proofs.Acting.{Ends, OwnIf, OwnKeeps, acted, concerns_ends, ends_owes, ends_refusal, ends_refused, ends_wants, keeps_before}
+use Rattle.lsv_keeper.proofs.Asking.{act_of, asks_in, fault_step, plain_asks, plain_step, wants_step}
 use Rattle.lsv_keeper.proofs.Counting.{counts_did, rose_none, rose_first}
 use Rattle.lsv_keeper.proofs.Frames.{Laws, beside_on, beside_wider, resting}
 use Rattle.lsv_keeper.proofs.Telling.{beside_as, lined_by}

@@ -1,5 +1,5 @@
 -- An event line is added: what the keeper then stands for.
-use Rattle.std.proofs.Common.{◌≡◌, ◌≢◌, ◌≤◌, ◌<◌, ◌+◌, ◌*◌, ◌^◌, ℕ, List, [], ◌∷◌, ◌++◌, length, refl, sym, ◌∙◌, ap, subst, inl, inr, arith, Option, Some, None, ◌⊎◌}
+use Rattle.std.proofs.Common.{◌≡◌, ◌≤◌, ◌<◌, ◌+◌, ◌^◌, ℕ, List, [], ◌∷◌, ◌++◌, length, refl, sym, ◌∙◌, ap, subst, inl, inr, arith, Option, Some, None, ◌⊎◌}
 use Rattle.std.specs.Prelude.{Bool, true, false, not, nat_le, if◌then◌else◌}
 use Rattle.std.proofs.lemmas.Bool.Decides.{nat_tests}
 use Rattle.std.proofs.Common.{length-append, slice_index}
@@ -27,14 +27,12 @@ use Rattle.lsv_eventlog.specs.Value.{EventLogView, IsAdded, IsOpened, added_text
 use Rattle.lsv_eventlog.proofs.Laws as event_laws
 use Rattle.lsv_session.specs.declared.connection.ConnId.{ConnId}
 use Rattle.lsv_machine.specs.Machine.{Machine, note, same}
-use Rattle.lsv_machine.specs.Stands.{Sound}
-use Rattle.lsv_machine.specs.Work.{adds_line, line_fits, next_number}
-use Rattle.lsv_keeper.specs.Represents.{EventsAre, LinesAre, LinesLost, Represents}
+use Rattle.lsv_machine.specs.Work.{line_fits, next_number}
+use Rattle.lsv_keeper.specs.Represents.{EventsAre, Represents}
 use Rattle.lsv_keeper.specs.Accepting.{failed_before, line_refusal}
 use Rattle.lsv_keeper.specs.Rows.{LineFault, OwnerRose}
 use Rattle.lsv_keeper.specs.Value.{KeeperView, settings_of}
-use Rattle.lsv_keeper.proofs.Frames.{IsApart, Laws}
-use Rattle.lsv_keeper.proofs.Standing.{Changes, numbers_stay, represents_one}
+use Rattle.lsv_keeper.proofs.Standing.{numbers_stay, represents_one}
 
 -- calls on the files of the lane's event log leave all but the event log as it was, also with other lines of the turn
 pub represents_events : (v : KeeperView) (log : EventLogView) (noting : List ConnId) (old new : DiskView) (m : Machine) (fresh : List ℕ) (Touched : FileId → Type 0) → Represents v old m → Elsewhere Touched old new

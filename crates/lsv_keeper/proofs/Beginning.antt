@@ -1,8 +1,7 @@
 -- A keeper with more room, and one of which a connection comes to write a log: what it stands for.
-use Rattle.std.proofs.Common.{◌≡◌, ◌≢◌, ◌≤◌, ◌<◌, ◌+◌, ◌*◌, ℕ, List, [], ◌∷◌, length, refl, sym, ◌∙◌, ap, subst, inl, inr, arith, Option, Some, None, ◌⊎◌}
-use Rattle.std.specs.Prelude.{◌==◌, true, false, if◌then◌else◌}
+use Rattle.std.proofs.Common.{◌≡◌, ◌≤◌, ◌<◌, ℕ, List, [], ◌∷◌, length, refl, sym, ◌∙◌, ap, subst, arith, Option, Some, None}
+use Rattle.std.specs.Prelude.{◌==◌, if◌then◌else◌}
 use Rattle.lsv_disk.specs.View.{DiskView, Elsewhere}
-use Rattle.lsv_disk.specs.declared.file.FileId.{FileId}
 use Rattle.lsv_iolog.specs.Represents as logs
 use Rattle.lsv_iolog.specs.Value.{LogValue, all_of, flushed}
 use Rattle.lsv_session.specs.Table.{Sessions, sessions}
@@ -10,15 +9,15 @@ use Rattle.lsv_session.specs.declared.connection.ConnId.{ConnId}
 use Rattle.lsv_session.specs.declared.connection.ConnState.TheVariants.{Running}
 use Rattle.lsv_session.specs.declared.table.Table.{Table}
 use Rattle.lsv_record.specs.Points.{Stored}
-use Rattle.lsv_machine.specs.Machine.{IsOfLane, LogState, LogState.Absent, LogState.There, Machine, log_of, same, with_owner, with_state}
+use Rattle.lsv_machine.specs.Machine.{IsOfLane, LogState.Absent, LogState.There, Machine, log_of, same, with_owner, with_state}
 use Rattle.lsv_machine.specs.Stands.{Sound}
 use Rattle.lsv_machine.proofs.Choices.{EqOr.equal, EqOr.unequal, SameOr.alike, SameOr.apart, eq_or, same_or}
 use Rattle.lsv_keeper.specs.declared.logs.OpenLog.{OpenLog}
 use Rattle.lsv_keeper.specs.declared.logs.OpenLogs.{OpenLogs}
-use Rattle.lsv_keeper.specs.Logs.{open_logs, with_open}
+use Rattle.lsv_keeper.specs.Logs.{open_logs}
 use Rattle.lsv_keeper.specs.Represents.{AllOwned, LogIs, Masks, Represents}
 use Rattle.lsv_keeper.specs.Room.{IsRoomier}
-use Rattle.lsv_keeper.specs.Value.{IsReserved, Keeps, KeeperView, Owns, log_in, owed, room, sessions_of, settings_of}
+use Rattle.lsv_keeper.specs.Value.{IsReserved, IsResting, Keeps, KeeperView, Owns, log_in, owed, settings_of}
 use Rattle.lsv_keeper.proofs.Standing.{events_stay, represents_one}
 
 nowhere : (disk : DiskView) → Elsewhere (λ file. ⊥) disk disk
@@ -69,6 +68,9 @@ pub roomier_represents : (v v' : KeeperView) (disk : DiskView) (m : Machine) →
 roomier_represents v v' disk m r at =
     let e : v' ≡ record v { table = v'.table } = ap (λ (x : KeeperView). record x { table = v'.table }) r.others in
     subst (λ (x : KeeperView). Represents x disk m) (sym e) (same_tables v v'.table v.logs disk m r.sessions_are refl at)
+
+pub roomier_rests : (v v' : KeeperView) → IsRoomier v v' → IsResting v → IsResting v'
+roomier_rests v v' r rests = record { none_waits = ap (λ (x : KeeperView). x.waiting) r.others ∙ rests.none_waits; nobody_noted = ap (λ (x : KeeperView). x.noting) r.others ∙ rests.nobody_noted }
 
 -- ---- A log that a connection comes to write
 

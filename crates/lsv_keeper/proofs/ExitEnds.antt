@@ -1,5 +1,5 @@
 -- The ways in which an exit may go, each as its row.
-use Rattle.std.proofs.Common.{◌≡◌, ◌≢◌, ◌≤◌, ◌+◌, ℕ, List, [], ◌∷◌, length, refl, sym, ◌∙◌, ap, subst, inl, inr, Option, Some, None, ◌⊎◌, arith, length-append}
+use Rattle.std.proofs.Common.{◌≡◌, ◌≢◌, ◌≤◌, ℕ, List, [], ◌∷◌, length, refl, sym, ◌∙◌, ap, subst, inl, inr, Option, Some, None, ◌⊎◌, arith, length-append}
 use Rattle.std.specs.Prelude.{◌==◌, true, false, if◌then◌else◌, Ok}
 use Rattle.lsv_base.specs.declared.time.TimeSpec.{TimeSpec}
 use Rattle.lsv_bundle.specs.Calls.{IsFull}
@@ -30,13 +30,13 @@ use Rattle.lsv_machine.specs.Answers.{Answer, Shut, say}
 use Rattle.lsv_machine.specs.Failures.{AsksFor, LeavesLog}
 use Rattle.lsv_machine.specs.History.{request_in}
 use Rattle.lsv_machine.specs.Machine.{LogState.There, Machine, is_dead, leaves, log_of, with_log}
-use Rattle.lsv_machine.specs.Work.{fits_file, plain, refused, with_exit}
+use Rattle.lsv_machine.specs.Work.{fits_file, with_exit}
 use Rattle.lsv_keeper.specs.Exits.{LineAdded, LineRefused}
 use Rattle.lsv_keeper.specs.Leaving.{Departs, TakenOut}
 use Rattle.lsv_keeper.specs.Logs.{log_refusal, open_logs, with_open}
 use Rattle.lsv_keeper.specs.Represents.{Held, LogIs, Represents}
 use Rattle.lsv_keeper.specs.Rows.{Beside, Left, OwnerRose, RowGives, RowIs}
-use Rattle.lsv_keeper.specs.Value.{Keeps, KeeperView, SameSessions, event_line, log_in, owed, room, settings_of}
+use Rattle.lsv_keeper.specs.Value.{Keeps, KeeperView, SameSessions, event_line, log_in, owed, room}
 use Rattle.lsv_keeper.specs.declared.logs.OpenLog.{OpenLog}
 use Rattle.lsv_keeper.specs.declared.logs.OpenLogs.{OpenLogs}
 use Rattle.lsv_keeper.specs.declared.told.Told.TheVariants as told

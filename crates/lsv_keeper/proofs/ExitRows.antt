@@ -1,6 +1,6 @@
 -- Rows of exits: what the log's files hold at each moment, and what the keeper and its disk then stand for.
-use Rattle.std.proofs.Common.{◌≡◌, ◌≢◌, ◌≤◌, ◌<◌, ◌+◌, ◌*◌, ◌^◌, ℕ, List, [], ◌∷◌, ◌++◌, length, take, map, refl, sym, ◌∙◌, ap, subst, inl, inr, arith, Option, Some, None, ◌⊎◌, length-append}
-use Rattle.std.specs.Prelude.{◌==◌, ◌||◌, Bool, true, false, if◌then◌else◌, nat_le, Contains, Result, Ok, Err}
+use Rattle.std.proofs.Common.{◌≡◌, ◌≤◌, ◌+◌, ◌^◌, ℕ, List, [], ◌∷◌, length, take, refl, sym, ◌∙◌, ap, subst, inl, inr, arith, Option, Some, None, ◌⊎◌, length-append}
+use Rattle.std.specs.Prelude.{◌==◌, Bool, true, false, if◌then◌else◌, nat_le, Result, Ok}
 use Rattle.std.proofs.lemmas.List.{take_at}
 use Rattle.std.proofs.lemmas.List.Elements.{Contains-push}
 use Rattle.lsv_base.specs.declared.time.TimeSpec.{TimeSpec}
@@ -13,9 +13,8 @@ use Rattle.lsv_info.specs.Layout.{exit_text}
 use Rattle.lsv_info.specs.declared.times.Exit.{Exit}
 use Rattle.lsv_iolog.specs.Moments.{IsEither}
 use Rattle.lsv_iolog.specs.Recovered.{IsOfLog, Replays}
-use Rattle.lsv_iolog.specs.Value.{LogValue, all_of, finished, flushed}
+use Rattle.lsv_iolog.specs.Value.{all_of, finished, flushed}
 use Rattle.lsv_record.specs.Points.{Stored}
-use Rattle.lsv_record.specs.Records.{elapsed}
 use Rattle.lsv_record.specs.declared.records.Record.{Record}
 use Rattle.lsv_request.specs.declared.refusal.Refusal.{Refusal}
 use Rattle.lsv_request.specs.declared.refusal.Refusal.TheVariants as refusals
@@ -25,18 +24,17 @@ use Rattle.lsv_session.specs.declared.connection.ConnId.{ConnId}
 use Rattle.lsv_session.specs.declared.connection.ConnState.TheVariants.{Dead}
 use Rattle.lsv_session.specs.declared.job.Body.{Body}
 use Rattle.lsv_session.specs.declared.job.Job.{Job}
-use Rattle.lsv_machine.specs.Answers.{Answer, CommitPoint, Saying, Saying.Error, Saying.LogId, Shut, refusal, reply_of, say}
+use Rattle.lsv_machine.specs.Answers.{Answer, CommitPoint, Saying, Saying.Error, Saying.LogId, Shut, refusal, say}
 use Rattle.lsv_machine.specs.Disks.{AllGood, GoodOr}
 use Rattle.lsv_machine.specs.Durable.{GoodAt, GoodFor}
-use Rattle.lsv_machine.specs.Failures.{Act, AsksFor, Closes, IsRefused, IsSet, LosesTail, Step, WantsMemory}
+use Rattle.lsv_machine.specs.Failures.{Act, AsksFor, Closes, IsRefused, IsSet, Step, WantsMemory}
 use Rattle.lsv_machine.specs.History.{Ledger, answered, asked, becomes, heard, heard_all, is_exit, is_gone, noted, reads_log, reopened, request_in, tells_log, writes}
-use Rattle.lsv_machine.specs.Keeping.{Acted}
 use Rattle.lsv_machine.specs.Machine.{LogState, LogState.There, Machine, is_dead, leaves, log_of, with_log}
 use Rattle.lsv_machine.specs.Silence.{AllTo}
 use Rattle.lsv_machine.specs.Stands.{StandsFor, as_list}
 use Rattle.lsv_machine.specs.Starts.{ReadsAs}
 use Rattle.lsv_machine.specs.Turns.{Happened.Did}
-use Rattle.lsv_machine.specs.Work.{adds_line, fits_file, line_fits, with_exit}
+use Rattle.lsv_machine.specs.Work.{adds_line, fits_file, line_fits}
 use Rattle.lsv_machine.proofs.Changing.{NotAbove, log_sound, owned_not_above}
 use Rattle.lsv_machine.proofs.Fits.{writes_its}
 use Rattle.lsv_machine.proofs.RecordLemmas.{prefix_all}
@@ -44,10 +42,10 @@ use Rattle.lsv_keeper.specs.Exits.{LineAdded, LineRefused}
 use Rattle.lsv_keeper.specs.Leaving.{Departs}
 use Rattle.lsv_keeper.specs.Reading.{reading_of}
 use Rattle.lsv_keeper.specs.Represents.{Free, Held, LogIs, Represents}
-use Rattle.lsv_keeper.specs.Rows.{AllRose, Beside, IsPartOf, LineFault, OwnerRose, RowGives, RowIs, Tells}
+use Rattle.lsv_keeper.specs.Rows.{AllRose, Beside, IsPartOf, LineFault, OwnerRose, RowGives, RowIs}
 use Rattle.lsv_keeper.specs.Value.{KeeperView, event_line, log_in, settings_of}
 use Rattle.lsv_keeper.specs.declared.told.Told.TheVariants as told
-use Rattle.lsv_keeper.proofs.Acting.{Concerns, Ends, Owned, OwnIf, OwnKeeps, acted, concerns_ends, ends_owes, ends_refused, ends_refusal, ends_wants, keeps_before, keeps_owned, owned, owned_owes, part_good}
+use Rattle.lsv_keeper.proofs.Acting.{Ends, Owned, OwnIf, OwnKeeps, acted, concerns_ends, ends_owes, ends_refused, ends_refusal, ends_wants, keeps_before, keeps_owned, owned, owned_owes, part_good}
 use Rattle.lsv_keeper.proofs.Counting.{counts_did, rose_none, rose_one, rose_second}
 use Rattle.lsv_keeper.proofs.Departing.{departs_changes, its_log, not_its, owner_then, rested}
 use Rattle.lsv_keeper.proofs.ExitSteps.{Exits, line_of_exit, lined_act, step_full, step_line_lost, step_line_wants, step_lined, step_log_failed, step_quiet}

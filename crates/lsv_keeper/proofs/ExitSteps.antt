@@ -1,6 +1,6 @@
 -- What an exit is of the machine's steps: as the table says, or with a fault at its event line or in its log.
-use Rattle.std.proofs.Common.{◌≡◌, ◌≢◌, ◌≤◌, ◌<◌, ◌+◌, ◌*◌, ℕ, List, [], ◌∷◌, ◌++◌, length, refl, sym, ◌∙◌, ap, subst, inl, inr, arith, Option, Some, None, ◌⊎◌}
-use Rattle.std.specs.Prelude.{◌==◌, ◌&&◌, ◌||◌, not, Bool, true, false, if◌then◌else◌, Contains, Result, Ok, Err}
+use Rattle.std.proofs.Common.{◌≡◌, ◌+◌, ◌*◌, ℕ, List, [], ◌∷◌, length, refl, sym, ◌∙◌, ap, subst, inl, inr, Option, Some, None}
+use Rattle.std.specs.Prelude.{◌||◌, not, Bool, true, false, if◌then◌else◌}
 use Rattle.std.proofs.lemmas.List.Elements.{Contains-push}
 use Rattle.lsv_base.specs.declared.time.TimeSpec.{TimeSpec}
 use Rattle.lsv_disk.specs.declared.file.Owner.{Owner}
@@ -9,19 +9,15 @@ use Rattle.lsv_info.specs.Layout.{exit_text}
 use Rattle.lsv_info.specs.declared.times.Exit.{Exit}
 use Rattle.lsv_record.specs.Points.{Stored}
 use Rattle.lsv_record.specs.Records.{elapsed}
-use Rattle.lsv_request.specs.declared.refusal.Refusal.{Refusal}
 use Rattle.lsv_request.specs.declared.refusal.Refusal.TheVariants as refusals
-use Rattle.lsv_request.specs.declared.request.Request.{Request}
 use Rattle.lsv_request.specs.declared.request.Request.TheVariants as request
-use Rattle.lsv_session.specs.declared.connection.ConnId.{ConnId}
 use Rattle.lsv_session.specs.declared.connection.ConnState.{ConnState}
 use Rattle.lsv_session.specs.declared.connection.ConnState.TheVariants.{Fresh, Greeted, Alerted, Running, Dead}
 use Rattle.lsv_session.specs.declared.job.Body.{Body}
 use Rattle.lsv_session.specs.declared.job.Body.TheVariants as body
 use Rattle.lsv_session.specs.declared.job.Job.{Job}
 use Rattle.lsv_machine.specs.Answers.{Answer, CommitPoint, Shut, is_refused, refusal, say}
-use Rattle.lsv_machine.specs.Failures.{Act, AsksFor, Breaks, BrokenOff, Closes, HasSet, IsRefused, IsSet, LeavesLog, MayDraw, Step, WantsMemory, exit_in}
-use Rattle.lsv_machine.specs.Judgement.{judged}
+use Rattle.lsv_machine.specs.Failures.{Act, AsksFor, Breaks, HasSet, IsRefused, LeavesLog, Step, WantsMemory, exit_in}
 use Rattle.lsv_machine.specs.Machine.{LogState, LogState.There, Machine, Settings, is_dead, leaves, log_of, with_log}
 use Rattle.lsv_machine.specs.Work.{Done, adds_line, before_line, ends, exited, finished, fits_file, line_fits, lined, next_number, plain, refused, sets_exit, with_exit}
 use Rattle.lsv_keeper.specs.Value.{KeeperView, event_line, settings_of}

@@ -1,5 +1,5 @@
 -- What is refused by its judgement: no such refusal tells what a log holds.
-use Rattle.std.proofs.Common.{◌≡◌, ℕ, List, refl, sym, ◌∙◌, ap, subst, Option, Some, None}
+use Rattle.std.proofs.Common.{◌≡◌, ℕ, refl, sym, ◌∙◌, ap, subst, Option, Some, None}
 use Rattle.std.specs.Prelude.{Bool, true, false, ◌||◌, if◌then◌else◌, is_some, not, Result, Ok, Err}
 use Rattle.lsv_base.specs.LogNo.{log_no_in}
 use Rattle.lsv_base.specs.declared.time.TimeSpec.{TimeSpec}

@@ -3,18 +3,17 @@ use Rattle.std.proofs.Common.{◌≡◌, ◌≢◌, ◌⊎◌, ◌≤◌, ◌<�
 use Rattle.std.specs.Prelude.{◌==◌, false, Result, Ok, Err, IfErr, IsErrAnd}
 use Rattle.std.specs.Option.{option_map_or}
 use Rattle.std.proofs.lemmas.Bool.Decides.{nat_tests}
-use Rattle.lsv_disk.specs.Throughout.{Jointly, OnlyReads, Throughout}
-use Rattle.lsv_disk.specs.View.{DiskView, HasOwnCause, Image, IsCrashImage}
+use Rattle.lsv_disk.specs.Throughout.{OnlyReads, Throughout}
+use Rattle.lsv_disk.specs.View.{DiskView, IsCrashImage}
 use Rattle.lsv_disk.specs.declared.file.FileId.{FileId}
 use Rattle.lsv_disk.specs.declared.file.Part.{Part}
 use Rattle.lsv_disk.specs.declared.file.Part.TheVariants.{Exit, Slots}
 use Rattle.lsv_disk.proofs.Composition.{OnlyNow, followed, jointly_of_each, reads_trans, risen_first, risen_second, started, unchanged_crash, unchanged_reads, unchanged_throughout, widened}
 use Rattle.lsv_bundle.specs.declared.body.Body.{Body}
 use Rattle.lsv_bundle.specs.Shape.{journal_of}
-use Rattle.lsv_words.specs.Causes.{HasRisen}
 use Rattle.lsv_iolog.specs.Later.{cut_log, drops}
 use Rattle.lsv_iolog.specs.Moments.{IsAsBefore, IsCutFault, IsEither}
-use Rattle.lsv_iolog.specs.Recovered.{HasExit, IsOfLog, IsUnmade, Replays, ReplaysNothing, SameLog, owner_of}
+use Rattle.lsv_iolog.specs.Recovered.{HasExit, IsOfLog, Replays, ReplaysNothing, owner_of}
 use Rattle.lsv_iolog.specs.Faults.{IsOpenFault}
 use Rattle.lsv_iolog.specs.Represents.{Represents}
 use Rattle.lsv_iolog.specs.declared.fault.LogFault.{LogFault}
@@ -26,7 +25,7 @@ use Rattle.lsv_iolog.proofs.Representing.{every_image, log_stays}
 use Rattle.lsv_iolog.proofs.Scans.{reads_nothing}
 use Rattle.lsv_record.specs.Points.{Stored, first}
 use Rattle.lsv_machine.proofs.Folds.{each_down, either_down, moments_on}
-use Rattle.lsv_keeper.specs.Resuming.{AllAsBefore, AllCut, AllHold, IsCutInto, IsFound, IsLooked, IsResumeFault, JournalRose, LogRose}
+use Rattle.lsv_keeper.specs.Resuming.{AllAsBefore, AllCut, AllHold, IsCutInto, IsFound, IsLooked, IsResumeFault, LogRose}
 use Rattle.lsv_keeper.proofs.Frames.{Laws}
 
 -- ---- A log that is looked at

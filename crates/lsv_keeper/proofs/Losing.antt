@@ -1,35 +1,30 @@
 -- The end of a turn: a connection that is refused, since its line was lost or its log failed, and lets its log go.
-use Rattle.std.proofs.Common.{◌≡◌, ◌≢◌, ◌≤◌, ◌+◌, ℕ, List, [], ◌∷◌, ◌++◌, length, take, map, refl, sym, ◌∙◌, ap, subst, inl, inr, arith, Option, Some, None, ◌⊎◌, append-nil}
-use Rattle.std.specs.Prelude.{Bool, true, false, if◌then◌else◌, Contains, ◌==◌}
+use Rattle.std.proofs.Common.{◌≡◌, ◌≢◌, ◌≤◌, ℕ, List, [], ◌∷◌, length, take, refl, sym, ◌∙◌, ap, subst, inl, inr, arith, Option, Some, None, append-nil}
+use Rattle.std.specs.Prelude.{true, false, if◌then◌else◌}
 use Rattle.std.proofs.lemmas.Grind.{common_steps}
 use Rattle.lsv_disk.specs.Throughout.{Jointly}
 use Rattle.lsv_disk.specs.View.{DiskView, Image, IsCrashImage}
-use Rattle.lsv_disk.specs.declared.file.FileId.{FileId}
 use Rattle.lsv_disk.specs.declared.file.Owner.{Owner}
 use Rattle.lsv_disk.specs.declared.file.Owner.TheVariants.{Log}
 use Rattle.lsv_record.specs.Points.{Stored}
 use Rattle.lsv_record.specs.declared.records.Record.{Record}
-use Rattle.lsv_request.specs.declared.refusal.Refusal.TheVariants.{DeviceFault, OutOfMemory}
 use Rattle.lsv_session.specs.declared.connection.ConnId.{ConnId}
 use Rattle.lsv_session.specs.declared.connection.ConnState.TheVariants.{Dead}
-use Rattle.lsv_session.specs.declared.reply.Reply.{Reply}
-use Rattle.lsv_machine.specs.Answers.{Answer, Shut, refusal, reply_of, say}
+use Rattle.lsv_machine.specs.Answers.{Answer}
 use Rattle.lsv_machine.specs.Disks.{AllGood, AsBefore, Rests}
-use Rattle.lsv_machine.specs.Durable.{GoodAt}
 use Rattle.lsv_machine.specs.Failures.{Closes, IsRefused, LeavesLog, LosesTail}
 use Rattle.lsv_machine.specs.History.{Ledger, heard_all}
-use Rattle.lsv_machine.specs.Machine.{LogState, LogState.There, Machine, Settings, is_dead, leaves, log_of, same, with_log, without_conn}
+use Rattle.lsv_machine.specs.Machine.{LogState, LogState.There, Machine, is_dead, leaves, log_of, same, with_log, without_conn}
 use Rattle.lsv_machine.specs.Stands.{StandsFor, as_list}
 use Rattle.lsv_machine.specs.Tails.{LogEnded}
-use Rattle.lsv_machine.specs.Turns.{Tail}
 use Rattle.lsv_machine.proofs.StepLooks.{leaving_still}
 use Rattle.lsv_machine.proofs.Weaken.{Weaker, at_same, at_weaker, lower_same}
 use Rattle.lsv_keeper.specs.Reading.{reading_of}
-use Rattle.lsv_keeper.specs.Represents.{Held, LogIs, Represents}
-use Rattle.lsv_keeper.specs.Rows.{AllParts, AllRose, Beside, Closed, ClosedIf, Left, OwnerRose}
+use Rattle.lsv_keeper.specs.Represents.{Represents}
+use Rattle.lsv_keeper.specs.Rows.{AllParts, Closed, ClosedIf, Left, OwnerRose}
 use Rattle.lsv_keeper.specs.Tails.{Refused, none_waits}
 use Rattle.lsv_keeper.specs.Value.{KeeperView, settings_of}
-use Rattle.lsv_keeper.proofs.Acting.{Owes, Owned, owned, owned_owes, owes_weaker, part_good}
+use Rattle.lsv_keeper.proofs.Acting.{Owned, owned, owned_owes, owes_weaker, part_good}
 use Rattle.lsv_keeper.proofs.Counting.{counts_tailed, rose_one}
 use Rattle.lsv_keeper.proofs.Frames.{Laws, Resting, resting, touches_store}
 use Rattle.lsv_keeper.proofs.Standing.{its_or}

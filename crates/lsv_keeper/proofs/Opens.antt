@@ -1,5 +1,5 @@
 -- Open logs, number by number.
-use Rattle.std.proofs.Common.{◌≡◌, ℕ, Bool, ◌==◌, cond, nat_eq, Option, Some, None, refl, sym, ap, ◌∙◌, subst, inl, inr, ◌⊎◌}
+use Rattle.std.proofs.Common.{◌≡◌, ℕ, Bool, ◌==◌, cond, nat_eq, Option, Some, refl, sym, ap, ◌∙◌, subst, inl, inr, ◌⊎◌}
 use Rattle.std.specs.Prelude.{◌≤◌, ◌+◌, ◌^◌, ◌<◌, true, false, is_err, Result, Ok, Err, IfErr, IsErrOf, IsOk, OnOk}
 use Rattle.std.proofs.lemmas.Cmp.{nat_eq_equiv}
 use Rattle.lsv_disk.specs.declared.file.Part.{Part}

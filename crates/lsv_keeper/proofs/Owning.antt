@@ -1,5 +1,5 @@
 -- A connection that comes to write a log: its table, and what the keeper then stands for.
-use Rattle.std.proofs.Common.{◌≡◌, ◌≢◌, ◌≤◌, ◌<◌, ◌+◌, ℕ, refl, sym, ◌∙◌, ap, subst, arith, Option, Some, None}
+use Rattle.std.proofs.Common.{◌≡◌, ℕ, refl, ◌∙◌, ap, Some}
 use Rattle.std.specs.Prelude.{◌==◌, if◌then◌else◌, true, false, Result, Ok, Err, IsOk, OnOk, IsErrOf}
 use Rattle.lsv_session.specs.Table.{Sessions}
 use Rattle.lsv_session.specs.declared.connection.ConnId.{ConnId}

@@ -1,11 +1,10 @@
 -- A record of a connection that writes a log.
-use Rattle.std.proofs.Common.{◌≡◌, ◌≢◌, ◌≤◌, ◌<◌, ◌+◌, ◌*◌, ◌^◌, ℕ, List, [], ◌∷◌, ◌++◌, length, take, map, refl, sym, ◌∙◌, ap, subst, inl, inr, arith, Option, Some, None, ◌⊎◌, append_assoc}
-use Rattle.std.specs.Prelude.{◌==◌, ◌&&◌, ◌||◌, not, nat_lt, Bool, true, false, if◌then◌else◌, Result, Ok, Err}
+use Rattle.std.proofs.Common.{◌≡◌, ◌≤◌, ◌<◌, ◌+◌, ◌^◌, ℕ, List, [], ◌∷◌, ◌++◌, length, map, refl, sym, ◌∙◌, ap, subst, inl, arith, Option, Some, None, append_assoc}
+use Rattle.std.specs.Prelude.{◌==◌, ◌&&◌, nat_lt, Bool, true, false, if◌then◌else◌, Result, Ok}
 use Rattle.std.proofs.lemmas.Bool.Decides.{nat_tests}
 use Rattle.std.proofs.lemmas.List.{take_at}
 use Rattle.lsv_base.specs.declared.time.TimeSpec.{TimeSpec}
-use Rattle.lsv_disk.specs.View.{DiskView, Elsewhere, Image, IsCrashImage}
-use Rattle.lsv_disk.specs.declared.file.FileId.{FileId}
+use Rattle.lsv_disk.specs.View.{DiskView, Elsewhere, IsCrashImage}
 use Rattle.lsv_iolog.specs.Recovered.{Replays}
 use Rattle.lsv_iolog.specs.Represents as logs
 use Rattle.lsv_iolog.specs.Value as values
@@ -13,11 +12,9 @@ use Rattle.lsv_iolog.specs.Value.{IoLogView, LogValue, all_of, flushed}
 use Rattle.lsv_iolog.proofs.Representing.{every_image, stages_represents}
 use Rattle.lsv_mask.specs.Masking.{covered}
 use Rattle.lsv_record.specs.Points.{Stored}
-use Rattle.lsv_record.specs.Records.{IsGood, IsValid, delay_of, shape_of}
+use Rattle.lsv_record.specs.Records.{IsGood, IsValid, delay_of}
 use Rattle.lsv_record.specs.declared.records.Record.{Record}
-use Rattle.lsv_record.specs.declared.records.Shaped.{Shaped}
 use Rattle.lsv_request.specs.declared.refusal.Refusal.{Refusal}
-use Rattle.lsv_request.specs.declared.refusal.Refusal.TheVariants.{LogFull}
 use Rattle.lsv_request.specs.declared.request.Request.{Request}
 use Rattle.lsv_request.specs.declared.request.Request.TheVariants as request
 use Rattle.lsv_session.specs.declared.connection.ConnId.{ConnId}
@@ -31,9 +28,9 @@ use Rattle.lsv_machine.specs.Failures.{Act, AsksFor, Step}
 use Rattle.lsv_machine.specs.History.{Ledger, asked, is_gone, noted, reads_log, reopened, request_in, sent_one, writes}
 use Rattle.lsv_machine.specs.Keeping.{Acted}
 use Rattle.lsv_machine.specs.Machine.{IsOfLane, LogState, LogState.There, Machine, Settings, insert_once, is_dead, log_of, with_log}
-use Rattle.lsv_machine.specs.Stands.{Sound, StandsFor}
+use Rattle.lsv_machine.specs.Stands.{StandsFor}
 use Rattle.lsv_machine.specs.Turns.{Happened.Did}
-use Rattle.lsv_machine.specs.Work.{Done, alive, answered, lined, next_number, plain, recorded, refused, silently, taken, takes, waits, with_record, work}
+use Rattle.lsv_machine.specs.Work.{Done, alive, answered, lined, next_number, plain, recorded, silently, taken, takes, waits, with_record, work}
 use Rattle.lsv_machine.proofs.Changing.{owned_not_above}
 use Rattle.lsv_machine.proofs.Choices.{EqOr.equal, EqOr.unequal, eq_or}
 use Rattle.lsv_machine.proofs.Folds.{still}
@@ -42,8 +39,8 @@ use Rattle.lsv_machine.proofs.Silent.{step_sound}
 use Rattle.lsv_keeper.specs.Logs.{TakesRecord, open_logs, with_open}
 use Rattle.lsv_keeper.specs.Reading.{reading_of}
 use Rattle.lsv_keeper.specs.Represents.{AllAbove, AllOwned, Held, LogIs, Masks, Represents, Rising}
-use Rattle.lsv_keeper.specs.Rows.{AllParts, IsPartOf, RowGives}
-use Rattle.lsv_keeper.specs.Value.{KeeperView, log_in, sessions_of, settings_of}
+use Rattle.lsv_keeper.specs.Rows.{AllParts, RowGives}
+use Rattle.lsv_keeper.specs.Value.{KeeperView, log_in, settings_of}
 use Rattle.lsv_keeper.specs.declared.logs.OpenLog.{OpenLog}
 use Rattle.lsv_keeper.specs.declared.logs.OpenLogs.{OpenLogs}
 use Rattle.lsv_keeper.specs.declared.told.Told.TheVariants as told
@@ -53,7 +50,7 @@ use Rattle.lsv_keeper.proofs.Frames.{Laws, beside_none}
 use Rattle.lsv_keeper.proofs.Masking.{masks_covered}
 use Rattle.lsv_keeper.proofs.Numbering.{numbers_fit}
 use Rattle.lsv_keeper.proofs.Opens.{one_open, put_its}
-use Rattle.lsv_keeper.proofs.Sizes.{same_delay, takes_it}
+use Rattle.lsv_keeper.proofs.Sizes.{takes_it}
 use Rattle.lsv_keeper.proofs.Standing.{Changes, events_stay, represents_one}
 
 -- ---- Logs that wait

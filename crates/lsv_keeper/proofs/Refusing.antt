@@ -1,6 +1,6 @@
 -- A record that its log refuses, or for which memory is wanting.
-use Rattle.std.proofs.Common.{◌≡◌, ◌≢◌, ◌≤◌, ◌+◌, ◌*◌, ℕ, List, [], ◌∷◌, length, refl, sym, ◌∙◌, ap, subst, inl, inr, arith, Option, Some, None, ◌⊎◌}
-use Rattle.std.specs.Prelude.{◌==◌, nat_lt, Bool, true, false, if◌then◌else◌, Ok}
+use Rattle.std.proofs.Common.{◌≡◌, ◌≢◌, ◌≤◌, ◌+◌, ℕ, List, [], ◌∷◌, length, refl, sym, ◌∙◌, ap, subst, inl, inr, arith, Option, Some, None}
+use Rattle.std.specs.Prelude.{◌==◌, nat_lt, Bool, true, false}
 use Rattle.lsv_base.specs.declared.time.TimeSpec.{TimeSpec}
 use Rattle.lsv_disk.specs.View.{DiskView}
 use Rattle.lsv_iolog.specs.Represents as logs
@@ -17,16 +17,15 @@ use Rattle.lsv_session.specs.declared.connection.ConnState.TheVariants.{Dead}
 use Rattle.lsv_session.specs.declared.job.Body.{Body}
 use Rattle.lsv_session.specs.declared.job.Body.TheVariants as body
 use Rattle.lsv_session.specs.declared.job.Job.{Job}
-use Rattle.lsv_machine.specs.Answers.{Answer, refusal}
 use Rattle.lsv_machine.specs.Failures.{AsksFor, WantsMemory}
-use Rattle.lsv_machine.specs.Machine.{LogState, Machine, insert_once, is_dead, leaves, log_of}
+use Rattle.lsv_machine.specs.Machine.{Machine, insert_once, is_dead, leaves, log_of}
 use Rattle.lsv_machine.specs.Work.{plain, refused, takes}
 use Rattle.lsv_machine.proofs.JudgedLemmas.{judged_ok}
 use Rattle.lsv_keeper.specs.Leaving.{TakenOut}
 use Rattle.lsv_keeper.specs.Logs.{Appends, IsAppendFault, RefusesRecord, log_refusal, open_logs}
 use Rattle.lsv_keeper.specs.Represents.{Held, LogIs, Represents}
 use Rattle.lsv_keeper.specs.Rows.{Left, RowGives}
-use Rattle.lsv_keeper.specs.Value.{Keeps, KeeperView, log_in, owed, settings_of}
+use Rattle.lsv_keeper.specs.Value.{Keeps, KeeperView, log_in, settings_of}
 use Rattle.lsv_keeper.specs.declared.logs.Appended.TheVariants as appended
 use Rattle.lsv_keeper.specs.declared.logs.OpenLog.{OpenLog}
 use Rattle.lsv_keeper.specs.declared.logs.OpenLogs.{OpenLogs}

@@ -1,43 +1,36 @@
 -- A log that is opened and cut to be gone on with: what is left of it at each moment, and what the keeper then stands for.
-use Rattle.std.proofs.Common.{◌≡◌, ◌≢◌, ◌⊎◌, ◌≤◌, ◌<◌, ◌+◌, ◌^◌, ℕ, List, [], length, take, Option, Some, None, refl, sym, ◌∙◌, ap, subst, inl, inr, arith}
-use Rattle.std.specs.Prelude.{◌==◌, min, Bool, true, false, if◌then◌else◌}
-use Rattle.std.proofs.lemmas.Grind.{common_steps}
-use Rattle.lsv_disk.specs.Throughout.{Jointly, OnlyReads, Throughout}
+use Rattle.std.proofs.Common.{◌≡◌, ◌≢◌, ◌⊎◌, ◌≤◌, ◌<◌, ℕ, length, Some, None, refl, sym, ◌∙◌, ap, subst, inl, inr, arith}
+use Rattle.std.specs.Prelude.{◌==◌, if◌then◌else◌}
 use Rattle.lsv_disk.specs.View.{DiskView, Elsewhere, Image, IsCrashImage}
-use Rattle.lsv_disk.specs.declared.file.FileId.{FileId}
 use Rattle.lsv_disk.specs.declared.file.Owner.TheVariants as owners
 use Rattle.lsv_disk.proofs.Composition.{jointly_of_each, jointly_widened}
-use Rattle.lsv_iolog.specs.Later.{cut_log, drops}
+use Rattle.lsv_iolog.specs.Later.{cut_log}
 use Rattle.lsv_iolog.specs.Moments.{IsAsBefore}
 use Rattle.lsv_iolog.specs.Recovered.{IsOfLog, IsUnmade, Replays, ReplaysNothing}
 use Rattle.lsv_iolog.specs.declared.fault.LogFault.{LogFault}
 use Rattle.lsv_iolog.specs.declared.fault.LogFault.TheVariants as faults
 use Rattle.lsv_iolog.proofs.Replaying.{absent_replay, one_replay}
-use Rattle.lsv_record.specs.Points.{Stored, first}
-use Rattle.lsv_record.specs.declared.records.Record.{Record}
-use Rattle.lsv_record.proofs.Points.{first_some}
+use Rattle.lsv_record.specs.Points.{Stored}
 use Rattle.lsv_session.specs.Table.{Sessions}
-use Rattle.lsv_session.specs.declared.connection.ConnId.{ConnId}
 use Rattle.lsv_machine.specs.Disks.{AllGood, AsBefore, GoodOr}
 use Rattle.lsv_machine.specs.Durable.{GoodAt, GoodLog, Reading}
-use Rattle.lsv_machine.specs.Failures.{Act, FailsInCut}
+use Rattle.lsv_machine.specs.Failures.{Act}
 use Rattle.lsv_machine.specs.History.{Ledger, noted}
 use Rattle.lsv_machine.specs.Machine.{IsOfLane, LogState, LogState.Absent, LogState.Damaged, LogState.There, Machine, with_log}
 use Rattle.lsv_machine.specs.Stands.{Sound, StandsFor}
 use Rattle.lsv_machine.specs.Starts.{ReadsAs}
 use Rattle.lsv_machine.specs.Turns.{Happened.Did}
-use Rattle.lsv_machine.specs.Work.{cut_to, next_number}
-use Rattle.lsv_machine.proofs.Changing.{NotAbove, log_sound, there_not_above}
-use Rattle.lsv_machine.proofs.Choices.{EqOr.equal, EqOr.unequal, SomeOr, SomeOr.just, SomeOr.nothing, eq_or, some_or}
+use Rattle.lsv_machine.specs.Work.{next_number}
+use Rattle.lsv_machine.proofs.Changing.{log_sound, there_not_above}
+use Rattle.lsv_machine.proofs.Choices.{EqOr.equal, EqOr.unequal, eq_or}
 use Rattle.lsv_machine.proofs.Weaken.{Weaker, at_weaker}
 use Rattle.lsv_keeper.specs.Reading.{reading_of}
 use Rattle.lsv_keeper.specs.Represents.{EventsAre, Free, LogIs, NumbersAre, Represents}
 use Rattle.lsv_keeper.specs.Resuming.{AllAsBefore, AllCut, AllHold, IsCutInto, IsFound, IsLooked, IsResumeFault}
-use Rattle.lsv_keeper.specs.Value.{IsReserved, KeeperView, log_in, sessions_of, settings_of}
+use Rattle.lsv_keeper.specs.Value.{IsReserved, KeeperView, log_in, settings_of}
 use Rattle.lsv_keeper.proofs.Acting.{OwnKeeps, was_good}
 use Rattle.lsv_keeper.proofs.Frames.{Laws, Resting, log_apart}
-use Rattle.lsv_keeper.proofs.Restarting.{cut_is}
-use Rattle.lsv_keeper.proofs.Standing.{Changes, events_stay, numbers_stay, represents_one}
+use Rattle.lsv_keeper.proofs.Standing.{events_stay, numbers_stay, represents_one}
 
 -- ---- A log that is looked at
 

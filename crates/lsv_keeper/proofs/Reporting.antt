@@ -1,6 +1,6 @@
 -- Event lines of connections, as the methods have them: what each of their ends gives.
-use Rattle.std.proofs.Common.{◌≡◌, ◌≢◌, ◌≤◌, ◌<◌, ◌+◌, ℕ, List, [], ◌∷◌, length, refl, sym, ◌∙◌, ap, subst, inl, inr, arith, Option, Some, None, ◌⊎◌}
-use Rattle.std.specs.Prelude.{◌||◌, not, Bool, true, false, if◌then◌else◌, Result, Ok, Err, is_ok, IfErr, IsErrAnd, IsOk}
+use Rattle.std.proofs.Common.{◌≡◌, ◌≤◌, ℕ, List, [], ◌∷◌, refl, sym, ◌∙◌, ap, subst, arith, Option, None}
+use Rattle.std.specs.Prelude.{not, Bool, true, false, Result, Ok, Err, is_ok, IfErr, IsErrAnd, IsOk}
 use Rattle.lsv_base.specs.declared.time.TimeSpec.{TimeSpec}
 use Rattle.lsv_disk.specs.View.{DiskView}
 use Rattle.lsv_request.specs.declared.refusal.Refusal.{Refusal}
@@ -13,18 +13,17 @@ use Rattle.lsv_session.specs.declared.connection.ConnState.TheVariants.{Fresh, G
 use Rattle.lsv_session.specs.declared.job.Body.{Body}
 use Rattle.lsv_session.specs.declared.job.Body.TheVariants as body
 use Rattle.lsv_session.specs.declared.job.Job.{Job}
-use Rattle.lsv_session.specs.declared.table.Table.{Table}
-use Rattle.lsv_machine.specs.Answers.{Answer, Shut, say}
+use Rattle.lsv_machine.specs.Answers.{Shut, say}
 use Rattle.lsv_machine.specs.Failures.{AsksFor}
 use Rattle.lsv_machine.specs.Machine.{Machine, leaves, let_go, log_of, with_state}
-use Rattle.lsv_machine.specs.Work.{adds_line, line_fits, plain}
+use Rattle.lsv_machine.specs.Work.{adds_line, line_fits}
 use Rattle.lsv_machine.proofs.JudgedLemmas.{judged_ok}
 use Rattle.lsv_keeper.specs.declared.report.Next.{Next}
 use Rattle.lsv_keeper.specs.declared.report.Next.TheVariants as next
 use Rattle.lsv_keeper.specs.declared.told.Told.TheVariants as told
 use Rattle.lsv_keeper.specs.Accepting.{IsEventOf}
 use Rattle.lsv_keeper.specs.Represents.{Represents}
-use Rattle.lsv_keeper.specs.Rows.{Beside, Left, LineFault, RowGives, RowIs}
+use Rattle.lsv_keeper.specs.Rows.{Beside, Left, LineFault, RowGives}
 use Rattle.lsv_keeper.specs.Value.{Keeps, KeeperView, SameSessions, owed, room, settings_of}
 use Rattle.lsv_keeper.proofs.Asking.{plain_asks}
 use Rattle.lsv_keeper.proofs.Frames.{Laws, beside_none}

@@ -1,5 +1,5 @@
 -- What is known of a request that its judgement lets through.
-use Rattle.std.proofs.Common.{◌≡◌, ℕ, ℤ, pos, List, refl, subst, Option, Some, None}
+use Rattle.std.proofs.Common.{◌≡◌, pos, refl, subst, Option, Some, None}
 use Rattle.std.specs.Prelude.{Bool, true, false, if◌then◌else◌, Result, Ok, Err, IsSome, is_some}
 use Rattle.lsv_base.specs.Time.{nanos_of}
 use Rattle.lsv_base.specs.declared.time.TimeSpec.{TimeSpec}
@@ -10,7 +10,7 @@ use Rattle.lsv_msg.specs.declared.messages.ExitMessage.{ExitMessage}
 use Rattle.lsv_record.specs.Records.{IsValid}
 use Rattle.lsv_record.specs.declared.records.Record.{Record}
 use Rattle.lsv_record.specs.declared.records.Stream.TheVariants as stream
-use Rattle.lsv_request.specs.Requests.{accept_of, alert_of, and_then, data_of, exit_of, reject_of, request_of, restart_of, run_of, suspend_of, valid_time, window_of}
+use Rattle.lsv_request.specs.Requests.{accept_of, alert_of, and_then, data_of, exit_of, reject_of, request_of, restart_of, run_of, suspend_of, window_of}
 use Rattle.lsv_request.specs.declared.refusal.Refusal.{Refusal}
 use Rattle.lsv_request.specs.declared.refusal.Refusal.TheVariants.{BadTime}
 use Rattle.lsv_request.specs.declared.request.Request.{Request}

@@ -1,19 +1,17 @@
 -- Rows of a restart: why it is refused, or what goes on.
-use Rattle.std.proofs.Common.{◌≡◌, ◌≢◌, ◌⊎◌, ◌≤◌, ◌<◌, ◌+◌, ◌-◌, ◌^◌, ℕ, List, [], ◌∷◌, length, take, Option, Some, None, refl, sym, ◌∙◌, ap, subst, inl, inr, arith}
-use Rattle.std.specs.Prelude.{◌==◌, ◌&&◌, ◌||◌, not, min, nat_lt, Bool, true, false, if◌then◌else◌, is_some, unwrap_or, Contains, Result, Ok, Err}
+use Rattle.std.proofs.Common.{◌≡◌, ◌⊎◌, ◌≤◌, ◌<◌, ◌+◌, ◌-◌, ◌^◌, ℕ, List, [], ◌∷◌, length, take, Option, Some, None, refl, sym, ◌∙◌, ap, subst, inl, inr, arith}
+use Rattle.std.specs.Prelude.{min, nat_lt, Bool, true, false, is_some, unwrap_or, Ok}
 use Rattle.std.proofs.lemmas.Bool.Decides.{nat_tests}
 use Rattle.std.proofs.lemmas.Grind.{common_steps}
 use Rattle.lsv_base.specs.declared.time.TimeSpec.{TimeSpec}
-use Rattle.lsv_disk.specs.Throughout.{OnlyReads, Throughout}
-use Rattle.lsv_disk.specs.View.{DiskView, Image, IsCrashImage}
-use Rattle.lsv_disk.specs.declared.file.FileId.{FileId}
+use Rattle.lsv_disk.specs.View.{DiskView}
 use Rattle.lsv_disk.specs.declared.file.Owner.{Owner}
 use Rattle.lsv_disk.specs.declared.file.Owner.TheVariants as owners
 use Rattle.lsv_disk.proofs.Composition.{risen_first}
 use Rattle.lsv_words.specs.Causes.{HasRisen}
 use Rattle.lsv_bundle.specs.Shape.{journal_of}
 use Rattle.lsv_iolog.specs.Later.{cut_log, drops}
-use Rattle.lsv_iolog.specs.Recovered.{IsOfLog, Replays, owner_of}
+use Rattle.lsv_iolog.specs.Recovered.{Replays, owner_of}
 use Rattle.lsv_iolog.specs.declared.fault.LogFault.{LogFault}
 use Rattle.lsv_iolog.specs.declared.fault.LogFault.TheVariants as faults
 use Rattle.lsv_record.specs.Points.{Stored, first}
@@ -26,31 +24,28 @@ use Rattle.lsv_request.specs.declared.request.Restart.{Restart}
 use Rattle.lsv_session.specs.declared.connection.ConnId.{ConnId}
 use Rattle.lsv_session.specs.declared.connection.ConnState.TheVariants.{Dead}
 use Rattle.lsv_session.specs.declared.job.Job.{Job}
-use Rattle.lsv_machine.specs.Answers.{Answer, Saying.Shut, is_silent, refusal, say}
-use Rattle.lsv_machine.specs.Counts.{Counts, asks_for}
-use Rattle.lsv_machine.specs.Disks.{AllGood}
+use Rattle.lsv_machine.specs.Answers.{Answer, refusal}
+use Rattle.lsv_machine.specs.Counts.{asks_for}
 use Rattle.lsv_machine.specs.Durable.{GoodLog}
 use Rattle.lsv_machine.specs.Failures.{Act, FailsInCut, IsRefused, LeavesLog, Step, WantsMemory}
 use Rattle.lsv_machine.specs.History.{Ledger, is_look, lowered_to, noted, reads_log, request_in, tells_log}
-use Rattle.lsv_machine.specs.Machine.{IsOfLane, LogState, LogState.There, Machine, is_dead, leaves, log_of, with_log}
+use Rattle.lsv_machine.specs.Machine.{LogState, LogState.There, Machine, is_dead, leaves, log_of, with_log}
 use Rattle.lsv_machine.specs.Silence.{AllTo}
-use Rattle.lsv_machine.specs.Stands.{StandsFor}
 use Rattle.lsv_machine.specs.Turns.{Happened.Did}
 use Rattle.lsv_machine.specs.Work.{can_cut, cut_to, plain, refused}
-use Rattle.lsv_machine.proofs.Choices.{EqOr.equal, EqOr.unequal, SomeOr, SomeOr.just, SomeOr.nothing, eq_or, some_or}
+use Rattle.lsv_machine.proofs.Choices.{EqOr.equal, EqOr.unequal, SomeOr.just, SomeOr.nothing, eq_or, some_or}
 use Rattle.lsv_machine.proofs.JobFits.{Last, Last.by_refusal, Last.by_shut, refused_last, wants_last}
 use Rattle.lsv_machine.proofs.Weaken.{Weaker, good_weaker}
-use Rattle.lsv_keeper.specs.Reading.{reading_of}
 use Rattle.lsv_keeper.specs.Represents.{Free, Represents}
-use Rattle.lsv_keeper.specs.Resuming.{AllCut, IsCutInto, IsFound, IsLooked, IsResumeFault, JournalRose, LogRose, restart_refusal}
-use Rattle.lsv_keeper.specs.Rows.{AllRose, Beside, Left, OwnerRose, RowIs, Tells}
+use Rattle.lsv_keeper.specs.Resuming.{IsCutInto, IsFound, IsLooked, IsResumeFault, JournalRose, LogRose, restart_refusal}
+use Rattle.lsv_keeper.specs.Rows.{AllRose, Beside, Left, RowIs, Tells}
 use Rattle.lsv_keeper.specs.Value.{IsReserved, KeeperView, settings_of}
 use Rattle.lsv_keeper.specs.declared.told.Told.TheVariants as told
 use Rattle.lsv_keeper.proofs.Acting.{Concerns, OwnKeeps, acted, keeps_before, keeps_rests}
 use Rattle.lsv_keeper.proofs.Counting.{NoneFell, counts_did, counts_marked, none_fell_on, rose_first, rose_none, rose_one}
 use Rattle.lsv_keeper.proofs.Frames.{Laws, beside_on, beside_wider, resting}
 use Rattle.lsv_keeper.proofs.Numbering.{beside_asked}
-use Rattle.lsv_keeper.proofs.Reopening.{IsThere, absent_of, cut_stands, damaged_of, free_log, keeps_cut, keeps_found, looked_rests, looked_stands, made_of, there_of}
+use Rattle.lsv_keeper.proofs.Reopening.{absent_of, cut_stands, damaged_of, free_log, keeps_cut, keeps_found, looked_rests, looked_stands, made_of, there_of}
 use Rattle.lsv_keeper.proofs.Restarting.{AsksRestart, at_absent, at_complete, at_damaged, at_full, at_no_point, at_owned, breaks_off, cut_is, fails_cut, marked_good, marked_weaker, meets_fault, plain_is, plainly_refused, refused_weaker, restart_act, settles_refused}
 
 -- ---- Who is told of what

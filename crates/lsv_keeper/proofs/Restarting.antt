@@ -1,17 +1,15 @@
 -- A restart as a step of the machine, and what a history says of its log then.
-use Rattle.std.proofs.Common.{◌≡◌, ◌≢◌, ◌⊎◌, ◌≤◌, ◌<◌, ◌+◌, ◌-◌, ◌*◌, ◌^◌, ℕ, List, [], ◌∷◌, length, take, Option, Some, None, refl, sym, ◌∙◌, ap, subst, inl, inr, arith}
-use Rattle.std.specs.Prelude.{◌==◌, ◌&&◌, ◌||◌, not, min, nat_lt, Bool, true, false, if◌then◌else◌, is_some, unwrap_or, Contains, Result, Ok, Err}
-use Rattle.std.proofs.lemmas.Bool.Decides.{nat_tests}
+use Rattle.std.proofs.Common.{◌≡◌, ◌≢◌, ◌⊎◌, ◌≤◌, ◌+◌, ◌*◌, ℕ, List, [], ◌∷◌, length, take, Option, Some, None, refl, sym, ◌∙◌, ap, subst, inl, inr, arith}
+use Rattle.std.specs.Prelude.{◌==◌, ◌&&◌, min, Bool, true, false, if◌then◌else◌, is_some, unwrap_or, Contains, Ok, Err}
 use Rattle.std.proofs.lemmas.Grind.{common_steps}
 use Rattle.lsv_base.specs.declared.time.TimeSpec.{TimeSpec}
 use Rattle.lsv_disk.specs.declared.file.Owner.{Owner}
 use Rattle.lsv_disk.specs.declared.file.Owner.TheVariants as owners
-use Rattle.lsv_iolog.specs.Later.{cut_log, drops}
+use Rattle.lsv_iolog.specs.Later.{cut_log}
 use Rattle.lsv_msg.specs.declared.messages.ClientMessage.{ClientMessage}
 use Rattle.lsv_msg.specs.declared.messages.ClientMessage.TheVariants as client
 use Rattle.lsv_record.specs.Points.{Stored, cut, first, kept}
 use Rattle.lsv_record.specs.declared.records.Record.{Record}
-use Rattle.lsv_record.proofs.Points.{cut_append}
 use Rattle.lsv_request.specs.Requests.{request_of}
 use Rattle.lsv_request.specs.declared.refusal.Refusal.{Refusal}
 use Rattle.lsv_request.specs.declared.refusal.Refusal.TheVariants as refusals
@@ -24,19 +22,19 @@ use Rattle.lsv_session.specs.declared.connection.ConnState.TheVariants.{Fresh, G
 use Rattle.lsv_session.specs.declared.job.Body.{Body}
 use Rattle.lsv_session.specs.declared.job.Body.TheVariants as body
 use Rattle.lsv_session.specs.declared.job.Job.{Job}
-use Rattle.lsv_machine.specs.Answers.{Answer, Saying.Shut, is_silent, refusal, say}
+use Rattle.lsv_machine.specs.Answers.{Answer, is_silent, refusal}
 use Rattle.lsv_machine.specs.Durable.{ExitIs, GoodFor, GoodLog, IsPrefix, Keeps}
-use Rattle.lsv_machine.specs.Failures.{Act, AsksFor, Breaks, BrokenOff, FailsCut, FailsInCut, IsRefused, MayDraw, MeetsFault, Plainly, Step, WantsMemory}
-use Rattle.lsv_machine.specs.History.{Ledger, asked, becomes, heard_all, is_look, lowered_to, noted, reads_log, request_in, restarted_by, resumed_by, settles, tells_log}
+use Rattle.lsv_machine.specs.Failures.{Act, AsksFor, Breaks, BrokenOff, FailsInCut, IsRefused, MayDraw, Step, WantsMemory}
+use Rattle.lsv_machine.specs.History.{Ledger, becomes, heard_all, is_look, lowered_to, noted, request_in, restarted_by, resumed_by, settles, tells_log}
 use Rattle.lsv_machine.specs.Judgement.{allows, judged}
 use Rattle.lsv_machine.specs.Machine.{LogState, LogState.Absent, LogState.Damaged, LogState.There, Machine, Settings, is_dead, leaves, log_of, with_log, with_owner, with_state}
 use Rattle.lsv_machine.specs.Turns.{Happened.Did}
 use Rattle.lsv_machine.specs.Work.{Done, can_cut, cut_to, next_number, plain, refused, restarted, restarted_at, resumed, silently}
 use Rattle.lsv_machine.proofs.Choices.{EqOr.equal, EqOr.unequal, eq_or}
-use Rattle.lsv_machine.proofs.JobFits.{Last, Last.by_refusal, Last.by_shut, refused_last, wants_last}
+use Rattle.lsv_machine.proofs.JobFits.{Last, Last.by_refusal, Last.by_shut}
 use Rattle.lsv_machine.proofs.JudgedLemmas.{judged_ok}
 use Rattle.lsv_machine.proofs.RecordLemmas.{cut_alike, prefix_all, prefix_trans, take_prefix}
-use Rattle.lsv_machine.proofs.Weaken.{Lower, Weaker, lower_same}
+use Rattle.lsv_machine.proofs.Weaken.{Weaker, lower_same}
 
 -- ---- What is asked
 

@@ -1,6 +1,6 @@
 -- The row of a restart that is accepted.
-use Rattle.std.proofs.Common.{◌≡◌, ◌≢◌, ◌⊎◌, ◌≤◌, ◌<◌, ◌+◌, ◌-◌, ◌^◌, ℕ, List, [], ◌∷◌, ◌++◌, length, take, append-nil, Option, Some, None, refl, sym, ◌∙◌, ap, subst, inl, inr, arith}
-use Rattle.std.specs.Prelude.{◌==◌, Bool, true, false, if◌then◌else◌, unwrap_or, Ok}
+use Rattle.std.proofs.Common.{◌≡◌, ◌≤◌, ◌<◌, ℕ, List, [], ◌∷◌, length, take, append-nil, Option, Some, None, refl, sym, ◌∙◌, ap, subst, arith}
+use Rattle.std.specs.Prelude.{◌==◌, false, if◌then◌else◌}
 use Rattle.std.proofs.lemmas.Grind.{common_steps}
 use Rattle.lsv_base.specs.declared.time.TimeSpec.{TimeSpec}
 use Rattle.lsv_disk.specs.View.{DiskView, Image, IsCrashImage}
@@ -12,7 +12,6 @@ use Rattle.lsv_iolog.proofs.Representing.{every_image}
 use Rattle.lsv_record.specs.Points.{Stored, first}
 use Rattle.lsv_record.specs.declared.records.Record.{Record}
 use Rattle.lsv_record.proofs.Points.{first_some}
-use Rattle.lsv_request.specs.declared.request.Request.TheVariants as request
 use Rattle.lsv_request.specs.declared.request.Restart.{Restart}
 use Rattle.lsv_session.specs.Table.{Sessions}
 use Rattle.lsv_session.specs.declared.connection.ConnId.{ConnId}
@@ -24,12 +23,12 @@ use Rattle.lsv_machine.specs.History.{Ledger, noted, resumed_by}
 use Rattle.lsv_machine.specs.Machine.{IsOfLane, LogState.There, Machine, same}
 use Rattle.lsv_machine.specs.Stands.{StandsFor}
 use Rattle.lsv_machine.specs.Turns.{Happened.Did}
-use Rattle.lsv_machine.specs.Work.{cut_to, next_number}
+use Rattle.lsv_machine.specs.Work.{next_number}
 use Rattle.lsv_machine.proofs.Changing.{there_not_above}
-use Rattle.lsv_machine.proofs.Choices.{EqOr.equal, EqOr.unequal, SameOr.alike, SameOr.apart, SomeOr.just, SomeOr.nothing, eq_or, same_or, some_or}
+use Rattle.lsv_machine.proofs.Choices.{EqOr.equal, EqOr.unequal, SomeOr.just, SomeOr.nothing, eq_or, some_or}
 use Rattle.lsv_machine.proofs.Silent.{step_sound}
-use Rattle.lsv_keeper.specs.Represents.{AllOwned, EventsAre, Held, Masks, NumbersAre, Represents}
-use Rattle.lsv_keeper.specs.Resuming.{IsCutInto, IsResumed}
+use Rattle.lsv_keeper.specs.Represents.{AllOwned, Held, Masks, Represents}
+use Rattle.lsv_keeper.specs.Resuming.{IsResumed}
 use Rattle.lsv_keeper.specs.Rows.{Beside, RowIs}
 use Rattle.lsv_keeper.specs.Value.{IsReserved, Keeps, KeeperView, Owns, sessions_of, settings_of}
 use Rattle.lsv_keeper.specs.declared.logs.OpenLog.{OpenLog}

@@ -1,6 +1,6 @@
 -- The records of a log, read one by one up to the first that ends at a point.
-use Rattle.std.proofs.Common.{◌≡◌, ◌≢◌, ◌⊎◌, ◌≤◌, ◌<◌, ◌+◌, ◌-◌, ◌^◌, ℕ, suc, List, [], ◌∷◌, ◌++◌, length, take, All, Option, Some, None, refl, sym, ◌∙◌, ap, subst, inl, inr, arith, append_assoc, append-nil, length-append}
-use Rattle.std.proofs.lemmas.List.{append_cancel_left, take-append-drop, take-append-le}
+use Rattle.std.proofs.Common.{◌≡◌, ◌≤◌, ◌<◌, ◌+◌, ◌-◌, ◌^◌, ℕ, suc, List, [], ◌∷◌, ◌++◌, length, take, All, Option, Some, None, refl, sym, ◌∙◌, ap, subst, inl, inr, arith, append_assoc, append-nil, length-append}
+use Rattle.std.proofs.lemmas.List.{append_cancel_left}
 use Rattle.lsv_words.specs.Pieces.{IsPrefix}
 use Rattle.lsv_disk.specs.Throughout.{OnlyReads}
 use Rattle.lsv_disk.specs.Bytes.{bytes_of}
@@ -20,7 +20,7 @@ use Rattle.lsv_record.specs.Points.{Stored, cut, first, one_more}
 use Rattle.lsv_record.specs.Records.{IsValid, delay_of, elapsed, line_of, shape_of, stream_of, text_of, timing_of}
 use Rattle.lsv_record.proofs.Layouts.{timing_of-append}
 use Rattle.lsv_record.proofs.Once.{laid_is_read, one_begins}
-use Rattle.lsv_record.proofs.Points.{FirstBy, FirstBy.here, FirstBy.past, FirstBy.later, cut_append, first_by}
+use Rattle.lsv_record.proofs.Points.{FirstBy.here, FirstBy.past, FirstBy.later, cut_append, first_by}
 use Rattle.lsv_iolog.specs.Reading.{IsBehind, IsWhole, ViewState, committed_laid}
 use Rattle.lsv_iolog.specs.Recovered.{IsOfLog, laid_in, owner_of}
 use Rattle.lsv_iolog.proofs.Scans.{reads_nothing}

@@ -1,6 +1,6 @@
 -- How far an accept that opens a log comes: each place where it may stop, and its end.
-use Rattle.std.proofs.Common.{◌≡◌, ◌≢◌, ◌≤◌, ◌<◌, ◌+◌, ◌*◌, ◌^◌, ℕ, List, [], ◌∷◌, ◌++◌, length, refl, sym, ◌∙◌, ap, subst, inl, inr, arith, Option, Some, None, ◌⊎◌}
-use Rattle.std.specs.Prelude.{◌==◌, nat_le, Bool, true, false, if◌then◌else◌, Result, Ok, Contains}
+use Rattle.std.proofs.Common.{◌≡◌, ◌≤◌, ◌<◌, ◌+◌, ◌^◌, ℕ, List, [], ◌∷◌, length, refl, sym, ◌∙◌, ap, subst, inl, inr, arith, Option, Some, None, ◌⊎◌}
+use Rattle.std.specs.Prelude.{Bool, true, false, Ok}
 use Rattle.std.proofs.lemmas.Bool.Decides.{nat_tests}
 use Rattle.lsv_base.specs.declared.time.TimeSpec.{TimeSpec}
 use Rattle.lsv_disk.specs.Throughout.{Jointly, Throughout}
@@ -24,13 +24,12 @@ use Rattle.lsv_iolog.proofs.Representing as representing
 use Rattle.lsv_mask.specs.Masking.{seen}
 use Rattle.lsv_record.specs.Points.{Stored}
 use Rattle.lsv_request.specs.declared.refusal.Refusal.{Refusal}
-use Rattle.lsv_request.specs.declared.refusal.Refusal.TheVariants.{DeviceFault, LogFull, NumbersSpent, OutOfMemory}
-use Rattle.lsv_request.specs.declared.request.Request.TheVariants as request
+use Rattle.lsv_request.specs.declared.refusal.Refusal.TheVariants.{LogFull, OutOfMemory}
 use Rattle.lsv_session.specs.declared.connection.ConnId.{ConnId}
 use Rattle.lsv_session.specs.declared.connection.ConnState.{ConnState}
 use Rattle.lsv_session.specs.declared.connection.ConnState.TheVariants.{Running}
 use Rattle.lsv_machine.specs.Disks.{AsBefore}
-use Rattle.lsv_machine.specs.Failures.{BreaksOff, LeavesLog, Makes, MayDraw}
+use Rattle.lsv_machine.specs.Failures.{LeavesLog, Makes, MayDraw}
 use Rattle.lsv_machine.specs.Machine.{IsOfLane, LogState, LogState.Absent, LogState.There, Machine, Settings, is_running, log_of, with_log, with_owner, with_state}
 use Rattle.lsv_machine.specs.Stands.{Sound}
 use Rattle.lsv_machine.specs.Starts.{ReadsAs}
@@ -38,7 +37,7 @@ use Rattle.lsv_machine.specs.Work.{adds_line, draws, empty_log, fits_file, last_
 use Rattle.lsv_machine.proofs.Changing.{drawn_is, itself_not_above}
 use Rattle.lsv_machine.proofs.Choices.{EqOr.equal, EqOr.unequal, eq_or}
 use Rattle.lsv_keeper.specs.declared.logs.OpenLog.{OpenLog}
-use Rattle.lsv_keeper.specs.Accepting.{AllMade, Begun, DrawsNone, Making, MakingIf, Stopped, StopsFor, accept_of, create_refusal}
+use Rattle.lsv_keeper.specs.Accepting.{AllMade, Begun, DrawsNone, Making, Stopped, StopsFor, accept_of, create_refusal}
 use Rattle.lsv_keeper.specs.Reading.{reading_of}
 use Rattle.lsv_keeper.specs.Represents.{LogIs, Masks, Represents}
 use Rattle.lsv_keeper.specs.Rows.{AllRose, Beside, LineFault, OwnerRose}

@@ -1,11 +1,10 @@
 -- The end of a turn: the event lines are flushed, or the event log failed.
-use Rattle.std.proofs.Common.{◌≡◌, ◌≢◌, ◌≤◌, ◌<◌, ℕ, List, [], ◌∷◌, ◌++◌, length, map, refl, sym, ◌∙◌, ap, subst, inl, inr, arith, Option, Some, None, ◌⊎◌}
-use Rattle.std.specs.Prelude.{Bool, true, false, if◌then◌else◌, Contains}
+use Rattle.std.proofs.Common.{◌≡◌, ◌≤◌, ℕ, List, [], ◌∷◌, ◌++◌, refl, sym, ◌∙◌, ap, subst, inl, inr, arith, Some, None, ◌⊎◌}
+use Rattle.std.specs.Prelude.{Bool, true, false}
 use Rattle.std.proofs.lemmas.Grind.{common_steps}
 use Rattle.lsv_disk.specs.Throughout.{Jointly, Throughout}
 use Rattle.lsv_disk.specs.View.{DiskView, Image, IsCrashImage}
 use Rattle.lsv_disk.specs.declared.file.FileId.{FileId}
-use Rattle.lsv_disk.specs.declared.file.Owner.{Owner}
 use Rattle.lsv_disk.specs.declared.file.Owner.TheVariants.{Log, Numbers, Events}
 use Rattle.lsv_eventlog.specs.Inner.{IsEventLog}
 use Rattle.lsv_eventlog.specs.Moments.{IsEither}
@@ -13,25 +12,21 @@ use Rattle.lsv_eventlog.specs.Recovered.{HoldsLines, IsOfEventLog}
 use Rattle.lsv_eventlog.specs.Value as events
 use Rattle.lsv_eventlog.specs.Value.{EventLogView}
 use Rattle.lsv_eventlog.proofs.Laws.{of_lane, one_text}
-use Rattle.lsv_iolog.specs.Recovered.{IsOfLog}
 use Rattle.lsv_session.specs.declared.connection.ConnId.{ConnId}
 use Rattle.lsv_session.specs.declared.reply.Reply.{Reply}
-use Rattle.lsv_machine.specs.Disks.{AllGood, AsBefore, KeepsNumbers, LinesAs, LinesAsBeforeOr, LinesRest, Rests, SameLines}
+use Rattle.lsv_machine.specs.Disks.{AllGood, AsBefore, KeepsNumbers, LinesAs, SameLines}
 use Rattle.lsv_machine.specs.History.{Ledger}
-use Rattle.lsv_machine.specs.Keeping.{Ended, LinesFlushed}
-use Rattle.lsv_machine.specs.Machine.{Machine, Settings}
-use Rattle.lsv_machine.specs.Stands.{Sound, StandsFor}
+use Rattle.lsv_machine.specs.Machine.{Machine}
 use Rattle.lsv_machine.specs.Tails.{LinesEnded, no_answer}
-use Rattle.lsv_machine.specs.Turns.{FlushesLines, Tail, with_lines}
+use Rattle.lsv_machine.specs.Turns.{with_lines}
 use Rattle.lsv_machine.specs.Work.{next_number}
-use Rattle.lsv_machine.proofs.Folds.{lines_still}
 use Rattle.lsv_machine.proofs.TailFolds.{logs_none}
 use Rattle.lsv_machine.proofs.Weaken.{at_same}
 use Rattle.lsv_keeper.specs.Reading.{reading_of}
 use Rattle.lsv_keeper.specs.Represents.{EventsAre, Represents}
 use Rattle.lsv_keeper.specs.Rows.{OwnerRose}
 use Rattle.lsv_keeper.specs.Tails.{IsOneOf, LinesGive, RefusedGive}
-use Rattle.lsv_keeper.specs.Value.{KeeperView, settings_of, un_noted}
+use Rattle.lsv_keeper.specs.Value.{KeeperView, settings_of}
 use Rattle.lsv_keeper.proofs.Counting.{counts_tailed, rose_none, rose_one}
 use Rattle.lsv_keeper.proofs.Frames.{IsApart, Laws, Resting, events_touch, keeps_files, resting_apart}
 use Rattle.lsv_keeper.proofs.Numbering.{numbers_fit}

@@ -5,19 +5,19 @@ use Rattle.std.proofs.lemmas.List.Elements.{Contains-append_left, Contains-appen
 use Rattle.lsv_disk.specs.Throughout.{Jointly}
 use Rattle.lsv_disk.specs.View.{DiskView, Image, IsCrashImage}
 use Rattle.lsv_disk.specs.declared.file.Owner.{Owner}
-use Rattle.lsv_disk.specs.declared.file.Owner.TheVariants.{Log, Events}
+use Rattle.lsv_disk.specs.declared.file.Owner.TheVariants.{Events}
 use Rattle.lsv_session.specs.declared.connection.ConnId.{ConnId}
 use Rattle.lsv_machine.specs.Answers.{Answer}
-use Rattle.lsv_machine.specs.Disks.{LinesAs, LinesAsBefore, LinesAsBeforeOr, LinesRest}
+use Rattle.lsv_machine.specs.Disks.{LinesAs, LinesAsBefore, LinesAsBeforeOr}
 use Rattle.lsv_machine.specs.Durable.{Reading}
 use Rattle.lsv_machine.specs.Keeping.{Ended}
-use Rattle.lsv_machine.specs.Machine.{Machine, Settings, is_dead}
+use Rattle.lsv_machine.specs.Machine.{Machine, Settings}
 use Rattle.lsv_machine.specs.Stands.{StandsFor}
-use Rattle.lsv_machine.specs.Tails.{LinesEnded, joined, no_answer}
+use Rattle.lsv_machine.specs.Tails.{LinesEnded, joined}
 use Rattle.lsv_machine.specs.Turns.{FlushesLines, RefusesAll, Tail, with_lines}
 use Rattle.lsv_machine.specs.History.{heard_all}
 use Rattle.lsv_machine.proofs.Fits.{fits_of_stands, stands_of_fits}
-use Rattle.lsv_machine.proofs.Folds.{each_down, lines_as_on, lines_rest_on, moments_on, same_lines_on}
+use Rattle.lsv_machine.proofs.Folds.{each_down, lines_rest_on, moments_on, same_lines_on}
 use Rattle.lsv_machine.proofs.RunFits.{all_refused, with_lines_together}
 use Rattle.lsv_machine.proofs.TailFolds.{ended_on, wider_refuses}
 use Rattle.lsv_keeper.specs.Tails.{Refused}

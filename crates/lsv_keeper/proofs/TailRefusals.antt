@@ -1,6 +1,6 @@
 -- The end of a turn: connections whose lines were lost, one after another.
-use Rattle.std.proofs.Common.{◌≡◌, ◌≢◌, ◌≤◌, ◌<◌, ◌+◌, ◌*◌, ℕ, take, drop, slice_index_or, List, [], ◌∷◌, ◌++◌, length, map, refl, sym, ◌∙◌, ap, subst, inl, inr, arith, append_assoc, Option, Some, None, ◌⊎◌}
-use Rattle.std.specs.Prelude.{Bool, true, false, if◌then◌else◌, Contains, ◌==◌}
+use Rattle.std.proofs.Common.{◌≡◌, ◌≢◌, ◌≤◌, ◌<◌, ◌+◌, ◌*◌, ℕ, take, slice_index_or, List, [], ◌∷◌, ◌++◌, length, map, refl, sym, ◌∙◌, ap, subst, inl, inr, arith, Option, Some, None}
+use Rattle.std.specs.Prelude.{true, false}
 use Rattle.std.proofs.lemmas.Grind.{common_steps}
 use Rattle.std.proofs.lemmas.List.Elements.{Contains-append_cases}
 use Rattle.lsv_disk.specs.View.{DiskView}
@@ -13,7 +13,6 @@ use Rattle.lsv_machine.specs.Answers.{Answer, reply_of}
 use Rattle.lsv_machine.specs.Failures.{IsRefused}
 use Rattle.lsv_machine.specs.Machine.{Machine, is_dead, leaves, log_of, without, without_log}
 use Rattle.lsv_machine.specs.Tails.{joined, no_answer}
-use Rattle.lsv_machine.specs.Turns.{Tail}
 use Rattle.lsv_machine.proofs.Choices.{EqOr, EqOr.equal, EqOr.unequal, eq_or}
 use Rattle.lsv_machine.proofs.StepLooks.{leaving_still}
 use Rattle.lsv_machine.proofs.TailFolds.{logs_none}
@@ -25,7 +24,7 @@ use Rattle.lsv_keeper.specs.Value.{KeeperView, SameSet, room, settings_of, un_no
 use Rattle.lsv_keeper.proofs.Frames.{Laws}
 use Rattle.lsv_keeper.proofs.Losing.{lost_line}
 use Rattle.lsv_keeper.proofs.Numbering.{numbers_fit}
-use Rattle.lsv_keeper.proofs.TailLoops.{drop_next, replies_joined, same_settings, set_on, take_next}
+use Rattle.lsv_keeper.proofs.TailLoops.{replies_joined, same_settings, set_on}
 use Rattle.lsv_keeper.proofs.TailPieces.{refused_more}
 
 append_nil : (xs : List Reply) → xs ++ [] ≡ xs

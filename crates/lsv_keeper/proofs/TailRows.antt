@@ -1,15 +1,13 @@
 -- The end of a turn: what the flush of one log gives.
-use Rattle.std.proofs.Common.{◌≡◌, ◌≢◌, ◌≤◌, ◌<◌, ℕ, List, [], ◌∷◌, ◌++◌, length, map, refl, sym, ◌∙◌, ap, subst, inl, inr, arith, Option, Some, None, ◌⊎◌, append-nil}
-use Rattle.std.specs.Prelude.{Bool, true, false, if◌then◌else◌, Contains, ◌==◌}
+use Rattle.std.proofs.Common.{◌≡◌, ◌≢◌, ◌<◌, ℕ, List, [], ◌∷◌, ◌++◌, map, refl, sym, ◌∙◌, ap, subst, inr, arith, Option, Some, None, append-nil}
+use Rattle.std.specs.Prelude.{if◌then◌else◌, ◌==◌}
 use Rattle.lsv_disk.specs.Throughout.{Throughout}
 use Rattle.lsv_disk.specs.View.{DiskView, Image, IsCrashImage}
-use Rattle.lsv_disk.specs.declared.file.FileId.{FileId}
-use Rattle.lsv_disk.specs.declared.file.Owner.{Owner}
 use Rattle.lsv_disk.specs.declared.file.Owner.TheVariants.{Log, Numbers, Events}
 use Rattle.lsv_iolog.specs.Moments.{IsEither}
 use Rattle.lsv_iolog.specs.Recovered.{IsOfLog, Replays}
 use Rattle.lsv_iolog.specs.Represents as logs
-use Rattle.lsv_iolog.specs.Value.{IoLogView, LogValue, all_of, bare, flushed}
+use Rattle.lsv_iolog.specs.Value.{LogValue, all_of, bare, flushed}
 use Rattle.lsv_iolog.proofs.Representing.{every_image}
 use Rattle.lsv_record.specs.Points.{Stored}
 use Rattle.lsv_record.specs.Records.{elapsed}
@@ -17,24 +15,22 @@ use Rattle.lsv_record.specs.declared.records.Record.{Record}
 use Rattle.lsv_session.specs.declared.connection.ConnId.{ConnId}
 use Rattle.lsv_session.specs.declared.connection.ConnState.TheVariants.{Dead}
 use Rattle.lsv_session.specs.declared.reply.Reply.{Reply}
-use Rattle.lsv_session.specs.declared.table.Table.{Table}
-use Rattle.lsv_session.specs.Table.{sessions}
 use Rattle.lsv_machine.specs.Answers.{Answer, CommitPoint, reply_of, say}
 use Rattle.lsv_machine.specs.Failures.{IsRefused}
 use Rattle.lsv_machine.specs.Machine.{LogState, LogState.There, Machine, leaves, log_of, with_log, without_log}
-use Rattle.lsv_machine.specs.Turns.{Tail, raised}
+use Rattle.lsv_machine.specs.Turns.{raised}
 use Rattle.lsv_machine.specs.Work.{next_number}
 use Rattle.lsv_machine.proofs.Changing.{NotAbove, log_sound, owned_not_above}
 use Rattle.lsv_machine.proofs.Choices.{EqOr.equal, EqOr.unequal, eq_or}
 use Rattle.lsv_machine.proofs.RecordLemmas.{raised_within}
 use Rattle.lsv_keeper.specs.declared.logs.OpenLog.{OpenLog}
 use Rattle.lsv_keeper.specs.declared.logs.OpenLogs.{OpenLogs}
-use Rattle.lsv_keeper.specs.Leaving.{Departs, EndsFlush, SameBeside}
+use Rattle.lsv_keeper.specs.Leaving.{Departs, EndsFlush}
 use Rattle.lsv_keeper.specs.Logs.{Flushes, open_logs, with_open}
 use Rattle.lsv_keeper.specs.Represents.{Held, LogIs, Masks, Represents}
 use Rattle.lsv_keeper.specs.Rows.{Left}
 use Rattle.lsv_keeper.specs.Tails.{LogGives, none_waits}
-use Rattle.lsv_keeper.specs.Value.{KeeperView, log_in, sessions_of, settings_of}
+use Rattle.lsv_keeper.specs.Value.{KeeperView, log_in, settings_of}
 use Rattle.lsv_keeper.proofs.Counting.{only}
 use Rattle.lsv_keeper.proofs.Departing.{left_some, not_its}
 use Rattle.lsv_keeper.proofs.Frames.{Laws, log_apart}

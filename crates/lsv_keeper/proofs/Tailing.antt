@@ -1,42 +1,35 @@
 -- The end of a turn: a log that waits has its commit point, or it failed and is let go.
-use Rattle.std.proofs.Common.{◌≡◌, ◌≢◌, ◌≤◌, ◌<◌, ◌+◌, ℕ, List, [], ◌∷◌, ◌++◌, length, take, map, refl, sym, ◌∙◌, ap, subst, inl, inr, arith, Option, Some, None, ◌⊎◌, append-nil}
-use Rattle.std.specs.Prelude.{Bool, true, false, ◌||◌, if◌then◌else◌, Contains, ◌==◌, max, unwrap_or}
+use Rattle.std.proofs.Common.{◌≡◌, ◌≢◌, ◌≤◌, ◌+◌, ℕ, List, [], ◌∷◌, ◌++◌, length, take, refl, sym, ◌∙◌, ap, subst, inl, inr, arith, Option, Some, None}
+use Rattle.std.specs.Prelude.{Bool, true, false, ◌||◌}
 use Rattle.std.proofs.lemmas.Grind.{common_steps}
-use Rattle.lsv_words.specs.Causes.{HasRisen}
 use Rattle.lsv_disk.specs.Throughout.{Jointly, Throughout}
 use Rattle.lsv_disk.specs.View.{DiskView, Image, IsCrashImage}
 use Rattle.lsv_disk.specs.declared.file.FileId.{FileId}
-use Rattle.lsv_disk.specs.declared.file.Owner.{Owner}
-use Rattle.lsv_disk.specs.declared.file.Owner.TheVariants.{Log}
 use Rattle.lsv_iolog.specs.Moments.{IsEither}
 use Rattle.lsv_iolog.specs.Recovered.{IsOfLog, Replays}
-use Rattle.lsv_iolog.specs.Value.{all_of, bare, flushed}
-use Rattle.lsv_iolog.proofs.Representing.{every_image}
-use Rattle.lsv_record.specs.Points.{Stored, first}
+use Rattle.lsv_iolog.specs.Value.{all_of, flushed}
+use Rattle.lsv_record.specs.Points.{Stored}
 use Rattle.lsv_record.specs.Records.{elapsed}
 use Rattle.lsv_record.specs.declared.records.Record.{Record}
 use Rattle.lsv_session.specs.declared.connection.ConnId.{ConnId}
-use Rattle.lsv_session.specs.declared.reply.Reply.{Reply}
-use Rattle.lsv_machine.specs.Answers.{Answer, CommitPoint, reply_of, say}
-use Rattle.lsv_machine.specs.Disks.{AllGood, AsBefore, Rests}
+use Rattle.lsv_machine.specs.Answers.{CommitPoint, say}
+use Rattle.lsv_machine.specs.Disks.{AllGood, AsBefore}
 use Rattle.lsv_machine.specs.Durable.{GoodAt, GoodFor, GoodLog, IsPrefix}
-use Rattle.lsv_machine.specs.History.{Ledger, heard, heard_all, noted, raised_to, writes}
-use Rattle.lsv_machine.specs.Machine.{LogState, LogState.There, Machine, Settings, with_log}
+use Rattle.lsv_machine.specs.History.{Ledger, heard_all, noted, raised_to, writes}
+use Rattle.lsv_machine.specs.Machine.{LogState.There, Machine, Settings, with_log}
 use Rattle.lsv_machine.specs.Stands.{StandsFor, as_list}
 use Rattle.lsv_machine.specs.Tails.{LogEnded}
-use Rattle.lsv_machine.specs.Turns.{FlushesLog, Happened.Tailed, Tail, raised}
+use Rattle.lsv_machine.specs.Turns.{Happened.Tailed, raised}
 use Rattle.lsv_machine.proofs.Changing.{owned_not_above}
 use Rattle.lsv_machine.proofs.Choices.{EqOr.equal, EqOr.unequal, eq_or}
 use Rattle.lsv_machine.proofs.Fits.{fits_beside, fits_of_stands, stands_of_fits, writes_its, writes_none}
-use Rattle.lsv_machine.proofs.Folds.{each_down}
-use Rattle.lsv_machine.proofs.RecordLemmas.{prefix_all, raised_within}
+use Rattle.lsv_machine.proofs.RecordLemmas.{raised_within}
 use Rattle.lsv_machine.proofs.Weaken.{at_same}
-use Rattle.lsv_keeper.specs.Logs.{Flushes, open_logs, with_open}
 use Rattle.lsv_keeper.specs.Reading.{reading_of}
-use Rattle.lsv_keeper.specs.Represents.{Held, LogIs, Represents}
-use Rattle.lsv_keeper.specs.Rows.{AllRose, Beside, IsPartOf}
-use Rattle.lsv_keeper.specs.Tails.{LogGives, none_waits}
-use Rattle.lsv_keeper.specs.Value.{KeeperView, log_in, settings_of}
+use Rattle.lsv_keeper.specs.Represents.{Held, Represents}
+use Rattle.lsv_keeper.specs.Rows.{Beside, IsPartOf}
+use Rattle.lsv_keeper.specs.Tails.{none_waits}
+use Rattle.lsv_keeper.specs.Value.{KeeperView, settings_of}
 use Rattle.lsv_keeper.proofs.Acting.{Owned, owned, part_good}
 use Rattle.lsv_keeper.proofs.Counting.{counts_tailed, rose_none}
 use Rattle.lsv_keeper.proofs.Frames.{Laws, Resting, resting, touches_store}

@@ -1,19 +1,19 @@
 -- Jobs with an event line: what they give.
-use Rattle.std.proofs.Common.{◌≡◌, ◌≢◌, ◌≤◌, ◌<◌, ◌+◌, ◌*◌, ℕ, List, [], ◌∷◌, ◌++◌, length, map, refl, sym, ◌∙◌, ap, subst, inl, inr, arith, Option, Some, None, ◌⊎◌}
-use Rattle.std.specs.Prelude.{◌||◌, not, Bool, true, false, if◌then◌else◌, Result, Ok, Err, Contains}
+use Rattle.std.proofs.Common.{◌≡◌, ◌+◌, ◌*◌, ℕ, List, [], ◌∷◌, refl, sym, ◌∙◌, ap, subst, inl, inr, Option, Some, None, ◌⊎◌}
+use Rattle.std.specs.Prelude.{◌||◌, Bool, true, false, if◌then◌else◌, Result, Ok}
 use Rattle.lsv_base.specs.declared.time.TimeSpec.{TimeSpec}
 use Rattle.lsv_disk.specs.Throughout.{Jointly}
-use Rattle.lsv_disk.specs.View.{DiskView, Image, IsCrashImage}
+use Rattle.lsv_disk.specs.View.{DiskView, IsCrashImage}
 use Rattle.lsv_disk.specs.declared.file.Owner.{Owner}
 use Rattle.lsv_disk.specs.declared.file.Owner.TheVariants as owners
 use Rattle.lsv_request.specs.declared.refusal.Refusal.{Refusal}
-use Rattle.lsv_request.specs.declared.refusal.Refusal.TheVariants.{DeviceFault, LogFull, OutOfMemory}
+use Rattle.lsv_request.specs.declared.refusal.Refusal.TheVariants.{LogFull}
 use Rattle.lsv_request.specs.declared.request.Request.{Request}
 use Rattle.lsv_session.specs.declared.connection.ConnId.{ConnId}
 use Rattle.lsv_session.specs.declared.connection.ConnState.{ConnState}
 use Rattle.lsv_session.specs.declared.connection.ConnState.TheVariants.{Dead}
 use Rattle.lsv_session.specs.declared.job.Job.{Job}
-use Rattle.lsv_machine.specs.Answers.{Answer, Shut, is_refused, refusal, reply_of, say}
+use Rattle.lsv_machine.specs.Answers.{Answer, is_refused, refusal}
 use Rattle.lsv_machine.specs.Disks.{AllGood, AsBefore, GoodOr, Rests}
 use Rattle.lsv_machine.specs.Durable.{GoodAt}
 use Rattle.lsv_machine.specs.Failures.{Act, AsksFor, LeavesLog, Step, WantsMemory}
@@ -26,14 +26,13 @@ use Rattle.lsv_machine.specs.Work.{Done, adds_line, before_line, has_line, line_
 use Rattle.lsv_machine.proofs.Weaken.{Weaker, weaker_same}
 use Rattle.lsv_keeper.specs.declared.report.Next.{Next}
 use Rattle.lsv_keeper.specs.declared.report.Next.TheVariants as next
-use Rattle.lsv_keeper.specs.declared.told.Told.TheVariants as told
-use Rattle.lsv_keeper.specs.Accepting.{IdleUnless, IsEventOf, done_by, told_by}
+use Rattle.lsv_keeper.specs.Accepting.{IsEventOf, done_by}
 use Rattle.lsv_keeper.specs.Reading.{reading_of}
 use Rattle.lsv_keeper.specs.Represents.{Represents}
-use Rattle.lsv_keeper.specs.Rows.{AllRose, Beside, Closed, ClosedIf, Left, LineFault, RowGives, RowIs}
+use Rattle.lsv_keeper.specs.Rows.{AllRose, Beside, ClosedIf, Left, LineFault, RowIs}
 use Rattle.lsv_keeper.specs.Value.{Keeps, KeeperView, event_line, settings_of}
-use Rattle.lsv_keeper.proofs.Acting.{Concerns, Ends, OwnIf, OwnKeeps, acted, closed_keeps, concerns_ends, concerns_silent, ends_refusal, ends_refused, ends_wants, keeps_after, keeps_rests}
-use Rattle.lsv_keeper.proofs.Asking.{RefusedStep, act_of, asks_alive, asks_in, contains_first, fault_step, leaves_more, next_may, plain_asks, plain_step, refused_step, silent_notes, wants_step}
+use Rattle.lsv_keeper.proofs.Acting.{Ends, OwnIf, OwnKeeps, acted, closed_keeps, concerns_ends, concerns_silent, ends_refusal, ends_refused, ends_wants, keeps_after, keeps_rests}
+use Rattle.lsv_keeper.proofs.Asking.{act_of, asks_alive, asks_in, contains_first, fault_step, leaves_more, next_may, plain_asks, plain_step, refused_step, silent_notes, wants_step}
 use Rattle.lsv_keeper.proofs.Counting.{counts_did, owner_first, rose_both, rose_none, rose_one, rose_second}
 use Rattle.lsv_keeper.proofs.Frames.{Laws, beside_on, beside_wider, resting}
 

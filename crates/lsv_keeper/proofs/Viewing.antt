@@ -1,7 +1,6 @@
 -- A log that is there, as a view of it reads: nothing of it is at fault.
-use Rattle.std.proofs.Common.{◌≡◌, ◌≢◌, ◌⊎◌, ◌≤◌, ◌<◌, ◌+◌, ◌^◌, ℕ, List, [], ◌∷◌, ◌++◌, length, take, drop, All, Option, Some, None, refl, sym, ◌∙◌, ap, subst, inl, inr, arith, append-nil, length-append, length-drop}
+use Rattle.std.proofs.Common.{◌≡◌, ◌≤◌, ◌<◌, ◌+◌, ◌^◌, ℕ, List, [], ◌∷◌, ◌++◌, length, take, drop, All, Option, Some, None, refl, sym, ◌∙◌, ap, subst, inl, inr, arith, append-nil, length-append, length-drop}
 use Rattle.std.proofs.lemmas.List.{take_at}
-use Rattle.lsv_words.specs.Pieces.{IsPrefix}
 use Rattle.lsv_disk.specs.Bytes.{bytes_of}
 use Rattle.lsv_disk.specs.Files.{file_of}
 use Rattle.lsv_disk.specs.Throughout.{OnlyReads}
@@ -10,13 +9,13 @@ use Rattle.lsv_disk.specs.declared.file.Part.{Part}
 use Rattle.lsv_disk.specs.declared.file.Part.TheVariants.{Head, Exit, Timing, Stdin, Stdout, Stderr, Ttyin, Ttyout, Lines, Id, Commit, Slots}
 use Rattle.lsv_disk.proofs.Composition.{unchanged_reads}
 use Rattle.lsv_bundle.specs.Body.{encoded, length_of}
-use Rattle.lsv_bundle.specs.Committed.{HasEntry, HasPrefix, HoldsEntry, IsDamaged, IsFirstShort, IsShort}
+use Rattle.lsv_bundle.specs.Committed.{HasEntry, HasPrefix, IsFirstShort, IsShort}
 use Rattle.lsv_bundle.specs.Shape.{IsPart}
 use Rattle.lsv_bundle.specs.declared.body.Body.{Body}
 use Rattle.lsv_bundle.specs.declared.shape.Shape.TheVariants as shapes
 use Rattle.lsv_bundle.proofs.Laws.{one_body}
 use Rattle.lsv_mask.specs.Masking.{Seen}
-use Rattle.lsv_record.specs.Layout.{Begins, IsLayout, NextLine, layout_of, stream_in}
+use Rattle.lsv_record.specs.Layout.{Begins, NextLine, layout_of, stream_in}
 use Rattle.lsv_record.specs.Lines.{IsLineAt, told_delay}
 use Rattle.lsv_record.specs.Points.{Stored}
 use Rattle.lsv_record.specs.Records.{IsValid, data_in, delay_of, elapsed, line_of, shape_of, shaped_line, stream_of, text_of, timing_of}
@@ -30,11 +29,11 @@ use Rattle.lsv_record.specs.declared.records.Stream.TheVariants as streams
 use Rattle.lsv_record.proofs.Layouts.{elapsed-append, stream_of-append, timing_of-append}
 use Rattle.lsv_record.proofs.Once.{data_length, laid_is_read, line_behind, one_line}
 use Rattle.lsv_iolog.specs.Damage.{IsViewDamage}
-use Rattle.lsv_iolog.specs.Reading.{EndsThere, GoesOn, IsBehind, IsFaultBehind, IsStreamFault, IsTimingFault, ViewState, committed_laid, committed_text}
-use Rattle.lsv_iolog.specs.Recovered.{IsHeadText, Replays, laid_in, owner_of}
+use Rattle.lsv_iolog.specs.Reading.{GoesOn, IsBehind, IsFaultBehind, IsStreamFault, IsTimingFault, ViewState, committed_laid, committed_text}
+use Rattle.lsv_iolog.specs.Recovered.{IsHeadText, Replays, owner_of}
 use Rattle.lsv_iolog.proofs.Replaying.{one_entry, same_laid}
 use Rattle.lsv_keeper.specs.Resuming.{IsViewOf}
-use Rattle.lsv_keeper.proofs.Seeing.{Saw, Seeing, laid_same}
+use Rattle.lsv_keeper.proofs.Seeing.{Seeing, laid_same}
 
 -- ---- A view of a log that is there
 

@@ -1,5 +1,5 @@
 -- How the images of a store are read: its logs, the numbers of a lane and the lane's event log.
-use Rattle.std.specs.Prelude.{◌≡◌, ◌⊎◌, ℕ, Option, None}
+use Rattle.std.specs.Prelude.{◌≡◌, ◌⊎◌, ℕ, None}
 use Rattle.lsv_disk.specs.declared.file.FileId.{FileId}
 use Rattle.lsv_disk.specs.View.{Image}
 use Rattle.lsv_eventlog.specs.Recovered.{HoldsLines}

@@ -1,9 +1,9 @@
 -- What a log that is gone on with is found to be, and what its cut leaves.
-use Rattle.std.specs.Prelude.{◌≡◌, ◌≢◌, ◌≤◌, ◌<◌, ◌⊎◌, ◌-◌, ◌^◌, ℕ, true, List, length, All, Option, Some, None}
+use Rattle.std.specs.Prelude.{◌≡◌, ◌≢◌, ◌≤◌, ◌<◌, ◌⊎◌, ◌-◌, ◌^◌, ℕ, true, List, length, All, Some, None}
 use Rattle.lsv_disk.specs.Throughout.{Jointly, OnlyReads, Throughout}
 use Rattle.lsv_disk.specs.View.{DiskView, Image, IsCrashImage}
 use Rattle.lsv_disk.specs.declared.file.FileId.{FileId}
-use Rattle.lsv_disk.specs.declared.file.Part.TheVariants.{Slots, Timing}
+use Rattle.lsv_disk.specs.declared.file.Part.TheVariants.{Timing}
 use Rattle.lsv_bundle.specs.Shape.{journal_of}
 use Rattle.lsv_words.specs.Causes.{HasRisen}
 use Rattle.lsv_iolog.specs.Later.{cut_log, drops}

@@ -12,7 +12,7 @@ use Rattle.lsv_machine.specs.Disks.{LinesRest}
 use Rattle.lsv_machine.specs.Durable.{Reading}
 use Rattle.lsv_machine.specs.Keeping.{Acted, Ended, Going, Turned}
 use Rattle.lsv_machine.specs.Machine.{Machine, Settings}
-use Rattle.lsv_machine.specs.Tails.{LinesEnded, LogEnded, LogsEnded, NoneFailed}
+use Rattle.lsv_machine.specs.Tails.{LinesEnded, LogEnded, LogsEnded}
 use Rattle.lsv_machine.specs.Turns.{RefusesAll, Tail}
 use Rattle.lsv_keeper.specs.Reading.{reading_of}
 use Rattle.lsv_keeper.specs.Represents.{Represents}

@@ -1,7 +1,6 @@
 -- A keeper, as contracts see it, and what it is set to.
 use Rattle.std.specs.Prelude.{ℕ, ◌+◌, ◌*◌, ◌≡◌, ◌≤◌, ◌==◌, if◌then◌else◌, Bool, List, [], length, Option, Some}
 use Rattle.lsv_base.specs.declared.time.TimeSpec.{TimeSpec}
-use Rattle.lsv_event.specs.declared.event.Event.{Event}
 use Rattle.lsv_event.specs.declared.event.Event.TheVariants as event
 use Rattle.lsv_event.specs.declared.event.Kind.{Kind}
 use Rattle.lsv_event.specs.declared.event.Peer.{Peer}

@@ -1,4 +1,4 @@
-//! Crash recovery of the stores that keepers open and turn. These functions do nothing when they run.
+//! Crash recovery of the stores that keepers open and turn, and what room changes. These functions do nothing when they run.
 
 ghost use Rattle.std.specs.Prelude.{◌≡◌, ◌≤◌, ℕ, List, [], Some};
 ghost use Rattle.lsv_base.specs.declared.time.TimeSpec.{TimeSpec};
@@ -15,6 +15,9 @@ ghost use Rattle.lsv_machine.specs.Machine.{IsOfLane, Machine, Settings};
 ghost use Rattle.lsv_machine.specs.Recovery.{Recovers, Story};
 ghost use Rattle.lsv_machine.specs.Turns.{Happened};
 ghost use Rattle.lsv_keeper.specs.Reading.{IsDrawn, reading_of};
+ghost use Rattle.lsv_keeper.specs.Represents.{Represents};
+ghost use Rattle.lsv_keeper.specs.Room.{IsRoomier};
+ghost use Rattle.lsv_keeper.specs.Value.{IsResting, KeeperView};
 
 use lsv_disk::Disk;
 
@@ -51,4 +54,10 @@ pub fn all_runs_recover<D: Disk>()
 pub fn a_number_that_was_told_is_drawn<D: Disk>()
     ensures { (lane lanes : ℕ) (d : D) (k : ℕ) (h : List Happened) (n p last : ℕ) (image a : Image) → NumbersFit (reading_of lane lanes) lane lanes ((D.view d).crash_images_at k) → IsOfLane lane lanes n →
         (D.view d).crash_images_at k image → (D.view d).crash_images_at k a → IsDrawn lane lanes a last → Good (reading_of lane lanes) h image n → promised h n ≡ Some p → n ≤ last }
+{}
+
+/// A keeper that only has room for more connections stands for the machine that it stood for, and rests where it rested.
+pub fn more_room_changes_nothing<D: Disk>()
+    ensures stands { (old new : KeeperView) (m : Machine) (disk : D) → IsRoomier old new → Represents old (D.view disk) m → Represents new (D.view disk) m }
+    ensures rests { (old new : KeeperView) → IsRoomier old new → IsResting old → IsResting new }
 {}

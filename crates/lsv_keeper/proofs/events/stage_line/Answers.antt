@@ -1,5 +1,5 @@
 -- The line is added to an event log that is open, or to one that was opened again.
-use Rattle.std.proofs.Common.{◌≡◌, ◌≤◌, ◌<◌, ◌+◌, ◌^◌, ℕ, Bool, List, true, false, length, Option, Some, None, Result, Err, refl, sym, ◌∙◌, ap, subst}
+use Rattle.std.proofs.Common.{◌≡◌, ◌≤◌, ◌<◌, ◌+◌, ◌^◌, ℕ, List, true, false, length, None, Result, Err, sym, ◌∙◌, ap, subst}
 use Rattle.lsv_bundle.specs.declared.fault.BundleFault.{BundleFault}
 use Rattle.lsv_bundle.specs.declared.fault.BundleFault.TheVariants as faults
 use Rattle.lsv_bundle.specs.declared.shape.Shape.TheVariants as shapes

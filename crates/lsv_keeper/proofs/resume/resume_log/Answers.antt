@@ -1,6 +1,5 @@
 -- The log is opened, its records are seen, and it is cut.
-use Rattle.std.proofs.Common.{◌≡◌, ◌≢◌, ◌≤◌, ℕ, List, [], true, false, Option, Some, None, Result, Err, IsErrOf, refl, sym, ◌∙◌, ap, subst, arith}
-use Rattle.lsv_disk.specs.View.{DiskView}
+use Rattle.std.proofs.Common.{◌≡◌, ℕ, true, false, Some, Result, Err, IsErrOf, sym, ◌∙◌, ap, subst, arith}
 use Rattle.lsv_disk.specs.Throughout.{Throughout}
 use Rattle.lsv_disk.specs.declared.file.Part.TheVariants.{Slots}
 use Rattle.lsv_iolog.specs.Later.{cut_log}
@@ -11,7 +10,6 @@ use Rattle.lsv_iolog.specs.declared.fault.LogFault.{LogFault}
 use Rattle.lsv_iolog.specs.declared.fault.LogFault.TheVariants as logs
 use Rattle.lsv_iolog.proofs.Decided.{damaged}
 use Rattle.lsv_iolog.proofs.Finishing.{going_exit}
-use Rattle.lsv_iolog.proofs.Results.{same_log_fault}
 use Rattle.lsv_mask.specs.Masking.{Seen}
 use Rattle.lsv_keeper.specs.Resuming.{IsResumeFault, LogRose}
 use Rattle.lsv_keeper.proofs.Frames.{Laws}

@@ -1,8 +1,7 @@
 -- Each record that is read goes on to the first that ends at the point.
-use Rattle.std.proofs.Common.{◌≡◌, ℕ, ◌<◌, List, [], ◌∷◌, ◌++◌, Option, Some, None, Result, Ok, Err, IsErrOf, refl, sym, ◌∙◌, ap, subst, arith}
-use Rattle.lsv_disk.specs.View.{DiskView}
+use Rattle.std.proofs.Common.{◌≡◌, ℕ, ◌<◌, List, [], ◌∷◌, ◌++◌, Option, None, Result, Err, sym, ◌∙◌, ap, subst, arith}
 use Rattle.lsv_disk.proofs.Composition.{reads_trans}
-use Rattle.lsv_iolog.specs.Reading.{IsBehind, IsWhole, ViewState}
+use Rattle.lsv_iolog.specs.Reading.{IsBehind, IsWhole}
 use Rattle.lsv_iolog.specs.declared.fault.LogFault.{LogFault}
 use Rattle.lsv_iolog.specs.declared.fault.LogFault.TheVariants as logs
 use Rattle.lsv_iolog.proofs.Results.{same_log_fault}

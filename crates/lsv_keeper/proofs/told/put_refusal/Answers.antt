@@ -1,4 +1,4 @@
-use Rattle.std.proofs.Common.{◌≡◌, ◌∷◌, ◌++◌, false, List, [], refl, sym, ◌∙◌, ap, subst, inl, inr, append_assoc, ◌⊎◌}
+use Rattle.std.proofs.Common.{◌≡◌, ◌∷◌, ◌++◌, false, List, [], refl, ◌∙◌, ap, inl, inr, append_assoc, ◌⊎◌}
 use Rattle.std.specs.Prelude.{map}
 use Rattle.std.specs.Global.{Vec}
 use Rattle.lsv_msg.specs.declared.messages.ServerMessage.{ServerMessage}

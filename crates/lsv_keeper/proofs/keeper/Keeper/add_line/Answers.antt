@@ -1,16 +1,15 @@
 -- The line is written and added, and then its connection is noted, for which there is room.
-use Rattle.std.proofs.Common.{◌≡◌, ◌≤◌, ◌<◌, ◌+◌, ◌++◌, ℕ, List, true, length, vec_capacity, vec_len, refl, sym, ◌∙◌, ap, subst, arith}
+use Rattle.std.proofs.Common.{◌≡◌, ◌≤◌, ◌+◌, ◌++◌, ℕ, List, true, length, vec_capacity, vec_len, refl, sym, ◌∙◌, ap, subst, arith}
 use Rattle.lsv_event.specs.Lines.{line_of}
-use Rattle.lsv_request.specs.declared.refusal.Refusal.{Refusal}
 use Rattle.lsv_session.specs.declared.connection.ConnId.{ConnId}
-use Rattle.lsv_machine.specs.Machine.{Machine, note}
+use Rattle.lsv_machine.specs.Machine.{note}
 use Rattle.lsv_machine.specs.Work.{line_fits}
 use Rattle.lsv_keeper.specs.Represents.{Represents}
 use Rattle.lsv_keeper.specs.Rows.{LineFault}
 use Rattle.lsv_keeper.specs.Value.{KeeperView}
 use Rattle.lsv_keeper.specs.Views.{view_of}
 use Rattle.lsv_keeper.proofs.AddingLines.{line_noted, note_longer}
-use Rattle.lsv_keeper.proofs.Frames.{Laws, beside_none}
+use Rattle.lsv_keeper.proofs.Frames.{beside_none}
 use Rattle.lsv_keeper.proofs.Numbering.{numbers_fit}
 use Rattle.lsv_keeper.proofs.Owning.{on_ok}
 use Rattle.lsv_keeper.proofs.Reporting.{if_err_as, ok_of}

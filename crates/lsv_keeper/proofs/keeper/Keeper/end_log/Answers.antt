@@ -1,5 +1,5 @@
-use Rattle.std.proofs.Common.{◌≡◌, ◌∙◌, ℕ, None, Some, ap, arith, inl, refl, subst, sym}
-use Rattle.std.specs.Prelude.{Err, false, true}
+use Rattle.std.proofs.Common.{◌≡◌, ◌∙◌, ℕ, None, Some, ap, arith, refl, subst, sym}
+use Rattle.std.specs.Prelude.{Err, true}
 use Rattle.lsv_disk.specs.View.{DiskView, Image, IsCrashImage}
 use Rattle.lsv_info.specs.Layout.{exit_text}
 use Rattle.lsv_iolog.specs.Recovered.{Replays}
@@ -10,10 +10,8 @@ use Rattle.lsv_iolog.specs.declared.fault.LogFault.TheVariants as faults
 use Rattle.lsv_iolog.proofs.Representing.{every_image}
 use Rattle.lsv_request.specs.declared.refusal.Refusal.{Refusal}
 use Rattle.lsv_request.specs.declared.refusal.Refusal.TheVariants as refusals
-use Rattle.lsv_request.specs.declared.request.Request.TheVariants as request
 use Rattle.lsv_session.specs.declared.connection.ConnState.TheVariants.{Dead}
 use Rattle.lsv_session.specs.declared.job.Job.{Job}
-use Rattle.lsv_machine.specs.Machine.{Machine}
 use Rattle.lsv_keeper.specs.Leaving.{Departs, TakenOut}
 use Rattle.lsv_keeper.specs.Represents as keepers
 use Rattle.lsv_keeper.specs.Rows.{Left, RowGives}
@@ -25,7 +23,7 @@ use Rattle.lsv_keeper.proofs.Departing.{departs_keeps, departs_owed, room_one, v
 use Rattle.lsv_keeper.proofs.ExitEnds.{EndsLog, closed_ones, departs_from, keeps_from, keeps_line, log_failed, log_line_refused, log_not_ended, log_told, stands_told, unended_out}
 use Rattle.lsv_keeper.proofs.Frames.{Laws}
 use Rattle.lsv_keeper.proofs.Opens.{one_open}
-use Rattle.lsv_keeper.proofs.Refusing.{keeps_same, written_open}
+use Rattle.lsv_keeper.proofs.Refusing.{written_open}
 use Rattle.lsv_keeper.proofs.keeper.Keeper.end_log.Goals as goal
 
 pub returns-in_default-clause-row : goal.returns-in_default-clause-row

@@ -1,10 +1,10 @@
-use Rattle.std.proofs.Common.{◌≡◌, None, arith, refl, subst, sym}
+use Rattle.std.proofs.Common.{◌≡◌, arith, refl, subst, sym}
 use Rattle.std.specs.Prelude.{false}
 use Rattle.lsv_disk.specs.View.{DiskView}
 use Rattle.lsv_request.specs.declared.request.Request.TheVariants as request
 use Rattle.lsv_session.specs.declared.connection.ConnState.TheVariants.{Dead}
 use Rattle.lsv_session.specs.declared.job.Job.{Job}
-use Rattle.lsv_machine.specs.Machine.{Machine, is_dead, leaves}
+use Rattle.lsv_machine.specs.Machine.{is_dead, leaves}
 use Rattle.lsv_keeper.specs.Rows.{RowGives}
 use Rattle.lsv_keeper.specs.Value.{KeeperView, sessions_of}
 use Rattle.lsv_keeper.specs.Views.{view_of}

@@ -1,4 +1,4 @@
-use Rattle.std.proofs.Common.{◌≡◌, ◌∙◌, ap, sym}
+use Rattle.std.proofs.Common.{◌∙◌, ap, sym}
 use Rattle.lsv_machine.specs.Machine.{log_of}
 use Rattle.lsv_keeper.proofs.Requests.{exit_timed}
 use Rattle.lsv_keeper.proofs.keeper.Keeper.exit.Goals as goal

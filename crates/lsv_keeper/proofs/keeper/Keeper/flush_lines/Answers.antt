@@ -1,9 +1,5 @@
-use Rattle.std.proofs.Common.{◌≡◌, ◌≢◌, ◌++◌, ◌⊎◌, ℕ, List, [], refl, sym, ◌∙◌, ap, subst, inl, inr, Err, Ok}
-use Rattle.std.specs.Prelude.{Bool, true, false}
-use Rattle.std.specs.Global.{Vec}
-use Rattle.lsv_bundle.specs.declared.fault.BundleFault.{BundleFault}
+use Rattle.std.proofs.Common.{◌≡◌, List, [], sym, ◌∙◌, ap, subst, Err}
 use Rattle.lsv_bundle.specs.declared.fault.BundleFault.TheVariants as faults
-use Rattle.lsv_disk.specs.View.{DiskView}
 use Rattle.lsv_eventlog.specs.Value.{EventLogView}
 use Rattle.lsv_session.specs.declared.connection.ConnId.{ConnId}
 use Rattle.lsv_machine.specs.Machine.{Machine}
@@ -11,7 +7,6 @@ use Rattle.lsv_machine.specs.Turns.{with_lines}
 use Rattle.lsv_keeper.specs.Represents.{Represents}
 use Rattle.lsv_keeper.specs.Tails.{LinesGive}
 use Rattle.lsv_keeper.specs.Views.{view_of}
-use Rattle.lsv_keeper.proofs.Frames.{Laws}
 use Rattle.lsv_keeper.proofs.FlushEnds.{flush_lost, flush_written, unbroken}
 use Rattle.lsv_keeper.proofs.TailLines.{EventsFailed, lines_none, lines_refused}
 use Rattle.lsv_keeper.proofs.keeper.Keeper.flush_lines.Goals as goal

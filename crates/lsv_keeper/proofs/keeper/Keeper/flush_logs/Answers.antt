@@ -1,10 +1,8 @@
-use Rattle.std.proofs.Common.{◌≡◌, ℕ, List, [], length, refl, sym, ◌∙◌, ap, arith}
+use Rattle.std.proofs.Common.{◌≡◌, ℕ, List, length, sym, ◌∙◌, ap, arith}
 use Rattle.std.specs.Global.{Vec}
 use Rattle.lsv_base.specs.declared.log_no.LogNo.{LogNo}
-use Rattle.lsv_machine.specs.Machine.{Machine}
 use Rattle.lsv_keeper.specs.Replies.{room_in}
 use Rattle.lsv_keeper.specs.Tails.{none_waits}
-use Rattle.lsv_keeper.specs.Value.{KeeperView}
 use Rattle.lsv_keeper.specs.Views.{view_of}
 use Rattle.lsv_keeper.proofs.TailLoops.{flushing_ends, flushing_on, flushing_start}
 use Rattle.lsv_keeper.proofs.keeper.Keeper.flush_logs.Goals as goal

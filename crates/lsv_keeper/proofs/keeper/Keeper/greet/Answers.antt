@@ -1,7 +1,7 @@
 -- The connection comes into the state of one that was greeted.
-use Rattle.std.proofs.Common.{◌≡◌, ◌≤◌, ◌+◌, refl, arith}
+use Rattle.std.proofs.Common.{arith}
 use Rattle.lsv_session.specs.declared.connection.ConnState.TheVariants.{Greeted}
-use Rattle.lsv_keeper.specs.Value.{KeeperView, sessions_of}
+use Rattle.lsv_keeper.specs.Value.{sessions_of}
 use Rattle.lsv_keeper.specs.Views.{view_of}
 use Rattle.lsv_keeper.proofs.Reporting.{greets_at, room_one}
 use Rattle.lsv_keeper.proofs.keeper.Keeper.greet.Goals as goal

@@ -1,8 +1,7 @@
 -- The log is claimed, since nobody owns it and there is room; the connection runs with it; and it is put among the open ones.
-use Rattle.std.proofs.Common.{◌≡◌, ◌≤◌, ◌==◌, ℕ, Some, None, if◌then◌else◌, refl, sym, ◌∙◌, ap, arith}
+use Rattle.std.proofs.Common.{◌≡◌, ◌≤◌, ◌==◌, Some, if◌then◌else◌, refl, ap, arith}
 use Rattle.lsv_session.specs.Table.{Sessions, room_for, sessions, spare}
 use Rattle.lsv_session.specs.declared.connection.ConnState.TheVariants.{Running}
-use Rattle.lsv_machine.specs.Machine.{same}
 use Rattle.lsv_keeper.proofs.Owning.{claimed, on_ok, owned_sessions}
 use Rattle.lsv_keeper.proofs.keeper.Keeper.own.Goals as goal
 

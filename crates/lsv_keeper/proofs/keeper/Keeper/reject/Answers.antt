@@ -1,5 +1,5 @@
 -- In a session a reject is an event alone; else it ends the connection.
-use Rattle.std.proofs.Common.{◌≡◌, refl, sym, ◌∙◌, ap, subst}
+use Rattle.std.proofs.Common.{◌≡◌, sym, ◌∙◌, ap, subst}
 use Rattle.lsv_event.specs.Lines.{line_of}
 use Rattle.lsv_event.specs.declared.event.Event.TheVariants as event
 use Rattle.lsv_event.specs.declared.event.Peer.{Peer}

@@ -1,20 +1,17 @@
 -- A restart that is refused at once, accepted, or refused by what is found.
-use Rattle.std.proofs.Common.{◌≡◌, ◌≤◌, ℕ, List, [], Option, Some, None, Result, Err, true, false, refl, sym, ◌∙◌, ap, subst, arith}
+use Rattle.std.proofs.Common.{◌≡◌, List, true, false, refl, sym, ◌∙◌, ap, subst}
 use Rattle.std.specs.Prelude.{is_some}
-use Rattle.lsv_disk.specs.View.{DiskView}
 use Rattle.lsv_request.specs.declared.request.Request.TheVariants as request
-use Rattle.lsv_session.specs.Table.{Sessions, room_for}
+use Rattle.lsv_session.specs.Table.{Sessions}
 use Rattle.lsv_session.specs.declared.connection.ConnId.{ConnId}
 use Rattle.lsv_session.specs.declared.connection.ConnState.TheVariants.{Dead}
 use Rattle.lsv_machine.specs.Answers.{Answer}
 use Rattle.lsv_machine.specs.Failures.{AsksFor}
-use Rattle.lsv_machine.specs.Machine.{Machine, is_dead}
-use Rattle.lsv_keeper.specs.Represents.{Represents}
+use Rattle.lsv_machine.specs.Machine.{is_dead}
 use Rattle.lsv_keeper.specs.Rows.{Left, RowIs, Tells}
-use Rattle.lsv_keeper.specs.Value.{KeeperView, Owns, sessions_of}
+use Rattle.lsv_keeper.specs.Value.{Owns}
 use Rattle.lsv_keeper.specs.Views.{view_of}
 use Rattle.lsv_keeper.specs.declared.told.Told.TheVariants as told_variants
-use Rattle.lsv_keeper.proofs.Frames.{Laws}
 use Rattle.lsv_keeper.proofs.Reopening.{fault_stands}
 use Rattle.lsv_keeper.proofs.RestartRows.{in_use, none_of, refused_row}
 use Rattle.lsv_keeper.proofs.ResumedRows.{resumed_row}

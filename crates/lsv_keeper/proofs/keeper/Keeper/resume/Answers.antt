@@ -1,6 +1,5 @@
 -- Room is made, and then the log is opened and cut.
-use Rattle.std.proofs.Common.{ℕ, List, sym, ap, subst, IfOk}
-use Rattle.lsv_disk.specs.View.{DiskView}
+use Rattle.std.proofs.Common.{ℕ, List, ap, subst, IfOk}
 use Rattle.lsv_keeper.specs.Resuming.{IsResumed}
 use Rattle.lsv_keeper.specs.Value.{KeeperView}
 use Rattle.lsv_keeper.proofs.Looking.{looked_none}

@@ -1,4 +1,4 @@
-use Rattle.std.proofs.Common.{◌≡◌, ℕ, Some, arith, refl, subst, sym}
+use Rattle.std.proofs.Common.{◌≡◌, Some, arith, refl, subst, sym}
 use Rattle.lsv_disk.specs.View.{DiskView}
 use Rattle.lsv_request.specs.declared.refusal.Refusal.{Refusal}
 use Rattle.lsv_request.specs.declared.request.Request.TheVariants as request

@@ -1,5 +1,5 @@
 -- The line is added, and then the connection does what it is to do; or it is refused.
-use Rattle.std.proofs.Common.{◌≡◌, ◌≤◌, refl, sym, ◌∙◌, ap, subst}
+use Rattle.std.proofs.Common.{subst}
 use Rattle.lsv_event.specs.Lines.{line_of}
 use Rattle.lsv_session.specs.declared.connection.ConnState.TheVariants.{Dead}
 use Rattle.lsv_machine.specs.Work.{adds_line}

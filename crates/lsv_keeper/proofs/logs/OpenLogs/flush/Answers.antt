@@ -4,7 +4,7 @@ use Rattle.std.specs.HashMap as hash
 use Rattle.lsv_iolog.specs.Represents.{Represents}
 use Rattle.lsv_keeper.specs.Logs.{Flushes, open_logs, with_open}
 use Rattle.lsv_keeper.specs.declared.logs.OpenLog.{OpenLog}
-use Rattle.lsv_keeper.proofs.Opens.{flush_cause, one_open, put_at, put_its, put_twice}
+use Rattle.lsv_keeper.proofs.Opens.{flush_cause, one_open, put_at, put_twice}
 use Rattle.lsv_keeper.proofs.logs.OpenLogs.flush.Goals as goal
 
 pub returns-in-Ok : goal.returns-in-Ok
