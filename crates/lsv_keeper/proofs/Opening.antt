@@ -51,6 +51,7 @@ use Rattle.lsv_keeper.specs.Logs.{open_logs}
 use Rattle.lsv_keeper.specs.Opening.{IsEventsFault, IsNumbersFault, OpensAs, OpensEvents, OpensNumbers, events_fault, number_fault}
 use Rattle.lsv_keeper.specs.Reading.{IsBare, IsDrawn, reading_of}
 use Rattle.lsv_keeper.specs.Represents.{EventsAre, NumbersAre, Represents, pending_count}
+use Rattle.lsv_keeper.specs.Rows.{IsOfJob}
 use Rattle.lsv_keeper.specs.Value.{KeeperView, sessions_of, settings_of}
 use Rattle.lsv_keeper.specs.declared.fault.StoreFault.{StoreFault}
 use Rattle.lsv_keeper.specs.declared.fault.StoreFault.TheVariants as store_faults
@@ -213,6 +214,14 @@ events_alike lane P old new run file own = sym (run.elsewhere.same file (events_
 
 pub lines_alike : (lane : ℕ) (P : Image → Type 0) (old mid : DiskView) (text : List ℕ) → Throughout (λ g. g ≡ numbers_file lane) P old mid → HoldsLines mid.reads lane text → HoldsLines old.reads lane text
 lines_alike lane P old mid text run is = local_text mid.reads old.reads lane text (λ file own. events_alike lane P old mid run file (of_lane lane file own)) is
+
+-- what opening touches
+pub numbers_run : (lane : ℕ) (P : Image → Type 0) (old new : DiskView) → Throughout (λ g. g ≡ numbers_file lane) P old new → Throughout (IsOfJob lane None) (λ image. Unit {0}) old new
+numbers_run lane P old new run = widened (λ g. g ≡ numbers_file lane) (IsOfJob lane None) P (λ image. Unit {0}) old new (λ file e. inl (ap (λ (f : FileId). f.owner) e)) (λ image p rest. tt) run
+
+pub both_run : (lane : ℕ) (P Q : Image → Type 0) (old mid new : DiskView) → Throughout (λ g. g ≡ numbers_file lane) P old mid → Throughout (IsOfEventLog lane) Q mid new → Throughout (IsOfJob lane None) (λ image. Unit {0}) old new
+both_run lane P Q old mid new first second = followed (IsOfJob lane None) (λ image. Unit {0}) old mid new (numbers_run lane P old mid first)
+    (widened (IsOfEventLog lane) (IsOfJob lane None) Q (λ image. Unit {0}) mid new (λ file own. inr (of_lane lane file own)) (λ image p rest. tt) second)
 
 -- ---- The last number
 

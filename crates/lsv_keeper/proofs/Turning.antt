@@ -14,6 +14,7 @@ use Rattle.lsv_machine.specs.Keeping.{Acted, TailEnded}
 use Rattle.lsv_machine.specs.Machine.{Machine, Settings}
 use Rattle.lsv_machine.specs.Tails.{LinesEnded, LogsEnded, NoneFailed, joined}
 use Rattle.lsv_machine.specs.Turns.{Tail}
+use Rattle.lsv_machine.proofs.EventLines.{end_fresh}
 use Rattle.lsv_machine.proofs.Folds.{going_ends, going_more, going_none}
 use Rattle.lsv_machine.proofs.TailFolds.{tail_ends}
 use Rattle.lsv_keeper.specs.Reading.{reading_of}
@@ -111,6 +112,7 @@ turn_given v one two three now jobs m said first second third old after_jobs aft
   after = none_waits g.after;
   told = replies_joined first second third l.tail.answers g.tail.answers l.told g.told ∙ ap (λ (x : List Reply). x ++ map reply_of whole.answers) j.told ∙ append_assoc said j.replies (map reply_of whole.answers);
   turned = going_ends r set now jobs j.replies whole m j.after (none_waits g.after) old after_jobs new laws.reads_itself j.going ends;
+  no_line = end_fresh set whole j.after (none_waits g.after) ends.ended.ends;
   represents = g.represents;
 }
   where

@@ -87,10 +87,11 @@ pub record JobsGive (v : KeeperView) (now : TimeSpec) (jobs : List Job) (m : Mac
   pub going : Going (reading_of v.lane v.lanes) (settings_of v) now jobs replies m after old new
   pub represents : Represents v' new after
 
--- a turn of these jobs: its replies are appended, and the keeper and its disk stand for the machine after it
+-- a turn of these jobs: its replies are appended, and the keeper and its disk stand for the machine after it, in which no line of a turn is left
 pub record TurnGives (v : KeeperView) (now : TimeSpec) (jobs : List Job) (m : Machine) (said said' : List Reply) (v' : KeeperView) (old new : DiskView) : Type 0 where
   pub replies : List Reply
   pub after : Machine
   pub told : said' ≡ said ++ replies
   pub turned : Turned (reading_of v.lane v.lanes) (settings_of v) now jobs replies m after old new
+  pub no_line : after.fresh ≡ []
   pub represents : Represents v' new after

@@ -1,6 +1,6 @@
 //! Opening a store.
 
-ghost use Rattle.std.specs.Prelude.{◌≡◌, ◌<◌, ◌≤◌, ℕ, IfOk, IfErr, IsErrOf};
+ghost use Rattle.std.specs.Prelude.{◌≡◌, ◌<◌, ◌≤◌, ℕ, None, IfOk, IfErr, IsErrOf};
 ghost use Rattle.lsv_disk.specs.Throughout.{Throughout};
 ghost use Rattle.lsv_disk.specs.View.{HasOwnCause, IsCrashImage};
 ghost use Rattle.lsv_disk.specs.declared.file.Owner.{Owner};
@@ -12,6 +12,7 @@ ghost use Rattle.lsv_machine.specs.Disks.{NumbersFit};
 ghost use Rattle.lsv_machine.specs.Keeping.{OpensStore};
 ghost use Rattle.lsv_keeper.specs.Opening.{IsEventsFault, IsNumbersFault, IsSetTo, IsStoreFault, OpensAs, OpensEvents, OpensNumbers, events_fault, number_fault};
 ghost use Rattle.lsv_keeper.specs.Reading.{reading_of};
+ghost use Rattle.lsv_keeper.specs.Rows.{IsOfJob};
 ghost use Rattle.lsv_keeper.specs.Value.{IsResting};
 ghost use Rattle.lsv_keeper.specs.Views.{view_of};
 
@@ -105,6 +106,7 @@ impl<F: LineWriter + Drop, H: Search + Drop> Keeper<F, H> {
         ensures held { D.tells → IfOk result (λ k. HoldsLines (D.view disk.old).reads lane (committed_text (view_of k).events (D.view disk.new))) }
         ensures fault { D.tells → IfErr result (IsStoreFault lane lanes (D.view disk.old).reads) }
         ensures store { D.tells → OpensStore (reading_of lane lanes) lane lanes (D.view disk.old) (D.view disk.new) }
+        ensures touched { D.tells → Throughout (IsOfJob lane None) (λ _. Unit {0}) (D.view disk.old) (D.view disk.new) }
         ensures opened { D.tells → NumbersFit (reading_of lane lanes) lane lanes (IsCrashImage (D.view disk.old)) → IfOk result (λ k. OpensAs lane lanes texts (D.view disk.old) (D.view disk.new) (view_of k)) }
         ensures cause { (o : Owner) → HasOwnCause (λ f. f.owner ≡ o) (IsErrOf result (StoreFault.Device o)) (D.view disk.old) (D.view disk.new) }
     {

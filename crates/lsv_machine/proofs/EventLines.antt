@@ -69,6 +69,10 @@ tail_text set tail old new t =
     after e (inl p) = inl (e ∙ p)
     after e (inr (did, p)) = inr (did, e ∙ p)
 
+-- a turn that has ended leaves no line of its own
+pub end_fresh : (set : Settings) (tail : Tail) (old new : Machine) → EndOfTurn set old tail new → new.fresh ≡ []
+end_fresh set tail old new t = (tail_text set tail old new t).fresh
+
 run_text : (set : Settings) (h : List Happened) (m end : Machine) → Run set m h end → LinesFrom set.lane m.lines m.fresh h end.lines end.fresh
 run_text set [] m end e = (ap (λ (x : Machine). x.lines) e, ap (λ (x : Machine). x.fresh) e)
 run_text set (Did act ∷ h) m end (mid, step, rest) =

@@ -17,7 +17,7 @@ pub record Past : Type 0 where
 
 -- ---- The files
 
--- the files of a lane: those of logs, of the lane's numbers and of its event log
+-- the files that a lane may touch: those of logs, of the lane's numbers and of its event log
 abbrev pub IsOfStore : (lane : ℕ) → FileId → Type 0
 IsOfStore lane file = ((n : ℕ) × (file.owner ≡ Log n)) ⊎ (file.owner ≡ Numbers lane) ⊎ (file.owner ≡ Events lane)
 

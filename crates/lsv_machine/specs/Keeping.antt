@@ -127,7 +127,8 @@ pub record Turned (r : Reading) (set : Settings) (now : TimeSpec) (jobs : List J
 
 -- ---- Opening
 
--- the store was opened, or that failed: each log and the event log are as some image had them, at each moment, and read as they did
+-- the store was opened, or that failed: each log and the event log are as some image had them, at each moment, and read as they did; the numbers fit as before, no count fell, and
+-- no file of another lane or owner was touched
 pub record OpensStore (r : Reading) (lane lanes : ℕ) (found new : DiskView) : Type 0 where
   pub monotone : (file : FileId) → found.faults file ≤ new.faults file
   pub logs : (n : ℕ) → Jointly (AsBefore r n (IsCrashImage found)) found new × Rests r n found new

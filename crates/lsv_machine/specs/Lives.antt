@@ -43,7 +43,7 @@ Chained r lane lanes view first (l ∷ lives) = Lives r lane lanes view (left_by
 
 -- ---- Where a stop came
 
--- the turn in which a moment lies, with those before it; the moments between two turns are the later one's
+-- the turn in which a moment lies, with those before it; a moment between two turns, or between the opening and the first, is the later one's
 pub record InTurn (s : Story) (k : ℕ) : Type 0 where
   pub before : List Turn
   pub turn : Turn
@@ -72,14 +72,14 @@ under_way (Behind late) = []
 
 -- ---- What they are to one log
 
--- of a store that was open: what happened goes on in this run with all turns that had ended, and the jobs of the one that was cut
+-- past the opening: what happened goes on in this run with all turns that had ended, and the jobs of the one that was cut
 abbrev pub Went : {s : Story} {k : ℕ} → Stop s k → List Happened → Past → Type 0
 Went (Opening early) g p = ⊥
 Went (Inside at) g p = p ≡ past_of g at.before at.turn
 Went {s} (Behind late) g p = p ≡ record { history = g ++ all_turns s.turns; acts = [] }
 
--- what these runs, the last first, are to log n: each starts from a disk that reads as good for a history that goes on from what happened before; or it didn't come to settle
--- the log, and leaves what happened before as it was
+-- what these runs, the last first, are to log n: each starts from a disk that reads as good for a history that goes on from what happened before; it went on from there, or it
+-- didn't come to settle the log, and leaves what happened before as it was
 abbrev pub Lived : {D : Type 0} → Reading → (D → DiskView) → ℕ → List (Life D) → Past → Type 0
 Lived r view n [] p = p ≡ record { history = []; acts = [] }
 Lived r view n (l ∷ lives) p = (before : Past) × (g : List Happened) × Lived r view n lives before × GoesOn l.texts before g × Good r g (view l.found).reads n

@@ -42,7 +42,7 @@ pub record HoldsRecords (stored : Stored) (promised : ℕ) (writer : Option Conn
   -- a log whose number wasn't told has no records
   pub bare : told ≡ None → stored.records ≡ []
 
--- the same of a log that may be absent, and then its number was not told; of a damaged log nothing is said that would stand for a history
+-- the same of a log that may be absent, and then its number was not told; a damaged log stands for no history
 abbrev pub HoldsAt : LogState → Option ConnId → List Record → Option ℕ → Type 0
 HoldsAt Absent writer shown told = told ≡ None
 HoldsAt Damaged writer shown told = ⊥

@@ -37,8 +37,8 @@ pub fn runs_recover<D: ReadsStore>()
         (p : Past) × Lived D.reading (λ d. D.view d) n lives p × AllWithin D.reading p n (left_by (λ d. D.view d) first lives) }
 {}
 
-/// The same in other words: each such image holds of each log what is good for one history of all these runs: the start of
-/// each, its turns, and some first jobs of the turn in which it was stopped.
+/// The same in other words: of each log and each such image there is one history of all these runs for which it is good: the
+/// start of each, its turns that had ended, and some first jobs of the one that was cut, if one was.
 pub fn all_runs_recover<D: ReadsStore>()
     ensures { D.tells → (lane lanes : ℕ) (first : D) (lives : List (Life D)) (n : ℕ) → Chained D.reading lane lanes (λ d. D.view d) first lives →
         (image : Image) → left_by (λ d. D.view d) first lives image → (h : List Happened) × AllRuns lives h × Good D.reading h image n }

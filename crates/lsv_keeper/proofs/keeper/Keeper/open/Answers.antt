@@ -2,7 +2,7 @@ use Rattle.std.proofs.Common.{inr, refl}
 use Rattle.lsv_seq.specs.Value.{last_of}
 use Rattle.lsv_keeper.specs.Opening.{IsStoreFault}
 use Rattle.lsv_keeper.specs.declared.fault.StoreFault.TheVariants.{Device}
-use Rattle.lsv_keeper.proofs.Opening.{cause_after, events_alike, fault_alike, in_err, lines_alike, opens_as, passed, same_error, store_on}
+use Rattle.lsv_keeper.proofs.Opening.{both_run, cause_after, events_alike, fault_alike, in_err, lines_alike, numbers_run, opens_as, passed, same_error, store_on}
 use Rattle.lsv_keeper.proofs.keeper.Keeper.open.Goals as goal
 
 pub returns-clause-set : goal.returns-clause-set
@@ -14,6 +14,10 @@ returns-clause-read g c told = (c.in_ok-numbers.ensures.opened told).read
 pub returns-clause-held : goal.returns-clause-held
 returns-clause-held g c told =
     lines_alike c.args.lane _ (g.D.Disk.view c.args.disk.now) (g.D.Disk.view c.open_numbers.new.disk) _ (c.open_numbers.ensures.run told) (c.in_ok-events.ensures.opened told).held
+
+pub returns-clause-touched : goal.returns-clause-touched
+returns-clause-touched g c told =
+    both_run c.args.lane _ _ (g.D.Disk.view c.args.disk.now) (g.D.Disk.view c.open_numbers.new.disk) (g.D.Disk.view c.open_events.new.disk) (c.open_numbers.ensures.run told) (c.open_events.ensures.run told)
 
 pub returns-clause-store : goal.returns-clause-store
 returns-clause-store g c told =
@@ -41,6 +45,13 @@ returns-in_err-numbers-clause-cause g c o =
       monotone = (c.open_numbers.ensures.cause o).monotone;
       risen = λ e. (c.in_err-numbers.ensures.cause o).risen (in_err fault (Device o) (same_error c.from_residual.result fault (Device o) c.from_residual.ensures.1 e));
     }
+
+pub returns-in_err-numbers-clause-touched : goal.returns-in_err-numbers-clause-touched
+returns-in_err-numbers-clause-touched g c told = numbers_run c.args.lane _ (g.D.Disk.view c.args.disk.now) (g.D.Disk.view c.open_numbers.new.disk) (c.open_numbers.ensures.run told)
+
+pub returns-in_err-events-clause-touched : goal.returns-in_err-events-clause-touched
+returns-in_err-events-clause-touched g c told =
+    both_run c.args.lane _ _ (g.D.Disk.view c.args.disk.now) (g.D.Disk.view c.open_numbers.new.disk) (g.D.Disk.view c.open_events.new.disk) (c.open_numbers.ensures.run told) (c.open_events.ensures.run told)
 
 pub returns-in_err-events-clause-fault : goal.returns-in_err-events-clause-fault
 returns-in_err-events-clause-fault g c told =
