@@ -7,12 +7,13 @@ ghost use Rattle.std.specs.Prelude.{IfOk};
 use crate::show::log_lines;
 use crate::unwatched::Unwatched;
 use anyhow::{Result, anyhow};
-use lsv_base::{Bytes, List, LogNo};
+use lsv_base::{Bytes, List, LogNo, TimeSpec};
 use lsv_hook::{Formatter, SudoLines};
 use lsv_iolog::{LogFault, LogView};
 use lsv_keeper::Keeper;
 use lsv_mask::{Prompt, TextSearch};
 use lsv_model::RunSettings;
+use lsv_session::{Job, Reply};
 use std::alloc::Global;
 
 /// A keeper of sudo's lines and of the search that is linear.
@@ -41,6 +42,22 @@ pub fn open_keeper(
         Prompt::new(TextSearch),
     )?;
     Ok(keeper)
+}
+
+/// The keeper's replies to a turn of these jobs.
+pub fn keeper_turn(
+    alloc: Global,
+    keeper: &mut Kept,
+    disk: &mut Unwatched,
+    jobs: Vec<Job>,
+) -> Result<Vec<Reply>>
+    requires { IsResting (view_of keeper.old) }
+    ensures { IsResting (view_of keeper.new) }
+{
+    let mut replies = Vec::new(alloc);
+    keeper.ready(jobs.len(), &mut replies)?;
+    keeper.turn(disk, TimeSpec { sec: 0, nsec: 0 }, jobs, &mut replies);
+    Ok(replies)
 }
 
 /// The lines of a stored log; none where there is no such log.

@@ -1,8 +1,7 @@
 //! How replies and logs are printed.
 
 use anyhow::{Result, anyhow};
-use lsv_base::Bytes;
-use lsv_base::LogNo;
+use lsv_base::{Bytes, LogNo};
 use lsv_msg::put_server;
 use lsv_record::{Record, lay};
 use lsv_session::{Reply, ReplyBody};
