@@ -105,7 +105,8 @@ impl Servers {
 
     /// One job more of the turn.
     pub fn push(&mut self, alloc: Global, line: &str) -> Result<()>
-        ensures { self.new.keeper ≡ self.old.keeper }
+        requires { IsResting (view_of self.old.keeper) }
+        ensures { IsResting (view_of self.new.keeper) }
     {
         self.jobs.push(job_in(alloc, line)?)?;
         self.same_jobs.push(job_in(alloc, line)?)?;

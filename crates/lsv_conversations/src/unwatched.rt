@@ -15,6 +15,22 @@ pub struct Unwatched {
     faults: u64,
 }
 
+/// Makes a file that isn't there.
+fn make(disk: &mut MemDisk, f: FileId) -> Result<(), DiskFault> {
+    match disk.length(f) {
+        Ok(None) => disk.create(f),
+        _ => Err(DiskFault),
+    }
+}
+
+/// Makes several files that aren't there.
+fn make_all(disk: &mut MemDisk, owner: Owner, parts: &[Part]) -> Result<(), DiskFault> {
+    for part in parts {
+        make(disk, FileId::new(owner, *part))?;
+    }
+    Ok(())
+}
+
 impl Unwatched {
     /// An empty disk.
     pub fn new(alloc: Global) -> Result<Self, NoMem> {
@@ -24,8 +40,8 @@ impl Unwatched {
         }
     }
 
-    /// A failure is counted.
-    fn counted<T: Drop>(&mut self, answer: Result<T, DiskFault>) -> Result<T, DiskFault>
+    /// A failure at a file is counted.
+    fn counted<T: Drop>(&mut self, _f: FileId, answer: Result<T, DiskFault>) -> Result<T, DiskFault>
         ensures same { result ≡ answer }
         ensures counts { self.old.faults ≤ self.new.faults }
         ensures cause { OnErr result (HasRisen self.old.faults self.new.faults) }
@@ -55,33 +71,26 @@ impl Disk for Unwatched {
     }
 
     fn create(&mut self, f: FileId) -> Result<(), DiskFault> {
-        let answer = match self.disk.length(f) {
-            Ok(None) => self.disk.create(f),
-            _ => Err(DiskFault),
-        };
-        self.counted(answer)
+        let answer = make(&mut self.disk, f);
+        self.counted(f, answer)
     }
 
     fn create_all(&mut self, owner: Owner, parts: &[Part]) -> Result<(), DiskFault> {
-        for part in parts {
-            let f = FileId::new(owner, *part);
-            let answer = match self.disk.length(f) {
-                Ok(None) => self.disk.create(f),
-                _ => Err(DiskFault),
-            };
-            self.counted(answer)?;
-        }
-        Ok(())
+        let [first, ..] = parts else {
+            return Ok(());
+        };
+        let answer = make_all(&mut self.disk, owner, parts);
+        self.counted(FileId::new(owner, *first), answer)
     }
 
     fn length(&mut self, f: FileId) -> Result<Option<u64>, DiskFault> {
         let answer = self.disk.length(f);
-        self.counted(answer)
+        self.counted(f, answer)
     }
 
     fn read_at(&mut self, f: FileId, at: u64, buf: &mut [u8]) -> Result<usize, DiskFault> {
         let answer = self.disk.read_at(f, at, buf);
-        self.counted(answer)
+        self.counted(f, answer)
     }
 
     fn write_at(&mut self, f: FileId, at: u64, bytes: &[u8]) -> Result<(), DiskFault> {
@@ -89,11 +98,11 @@ impl Disk for Unwatched {
             Ok(Some(end)) if at <= end => self.disk.write_at(f, at, bytes),
             _ => Err(DiskFault),
         };
-        self.counted(answer)
+        self.counted(f, answer)
     }
 
     fn sync(&mut self, f: FileId) -> Result<(), DiskFault> {
         let answer = self.disk.sync(f);
-        self.counted(answer)
+        self.counted(f, answer)
     }
 }
