@@ -1,62 +1,66 @@
 //! How replies and logs are printed.
 
 use anyhow::{Result, anyhow};
-use lsv_base::Bytes;
-use lsv_model::{Log, Model};
+use lsv_base::{Bytes, LogNo};
 use lsv_msg::put_server;
-use lsv_record::lay;
+use lsv_record::{Record, lay};
 use lsv_session::{Reply, ReplyBody};
+use std::alloc::Global;
 
-/// Prints a reply: the frame of its message in hexadecimal digits, or that the connection is shut.
-pub fn show_reply(rt: &HostRuntime, reply: &Reply) -> Result<()> {
-    let alloc = rt.alloc();
+/// The line of a reply: the frame of its message in hexadecimal digits, or that the connection is shut.
+pub fn reply_line(alloc: Global, reply: &Reply) -> Result<String> {
     let worker = reply.conn.worker;
     let seq = reply.conn.seq;
     match &reply.body {
         ReplyBody::Say(message) => {
             let mut framed = Bytes::new(alloc);
             put_server(alloc, &mut framed, message)?;
-            println!(rt;
-                "> {worker}.{seq} {}",
-                hex::encode(alloc, framed.as_slice())?
-            )?;
+            let digits = hex::encode(alloc, framed.as_slice())?;
+            Ok(format!(in alloc; "> {worker}.{seq} {digits}\n")?)
         }
-        ReplyBody::Shut if reply.last => println!(rt; "> {worker}.{seq} shut last")?,
-        ReplyBody::Shut => println!(rt; "> {worker}.{seq} shut")?,
+        ReplyBody::Shut if reply.last => Ok(format!(in alloc; "> {worker}.{seq} shut last\n")?),
+        ReplyBody::Shut => Ok(format!(in alloc; "> {worker}.{seq} shut\n")?),
     }
-    Ok(())
 }
 
-/// Prints a text of a log, where it isn't empty.
-fn show_text(rt: &HostRuntime, name: &str, text: &Bytes) -> Result<()> {
+/// The lines of replies.
+pub fn reply_lines(alloc: Global, replies: &[Reply]) -> Result<String> {
+    let mut lines = String::new(alloc);
+    for reply in replies {
+        lines.push_str(reply_line(alloc, reply)?.as_str())?;
+    }
+    Ok(lines)
+}
+
+/// Adds the line of a text of a log, where it isn't empty.
+fn add_text(alloc: Global, lines: &mut String, name: &str, text: &Bytes) -> Result<()> {
     if !text.as_slice().is_empty() {
-        println!(rt; "  {name} {}", hex::encode(rt.alloc(), text.as_slice())?)?;
+        let digits = hex::encode(alloc, text.as_slice())?;
+        lines.push_str(format!(in alloc; "  {name} {digits}\n")?.as_str())?;
     }
     Ok(())
 }
 
-fn show_log(rt: &HostRuntime, log: &Log) -> Result<()> {
-    let alloc = rt.alloc();
-    let digits = log.number.digits();
-    let number = str::from_utf8(&digits).map_err(|_| anyhow!("digits"))?;
-    let count = log.records.as_slice().len();
-    let elapsed = log.records.elapsed();
-    let cuts = log.cuts;
-    let end = if log.exit.is_some() { "exit" } else { "open" };
-    println!(rt; "log {number} {count} {elapsed} {cuts} {end}")?;
-    let laid = lay(alloc, log.records.as_slice())?;
-    show_text(rt, "timing", &laid.timing)?;
-    show_text(rt, "stdin", &laid.stdin)?;
-    show_text(rt, "stdout", &laid.stdout)?;
-    show_text(rt, "stderr", &laid.stderr)?;
-    show_text(rt, "ttyin", &laid.ttyin)?;
-    show_text(rt, "ttyout", &laid.ttyout)
-}
-
-/// Prints the logs, in the order of their numbers.
-pub fn show_logs(rt: &HostRuntime, model: &Model) -> Result<()> {
-    for log in model.logs() {
-        show_log(rt, log)?;
-    }
-    Ok(())
+/// The lines of a log: its number, records, nanoseconds and cuts, whether it has its exit, and its texts.
+pub fn log_lines(
+    alloc: Global,
+    number: LogNo,
+    records: &[Record],
+    elapsed: u64,
+    cuts: u64,
+    has_exit: bool,
+) -> Result<String> {
+    let digits = number.digits();
+    let digits = str::from_utf8(&digits).map_err(|_| anyhow!("digits"))?;
+    let count = records.len();
+    let end = if has_exit { "exit" } else { "open" };
+    let mut lines = format!(in alloc; "log {digits} {count} {elapsed} {cuts} {end}\n")?;
+    let laid = lay(alloc, records)?;
+    add_text(alloc, &mut lines, "timing", &laid.timing)?;
+    add_text(alloc, &mut lines, "stdin", &laid.stdin)?;
+    add_text(alloc, &mut lines, "stdout", &laid.stdout)?;
+    add_text(alloc, &mut lines, "stderr", &laid.stderr)?;
+    add_text(alloc, &mut lines, "ttyin", &laid.ttyin)?;
+    add_text(alloc, &mut lines, "ttyout", &laid.ttyout)?;
+    Ok(lines)
 }
