@@ -7,8 +7,9 @@ For each load it prints the processor time a message, the bytes of input a secon
 memory beside what the records themselves take. A tenth of each load is run too: the ratio of the
 processor times shows that the cost is linear. Then come messages of the greatest size that hold as
 many parts as fit, with one of half the size beside each. MESSAGES (lsv_bench) reads and writes one
-message a million times, lays a million records and reads them back, and flushes a bundle in a
-store in the folder that it is run in.
+message a million times, lays a million records and reads them back, masks them, writes the lines of
+an event, and flushes a bundle and makes, fills, opens and finishes logs in a store in the folder that
+it is run in. The syncs of a log are counted by strace, where it is there.
 """
 import os
 import resource
@@ -21,6 +22,7 @@ import time
 LOADS = [(1_000_000, 10, 0.5), (100_000, 1_000, 1.5)]
 RUNS = 5
 LARGEST = 2_097_152
+BATCH = 100
 CROWDS = [("empty entries", b"\x12\0"), ("entries of the number 0", b"\x12\x02\x10\0")]
 
 
@@ -136,6 +138,10 @@ def measure_messages(messages):
         ("encode", "writing terminal output of 10 bytes", 0.15),
         ("points", "putting a commit point into a kept buffer", 0.03),
         ("lines", "putting a line of timing into a kept buffer", 0.03),
+        ("mask", "terminal output of 1,000 bytes through a mask of two prompts", 0.5),
+        ("mask-other", "1,000 bytes of another stream through it", 0.01),
+        ("sudo-line", "the line of an event in sudo's style, of 197 bytes", 1),
+        ("json-line", "its line as JSON", None),
     ]
     for word, what, most in measures:
         times = []
@@ -145,7 +151,7 @@ def measure_messages(messages):
             if status != 0:
                 sys.exit(f"bench: {word} ended with status {status}")
             times.append(usage.ru_utime + usage.ru_stime)
-        print(f"{what}: {min(times):.3f} us (at most {most})")
+        print(f"{what}: {min(times):.3f} us" + (f" (at most {most})" if most else ""))
 
 
 def measure_records(messages):
@@ -161,33 +167,88 @@ def measure_records(messages):
           f"{min(reading) / 1e9:.3f} us a record to read them (at most 0.2)")
 
 
-def timed_flushes(messages, word, place):
-    """The nanoseconds of all flushes, those of their writes and syncs alone, and how many there were."""
+def told(folder, *words):
+    """The two numbers that a program in this folder says on standard error, and the one that it prints."""
+    child = subprocess.run(words, cwd=folder, capture_output=True, text=True)
+    if child.returncode != 0:
+        sys.exit(f"bench: {' '.join(words[1:])} ended with status {child.returncode}")
+    first, second = (int(it) for it in child.stderr.split())
+    return first, second, int(child.stdout)
+
+
+def timed_flushes(messages, word, times, place):
+    """The nanoseconds of all flushes, those beside them, and how many flushes there were."""
     folder = tempfile.mkdtemp(dir=place)
     try:
-        child = subprocess.run([messages, word], cwd=folder, capture_output=True, text=True)
-        if child.returncode != 0:
-            sys.exit(f"bench: {word} ended with status {child.returncode}")
-        flushing, writing = (int(it) for it in child.stderr.split())
-        return flushing, writing, int(child.stdout)
+        return told(folder, messages, word, str(times))
     finally:
         shutil.rmtree(folder)
 
 
 def measure_flushes(messages):
-    runs = [timed_flushes(messages, "flush", ".") for _ in range(RUNS)]
+    runs = [timed_flushes(messages, "flush", 2_000, ".") for _ in range(RUNS)]
     flushing, writing, count = min(r[0] for r in runs), min(r[1] for r in runs), runs[0][2]
     print(f"flushes of two data files on disk: {count / flushing * 1e9:.0f} a second, {writing / flushing:.2f} of the rate "
           f"of their four writes and syncs alone, {count / writing * 1e9:.0f} a second (at least 0.95)")
-    flushing, _, count = min(timed_flushes(messages, "flush-often", "/dev/shm") for _ in range(RUNS))
+    flushing, _, count = min(timed_flushes(messages, "flush", 100_000, "/dev/shm") for _ in range(RUNS))
     print(f"flushes of 100 bytes on /dev/shm: {flushing / count / 1e3:.2f} us each (at most 3)")
 
 
 def measure_making(messages):
-    runs = [timed_flushes(messages, "make", ".") for _ in range(RUNS)]
+    runs = [timed_flushes(messages, "make", 200, ".") for _ in range(RUNS)]
     together, alone, count = min(r[0] for r in runs), min(r[1] for r in runs), runs[0][2]
     print(f"making the nine files of a log and its first entry on disk: {together / count / 1e3:.0f} us, "
           f"{together / alone:.2f} of the time of 24 syncs one after the other (at most 0.33)")
+
+
+def measure_appending(messages):
+    for word, size, most, times in [("fill", 10, 0.06, 10_000), ("fill-large", 1_000, 0.12, 1_000)]:
+        for place, where in [("/dev/shm", "/dev/shm"), (".", "disk")]:
+            runs = [timed_flushes(messages, word, times // (1 if where != "disk" else 10), place) for _ in range(RUNS)]
+            appending = min(it[0] / it[2] for it in runs) / BATCH / 1e3
+            flushing = min(it[1] / it[2] for it in runs) / 1e3
+            print(f"a record of {size} bytes, appended to a log on {where}: {appending:.3f} us beside its flush (at most {most}); "
+                  f"a flush of {BATCH} of them {flushing:.2f} us" + (" (at most 4)" if (where, size) == ("/dev/shm", 10) else ""))
+
+
+def measure_opening(messages):
+    """A log is filled in one process and opened in others, whose peak of memory is their own."""
+    seen = []
+    for count in [BATCH, 100_000, 1_000_000]:
+        folder = tempfile.mkdtemp(dir="/dev/shm")
+        try:
+            told(folder, messages, "fill", str(count // BATCH))
+            runs = [told(folder, messages, "open") for _ in range(RUNS)]
+        finally:
+            shutil.rmtree(folder)
+        seen.append((min(it[0] for it in runs), max(it[1] for it in runs), count))
+    (_, base, _), (small, _, few), (large, peak, many) = seen
+    print(f"opening a log of {many} records: {large / 1e6:.1f} ms, {large / small:.1f} times that of {few}; "
+          f"{(peak - base) / 1024:.2f} MiB above a log of {BATCH} (at most 1)")
+
+
+def syncs_of(messages, times):
+    """How many syncs reach the device where so many short logs are made in a new store on disk."""
+    folder = os.path.abspath(tempfile.mkdtemp(dir="."))
+    try:
+        trace = os.path.join(folder, "trace")
+        words = ["strace", "-f", "-qq", "-e", "trace=fsync,fdatasync", "-e", "signal=none", "-o", trace]
+        child = subprocess.run(words + [messages, "short-logs", str(times)], cwd=folder, capture_output=True)
+        if child.returncode != 0:
+            sys.exit(f"bench: short-logs ended with status {child.returncode}")
+        with open(trace) as lines:
+            return sum("sync(" in line for line in lines)
+    finally:
+        shutil.rmtree(folder)
+
+
+def measure_syncs(messages):
+    if shutil.which("strace") is None:
+        print("the syncs of a log of three records: strace, which counts them, isn't there")
+        return
+    first, both = syncs_of(messages, 1), syncs_of(messages, 2)
+    print(f"making, filling and finishing a log of three records on disk: {both - first} syncs (at most 14), "
+          f"of the first log of a store {first}")
 
 
 def main():
@@ -198,6 +259,9 @@ def main():
     measure_records(messages)
     measure_flushes(messages)
     measure_making(messages)
+    measure_appending(messages)
+    measure_opening(messages)
+    measure_syncs(messages)
 
 
 if __name__ == "__main__":

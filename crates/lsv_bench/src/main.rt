@@ -1,12 +1,16 @@
-//! Reads or writes one message, reply or line a million times, lays and reads a million records, flushes a bundle, or
-//! makes logs, so that `make bench` can measure each alone.
+//! Reads or writes one message, reply or line a million times, lays, reads or masks a million records, flushes a bundle,
+//! or makes, fills and opens logs, so that `make bench` can measure each alone.
 #![tactic(auto)]
 
 mod flushes;
+mod lines;
+mod logs;
 mod makes;
 mod messages;
 
 use flushes::flushes;
+use lines::{cover_other_all, cover_output_all, json_lines_all, sudo_lines_all};
+use logs::{filled, opened, short_logs};
 use lsv_base::{Bytes, List};
 use lsv_record::{Record, Stream, lay, read_log};
 use makes::makes;
@@ -49,26 +53,49 @@ fn lay_and_read(rt: &HostRuntime) -> Option<u64> {
     Some(read.as_slice().len() as u64)
 }
 
-/// The measure that the words ask for.
-fn measured(rt: &HostRuntime) -> Option<u64> {
+/// The measure of memory alone that a word asks for.
+fn measured(rt: &HostRuntime, word: &str) -> Option<u64> {
     let alloc = rt.alloc();
-    let word = env::args(rt).ok()?.nth(1)?;
-    match word.as_str() {
+    match word {
         "decode" => decode_small_all(alloc),
         "decode-large" => decode_large_all(alloc),
         "encode" => encode_all(alloc),
         "points" => points_all(alloc),
         "lines" => lines_all(alloc),
         "records" => lay_and_read(rt),
-        "flush" => flushes(*rt, 2_000),
-        "make" => makes(*rt, 200),
-        "flush-often" => flushes(*rt, 100_000),
+        "mask" => cover_output_all(alloc),
+        "mask-other" => cover_other_all(alloc),
+        "sudo-line" => sudo_lines_all(alloc),
+        "json-line" => json_lines_all(alloc),
         _ => None,
     }
 }
 
+/// The measure on the disk that a word asks for, so often.
+fn measured_often(rt: &HostRuntime, word: &str, times: u32) -> Option<u64> {
+    match word {
+        "flush" => flushes(*rt, times),
+        "make" => makes(*rt, times),
+        "fill" => filled(*rt, b"0123456789", times),
+        "fill-large" => filled(*rt, &[b'x'; 1_000], times),
+        "short-logs" => short_logs(*rt, times),
+        _ => None,
+    }
+}
+
+/// The measure that the words ask for.
+fn asked(rt: &HostRuntime) -> Option<u64> {
+    let mut words = env::args(rt).ok()?.skip(1);
+    let word = words.next()?;
+    match words.next() {
+        Some(times) => measured_often(rt, word.as_str(), times.as_str().parse::<u32>().ok()?),
+        None if word.as_str() == "open" => opened(*rt),
+        None => measured(rt, word.as_str()),
+    }
+}
+
 fn main(rt: HostRuntime) -> ExitCode {
-    match measured(&rt) {
+    match asked(&rt) {
         Some(total) => {
             let _ = println!(rt; "{total}");
             ExitCode::SUCCESS
