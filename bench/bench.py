@@ -4,7 +4,7 @@
 usage: bench.py PROGRAM MESSAGES
 
 For each load it prints the processor time a message, the bytes of input a second, and the peak of
-memory beside what the records themselves take. A tenth of each load is run too: the ratio of the
+memory. A tenth of each load is run too: the ratio of the
 processor times shows that the cost is linear. Then come messages of the greatest size that hold as
 many parts as fit, with one of half the size beside each. MESSAGES (lsv_bench) reads and writes one
 message a million times, lays a million records and reads them back, masks them, writes the lines of
@@ -59,12 +59,6 @@ def session(count, size):
     yield frame(field(3, field(1, b"")))
 
 
-def kept(count, size):
-    """What the records take in the files of the log, in bytes."""
-    line = len("4 0.001000000 %d\n" % size)
-    return count * (line + size)
-
-
 def watched(pid):
     """The peak memory in bytes, as the system last told it before the end, the status, and the usage of a process.
     The peak that the usage tells is also that of the Python process which started it."""
@@ -117,9 +111,8 @@ def measure_sessions(program):
         small, _, _ = measured(program, session(count // 10, size))
         seconds, memory, length = measured(program, session(count, size))
         each = seconds / count * 1e6
-        above = (memory - kept(count, size)) / 2**20
         print(f"{count} messages of {size} bytes: {each:.3f} us a message (at most {most}), "
-              f"{length / seconds / 1e6:.0f} MB a second, {above:.1f} MiB above the records (at most 64); "
+              f"{length / seconds / 1e6:.0f} MB a second, {memory / 2**20:.1f} MiB at most; "
               f"a tenth of them takes 1/{seconds / small:.1f} of the time")
 
 
