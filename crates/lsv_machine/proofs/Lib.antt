@@ -28,3 +28,6 @@ pub mod Cases
 pub mod Starters
 pub mod EventLines
 pub mod WaitingLemmas
+mod LegalRecords
+mod LegalWork
+mod LegalTurns

@@ -158,7 +158,7 @@ plainly_or set old new act (inr d) none = go d.how
     go (inr (inr t)) = absurd (none_among (Log t.1.restart.log) act.failed none t.1.did)
 
 -- where no draw has failed one number is drawn
-number_is : (set : Settings) (m : Machine) (n : ℕ) → m.failed_draws ≡ 0 → MayDraw set m n → n ≡ next_number set m
+pub number_is : (set : Settings) (m : Machine) (n : ℕ) → m.failed_draws ≡ 0 → MayDraw set m n → n ≡ next_number set m
 number_is set m n none d =
     let few = d.few in
     let zero_is : d.passed ≡ 0 = omega arith in

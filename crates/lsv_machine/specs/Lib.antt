@@ -18,4 +18,5 @@ pub mod Tails
 pub mod Recovery
 pub mod InnerSoFar
 pub mod Lives
+pub mod Legal
 pub mod Examples

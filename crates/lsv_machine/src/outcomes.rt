@@ -1,17 +1,21 @@
 //! What one job and one end of a turn may tell and change. These functions do nothing when they run.
 
 ghost use Rattle.std.specs.Prelude.{◌≡◌, ◌⊎◌, ℕ, List, [], false};
-ghost use Rattle.std.specs.List.{list_any};
+ghost use Rattle.std.specs.List.{flat_map, list_any};
 ghost use Rattle.lsv_request.specs.declared.request.Request.TheVariants as request;
 ghost use Rattle.lsv_request.specs.declared.request.Restart.{Restart};
 ghost use Rattle.lsv_session.specs.declared.connection.ConnId.{ConnId};
 ghost use Rattle.lsv_session.specs.declared.connection.ConnState.TheVariants.{Dead, Fresh};
 ghost use Rattle.lsv_machine.specs.Failures.{Act, AsksFor, Plainly, Step, WantsMemory};
+ghost use Rattle.lsv_machine.specs.Legal.{AreSent, Came, Fits, IsLegal, IsServed};
 ghost use Rattle.lsv_machine.specs.Machine.{Machine, Settings, is_dead, same};
+ghost use Rattle.lsv_machine.specs.Recovery.{AtTheirMoments, Turn, all_turns};
 ghost use Rattle.lsv_machine.specs.Resuming.{CanResume, HasResumed};
 ghost use Rattle.lsv_machine.specs.Silence.{AllTo, EndsWithGone, NoFault, NoJobs, NothingTo, ShutsAreDead};
 ghost use Rattle.lsv_machine.specs.Stands.{Sound};
+ghost use Rattle.lsv_machine.specs.Starts.{StartsAs};
 ghost use Rattle.lsv_machine.specs.Turns.{EndOfTurn, Happened, Run, Tail};
+ghost use Rattle.lsv_machine.specs.Work.{next_number};
 
 /// Where no owner failed, no device fault is told.
 pub fn no_fault_without_failure()
@@ -53,4 +57,12 @@ pub fn one_job_has_one_outcome()
     ensures job { (set : Settings) (old x y : Machine) (a b : Act) → a.job ≡ b.job → a.now ≡ b.now → old.failed_draws ≡ 0 → Plainly set old a x → Plainly set old b y →
         (a.answers ≡ b.answers) × (a.line ≡ b.line) × (x ≡ y) }
     ensures tail { (set : Settings) (old x y : Machine) (s t : Tail) → s.failed ≡ [] → t.failed ≡ [] → EndOfTurn set old s x → EndOfTurn set old t y → (s.answers ≡ t.answers) × (x ≡ y) }
+{}
+
+/// A legal conversation that opens a log is served, if it comes alone, nothing fails, memory is ample and no limit is
+/// passed: it is told the log's number and its commit points, and its log is all that was sent, as it is masked.
+pub fn a_legal_conversation_is_served()
+    ensures { (set : Settings) (texts : List (List ℕ)) (k : ConnId) (start end : Machine) (came : List Came) (turns : List Turn) → StartsAs set texts start → Run set start (all_turns turns) end →
+        AtTheirMoments turns → AreSent k came turns → IsLegal (next_number set start) Fresh (flat_map (λ c. c.bodies) came) →
+        Fits set k (next_number set start) Fresh start.lines came (flat_map (λ c. c.bodies) came) → IsServed k (next_number set start) texts came turns end }
 {}
