@@ -30,7 +30,7 @@ use Rattle.lsv_machine.specs.Answers.{Answer, Saying, Saying.CommitPoint, Saying
 use Rattle.lsv_machine.specs.Failures.{Act, AsksFor, Plainly, Step, WantsMemory}
 use Rattle.lsv_machine.specs.History.{is_exit, request_in}
 use Rattle.lsv_machine.specs.Judgement.{allows, judged, with_keys}
-use Rattle.lsv_machine.specs.Legal.{AreSent, AreUndisturbed, Came, Fits, IsLegal, IsServed, all_answers, all_lines, behind, behind_all, exit_or, exit_sent, first_head, goes_to, has_place, head_or, is_committed, line_for, lines_in, points, record_in, records_in, told_of, whole_log}
+use Rattle.lsv_machine.specs.Legal.{AreSent, AreUndisturbed, Came, Fits, IsLegal, IsServed, all_answers, all_lines, behind, behind_all, exit_or, exit_sent, first_head, goes_to, has_place, head_or, is_committed, is_shut, line_for, lines_in, points, record_in, records_in, told_of, whole_log}
 use Rattle.lsv_machine.specs.Machine.{LogState, LogState.There, Machine, Settings, is_dead, is_running, leaves, with_log, with_state}
 use Rattle.lsv_machine.specs.Recovery.{AtTheirMoments, Turn, all_turns}
 use Rattle.lsv_machine.specs.Starts.{StartsAs}
@@ -794,53 +794,114 @@ module _ (set : Settings) (texts : List (List ℕ)) (k : ConnId) (n : ℕ) (head
     calm_next t rs c m (still o empty calm) off = calm
     calm_next t rs c m (writing in_log w) off = absurd (let h : is_running t ≡ true = ap is_running in_log in cc)
 
-    turns_go : (came : List Came) (turns : List Turn) (m end : Machine) (s : ConnState) (sent : List Record) → AreSent k came turns → AtTheirMoments turns → Next s sent false m → Left n head exit all s sent (flat_map (λ c. c.bodies) came)
-        → Room m (length (all_lines set k n s came)) → Run set m (all_turns turns) end → AllDone s sent came turns end
-    turns_go [] turns m end s sent is moments next left room run = absurd left.legal
-    turns_go (c ∷ came) [] m end s sent is moments next left room run = absurd is
-    turns_go (c ∷ came) (turn ∷ turns) m end s sent (now, jobs, calm, sound, is) moments next left room run =
-        let later : List Body = flat_map (λ x. x.bodies) came in
+    -- the conversation came to its exit, or some of it hasn't come yet and nobody was shut
+    data TurnsDone (s : ConnState) (sent : List Record) (came : List Came) (unread : List Body) (turns : List Turn) (end : Machine) : Type 0 where
+      whole : unread ≡ [] → AllDone s sent came turns end → TurnsDone s sent came unread turns end
+      part : (unread ≡ [] → ⊥) → list_any (λ a. is_shut a.says) (all_answers turns) ≡ false → TurnsDone s sent came unread turns end
+
+    unshut_append : (xs ys : List Answer) → list_any (λ a. is_shut a.says) xs ≡ false → list_any (λ a. is_shut a.says) ys ≡ false → list_any (λ a. is_shut a.says) (xs ++ ys) ≡ false
+    unshut_append [] ys p q = q
+    unshut_append (x ∷ xs) ys p q = go (is_shut x.says) refl p (λ f. unshut_append xs ys f q)
+      where
+        go : (b : Bool) → is_shut x.says ≡ b → (is_shut x.says || list_any (λ a. is_shut a.says) xs) ≡ false → (list_any (λ a. is_shut a.says) xs ≡ false → list_any (λ a. is_shut a.says) (xs ++ ys) ≡ false)
+            → (is_shut x.says || list_any (λ a. is_shut a.says) (xs ++ ys)) ≡ false
+        go true e f on = absurd (let h : (true || list_any (λ a. is_shut a.says) xs) ≡ false = subst (λ (c : Bool). (c || list_any (λ a. is_shut a.says) xs) ≡ false) e f in cc)
+        go false e f on = let h : list_any (λ a. is_shut a.says) xs ≡ false = subst (λ (c : Bool). (c || list_any (λ a. is_shut a.says) xs) ≡ false) e f in rw e (on h)
+
+    unshut_opened : (s t : ConnState) → list_any (λ a. is_shut a.says) (opened_by s t) ≡ false
+    unshut_opened s t = go (is_running s) (is_running t) refl refl
+      where
+        go : (a b : Bool) → is_running s ≡ a → is_running t ≡ b → list_any (λ a. is_shut a.says) (opened_by s t) ≡ false
+        go true b p q = rw p refl
+        go false true p q = rw (p, q) refl
+        go false false p q = rw (p, q) refl
+
+    unshut_point : (c : Bool) (point : ℕ) → list_any (λ a. is_shut a.says) (if c then say k (CommitPoint point) ∷ [] else []) ≡ false
+    unshut_point true point = refl
+    unshut_point false point = refl
+
+    turns_go : (came : List Came) (unread : List Body) (turns : List Turn) (m end : Machine) (s : ConnState) (sent : List Record) → AreSent k came turns → AtTheirMoments turns → Next s sent false m
+        → Left n head exit all s sent (flat_map (λ c. c.bodies) came ++ unread) → Room m (length (all_lines set k n s came)) → Run set m (all_turns turns) end → TurnsDone s sent came unread turns end
+    turns_go [] unread [] m end s sent is moments next left room run = part (λ none. let l : IsLegal n s [] = subst (λ (bs : List Body). IsLegal n s bs) none left.legal in l) refl
+    turns_go [] unread (turn ∷ turns) m end s sent is moments next left room run = absurd is
+    turns_go (c ∷ came) unread [] m end s sent is moments next left room run = absurd is
+    turns_go (c ∷ came) unread (turn ∷ turns) m end s sent (now, jobs, calm, sound, is) moments next left room run =
         let more : ℕ = length (all_lines set k n (behind_all n s c.bodies) came) in
         let lines = length-append (lines_in set c.now k n s c.bodies) (all_lines set k n (behind_all n s c.bodies) came) in
         let at_now : All (λ (act : Act). act.now ≡ c.now) turn.acts = subst (λ (x : TimeSpec). All (λ (act : Act). act.now ≡ x) turn.acts) now moments.0 in
-        let (mid, (new, tail, on), went) = acts_go c.now turn.acts c.bodies later more m s sent false turn.tail (all_turns turns) end jobs at_now calm next left (omega arith) run in
-        go mid new tail on went (λ t rs next' left' room'. turns_go came turns new end t rs is moments.1 next' left' room' on)
+        let left' : Left n head exit all s sent (c.bodies ++ (flat_map (λ x. x.bodies) came ++ unread)) = subst (λ (bs : List Body). Left n head exit all s sent bs) (append_assoc c.bodies (flat_map (λ x. x.bodies) came) unread) left in
+        let (mid, (new, tail, on), went) = acts_go c.now turn.acts c.bodies (flat_map (λ x. x.bodies) came ++ unread) more m s sent false turn.tail (all_turns turns) end jobs at_now calm next left' (omega arith) run in
+        go mid new tail on went (λ t rs next'' left'' room'. turns_go came unread turns new end t rs is moments.1 next'' left'' room' on)
       where
         of_jobs : List Answer
         of_jobs = flat_map (λ act. act.answers) turn.acts
 
-        go : (mid new : Machine) → EndOfTurn set mid turn.tail new → Run set new (all_turns turns) end → Went s sent false c.bodies (flat_map (λ x. x.bodies) came) (length (all_lines set k n (behind_all n s c.bodies) came)) of_jobs mid
-            → ((t : ConnState) (rs : List Record) → Next t rs false new → Left n head exit all t rs (flat_map (λ x. x.bodies) came) → Room new (length (all_lines set k n t came)) → AllDone t rs came turns end)
-            → AllDone s sent (c ∷ came) (turn ∷ turns) end
+        go : (mid new : Machine) → EndOfTurn set mid turn.tail new → Run set new (all_turns turns) end
+            → Went s sent false c.bodies (flat_map (λ x. x.bodies) came ++ unread) (length (all_lines set k n (behind_all n s c.bodies) came)) of_jobs mid
+            → ((t : ConnState) (rs : List Record) → Next t rs false new → Left n head exit all t rs (flat_map (λ x. x.bodies) came ++ unread) → Room new (length (all_lines set k n t came)) → TurnsDone t rs came unread turns end)
+            → TurnsDone s sent (c ∷ came) unread (turn ∷ turns) end
         go mid new tail on (goes_on t up told state next' left' room') later =
-            let ended = tail_goes mid new turn.tail t (sent ++ records_in c.bodies) (list_any (λ b. is_committed (request_in b)) c.bodies) (length (all_lines set k n (behind_all n s c.bodies) came)) sound next' room' tail in
-            let rest = later t (sent ++ records_in c.bodies) ended.next left' (subst (λ (x : ConnState). Room new (length (all_lines set k n x came))) state ended.room) in
-            record {
-              told = turn_told s t (list_any (λ b. is_committed (request_in b)) c.bodies) (elapsed (sent ++ records_in c.bodies)) (points (sent ++ records_in c.bodies) (map (λ x. x.bodies) came)) of_jobs turn.tail.answers (all_answers turns) up
-                  (calm_next t (sent ++ records_in c.bodies) (list_any (λ b. is_committed (request_in b)) c.bodies) mid next') told ended.answers rest.told;
-              log = rest.log;
-              free = rest.free;
-            }
-        go mid new tail on (came_to_exit promised told committed none whole held rests) later =
+            let gains : Bool = list_any (λ b. is_committed (request_in b)) c.bodies in
+            let ended = tail_goes mid new turn.tail t (sent ++ records_in c.bodies) gains (length (all_lines set k n (behind_all n s c.bodies) came)) sound next' room' tail in
+            elim (later t (sent ++ records_in c.bodies) ended.next left' (subst (λ (x : ConnState). Room new (length (all_lines set k n x came))) state ended.room)) [
+              | whole none rest ↦ whole none (record {
+                told = turn_told s t gains (elapsed (sent ++ records_in c.bodies)) (points (sent ++ records_in c.bodies) (map (λ x. x.bodies) came)) of_jobs turn.tail.answers (all_answers turns) up
+                    (calm_next t (sent ++ records_in c.bodies) gains mid next') told ended.answers rest.told;
+                log = rest.log;
+                free = rest.free;
+              })
+              | part some unshut ↦ part some
+                (unshut_append (of_jobs ++ turn.tail.answers) (all_answers turns)
+                    (unshut_append of_jobs turn.tail.answers (ap (λ (xs : List Answer). list_any (λ a. is_shut a.says) xs) told ∙ unshut_opened s t)
+                        (ap (λ (xs : List Answer). list_any (λ a. is_shut a.says) xs) ended.answers ∙ unshut_point gains (elapsed (sent ++ records_in c.bodies))))
+                    unshut)
+            ]
+        go mid new tail on (came_to_exit promised told committed none held_all held rests) later =
             let log : LogState = There (record { head = head; records = mask texts all; exit = Some exit; cuts = 0 }) promised in
             let (hush, same) = calm_tail mid new turn.tail sound rests.none_waits tail in
-            let over = over_goes came turns new end log is none (subst (λ (x : Machine). Rests k n log x) (sym same) (rests_with_lines log mid rests)) on in
-            record {
+            let apart = no_front (flat_map (λ x. x.bodies) came) unread none in
+            let over = over_goes came turns new end log is apart.0 (subst (λ (x : Machine). Rests k n log x) (sym same) (rests_with_lines log mid rests)) on in
+            whole apart.1 (record {
               told = exit_told s (list_any (λ b. is_committed (request_in b)) c.bodies) (elapsed (sent ++ records_in c.bodies)) (points (sent ++ records_in c.bodies) (map (λ x. x.bodies) came)) of_jobs turn.tail.answers (all_answers turns)
-                  committed told hush over.0 (no_points (sent ++ records_in c.bodies) came none);
+                  committed told hush over.0 (no_points (sent ++ records_in c.bodies) came apart.0);
               log = over.1.log_is ∙ ap (λ (x : ℕ). There (record { head = head; records = mask texts all; exit = Some exit; cuts = 0 }) x) held;
               free = over.1.free;
-            }
+            })
+
+-- what came of a legal conversation that comes alone
+module _ (set : Settings) (texts : List (List ℕ)) (k : ConnId) (start end : Machine) (came : List Came) (turns : List Turn) (later : List Body) (starts : StartsAs set texts start) (run : Run set start (all_turns turns) end)
+    (moments : AtTheirMoments turns) (sent : AreSent k came turns) where
+  abbrev all_sent : List Body
+  all_sent = flat_map (λ c. c.bodies) came ++ later
+
+  came_through : IsLegal (next_number set start) Fresh all_sent → (fits : Fits set k (next_number set start) Fresh start.lines came all_sent)
+      → TurnsDone set texts k (next_number set start) (first_head all_sent) (exit_sent all_sent) (records_in all_sent) fits.number fits.head fits.exit fits.timing fits.streams fits.time Fresh [] came later turns end
+  came_through legal fits =
+      let opens : Opens set texts k (next_number set start) Fresh start = record { state = starts.unknown k; texts_are = starts.texts_are; closed = refl; alive = refl; drawn = starts.no_failed_draw; next = refl; none_waits = starts.none_waits } in
+      let fresh : length start.fresh ≡ 0 = ap length starts.no_line in
+      let events = fits.events in
+      turns_go set texts k (next_number set start) (first_head all_sent) (exit_sent all_sent) (records_in all_sent) fits.number fits.head fits.exit fits.timing fits.streams fits.time came later turns start end Fresh [] sent moments
+          (still opens refl refl) (record { legal = legal; exit_is = refl; head_is = λ off. refl; records = refl }) (omega arith) run
+
+  pub none_is_shut : IsLegal (next_number set start) Fresh all_sent → (later ≡ [] → ⊥) → Fits set k (next_number set start) Fresh start.lines came all_sent → list_any (λ a. is_shut a.says) (all_answers turns) ≡ false
+  none_is_shut legal some fits = elim (came_through legal fits) [
+    | whole none done ↦ absurd (some none)
+    | part more unshut ↦ unshut
+  ]
 
 -- a legal conversation that comes alone is served
 pub legal_served : (set : Settings) (texts : List (List ℕ)) (k : ConnId) (start end : Machine) (came : List Came) (turns : List Turn) → StartsAs set texts start → Run set start (all_turns turns) end → AtTheirMoments turns → AreSent k came turns
     → IsLegal (next_number set start) Fresh (flat_map (λ c. c.bodies) came) → Fits set k (next_number set start) Fresh start.lines came (flat_map (λ c. c.bodies) came) → IsServed k (next_number set start) texts came turns end
 legal_served set texts k start end came turns starts run moments sent legal fits =
     let bodies : List Body = flat_map (λ c. c.bodies) came in
-    let n : ℕ = next_number set start in
-    let opens : Opens set texts k n Fresh start = record { state = starts.unknown k; texts_are = starts.texts_are; closed = refl; alive = refl; drawn = starts.no_failed_draw; next = refl; none_waits = starts.none_waits } in
-    let fresh : length start.fresh ≡ 0 = ap length starts.no_line in
-    let events = fits.events in
-    let done = turns_go set texts k n (first_head bodies) (exit_sent bodies) (records_in bodies) fits.number fits.head fits.exit fits.timing fits.streams fits.time came turns start end Fresh [] sent moments
-        (still opens refl refl) (record { legal = legal; exit_is = refl; head_is = λ off. refl; records = refl }) (omega arith) run in
-    record { told = done.told; log = done.log; free = done.free }
+    let e : bodies ≡ bodies ++ [] = sym (append-nil bodies) in
+    let legal' = subst (λ (bs : List Body). IsLegal (next_number set start) Fresh bs) e legal in
+    let fits' = subst (λ (bs : List Body). Fits set k (next_number set start) Fresh start.lines came bs) e fits in
+    elim (came_through set texts k start end came turns [] starts run moments sent legal' fits') [
+      | whole none done ↦ record {
+        told = done.told;
+        log = subst (λ (bs : List Body). end.logs (next_number set start) ≡ There (whole_log texts bs) (length (records_in bs))) (sym e) done.log;
+        free = done.free;
+      }
+      | part some unshut ↦ absurd (some refl)
+    ]

@@ -15,7 +15,7 @@ use Rattle.lsv_session.specs.declared.connection.ConnId.{ConnId}
 use Rattle.lsv_session.specs.declared.connection.ConnState.{ConnState}
 use Rattle.lsv_session.specs.declared.connection.ConnState.TheVariants.{Greeted, Alerted, Running, Dead}
 use Rattle.lsv_session.specs.declared.job.Body.{Body}
-use Rattle.lsv_machine.specs.Answers.{Answer, Saying, Saying.CommitPoint, Saying.LogId, Saying.Shut, say}
+use Rattle.lsv_machine.specs.Answers.{Answer, Saying, Saying.CommitPoint, Saying.Error, Saying.LogId, Saying.Shut, say}
 use Rattle.lsv_machine.specs.Failures.{Act, AsksFor, WantsMemory}
 use Rattle.lsv_machine.specs.History.{is_exit, request_in}
 use Rattle.lsv_machine.specs.Machine.{LogState.There, Machine, Settings, is_running}
@@ -164,6 +164,13 @@ AreSent k (c ∷ came) (turn ∷ turns) =
 -- all that is answered in these turns
 abbrev pub all_answers : List Turn → List Answer
 all_answers turns = flat_map (λ turn. flat_map (λ act. act.answers) turn.acts ++ turn.tail.answers) turns
+
+-- whether this says that nothing more comes
+abbrev pub is_shut : Saying → Bool
+is_shut (LogId n) = false
+is_shut (CommitPoint point) = false
+is_shut (Error why) = false
+is_shut Shut = true
 
 -- a legal conversation was served: what its connection was told, its log at the end, and that nobody writes it
 pub record IsServed (k : ConnId) (n : ℕ) (texts : List (List ℕ)) (came : List Came) (turns : List Turn) (end : Machine) : Type 0 where

@@ -1,13 +1,14 @@
 //! What one job and one end of a turn may tell and change. These functions do nothing when they run.
 
-ghost use Rattle.std.specs.Prelude.{◌≡◌, ◌⊎◌, ℕ, List, [], false};
+ghost use Rattle.std.specs.Prelude.{◌≡◌, ◌≢◌, ◌⊎◌, ◌++◌, ℕ, List, [], false};
 ghost use Rattle.std.specs.List.{flat_map, list_any};
 ghost use Rattle.lsv_request.specs.declared.request.Request.TheVariants as request;
 ghost use Rattle.lsv_request.specs.declared.request.Restart.{Restart};
 ghost use Rattle.lsv_session.specs.declared.connection.ConnId.{ConnId};
 ghost use Rattle.lsv_session.specs.declared.connection.ConnState.TheVariants.{Dead, Fresh};
+ghost use Rattle.lsv_session.specs.declared.job.Body.{Body};
 ghost use Rattle.lsv_machine.specs.Failures.{Act, AsksFor, Plainly, Step, WantsMemory};
-ghost use Rattle.lsv_machine.specs.Legal.{AreSent, Came, Fits, IsLegal, IsServed};
+ghost use Rattle.lsv_machine.specs.Legal.{AreSent, Came, Fits, IsLegal, IsServed, all_answers, is_shut};
 ghost use Rattle.lsv_machine.specs.Machine.{Machine, Settings, is_dead, same};
 ghost use Rattle.lsv_machine.specs.Recovery.{AtTheirMoments, Turn, all_turns};
 ghost use Rattle.lsv_machine.specs.Resuming.{CanResume, HasResumed};
@@ -60,9 +61,13 @@ pub fn one_job_has_one_outcome()
 {}
 
 /// A legal conversation that opens a log is served, if it comes alone, nothing fails, memory is ample and no limit is
-/// passed: it is told the log's number and its commit points, and its log is all that was sent, as it is masked.
+/// passed: it is told the log's number and its commit points, and its log is all that was sent, as it is masked. Before
+/// its exit comes nobody is shut.
 pub fn a_legal_conversation_is_served()
-    ensures { (set : Settings) (texts : List (List ℕ)) (k : ConnId) (start end : Machine) (came : List Came) (turns : List Turn) → StartsAs set texts start → Run set start (all_turns turns) end →
+    ensures whole { (set : Settings) (texts : List (List ℕ)) (k : ConnId) (start end : Machine) (came : List Came) (turns : List Turn) → StartsAs set texts start → Run set start (all_turns turns) end →
         AtTheirMoments turns → AreSent k came turns → IsLegal (next_number set start) Fresh (flat_map (λ c. c.bodies) came) →
         Fits set k (next_number set start) Fresh start.lines came (flat_map (λ c. c.bodies) came) → IsServed k (next_number set start) texts came turns end }
+    ensures part { (set : Settings) (texts : List (List ℕ)) (k : ConnId) (start end : Machine) (came : List Came) (turns : List Turn) (later : List Body) → StartsAs set texts start → Run set start (all_turns turns) end →
+        AtTheirMoments turns → AreSent k came turns → IsLegal (next_number set start) Fresh (flat_map (λ c. c.bodies) came ++ later) → later ≢ [] →
+        Fits set k (next_number set start) Fresh start.lines came (flat_map (λ c. c.bodies) came ++ later) → list_any (λ a. is_shut a.says) (all_answers turns) ≡ false }
 {}
