@@ -30,4 +30,4 @@ pub mod EventLines
 pub mod WaitingLemmas
 mod LegalRecords
 mod LegalWork
-mod LegalTurns
+pub mod LegalTurns

@@ -4,3 +4,4 @@ pub mod Tape
 pub mod Once
 pub mod Causes
 pub mod InnerRun
+pub mod Complete

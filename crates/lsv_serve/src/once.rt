@@ -6,6 +6,7 @@ ghost use Rattle.lsv_event.specs.declared.event.Kind.TheVariants as kinds;
 ghost use Rattle.lsv_machine.specs.Disks.{NumbersFit};
 ghost use Rattle.lsv_keeper.specs.Reading.{reading_of};
 ghost use Rattle.lsv_serve.specs.Causes.{HasPlaces, HasStatusCause};
+ghost use Rattle.lsv_serve.specs.Complete.{Completes};
 ghost use Rattle.lsv_serve.specs.InnerRun.{store_status};
 ghost use Rattle.lsv_serve.specs.Once.{IsFresh, RunsOnce, once_settings};
 ghost use Rattle.lsv_serve.specs.World.{world_of};
@@ -44,6 +45,9 @@ pub fn run_once<
         (world_of ⟦<S as Source>⟧ ⟦<K as Sink>⟧ ⟦<D as Disk>⟧ out.old.source out.old.sink out.old.disk)
         (world_of ⟦<S as Source>⟧ ⟦<K as Sink>⟧ ⟦<D as Disk>⟧ out.new.source out.new.sink out.new.disk) result }
     ensures cause { HasStatusCause
+        (world_of ⟦<S as Source>⟧ ⟦<K as Sink>⟧ ⟦<D as Disk>⟧ out.old.source out.old.sink out.old.disk)
+        (world_of ⟦<S as Source>⟧ ⟦<K as Sink>⟧ ⟦<D as Disk>⟧ out.new.source out.new.sink out.new.disk) result }
+    ensures complete { Completes options.form options.log_exit options.prompts
         (world_of ⟦<S as Source>⟧ ⟦<K as Sink>⟧ ⟦<D as Disk>⟧ out.old.source out.old.sink out.old.disk)
         (world_of ⟦<S as Source>⟧ ⟦<K as Sink>⟧ ⟦<D as Disk>⟧ out.new.source out.new.sink out.new.disk) result }
     ensures not_usage { result ≡ Status.Usage → ⊥ }

@@ -3,6 +3,7 @@ use Rattle.lsv_event.specs.declared.event.Kind.{Kind}
 use Rattle.lsv_event.specs.declared.event.Kind.TheVariants as kinds
 use Rattle.lsv_serve.specs.Once.{RunsOnce, once_settings}
 use Rattle.lsv_serve.specs.World.{World, world_of}
+use Rattle.lsv_serve.proofs.CompleteLemmas.{completes}
 use Rattle.lsv_serve.proofs.StartLemmas.{cause_before, fit_now, fresh_after, runs_before}
 use Rattle.lsv_serve.proofs.once.run_once.Goals as goal
 
@@ -65,3 +66,17 @@ returns-in-Json-clause-fresh_again g c =
     let new : World = world_of g.S.Source g.K.Sink g.D.Disk c.serve_store-in-Json.new.out.source c.serve_store-in-Json.new.out.sink c.serve_store-in-Json.new.out.disk in
     let r = rw c.requires.json at c.serve_store-in-Json.ensures.runs in
     λ told. fit_now _ _ old new _ (runs_before old (g.D.Disk.view c.root.new.self) c.root.ensures.frame (once_settings kinds.Json c.args.options.log_exit) c.args.options.prompts new c.serve_store-in-Json.result r) (λ image is. g.met.D.Disk.is_now told c.serve_store-in-Json.new.out.disk image is) told
+
+pub returns-in-Sudo-clause-complete : goal.returns-in-Sudo-clause-complete
+returns-in-Sudo-clause-complete g c =
+    let old : World = world_of g.S.Source g.K.Sink g.D.Disk c.args.out.now.source c.args.out.now.sink c.args.out.now.disk in
+    let new : World = world_of g.S.Source g.K.Sink g.D.Disk c.serve_store.new.out.source c.serve_store.new.out.sink c.serve_store.new.out.disk in
+    let cause = cause_before old (g.D.Disk.view c.root.new.self) c.root.ensures.frame new c.serve_store.result c.serve_store.ensures.cause in
+    completes c.args.options.form c.args.options.log_exit c.args.options.prompts old new c.serve_store.result c.serve_store.ensures.not_usage cause
+
+pub returns-in-Json-clause-complete : goal.returns-in-Json-clause-complete
+returns-in-Json-clause-complete g c =
+    let old : World = world_of g.S.Source g.K.Sink g.D.Disk c.args.out.now.source c.args.out.now.sink c.args.out.now.disk in
+    let new : World = world_of g.S.Source g.K.Sink g.D.Disk c.serve_store-in-Json.new.out.source c.serve_store-in-Json.new.out.sink c.serve_store-in-Json.new.out.disk in
+    let cause = cause_before old (g.D.Disk.view c.root.new.self) c.root.ensures.frame new c.serve_store-in-Json.result c.serve_store-in-Json.ensures.cause in
+    completes c.args.options.form c.args.options.log_exit c.args.options.prompts old new c.serve_store-in-Json.result c.serve_store-in-Json.ensures.not_usage cause
