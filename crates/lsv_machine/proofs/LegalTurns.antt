@@ -153,7 +153,7 @@ module _ (set : Settings) (texts : List (List ℕ)) (k : ConnId) (n : ℕ) (head
   done_as now m new act b s asked d p at_now is_job at living asks works kept fits =
       let e : plain set act.now act.job p.number m ≡ lined set now k s asked p.number m d =
       ap (λ (t : TimeSpec). plain set t act.job p.number m) at_now ∙ (ap (λ (j : Job). plain set now j p.number m) is_job
-          ∙ (asked_does set now k b p.number m s asked at living asks ∙ ap (λ (x : Done). lined set now k s asked p.number m x) works)) in
+      ∙ (asked_does set now k b p.number m s asked at living asks ∙ ap (λ (x : Done). lined set now k s asked p.number m x) works)) in
       elim (lined_is set now k s asked p.number m d kept fits) [
         | unlined none q ↦ let f = e ∙ q in quiet (p.answers ∙ ap (λ (x : Done). x.answers) f) (p.now ∙ ap (λ (x : Done). x.machine) f) none
         | with_line has q ↦ let f = e ∙ q in noted (p.answers ∙ ap (λ (x : Done). x.answers) f) (p.now ∙ ap (λ (x : Done). x.machine) f) has
@@ -314,9 +314,9 @@ module _ (set : Settings) (texts : List (List ℕ)) (k : ConnId) (n : ℕ) (head
                 answers = told_as now (Running (Some n)) asked p.number d act new done;
                 next = subst (λ (t : ConnState). Next t (sent ++ record_in (Ok asked)) (wait || is_committed (Ok asked)) new) (sym there)
                     (subst (λ (rs : List Record). Next (Running (Some n)) (sent ++ rs) (wait || is_committed (Ok asked)) new) (sym none)
-                        (subst (λ (rs : List Record). Next (Running (Some n)) rs (wait || is_committed (Ok asked)) new) (sym (append-nil sent))
-                            (subst (λ (c : Bool). Next (Running (Some n)) sent (wait || c) new) (sym uncommitted)
-                                (subst (λ (c : Bool). Next (Running (Some n)) sent c new) (sym (or_false wait)) (next_as now (Running (Some n)) (Running (Some n)) asked p.number d act new sent wait done (writing refl w))))));
+                    (subst (λ (rs : List Record). Next (Running (Some n)) rs (wait || is_committed (Ok asked)) new) (sym (append-nil sent))
+                    (subst (λ (c : Bool). Next (Running (Some n)) sent (wait || c) new) (sym uncommitted)
+                    (subst (λ (c : Bool). Next (Running (Some n)) sent c new) (sym (or_false wait)) (next_as now (Running (Some n)) (Running (Some n)) asked p.number d act new sent wait done (writing refl w))))));
                 room = writes_room d done refl refl;
               }
             where
@@ -359,8 +359,7 @@ module _ (set : Settings) (texts : List (List ℕ)) (k : ConnId) (n : ℕ) (head
             let d : Done = record { answers = say k (CommitPoint (elapsed (mask texts sent))) ∷ say k Shut ∷ []; line = []; machine = leaves k Dead (with_log n ended_log m) } in
             let works : work k (Running (Some n)) (request.Exit x) p.number m ≡ d =
             ap (λ (t : List ℕ). exited k (Some n) t m) same_exit ∙ exit_set texts k n head sent wait m w exit exit_fits in
-            let done = writes_as (request.Exit x) asks is room d works refl in
-            (
+            let done = writes_as (request.Exit x) asks is room d works refl in (
               told_as now (Running (Some n)) (request.Exit x) p.number d act new done ∙ ap (λ (t : ℕ). say k (CommitPoint t) ∷ say k Shut ∷ []) (masked_time texts sent),
               rests_as now (Running (Some n)) (request.Exit x) p.number d act new ended_log done (ends_now texts k n head sent wait m w exit),
             )
@@ -387,7 +386,7 @@ module _ (set : Settings) (texts : List (List ℕ)) (k : ConnId) (n : ℕ) (head
         let is = asked_in s b asked asks in
         let same_head : head_or (Ok asked) head ≡ head = head_again asked (ap (λ (w : Result Request Refusal). head_or w (first_head rest)) (sym is) ∙ left.head_is o.closed) in
         subst (λ (c : Bool). Goes s asked sent c more act new) (sym calm)
-            (subst (λ (rs : List Record). Goes s asked rs false more act new) (sym none) (opens_job now m new act b p at_now is_job more s o asked asks is place not_exit same_head room))
+        (subst (λ (rs : List Record). Goes s asked rs false more act new) (sym none) (opens_job now m new act b p at_now is_job more s o asked asks is place not_exit same_head room))
       where
         head_again : (what : Request) → head_or (Ok what) (first_head rest) ≡ head → head_or (Ok what) head ≡ head
         head_again (request.Accept accept) e = e
@@ -465,10 +464,10 @@ module _ (set : Settings) (texts : List (List ℕ)) (k : ConnId) (n : ℕ) (head
             room
         go (came_to_exit promised told committed none whole held rests) = came_to_exit promised
             (ap (λ (xs : List Answer). xs ++ answers) one
-                ∙ (ap (λ (xs : List Answer). opened_by s (goes_to n s asked) ++ xs) told
-                    ∙ (sym (append_assoc (opened_by s (goes_to n s asked)) (opened_by (goes_to n s asked) (Running (Some n))) (last_told ((sent ++ record_in (Ok asked)) ++ records_in bodies)))
-                        ∙ (ap (λ (xs : List Answer). xs ++ last_told ((sent ++ record_in (Ok asked)) ++ records_in bodies)) (opened_once s (goes_to n s asked) (Running (Some n)) up (λ h. refl))
-                            ∙ ap (λ (rs : List Record). opened_by s (Running (Some n)) ++ last_told rs) sent_is))))
+            ∙ (ap (λ (xs : List Answer). opened_by s (goes_to n s asked) ++ xs) told
+            ∙ (sym (append_assoc (opened_by s (goes_to n s asked)) (opened_by (goes_to n s asked) (Running (Some n))) (last_told ((sent ++ record_in (Ok asked)) ++ records_in bodies)))
+            ∙ (ap (λ (xs : List Answer). xs ++ last_told ((sent ++ record_in (Ok asked)) ++ records_in bodies)) (opened_once s (goes_to n s asked) (Running (Some n)) up (λ h. refl))
+            ∙ ap (λ (rs : List Record). opened_by s (Running (Some n)) ++ last_told rs) sent_is))))
             (or_committed (is_committed (request_in b)) (list_any (λ c. is_committed (request_in c)) bodies) committed)
             none
             (whole ∙ sent_is)
@@ -520,13 +519,13 @@ module _ (set : Settings) (texts : List (List ℕ)) (k : ConnId) (n : ℕ) (head
         let whole : all ≡ sent ++ records_in (b ∷ []) = left.records ∙ ap (λ (bs : List Body). sent ++ records_in (b ∷ bs)) ended in
         let all_is : all ≡ sent = whole ∙ sent_is in
         came_to_exit (length (mask texts sent))
-            (append-nil act.answers ∙ (done.0 ∙ (ap (λ (rs : List Record). say k (CommitPoint (elapsed rs)) ∷ say k Shut ∷ []) (sym sent_is)
-                ∙ ap (λ (xs : List Answer). xs ++ say k (CommitPoint (elapsed (sent ++ records_in (b ∷ [])))) ∷ say k Shut ∷ []) (opened_in s in_log))))
-            (ap (λ (w : Result Request Refusal). is_committed w || false) is ∙ committed_in asked is_it)
-            ended
-            whole
-            (masked_count texts sent ∙ ap length (sym all_is))
-            (subst (λ (rs : List Record). Rests k n (There (record { head = head; records = mask texts rs; exit = Some exit; cuts = 0 }) (length (mask texts sent))) new) (sym all_is) done.1)
+        (append-nil act.answers ∙ (done.0 ∙ (ap (λ (rs : List Record). say k (CommitPoint (elapsed rs)) ∷ say k Shut ∷ []) (sym sent_is)
+        ∙ ap (λ (xs : List Answer). xs ++ say k (CommitPoint (elapsed (sent ++ records_in (b ∷ [])))) ∷ say k Shut ∷ []) (opened_in s in_log))))
+        (ap (λ (w : Result Request Refusal). is_committed w || false) is ∙ committed_in asked is_it)
+        ended
+        whole
+        (masked_count texts sent ∙ ap length (sym all_is))
+        (subst (λ (rs : List Record). Rests k n (There (record { head = head; records = mask texts rs; exit = Some exit; cuts = 0 }) (length (mask texts sent))) new) (sym all_is) done.1)
       where
         none_in : (what : Request) → is_exit (Ok what) ≡ true → record_in (Ok what) ≡ []
         none_in (request.Exit x) f = refl
@@ -553,11 +552,14 @@ module _ (set : Settings) (texts : List (List ℕ)) (k : ConnId) (n : ℕ) (head
     acts_go : (now : TimeSpec) (acts : List Act) (bodies later : List Body) (more : ℕ) (m : Machine) (s : ConnState) (sent : List Record) (wait : Bool) (tail : Tail) (rest : List Happened) (end : Machine) → AreJobs acts bodies → All (λ act. act.now ≡ now) acts
         → AreUndisturbed acts → Next s sent wait m → Left n head exit all s sent (bodies ++ later) → Room m (length (lines_in set now k n s bodies) + more) → Run set m ((all_acted acts ++ Tailed tail ∷ []) ++ rest) end
         → (mid : Machine) × Run set mid (Tailed tail ∷ rest) end × Went s sent wait bodies later more (flat_map (λ act. act.answers) acts) mid
-    acts_go now [] [] later more m s sent wait tail rest end jobs moments calm next left room run =
-        (m, run, goes_on s (λ h. h) (nothing_opened (is_running s) refl) refl
-            (subst (λ (c : Bool). Next s (sent ++ []) c m) (sym (or_false wait)) (subst (λ (rs : List Record). Next s rs wait m) (sym (append-nil sent)) next))
-            (subst (λ (rs : List Record). Left n head exit all s rs later) (sym (append-nil sent)) left)
-            (omega arith))
+    acts_go now [] [] later more m s sent wait tail rest end jobs moments calm next left room run = (
+      m,
+      run,
+      goes_on s (λ h. h) (nothing_opened (is_running s) refl) refl
+          (subst (λ (c : Bool). Next s (sent ++ []) c m) (sym (or_false wait)) (subst (λ (rs : List Record). Next s rs wait m) (sym (append-nil sent)) next))
+          (subst (λ (rs : List Record). Left n head exit all s rs later) (sym (append-nil sent)) left)
+          (omega arith),
+    )
       where
         or_false : (c : Bool) → (c || false) ≡ c
         or_false true = refl
@@ -591,15 +593,14 @@ module _ (set : Settings) (texts : List (List ℕ)) (k : ConnId) (n : ℕ) (head
 
         go : IsLegal n s (b ∷ (bodies ++ later))
             → ((t : ConnState) (rs : List Record) (c : Bool) → Next t rs c mid → Left n head exit all t rs (bodies ++ later) → Room mid (length (lines_in set now k n t bodies) + more)
-                → (mid' : Machine) × Run set mid' (Tailed tail ∷ rest) end × Went t rs c bodies later more (flat_map (λ act. act.answers) acts) mid')
+            → (mid' : Machine) × Run set mid' (Tailed tail ∷ rest) end × Went t rs c bodies later more (flat_map (λ act. act.answers) acts) mid')
             → (mid' : Machine) × Run set mid' (Tailed tail ∷ rest) end × Went s sent wait (b ∷ bodies) later more (a.answers ++ flat_map (λ act. act.answers) acts) mid'
         go (asked, asks, place, inl (is_it, none)) on =
             let ends = no_front bodies later none in
             let last = no_acts acts bodies jobs_on ends.0 in
             let left' : Left n head exit all s sent (b ∷ later) = subst (λ (bs : List Body). Left n head exit all s sent (b ∷ (bs ++ later))) ends.0 left in
             let room' : Room m (length (line_for set now k s (request_in b) n) + more) = let e = room_on in omega arith in
-            let went = exits now m mid a b p at_now is_job more s sent wait next later ends.1 left' asked asks place is_it room' in
-            (
+            let went = exits now m mid a b p at_now is_job more s sent wait next later ends.1 left' asked asks place is_it room' in (
               mid,
               subst (λ (xs : List Act). Run set mid ((all_acted xs ++ Tailed tail ∷ []) ++ rest) end) last run,
               subst (λ (bs : List Body). Went s sent wait (b ∷ bs) later more (a.answers ++ flat_map (λ act. act.answers) acts) mid) (sym ends.0)
@@ -646,14 +647,17 @@ module _ (set : Settings) (texts : List (List ℕ)) (k : ConnId) (n : ℕ) (head
     -- a log that is written has its commit point
     commits_now : (sent : List Record) (wait : Bool) (failed : List Owner) (answers : List Answer) (old new : Machine) → Writes texts k n head sent wait old → Commits failed n answers old new
         → (answers ≡ say k (CommitPoint (elapsed sent)) ∷ []) × Writes texts k n head sent false (record new { waiting = [] })
-    commits_now sent wait failed answers old new w c = (told, record {
-      state = ap (λ (x : Machine). x.states k) c.now ∙ w.state;
-      texts_are = ap (λ (x : Machine). x.texts) c.now ∙ w.texts_are;
-      promised = raised c.promised c.stored.records (elapsed c.stored.records);
-      log = ap (λ (x : Machine). x.logs n) c.now ∙ (at_n ∙ ap (λ (x : Stored). There x (raised c.promised c.stored.records (elapsed c.stored.records))) same);
-      owned = ap (λ (x : Machine). x.owner n) c.now ∙ w.owned;
-      waits_are = refl;
-    })
+    commits_now sent wait failed answers old new w c = (
+      told,
+      record {
+        state = ap (λ (x : Machine). x.states k) c.now ∙ w.state;
+        texts_are = ap (λ (x : Machine). x.texts) c.now ∙ w.texts_are;
+        promised = raised c.promised c.stored.records (elapsed c.stored.records);
+        log = ap (λ (x : Machine). x.logs n) c.now ∙ (at_n ∙ ap (λ (x : Stored). There x (raised c.promised c.stored.records (elapsed c.stored.records))) same);
+        owned = ap (λ (x : Machine). x.owner n) c.now ∙ w.owned;
+        waits_are = refl;
+      },
+    )
       where
         same : c.stored ≡ log_with texts head sent
         same = let e : There c.stored c.promised ≡ There (log_with texts head sent) w.promised = sym c.was ∙ w.log in cc
@@ -689,8 +693,7 @@ module _ (set : Settings) (texts : List (List ℕ)) (k : ConnId) (n : ℕ) (head
     calm_tail m new tail none calm t =
         let (told, is) = lines_done m t.mid tail.failed t.of_lines none t.lines in
         let waits : t.mid.waiting ≡ [] = ap (λ (x : Machine). x.waiting) is ∙ calm in
-        let (hush, same) = none_flushed t.mid t.last tail.failed t.of_logs t.mid.waiting waits t.logs in
-        (
+        let (hush, same) = none_flushed t.mid t.last tail.failed t.of_logs t.mid.waiting waits t.logs in (
           t.answers ∙ (ap (λ (xs : List Answer). xs ++ t.of_logs) told ∙ hush),
           t.now ∙ ap (λ (x : Machine). record x { waiting = [] }) (same ∙ is),
         )
@@ -738,8 +741,7 @@ module _ (set : Settings) (texts : List (List ℕ)) (k : ConnId) (n : ℕ) (head
         let run' : Run set m ((all_acted [] ++ Tailed turn.tail ∷ []) ++ all_turns turns) end = subst (λ (xs : List Act). Run set m ((all_acted xs ++ Tailed turn.tail ∷ []) ++ all_turns turns) end) idle run in
         let (mid, tail, on) = run' in
         let (told, is) = calm_tail m mid turn.tail sound r.none_waits tail in
-        let rest = over_goes came turns mid end log sent apart.1 (subst (λ (x : Machine). Rests k n log x) (sym is) (rests_with_lines log m r)) on in
-        (
+        let rest = over_goes came turns mid end log sent apart.1 (subst (λ (x : Machine). Rests k n log x) (sym is) (rests_with_lines log m r)) on in (
           ap (λ (xs : List Act). (flat_map (λ act. act.answers) xs ++ turn.tail.answers) ++ all_answers turns) idle
               ∙ (ap (λ (xs : List Answer). xs ++ all_answers turns) told ∙ rest.0),
           rest.1,
@@ -851,10 +853,10 @@ module _ (set : Settings) (texts : List (List ℕ)) (k : ConnId) (n : ℕ) (head
                 free = rest.free;
               })
               | part some unshut ↦ part some
-                (unshut_append (of_jobs ++ turn.tail.answers) (all_answers turns)
-                    (unshut_append of_jobs turn.tail.answers (ap (λ (xs : List Answer). list_any (λ a. is_shut a.says) xs) told ∙ unshut_opened s t)
-                        (ap (λ (xs : List Answer). list_any (λ a. is_shut a.says) xs) ended.answers ∙ unshut_point gains (elapsed (sent ++ records_in c.bodies))))
-                    unshut)
+                  (unshut_append (of_jobs ++ turn.tail.answers) (all_answers turns)
+                  (unshut_append of_jobs turn.tail.answers (ap (λ (xs : List Answer). list_any (λ a. is_shut a.says) xs) told ∙ unshut_opened s t)
+                  (ap (λ (xs : List Answer). list_any (λ a. is_shut a.says) xs) ended.answers ∙ unshut_point gains (elapsed (sent ++ records_in c.bodies))))
+                  unshut)
             ]
         go mid new tail on (came_to_exit promised told committed none held_all held rests) later =
             let log : LogState = There (record { head = head; records = mask texts all; exit = Some exit; cuts = 0 }) promised in
@@ -881,7 +883,7 @@ module _ (set : Settings) (texts : List (List ℕ)) (k : ConnId) (start end : Ma
       let fresh : length start.fresh ≡ 0 = ap length starts.no_line in
       let events = fits.events in
       turns_go set texts k (next_number set start) (first_head all_sent) (exit_sent all_sent) (records_in all_sent) fits.number fits.head fits.exit fits.timing fits.streams fits.time came later turns start end Fresh [] sent moments
-          (still opens refl refl) (record { legal = legal; exit_is = refl; head_is = λ off. refl; records = refl }) (omega arith) run
+      (still opens refl refl) (record { legal = legal; exit_is = refl; head_is = λ off. refl; records = refl }) (omega arith) run
 
   pub none_is_shut : IsLegal (next_number set start) Fresh all_sent → (later ≡ [] → ⊥) → Fits set k (next_number set start) Fresh start.lines came all_sent → list_any (λ a. is_shut a.says) (all_answers turns) ≡ false
   none_is_shut legal some fits = elim (came_through legal fits) [

@@ -24,8 +24,8 @@ pub use laws::{
     what_is_shown_is_masked,
 };
 pub use outcomes::{
-    a_legal_conversation_is_served, an_accepted_restart_keeps_its_point, no_fault_without_failure, nothing_is_said_after_a_shut,
-    one_job_has_one_outcome, who_is_shut_is_dead,
+    a_legal_conversation_is_served, an_accepted_restart_keeps_its_point, no_fault_without_failure,
+    nothing_is_said_after_a_shut, one_job_has_one_outcome, who_is_shut_is_dead,
 };
 pub use reading::ReadsStore;
 pub use runs::{

@@ -166,8 +166,8 @@ replies_are [] (d ∷ did) are = absurd are
 replies_are (t ∷ turns) [] are = absurd are
 replies_are (t ∷ turns) (d ∷ did) (is, are) =
     ap (λ (rs : List Reply). rs ++ replies_in turns) (sym is.replies)
-        ∙ (ap (λ (rs : List Reply). map reply_of (flat_map (λ act. act.answers) d.acts ++ d.tail.answers) ++ rs) (replies_are turns did are)
-            ∙ sym (map-append reply_of (flat_map (λ act. act.answers) d.acts ++ d.tail.answers) (all_answers did)))
+    ∙ (ap (λ (rs : List Reply). map reply_of (flat_map (λ act. act.answers) d.acts ++ d.tail.answers) ++ rs) (replies_are turns did are)
+    ∙ sym (map-append reply_of (flat_map (λ act. act.answers) d.acts ++ d.tail.answers) (all_answers did)))
 
 said_is : (sayings : List Saying) → said_to once_conn (map reply_of (map (λ says. say once_conn says) sayings ++ say once_conn Shut ∷ [])) ≡ messages_of sayings
 said_is [] = refl
@@ -315,7 +315,7 @@ module _ (kind : Kind) (log_exit : Bool) (texts : List (List ℕ)) (old new : Wo
       fits : Fits set once_conn (next_number set start) Fresh start.lines (came_in reads) (flat_map (λ (c : Came). c.bodies) (came_in reads) ++ later)
       fits = subst (λ (n : ℕ). Fits set once_conn n Fresh start.lines (came_in reads) (flat_map (λ (c : Came). c.bodies) (came_in reads) ++ later)) (sym next)
           (subst (λ (t : List ℕ). Fits set once_conn (last + 1) Fresh t (came_in reads) (flat_map (λ (c : Came). c.bodies) (came_in reads) ++ later)) (sym same_lines)
-              (subst (λ (bs : List Body). Fits set once_conn (last + 1) Fresh lines (came_in reads) bs) sent_is u.fits))
+          (subst (λ (bs : List Body). Fits set once_conn (last + 1) Fresh lines (came_in reads) bs) sent_is u.fits))
 
       -- a part of it shuts nobody
       part_unshut : (later ≡ [] → ⊥) → was_shut reads ≡ false
@@ -367,7 +367,7 @@ module _ (kind : Kind) (log_exit : Bool) (texts : List (List ℕ)) (old new : Wo
           let there = subst (λ (l : LogState). ReadsAs (Replays new.disk.reads (next_number set start)) l) log (conforms.logs (next_number set start) free) in
           let same_bodies : flat_map (λ (c : Came). c.bodies) (came_in reads) ≡ bodies = came_bodies reads ∙ sym is in
           subst (λ (n : ℕ). Replays new.disk.reads n (Some (whole_log texts bodies))) next
-              (subst (λ (bs : List Body). Replays new.disk.reads (next_number set start) (Some (whole_log texts bs))) same_bodies there)
+          (subst (λ (bs : List Body). Replays new.disk.reads (next_number set start) (Some (whole_log texts bs))) same_bodies there)
 
       put_now : new.put ≡ old.put ++ answers_of sayings
       put_now =

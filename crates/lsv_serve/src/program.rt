@@ -4,6 +4,7 @@ ghost use Rattle.lsv_event.specs.declared.event.Kind.TheVariants as kinds;
 ghost use Rattle.lsv_machine.specs.Disks.{NumbersFit};
 ghost use Rattle.lsv_keeper.specs.Reading.{reading_of};
 ghost use Rattle.lsv_serve.specs.Causes.{HasPlaces, HasStatusCause};
+ghost use Rattle.lsv_serve.specs.Complete.{Completes};
 ghost use Rattle.lsv_serve.specs.Once.{IsFresh, IsOnce, RunsOnce, once_settings};
 ghost use Rattle.lsv_serve.specs.World.{world_of};
 
@@ -52,6 +53,9 @@ pub fn logsrvd<
         (world_of ⟦<S as Source>⟧ ⟦<K as Sink>⟧ ⟦<D as Disk>⟧ out.old.source out.old.sink out.old.disk)
         (world_of ⟦<S as Source>⟧ ⟦<K as Sink>⟧ ⟦<D as Disk>⟧ out.new.source out.new.sink out.new.disk) result }
     ensures cause { HasStatusCause
+        (world_of ⟦<S as Source>⟧ ⟦<K as Sink>⟧ ⟦<D as Disk>⟧ out.old.source out.old.sink out.old.disk)
+        (world_of ⟦<S as Source>⟧ ⟦<K as Sink>⟧ ⟦<D as Disk>⟧ out.new.source out.new.sink out.new.disk) result }
+    ensures complete { IsOnce words.now → Completes kinds.Sudo false []
         (world_of ⟦<S as Source>⟧ ⟦<K as Sink>⟧ ⟦<D as Disk>⟧ out.old.source out.old.sink out.old.disk)
         (world_of ⟦<S as Source>⟧ ⟦<K as Sink>⟧ ⟦<D as Disk>⟧ out.new.source out.new.sink out.new.disk) result }
     ensures places { IsOnce words.now → D.tells → HasPlaces (D.view out.new.disk) }
