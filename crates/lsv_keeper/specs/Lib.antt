@@ -12,3 +12,4 @@ pub mod Room
 pub mod Leaving
 pub mod Opening
 pub mod Accepting
+pub mod Syncing
