@@ -36,7 +36,8 @@ use Rattle.lsv_keeper.specs.declared.logs.OpenLog.{OpenLog}
 use Rattle.lsv_keeper.specs.Leaving.{Departs, TakenOut}
 use Rattle.lsv_keeper.specs.Logs.{Flushes}
 use Rattle.lsv_keeper.specs.Represents.{AllOwned, Held, LogIs, Represents, Rising}
-use Rattle.lsv_keeper.specs.Syncing.{AnyRestarts, IsPast, NoLog, NoLogSynced, Restarts, SyncedOnce, Syncs, SyncsIfLeft, SyncsOne, SyncsThese, Unsynced}
+use Rattle.lsv_keeper.specs.Syncing.{IsPast, NoLog, NoLogSynced, Syncs, SyncsIfLeft, SyncsOne, SyncsThese, Unsynced}
+use Rattle.lsv_keeper.specs.Syncs.{AnyRestarts, Restarts, SyncedOnce}
 use Rattle.lsv_keeper.specs.Tails.{IsOneOf, none_waits}
 use Rattle.lsv_keeper.specs.Value.{IsReserved, KeeperView, Owns, SameSessions, log_in, sessions_of, settings_of}
 use Rattle.lsv_keeper.proofs.Departing.{beside_out}

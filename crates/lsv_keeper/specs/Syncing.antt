@@ -1,62 +1,40 @@
--- How often calls sync the files of logs.
-use Rattle.std.specs.Prelude.{◌≡◌, ◌≢◌, ◌≤◌, ◌+◌, ◌⊎◌, ℕ, List, [], ◌∷◌, Some, None}
+-- How often calls of a turn sync the files of logs.
+use Rattle.std.specs.Prelude.{◌≡◌, ◌≢◌, ◌≤◌, ◌⊎◌, ℕ, List, Some, None}
 use Rattle.lsv_disk.specs.View.{DiskView}
 use Rattle.lsv_disk.specs.declared.file.FileId.{FileId}
-use Rattle.lsv_bundle.specs.Shape.{journal_of}
-use Rattle.lsv_iolog.specs.Recovered.{IsOfLog, owner_of}
+use Rattle.lsv_iolog.specs.Recovered.{IsOfLog}
 use Rattle.lsv_request.specs.declared.request.Request.{Request}
 use Rattle.lsv_request.specs.declared.request.Request.TheVariants as request
 use Rattle.lsv_request.specs.declared.request.Restart.{Restart}
 use Rattle.lsv_seq.specs.declared.numbers.Numbers.{Numbers}
 use Rattle.lsv_seq.specs.Value.{lane_of, lanes_of, last_of}
 use Rattle.lsv_session.specs.declared.connection.ConnId.{ConnId}
-use Rattle.lsv_session.specs.declared.connection.ConnState.{ConnState}
-use Rattle.lsv_session.specs.declared.job.Body.{Body}
-use Rattle.lsv_session.specs.declared.job.Job.{Job}
-use Rattle.lsv_machine.specs.Failures.{AsksFor}
 use Rattle.lsv_machine.specs.Machine.{IsOfLane}
+use Rattle.lsv_keeper.specs.Syncs.{SyncedOnce}
 use Rattle.lsv_keeper.specs.Tails.{IsOneOf}
 use Rattle.lsv_keeper.specs.Value.{KeeperView, sessions_of}
-
--- ---- Counts of one log
 
 -- none of the log's files was synced
 abbrev pub Unsynced : ℕ → DiskView → DiskView → Type 0
 Unsynced n old new = (file : FileId) → IsOfLog n file → new.syncs file ≡ old.syncs file
 
--- each data file of the log was synced at most once, and its journal at most twice
-pub record SyncedOnce (n : ℕ) (old new : DiskView) : Type 0 where
-  pub files : (file : FileId) → IsOfLog n file → file ≢ journal_of (owner_of n) → new.syncs file ≤ old.syncs file + 1
-  pub journal : new.syncs (journal_of (owner_of n)) ≤ old.syncs (journal_of (owner_of n)) + 2
-
 -- no file of a log was synced
 abbrev pub NoLogSynced : DiskView → DiskView → Type 0
 NoLogSynced old new = (n : ℕ) → Unsynced n old new
 
--- ---- Which logs a job may open
-
--- the request goes on with this log
-abbrev pub GoesOnWith : Request → ℕ → Type 0
-GoesOnWith what n = (restart : Restart) × (what ≡ request.Restart restart) × (n ≡ restart.log)
-
--- what a connection brings asks, in some state, to go on with this log
-abbrev pub Restarts : Body → ℕ → Type 0
-Restarts body n = (s : ConnState) × (restart : Restart) × AsksFor s body (request.Restart restart) × (n ≡ restart.log)
-
--- so does one of these jobs
-abbrev pub AnyRestarts : List Job → ℕ → Type 0
-AnyRestarts [] n = ⊥
-AnyRestarts (job ∷ jobs) n = Restarts job.body n ⊎ AnyRestarts jobs n
+-- ---- What a job syncs
 
 -- no log
 abbrev pub NoLog : ℕ → Type 0
 NoLog n = ⊥
 
+-- the request goes on with this log
+abbrev pub GoesOnWith : Request → ℕ → Type 0
+GoesOnWith what n = (restart : Restart) × (what ≡ request.Restart restart) × (n ≡ restart.log)
+
 -- no draw gives this number any more
 abbrev pub IsPast : Numbers → ℕ → Type 0
 IsPast numbers n = IsOfLane (lane_of numbers) (lanes_of numbers) n → n ≤ last_of numbers
-
--- ---- What calls of a job sync
 
 -- the log has the writer that it had, or none as before, and none of its files was synced; or its writer let it go, and it was flushed once
 abbrev pub SyncsIfLeft : ℕ → KeeperView → KeeperView → DiskView → DiskView → Type 0

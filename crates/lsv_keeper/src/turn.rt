@@ -10,7 +10,8 @@ ghost use Rattle.lsv_keeper.specs.Room.{HasRoom, IsRoomier};
 ghost use Rattle.lsv_keeper.specs.Tails.{JobsGive, TurnGives};
 ghost use Rattle.lsv_keeper.specs.Value.{IsResting, SameSet, owed, room};
 ghost use Rattle.lsv_keeper.specs.Views.{view_of};
-ghost use Rattle.lsv_keeper.specs.Syncing.{AnyRestarts, SyncedOnce, Syncs};
+ghost use Rattle.lsv_keeper.specs.Syncing.{Syncs};
+ghost use Rattle.lsv_keeper.specs.Syncs.{AnyRestarts, SyncedOnce};
 
 use crate::Keeper;
 use lsv_base::{NoMem, TimeSpec};

@@ -15,7 +15,8 @@ ghost use Rattle.lsv_keeper.specs.Rows.{IsTold, RowGives};
 ghost use Rattle.lsv_keeper.specs.Tails.{JobGives};
 ghost use Rattle.lsv_keeper.specs.Value.{Keeps, room, sessions_of};
 ghost use Rattle.lsv_keeper.specs.Views.{view_of};
-ghost use Rattle.lsv_keeper.specs.Syncing.{GoesOnWith, Restarts, Syncs};
+ghost use Rattle.lsv_keeper.specs.Syncing.{GoesOnWith, Syncs};
+ghost use Rattle.lsv_keeper.specs.Syncs.{Restarts};
 
 use crate::Keeper;
 use crate::record::windowed;
