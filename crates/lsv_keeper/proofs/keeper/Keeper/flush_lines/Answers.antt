@@ -62,7 +62,10 @@ returns-in_default-fault g c = record {
       let v = view_of c.args.self.now in
       let old = g.D.Disk.view c.args.disk.now in
       let mid = g.D.Disk.view c.flush.new.disk in
-      let f = lost_at g c told m at in
+      let f = flush_lost (view_of c.args.self.now) c.flush.new.self m (g.D.Disk.view c.args.disk.now) (g.D.Disk.view c.flush.new.disk) c.flush.result c.in-Err.fault
+      (record { reads_itself = g.met.D.Disk.reads_itself told c.args.disk.now; is_now = g.met.D.Disk.is_now told c.args.disk.now; only_now = g.met.D.Disk.only_now told c.args.disk.now })
+      (record { reads_itself = g.met.D.Disk.reads_itself told c.flush.new.disk; is_now = g.met.D.Disk.is_now told c.flush.new.disk; only_now = g.met.D.Disk.only_now told c.flush.new.disk })
+      at c.in-Err.is c.in_default-fault.not-Broken c.in-Err.ensures.fault c.flush.ensures.broken c.flush.ensures.disk (c.flush.ensures.any_moment told) c.in-Err.ensures.kept.lane c.flush.ensures.sound c.flush.ensures.cause in
       let flushed = quiet NoLog v v old mid refl (λ n. refl) (lines_flushed v.events.lane v.events.bundle old mid at.events.sound.owner (c.flush.ensures.calls told)) in
       followed NoLog v v (view_of c.lose_lines.new.self) old mid (g.D.Disk.view c.lose_lines.new.disk) flushed
       (events_else NoLog v (view_of c.lose_lines.new.self) c.flush.new.self mid (g.D.Disk.view c.lose_lines.new.disk) (c.lose_lines.ensures.syncs told (with_lines f.wrote m) f.represents));

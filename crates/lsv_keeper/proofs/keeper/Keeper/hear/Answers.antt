@@ -23,7 +23,7 @@ returns-in-Err-clause-row g c told m job at conn is =
     c.refuse.ensures.row told m job c.args.now at conn alive (judged_fair (m.states c.args.conn) c.args.message c.in-Err.why e c.args.conn)
     (message_refused (settings_of (view_of c.args.self.now)) c.args.now job c.args.message c.in-Err.why m c.args.conn conn is alive e)
 
-asked : Request → Result Request Refusal
+abbrev asked : Request → Result Request Refusal
 asked what = Ok what
 
 pub returns-in-Ok-clause-syncs : goal.returns-in-Ok-clause-syncs
