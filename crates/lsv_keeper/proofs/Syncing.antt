@@ -1,19 +1,17 @@
 -- How often calls sync the files of logs: counts of calls, of jobs one after another, and of a turn.
 use Rattle.std.proofs.Common.{◌≡◌, ◌≢◌, ◌≤◌, ◌<◌, ◌+◌, ℕ, List, [], ◌∷◌, ◌++◌, length, take, drop, slice_index_or, refl, sym, ◌∙◌, ap, subst, inl, inr, arith, Option, Some, None, ◌⊎◌}
-use Rattle.std.specs.Prelude.{◌==◌, true, false, if◌then◌else◌}
 use Rattle.std.proofs.lemmas.Grind.{common_steps}
 use Rattle.std.proofs.lemmas.List.{take-append-drop}
 use Rattle.lsv_disk.specs.View.{DiskView}
 use Rattle.lsv_disk.specs.declared.file.FileId.{FileId}
-use Rattle.lsv_disk.specs.declared.file.Owner.{Owner}
 use Rattle.lsv_disk.specs.declared.file.Owner.TheVariants as owners
-use Rattle.lsv_disk.specs.Throughout.{CallsAtMost, OnlyReads, RoseAtMost, WritesOneOf}
+use Rattle.lsv_disk.specs.Throughout.{CallsAtMost, OnlyReads, WritesOneOf}
 use Rattle.lsv_bundle.specs.Calls.{CallsOfFlush}
 use Rattle.lsv_bundle.specs.Shape.{journal_of}
 use Rattle.lsv_bundle.specs.Value.{BundleView}
 use Rattle.lsv_eventlog.specs.Recovered.{IsOfEventLog}
-use Rattle.lsv_eventlog.proofs.Laws.{of_lane}
 use Rattle.lsv_eventlog.specs.Value.{EventLogView}
+use Rattle.lsv_eventlog.proofs.Laws.{of_lane}
 use Rattle.lsv_iolog.specs.Moments.{CallsOfLog}
 use Rattle.lsv_iolog.specs.Recovered.{IsOfLog, owner_of}
 use Rattle.lsv_iolog.specs.Represents as logs
@@ -29,7 +27,7 @@ use Rattle.lsv_session.specs.declared.job.Job.{Job}
 use Rattle.lsv_session.specs.declared.reply.Reply.{Reply}
 use Rattle.lsv_session.specs.declared.table.Table.{Table}
 use Rattle.lsv_machine.specs.Failures.{MayDraw}
-use Rattle.lsv_machine.specs.Machine.{IsOfLane, Machine, is_log, log_of}
+use Rattle.lsv_machine.specs.Machine.{IsOfLane, Machine, log_of}
 use Rattle.lsv_machine.proofs.Changing.{drawn_is, owned_not_above}
 use Rattle.lsv_machine.proofs.Choices.{EqOr.equal, EqOr.unequal, eq_or}
 use Rattle.lsv_keeper.specs.declared.logs.OpenLog.{OpenLog}

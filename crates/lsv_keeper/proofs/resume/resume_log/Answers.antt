@@ -2,6 +2,7 @@
 use Rattle.std.proofs.Common.{◌≡◌, ℕ, true, false, Some, Result, Err, IsErrOf, sym, ◌∙◌, ap, subst, arith}
 use Rattle.lsv_disk.specs.Throughout.{Throughout, CallsAtMost}
 use Rattle.lsv_disk.specs.declared.file.Part.TheVariants.{Slots}
+use Rattle.lsv_bundle.specs.Shape.{journal_of}
 use Rattle.lsv_iolog.specs.Later.{cut_log}
 use Rattle.lsv_iolog.specs.Moments.{IsCutFault, IsEither}
 use Rattle.lsv_iolog.specs.Recovered.{IsOfLog, owner_of}
@@ -15,7 +16,6 @@ use Rattle.lsv_keeper.specs.Resuming.{IsResumeFault, LogRose}
 use Rattle.lsv_keeper.proofs.Frames.{Laws}
 use Rattle.lsv_keeper.proofs.Looking.{complete_exit, cut_fault, cut_into, err_as, found_read, open_holds, open_read, opened_fault, read_fault, rose_in_second}
 use Rattle.lsv_keeper.proofs.Syncing.{cut_others, opened_others, reads_none, unsynced_on}
-use Rattle.lsv_bundle.specs.Shape.{journal_of}
 use Rattle.lsv_keeper.proofs.resume.resume_log.Goals as goal
 
 log_err : (e d : LogFault) → e ≡ d → IsErrOf {T = IoLogView} (Err e) d
@@ -127,7 +127,7 @@ pub returns-then-is_complete-clause-syncs : goal.returns-then-is_complete-clause
 returns-then-is_complete-clause-syncs g c told n other = opened_others n c.args.number 3 5 _ (g.D.Disk.view c.args.disk.now) (g.D.Disk.view c.open.new.disk) (c.open.ensures.calls told) other
 
 pub returns-in-Err-clause-syncs : goal.returns-in-Err-clause-syncs
-returns-in-Err-clause-syncs g c told n other = 
+returns-in-Err-clause-syncs g c told n other =
     let old = g.D.Disk.view c.args.disk.now in
     let one = g.D.Disk.view c.open.new.disk in
     let two = g.D.Disk.view c.mask_behind.new.disk in
@@ -135,7 +135,7 @@ returns-in-Err-clause-syncs g c told n other =
     read
 
 pub returns-in_err-cut_at-in-Ok-clause-syncs : goal.returns-in_err-cut_at-in-Ok-clause-syncs
-returns-in_err-cut_at-in-Ok-clause-syncs g c told n other = 
+returns-in_err-cut_at-in-Ok-clause-syncs g c told n other =
     let old = g.D.Disk.view c.args.disk.now in
     let one = g.D.Disk.view c.open.new.disk in
     let two = g.D.Disk.view c.mask_behind.new.disk in
@@ -144,7 +144,7 @@ returns-in_err-cut_at-in-Ok-clause-syncs g c told n other =
     unsynced_on n old two three read (cut_others n c.args.number 2 2 two three (subst (λ (i : ℕ). CallsAtMost 2 2 (λ file. file ≡ journal_of (owner_of i)) two three) c.in_ok-log.ensures.number (c.cut_at.ensures.calls told)) other)
 
 pub returns-in_ok-cut_at-in-Ok-clause-syncs : goal.returns-in_ok-cut_at-in-Ok-clause-syncs
-returns-in_ok-cut_at-in-Ok-clause-syncs g c told n other = 
+returns-in_ok-cut_at-in-Ok-clause-syncs g c told n other =
     let old = g.D.Disk.view c.args.disk.now in
     let one = g.D.Disk.view c.open.new.disk in
     let two = g.D.Disk.view c.mask_behind.new.disk in

@@ -1,6 +1,7 @@
-use Rattle.lsv_keeper.proofs.Syncing.{of_none}
+-- A connection that was shut opens no log.
 use Rattle.lsv_keeper.specs.Syncs.{Restarts}
 use Rattle.lsv_keeper.specs.Views.{view_of}
+use Rattle.lsv_keeper.proofs.Syncing.{of_none}
 use Rattle.lsv_keeper.proofs.keeper.Keeper.answer.Goals as goal
 
 pub returns-in-Dead-clause-syncs : goal.returns-in-Dead-clause-syncs

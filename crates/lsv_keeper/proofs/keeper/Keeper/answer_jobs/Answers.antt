@@ -4,10 +4,10 @@ use Rattle.lsv_session.specs.declared.job.Job.{Job}
 use Rattle.lsv_keeper.specs.Replies.{room_in}
 use Rattle.lsv_keeper.specs.Tails.{JobsGive}
 use Rattle.lsv_keeper.specs.Views.{view_of}
-use Rattle.lsv_keeper.proofs.Turning.{answering_on, answering_start}
-use Rattle.lsv_keeper.proofs.Syncing.{jobs_on, nothing}
 use Rattle.lsv_keeper.specs.Syncing.{Syncs}
 use Rattle.lsv_keeper.specs.Syncs.{AnyRestarts}
+use Rattle.lsv_keeper.proofs.Turning.{answering_on, answering_start}
+use Rattle.lsv_keeper.proofs.Syncing.{jobs_on, nothing}
 use Rattle.lsv_keeper.proofs.keeper.Keeper.answer_jobs.Goals as goal
 
 nothing_left : (jobs : List Job) → length jobs ≡ 0 → jobs ≡ []
@@ -51,7 +51,7 @@ returns-clause-answered g c told m at =
     (c.loop-job.invariant.done.jobs told m at)
 
 pub returns-clause-syncs : goal.returns-clause-syncs
-returns-clause-syncs g c told m at = 
+returns-clause-syncs g c told m at =
     let empty : into_iter_items c.loop-job.job-iterator ≡ [] = nothing_left (into_iter_items c.loop-job.job-iterator) (sym c.loop-job.invariant.counted ∙ c.in-None.ensures.steps.0) in
     let all : c.loop-job.yielded ≡ c.args.jobs.items = sym (append-nil c.loop-job.yielded) ∙ (ap (λ (x : List Job). c.loop-job.yielded ++ x) (sym empty) ∙ c.loop-job.invariant.items) in
     subst (λ (jobs : List Job). Syncs (AnyRestarts jobs) (view_of c.args.self.now) (view_of c.loop-job.self) (g.D.Disk.view c.args.disk.now) (g.D.Disk.view c.loop-job.disk)) all (c.loop-job.invariant.synced told m at)

@@ -1,7 +1,7 @@
 use Rattle.std.proofs.Common.{◌≡◌, ◌++◌, length}
 use Rattle.std.specs.Vec.Iter.{into_iter_items, into_iter_len}
-use Rattle.lsv_keeper.specs.Replies.{room_in}
 use Rattle.lsv_machine.specs.Machine.{Machine}
+use Rattle.lsv_keeper.specs.Replies.{room_in}
 use Rattle.lsv_keeper.specs.Represents.{Represents}
 use Rattle.lsv_keeper.specs.Syncing.{Syncs}
 use Rattle.lsv_keeper.specs.Syncs.{AnyRestarts}

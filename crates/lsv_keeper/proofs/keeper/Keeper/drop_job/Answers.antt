@@ -8,11 +8,11 @@ use Rattle.lsv_keeper.specs.Rows.{Left, RowGives}
 use Rattle.lsv_keeper.specs.Value.{KeeperView, Keeps}
 use Rattle.lsv_keeper.specs.Views.{view_of}
 use Rattle.lsv_keeper.specs.declared.told.Told.TheVariants.{Nothing}
+use Rattle.lsv_keeper.specs.Syncing.{NoLog, Syncs}
 use Rattle.lsv_keeper.proofs.Departing.{forget_represents, keeps_forget, keeps_same}
 use Rattle.lsv_keeper.proofs.Frames.{Laws}
 use Rattle.lsv_keeper.proofs.Leaving.{forgotten_row, ignored_row}
 use Rattle.lsv_keeper.proofs.Syncing.{noted_else, nothing}
-use Rattle.lsv_keeper.specs.Syncing.{NoLog, Syncs}
 use Rattle.lsv_keeper.proofs.keeper.Keeper.drop_job.Goals as goal
 use Rattle.lsv_keeper.proofs.keeper.Keeper.drop_job.Goals.{in-Gone, in_default}
 
@@ -47,7 +47,7 @@ returns-clause-row g c told m job now at is body dead =
     ]
 
 pub returns-clause-syncs : goal.returns-clause-syncs
-returns-clause-syncs g c told m at = 
+returns-clause-syncs g c told m at =
     let old : DiskView = g.D.Disk.view c.args.disk.now in
     let v : KeeperView = view_of c.args.self.now in
     elim c.match-body.branch [

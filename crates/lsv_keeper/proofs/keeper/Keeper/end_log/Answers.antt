@@ -19,13 +19,13 @@ use Rattle.lsv_keeper.specs.declared.logs.OpenLog.{OpenLog}
 use Rattle.lsv_keeper.specs.Value.{KeeperView, log_in, sessions_of}
 use Rattle.lsv_keeper.specs.Views.{view_of}
 use Rattle.lsv_keeper.specs.declared.told.Told.TheVariants as told
+use Rattle.lsv_keeper.specs.Syncing.{NoLog, Syncs}
 use Rattle.lsv_keeper.proofs.Departing.{departs_keeps, departs_owed, room_one, value_of}
 use Rattle.lsv_keeper.proofs.ExitEnds.{EndsLog, closed_ones, departs_from, keeps_from, keeps_line, log_failed, log_line_refused, log_not_ended, log_told, stands_told, unended_out}
 use Rattle.lsv_keeper.proofs.Frames.{Laws}
 use Rattle.lsv_keeper.proofs.Opens.{one_open}
 use Rattle.lsv_keeper.proofs.Refusing.{written_open}
 use Rattle.lsv_keeper.proofs.Syncing.{ended_once, followed, line_quiet}
-use Rattle.lsv_keeper.specs.Syncing.{NoLog, Syncs}
 use Rattle.lsv_keeper.proofs.keeper.Keeper.end_log.Goals as goal
 
 pub returns-in_default-clause-row : goal.returns-in_default-clause-row
@@ -180,18 +180,18 @@ returns g c = record {
 }
 
 pub returns-in_default-clause-syncs : goal.returns-in_default-clause-syncs
-returns-in_default-clause-syncs g c told_is m at state = 
+returns-in_default-clause-syncs g c told_is m at state =
     absurd (written_open (view_of c.args.self.now) (g.D.Disk.view c.args.disk.now) m c.args.conn c.args.log at state (λ its here. let e : None ≡ Some its = sym c.in_default.is ∙ c.take.ensures.taken ∙ here in absurd (cc)))
 
 pub returns-then-is_complete-clause-syncs : goal.returns-then-is_complete-clause-syncs
-returns-then-is_complete-clause-syncs g c told_is m at state = 
+returns-then-is_complete-clause-syncs g c told_is m at state =
     let v : KeeperView = view_of c.args.self.now in
     let here : log_in v c.args.log ≡ Some c.in-Some.its = sym c.in-Some.ensures.taken in
     absurd (written_open v (g.D.Disk.view c.args.disk.now) m c.args.conn c.args.log at state
     (λ o there. subst (λ (x : OpenLog). is_complete x.log ≡ true) (one_open (log_in v) c.args.log c.in-Some.its o here there) (sym c.is_complete.ensures ∙ c.if-is_complete.true)))
 
 pub returns-in-Ok-exit_line-clause-syncs : goal.returns-in-Ok-exit_line-clause-syncs
-returns-in-Ok-exit_line-clause-syncs g c told_is m at state = 
+returns-in-Ok-exit_line-clause-syncs g c told_is m at state =
     let v : KeeperView = view_of c.args.self.now in
     let v1 : KeeperView = view_of c.release.new.self in
     let old : DiskView = g.D.Disk.view c.args.disk.now in
@@ -202,7 +202,7 @@ returns-in-Ok-exit_line-clause-syncs g c told_is m at state =
     followed NoLog v v1 (view_of c.exit_line.new.self) old mid (g.D.Disk.view c.exit_line.new.disk) ended (line_quiet NoLog v1 (view_of c.exit_line.new.self) mid (g.D.Disk.view c.exit_line.new.disk) c.exit_line.ensures.same (c.exit_line.ensures.syncs told_is))
 
 pub returns-in-Ok-clause-syncs : goal.returns-in-Ok-clause-syncs
-returns-in-Ok-clause-syncs g c told_is m at state = 
+returns-in-Ok-clause-syncs g c told_is m at state =
     let v : KeeperView = view_of c.args.self.now in
     let v1 : KeeperView = view_of c.release.new.self in
     let old : DiskView = g.D.Disk.view c.args.disk.now in
@@ -213,7 +213,7 @@ returns-in-Ok-clause-syncs g c told_is m at state =
     followed NoLog v v1 (view_of c.exit_line.new.self) old mid (g.D.Disk.view c.exit_line.new.disk) ended (line_quiet NoLog v1 (view_of c.exit_line.new.self) mid (g.D.Disk.view c.exit_line.new.disk) c.exit_line.ensures.same (c.exit_line.ensures.syncs told_is))
 
 pub returns-in-Disk-clause-syncs : goal.returns-in-Disk-clause-syncs
-returns-in-Disk-clause-syncs g c told_is m at state = 
+returns-in-Disk-clause-syncs g c told_is m at state =
     let v : KeeperView = view_of c.args.self.now in
     let v1 : KeeperView = view_of c.release-in-Disk.new.self in
     let old : DiskView = g.D.Disk.view c.args.disk.now in

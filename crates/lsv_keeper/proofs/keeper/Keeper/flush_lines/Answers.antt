@@ -7,10 +7,10 @@ use Rattle.lsv_machine.specs.Turns.{with_lines}
 use Rattle.lsv_keeper.specs.Represents.{Represents}
 use Rattle.lsv_keeper.specs.Tails.{LinesGive}
 use Rattle.lsv_keeper.specs.Views.{view_of}
+use Rattle.lsv_keeper.specs.Syncing.{NoLog}
 use Rattle.lsv_keeper.proofs.FlushEnds.{flush_lost, flush_written, unbroken}
 use Rattle.lsv_keeper.proofs.TailLines.{EventsFailed, lines_none, lines_refused}
 use Rattle.lsv_keeper.proofs.Syncing.{events_else, followed, lines_flushed, quiet}
-use Rattle.lsv_keeper.specs.Syncing.{NoLog}
 use Rattle.lsv_keeper.proofs.keeper.Keeper.flush_lines.Goals as goal
 
 pub returns-in_default-clause-lines : goal.returns-in_default-clause-lines
@@ -79,11 +79,11 @@ returns-in_default-fault g c = record {
 }
 
 pub returns-in_default-clause-syncs : goal.returns-in_default-clause-syncs
-returns-in_default-clause-syncs g c told m at = 
+returns-in_default-clause-syncs g c told m at =
     quiet NoLog (view_of c.args.self.now) _ (g.D.Disk.view c.args.disk.now) (g.D.Disk.view c.flush.new.disk) refl (λ n. refl)
     (lines_flushed (view_of c.args.self.now).events.lane (view_of c.args.self.now).events.bundle (g.D.Disk.view c.args.disk.now) (g.D.Disk.view c.flush.new.disk) at.events.sound.owner (c.flush.ensures.calls told))
 
 pub returns-in-Broken-clause-syncs : goal.returns-in-Broken-clause-syncs
-returns-in-Broken-clause-syncs g c told m at = 
+returns-in-Broken-clause-syncs g c told m at =
     quiet NoLog (view_of c.args.self.now) _ (g.D.Disk.view c.args.disk.now) (g.D.Disk.view c.flush.new.disk) refl (λ n. refl)
     (lines_flushed (view_of c.args.self.now).events.lane (view_of c.args.self.now).events.bundle (g.D.Disk.view c.args.disk.now) (g.D.Disk.view c.flush.new.disk) at.events.sound.owner (c.flush.ensures.calls told))

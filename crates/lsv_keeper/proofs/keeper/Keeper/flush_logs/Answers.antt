@@ -11,9 +11,9 @@ use Rattle.lsv_keeper.proofs.keeper.Keeper.flush_logs.Goals as goal
 pub loop-number-init : goal.loop-number-init
 loop-number-init g c = record {
   flushing = flushing_start g.D.Disk.tells c.deref-number-items.result.now (view_of c.args.self.now) (view_of (record c.args.self.now { waiting = c.replace-waiting.new.dest })) (room_in c.args.out.now) c.args.out.now.items (g.D.Disk.view c.args.disk.now)
-    (λ told. record { reads_itself = g.met.D.Disk.reads_itself told c.args.disk.now; is_now = g.met.D.Disk.is_now told c.args.disk.now; only_now = g.met.D.Disk.only_now told c.args.disk.now })
-    (ap (λ (w : List ℕ). record (view_of c.args.self.now) { waiting = w }) (ap (λ (x : Vec LogNo). x.items) c.replace-waiting.ensures.after ∙ c.new.ensures.items))
-    (ap (λ (x : Vec LogNo). x.items) (sym c.replace-waiting.ensures.value) ∙ sym c.deref-number-items.ensures.value);
+      (λ told. record { reads_itself = g.met.D.Disk.reads_itself told c.args.disk.now; is_now = g.met.D.Disk.is_now told c.args.disk.now; only_now = g.met.D.Disk.only_now told c.args.disk.now })
+      (ap (λ (w : List ℕ). record (view_of c.args.self.now) { waiting = w }) (ap (λ (x : Vec LogNo). x.items) c.replace-waiting.ensures.after ∙ c.new.ensures.items))
+      (ap (λ (x : Vec LogNo). x.items) (sym c.replace-waiting.ensures.value) ∙ sym c.deref-number-items.ensures.value);
   synced = λ told m at n. inl (λ file own. refl);
 }
 
@@ -38,8 +38,8 @@ flush_log-requires-clause-replies g c =
 pub loop-number-preserved : goal.loop-number-preserved
 loop-number-preserved g c = record {
   flushing = flushing_on g.D.Disk.tells c.loop-number.number-index c.number-item.result c.deref-number-items.result.now (view_of c.args.self.now) (view_of c.loop-number.self) (view_of c.flush_log.new.self) (room_in c.args.out.now) (room_in c.loop-number.out) (room_in c.flush_log.new.out)
-    c.args.out.now.items c.loop-number.out.items c.flush_log.new.out.items (g.D.Disk.view c.args.disk.now) (g.D.Disk.view c.loop-number.disk) (g.D.Disk.view c.flush_log.new.disk) (ap (λ (x : Vec LogNo). x.items) (sym c.replace-waiting.ensures.value) ∙ sym c.deref-number-items.ensures.value) c.loop-number-test.true c.number-item.is
-    c.loop-number.invariant.flushing c.flush_log.ensures.set c.flush_log.ensures.waiting c.flush_log.ensures.noting c.flush_log.ensures.places c.flush_log.ensures.room c.flush_log.ensures.log;
+      c.args.out.now.items c.loop-number.out.items c.flush_log.new.out.items (g.D.Disk.view c.args.disk.now) (g.D.Disk.view c.loop-number.disk) (g.D.Disk.view c.flush_log.new.disk) (ap (λ (x : Vec LogNo). x.items) (sym c.replace-waiting.ensures.value) ∙ sym c.deref-number-items.ensures.value) c.loop-number-test.true c.number-item.is
+      c.loop-number.invariant.flushing c.flush_log.ensures.set c.flush_log.ensures.waiting c.flush_log.ensures.noting c.flush_log.ensures.places c.flush_log.ensures.room c.flush_log.ensures.log;
   synced = λ told m at. waiting_on g.D.Disk.tells c.loop-number.number-index c.number-item.result c.deref-number-items.result.now (view_of c.args.self.now) (view_of c.loop-number.self) (room_in c.args.out.now) (room_in c.loop-number.out) c.args.out.now.items c.loop-number.out.items
       (g.D.Disk.view c.args.disk.now) (g.D.Disk.view c.loop-number.disk) (g.D.Disk.view c.flush_log.new.disk) (ap (λ (x : Vec LogNo). x.items) (sym c.replace-waiting.ensures.value) ∙ sym c.deref-number-items.ensures.value) c.loop-number-test.true c.number-item.is
       c.loop-number.invariant.flushing told m at (c.loop-number.invariant.synced told m at) (λ after k rep own. c.flush_log.ensures.syncs told after k rep own);
@@ -59,5 +59,5 @@ returns-clause-logs g c = λ told m at. flushing_ends g.D.Disk.tells c.deref-num
     (g.D.Disk.view c.args.disk.now) (g.D.Disk.view c.loop-number.disk) c.loop-number.number-index (omega (arith, c.loop-number-test.false, c.loop-number.auto.number-index-end)) (ap (λ (x : Vec LogNo). x.items) (sym c.replace-waiting.ensures.value) ∙ sym c.deref-number-items.ensures.value) c.loop-number.invariant.flushing told m at
 
 pub returns-clause-syncs : goal.returns-clause-syncs
-returns-clause-syncs g c  = λ told m at. waiting_ends c.deref-number-items.result.now (view_of c.args.self.now) m (g.D.Disk.view c.args.disk.now) (g.D.Disk.view c.loop-number.disk) c.loop-number.number-index (omega (arith, c.loop-number-test.false, c.loop-number.auto.number-index-end))
+returns-clause-syncs g c = λ told m at. waiting_ends c.deref-number-items.result.now (view_of c.args.self.now) m (g.D.Disk.view c.args.disk.now) (g.D.Disk.view c.loop-number.disk) c.loop-number.number-index (omega (arith, c.loop-number-test.false, c.loop-number.auto.number-index-end))
     (ap (λ (x : Vec LogNo). x.items) (sym c.replace-waiting.ensures.value) ∙ sym c.deref-number-items.ensures.value) at (c.loop-number.invariant.synced told m at)

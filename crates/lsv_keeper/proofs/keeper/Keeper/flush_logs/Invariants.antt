@@ -1,6 +1,6 @@
-use Rattle.lsv_keeper.specs.Replies.{room_in}
 use Rattle.std.proofs.Common.{take}
 use Rattle.lsv_machine.specs.Machine.{Machine}
+use Rattle.lsv_keeper.specs.Replies.{room_in}
 use Rattle.lsv_keeper.specs.Represents.{Represents}
 use Rattle.lsv_keeper.specs.Syncing.{SyncsThese}
 use Rattle.lsv_keeper.specs.Views.{view_of}

@@ -40,6 +40,6 @@ returns-clause-left g c told before m out at is =
     (c.flush.ensures.any_moment told value represents) c.flush.ensures.fault c.flush.ensures.broken c.flush.ensures.cause)
 
 pub returns-clause-syncs : goal.returns-clause-syncs
-returns-clause-syncs g c told before m out at is = 
+returns-clause-syncs g c told before m out at is =
     let_go_once c.args.log c.args.its before (view_of c.args.self.now) (view_of c.release.new.self) (g.D.Disk.view c.args.disk.now) (g.D.Disk.view c.flush.new.disk) m c.args.conn c.args.state at is out
     c.release.ensures.departs (c.flush.ensures.calls told)

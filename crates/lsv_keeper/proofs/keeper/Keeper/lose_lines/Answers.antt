@@ -4,16 +4,16 @@ use Rattle.std.specs.Global.{Vec}
 use Rattle.lsv_session.specs.declared.connection.ConnId.{ConnId}
 use Rattle.lsv_keeper.specs.Replies.{room_in}
 use Rattle.lsv_keeper.specs.Views.{view_of}
+use Rattle.lsv_keeper.specs.Syncing.{NoLog}
 use Rattle.lsv_keeper.proofs.TailRefusals.{refusing_ends, refusing_on, refusing_start}
 use Rattle.lsv_keeper.proofs.Syncing.{followed, nothing}
-use Rattle.lsv_keeper.specs.Syncing.{NoLog}
 use Rattle.lsv_keeper.proofs.keeper.Keeper.lose_lines.Goals as goal
 
 pub loop-conn-init : goal.loop-conn-init
 loop-conn-init g c = record {
   refusing = refusing_start g.D.Disk.tells c.deref-conn-items.result.now (view_of c.args.self.now) (view_of (record c.args.self.now { noting = c.replace-noting.new.dest })) (room_in c.args.out.now) c.args.out.now.items (g.D.Disk.view c.args.disk.now)
-    (λ told. record { reads_itself = g.met.D.Disk.reads_itself told c.args.disk.now; is_now = g.met.D.Disk.is_now told c.args.disk.now; only_now = g.met.D.Disk.only_now told c.args.disk.now })
-    (ap (λ (w : List ConnId). record (view_of c.args.self.now) { noting = w }) (ap (λ (x : Vec ConnId). x.items) c.replace-noting.ensures.after ∙ c.new.ensures.items));
+      (λ told. record { reads_itself = g.met.D.Disk.reads_itself told c.args.disk.now; is_now = g.met.D.Disk.is_now told c.args.disk.now; only_now = g.met.D.Disk.only_now told c.args.disk.now })
+      (ap (λ (w : List ConnId). record (view_of c.args.self.now) { noting = w }) (ap (λ (x : Vec ConnId). x.items) c.replace-noting.ensures.after ∙ c.new.ensures.items));
   synced = λ told m at. nothing NoLog (view_of c.args.self.now) _ (g.D.Disk.view c.args.disk.now) refl refl;
 }
 
@@ -35,8 +35,8 @@ lose_line-requires-clause-replies g c =
 pub loop-conn-preserved : goal.loop-conn-preserved
 loop-conn-preserved g c = record {
   refusing = refusing_on g.D.Disk.tells c.loop-conn.conn-index _ c.deref-conn-items.result.now (view_of c.args.self.now) (view_of c.loop-conn.self) (view_of c.lose_line.new.self) (room_in c.args.out.now) (room_in c.loop-conn.out) (room_in c.lose_line.new.out)
-    c.args.out.now.items c.loop-conn.out.items c.lose_line.new.out.items (g.D.Disk.view c.args.disk.now) (g.D.Disk.view c.loop-conn.disk) (g.D.Disk.view c.lose_line.new.disk) c.loop-conn-test.true (get_or_default _ _ _ _ c.loop-conn-test.true)
-    c.loop-conn.invariant.refusing c.lose_line.ensures.set c.lose_line.ensures.noting c.lose_line.ensures.fewer c.lose_line.ensures.places c.lose_line.ensures.room c.lose_line.ensures.refused;
+      c.args.out.now.items c.loop-conn.out.items c.lose_line.new.out.items (g.D.Disk.view c.args.disk.now) (g.D.Disk.view c.loop-conn.disk) (g.D.Disk.view c.lose_line.new.disk) c.loop-conn-test.true (get_or_default _ _ _ _ c.loop-conn-test.true)
+      c.loop-conn.invariant.refusing c.lose_line.ensures.set c.lose_line.ensures.noting c.lose_line.ensures.fewer c.lose_line.ensures.places c.lose_line.ensures.room c.lose_line.ensures.refused;
   synced = λ told m at.
       let d = c.loop-conn.invariant.refusing.gives told m at in
       followed NoLog (view_of c.args.self.now) (view_of c.loop-conn.self) (view_of c.lose_line.new.self) (g.D.Disk.view c.args.disk.now) (g.D.Disk.view c.loop-conn.disk) (g.D.Disk.view c.lose_line.new.disk)

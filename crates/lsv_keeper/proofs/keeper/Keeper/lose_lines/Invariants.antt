@@ -1,5 +1,5 @@
-use Rattle.lsv_keeper.specs.Replies.{room_in}
 use Rattle.lsv_machine.specs.Machine.{Machine}
+use Rattle.lsv_keeper.specs.Replies.{room_in}
 use Rattle.lsv_keeper.specs.Represents.{Represents}
 use Rattle.lsv_keeper.specs.Syncing.{NoLog, Syncs}
 use Rattle.lsv_keeper.specs.Value.{un_noted}

@@ -20,6 +20,7 @@ use Rattle.lsv_keeper.specs.Logs.{spare_logs}
 use Rattle.lsv_keeper.specs.Represents.{Represents}
 use Rattle.lsv_keeper.specs.Value.{KeeperView, sessions_of}
 use Rattle.lsv_keeper.specs.Views.{view_of}
+use Rattle.lsv_keeper.specs.Syncing.{NoLog}
 use Rattle.lsv_keeper.proofs.Beginning.{reserved_keeps, reserved_represents}
 use Rattle.lsv_keeper.proofs.Counting.{owner_rose}
 use Rattle.lsv_keeper.proofs.Frames.{Laws}
@@ -27,7 +28,6 @@ use Rattle.lsv_keeper.proofs.Making.{begun_keeps, create_err, drawn_keeps, lined
 use Rattle.lsv_keeper.proofs.Reporting.{if_err_as}
 use Rattle.lsv_keeper.proofs.Stopping.{MadeIt, begins, line_stops, made_it, none_drawn, not_made, nothing_done}
 use Rattle.lsv_keeper.proofs.Syncing.{drawn_quiet, followed, fresh_one, line_quiet, making, owns_one, reserved_fresh, reserved_quiet}
-use Rattle.lsv_keeper.specs.Syncing.{NoLog}
 use Rattle.lsv_keeper.proofs.keeper.Keeper.open_log.Goals as goal
 
 -- ---- No memory
@@ -196,7 +196,7 @@ pub returns-in_default-clause-syncs : goal.returns-in_default-clause-syncs
 returns-in_default-clause-syncs g c told m at = reserved_quiet NoLog (view_of c.args.self.now) (view_of c.prepare.new.self) (g.D.Disk.view c.args.disk.now) c.prepare.ensures.same
 
 pub returns-in_err-number-clause-syncs : goal.returns-in_err-number-clause-syncs
-returns-in_err-number-clause-syncs g c told m at = 
+returns-in_err-number-clause-syncs g c told m at =
     let v : KeeperView = view_of c.args.self.now in
     let v1 : KeeperView = view_of c.prepare.new.self in
     let v2 : KeeperView = view_of c.draw.new.self in
@@ -205,7 +205,7 @@ returns-in_err-number-clause-syncs g c told m at =
     followed NoLog v v1 v2 old old mid (reserved_quiet NoLog v v1 old c.prepare.ensures.same) (drawn_quiet NoLog v1 v2 old mid c.draw.ensures.same c.draw.ensures.past (c.draw.ensures.syncs told))
 
 pub returns-in-Err-clause-syncs : goal.returns-in-Err-clause-syncs
-returns-in-Err-clause-syncs g c told m at = 
+returns-in-Err-clause-syncs g c told m at =
     let v : KeeperView = view_of c.args.self.now in
     let v1 : KeeperView = view_of c.prepare.new.self in
     let v2 : KeeperView = view_of c.draw.new.self in
@@ -219,7 +219,7 @@ returns-in-Err-clause-syncs g c told m at =
     fresh_one n v v2 old there fresh made
 
 pub returns-in_err-add_line-clause-syncs : goal.returns-in_err-add_line-clause-syncs
-returns-in_err-add_line-clause-syncs g c told m at = 
+returns-in_err-add_line-clause-syncs g c told m at =
     let v : KeeperView = view_of c.args.self.now in
     let v1 : KeeperView = view_of c.prepare.new.self in
     let v2 : KeeperView = view_of c.draw.new.self in
@@ -235,7 +235,7 @@ returns-in_err-add_line-clause-syncs g c told m at =
     fresh_one n v v3 old new fresh (followed (λ i. i ≡ n) v v2 v3 old there new made (line_quiet (λ i. i ≡ n) v2 v3 there new c.add_line.ensures.same (c.add_line.ensures.syncs told)))
 
 pub returns-clause-syncs : goal.returns-clause-syncs
-returns-clause-syncs g c told m at = 
+returns-clause-syncs g c told m at =
     let v : KeeperView = view_of c.args.self.now in
     let v1 : KeeperView = view_of c.prepare.new.self in
     let v2 : KeeperView = view_of c.draw.new.self in

@@ -6,10 +6,10 @@ use Rattle.lsv_keeper.specs.Represents.{Represents}
 use Rattle.lsv_keeper.specs.Rows.{RowGives}
 use Rattle.lsv_keeper.specs.Value.{KeeperView}
 use Rattle.lsv_keeper.specs.Views.{view_of}
+use Rattle.lsv_keeper.specs.Syncing.{NoLog, Syncs}
 use Rattle.lsv_keeper.proofs.Refusing.{asks_stays, record_writes, same_waiting}
 use Rattle.lsv_keeper.proofs.Requests.{asks_alive}
 use Rattle.lsv_keeper.proofs.Syncing.{nothing}
-use Rattle.lsv_keeper.specs.Syncing.{NoLog, Syncs}
 use Rattle.lsv_keeper.proofs.keeper.Keeper.record.Goals as goal
 
 pub returns-in_default-clause-row : goal.returns-in_default-clause-row
@@ -37,14 +37,14 @@ pub returns-in_default-clause-syncs : goal.returns-in_default-clause-syncs
 returns-in_default-clause-syncs g c told m at = nothing NoLog (view_of c.args.self.now) (view_of c.args.self.now) (g.D.Disk.view c.args.disk.now) refl refl
 
 pub returns-then-is_err-clause-syncs : goal.returns-then-is_err-clause-syncs
-returns-then-is_err-clause-syncs g c told m at = 
+returns-then-is_err-clause-syncs g c told m at =
     let v : KeeperView = view_of c.args.self.now in
     let same = same_waiting v c.reserve.new.self.items c.reserve.ensures.items in
     subst (λ (w : KeeperView). Syncs NoLog w (view_of c.want_memory.new.self) (g.D.Disk.view c.args.disk.now) (g.D.Disk.view c.want_memory.new.disk)) same
     (c.want_memory.ensures.syncs told m (subst (λ (w : KeeperView). Represents w (g.D.Disk.view c.args.disk.now) m) (sym same) at))
 
 pub returns-clause-syncs : goal.returns-clause-syncs
-returns-clause-syncs g c told m at = 
+returns-clause-syncs g c told m at =
     let v : KeeperView = view_of c.args.self.now in
     let same = same_waiting v c.reserve.new.self.items c.reserve.ensures.items in
     subst (λ (w : KeeperView). Syncs NoLog w (view_of c.take_record.new.self) (g.D.Disk.view c.args.disk.now) (g.D.Disk.view c.take_record.new.disk)) same

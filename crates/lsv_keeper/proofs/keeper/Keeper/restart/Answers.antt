@@ -64,7 +64,7 @@ pub returns-then-is_some-clause-syncs : goal.returns-then-is_some-clause-syncs
 returns-then-is_some-clause-syncs g c told m at = of_none _ _ _ _ _ (c.refuse.ensures.syncs told m at)
 
 pub returns-in-Ok-clause-syncs : goal.returns-in-Ok-clause-syncs
-returns-in-Ok-clause-syncs g c told m at = 
+returns-in-Ok-clause-syncs g c told m at =
     let v = view_of c.args.self.now in
     let v1 = view_of c.resume.new.self in
     let n = c.args.restart.log in
@@ -76,7 +76,7 @@ returns-in-Ok-clause-syncs g c told m at =
     followed (λ i. i ≡ n) v v1 (view_of c.own.new.self) old one one resumed (owns_one n c.args.conn c.in-Ok.its v1 (view_of c.own.new.self) one owns)
 
 pub returns-in-Err-clause-syncs : goal.returns-in-Err-clause-syncs
-returns-in-Err-clause-syncs g c told m at = 
+returns-in-Err-clause-syncs g c told m at =
     let v = view_of c.args.self.now in
     let v1 = view_of c.resume.new.self in
     let n = c.args.restart.log in

@@ -7,9 +7,9 @@ use Rattle.lsv_keeper.specs.declared.report.Next.{Next}
 use Rattle.lsv_keeper.specs.Accepting.{EntersNoLog, IsEventOf}
 use Rattle.lsv_keeper.specs.Value.{KeeperView, sessions_of, settings_of}
 use Rattle.lsv_keeper.specs.Views.{view_of}
+use Rattle.lsv_keeper.specs.Syncing.{NoLog}
 use Rattle.lsv_keeper.proofs.Reporting.{ends_at, enters_at, keeps_left, refused_at, room_after, stays_at}
 use Rattle.lsv_keeper.proofs.Syncing.{followed, line_quiet}
-use Rattle.lsv_keeper.specs.Syncing.{NoLog}
 use Rattle.lsv_keeper.proofs.keeper.Keeper.tell.Goals as goal
 
 pub leave-requires-clause-stands : goal.leave-requires-clause-stands
@@ -89,7 +89,7 @@ returns-in-Ends-clause-row g c told m job now what at e a is =
     (subst (λ (x : Next). IsEventOf (settings_of v) now c.args.conn (m.states c.args.conn) what line x m) c.in-Ends.is is)
 
 pub returns-in-Err-clause-syncs : goal.returns-in-Err-clause-syncs
-returns-in-Err-clause-syncs g c told m at = 
+returns-in-Err-clause-syncs g c told m at =
     let v : KeeperView = view_of c.args.self.now in
     let v1 : KeeperView = view_of c.add_line.new.self in
     let d0 = g.D.Disk.view c.args.disk.now in
@@ -98,7 +98,7 @@ returns-in-Err-clause-syncs g c told m at =
     followed NoLog v v1 (view_of c.leave.new.self) d0 d1 (g.D.Disk.view c.leave.new.disk) line (c.leave.ensures.syncs told m (c.in-Err.ensures.refused told m at).1)
 
 pub returns-in-Stays-clause-syncs : goal.returns-in-Stays-clause-syncs
-returns-in-Stays-clause-syncs g c told m at = 
+returns-in-Stays-clause-syncs g c told m at =
     let v : KeeperView = view_of c.args.self.now in
     let v1 : KeeperView = view_of c.add_line.new.self in
     let d0 = g.D.Disk.view c.args.disk.now in
@@ -107,7 +107,7 @@ returns-in-Stays-clause-syncs g c told m at =
     line
 
 pub returns-in-Enters-clause-syncs : goal.returns-in-Enters-clause-syncs
-returns-in-Enters-clause-syncs g c told m at = 
+returns-in-Enters-clause-syncs g c told m at =
     let v : KeeperView = view_of c.args.self.now in
     let v1 : KeeperView = view_of c.add_line.new.self in
     let d0 = g.D.Disk.view c.args.disk.now in
@@ -116,7 +116,7 @@ returns-in-Enters-clause-syncs g c told m at =
     followed NoLog v v1 (view_of c.leave-in-Enters.new.self) d0 d1 (g.D.Disk.view c.leave-in-Enters.new.disk) line (c.leave-in-Enters.ensures.syncs told (adds_line c.args.conn (line_of v.kind c.args.event.now) m) (c.in_default.ensures.added told m at).1)
 
 pub returns-in-Ends-clause-syncs : goal.returns-in-Ends-clause-syncs
-returns-in-Ends-clause-syncs g c told m at = 
+returns-in-Ends-clause-syncs g c told m at =
     let v : KeeperView = view_of c.args.self.now in
     let v1 : KeeperView = view_of c.add_line.new.self in
     let d0 = g.D.Disk.view c.args.disk.now in

@@ -24,7 +24,7 @@ returns-clause-turned g c told m at =
     c.answer_jobs.ensures.set c.flush_lines.ensures.set j l (c.flush_logs.ensures.logs told l.after l.represents)
 
 pub returns-clause-syncs : goal.returns-clause-syncs
-returns-clause-syncs g c told m n k at own none = 
+returns-clause-syncs g c told m n k at own none =
     let j = c.answer_jobs.ensures.answered told m at in
     let l = c.flush_lines.ensures.lines told j.after j.represents in
     turn_once c.args.jobs.items n k (view_of c.args.self.now) (view_of c.answer_jobs.new.self) (view_of c.flush_lines.new.self) (g.D.Disk.view c.args.disk.now) (g.D.Disk.view c.answer_jobs.new.disk) (g.D.Disk.view c.flush_lines.new.disk) (g.D.Disk.view c.flush_logs.new.disk) m l.after

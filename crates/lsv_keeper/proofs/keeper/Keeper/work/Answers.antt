@@ -1,10 +1,10 @@
 use Rattle.std.proofs.Common.{◌≡◌, Ok, subst}
 use Rattle.lsv_request.specs.declared.request.Request.{Request}
 use Rattle.lsv_machine.specs.Judgement.{judged}
-use Rattle.lsv_keeper.proofs.Requests.{valid_record}
-use Rattle.lsv_keeper.proofs.Syncing.{of_none, wider}
 use Rattle.lsv_keeper.specs.Syncing.{GoesOnWith}
 use Rattle.lsv_keeper.specs.Views.{view_of}
+use Rattle.lsv_keeper.proofs.Requests.{valid_record}
+use Rattle.lsv_keeper.proofs.Syncing.{of_none, wider}
 use Rattle.lsv_keeper.proofs.keeper.Keeper.work.Goals as goal
 
 pub record-requires-clause-valid : goal.record-requires-clause-valid
@@ -31,6 +31,6 @@ pub returns-in-Exit-clause-syncs : goal.returns-in-Exit-clause-syncs
 returns-in-Exit-clause-syncs g c told m at = of_none (GoesOnWith c.args.request) (view_of c.args.self.now) (view_of c.exit.new.self) (g.D.Disk.view c.args.disk.now) (g.D.Disk.view c.exit.new.disk) (c.exit.ensures.syncs told m at)
 
 pub returns-in-Restart-clause-syncs : goal.returns-in-Restart-clause-syncs
-returns-in-Restart-clause-syncs g c told m at = 
+returns-in-Restart-clause-syncs g c told m at =
     wider (λ n. n ≡ c.in-Restart.restart.log) (GoesOnWith c.args.request) (view_of c.args.self.now) (view_of c.restart.new.self) (g.D.Disk.view c.args.disk.now) (g.D.Disk.view c.restart.new.disk)
     (λ n e. (c.in-Restart.restart, c.in-Restart.is, e)) (c.restart.ensures.syncs told m at)
