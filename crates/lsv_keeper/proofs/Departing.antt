@@ -467,7 +467,7 @@ departs_keeps o k s v v' d room_is = record {
 pub not_closed : (v : KeeperView) (disk : DiskView) (m : Machine) (i : ℕ) (k : ConnId) → Represents v disk m → m.owner i ≡ Some k → log_in v i ≡ None → ⊥
 not_closed v disk m i k at own none = let h : Held v disk m i = subst (LogIs v disk m i) own (at.logs i) in let e : None ≡ Some h.its = sym none ∙ h.here in cc
 
-beside_out : (n : ℕ) (its : OpenLog) (a b : KeeperView) (k : ConnId) (s : ConnState) (c : KeeperView) → TakenOut n its a b → Departs (Some n) k s b c → Departs (Some n) k s a c
+pub beside_out : (n : ℕ) (its : OpenLog) (a b : KeeperView) (k : ConnId) (s : ConnState) (c : KeeperView) → TakenOut n its a b → Departs (Some n) k s b c → Departs (Some n) k s a c
 beside_out n its a b k s c out d = record {
   beside = record {
     lane = d.beside.lane ∙ out.beside.lane;

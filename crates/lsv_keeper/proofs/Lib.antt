@@ -44,3 +44,4 @@ pub mod EventKinds
 pub mod Making
 pub mod Judging
 pub mod Turning
+pub mod Syncing

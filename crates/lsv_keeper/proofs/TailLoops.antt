@@ -28,7 +28,7 @@ above_all n (y ∷ ys) all i (inl e) = subst (λ z. n < z) (sym e) all.0
 above_all n (y ∷ ys) all i (inr is) = above_all n ys all.1 i is
 
 -- the numbers before one are below it, and those behind it above
-rising_before : (xs : List ℕ) (n : ℕ) (ys : List ℕ) → Rising (xs ++ n ∷ ys) → (i : ℕ) → IsOneOf i xs → i < n
+pub rising_before : (xs : List ℕ) (n : ℕ) (ys : List ℕ) → Rising (xs ++ n ∷ ys) → (i : ℕ) → IsOneOf i xs → i < n
 rising_before [] n ys up i is = absurd is
 rising_before (x ∷ xs) n ys up i (inl e) = subst (λ z. z < n) (sym e) (above_all x (xs ++ n ∷ ys) up.0 n (in_middle xs))
   where
@@ -41,12 +41,12 @@ rising_behind : (xs : List ℕ) (n : ℕ) (ys : List ℕ) → Rising (xs ++ n �
 rising_behind [] n ys up = up.0
 rising_behind (x ∷ xs) n ys up = rising_behind xs n ys up.1
 
-one_of_left : (i : ℕ) (xs ys : List ℕ) → IsOneOf i xs → IsOneOf i (xs ++ ys)
+pub one_of_left : (i : ℕ) (xs ys : List ℕ) → IsOneOf i xs → IsOneOf i (xs ++ ys)
 one_of_left i [] ys is = absurd is
 one_of_left i (x ∷ xs) ys (inl e) = inl e
 one_of_left i (x ∷ xs) ys (inr is) = inr (one_of_left i xs ys is)
 
-one_of_last : (xs : List ℕ) (n : ℕ) → IsOneOf n (xs ++ n ∷ [])
+pub one_of_last : (xs : List ℕ) (n : ℕ) → IsOneOf n (xs ++ n ∷ [])
 one_of_last [] n = inl refl
 one_of_last (x ∷ xs) n = inr (one_of_last xs n)
 

@@ -12,3 +12,5 @@ pub mod Room
 pub mod Leaving
 pub mod Opening
 pub mod Accepting
+pub mod Syncs
+pub mod Syncing

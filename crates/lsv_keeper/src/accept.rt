@@ -1,6 +1,6 @@
 //! Accepts: an event alone, or a log that is opened.
 
-ghost use Rattle.std.specs.Prelude.{◌≡◌, ◌≤◌, false, [], None, Ok, IfErr, IfOk, IsSome, OnErr, OnOk, vec_capacity};
+ghost use Rattle.std.specs.Prelude.{◌≡◌, ◌≤◌, ℕ, false, [], None, Ok, IfErr, IfOk, IsSome, OnErr, OnOk, vec_capacity};
 ghost use Rattle.lsv_base.specs.LogNo.{digits_of};
 ghost use Rattle.lsv_base.specs.Time.{nanos_of};
 ghost use Rattle.lsv_mask.specs.Masking.{seen};
@@ -18,6 +18,7 @@ ghost use Rattle.lsv_keeper.specs.Represents.{Represents};
 ghost use Rattle.lsv_keeper.specs.Rows.{Beside, IsTold, RowGives};
 ghost use Rattle.lsv_keeper.specs.Value.{IsReserved, Keeps, room, sessions_of, settings_of};
 ghost use Rattle.lsv_keeper.specs.Views.{view_of};
+ghost use Rattle.lsv_keeper.specs.Syncing.{IsPast, NoLog, NoLogSynced, Syncs};
 
 use crate::Keeper;
 use crate::logs::OpenLog;
@@ -102,6 +103,7 @@ impl<F: LineWriter, H: Search> Keeper<F, H> {
         ensures told { IsTold result }
         ensures row { D.tells → (m : Machine) (job : Job) → Represents (view_of self.old) (D.view disk.old) m → job.conn ≡ conn → AsksFor (m.states conn) job.body (requests.Accept accept)
             → RowGives (view_of self.old) now job result m (view_of self.new) (D.view disk.old) (D.view disk.new) }
+        ensures syncs { D.tells → (m : Machine) → Represents (view_of self.old) (D.view disk.old) m → Syncs NoLog (view_of self.old) (view_of self.new) (D.view disk.old) (D.view disk.new) }
     {
         let Accept {
             head,
@@ -133,6 +135,7 @@ impl<F: LineWriter, H: Search> Keeper<F, H> {
         ensures told { IsTold result }
         ensures row { D.tells → (m : Machine) (job : Job) → Represents (view_of self.old) (D.view disk.old) m → job.conn ≡ conn → AsksFor (m.states conn) job.body (requests.Accept (accept_of head))
             → RowGives (view_of self.old) now job result m (view_of self.new) (D.view disk.old) (D.view disk.new) }
+        ensures syncs { D.tells → (m : Machine) → Represents (view_of self.old) (D.view disk.old) m → Syncs NoLog (view_of self.old) (view_of self.new) (D.view disk.old) (D.view disk.new) }
     {
         match self.open_log(disk, now, conn, head) {
             Ok(opened) => Told::Log(opened.number, opened.id),
@@ -164,6 +167,7 @@ impl<F: LineWriter, H: Search> Keeper<F, H> {
             → Begun (view_of self.old) now conn opened.number head m (view_of self.new) (D.view disk.old) (D.view disk.new)) }
         ensures stopped { D.tells → IfErr result (λ why. (m : Machine) → Represents (view_of self.old) (D.view disk.old) m
             → Stopped (view_of self.old) now conn (m.states conn) head m why (view_of self.new) (D.view disk.old) (D.view disk.new)) }
+        ensures syncs { D.tells → (m : Machine) → Represents (view_of self.old) (D.view disk.old) m → Syncs NoLog (view_of self.old) (view_of self.new) (D.view disk.old) (D.view disk.new) }
     {
         let Ok(prepared) = self.prepare() else {
             return Err(Refusal::OutOfMemory);
@@ -211,6 +215,9 @@ impl<F: LineWriter, H: Search> Keeper<F, H> {
         ensures none { D.tells → IfErr result (λ why. (m : Machine) → Represents (view_of self.old) (D.view disk.old) m
             → DrawsNone (view_of self.old) m why (view_of self.new) (D.view disk.old) (D.view disk.new)) }
         ensures beside { D.tells → (m : Machine) → Represents (view_of self.old) (D.view disk.old) m → Beside (view_of self.old).lane (view_of self.old).lanes None (D.view disk.old) (D.view disk.new) }
+        ensures syncs { D.tells → NoLogSynced (D.view disk.old) (D.view disk.new) }
+        ensures past { (n : ℕ) → IsPast (view_of self.old).numbers n → IsPast (view_of self.new).numbers n }
+        ensures fresh { D.tells → IfOk result (λ n. (m : Machine) → Represents (view_of self.old) (D.view disk.old) m → IsPast (view_of self.old).numbers n → ⊥) }
     {
         match self.numbers.draw(disk) {
             Ok(number) => Ok(number),

@@ -18,6 +18,7 @@ ghost use Rattle.lsv_machine.specs.History.{is_look};
 ghost use Rattle.lsv_keeper.specs.Leaving.{Departs, TakenOut};
 ghost use Rattle.lsv_keeper.specs.Value.{KeeperView, Keeps, owed, room, sessions_of, settings_of};
 ghost use Rattle.lsv_keeper.specs.declared.told.Told.{Told};
+ghost use Rattle.lsv_keeper.specs.Syncing.{NoLog, Syncs};
 
 use crate::Keeper;
 use crate::logs::OpenLog;
@@ -43,6 +44,7 @@ impl<F: LineWriter, H: Search> Keeper<F, H> {
         ensures noting { (view_of self.new).noting ≡ (view_of self.old).noting }
         ensures fewer { length (view_of self.new).waiting ≤ length (view_of self.old).waiting }
         ensures left { D.tells → (m : Machine) → Represents (view_of self.old) (D.view disk.old) m → Left conn state (view_of self.old) m (view_of self.new) (D.view disk.old) (D.view disk.new) }
+        ensures syncs { D.tells → (m : Machine) → Represents (view_of self.old) (D.view disk.old) m → Syncs NoLog (view_of self.old) (view_of self.new) (D.view disk.old) (D.view disk.new) }
     {
         match log_of(self.table.state(conn)) {
             Some(log) => match self.logs.take(log) {
@@ -75,6 +77,8 @@ impl<F: LineWriter, H: Search> Keeper<F, H> {
         ensures fewer { length (view_of self.new).waiting ≤ length (view_of self.old).waiting }
         ensures left { D.tells → (before : KeeperView) (m : Machine) → TakenOut log its before (view_of self.old) → Represents before (D.view disk.old) m → log_of (m.states conn) ≡ Some log
             → Left conn state before m (view_of self.new) (D.view disk.old) (D.view disk.new) }
+        ensures syncs { D.tells → (before : KeeperView) (m : Machine) → TakenOut log its before (view_of self.old) → Represents before (D.view disk.old) m → log_of (m.states conn) ≡ Some log
+            → Syncs NoLog before (view_of self.new) (D.view disk.old) (D.view disk.new) }
     {
         let mut its = its;
         let _ = its.log.flush(disk);
@@ -102,6 +106,7 @@ impl<F: LineWriter, H: Search> Keeper<F, H> {
         ensures row { D.tells → (m : Machine) (job : Job) (now : TimeSpec) → Represents (view_of self.old) (D.view disk.old) m → job.conn ≡ conn → is_dead (m.states conn) ≡ false
             → is_look (refusal conn why) ≡ false → ((n : ℕ) → plain (settings_of (view_of self.old)) now job n m ≡ refused conn why m)
             → RowGives (view_of self.old) now job result m (view_of self.new) (D.view disk.old) (D.view disk.new) }
+        ensures syncs { D.tells → (m : Machine) → Represents (view_of self.old) (D.view disk.old) m → Syncs NoLog (view_of self.old) (view_of self.new) (D.view disk.old) (D.view disk.new) }
     {
         self.leave(disk, conn, ConnState::Dead);
         Told::Refused(why)
@@ -114,6 +119,7 @@ impl<F: LineWriter, H: Search> Keeper<F, H> {
         ensures told { result ≡ Told.Farewell }
         ensures row { D.tells → (m : Machine) (job : Job) (now : TimeSpec) → Represents (view_of self.old) (D.view disk.old) m → job.conn ≡ conn → job.body ≡ bodies.Gone → is_dead (m.states conn) ≡ false
             → RowGives (view_of self.old) now job result m (view_of self.new) (D.view disk.old) (D.view disk.new) }
+        ensures syncs { D.tells → (m : Machine) → Represents (view_of self.old) (D.view disk.old) m → Syncs NoLog (view_of self.old) (view_of self.new) (D.view disk.old) (D.view disk.new) }
     {
         forget(&mut self.noting, conn);
         self.leave(disk, conn, ConnState::Fresh);
@@ -127,6 +133,7 @@ impl<F: LineWriter, H: Search> Keeper<F, H> {
         ensures told { result ≡ Told.Nothing }
         ensures row { D.tells → (m : Machine) (job : Job) (now : TimeSpec) → Represents (view_of self.old) (D.view disk.old) m → job.conn ≡ conn → job.body ≡ body.now → is_dead (m.states conn) ≡ true
             → RowGives (view_of self.old) now job result m (view_of self.new) (D.view disk.old) (D.view disk.new) }
+        ensures syncs { D.tells → (m : Machine) → Represents (view_of self.old) (D.view disk.old) m → Syncs NoLog (view_of self.old) (view_of self.new) (D.view disk.old) (D.view disk.new) }
     {
         if let Body::Gone = body {
             forget(&mut self.noting, conn);

@@ -13,6 +13,7 @@ ghost use Rattle.lsv_keeper.specs.Represents.{Represents};
 ghost use Rattle.lsv_keeper.specs.Rows.{IsTold, RowGives};
 ghost use Rattle.lsv_keeper.specs.Value.{Keeps, room, sessions_of};
 ghost use Rattle.lsv_keeper.specs.Views.{view_of};
+ghost use Rattle.lsv_keeper.specs.Syncing.{NoLog, Syncs};
 
 use crate::Keeper;
 use crate::logs::{Appended, log_refusal};
@@ -60,6 +61,7 @@ impl<F: LineWriter, H: Search> Keeper<F, H> {
         ensures told { IsTold result }
         ensures row { D.tells → (m : Machine) (job : Job) (now : TimeSpec) → Represents (view_of self.old) (D.view disk.old) m → job.conn ≡ conn → AsksFor (m.states conn) job.body (request.Record r)
             → RowGives (view_of self.old) now job result m (view_of self.new) (D.view disk.old) (D.view disk.new) }
+        ensures syncs { D.tells → (m : Machine) → Represents (view_of self.old) (D.view disk.old) m → Syncs NoLog (view_of self.old) (view_of self.new) (D.view disk.old) (D.view disk.new) }
     {
         let Some(log) = log_of(state) else {
             return Told::Nothing;
@@ -80,6 +82,7 @@ impl<F: LineWriter, H: Search> Keeper<F, H> {
         ensures told { IsTold result }
         ensures row { D.tells → (m : Machine) (job : Job) (now : TimeSpec) → Represents (view_of self.old) (D.view disk.old) m → job.conn ≡ conn → log_of (m.states conn) ≡ Some log → AsksFor (m.states conn) job.body (request.Record r)
             → RowGives (view_of self.old) now job result m (view_of self.new) (D.view disk.old) (D.view disk.new) }
+        ensures syncs { D.tells → (m : Machine) → Represents (view_of self.old) (D.view disk.old) m → log_of (m.states conn) ≡ Some log → Syncs NoLog (view_of self.old) (view_of self.new) (D.view disk.old) (D.view disk.new) }
     {
         match self.logs.append(log, &self.prompt, r) {
             Appended::Staged => {
@@ -102,6 +105,7 @@ impl<F: LineWriter, H: Search> Keeper<F, H> {
         ensures told { IsTold result }
         ensures row { D.tells → (m : Machine) (job : Job) (now : TimeSpec) → Represents (view_of self.old) (D.view disk.old) m → job.conn ≡ conn → is_dead (m.states conn) ≡ false → (job.body ≡ bodies.Gone → ⊥)
             → RowGives (view_of self.old) now job result m (view_of self.new) (D.view disk.old) (D.view disk.new) }
+        ensures syncs { D.tells → (m : Machine) → Represents (view_of self.old) (D.view disk.old) m → Syncs NoLog (view_of self.old) (view_of self.new) (D.view disk.old) (D.view disk.new) }
     {
         self.leave(disk, conn, ConnState::Dead);
         Told::Refused(Refusal::OutOfMemory)

@@ -1,6 +1,6 @@
 //! Restarts: a connection goes on with a log.
 
-ghost use Rattle.std.specs.Prelude.{◌≡◌, ◌≤◌, OnOk, IfOk, IfErr};
+ghost use Rattle.std.specs.Prelude.{◌≡◌, ◌≢◌, ◌≤◌, ℕ, OnOk, IfOk, IfErr};
 ghost use Rattle.lsv_base.specs.declared.time.TimeSpec.{TimeSpec};
 ghost use Rattle.lsv_disk.specs.declared.file.FileId.{FileId};
 ghost use Rattle.lsv_request.specs.declared.request.Request.TheVariants as request;
@@ -14,6 +14,7 @@ ghost use Rattle.lsv_keeper.specs.Resuming.{IsResumed, IsResumeFault};
 ghost use Rattle.lsv_keeper.specs.Rows.{IsTold, RowGives};
 ghost use Rattle.lsv_keeper.specs.Value.{IsReserved, Keeps, room};
 ghost use Rattle.lsv_keeper.specs.Views.{view_of};
+ghost use Rattle.lsv_keeper.specs.Syncing.{Syncs, Unsynced};
 
 use crate::Keeper;
 use crate::logs::OpenLog;
@@ -37,6 +38,7 @@ impl<F: LineWriter, H: Search> Keeper<F, H> {
         ensures told { IsTold result }
         ensures row { D.tells → (m : Machine) (job : Job) (now : TimeSpec) → Represents (view_of self.old) (D.view disk.old) m → job.conn ≡ conn → AsksFor (m.states conn) job.body (request.Restart restart)
             → RowGives (view_of self.old) now job result m (view_of self.new) (D.view disk.old) (D.view disk.new) }
+        ensures syncs { D.tells → (m : Machine) → Represents (view_of self.old) (D.view disk.old) m → Syncs (λ n. n ≡ restart.log) (view_of self.old) (view_of self.new) (D.view disk.old) (D.view disk.new) }
     {
         if self.table.owner(restart.log).is_some() {
             return self.refuse(disk, conn, Refusal::LogInUse);
@@ -65,6 +67,7 @@ impl<F: LineWriter, H: Search> Keeper<F, H> {
         ensures resumed { D.tells → IfOk result (λ its. IsResumed number point (view_of self.old).texts its (D.view disk.old) (D.view disk.new)) }
         ensures fault { D.tells → IfErr result (λ e. IsResumeFault number point e (D.view disk.old) (D.view disk.new)) }
         ensures monotone { (file : FileId) → (D.view disk.old).faults file ≤ (D.view disk.new).faults file }
+        ensures syncs { D.tells → (n : ℕ) → n ≢ number → Unsynced n (D.view disk.old) (D.view disk.new) }
     {
         if self.reserve_log().is_err() {
             return Err(LogFault::NoMem);

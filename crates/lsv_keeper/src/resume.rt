@@ -13,6 +13,7 @@ ghost use Rattle.lsv_mask.specs.Masking.{seen};
 ghost use Rattle.lsv_record.specs.Points.{Stored, cut, first};
 ghost use Rattle.lsv_keeper.specs.Represents.{Masks};
 ghost use Rattle.lsv_keeper.specs.Resuming.{IsResumed, IsResumeFault, IsViewOf, restart_refusal};
+ghost use Rattle.lsv_keeper.specs.Syncing.{Unsynced};
 
 use crate::logs::OpenLog;
 use lsv_base::{Bytes, List, LogNo, Point};
@@ -112,6 +113,7 @@ pub(crate) fn resume_log<D: Disk, H: Search>(
     ensures resumed { D.tells → IfOk result (λ its. IsResumed number point texts.now its (D.view disk.old) (D.view disk.new)) }
     ensures fault { D.tells → IfErr result (λ e. IsResumeFault number point e (D.view disk.old) (D.view disk.new)) }
     ensures monotone { (file : FileId) → (D.view disk.old).faults file ≤ (D.view disk.new).faults file }
+    ensures syncs { D.tells → (n : ℕ) → n ≢ number → Unsynced n (D.view disk.old) (D.view disk.new) }
 {
     let mut log = IoLog::open(alloc, disk, number)?;
     if log.is_complete() {

@@ -8,6 +8,7 @@ ghost use Rattle.lsv_keeper.specs.Represents.{Represents};
 ghost use Rattle.lsv_keeper.specs.Tails.{LinesGive, LogGives, LogsGive, RefusedGive, none_waits};
 ghost use Rattle.lsv_keeper.specs.Value.{SameSet, room, un_noted};
 ghost use Rattle.lsv_keeper.specs.Views.{view_of};
+ghost use Rattle.lsv_keeper.specs.Syncing.{NoLog, Syncs, SyncsOne, SyncsThese};
 
 use crate::Keeper;
 use crate::told::{Told, put_point, put_replies};
@@ -34,6 +35,7 @@ impl<F: LineWriter, H: Search> Keeper<F, H> {
         ensures room { room_in out.old ≤ room_in out.new + 2 * length (view_of self.old).noting }
         ensures lines { D.tells → (m : Machine) → Represents (view_of self.old) (D.view disk.old) m
             → LinesGive (view_of self.old) m out.old.items out.new.items (view_of self.new) (D.view disk.old) (D.view disk.new) }
+        ensures syncs { D.tells → (m : Machine) → Represents (view_of self.old) (D.view disk.old) m → Syncs NoLog (view_of self.old) (view_of self.new) (D.view disk.old) (D.view disk.new) }
     {
         let Err(fault) = self.events.flush(disk) else {
             self.noting.clear();
@@ -57,6 +59,7 @@ impl<F: LineWriter, H: Search> Keeper<F, H> {
         ensures room { room_in out.old ≤ room_in out.new + 2 * length (view_of self.old).noting }
         ensures refused { D.tells → (m : Machine) → Represents (un_noted (view_of self.old)) (D.view disk.old) m
             → RefusedGive (view_of self.old).noting (view_of self.old) m out.old.items out.new.items (view_of self.new) (D.view disk.old) (D.view disk.new) }
+        ensures syncs { D.tells → (m : Machine) → Represents (un_noted (view_of self.old)) (D.view disk.old) m → Syncs NoLog (view_of self.old) (view_of self.new) (D.view disk.old) (D.view disk.new) }
     {
         let noting = mem::replace(&mut self.noting, Vec::new(self.alloc));
         for conn in noting.iter() {
@@ -76,6 +79,7 @@ impl<F: LineWriter, H: Search> Keeper<F, H> {
         ensures room { room_in out.old ≤ room_in out.new + 2 }
         ensures refused { D.tells → (m : Machine) → Represents (view_of self.old) (D.view disk.old) m
             → RefusedGive (conn ∷ []) (view_of self.old) m out.old.items out.new.items (view_of self.new) (D.view disk.old) (D.view disk.new) }
+        ensures syncs { D.tells → (m : Machine) → Represents (view_of self.old) (D.view disk.old) m → Syncs NoLog (view_of self.old) (view_of self.new) (D.view disk.old) (D.view disk.new) }
     {
         if let ConnState::Dead = self.table.state(conn) {
             return;
@@ -94,6 +98,7 @@ impl<F: LineWriter, H: Search> Keeper<F, H> {
         ensures noting { (view_of self.new).noting ≡ (view_of self.old).noting }
         ensures logs { D.tells → (m : Machine) → Represents (view_of self.old) (D.view disk.old) m
             → LogsGive m.waiting (view_of self.old) m out.old.items out.new.items (view_of self.new) (D.view disk.old) (D.view disk.new) }
+        ensures syncs { D.tells → (m : Machine) → Represents (view_of self.old) (D.view disk.old) m → SyncsThese m.waiting (D.view disk.old) (D.view disk.new) }
     {
         let waiting = mem::replace(&mut self.waiting, Vec::new(self.alloc));
         for number in waiting.iter() {
@@ -114,6 +119,7 @@ impl<F: LineWriter, H: Search> Keeper<F, H> {
         ensures room { room_in out.old ≤ room_in out.new + 2 }
         ensures log { D.tells → (m : Machine) (k : ConnId) → Represents (view_of self.old) (D.view disk.old) (none_waits m) → m.owner number ≡ Some k
             → LogGives number (view_of self.old) m out.old.items out.new.items (view_of self.new) (D.view disk.old) (D.view disk.new) }
+        ensures syncs { D.tells → (m : Machine) (k : ConnId) → Represents (view_of self.old) (D.view disk.old) (none_waits m) → m.owner number ≡ Some k → SyncsOne number (D.view disk.old) (D.view disk.new) }
     {
         let Some(conn) = self.table.owner(number) else {
             return;

@@ -1,7 +1,8 @@
 //! A turn: its jobs, one after another, then its event lines, and then its commit points.
 
-ghost use Rattle.std.specs.Prelude.{◌≡◌, ◌≤◌, ◌+◌, ◌*◌, length, IsSome, OnOk};
+ghost use Rattle.std.specs.Prelude.{◌≡◌, ◌≤◌, ◌+◌, ◌*◌, ℕ, length, Some, IsSome, OnOk};
 ghost use Rattle.lsv_base.specs.Time.{nanos_of};
+ghost use Rattle.lsv_session.specs.declared.connection.ConnId.{ConnId};
 ghost use Rattle.lsv_machine.specs.Machine.{Machine};
 ghost use Rattle.lsv_keeper.specs.Replies.{room_in};
 ghost use Rattle.lsv_keeper.specs.Represents.{Represents};
@@ -9,6 +10,8 @@ ghost use Rattle.lsv_keeper.specs.Room.{HasRoom, IsRoomier};
 ghost use Rattle.lsv_keeper.specs.Tails.{JobsGive, TurnGives};
 ghost use Rattle.lsv_keeper.specs.Value.{IsResting, SameSet, owed, room};
 ghost use Rattle.lsv_keeper.specs.Views.{view_of};
+ghost use Rattle.lsv_keeper.specs.Syncing.{Syncs};
+ghost use Rattle.lsv_keeper.specs.Syncs.{AnyRestarts, SyncedOnce};
 
 use crate::Keeper;
 use lsv_base::{NoMem, TimeSpec};
@@ -53,6 +56,7 @@ impl<F: LineWriter, H: Search> Keeper<F, H> {
         ensures rests { IsResting (view_of self.new) }
         ensures turned { D.tells → (m : Machine) → Represents (view_of self.old) (D.view disk.old) m
             → TurnGives (view_of self.old) now jobs.items m out.old.items out.new.items (view_of self.new) (D.view disk.old) (D.view disk.new) }
+        ensures syncs { D.tells → (m : Machine) (n : ℕ) (k : ConnId) → Represents (view_of self.old) (D.view disk.old) m → m.owner n ≡ Some k → (AnyRestarts jobs.items n → ⊥) → SyncedOnce n (D.view disk.old) (D.view disk.new) }
     {
         self.answer_jobs(disk, now, jobs, out);
         self.flush_lines(disk, out);
@@ -77,6 +81,7 @@ impl<F: LineWriter, H: Search> Keeper<F, H> {
         ensures room { room_in out.old ≤ room_in out.new + 2 * length jobs.items }
         ensures answered { D.tells → (m : Machine) → Represents (view_of self.old) (D.view disk.old) m
             → JobsGive (view_of self.old) now jobs.items m out.old.items out.new.items (view_of self.new) (D.view disk.old) (D.view disk.new) }
+        ensures syncs { D.tells → (m : Machine) → Represents (view_of self.old) (D.view disk.old) m → Syncs (AnyRestarts jobs.items) (view_of self.old) (view_of self.new) (D.view disk.old) (D.view disk.new) }
     {
         for job in jobs {
             self.answer_job(disk, now, job, out);

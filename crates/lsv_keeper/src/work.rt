@@ -15,6 +15,8 @@ ghost use Rattle.lsv_keeper.specs.Rows.{IsTold, RowGives};
 ghost use Rattle.lsv_keeper.specs.Tails.{JobGives};
 ghost use Rattle.lsv_keeper.specs.Value.{Keeps, room, sessions_of};
 ghost use Rattle.lsv_keeper.specs.Views.{view_of};
+ghost use Rattle.lsv_keeper.specs.Syncing.{GoesOnWith, Syncs};
+ghost use Rattle.lsv_keeper.specs.Syncs.{Restarts};
 
 use crate::Keeper;
 use crate::record::windowed;
@@ -45,6 +47,7 @@ impl<F: LineWriter, H: Search> Keeper<F, H> {
         ensures room { room_in out.old ≤ room_in out.new + 2 }
         ensures answered { D.tells → (m : Machine) → Represents (view_of self.old) (D.view disk.old) m
             → JobGives (view_of self.old) now job m out.old.items out.new.items (view_of self.new) (D.view disk.old) (D.view disk.new) }
+        ensures syncs { D.tells → (m : Machine) → Represents (view_of self.old) (D.view disk.old) m → Syncs (Restarts job.body) (view_of self.old) (view_of self.new) (D.view disk.old) (D.view disk.new) }
     {
         let Job { conn, body } = job;
         let told = self.answer(disk, now, conn, body);
@@ -60,6 +63,7 @@ impl<F: LineWriter, H: Search> Keeper<F, H> {
         ensures told { IsTold result }
         ensures row { D.tells → (m : Machine) (job : Job) → Represents (view_of self.old) (D.view disk.old) m → job.conn ≡ conn → job.body ≡ body
             → RowGives (view_of self.old) now job result m (view_of self.new) (D.view disk.old) (D.view disk.new) }
+        ensures syncs { D.tells → (m : Machine) → Represents (view_of self.old) (D.view disk.old) m → Syncs (Restarts body) (view_of self.old) (view_of self.new) (D.view disk.old) (D.view disk.new) }
     {
         if let ConnState::Dead = self.table.state(conn) {
             return self.drop_job(disk, conn, &body);
@@ -77,6 +81,7 @@ impl<F: LineWriter, H: Search> Keeper<F, H> {
         ensures told { IsTold result }
         ensures row { D.tells → (m : Machine) (job : Job) → Represents (view_of self.old) (D.view disk.old) m → job.conn ≡ conn → job.body ≡ body
             → RowGives (view_of self.old) now job result m (view_of self.new) (D.view disk.old) (D.view disk.new) }
+        ensures syncs { D.tells → (m : Machine) → Represents (view_of self.old) (D.view disk.old) m → Syncs (Restarts body) (view_of self.old) (view_of self.new) (D.view disk.old) (D.view disk.new) }
     {
         match body {
             Body::Msg(message) => self.hear(disk, now, conn, message),
@@ -101,6 +106,7 @@ impl<F: LineWriter, H: Search> Keeper<F, H> {
         ensures told { IsTold result }
         ensures row { D.tells → (m : Machine) (job : Job) → Represents (view_of self.old) (D.view disk.old) m → job.conn ≡ conn → job.body ≡ bodies.Msg message
             → RowGives (view_of self.old) now job result m (view_of self.new) (D.view disk.old) (D.view disk.new) }
+        ensures syncs { D.tells → (m : Machine) → Represents (view_of self.old) (D.view disk.old) m → Syncs (Restarts (bodies.Msg message)) (view_of self.old) (view_of self.new) (D.view disk.old) (D.view disk.new) }
     {
         let message = windowed(message);
         match judged(self.table.state(conn), message) {
@@ -130,6 +136,7 @@ impl<F: LineWriter, H: Search> Keeper<F, H> {
         ensures told { IsTold result }
         ensures row { D.tells → (m : Machine) (job : Job) → Represents (view_of self.old) (D.view disk.old) m → job.conn ≡ conn → AsksFor (m.states conn) job.body request
             → RowGives (view_of self.old) now job result m (view_of self.new) (D.view disk.old) (D.view disk.new) }
+        ensures syncs { D.tells → (m : Machine) → Represents (view_of self.old) (D.view disk.old) m → Syncs (GoesOnWith request) (view_of self.old) (view_of self.new) (D.view disk.old) (D.view disk.new) }
     {
         match request {
             Request::Hello => self.greet(disk, conn),

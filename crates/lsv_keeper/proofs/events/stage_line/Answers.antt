@@ -23,6 +23,7 @@ use Rattle.lsv_keeper.proofs.AddingLines.{add_fault, added_whole, failed_is, lin
 use Rattle.lsv_keeper.proofs.Counting.{owner_rose}
 use Rattle.lsv_keeper.proofs.Frames.{Laws, beside_events, beside_none}
 use Rattle.lsv_keeper.proofs.Numbering.{numbers_fit}
+use Rattle.lsv_keeper.proofs.Syncing.{lines_opened}
 use Rattle.lsv_keeper.proofs.events.stage_line.Goals as goal
 
 abbrev err_of : (T : Type 0) → BundleFault → Result T BundleFault
@@ -155,3 +156,12 @@ returns-in-Err-add-clause-beside g c told v m lane here at =
     beside_for v c.args.lane (g.D.Disk.view a) (g.D.Disk.view b) m lane (record { reads_itself = g.met.D.Disk.reads_itself told a; is_now = g.met.D.Disk.is_now told a; only_now = g.met.D.Disk.only_now told a })
     (record { reads_itself = g.met.D.Disk.reads_itself told b; is_now = g.met.D.Disk.is_now told b; only_now = g.met.D.Disk.only_now told b }) at
     (c.open.ensures.any_moment told) (c.open.ensures.reads told) (c.open.ensures.reads_back told) c.open.ensures.cause.monotone
+
+pub returns-in-Err-open-clause-syncs : goal.returns-in-Err-open-clause-syncs
+returns-in-Err-open-clause-syncs g c told = lines_opened c.args.lane 6 9 _ (g.D.Disk.view c.args.disk.now) (g.D.Disk.view c.open.new.disk) (c.open.ensures.calls told)
+
+pub returns-in-Ok-add-clause-syncs : goal.returns-in-Ok-add-clause-syncs
+returns-in-Ok-add-clause-syncs g c told = lines_opened c.args.lane 6 9 _ (g.D.Disk.view c.args.disk.now) (g.D.Disk.view c.open.new.disk) (c.open.ensures.calls told)
+
+pub returns-in-Err-add-clause-syncs : goal.returns-in-Err-add-clause-syncs
+returns-in-Err-add-clause-syncs g c told = lines_opened c.args.lane 6 9 _ (g.D.Disk.view c.args.disk.now) (g.D.Disk.view c.open.new.disk) (c.open.ensures.calls told)

@@ -1,10 +1,11 @@
 -- The log is opened, its records are seen, and it is cut.
 use Rattle.std.proofs.Common.{◌≡◌, ℕ, true, false, Some, Result, Err, IsErrOf, sym, ◌∙◌, ap, subst, arith}
-use Rattle.lsv_disk.specs.Throughout.{Throughout}
+use Rattle.lsv_disk.specs.Throughout.{Throughout, CallsAtMost}
 use Rattle.lsv_disk.specs.declared.file.Part.TheVariants.{Slots}
+use Rattle.lsv_bundle.specs.Shape.{journal_of}
 use Rattle.lsv_iolog.specs.Later.{cut_log}
 use Rattle.lsv_iolog.specs.Moments.{IsCutFault, IsEither}
-use Rattle.lsv_iolog.specs.Recovered.{IsOfLog}
+use Rattle.lsv_iolog.specs.Recovered.{IsOfLog, owner_of}
 use Rattle.lsv_iolog.specs.Value.{IoLogView, bare}
 use Rattle.lsv_iolog.specs.declared.fault.LogFault.{LogFault}
 use Rattle.lsv_iolog.specs.declared.fault.LogFault.TheVariants as logs
@@ -14,6 +15,7 @@ use Rattle.lsv_mask.specs.Masking.{Seen}
 use Rattle.lsv_keeper.specs.Resuming.{IsResumeFault, LogRose}
 use Rattle.lsv_keeper.proofs.Frames.{Laws}
 use Rattle.lsv_keeper.proofs.Looking.{complete_exit, cut_fault, cut_into, err_as, found_read, open_holds, open_read, opened_fault, read_fault, rose_in_second}
+use Rattle.lsv_keeper.proofs.Syncing.{cut_others, opened_others, reads_none, unsynced_on}
 use Rattle.lsv_keeper.proofs.resume.resume_log.Goals as goal
 
 log_err : (e d : LogFault) → e ≡ d → IsErrOf {T = IoLogView} (Err e) d
@@ -117,3 +119,35 @@ returns-in_ok-cut_at-in-Ok-clause-resumed g c told =
       number = c.cut_at.ensures.same.0 ∙ number;
       mask = c.in-Ok.ensures.masks told f.0 ((c.open.ensures.reads told).forth (Some f.0) f.1);
     }
+
+pub returns-in_err-log-clause-syncs : goal.returns-in_err-log-clause-syncs
+returns-in_err-log-clause-syncs g c told n other = opened_others n c.args.number 3 5 _ (g.D.Disk.view c.args.disk.now) (g.D.Disk.view c.open.new.disk) (c.open.ensures.calls told) other
+
+pub returns-then-is_complete-clause-syncs : goal.returns-then-is_complete-clause-syncs
+returns-then-is_complete-clause-syncs g c told n other = opened_others n c.args.number 3 5 _ (g.D.Disk.view c.args.disk.now) (g.D.Disk.view c.open.new.disk) (c.open.ensures.calls told) other
+
+pub returns-in-Err-clause-syncs : goal.returns-in-Err-clause-syncs
+returns-in-Err-clause-syncs g c told n other =
+    let old = g.D.Disk.view c.args.disk.now in
+    let one = g.D.Disk.view c.open.new.disk in
+    let two = g.D.Disk.view c.mask_behind.new.disk in
+    let read = unsynced_on n old one two (opened_others n c.args.number 3 5 _ old one (c.open.ensures.calls told) other) (reads_none one two (c.mask_behind.ensures.reads told) n) in
+    read
+
+pub returns-in_err-cut_at-in-Ok-clause-syncs : goal.returns-in_err-cut_at-in-Ok-clause-syncs
+returns-in_err-cut_at-in-Ok-clause-syncs g c told n other =
+    let old = g.D.Disk.view c.args.disk.now in
+    let one = g.D.Disk.view c.open.new.disk in
+    let two = g.D.Disk.view c.mask_behind.new.disk in
+    let read = unsynced_on n old one two (opened_others n c.args.number 3 5 _ old one (c.open.ensures.calls told) other) (reads_none one two (c.mask_behind.ensures.reads told) n) in
+    let three = g.D.Disk.view c.cut_at.new.disk in
+    unsynced_on n old two three read (cut_others n c.args.number 2 2 two three (subst (λ (i : ℕ). CallsAtMost 2 2 (λ file. file ≡ journal_of (owner_of i)) two three) c.in_ok-log.ensures.number (c.cut_at.ensures.calls told)) other)
+
+pub returns-in_ok-cut_at-in-Ok-clause-syncs : goal.returns-in_ok-cut_at-in-Ok-clause-syncs
+returns-in_ok-cut_at-in-Ok-clause-syncs g c told n other =
+    let old = g.D.Disk.view c.args.disk.now in
+    let one = g.D.Disk.view c.open.new.disk in
+    let two = g.D.Disk.view c.mask_behind.new.disk in
+    let read = unsynced_on n old one two (opened_others n c.args.number 3 5 _ old one (c.open.ensures.calls told) other) (reads_none one two (c.mask_behind.ensures.reads told) n) in
+    let three = g.D.Disk.view c.cut_at.new.disk in
+    unsynced_on n old two three read (cut_others n c.args.number 2 2 two three (subst (λ (i : ℕ). CallsAtMost 2 2 (λ file. file ≡ journal_of (owner_of i)) two three) c.in_ok-log.ensures.number (c.cut_at.ensures.calls told)) other)

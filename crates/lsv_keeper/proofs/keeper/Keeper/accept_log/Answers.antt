@@ -4,7 +4,9 @@ use Rattle.lsv_session.specs.declared.connection.ConnState.TheVariants.{Dead}
 use Rattle.lsv_machine.specs.Machine.{is_running}
 use Rattle.lsv_keeper.specs.Value.{sessions_of}
 use Rattle.lsv_keeper.specs.Views.{view_of}
+use Rattle.lsv_keeper.specs.Syncing.{NoLog}
 use Rattle.lsv_keeper.proofs.Making.{begun_at, keeps_then, room_in_any, stopped_at}
+use Rattle.lsv_keeper.proofs.Syncing.{followed}
 use Rattle.lsv_keeper.proofs.keeper.Keeper.accept_log.Goals as goal
 
 pub leave-requires-clause-stands : goal.leave-requires-clause-stands
@@ -32,3 +34,9 @@ returns-in-Err-clause-row g c told m job at e a =
     (record { reads_itself = g.met.D.Disk.reads_itself told d0; is_now = g.met.D.Disk.is_now told d0; only_now = g.met.D.Disk.only_now told d0 })
     (record { reads_itself = g.met.D.Disk.reads_itself told d1; is_now = g.met.D.Disk.is_now told d1; only_now = g.met.D.Disk.only_now told d1 })
     c.open_log.ensures.keeps (ap is_running (at.states c.args.conn) ∙ c.requires.free) x (c.leave.ensures.left told x.left x.represents) job e a
+
+pub returns-in-Err-clause-syncs : goal.returns-in-Err-clause-syncs
+returns-in-Err-clause-syncs g c told m at =
+    let x = c.in-Err.ensures.stopped told m at in
+    followed NoLog (view_of c.args.self.now) (view_of c.open_log.new.self) (view_of c.leave.new.self) (g.D.Disk.view c.args.disk.now) (g.D.Disk.view c.open_log.new.disk) (g.D.Disk.view c.leave.new.disk)
+    (c.open_log.ensures.syncs told m at) (c.leave.ensures.syncs told x.left x.represents)

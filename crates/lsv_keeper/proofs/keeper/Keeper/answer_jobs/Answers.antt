@@ -4,7 +4,10 @@ use Rattle.lsv_session.specs.declared.job.Job.{Job}
 use Rattle.lsv_keeper.specs.Replies.{room_in}
 use Rattle.lsv_keeper.specs.Tails.{JobsGive}
 use Rattle.lsv_keeper.specs.Views.{view_of}
+use Rattle.lsv_keeper.specs.Syncing.{Syncs}
+use Rattle.lsv_keeper.specs.Syncs.{AnyRestarts}
 use Rattle.lsv_keeper.proofs.Turning.{answering_on, answering_start}
+use Rattle.lsv_keeper.proofs.Syncing.{jobs_on, nothing}
 use Rattle.lsv_keeper.proofs.keeper.Keeper.answer_jobs.Goals as goal
 
 nothing_left : (jobs : List Job) → length jobs ≡ 0 → jobs ≡ []
@@ -19,6 +22,7 @@ loop-job-init g c =
       counted = let e = ap length gives.0 in omega (arith, gives.1, c.args.jobs.ok.0, e);
       done = answering_start g.D.Disk.tells c.args.now (view_of c.args.self.now) (room_in c.args.out.now) c.args.out.now.items (g.D.Disk.view c.args.disk.now)
           (λ told. record { reads_itself = g.met.D.Disk.reads_itself told c.args.disk.now; is_now = g.met.D.Disk.is_now told c.args.disk.now; only_now = g.met.D.Disk.only_now told c.args.disk.now });
+      synced = λ told m at. nothing (AnyRestarts []) (view_of c.args.self.now) (view_of c.args.self.now) (g.D.Disk.view c.args.disk.now) refl refl;
     }
 
 pub answer_job-requires-clause-stands : goal.answer_job-requires-clause-stands
@@ -33,6 +37,10 @@ loop-job-preserved g c =
       done = answering_on g.D.Disk.tells c.args.now c.loop-job.yielded c.in-Some.job (view_of c.args.self.now) (view_of c.loop-job.self) (view_of c.answer_job.new.self)
           (room_in c.args.out.now) (room_in c.loop-job.out) (room_in c.answer_job.new.out) c.args.out.now.items c.loop-job.out.items c.answer_job.new.out.items
           (g.D.Disk.view c.args.disk.now) (g.D.Disk.view c.loop-job.disk) (g.D.Disk.view c.answer_job.new.disk) c.loop-job.invariant.done c.answer_job.ensures.keeps c.answer_job.ensures.room c.answer_job.ensures.answered;
+      synced = λ told m at.
+          let d = c.loop-job.invariant.done.jobs told m at in
+          jobs_on c.loop-job.yielded c.in-Some.job (view_of c.args.self.now) (view_of c.loop-job.self) (view_of c.answer_job.new.self) (g.D.Disk.view c.args.disk.now) (g.D.Disk.view c.loop-job.disk) (g.D.Disk.view c.answer_job.new.disk)
+          (c.loop-job.invariant.synced told m at) (c.answer_job.ensures.syncs told d.after d.represents);
     }
 
 pub returns-clause-answered : goal.returns-clause-answered
@@ -41,3 +49,9 @@ returns-clause-answered g c told m at =
     let all : c.loop-job.yielded ≡ c.args.jobs.items = sym (append-nil c.loop-job.yielded) ∙ (ap (λ (x : List Job). c.loop-job.yielded ++ x) (sym empty) ∙ c.loop-job.invariant.items) in
     subst (λ (jobs : List Job). JobsGive (view_of c.args.self.now) c.args.now jobs m c.args.out.now.items c.loop-job.out.items (view_of c.loop-job.self) (g.D.Disk.view c.args.disk.now) (g.D.Disk.view c.loop-job.disk)) all
     (c.loop-job.invariant.done.jobs told m at)
+
+pub returns-clause-syncs : goal.returns-clause-syncs
+returns-clause-syncs g c told m at =
+    let empty : into_iter_items c.loop-job.job-iterator ≡ [] = nothing_left (into_iter_items c.loop-job.job-iterator) (sym c.loop-job.invariant.counted ∙ c.in-None.ensures.steps.0) in
+    let all : c.loop-job.yielded ≡ c.args.jobs.items = sym (append-nil c.loop-job.yielded) ∙ (ap (λ (x : List Job). c.loop-job.yielded ++ x) (sym empty) ∙ c.loop-job.invariant.items) in
+    subst (λ (jobs : List Job). Syncs (AnyRestarts jobs) (view_of c.args.self.now) (view_of c.loop-job.self) (g.D.Disk.view c.args.disk.now) (g.D.Disk.view c.loop-job.disk)) all (c.loop-job.invariant.synced told m at)

@@ -1,6 +1,10 @@
 use Rattle.std.proofs.Common.{◌≡◌, ◌++◌, length}
 use Rattle.std.specs.Vec.Iter.{into_iter_items, into_iter_len}
+use Rattle.lsv_machine.specs.Machine.{Machine}
 use Rattle.lsv_keeper.specs.Replies.{room_in}
+use Rattle.lsv_keeper.specs.Represents.{Represents}
+use Rattle.lsv_keeper.specs.Syncing.{Syncs}
+use Rattle.lsv_keeper.specs.Syncs.{AnyRestarts}
 use Rattle.lsv_keeper.specs.Views.{view_of}
 use Rattle.lsv_keeper.proofs.Turning.{Answering}
 use Rattle.lsv_keeper.proofs.keeper.Keeper.answer_jobs.Given as goal
@@ -10,4 +14,5 @@ invariant-loop-job g l = record {
   items : l.yielded ++ into_iter_items l.job-iterator ≡ l.fn.jobs.items;
   counted : into_iter_len l.job-iterator ≡ length (into_iter_items l.job-iterator);
   done : Answering g.D.Disk.tells l.fn.now l.yielded (view_of l.fn.self) (view_of l.self) (room_in l.fn.out) (room_in l.out) l.fn.out.items l.out.items (g.D.Disk.view l.fn.disk) (g.D.Disk.view l.disk);
+  synced : g.D.Disk.tells → (m : Machine) → Represents (view_of l.fn.self) (g.D.Disk.view l.fn.disk) m → Syncs (AnyRestarts l.yielded) (view_of l.fn.self) (view_of l.self) (g.D.Disk.view l.fn.disk) (g.D.Disk.view l.disk);
 }

@@ -12,6 +12,7 @@ use Rattle.lsv_keeper.specs.Views.{view_of}
 use Rattle.lsv_keeper.proofs.Counting.{owner_rose}
 use Rattle.lsv_keeper.proofs.Drawing.{draw_beside, last_rises, number_drawn}
 use Rattle.lsv_keeper.proofs.Making.{draw_err, draws_none}
+use Rattle.lsv_keeper.proofs.Syncing.{draw_unsynced, drawn_fresh, past_on}
 use Rattle.lsv_keeper.proofs.keeper.Keeper.draw.Goals as goal
 
 pub draw-requires : goal.draw-requires
@@ -53,3 +54,21 @@ returns-in-Err-clause-beside g c told m at =
     (record { reads_itself = g.met.D.Disk.reads_itself told d0; is_now = g.met.D.Disk.is_now told d0; only_now = g.met.D.Disk.only_now told d0 })
     (record { reads_itself = g.met.D.Disk.reads_itself told d1; is_now = g.met.D.Disk.is_now told d1; only_now = g.met.D.Disk.only_now told d1 })
     at c.draw.ensures.lane (last_rises c.args.self.now.numbers c.draw.new.self c.in-Err.ensures.kept) (c.draw.ensures.any_moment told) c.draw.ensures.cause.monotone
+
+pub returns-in-Ok-clause-syncs : goal.returns-in-Ok-clause-syncs
+returns-in-Ok-clause-syncs g c told = draw_unsynced (lane_of c.args.self.now.numbers) 5 7 _ (g.D.Disk.view c.args.disk.now) (g.D.Disk.view c.draw.new.disk) (c.draw.ensures.calls told)
+
+pub returns-in-Ok-clause-past : goal.returns-in-Ok-clause-past
+returns-in-Ok-clause-past g c = past_on c.args.self.now.numbers c.draw.new.self c.draw.ensures.lane (let above : last_of c.args.self.now.numbers < c.in-Ok.number = c.in-Ok.ensures.above in let is = c.in-Ok.ensures.drawn.0 in omega arith)
+
+pub returns-in-Ok-clause-fresh : goal.returns-in-Ok-clause-fresh
+returns-in-Ok-clause-fresh g c told m at =
+    let d = number_drawn (view_of c.args.self.now) c.draw.new.self (g.D.Disk.view c.args.disk.now) (g.D.Disk.view c.draw.new.disk) m c.in-Ok.number at c.draw.ensures.lane c.in-Ok.ensures.drawn.0 c.in-Ok.ensures.drawn.1 c.in-Ok.ensures.after
+    (c.draw.ensures.represents told) (c.draw.ensures.any_moment told).elsewhere in
+    drawn_fresh (view_of c.args.self.now) (g.D.Disk.view c.args.disk.now) m c.in-Ok.number at d.0 c.in-Ok.ensures.above
+
+pub returns-in-Err-clause-syncs : goal.returns-in-Err-clause-syncs
+returns-in-Err-clause-syncs g c told = draw_unsynced (lane_of c.args.self.now.numbers) 5 7 _ (g.D.Disk.view c.args.disk.now) (g.D.Disk.view c.draw.new.disk) (c.draw.ensures.calls told)
+
+pub returns-in-Err-clause-past : goal.returns-in-Err-clause-past
+returns-in-Err-clause-past g c = past_on c.args.self.now.numbers c.draw.new.self c.draw.ensures.lane (last_rises c.args.self.now.numbers c.draw.new.self c.in-Err.ensures.kept)

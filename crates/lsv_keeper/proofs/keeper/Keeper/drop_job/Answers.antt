@@ -1,4 +1,4 @@
-use Rattle.std.proofs.Common.{◌≡◌, ◌∙◌, subst, sym}
+use Rattle.std.proofs.Common.{◌≡◌, ◌∙◌, subst, sym, refl}
 use Rattle.std.specs.Prelude.{true}
 use Rattle.lsv_disk.specs.View.{DiskView}
 use Rattle.lsv_session.specs.declared.connection.ConnId.{ConnId}
@@ -8,9 +8,11 @@ use Rattle.lsv_keeper.specs.Rows.{Left, RowGives}
 use Rattle.lsv_keeper.specs.Value.{KeeperView, Keeps}
 use Rattle.lsv_keeper.specs.Views.{view_of}
 use Rattle.lsv_keeper.specs.declared.told.Told.TheVariants.{Nothing}
+use Rattle.lsv_keeper.specs.Syncing.{NoLog, Syncs}
 use Rattle.lsv_keeper.proofs.Departing.{forget_represents, keeps_forget, keeps_same}
 use Rattle.lsv_keeper.proofs.Frames.{Laws}
 use Rattle.lsv_keeper.proofs.Leaving.{forgotten_row, ignored_row}
+use Rattle.lsv_keeper.proofs.Syncing.{noted_else, nothing}
 use Rattle.lsv_keeper.proofs.keeper.Keeper.drop_job.Goals as goal
 use Rattle.lsv_keeper.proofs.keeper.Keeper.drop_job.Goals.{in-Gone, in_default}
 
@@ -42,4 +44,17 @@ returns-clause-row g c told m job now at is body dead =
           (w.leave.ensures.left told mid (forget_represents v old m c.args.conn w.forget.new.conns.items w.forget.ensures at)))))
       | in_default w ↦ subst (λ s. RowGives v now job Nothing m (view_of s) old (g.D.Disk.view c.match-body.disk)) (sym w.self-is)
           (subst (λ d. RowGives v now job Nothing m v old (g.D.Disk.view d)) (sym w.disk-is) (ignored_row v now job m old laws at dead' (λ gone. w.in_default.not-Gone (sym body ∙ gone))))
+    ]
+
+pub returns-clause-syncs : goal.returns-clause-syncs
+returns-clause-syncs g c told m at =
+    let old : DiskView = g.D.Disk.view c.args.disk.now in
+    let v : KeeperView = view_of c.args.self.now in
+    elim c.match-body.branch [
+      | in-Gone w ↦ subst (λ s. Syncs NoLog v (view_of s) old (g.D.Disk.view c.match-body.disk)) (sym w.self-is)
+          (subst (λ d. Syncs NoLog v (view_of w.leave.new.self) old (g.D.Disk.view d)) (sym w.disk-is)
+          (noted_else NoLog v (view_of w.leave.new.self) w.forget.new.conns.items old (g.D.Disk.view w.leave.new.disk)
+          (w.leave.ensures.syncs told (record m { noting = without_conn c.args.conn m.noting }) (forget_represents v old m c.args.conn w.forget.new.conns.items w.forget.ensures at))))
+      | in_default w ↦ subst (λ s. Syncs NoLog v (view_of s) old (g.D.Disk.view c.match-body.disk)) (sym w.self-is)
+          (subst (λ d. Syncs NoLog v v old (g.D.Disk.view d)) (sym w.disk-is) (nothing NoLog v v old refl refl))
     ]

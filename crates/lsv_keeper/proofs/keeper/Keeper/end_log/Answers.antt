@@ -19,11 +19,13 @@ use Rattle.lsv_keeper.specs.declared.logs.OpenLog.{OpenLog}
 use Rattle.lsv_keeper.specs.Value.{KeeperView, log_in, sessions_of}
 use Rattle.lsv_keeper.specs.Views.{view_of}
 use Rattle.lsv_keeper.specs.declared.told.Told.TheVariants as told
+use Rattle.lsv_keeper.specs.Syncing.{NoLog, Syncs}
 use Rattle.lsv_keeper.proofs.Departing.{departs_keeps, departs_owed, room_one, value_of}
 use Rattle.lsv_keeper.proofs.ExitEnds.{EndsLog, closed_ones, departs_from, keeps_from, keeps_line, log_failed, log_line_refused, log_not_ended, log_told, stands_told, unended_out}
 use Rattle.lsv_keeper.proofs.Frames.{Laws}
 use Rattle.lsv_keeper.proofs.Opens.{one_open}
 use Rattle.lsv_keeper.proofs.Refusing.{written_open}
+use Rattle.lsv_keeper.proofs.Syncing.{ended_once, followed, line_quiet}
 use Rattle.lsv_keeper.proofs.keeper.Keeper.end_log.Goals as goal
 
 pub returns-in_default-clause-row : goal.returns-in_default-clause-row
@@ -148,6 +150,14 @@ pub returns : goal.returns
 returns g c = record {
   keeps = keeps_from (view_of c.args.self.now) (view_of c.let_go.new.self) c.take.new.self c.let_go.ensures.keeps;
   told = tt;
+  syncs = λ told_is m at state.
+      let v : KeeperView = view_of c.args.self.now in
+      let here : log_in v c.args.log ≡ Some c.in-Some.its = sym c.in-Some.ensures.taken in
+      let left : OpenLog = record { log = c.finish.new.self; mask = c.in-Some.its.mask } in
+      let un = c.in-Err.ensures.unchanged c.in_default-fault.not-Disk in
+      let out : TakenOut c.args.log left v (record v { logs = c.take.new.self }) = unended_out v c.take.new.self c.args.log c.in-Some.its left here un.0 c.take.ensures.rest in
+      subst (λ d. Syncs NoLog v (view_of c.let_go.new.self) (g.D.Disk.view d) (g.D.Disk.view c.let_go.new.disk)) un.1
+      (c.let_go.ensures.syncs told_is v m out (subst (λ d. keepers.Represents v (g.D.Disk.view d) m) (sym un.1) at) state);
   row = λ told_is m job at is state asks.
       let v : KeeperView = view_of c.args.self.now in
       let v' : KeeperView = view_of c.let_go.new.self in
@@ -168,3 +178,47 @@ returns g c = record {
       (log_not_ended v v' old new m c.args.log c.args.now its c.args.exit c.in-Some.its c.in-Err.fault laws at asks state here c.in-Err.ensures.fault c.in_default-fault.not-Disk
       (λ e. c.finish.ensures.broken.0 (c.in-Err.is ∙ ap (λ (f : LogFault). Err f) e)) (λ e. c.finish.ensures.full (c.in-Err.is ∙ ap (λ (f : LogFault). Err f) e)) gone));
 }
+
+pub returns-in_default-clause-syncs : goal.returns-in_default-clause-syncs
+returns-in_default-clause-syncs g c told_is m at state =
+    absurd (written_open (view_of c.args.self.now) (g.D.Disk.view c.args.disk.now) m c.args.conn c.args.log at state (λ its here. let e : None ≡ Some its = sym c.in_default.is ∙ c.take.ensures.taken ∙ here in absurd (cc)))
+
+pub returns-then-is_complete-clause-syncs : goal.returns-then-is_complete-clause-syncs
+returns-then-is_complete-clause-syncs g c told_is m at state =
+    let v : KeeperView = view_of c.args.self.now in
+    let here : log_in v c.args.log ≡ Some c.in-Some.its = sym c.in-Some.ensures.taken in
+    absurd (written_open v (g.D.Disk.view c.args.disk.now) m c.args.conn c.args.log at state
+    (λ o there. subst (λ (x : OpenLog). is_complete x.log ≡ true) (one_open (log_in v) c.args.log c.in-Some.its o here there) (sym c.is_complete.ensures ∙ c.if-is_complete.true)))
+
+pub returns-in-Ok-exit_line-clause-syncs : goal.returns-in-Ok-exit_line-clause-syncs
+returns-in-Ok-exit_line-clause-syncs g c told_is m at state =
+    let v : KeeperView = view_of c.args.self.now in
+    let v1 : KeeperView = view_of c.release.new.self in
+    let old : DiskView = g.D.Disk.view c.args.disk.now in
+    let mid : DiskView = g.D.Disk.view c.finish.new.disk in
+    let here : log_in v c.args.log ≡ Some c.in-Some.its = sym c.in-Some.ensures.taken in
+    let departs : Departs (Some c.args.log) c.args.conn Dead v v1 = departs_from v v1 c.take.new.self (Some c.args.log) c.args.conn Dead c.release.ensures.departs in
+    let ended = ended_once c.args.log c.in-Some.its v v1 old mid m c.args.conn Dead at state here departs (c.finish.ensures.calls told_is) in
+    followed NoLog v v1 (view_of c.exit_line.new.self) old mid (g.D.Disk.view c.exit_line.new.disk) ended (line_quiet NoLog v1 (view_of c.exit_line.new.self) mid (g.D.Disk.view c.exit_line.new.disk) c.exit_line.ensures.same (c.exit_line.ensures.syncs told_is))
+
+pub returns-in-Ok-clause-syncs : goal.returns-in-Ok-clause-syncs
+returns-in-Ok-clause-syncs g c told_is m at state =
+    let v : KeeperView = view_of c.args.self.now in
+    let v1 : KeeperView = view_of c.release.new.self in
+    let old : DiskView = g.D.Disk.view c.args.disk.now in
+    let mid : DiskView = g.D.Disk.view c.finish.new.disk in
+    let here : log_in v c.args.log ≡ Some c.in-Some.its = sym c.in-Some.ensures.taken in
+    let departs : Departs (Some c.args.log) c.args.conn Dead v v1 = departs_from v v1 c.take.new.self (Some c.args.log) c.args.conn Dead c.release.ensures.departs in
+    let ended = ended_once c.args.log c.in-Some.its v v1 old mid m c.args.conn Dead at state here departs (c.finish.ensures.calls told_is) in
+    followed NoLog v v1 (view_of c.exit_line.new.self) old mid (g.D.Disk.view c.exit_line.new.disk) ended (line_quiet NoLog v1 (view_of c.exit_line.new.self) mid (g.D.Disk.view c.exit_line.new.disk) c.exit_line.ensures.same (c.exit_line.ensures.syncs told_is))
+
+pub returns-in-Disk-clause-syncs : goal.returns-in-Disk-clause-syncs
+returns-in-Disk-clause-syncs g c told_is m at state =
+    let v : KeeperView = view_of c.args.self.now in
+    let v1 : KeeperView = view_of c.release-in-Disk.new.self in
+    let old : DiskView = g.D.Disk.view c.args.disk.now in
+    let mid : DiskView = g.D.Disk.view c.finish.new.disk in
+    let here : log_in v c.args.log ≡ Some c.in-Some.its = sym c.in-Some.ensures.taken in
+    let departs : Departs (Some c.args.log) c.args.conn Dead v v1 = departs_from v v1 c.take.new.self (Some c.args.log) c.args.conn Dead c.release-in-Disk.ensures.departs in
+    let ended = ended_once c.args.log c.in-Some.its v v1 old mid m c.args.conn Dead at state here departs (c.finish.ensures.calls told_is) in
+    ended

@@ -9,10 +9,12 @@ use Rattle.lsv_keeper.specs.Rows.{RowGives}
 use Rattle.lsv_keeper.specs.Value.{KeeperView, sessions_of}
 use Rattle.lsv_keeper.specs.Views.{view_of}
 use Rattle.lsv_keeper.specs.declared.told.Told.TheVariants as told
+use Rattle.lsv_keeper.specs.Syncing.{NoLog}
 use Rattle.lsv_keeper.proofs.Departing.{room_one}
 use Rattle.lsv_keeper.proofs.ExitEnds.{keeps_line, session_refused, session_stands, session_told, set_by}
 use Rattle.lsv_keeper.proofs.Frames.{Laws}
 use Rattle.lsv_keeper.proofs.Requests.{asks_alive}
+use Rattle.lsv_keeper.proofs.Syncing.{followed, line_quiet}
 use Rattle.lsv_keeper.proofs.keeper.Keeper.end_session.Goals as goal
 
 pub leave-requires : goal.leave-requires
@@ -65,3 +67,13 @@ returns-in-Err-clause-row g c told_is m job at is none asks =
     subst (λ (j : Job). RowGives v c.args.now j (told.Refused c.in-Err.why) m v2 d0 d2) same_job
     (session_refused v v1 v2 d0 d1 d2 m c.args.now its c.args.exit laws laws' alive asks none left (set_by v v1 c.leave.ensures.keeps)
     (c.exit_line.ensures.beside told_is (leaves c.args.conn Dead m) stands) c.in-Err.why (c.in-Err.ensures.refused told_is (leaves c.args.conn Dead m) stands))
+
+pub returns-in-Ok-clause-syncs : goal.returns-in-Ok-clause-syncs
+returns-in-Ok-clause-syncs g c told m at =
+    followed NoLog (view_of c.args.self.now) (view_of c.leave.new.self) (view_of c.exit_line.new.self) (g.D.Disk.view c.args.disk.now) (g.D.Disk.view c.leave.new.disk) (g.D.Disk.view c.exit_line.new.disk)
+    (c.leave.ensures.syncs told m at) (line_quiet NoLog (view_of c.leave.new.self) (view_of c.exit_line.new.self) (g.D.Disk.view c.leave.new.disk) (g.D.Disk.view c.exit_line.new.disk) c.exit_line.ensures.same (c.exit_line.ensures.syncs told))
+
+pub returns-in-Err-clause-syncs : goal.returns-in-Err-clause-syncs
+returns-in-Err-clause-syncs g c told m at =
+    followed NoLog (view_of c.args.self.now) (view_of c.leave.new.self) (view_of c.exit_line.new.self) (g.D.Disk.view c.args.disk.now) (g.D.Disk.view c.leave.new.disk) (g.D.Disk.view c.exit_line.new.disk)
+    (c.leave.ensures.syncs told m at) (line_quiet NoLog (view_of c.leave.new.self) (view_of c.exit_line.new.self) (g.D.Disk.view c.leave.new.disk) (g.D.Disk.view c.exit_line.new.disk) c.exit_line.ensures.same (c.exit_line.ensures.syncs told))

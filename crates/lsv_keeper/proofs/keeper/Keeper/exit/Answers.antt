@@ -26,3 +26,6 @@ returns-in-Some-clause-row g c told m job at is asks =
 pub returns-in-None-clause-row : goal.returns-in-None-clause-row
 returns-in-None-clause-row g c told m job at is asks =
     c.end_session.ensures.row told m job at is (ap log_of (at.states c.args.conn ∙ sym c.requires.state) ∙ sym c.log_of.ensures ∙ c.in-None.is) asks
+
+pub returns-in-Some-clause-syncs : goal.returns-in-Some-clause-syncs
+returns-in-Some-clause-syncs g c told m at = c.end_log.ensures.syncs told m at (ap log_of (at.states c.args.conn ∙ sym c.requires.state) ∙ sym c.log_of.ensures ∙ c.in-Some.is)

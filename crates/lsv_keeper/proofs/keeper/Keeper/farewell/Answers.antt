@@ -7,9 +7,11 @@ use Rattle.lsv_machine.specs.Machine.{Machine, is_dead, without_conn}
 use Rattle.lsv_keeper.specs.Rows.{Left}
 use Rattle.lsv_keeper.specs.Value.{KeeperView, sessions_of}
 use Rattle.lsv_keeper.specs.Views.{view_of}
+use Rattle.lsv_keeper.specs.Syncing.{NoLog}
 use Rattle.lsv_keeper.proofs.Departing.{forget_represents, keeps_forget, room_fresh}
 use Rattle.lsv_keeper.proofs.Frames.{Laws}
 use Rattle.lsv_keeper.proofs.Leaving.{farewell_row}
+use Rattle.lsv_keeper.proofs.Syncing.{noted_else}
 use Rattle.lsv_keeper.proofs.keeper.Keeper.farewell.Goals as goal
 
 pub leave-requires : goal.leave-requires
@@ -36,3 +38,10 @@ returns-clause-row g c told m job now at is gone alive =
     (subst (λ (k : ConnId). is_dead (m.states k) ≡ false) (sym is) alive) gone
     (subst (λ (k : ConnId). Left k Fresh (record v { noting = c.forget.new.conns.items }) (record m { noting = without_conn k m.noting }) (view_of c.leave.new.self) old new) (sym is)
     (c.leave.ensures.left told mid (forget_represents v old m c.args.conn c.forget.new.conns.items c.forget.ensures at)))
+
+pub returns-clause-syncs : goal.returns-clause-syncs
+returns-clause-syncs g c told m at =
+    let v : KeeperView = view_of c.args.self.now in
+    let old : DiskView = g.D.Disk.view c.args.disk.now in
+    noted_else NoLog v (view_of c.leave.new.self) c.forget.new.conns.items old (g.D.Disk.view c.leave.new.disk)
+    (c.leave.ensures.syncs told (record m { noting = without_conn c.args.conn m.noting }) (forget_represents v old m c.args.conn c.forget.new.conns.items c.forget.ensures at))

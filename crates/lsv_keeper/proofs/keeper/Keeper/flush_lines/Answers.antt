@@ -1,4 +1,4 @@
-use Rattle.std.proofs.Common.{◌≡◌, List, [], sym, ◌∙◌, ap, subst, Err}
+use Rattle.std.proofs.Common.{◌≡◌, List, [], sym, ◌∙◌, ap, subst, Err, refl}
 use Rattle.lsv_bundle.specs.declared.fault.BundleFault.TheVariants as faults
 use Rattle.lsv_eventlog.specs.Value.{EventLogView}
 use Rattle.lsv_session.specs.declared.connection.ConnId.{ConnId}
@@ -7,8 +7,10 @@ use Rattle.lsv_machine.specs.Turns.{with_lines}
 use Rattle.lsv_keeper.specs.Represents.{Represents}
 use Rattle.lsv_keeper.specs.Tails.{LinesGive}
 use Rattle.lsv_keeper.specs.Views.{view_of}
+use Rattle.lsv_keeper.specs.Syncing.{NoLog}
 use Rattle.lsv_keeper.proofs.FlushEnds.{flush_lost, flush_written, unbroken}
 use Rattle.lsv_keeper.proofs.TailLines.{EventsFailed, lines_none, lines_refused}
+use Rattle.lsv_keeper.proofs.Syncing.{events_else, followed, lines_flushed, quiet}
 use Rattle.lsv_keeper.proofs.keeper.Keeper.flush_lines.Goals as goal
 
 pub returns-in_default-clause-lines : goal.returns-in_default-clause-lines
@@ -56,6 +58,17 @@ returns-in_default-fault g c = record {
   fewer = c.lose_lines.ensures.fewer;
   places = c.lose_lines.ensures.places;
   room = c.lose_lines.ensures.room;
+  syncs = λ told m at.
+      let v = view_of c.args.self.now in
+      let old = g.D.Disk.view c.args.disk.now in
+      let mid = g.D.Disk.view c.flush.new.disk in
+      let f = flush_lost (view_of c.args.self.now) c.flush.new.self m (g.D.Disk.view c.args.disk.now) (g.D.Disk.view c.flush.new.disk) c.flush.result c.in-Err.fault
+      (record { reads_itself = g.met.D.Disk.reads_itself told c.args.disk.now; is_now = g.met.D.Disk.is_now told c.args.disk.now; only_now = g.met.D.Disk.only_now told c.args.disk.now })
+      (record { reads_itself = g.met.D.Disk.reads_itself told c.flush.new.disk; is_now = g.met.D.Disk.is_now told c.flush.new.disk; only_now = g.met.D.Disk.only_now told c.flush.new.disk })
+      at c.in-Err.is c.in_default-fault.not-Broken c.in-Err.ensures.fault c.flush.ensures.broken c.flush.ensures.disk (c.flush.ensures.any_moment told) c.in-Err.ensures.kept.lane c.flush.ensures.sound c.flush.ensures.cause in
+      let flushed = quiet NoLog v v old mid refl (λ n. refl) (lines_flushed v.events.lane v.events.bundle old mid at.events.sound.owner (c.flush.ensures.calls told)) in
+      followed NoLog v v (view_of c.lose_lines.new.self) old mid (g.D.Disk.view c.lose_lines.new.disk) flushed
+      (events_else NoLog v (view_of c.lose_lines.new.self) c.flush.new.self mid (g.D.Disk.view c.lose_lines.new.disk) (c.lose_lines.ensures.syncs told (with_lines f.wrote m) f.represents));
   lines = λ told m at.
       let f = flush_lost (view_of c.args.self.now) c.flush.new.self m (g.D.Disk.view c.args.disk.now) (g.D.Disk.view c.flush.new.disk) c.flush.result c.in-Err.fault
       (record { reads_itself = g.met.D.Disk.reads_itself told c.args.disk.now; is_now = g.met.D.Disk.is_now told c.args.disk.now; only_now = g.met.D.Disk.only_now told c.args.disk.now })
@@ -64,3 +77,13 @@ returns-in_default-fault g c = record {
       lines_refused (view_of c.args.self.now) (view_of c.lose_lines.new.self) c.flush.new.self m (g.D.Disk.view c.args.disk.now) (g.D.Disk.view c.flush.new.disk) (g.D.Disk.view c.lose_lines.new.disk) c.args.out.now.items c.lose_lines.new.out.items
       f at.noting (c.lose_lines.ensures.refused told (with_lines f.wrote m) f.represents);
 }
+
+pub returns-in_default-clause-syncs : goal.returns-in_default-clause-syncs
+returns-in_default-clause-syncs g c told m at =
+    quiet NoLog (view_of c.args.self.now) _ (g.D.Disk.view c.args.disk.now) (g.D.Disk.view c.flush.new.disk) refl (λ n. refl)
+    (lines_flushed (view_of c.args.self.now).events.lane (view_of c.args.self.now).events.bundle (g.D.Disk.view c.args.disk.now) (g.D.Disk.view c.flush.new.disk) at.events.sound.owner (c.flush.ensures.calls told))
+
+pub returns-in-Broken-clause-syncs : goal.returns-in-Broken-clause-syncs
+returns-in-Broken-clause-syncs g c told m at =
+    quiet NoLog (view_of c.args.self.now) _ (g.D.Disk.view c.args.disk.now) (g.D.Disk.view c.flush.new.disk) refl (λ n. refl)
+    (lines_flushed (view_of c.args.self.now).events.lane (view_of c.args.self.now).events.bundle (g.D.Disk.view c.args.disk.now) (g.D.Disk.view c.flush.new.disk) at.events.sound.owner (c.flush.ensures.calls told))

@@ -1,4 +1,4 @@
-use Rattle.std.proofs.Common.{◌≡◌, ◌∷◌, ◌++◌, [], Some, sym, ◌∙◌, subst, map}
+use Rattle.std.proofs.Common.{◌≡◌, ◌∷◌, ◌++◌, [], Some, sym, ◌∙◌, subst, map, None}
 use Rattle.lsv_session.specs.declared.connection.ConnId.{ConnId}
 use Rattle.lsv_session.specs.declared.connection.ConnState.TheVariants.{Dead}
 use Rattle.lsv_machine.specs.Answers.{CommitPoint, reply_of, say}
@@ -6,6 +6,7 @@ use Rattle.lsv_machine.specs.Failures.{IsRefused}
 use Rattle.lsv_keeper.specs.Leaving.{Departs}
 use Rattle.lsv_keeper.specs.Views.{view_of}
 use Rattle.lsv_keeper.proofs.TailRows.{committed_gives, lost_gives}
+use Rattle.lsv_keeper.proofs.Syncing.{flushed_one}
 use Rattle.lsv_keeper.proofs.keeper.Keeper.flush_log.Goals as goal
 
 one_conn : (j k : ConnId) → Some j ≡ Some k → j ≡ k
@@ -31,3 +32,9 @@ returns-in-None-clause-log g c = λ told m k at own.
     c.release.ensures.logs
     (subst (λ (j : ConnId). IsRefused j c.put_replies.ensures.told.0) k_is c.put_replies.ensures.told.1)
     c.put_replies.ensures.told.2
+
+pub returns-in-Some-flush-clause-syncs : goal.returns-in-Some-flush-clause-syncs
+returns-in-Some-flush-clause-syncs g c told m k at own = flushed_one c.args.number k (view_of c.args.self.now) (Some c.in-Some-flush.point) _ _ m (g.D.Disk.view c.args.disk.now) (g.D.Disk.view c.flush.new.disk) at own (λ its value here rep. c.in-Some-flush.ensures.flushed told its value here rep)
+
+pub returns-in-None-clause-syncs : goal.returns-in-None-clause-syncs
+returns-in-None-clause-syncs g c told m k at own = flushed_one c.args.number k (view_of c.args.self.now) None _ _ m (g.D.Disk.view c.args.disk.now) (g.D.Disk.view c.flush.new.disk) at own (λ its value here rep. c.in-None.ensures.flushed told its value here rep)

@@ -1,50 +1,63 @@
-use Rattle.std.proofs.Common.{◌≡◌, ℕ, List, length, sym, ◌∙◌, ap, arith}
+use Rattle.std.proofs.Common.{◌≡◌, ℕ, List, length, sym, ◌∙◌, ap, arith, refl, inl}
 use Rattle.std.specs.Global.{Vec}
 use Rattle.lsv_base.specs.declared.log_no.LogNo.{LogNo}
 use Rattle.lsv_keeper.specs.Replies.{room_in}
 use Rattle.lsv_keeper.specs.Tails.{none_waits}
 use Rattle.lsv_keeper.specs.Views.{view_of}
 use Rattle.lsv_keeper.proofs.TailLoops.{flushing_ends, flushing_on, flushing_start}
+use Rattle.lsv_keeper.proofs.Syncing.{waiting_ends, waiting_on}
 use Rattle.lsv_keeper.proofs.keeper.Keeper.flush_logs.Goals as goal
 
 pub loop-number-init : goal.loop-number-init
-loop-number-init g c = flushing_start g.D.Disk.tells c.deref-number-items.result.now (view_of c.args.self.now) (view_of (record c.args.self.now { waiting = c.replace-waiting.new.dest })) (room_in c.args.out.now) c.args.out.now.items (g.D.Disk.view c.args.disk.now)
-    (λ told. record { reads_itself = g.met.D.Disk.reads_itself told c.args.disk.now; is_now = g.met.D.Disk.is_now told c.args.disk.now; only_now = g.met.D.Disk.only_now told c.args.disk.now })
-    (ap (λ (w : List ℕ). record (view_of c.args.self.now) { waiting = w }) (ap (λ (x : Vec LogNo). x.items) c.replace-waiting.ensures.after ∙ c.new.ensures.items))
-    (ap (λ (x : Vec LogNo). x.items) (sym c.replace-waiting.ensures.value) ∙ sym c.deref-number-items.ensures.value)
+loop-number-init g c = record {
+  flushing = flushing_start g.D.Disk.tells c.deref-number-items.result.now (view_of c.args.self.now) (view_of (record c.args.self.now { waiting = c.replace-waiting.new.dest })) (room_in c.args.out.now) c.args.out.now.items (g.D.Disk.view c.args.disk.now)
+      (λ told. record { reads_itself = g.met.D.Disk.reads_itself told c.args.disk.now; is_now = g.met.D.Disk.is_now told c.args.disk.now; only_now = g.met.D.Disk.only_now told c.args.disk.now })
+      (ap (λ (w : List ℕ). record (view_of c.args.self.now) { waiting = w }) (ap (λ (x : Vec LogNo). x.items) c.replace-waiting.ensures.after ∙ c.new.ensures.items))
+      (ap (λ (x : Vec LogNo). x.items) (sym c.replace-waiting.ensures.value) ∙ sym c.deref-number-items.ensures.value);
+  synced = λ told m at n. inl (λ file own. refl);
+}
 
 pub flush_log-requires-clause-stands : goal.flush_log-requires-clause-stands
-flush_log-requires-clause-stands g c = λ told. let at = c.requires.stands told in let d = c.loop-number.invariant.logs told at.0 at.1 in (none_waits d.gives.after, d.gives.represents)
+flush_log-requires-clause-stands g c = λ told. let at = c.requires.stands told in let d = c.loop-number.invariant.flushing.logs told at.0 at.1 in (none_waits d.gives.after, d.gives.represents)
 
 pub flush_log-requires-clause-none_waits : goal.flush_log-requires-clause-none_waits
-flush_log-requires-clause-none_waits g c = c.loop-number.invariant.none
+flush_log-requires-clause-none_waits g c = c.loop-number.invariant.flushing.none
 
 pub flush_log-requires-clause-places : goal.flush_log-requires-clause-places
 flush_log-requires-clause-places g c =
     let is : c.args.self.now.waiting.items ≡ c.deref-number-items.result.now = (ap (λ (x : Vec LogNo). x.items) (sym c.replace-waiting.ensures.value) ∙ sym c.deref-number-items.ensures.value) in
     let e : length c.args.self.now.waiting.items ≡ length c.deref-number-items.result.now = ap length is in
-    omega (arith, c.loop-number.invariant.places, c.requires.places, c.loop-number-test.true, e)
+    omega (arith, c.loop-number.invariant.flushing.places, c.requires.places, c.loop-number-test.true, e)
 
 pub flush_log-requires-clause-replies : goal.flush_log-requires-clause-replies
 flush_log-requires-clause-replies g c =
     let is : c.args.self.now.waiting.items ≡ c.deref-number-items.result.now = (ap (λ (x : Vec LogNo). x.items) (sym c.replace-waiting.ensures.value) ∙ sym c.deref-number-items.ensures.value) in
     let e : length c.args.self.now.waiting.items ≡ length c.deref-number-items.result.now = ap length is in
-    omega (arith, c.loop-number.invariant.replies, c.requires.replies, c.loop-number-test.true, e)
+    omega (arith, c.loop-number.invariant.flushing.replies, c.requires.replies, c.loop-number-test.true, e)
 
 pub loop-number-preserved : goal.loop-number-preserved
-loop-number-preserved g c = flushing_on g.D.Disk.tells c.loop-number.number-index c.number-item.result c.deref-number-items.result.now (view_of c.args.self.now) (view_of c.loop-number.self) (view_of c.flush_log.new.self) (room_in c.args.out.now) (room_in c.loop-number.out) (room_in c.flush_log.new.out)
-    c.args.out.now.items c.loop-number.out.items c.flush_log.new.out.items (g.D.Disk.view c.args.disk.now) (g.D.Disk.view c.loop-number.disk) (g.D.Disk.view c.flush_log.new.disk) (ap (λ (x : Vec LogNo). x.items) (sym c.replace-waiting.ensures.value) ∙ sym c.deref-number-items.ensures.value) c.loop-number-test.true c.number-item.is
-    c.loop-number.invariant c.flush_log.ensures.set c.flush_log.ensures.waiting c.flush_log.ensures.noting c.flush_log.ensures.places c.flush_log.ensures.room c.flush_log.ensures.log
+loop-number-preserved g c = record {
+  flushing = flushing_on g.D.Disk.tells c.loop-number.number-index c.number-item.result c.deref-number-items.result.now (view_of c.args.self.now) (view_of c.loop-number.self) (view_of c.flush_log.new.self) (room_in c.args.out.now) (room_in c.loop-number.out) (room_in c.flush_log.new.out)
+      c.args.out.now.items c.loop-number.out.items c.flush_log.new.out.items (g.D.Disk.view c.args.disk.now) (g.D.Disk.view c.loop-number.disk) (g.D.Disk.view c.flush_log.new.disk) (ap (λ (x : Vec LogNo). x.items) (sym c.replace-waiting.ensures.value) ∙ sym c.deref-number-items.ensures.value) c.loop-number-test.true c.number-item.is
+      c.loop-number.invariant.flushing c.flush_log.ensures.set c.flush_log.ensures.waiting c.flush_log.ensures.noting c.flush_log.ensures.places c.flush_log.ensures.room c.flush_log.ensures.log;
+  synced = λ told m at. waiting_on g.D.Disk.tells c.loop-number.number-index c.number-item.result c.deref-number-items.result.now (view_of c.args.self.now) (view_of c.loop-number.self) (room_in c.args.out.now) (room_in c.loop-number.out) c.args.out.now.items c.loop-number.out.items
+      (g.D.Disk.view c.args.disk.now) (g.D.Disk.view c.loop-number.disk) (g.D.Disk.view c.flush_log.new.disk) (ap (λ (x : Vec LogNo). x.items) (sym c.replace-waiting.ensures.value) ∙ sym c.deref-number-items.ensures.value) c.loop-number-test.true c.number-item.is
+      c.loop-number.invariant.flushing told m at (c.loop-number.invariant.synced told m at) (λ after k rep own. c.flush_log.ensures.syncs told after k rep own);
+}
 
 pub returns-clause-set : goal.returns-clause-set
-returns-clause-set g c = c.loop-number.invariant.set
+returns-clause-set g c = c.loop-number.invariant.flushing.set
 
 pub returns-clause-none : goal.returns-clause-none
-returns-clause-none g c = c.loop-number.invariant.none
+returns-clause-none g c = c.loop-number.invariant.flushing.none
 
 pub returns-clause-noting : goal.returns-clause-noting
-returns-clause-noting g c = c.loop-number.invariant.noting
+returns-clause-noting g c = c.loop-number.invariant.flushing.noting
 
 pub returns-clause-logs : goal.returns-clause-logs
 returns-clause-logs g c = λ told m at. flushing_ends g.D.Disk.tells c.deref-number-items.result.now (view_of c.args.self.now) (view_of c.loop-number.self) (room_in c.args.out.now) (room_in c.loop-number.out) c.args.out.now.items c.loop-number.out.items
-    (g.D.Disk.view c.args.disk.now) (g.D.Disk.view c.loop-number.disk) c.loop-number.number-index (omega (arith, c.loop-number-test.false, c.loop-number.auto.number-index-end)) (ap (λ (x : Vec LogNo). x.items) (sym c.replace-waiting.ensures.value) ∙ sym c.deref-number-items.ensures.value) c.loop-number.invariant told m at
+    (g.D.Disk.view c.args.disk.now) (g.D.Disk.view c.loop-number.disk) c.loop-number.number-index (omega (arith, c.loop-number-test.false, c.loop-number.auto.number-index-end)) (ap (λ (x : Vec LogNo). x.items) (sym c.replace-waiting.ensures.value) ∙ sym c.deref-number-items.ensures.value) c.loop-number.invariant.flushing told m at
+
+pub returns-clause-syncs : goal.returns-clause-syncs
+returns-clause-syncs g c = λ told m at. waiting_ends c.deref-number-items.result.now (view_of c.args.self.now) m (g.D.Disk.view c.args.disk.now) (g.D.Disk.view c.loop-number.disk) c.loop-number.number-index (omega (arith, c.loop-number-test.false, c.loop-number.auto.number-index-end))
+    (ap (λ (x : Vec LogNo). x.items) (sym c.replace-waiting.ensures.value) ∙ sym c.deref-number-items.ensures.value) at (c.loop-number.invariant.synced told m at)

@@ -1,12 +1,18 @@
 use Rattle.std.proofs.Common.{◌≡◌, ◌∙◌, Err, ap, sym}
-use Rattle.std.specs.Prelude.{false}
+use Rattle.std.specs.Prelude.{false, Ok, Result}
 use Rattle.lsv_msg.specs.declared.messages.ClientMessage.{ClientMessage}
+use Rattle.lsv_request.specs.declared.request.Request.{Request}
+use Rattle.lsv_request.specs.declared.refusal.Refusal.{Refusal}
 use Rattle.lsv_session.specs.declared.connection.ConnState.{ConnState}
+use Rattle.lsv_session.specs.declared.job.Body.TheVariants as bodies
 use Rattle.lsv_machine.specs.Judgement.{judged}
 use Rattle.lsv_machine.specs.Machine.{is_dead}
 use Rattle.lsv_keeper.specs.Value.{settings_of}
 use Rattle.lsv_keeper.specs.Views.{view_of}
+use Rattle.lsv_keeper.specs.Syncing.{GoesOnWith}
+use Rattle.lsv_keeper.specs.Syncs.{Restarts}
 use Rattle.lsv_keeper.proofs.Judging.{judged_fair, message_refused}
+use Rattle.lsv_keeper.proofs.Syncing.{of_none, wider}
 use Rattle.lsv_keeper.proofs.keeper.Keeper.hear.Goals as goal
 
 pub returns-in-Err-clause-row : goal.returns-in-Err-clause-row
@@ -16,3 +22,14 @@ returns-in-Err-clause-row g c told m job at conn is =
     ap (λ (s : ConnState). judged s c.args.message) (at.states c.args.conn ∙ sym c.state.ensures) ∙ ap (λ (x : ClientMessage). judged c.state.result x) (sym c.windowed-message.ensures.same) ∙ sym c.in-Err.ensures in
     c.refuse.ensures.row told m job c.args.now at conn alive (judged_fair (m.states c.args.conn) c.args.message c.in-Err.why e c.args.conn)
     (message_refused (settings_of (view_of c.args.self.now)) c.args.now job c.args.message c.in-Err.why m c.args.conn conn is alive e)
+
+abbrev asked : Request → Result Request Refusal
+asked what = Ok what
+
+pub returns-in-Ok-clause-syncs : goal.returns-in-Ok-clause-syncs
+returns-in-Ok-clause-syncs g c told m at =
+    wider (GoesOnWith c.in-Ok.request) (Restarts (bodies.Msg c.args.message)) (view_of c.args.self.now) (view_of c.work.new.self) (g.D.Disk.view c.args.disk.now) (g.D.Disk.view c.work.new.disk)
+    (λ n goes. (c.state.result, goes.0, ap (λ (x : ClientMessage). judged c.state.result x) (sym c.windowed-message.ensures.same) ∙ sym c.in-Ok.ensures ∙ ap (λ (x : Request). asked x) goes.1, goes.2)) (c.work.ensures.syncs told m at)
+
+pub returns-in-Err-clause-syncs : goal.returns-in-Err-clause-syncs
+returns-in-Err-clause-syncs g c told m at = of_none (Restarts (bodies.Msg c.args.message)) (view_of c.args.self.now) (view_of c.refuse.new.self) (g.D.Disk.view c.args.disk.now) (g.D.Disk.view c.refuse.new.disk) (c.refuse.ensures.syncs told m at)

@@ -2,8 +2,10 @@ use Rattle.std.proofs.Common.{◌≡◌, ◌∙◌, Some, ap, refl, sym}
 use Rattle.lsv_disk.specs.View.{DiskView}
 use Rattle.lsv_machine.specs.Machine.{log_of}
 use Rattle.lsv_keeper.specs.Views.{view_of}
+use Rattle.lsv_keeper.specs.Syncing.{NoLog}
 use Rattle.lsv_keeper.proofs.Departing.{departs_fewer, departs_keeps, departs_owed, left_none, not_closed, set_departs, set_states, took_out}
 use Rattle.lsv_keeper.proofs.Frames.{Laws}
+use Rattle.lsv_keeper.proofs.Syncing.{stays_out}
 use Rattle.lsv_keeper.proofs.keeper.Keeper.leave.Goals as goal
 
 pub let_go-requires-clause-taken_out : goal.let_go-requires-clause-taken_out
@@ -52,3 +54,21 @@ returns-in-None-clause-left g c told m at =
     (set_departs c.set.result (view_of c.args.self.now) _ c.args.conn c.args.state (record { lane = refl; lanes = refl; log_exit = refl; kind = refl; texts = refl; numbers = refl; events = refl; noting = refl }) refl
     c.set.ensures.ok c.set.ensures.room c.requires.room)
     (λ n. refl)
+
+pub returns-in-Some-take-clause-syncs : goal.returns-in-Some-take-clause-syncs
+returns-in-Some-take-clause-syncs g c told m at =
+    c.let_go.ensures.syncs told (view_of c.args.self.now) m
+    (took_out (view_of c.args.self.now) _ c.in-Some.log c.in-Some-take.its c.take.result (record { lane = refl; lanes = refl; log_exit = refl; kind = refl; texts = refl; numbers = refl; events = refl; noting = refl }) refl refl
+    c.take.ensures.taken c.take.ensures.rest c.in-Some-take.is)
+    at (ap log_of (at.states c.args.conn ∙ sym c.state.ensures) ∙ sym c.log_of.ensures ∙ c.in-Some.is)
+
+pub returns-in-None-take-clause-syncs : goal.returns-in-None-take-clause-syncs
+returns-in-None-take-clause-syncs g c told m at =
+    let is : log_of (m.states c.args.conn) ≡ Some c.in-Some.log = ap log_of (at.states c.args.conn ∙ sym c.state.ensures) ∙ sym c.log_of.ensures ∙ c.in-Some.is in
+    absurd (not_closed (view_of c.args.self.now) (g.D.Disk.view c.args.disk.now) m c.in-Some.log c.args.conn at (at.sound.owned c.args.conn c.in-Some.log is) (sym c.take.ensures.taken ∙ c.in-None-take.is))
+
+pub returns-in-None-clause-syncs : goal.returns-in-None-clause-syncs
+returns-in-None-clause-syncs g c told m at =
+    stays_out NoLog (view_of c.args.self.now) _ c.args.conn c.args.state (g.D.Disk.view c.args.disk.now)
+    (set_departs c.set.result (view_of c.args.self.now) _ c.args.conn c.args.state (record { lane = refl; lanes = refl; log_exit = refl; kind = refl; texts = refl; numbers = refl; events = refl; noting = refl }) refl
+    c.set.ensures.ok c.set.ensures.room c.requires.room)

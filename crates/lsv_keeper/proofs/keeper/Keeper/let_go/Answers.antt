@@ -4,6 +4,7 @@ use Rattle.lsv_iolog.specs.Value.{IoLogView}
 use Rattle.lsv_keeper.specs.Views.{view_of}
 use Rattle.lsv_keeper.proofs.Departing.{departs_fewer, departs_keeps, departs_owed, ends_flush, out_left, out_value}
 use Rattle.lsv_keeper.proofs.Frames.{Laws}
+use Rattle.lsv_keeper.proofs.Syncing.{let_go_once}
 use Rattle.lsv_keeper.proofs.keeper.Keeper.let_go.Goals as goal
 
 pub flush-requires : goal.flush-requires
@@ -37,3 +38,8 @@ returns-clause-left g c told before m out at is =
     c.release.ensures.departs c.release.ensures.logs
     (λ value represents. ends_flush c.args.its.log after value old new c.flush.result represents c.flush.ensures.counts.number (c.flush.ensures.represents told)
     (c.flush.ensures.any_moment told value represents) c.flush.ensures.fault c.flush.ensures.broken c.flush.ensures.cause)
+
+pub returns-clause-syncs : goal.returns-clause-syncs
+returns-clause-syncs g c told before m out at is =
+    let_go_once c.args.log c.args.its before (view_of c.args.self.now) (view_of c.release.new.self) (g.D.Disk.view c.args.disk.now) (g.D.Disk.view c.flush.new.disk) m c.args.conn c.args.state at is out
+    c.release.ensures.departs (c.flush.ensures.calls told)

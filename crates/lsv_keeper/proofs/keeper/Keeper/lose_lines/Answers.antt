@@ -1,60 +1,74 @@
-use Rattle.std.proofs.Common.{◌≡◌, List, length, sym, ◌∙◌, ap, arith}
+use Rattle.std.proofs.Common.{◌≡◌, List, length, sym, ◌∙◌, ap, arith, refl}
 use Rattle.std.proofs.lemmas.List.{get_or_default}
 use Rattle.std.specs.Global.{Vec}
 use Rattle.lsv_session.specs.declared.connection.ConnId.{ConnId}
 use Rattle.lsv_keeper.specs.Replies.{room_in}
 use Rattle.lsv_keeper.specs.Views.{view_of}
+use Rattle.lsv_keeper.specs.Syncing.{NoLog}
 use Rattle.lsv_keeper.proofs.TailRefusals.{refusing_ends, refusing_on, refusing_start}
+use Rattle.lsv_keeper.proofs.Syncing.{followed, nothing}
 use Rattle.lsv_keeper.proofs.keeper.Keeper.lose_lines.Goals as goal
 
 pub loop-conn-init : goal.loop-conn-init
-loop-conn-init g c = refusing_start g.D.Disk.tells c.deref-conn-items.result.now (view_of c.args.self.now) (view_of (record c.args.self.now { noting = c.replace-noting.new.dest })) (room_in c.args.out.now) c.args.out.now.items (g.D.Disk.view c.args.disk.now)
-    (λ told. record { reads_itself = g.met.D.Disk.reads_itself told c.args.disk.now; is_now = g.met.D.Disk.is_now told c.args.disk.now; only_now = g.met.D.Disk.only_now told c.args.disk.now })
-    (ap (λ (w : List ConnId). record (view_of c.args.self.now) { noting = w }) (ap (λ (x : Vec ConnId). x.items) c.replace-noting.ensures.after ∙ c.new.ensures.items))
+loop-conn-init g c = record {
+  refusing = refusing_start g.D.Disk.tells c.deref-conn-items.result.now (view_of c.args.self.now) (view_of (record c.args.self.now { noting = c.replace-noting.new.dest })) (room_in c.args.out.now) c.args.out.now.items (g.D.Disk.view c.args.disk.now)
+      (λ told. record { reads_itself = g.met.D.Disk.reads_itself told c.args.disk.now; is_now = g.met.D.Disk.is_now told c.args.disk.now; only_now = g.met.D.Disk.only_now told c.args.disk.now })
+      (ap (λ (w : List ConnId). record (view_of c.args.self.now) { noting = w }) (ap (λ (x : Vec ConnId). x.items) c.replace-noting.ensures.after ∙ c.new.ensures.items));
+  synced = λ told m at. nothing NoLog (view_of c.args.self.now) _ (g.D.Disk.view c.args.disk.now) refl refl;
+}
 
 pub lose_line-requires-clause-stands : goal.lose_line-requires-clause-stands
-lose_line-requires-clause-stands g c = λ told. let at = c.requires.stands told in let d = c.loop-conn.invariant.gives told at.0 at.1 in (d.after, d.represents)
+lose_line-requires-clause-stands g c = λ told. let at = c.requires.stands told in let d = c.loop-conn.invariant.refusing.gives told at.0 at.1 in (d.after, d.represents)
 
 pub lose_line-requires-clause-places : goal.lose_line-requires-clause-places
 lose_line-requires-clause-places g c =
     let is : c.args.self.now.noting.items ≡ c.deref-conn-items.result.now = (ap (λ (x : Vec ConnId). x.items) (sym c.replace-noting.ensures.value) ∙ sym c.deref-conn-items.ensures.value) in
     let e : length c.args.self.now.noting.items ≡ length c.deref-conn-items.result.now = ap length is in
-    omega (arith, c.loop-conn.invariant.places, c.requires.places, c.loop-conn-test.true, e)
+    omega (arith, c.loop-conn.invariant.refusing.places, c.requires.places, c.loop-conn-test.true, e)
 
 pub lose_line-requires-clause-replies : goal.lose_line-requires-clause-replies
 lose_line-requires-clause-replies g c =
     let is : c.args.self.now.noting.items ≡ c.deref-conn-items.result.now = (ap (λ (x : Vec ConnId). x.items) (sym c.replace-noting.ensures.value) ∙ sym c.deref-conn-items.ensures.value) in
     let e : length c.args.self.now.noting.items ≡ length c.deref-conn-items.result.now = ap length is in
-    omega (arith, c.loop-conn.invariant.replies, c.requires.replies, c.loop-conn-test.true, e)
+    omega (arith, c.loop-conn.invariant.refusing.replies, c.requires.replies, c.loop-conn-test.true, e)
 
 pub loop-conn-preserved : goal.loop-conn-preserved
-loop-conn-preserved g c = refusing_on g.D.Disk.tells c.loop-conn.conn-index _ c.deref-conn-items.result.now (view_of c.args.self.now) (view_of c.loop-conn.self) (view_of c.lose_line.new.self) (room_in c.args.out.now) (room_in c.loop-conn.out) (room_in c.lose_line.new.out)
-    c.args.out.now.items c.loop-conn.out.items c.lose_line.new.out.items (g.D.Disk.view c.args.disk.now) (g.D.Disk.view c.loop-conn.disk) (g.D.Disk.view c.lose_line.new.disk) c.loop-conn-test.true (get_or_default _ _ _ _ c.loop-conn-test.true)
-    c.loop-conn.invariant c.lose_line.ensures.set c.lose_line.ensures.noting c.lose_line.ensures.fewer c.lose_line.ensures.places c.lose_line.ensures.room c.lose_line.ensures.refused
+loop-conn-preserved g c = record {
+  refusing = refusing_on g.D.Disk.tells c.loop-conn.conn-index _ c.deref-conn-items.result.now (view_of c.args.self.now) (view_of c.loop-conn.self) (view_of c.lose_line.new.self) (room_in c.args.out.now) (room_in c.loop-conn.out) (room_in c.lose_line.new.out)
+      c.args.out.now.items c.loop-conn.out.items c.lose_line.new.out.items (g.D.Disk.view c.args.disk.now) (g.D.Disk.view c.loop-conn.disk) (g.D.Disk.view c.lose_line.new.disk) c.loop-conn-test.true (get_or_default _ _ _ _ c.loop-conn-test.true)
+      c.loop-conn.invariant.refusing c.lose_line.ensures.set c.lose_line.ensures.noting c.lose_line.ensures.fewer c.lose_line.ensures.places c.lose_line.ensures.room c.lose_line.ensures.refused;
+  synced = λ told m at.
+      let d = c.loop-conn.invariant.refusing.gives told m at in
+      followed NoLog (view_of c.args.self.now) (view_of c.loop-conn.self) (view_of c.lose_line.new.self) (g.D.Disk.view c.args.disk.now) (g.D.Disk.view c.loop-conn.disk) (g.D.Disk.view c.lose_line.new.disk)
+      (c.loop-conn.invariant.synced told m at) (c.lose_line.ensures.syncs told d.after d.represents);
+}
 
 pub returns-clause-set : goal.returns-clause-set
-returns-clause-set g c = c.loop-conn.invariant.set
+returns-clause-set g c = c.loop-conn.invariant.refusing.set
 
 pub returns-clause-none : goal.returns-clause-none
-returns-clause-none g c = c.loop-conn.invariant.none
+returns-clause-none g c = c.loop-conn.invariant.refusing.none
 
 pub returns-clause-fewer : goal.returns-clause-fewer
-returns-clause-fewer g c = c.loop-conn.invariant.fewer
+returns-clause-fewer g c = c.loop-conn.invariant.refusing.fewer
 
 pub returns-clause-places : goal.returns-clause-places
 returns-clause-places g c =
     let is : c.args.self.now.noting.items ≡ c.deref-conn-items.result.now = (ap (λ (x : Vec ConnId). x.items) (sym c.replace-noting.ensures.value) ∙ sym c.deref-conn-items.ensures.value) in
     let e : length c.args.self.now.noting.items ≡ length c.deref-conn-items.result.now = ap length is in
     let ends : c.loop-conn.conn-index ≡ length c.deref-conn-items.result.now = omega (arith, c.loop-conn-test.false, c.loop-conn.auto.conn-index-end) in
-    omega (arith, c.loop-conn.invariant.places, ends, e)
+    omega (arith, c.loop-conn.invariant.refusing.places, ends, e)
 
 pub returns-clause-room : goal.returns-clause-room
 returns-clause-room g c =
     let is : c.args.self.now.noting.items ≡ c.deref-conn-items.result.now = (ap (λ (x : Vec ConnId). x.items) (sym c.replace-noting.ensures.value) ∙ sym c.deref-conn-items.ensures.value) in
     let e : length c.args.self.now.noting.items ≡ length c.deref-conn-items.result.now = ap length is in
     let ends : c.loop-conn.conn-index ≡ length c.deref-conn-items.result.now = omega (arith, c.loop-conn-test.false, c.loop-conn.auto.conn-index-end) in
-    omega (arith, c.loop-conn.invariant.replies, ends, e)
+    omega (arith, c.loop-conn.invariant.refusing.replies, ends, e)
 
 pub returns-clause-refused : goal.returns-clause-refused
 returns-clause-refused g c = λ told m at. refusing_ends g.D.Disk.tells c.deref-conn-items.result.now (view_of c.args.self.now) (view_of c.loop-conn.self) (room_in c.args.out.now) (room_in c.loop-conn.out) c.args.out.now.items c.loop-conn.out.items
-    (g.D.Disk.view c.args.disk.now) (g.D.Disk.view c.loop-conn.disk) c.loop-conn.conn-index (omega (arith, c.loop-conn-test.false, c.loop-conn.auto.conn-index-end)) (ap (λ (x : Vec ConnId). x.items) (sym c.replace-noting.ensures.value) ∙ sym c.deref-conn-items.ensures.value) c.loop-conn.invariant told m at
+    (g.D.Disk.view c.args.disk.now) (g.D.Disk.view c.loop-conn.disk) c.loop-conn.conn-index (omega (arith, c.loop-conn-test.false, c.loop-conn.auto.conn-index-end)) (ap (λ (x : Vec ConnId). x.items) (sym c.replace-noting.ensures.value) ∙ sym c.deref-conn-items.ensures.value) c.loop-conn.invariant.refusing told m at
+
+pub returns-clause-syncs : goal.returns-clause-syncs
+returns-clause-syncs g c told m at = c.loop-conn.invariant.synced told m at

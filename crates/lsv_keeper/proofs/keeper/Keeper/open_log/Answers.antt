@@ -20,12 +20,14 @@ use Rattle.lsv_keeper.specs.Logs.{spare_logs}
 use Rattle.lsv_keeper.specs.Represents.{Represents}
 use Rattle.lsv_keeper.specs.Value.{KeeperView, sessions_of}
 use Rattle.lsv_keeper.specs.Views.{view_of}
+use Rattle.lsv_keeper.specs.Syncing.{NoLog}
 use Rattle.lsv_keeper.proofs.Beginning.{reserved_keeps, reserved_represents}
 use Rattle.lsv_keeper.proofs.Counting.{owner_rose}
 use Rattle.lsv_keeper.proofs.Frames.{Laws}
 use Rattle.lsv_keeper.proofs.Making.{begun_keeps, create_err, drawn_keeps, lined_keeps, lined_room, made_reads, named_line, ready, room_in_any}
 use Rattle.lsv_keeper.proofs.Reporting.{if_err_as}
 use Rattle.lsv_keeper.proofs.Stopping.{MadeIt, begins, line_stops, made_it, none_drawn, not_made, nothing_done}
+use Rattle.lsv_keeper.proofs.Syncing.{drawn_quiet, followed, fresh_one, line_quiet, making, owns_one, reserved_fresh, reserved_quiet}
 use Rattle.lsv_keeper.proofs.keeper.Keeper.open_log.Goals as goal
 
 -- ---- No memory
@@ -187,3 +189,68 @@ returns-clause-begun g c told m at =
     (lined_keeps v v1 v2 v3 c.prepare.ensures.same c.draw.ensures.same c.add_line.ensures.keeps c.add_line.ensures.same) c.own.ensures.keeps its.drawn c.in_ok-number.ensures.within it
     (named_line v v2 c.args.now c.args.conn c.args.head n c.peer_of.result its.keeps c.peer_of.ensures) added.0 added.1 (c.add_line.ensures.beside told (makes n (head_text c.args.head) m) it.represents)
     (c.in-Ok-create.ensures.represents told) c.in-Ok-create.ensures.number c.in-Ok.ensures.mask (c.own.ensures.owns free)
+
+-- ---- What is synced
+
+pub returns-in_default-clause-syncs : goal.returns-in_default-clause-syncs
+returns-in_default-clause-syncs g c told m at = reserved_quiet NoLog (view_of c.args.self.now) (view_of c.prepare.new.self) (g.D.Disk.view c.args.disk.now) c.prepare.ensures.same
+
+pub returns-in_err-number-clause-syncs : goal.returns-in_err-number-clause-syncs
+returns-in_err-number-clause-syncs g c told m at =
+    let v : KeeperView = view_of c.args.self.now in
+    let v1 : KeeperView = view_of c.prepare.new.self in
+    let v2 : KeeperView = view_of c.draw.new.self in
+    let old = g.D.Disk.view c.args.disk.now in
+    let mid = g.D.Disk.view c.draw.new.disk in
+    followed NoLog v v1 v2 old old mid (reserved_quiet NoLog v v1 old c.prepare.ensures.same) (drawn_quiet NoLog v1 v2 old mid c.draw.ensures.same c.draw.ensures.past (c.draw.ensures.syncs told))
+
+pub returns-in-Err-clause-syncs : goal.returns-in-Err-clause-syncs
+returns-in-Err-clause-syncs g c told m at =
+    let v : KeeperView = view_of c.args.self.now in
+    let v1 : KeeperView = view_of c.prepare.new.self in
+    let v2 : KeeperView = view_of c.draw.new.self in
+    let old = g.D.Disk.view c.args.disk.now in
+    let mid = g.D.Disk.view c.draw.new.disk in
+    let there = g.D.Disk.view c.create.new.disk in
+    let n = c.in_ok-number.number in
+    let at1 = reserved_represents v v1 old m c.prepare.ensures.same at in
+    let fresh = reserved_fresh n v v1 c.prepare.ensures.same (c.in_ok-number.ensures.fresh told m at1) in
+    let made = making n v v1 v2 old mid there c.prepare.ensures.same c.draw.ensures.same c.draw.ensures.past (c.draw.ensures.syncs told) (c.create.ensures.calls told) in
+    fresh_one n v v2 old there fresh made
+
+pub returns-in_err-add_line-clause-syncs : goal.returns-in_err-add_line-clause-syncs
+returns-in_err-add_line-clause-syncs g c told m at =
+    let v : KeeperView = view_of c.args.self.now in
+    let v1 : KeeperView = view_of c.prepare.new.self in
+    let v2 : KeeperView = view_of c.draw.new.self in
+    let old = g.D.Disk.view c.args.disk.now in
+    let mid = g.D.Disk.view c.draw.new.disk in
+    let there = g.D.Disk.view c.create.new.disk in
+    let n = c.in_ok-number.number in
+    let at1 = reserved_represents v v1 old m c.prepare.ensures.same at in
+    let fresh = reserved_fresh n v v1 c.prepare.ensures.same (c.in_ok-number.ensures.fresh told m at1) in
+    let made = making n v v1 v2 old mid there c.prepare.ensures.same c.draw.ensures.same c.draw.ensures.past (c.draw.ensures.syncs told) (c.create.ensures.calls told) in
+    let v3 : KeeperView = view_of c.add_line.new.self in
+    let new = g.D.Disk.view c.add_line.new.disk in
+    fresh_one n v v3 old new fresh (followed (λ i. i ≡ n) v v2 v3 old there new made (line_quiet (λ i. i ≡ n) v2 v3 there new c.add_line.ensures.same (c.add_line.ensures.syncs told)))
+
+pub returns-clause-syncs : goal.returns-clause-syncs
+returns-clause-syncs g c told m at =
+    let v : KeeperView = view_of c.args.self.now in
+    let v1 : KeeperView = view_of c.prepare.new.self in
+    let v2 : KeeperView = view_of c.draw.new.self in
+    let old = g.D.Disk.view c.args.disk.now in
+    let mid = g.D.Disk.view c.draw.new.disk in
+    let there = g.D.Disk.view c.create.new.disk in
+    let n = c.in_ok-number.number in
+    let at1 = reserved_represents v v1 old m c.prepare.ensures.same at in
+    let fresh = reserved_fresh n v v1 c.prepare.ensures.same (c.in_ok-number.ensures.fresh told m at1) in
+    let made = making n v v1 v2 old mid there c.prepare.ensures.same c.draw.ensures.same c.draw.ensures.past (c.draw.ensures.syncs told) (c.create.ensures.calls told) in
+    let v3 : KeeperView = view_of c.add_line.new.self in
+    let v4 : KeeperView = view_of c.own.new.self in
+    let new = g.D.Disk.view c.add_line.new.disk in
+    let its = ready v v1 v2 old mid m n at c.prepare.ensures.same c.draw.ensures.same (c.in_ok-number.ensures.drawn told m at1) (c.draw.ensures.beside told m at1) in
+    let free : (sessions_of v3).owner n ≡ None = ap (λ (t : Table). (sessions t).owner n) c.add_line.ensures.same.table ∙ its.free in
+    fresh_one n v v4 old new fresh
+    (followed (λ i. i ≡ n) v v3 v4 old new new (followed (λ i. i ≡ n) v v2 v3 old there new made (line_quiet (λ i. i ≡ n) v2 v3 there new c.add_line.ensures.same (c.add_line.ensures.syncs told)))
+    (owns_one n c.args.conn (record { log = c.in-Ok-create.log; mask = c.in-Ok.prepared.mask }) v3 v4 new (c.own.ensures.owns free)))

@@ -16,6 +16,7 @@ use Rattle.lsv_keeper.proofs.Reopening.{fault_stands}
 use Rattle.lsv_keeper.proofs.RestartRows.{in_use, none_of, refused_row}
 use Rattle.lsv_keeper.proofs.ResumedRows.{resumed_row}
 use Rattle.lsv_keeper.proofs.Restarting.{asks_restart}
+use Rattle.lsv_keeper.proofs.Syncing.{followed, of_none, owns_one, resumed_one}
 use Rattle.lsv_keeper.proofs.keeper.Keeper.restart.Goals as goal
 
 pub returns-then-is_some-clause-row : goal.returns-then-is_some-clause-row
@@ -58,3 +59,34 @@ returns-in-Err-clause-row g c told m job now at conn asks answers tells =
     at c.resume.ensures.same a free c.resume.ensures.monotone c.in-Err.fault (c.in-Err.ensures.fault told)
     (λ m1 at1. subst (λ (k : ConnId). Left k Dead (view_of c.resume.new.self) m1 (view_of c.leave.new.self) (g.D.Disk.view one) (g.D.Disk.view c.leave.new.disk)) (sym conn) (c.leave.ensures.left told m1 at1))
     answers (subst (λ why. Tells job.conn (told_variants.Refused why) answers) c.restart_refusal.ensures tells)
+
+pub returns-then-is_some-clause-syncs : goal.returns-then-is_some-clause-syncs
+returns-then-is_some-clause-syncs g c told m at = of_none _ _ _ _ _ (c.refuse.ensures.syncs told m at)
+
+pub returns-in-Ok-clause-syncs : goal.returns-in-Ok-clause-syncs
+returns-in-Ok-clause-syncs g c told m at =
+    let v = view_of c.args.self.now in
+    let v1 = view_of c.resume.new.self in
+    let n = c.args.restart.log in
+    let old = g.D.Disk.view c.args.disk.now in
+    let one = g.D.Disk.view c.resume.new.disk in
+    let free = at.owner n ∙ (sym c.owner.ensures ∙ none_of c.owner.result (sym c.is_some.ensures ∙ c.if-is_some.false)) in
+    let resumed = resumed_one n v v1 old one c.resume.ensures.same (c.resume.ensures.syncs told) in
+    let owns = c.own.ensures.owns (ap (λ (s : Sessions). s.owner n) c.resume.ensures.same.sessions_are ∙ (sym (at.owner n) ∙ free)) in
+    followed (λ i. i ≡ n) v v1 (view_of c.own.new.self) old one one resumed (owns_one n c.args.conn c.in-Ok.its v1 (view_of c.own.new.self) one owns)
+
+pub returns-in-Err-clause-syncs : goal.returns-in-Err-clause-syncs
+returns-in-Err-clause-syncs g c told m at =
+    let v = view_of c.args.self.now in
+    let v1 = view_of c.resume.new.self in
+    let n = c.args.restart.log in
+    let old = g.D.Disk.view c.args.disk.now in
+    let one = g.D.Disk.view c.resume.new.disk in
+    let free = at.owner n ∙ (sym c.owner.ensures ∙ none_of c.owner.result (sym c.is_some.ensures ∙ c.if-is_some.false)) in
+    let resumed = resumed_one n v v1 old one c.resume.ensures.same (c.resume.ensures.syncs told) in
+    let two = g.D.Disk.view c.leave.new.disk in
+    let stands = fault_stands v v1 old one m n c.args.restart.point
+    (record { reads_itself = g.met.D.Disk.reads_itself told c.args.disk.now; is_now = g.met.D.Disk.is_now told c.args.disk.now; only_now = g.met.D.Disk.only_now told c.args.disk.now })
+    (record { reads_itself = g.met.D.Disk.reads_itself told c.resume.new.disk; is_now = g.met.D.Disk.is_now told c.resume.new.disk; only_now = g.met.D.Disk.only_now told c.resume.new.disk })
+    at c.resume.ensures.same free c.in-Err.fault (c.in-Err.ensures.fault told) in
+    followed (λ i. i ≡ n) v v1 (view_of c.leave.new.self) old one two resumed (of_none (λ i. i ≡ n) v1 (view_of c.leave.new.self) one two (c.leave.ensures.syncs told stands.0 stands.1))

@@ -1,5 +1,5 @@
 -- Room is made, and then the log is opened and cut.
-use Rattle.std.proofs.Common.{ℕ, List, ap, subst, IfOk}
+use Rattle.std.proofs.Common.{ℕ, List, ap, subst, IfOk, refl}
 use Rattle.lsv_keeper.specs.Resuming.{IsResumed}
 use Rattle.lsv_keeper.specs.Value.{KeeperView}
 use Rattle.lsv_keeper.proofs.Looking.{looked_none}
@@ -12,3 +12,6 @@ pub returns-clause-resumed : goal.returns-clause-resumed
 returns-clause-resumed g c told =
     subst (λ (t : List (List ℕ)). IfOk c.resume_log.result (λ its. IsResumed c.args.number c.args.point t its (g.D.Disk.view c.args.disk.now) (g.D.Disk.view c.resume_log.new.disk)))
     (ap (λ (u : KeeperView). u.texts) c.reserve_log.ensures.same.others) (c.resume_log.ensures.resumed told)
+
+pub returns-then-is_err-clause-syncs : goal.returns-then-is_err-clause-syncs
+returns-then-is_err-clause-syncs g c told n other file own = refl

@@ -10,12 +10,14 @@ use Rattle.lsv_keeper.specs.Rows.{Left, RowGives}
 use Rattle.lsv_keeper.specs.Value.{KeeperView, sessions_of}
 use Rattle.lsv_keeper.specs.Views.{view_of}
 use Rattle.lsv_keeper.specs.declared.told.Told.TheVariants as told
+use Rattle.lsv_keeper.specs.Syncing.{NoLog}
 use Rattle.lsv_keeper.proofs.Departing.{room_one}
 use Rattle.lsv_keeper.proofs.ExitEnds.{keeps_from}
 use Rattle.lsv_keeper.proofs.Frames.{Laws}
 use Rattle.lsv_keeper.proofs.Opens.{given_ok}
 use Rattle.lsv_keeper.proofs.Recording.{record_staged}
 use Rattle.lsv_keeper.proofs.Refusing.{keeps_same, record_refused, refused_out, staged_keeps, written_open}
+use Rattle.lsv_keeper.proofs.Syncing.{nothing}
 use Rattle.lsv_keeper.proofs.keeper.Keeper.take_record.Goals as goal
 
 pub let_go-requires : goal.let_go-requires
@@ -64,3 +66,14 @@ returns-in-NotOpen-clause-keeps g c = keeps_same (view_of c.args.self.now) c.app
 pub returns-in-NotOpen-clause-row : goal.returns-in-NotOpen-clause-row
 returns-in-NotOpen-clause-row g c told_is m job now at is state asks =
     absurd (written_open (view_of c.args.self.now) (g.D.Disk.view c.args.disk.now) m c.args.conn c.args.log at state c.in-NotOpen.ensures.0)
+
+pub returns-in-Staged-clause-syncs : goal.returns-in-Staged-clause-syncs
+returns-in-Staged-clause-syncs g c told_is m at state = nothing NoLog (view_of c.args.self.now) _ (g.D.Disk.view c.args.disk.now) refl refl
+
+pub returns-in-Refused-clause-syncs : goal.returns-in-Refused-clause-syncs
+returns-in-Refused-clause-syncs g c told_is m at state =
+    let v : KeeperView = view_of c.args.self.now in
+    c.let_go.ensures.syncs told_is v m (refused_out v c.append.new.self c.args.log c.args.r c.in-Refused.its c.in-Refused.fault c.in-Refused.ensures) at state
+
+pub returns-in-NotOpen-clause-syncs : goal.returns-in-NotOpen-clause-syncs
+returns-in-NotOpen-clause-syncs g c told_is m at state = nothing NoLog (view_of c.args.self.now) _ (g.D.Disk.view c.args.disk.now) refl refl

@@ -7,7 +7,9 @@ use Rattle.lsv_keeper.specs.declared.report.Next.{Next}
 use Rattle.lsv_keeper.specs.Accepting.{EntersNoLog, IsEventOf}
 use Rattle.lsv_keeper.specs.Value.{KeeperView, sessions_of, settings_of}
 use Rattle.lsv_keeper.specs.Views.{view_of}
+use Rattle.lsv_keeper.specs.Syncing.{NoLog}
 use Rattle.lsv_keeper.proofs.Reporting.{ends_at, enters_at, keeps_left, refused_at, room_after, stays_at}
+use Rattle.lsv_keeper.proofs.Syncing.{followed, line_quiet}
 use Rattle.lsv_keeper.proofs.keeper.Keeper.tell.Goals as goal
 
 pub leave-requires-clause-stands : goal.leave-requires-clause-stands
@@ -85,3 +87,39 @@ returns-in-Ends-clause-row g c told m job now what at e a is =
     (record { reads_itself = g.met.D.Disk.reads_itself told d0; is_now = g.met.D.Disk.is_now told d0; only_now = g.met.D.Disk.only_now told d0 })
     c.add_line.ensures.keeps (c.add_line.ensures.beside told m at) added.0 (c.leave-in-Ends.ensures.left told (adds_line c.args.conn line m) added.1) job now what e a
     (subst (λ (x : Next). IsEventOf (settings_of v) now c.args.conn (m.states c.args.conn) what line x m) c.in-Ends.is is)
+
+pub returns-in-Err-clause-syncs : goal.returns-in-Err-clause-syncs
+returns-in-Err-clause-syncs g c told m at =
+    let v : KeeperView = view_of c.args.self.now in
+    let v1 : KeeperView = view_of c.add_line.new.self in
+    let d0 = g.D.Disk.view c.args.disk.now in
+    let d1 = g.D.Disk.view c.add_line.new.disk in
+    let line = line_quiet NoLog v v1 d0 d1 c.add_line.ensures.same (c.add_line.ensures.syncs told) in
+    followed NoLog v v1 (view_of c.leave.new.self) d0 d1 (g.D.Disk.view c.leave.new.disk) line (c.leave.ensures.syncs told m (c.in-Err.ensures.refused told m at).1)
+
+pub returns-in-Stays-clause-syncs : goal.returns-in-Stays-clause-syncs
+returns-in-Stays-clause-syncs g c told m at =
+    let v : KeeperView = view_of c.args.self.now in
+    let v1 : KeeperView = view_of c.add_line.new.self in
+    let d0 = g.D.Disk.view c.args.disk.now in
+    let d1 = g.D.Disk.view c.add_line.new.disk in
+    let line = line_quiet NoLog v v1 d0 d1 c.add_line.ensures.same (c.add_line.ensures.syncs told) in
+    line
+
+pub returns-in-Enters-clause-syncs : goal.returns-in-Enters-clause-syncs
+returns-in-Enters-clause-syncs g c told m at =
+    let v : KeeperView = view_of c.args.self.now in
+    let v1 : KeeperView = view_of c.add_line.new.self in
+    let d0 = g.D.Disk.view c.args.disk.now in
+    let d1 = g.D.Disk.view c.add_line.new.disk in
+    let line = line_quiet NoLog v v1 d0 d1 c.add_line.ensures.same (c.add_line.ensures.syncs told) in
+    followed NoLog v v1 (view_of c.leave-in-Enters.new.self) d0 d1 (g.D.Disk.view c.leave-in-Enters.new.disk) line (c.leave-in-Enters.ensures.syncs told (adds_line c.args.conn (line_of v.kind c.args.event.now) m) (c.in_default.ensures.added told m at).1)
+
+pub returns-in-Ends-clause-syncs : goal.returns-in-Ends-clause-syncs
+returns-in-Ends-clause-syncs g c told m at =
+    let v : KeeperView = view_of c.args.self.now in
+    let v1 : KeeperView = view_of c.add_line.new.self in
+    let d0 = g.D.Disk.view c.args.disk.now in
+    let d1 = g.D.Disk.view c.add_line.new.disk in
+    let line = line_quiet NoLog v v1 d0 d1 c.add_line.ensures.same (c.add_line.ensures.syncs told) in
+    followed NoLog v v1 (view_of c.leave-in-Ends.new.self) d0 d1 (g.D.Disk.view c.leave-in-Ends.new.disk) line (c.leave-in-Ends.ensures.syncs told (adds_line c.args.conn (line_of v.kind c.args.event.now) m) (c.in_default.ensures.added told m at).1)

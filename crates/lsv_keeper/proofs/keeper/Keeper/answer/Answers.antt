@@ -1,0 +1,8 @@
+-- A connection that was shut opens no log.
+use Rattle.lsv_keeper.specs.Syncs.{Restarts}
+use Rattle.lsv_keeper.specs.Views.{view_of}
+use Rattle.lsv_keeper.proofs.Syncing.{of_none}
+use Rattle.lsv_keeper.proofs.keeper.Keeper.answer.Goals as goal
+
+pub returns-in-Dead-clause-syncs : goal.returns-in-Dead-clause-syncs
+returns-in-Dead-clause-syncs g c told m at = of_none (Restarts c.args.body) (view_of c.args.self.now) (view_of c.drop_job.new.self) (g.D.Disk.view c.args.disk.now) (g.D.Disk.view c.drop_job.new.disk) (c.drop_job.ensures.syncs told m at)
