@@ -3,12 +3,14 @@
 
 mod answers;
 mod incoming;
+mod laws;
 mod once;
 mod outside;
 mod program;
 mod server;
 mod status;
 
+pub use laws::an_empty_store_may_be_served;
 pub use once::run_once;
 pub use outside::{Kept, Options, Outside};
 pub use program::logsrvd;
