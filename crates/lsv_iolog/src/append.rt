@@ -44,6 +44,7 @@ impl IoLog {
         ensures too_long { (point : ℕ) → IsErrOf result (LogFault.TooLong point) → (point ≡ self.old.elapsed) × (2 ^ 63 ≤ self.old.elapsed + delay_of r.now) }
         ensures in_time { IfErr result (λ e. (e ≡ LogFault.TooLong self.old.elapsed) ⊎ (self.old.elapsed + delay_of r.now < 2 ^ 63)) }
         ensures broken { IsErrOf result LogFault.Broken → self.old.is_broken ≡ true }
+        ensures memory { IsErrOf result LogFault.NoMem → self.old.is_broken ≡ false }
         ensures whole { (part : Part) → IsErrOf result (LogFault.Full part) → (self.old.is_broken ≡ false) × IsFullOf self.old.bundle r.now part }
         ensures fault { IfErr result (λ e. (e ≡ LogFault.TooLong self.old.elapsed) ⊎ (e ≡ LogFault.Broken) ⊎ ((part : Part) × (e ≡ LogFault.Full part)) ⊎ (e ≡ LogFault.NoMem)) }
     {

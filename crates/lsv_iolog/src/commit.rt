@@ -68,6 +68,7 @@ impl IoLog {
         ensures whole { OnOk result ((self.old.is_broken ≡ false) × (self.new.is_broken ≡ false)) }
         ensures flushed { OnOk result (IsFlushed self.new) }
         ensures complete { OnOk result (is_complete self.new ≡ true) }
+        ensures incomplete { OnErr result (is_complete self.new ≡ false) }
         ensures represents { D.tells → OnOk result ((value : LogValue) → Represents self.old value (D.view disk.old) → Represents self.new (bare (finished value (exit_text exit.now))) (D.view disk.new)) }
         ensures any_moment { D.tells → (value : LogValue) → Represents self.old value (D.view disk.old)
             → Throughout (IsOfLog self.old.number) (IsEither self.old.number (Some value.stored) (Some (finished value (exit_text exit.now)))) (D.view disk.old) (D.view disk.new) }

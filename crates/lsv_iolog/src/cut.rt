@@ -53,6 +53,7 @@ impl IoLog {
         ensures going { OnOk result ((is_complete self.old ≡ false) × (is_complete self.new ≡ false)) }
         ensures flushed { OnOk result (IsFlushed self.new) }
         ensures elapsed { OnOk result (self.new.elapsed ≡ point) }
+        ensures counts { OnErr result (SameCounts self.old self.new) }
         ensures found { D.tells → OnOk result ((value : LogValue) → Represents self.old value (D.view disk.old) → first value.stored.records point ≢ None) }
         ensures represents { D.tells → OnOk result ((value : LogValue) → Represents self.old value (D.view disk.old) → Represents self.new (bare (cut_log value.stored point)) (D.view disk.new)) }
         ensures any_moment { D.tells → (value : LogValue) → Represents self.old value (D.view disk.old)
@@ -140,6 +141,7 @@ impl IoLog {
         requires within { kept.now.timing ≤ committed_length self.old.bundle Part.Timing }
         ensures same { (self.new.number ≡ self.old.number) × (self.new.head ≡ self.old.head) }
         ensures counts { OnOk result ((self.new.count ≡ kept.now.count) × (self.new.elapsed ≡ kept.now.elapsed)) }
+        ensures kept { OnErr result (SameCounts self.old self.new) }
         ensures whole { OnOk result (self.new.is_broken ≡ false) }
         ensures broken { OnErr result (self.new.is_broken ≡ true) }
         ensures value { OnOk result (IsCutTo kept.now cuts self.old.bundle self.new.bundle) }

@@ -161,6 +161,7 @@ impl LogView {
         ensures cuts { D.tells → IfOk result (λ renewed. (cuts : ℕ) → renewed ≡ Renewed.Cut cuts → (body : Body) × HasEntry (owner_of self.old.number) body (D.view disk.old).reads × (cuts ≡ body.extra)) }
         ensures same { IfOk result (λ renewed. renewed ≡ Renewed.Same → (self.new.number ≡ self.old.number) × (self.new.body.extra ≡ self.old.body.extra) × (self.new.given ≡ self.old.given)) }
         ensures entry { D.tells → IfOk result (λ renewed. renewed ≡ Renewed.Same → HasEntry (owner_of self.old.number) self.new.body (D.view disk.old).reads) }
+        ensures head { D.tells → IfOk result (λ renewed. renewed ≡ Renewed.Same → head_of (committed_text self.old.number self.new.body (D.view disk.new) Part.Head) ≡ Ok self.new.head) }
         ensures later { D.tells → IfOk result (λ renewed. renewed ≡ Renewed.Same → (before now : Stored) (records more : List Record) → before.records ≡ records ++ more → before.cuts ≡ self.old.body.extra
             → Replays (D.view disk.old).reads self.old.number (Some now) → IsLater before now → self.old.given ≡ totals_of (map shape_of records) → IsBehind self.new records (D.view disk.new)) }
         ensures unchanged { OnErr result (self.new ≡ self.old) }

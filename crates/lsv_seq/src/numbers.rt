@@ -143,6 +143,7 @@ impl Numbers {
         ensures kept { OnErr result (IsPassedOver self.old self.new) }
         ensures spent { (m : ℕ) → IsErrOf result (DrawFault.Spent m) → (last_of self.new ≡ m) × (pending_of self.new ≡ None) × (most < next_of self.new) }
         ensures enough { pending_of self.old ≡ None → most < next_of self.old → result ≡ Err (DrawFault.Spent (last_of self.old)) }
+        ensures idle { pending_of self.old ≡ None → (m : ℕ) → IsErrOf result (DrawFault.Spent m) → (self.new ≡ self.old) × (disk.new ≡ disk.old) }
         ensures fault { IsErrOf result DrawFault.Disk → pending_of self.new ≡ Some (next_of self.new) }
         ensures changed { (kept : _) (now : _) → IsErrOf result (DrawFault.Changed kept now) → (self.new ≡ self.old) × IsChanged self.old kept now }
         ensures unchanged { D.tells → (kept : _) (now : _) → result ≢ Err (DrawFault.Changed kept now) }
