@@ -6,3 +6,4 @@ pub mod ReadLemmas
 pub mod SilenceLemmas
 pub mod EndLemmas
 pub mod StartLemmas
+pub mod ProgramLemmas

@@ -1,28 +1,30 @@
 -- What the words of the program and its settings file ask for.
-use Rattle.std.specs.Prelude.{◌≡◌, ℕ, Bool, List, [], Option, Some, IsTrue, unwrap_or, if◌then◌else◌}
+use Rattle.std.specs.Prelude.{◌≡◌, ℕ, List, [], Option, Some, None, IsTrue, unwrap_or, if◌then◌else◌}
 use Rattle.std.specs.List.{list_all}
 use Rattle.std.specs.Str.{is_utf8}
 use Rattle.clap.specs.Words.{fault_of}
 use Rattle.lsv_args.specs.Commands.{commands}
-use Rattle.lsv_args.specs.Reading.{Once, asked}
-use Rattle.lsv_args.specs.Reading as args
+use Rattle.lsv_args.specs.Reading.{Asked, Load, Once, Options, Relay, Serve, asked}
 use Rattle.lsv_conf.specs.Lines.{Placed, lines_of}
 use Rattle.lsv_conf.specs.Settings.{settings_of}
 use Rattle.lsv_conf.specs.Settings as conf
 use Rattle.lsv_machine.specs.Machine.{Settings}
 use Rattle.lsv_serve.specs.Once.{once_settings}
 
--- the words ask for the command `once` with this settings file: each is UTF-8, clap takes them, and this is what they say
-pub record AsksOnce (words : List (List ℕ)) (file : List ℕ) : Type 0 where
+-- the words ask for the command `once`: each is UTF-8, clap takes them, and this is what they say
+pub record IsOnce (words : List (List ℕ)) : Type 0 where
   pub text : IsTrue (list_all is_utf8 words)
   pub taken : fault_of commands words ≡ []
-  pub options : args.Options
+  pub options : Options
   pub once : asked words ≡ Some (Once options)
-  pub names : options.conf ≡ file
 
--- the words ask for the command `once`
-abbrev pub IsOnce : List (List ℕ) → Type 0
-IsOnce words = (file : List ℕ) × AsksOnce words file
+-- the settings file of what is asked
+abbrev pub file_of : Option Asked → List ℕ
+file_of None = []
+file_of (Some (Once o)) = o.conf
+file_of (Some (Serve o)) = o.conf
+file_of (Some (Relay o)) = o.conf
+file_of (Some (Load o count)) = o.conf
 
 -- the lines of a settings file that was found so: where there is none, they are those of an empty one
 abbrev pub lines_in : Option (List ℕ) → List Placed
@@ -40,6 +42,6 @@ machine_of set = once_settings set.format set.log_exit
 abbrev pub prompts_of : conf.Settings → List (List ℕ)
 prompts_of set = if set.log_passwords then [] else set.prompts
 
--- this holds of the settings file as it was found: as the texts tell it at the path of the words, where they tell
+-- this holds of the settings file as it was found, which is as the texts tell it, where they tell
 abbrev pub AsFound : (tells : Type 0) (words : List (List ℕ)) (texts : List ℕ → Option (List ℕ)) (Holds : Option (List ℕ) → Type 0) → Type 0
-AsFound tells words texts Holds = (found : Option (List ℕ)) × (tells → (file : List ℕ) → AsksOnce words file → found ≡ texts file) × Holds found
+AsFound tells words texts Holds = (found : Option (List ℕ)) × (tells → found ≡ texts (file_of (asked words))) × Holds found

@@ -65,24 +65,17 @@ fn give_places<D: Disk>(disk: &mut D, options: &Options)
     ensures places { D.tells → HasPlaces options.now.logs options.now.events (D.view disk.new) }
     ensures frame { IsLeftAlone D.tells (D.view disk.old) (D.view disk.new) }
 {
-    let logs = str::from_utf8(options.logs.as_slice());
-    let events = str::from_utf8(options.events.as_slice());
-    let (Ok(logs), Ok(events)) = (logs, events) else {
+    let Ok(logs) = str::from_utf8(options.logs.as_slice()) else {
+        unreachable!();
+    };
+    let Ok(events) = str::from_utf8(options.events.as_slice()) else {
         unreachable!();
     };
     disk.root(logs, events);
 }
 
 /// Opens the store, whose places the disk was given, and serves the connection.
-fn serve_store<
-    S: Source,
-    K: Sink,
-    D: Disk,
-    C: Clock,
-    T,
-    F: LineWriter + Drop,
-    H: Search + Drop,
->(
+fn serve_store<S: Source, K: Sink, D: Disk, C: Clock, T, F: LineWriter + Drop, H: Search + Drop>(
     alloc: Global,
     out: &mut Outside<S, K, D, C, T>,
     formatter: Formatter<F>,

@@ -3,6 +3,7 @@
 ghost use Rattle.std.specs.Prelude.{◌≡◌, ◌⊎◌, ℕ, List, [], Option, Some, None, IsTrue, IfOk, IfErr, OnOk, unwrap_or};
 ghost use Rattle.std.specs.List.{list_all};
 ghost use Rattle.std.specs.Str.{is_utf8};
+ghost use Rattle.lsv_args.specs.Reading.{asked};
 ghost use Rattle.lsv_conf.specs.Lines.{first_refused};
 ghost use Rattle.lsv_conf.specs.Settings.{settings_in};
 ghost use Rattle.lsv_words.specs.Causes.{HasRisen};
@@ -12,7 +13,7 @@ ghost use Rattle.lsv_machine.specs.Disks.{NumbersFit};
 ghost use Rattle.lsv_keeper.specs.Reading.{reading_of};
 ghost use Rattle.lsv_serve.specs.Causes.{HasConfCause, HasPlacesAt, HasProgramCause};
 ghost use Rattle.lsv_serve.specs.Once.{IsFresh, RunsOnce};
-ghost use Rattle.lsv_serve.specs.Program.{AsFound, AsksOnce, IsOnce, lines_in, machine_of, prompts_of, set_by};
+ghost use Rattle.lsv_serve.specs.Program.{AsFound, IsOnce, file_of, lines_in, machine_of, prompts_of, set_by};
 ghost use Rattle.lsv_serve.specs.World.{world_of};
 
 use crate::once::run_once;
@@ -38,7 +39,8 @@ fn are_texts(words: &[Bytes]) -> bool
 
 /// The options of the command `once`. Other words are Usage.
 fn once_opts(alloc: Global, words: &List<Bytes>) -> Result<Opts, ArgFault>
-    ensures ok { IfOk result (λ opts. AsksOnce words.now opts.conf) }
+    ensures ok { OnOk result (IsOnce words.now) }
+    ensures file { IfOk result (λ opts. file_of (asked words.now) ≡ opts.conf) }
     ensures usage { result ≡ Err ArgFault.Usage → IsOnce words.now → ⊥ }
 {
     if !are_texts(words.as_slice()) {
@@ -62,7 +64,7 @@ fn text_in(found: &Option<Bytes>) -> &[u8]
 }
 
 /// The settings of a text that was found, or how a run ends whose settings aren't read.
-fn settings_of(alloc: Global, found: &Option<Bytes>) -> Result<Conf, Status>
+fn conf_in(alloc: Global, found: &Option<Bytes>) -> Result<Conf, Status>
     ensures ok { IfOk result (λ conf. settings_in conf ≡ set_by found.now) }
     ensures none_refused { OnOk result (first_refused (lines_in found.now) ≡ None) }
     ensures err { IfErr result (λ status. (status ≡ Status.NoMem) ⊎ ((line : ℕ) × (status ≡ Status.Conf line) × ((faults faults' : ℕ) → HasConfCause (lines_in found.now) faults faults' line))) }
@@ -75,11 +77,7 @@ fn settings_of(alloc: Global, found: &Option<Bytes>) -> Result<Conf, Status>
 }
 
 /// The text of the settings file, or how a run ends that can't read it.
-fn settings_file<T: Texts>(
-    alloc: Global,
-    texts: &mut T,
-    opts: &Opts,
-) -> Result<Option<Bytes>, Status>
+fn found_file<T: Texts>(alloc: Global, texts: &mut T, opts: &Opts) -> Result<Option<Bytes>, Status>
     ensures ok { T.tells → IfOk result (λ found. found ≡ T.texts texts.old opts.now.conf) }
     ensures err { IfErr result (λ status. (status ≡ Status.NoMem) ⊎ ((status ≡ Status.Conf 0) × HasRisen (T.faults texts.old) (T.faults texts.new))) }
 {
@@ -101,17 +99,25 @@ fn options_of(alloc: Global, conf: Conf) -> Options
     ensures logs { result.logs ≡ conf.iolog_dir }
     ensures events { result.events ≡ conf.path }
 {
-    let prompts = if conf.log_passwords {
-        List::new(alloc)
-    } else {
-        conf.prompts
-    };
-    Options {
-        form: conf.format,
-        log_exit: conf.log_exit,
+    let Conf {
+        iolog_dir,
+        log_passwords,
+        format,
+        log_exit,
+        path,
         prompts,
-        logs: conf.iolog_dir,
-        events: conf.path,
+        ..
+    } = conf;
+    Options {
+        form: format,
+        log_exit,
+        prompts: if log_passwords {
+            List::new(alloc)
+        } else {
+            prompts
+        },
+        logs: iolog_dir,
+        events: path,
     }
 }
 
@@ -153,11 +159,11 @@ pub fn logsrvd<
         Err(ArgFault::Usage) => return Status::Usage,
         Err(ArgFault::NoMem) => return Status::NoMem,
     };
-    let found = match settings_file(alloc, &mut out.texts, &opts) {
+    let found = match found_file(alloc, &mut out.texts, &opts) {
         Ok(found) => found,
         Err(status) => return status,
     };
-    match settings_of(alloc, &found) {
+    match conf_in(alloc, &found) {
         Ok(conf) => run_once(alloc, options_of(alloc, conf), out, kept),
         Err(status) => status,
     }

@@ -7,6 +7,7 @@ use std::alloc::Global;
 
 /// The settings files of the system. Of each that is read it is told on standard error which keys are passed over and which
 /// line is refused, by its path and the line.
+#[derive(Drop)]
 pub struct ToldTexts {
     rt: HostRuntime,
     files: FileTexts,
@@ -27,7 +28,9 @@ impl ToldTexts {
                 for note in conf.notes.as_slice() {
                     let line = note.line;
                     if let Ok(key) = str::from_utf8(note.key.as_slice()) {
-                        let _ = eprintln!(self.rt; "sudo_logsrvd: {path}:{line}: {key} is passed over");
+                        let _ = eprintln!(self.rt;
+                            "sudo_logsrvd: {path}:{line}: {key} is passed over"
+                        );
                     }
                 }
             }
@@ -51,7 +54,9 @@ impl Texts for ToldTexts {
         match &found {
             Some(text) => self.tell(alloc, path, text.as_slice()),
             None => {
-                let _ = eprintln!(self.rt; "sudo_logsrvd: {path}: no such file, so the defaults count");
+                let _ = eprintln!(self.rt;
+                    "sudo_logsrvd: {path}: no such file, so the defaults count"
+                );
             }
         }
         Ok(found)
