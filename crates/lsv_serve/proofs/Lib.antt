@@ -7,3 +7,4 @@ pub mod SilenceLemmas
 pub mod EndLemmas
 pub mod StartLemmas
 pub mod ProgramLemmas
+pub mod TextLemmas

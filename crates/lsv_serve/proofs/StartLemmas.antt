@@ -140,7 +140,7 @@ module _ (old : World) (after : DiskView) (alone : IsLeftAlone old.disk_tells ol
 -- ---- A run without turns
 
 -- a status at which nothing was read or put
-abbrev Nothing : Status → Type 0
+abbrev pub Nothing : Status → Type 0
 Nothing status = (status ≡ Usage) ⊎ ((fault : StoreFault) × (status ≡ Store fault)) ⊎ (status ≡ NoMem) ⊎ ((line : ℕ) × (status ≡ Conf line))
 
 -- the store was opened or couldn't be, or nothing was done

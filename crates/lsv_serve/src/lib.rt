@@ -8,6 +8,7 @@ mod outside;
 mod program;
 mod server;
 mod status;
+mod text;
 
 pub use once::run_once;
 pub use outside::{Kept, Options, Outside};

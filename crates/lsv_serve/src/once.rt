@@ -13,6 +13,7 @@ ghost use Rattle.lsv_serve.specs.World.{world_of};
 use crate::outside::{Kept, Options, Outside};
 use crate::server::Server;
 use crate::status::Status;
+use crate::text::text_of;
 use lsv_base::{Bytes, Clock, List, Sink, Source};
 use lsv_disk::Disk;
 use lsv_event::Kind;
@@ -20,7 +21,6 @@ use lsv_hook::{Formatter, LineWriter};
 use lsv_keeper::{Keeper, StoreFault};
 use lsv_mask::{Prompt, Search};
 use std::alloc::Global;
-use std::str;
 
 /// Serves one connection, from the source to the sink, over the store of one lane. Nothing else changes the store while it
 /// runs.
@@ -65,13 +65,7 @@ fn give_places<D: Disk>(disk: &mut D, options: &Options)
     ensures places { D.tells → HasPlaces options.now.logs options.now.events (D.view disk.new) }
     ensures frame { IsLeftAlone D.tells (D.view disk.old) (D.view disk.new) }
 {
-    let Ok(logs) = str::from_utf8(options.logs.as_slice()) else {
-        unreachable!();
-    };
-    let Ok(events) = str::from_utf8(options.events.as_slice()) else {
-        unreachable!();
-    };
-    disk.root(logs, events);
+    disk.root(text_of(&options.logs), text_of(&options.events));
 }
 
 /// Opens the store, whose places the disk was given, and serves the connection.

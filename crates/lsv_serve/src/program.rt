@@ -1,8 +1,6 @@
 //! The program: its words and its settings file, and the command that they ask for.
 
-ghost use Rattle.std.specs.Prelude.{◌≡◌, ◌⊎◌, ℕ, List, [], Option, Some, None, IsTrue, IfOk, IfErr, OnOk, unwrap_or};
-ghost use Rattle.std.specs.List.{list_all};
-ghost use Rattle.std.specs.Str.{is_utf8};
+ghost use Rattle.std.specs.Prelude.{◌≡◌, ◌⊎◌, ℕ, List, [], Option, Some, None, IfOk, IfErr, OnOk, unwrap_or};
 ghost use Rattle.lsv_args.specs.Reading.{asked};
 ghost use Rattle.lsv_conf.specs.Lines.{first_refused};
 ghost use Rattle.lsv_conf.specs.Settings.{settings_in};
@@ -19,6 +17,7 @@ ghost use Rattle.lsv_serve.specs.World.{world_of};
 use crate::once::run_once;
 use crate::outside::{Kept, Options, Outside};
 use crate::status::Status;
+use crate::text::{are_texts, text_of};
 use lsv_args::{ArgFault, Command, Opts, read_words};
 use lsv_base::{Bytes, Clock, List, Sink, Source, TextFault, Texts};
 use lsv_conf::{Conf, ConfFault, read_conf};
@@ -26,16 +25,6 @@ use lsv_disk::Disk;
 use lsv_hook::LineWriter;
 use lsv_mask::Search;
 use std::alloc::Global;
-use std::str;
-
-/// Whether each word is UTF-8.
-fn are_texts(words: &[Bytes]) -> bool
-    ensures { result ≡ list_all is_utf8 words.now }
-{
-    words
-        .iter()
-        .all(|word| str::from_utf8(word.as_slice()).is_ok())
-}
 
 /// The options of the command `once`. Other words are Usage.
 fn once_opts(alloc: Global, words: &List<Bytes>) -> Result<Opts, ArgFault>
@@ -81,10 +70,7 @@ fn found_file<T: Texts>(alloc: Global, texts: &mut T, opts: &Opts) -> Result<Opt
     ensures ok { T.tells → IfOk result (λ found. found ≡ T.texts texts.old opts.now.conf) }
     ensures err { IfErr result (λ status. (status ≡ Status.NoMem) ⊎ ((status ≡ Status.Conf 0) × HasRisen (T.faults texts.old) (T.faults texts.new))) }
 {
-    let Ok(path) = str::from_utf8(opts.conf.as_slice()) else {
-        unreachable!();
-    };
-    match texts.text(alloc, path) {
+    match texts.text(alloc, text_of(&opts.conf)) {
         Ok(found) => Ok(found),
         Err(TextFault::Failed) => Err(Status::Conf(0)),
         Err(TextFault::NoMem) => Err(Status::NoMem),

@@ -39,8 +39,8 @@ returns-in-Sudo-clause-fresh_again g c =
 pub serve_store-requires-in-Json : goal.serve_store-requires-in-Json
 serve_store-requires-in-Json g c = record { fresh = λ told. fresh_after _ _ (c.give_places.ensures.frame.untouched told) (c.requires.fresh told) }
 
-pub returns-in-Json-clause-runs : goal.returns-in-Json-clause-runs
-returns-in-Json-clause-runs g c =
+pub returns-clause-runs : goal.returns-clause-runs
+returns-clause-runs g c =
     let old : World = world_of g.S.Source g.K.Sink g.D.Disk c.args.out.now.source c.args.out.now.sink c.args.out.now.disk in
     let new : World = world_of g.S.Source g.K.Sink g.D.Disk c.serve_store-in-Json.new.out.source c.serve_store-in-Json.new.out.sink c.serve_store-in-Json.new.out.disk in
     let log_exit = c.args.options.log_exit in
@@ -48,19 +48,19 @@ returns-in-Json-clause-runs g c =
     let r = rw c.requires.json at c.serve_store-in-Json.ensures.runs in
     subst (λ (k : Kind). RunsOnce (once_settings k log_exit) prompts old new c.serve_store-in-Json.result) (sym c.in-Json.is) (runs_before old (g.D.Disk.view c.give_places.new.disk) c.give_places.ensures.frame (once_settings kinds.Json log_exit) prompts new c.serve_store-in-Json.result r)
 
-pub returns-in-Json-clause-cause : goal.returns-in-Json-clause-cause
-returns-in-Json-clause-cause g c =
+pub returns-clause-cause : goal.returns-clause-cause
+returns-clause-cause g c =
     let old : World = world_of g.S.Source g.K.Sink g.D.Disk c.args.out.now.source c.args.out.now.sink c.args.out.now.disk in
     let new : World = world_of g.S.Source g.K.Sink g.D.Disk c.serve_store-in-Json.new.out.source c.serve_store-in-Json.new.out.sink c.serve_store-in-Json.new.out.disk in
     cause_before old (g.D.Disk.view c.give_places.new.disk) c.give_places.ensures.frame new c.serve_store-in-Json.result c.serve_store-in-Json.ensures.cause
 
-pub returns-in-Json-clause-places : goal.returns-in-Json-clause-places
-returns-in-Json-clause-places g c told =
+pub returns-clause-places : goal.returns-clause-places
+returns-clause-places g c told =
     let kept = c.serve_store-in-Json.ensures.same_places told in
     elim (c.give_places.ensures.places told) [ inl given ↦ inl (kept ∙ given) | inr none ↦ inr (kept ∙ none) ]
 
-pub returns-in-Json-clause-fresh_again : goal.returns-in-Json-clause-fresh_again
-returns-in-Json-clause-fresh_again g c =
+pub returns-clause-fresh_again : goal.returns-clause-fresh_again
+returns-clause-fresh_again g c =
     let old : World = world_of g.S.Source g.K.Sink g.D.Disk c.args.out.now.source c.args.out.now.sink c.args.out.now.disk in
     let new : World = world_of g.S.Source g.K.Sink g.D.Disk c.serve_store-in-Json.new.out.source c.serve_store-in-Json.new.out.sink c.serve_store-in-Json.new.out.disk in
     let r = rw c.requires.json at c.serve_store-in-Json.ensures.runs in
