@@ -13,9 +13,9 @@ MEASURES = crates/lsv_bench
 
 all: build
 
-# `rt run` proves what is not proved yet, builds, and runs the program: here on an empty input, in a folder of its own.
+# `rt run` proves what is not proved yet, builds, and runs the program: here on an empty input, with a store in the crate's folder.
 build:
-	cd $(CRATE) && rt run -- once </dev/null >/dev/null
+	cd $(CRATE) && rt run -- once -f data/conf </dev/null >/dev/null
 
 run: build
 	bash examples/run $(PROGRAM)

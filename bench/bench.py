@@ -25,6 +25,9 @@ LARGEST = 2_097_152
 BATCH = 100
 CROWDS = [("empty entries", b"\x12\0"), ("entries of the number 0", b"\x12\x02\x10\0")]
 
+# Settings whose store stands where the program runs.
+CONF = os.path.join(os.path.dirname(os.path.abspath(__file__)), "../crates/sudo_logsrvd/data/conf")
+
 
 def varint(n):
     out = bytearray()
@@ -80,7 +83,7 @@ def run(program, path):
     folder = tempfile.mkdtemp(dir="/dev/shm")
     try:
         with open(path, "rb") as source:
-            child = subprocess.Popen([program, "once"], stdin=source, stdout=subprocess.DEVNULL, cwd=folder)
+            child = subprocess.Popen([program, "once", "-f", CONF], stdin=source, stdout=subprocess.DEVNULL, cwd=folder)
             peak, status, usage = watched(child.pid)
         if status != 0:
             sys.exit(f"bench: the program ended with status {status}")

@@ -19,6 +19,7 @@ pub record IsReading (text : List ℕ) (shown : Settings) (number : ℕ) (sectio
   pub done : List Placed
   pub n : ℕ
   pub whole : lines_of text ≡ done ++ lines_left n section rest
+  pub counted : 1 ≤ n
   pub told : told n ≡ number
   pub settings : shown ≡ settings_of done
   pub none : find is_refused done ≡ None
@@ -39,7 +40,7 @@ no_more (x ∷ xs) = ap (λ rest. x ∷ rest) (no_more xs)
 
 -- before the first line
 pub reading_start : (text : Bor (List ℕ)) (shown : Settings) → shown ≡ settings_of [] → IsReading text.now shown 1 None (Some text)
-reading_start text shown e = record { done = []; n = 1; whole = refl; told = refl; settings = e; none = refl }
+reading_start text shown e = record { done = []; n = 1; whole = refl; counted = omega arith; told = refl; settings = e; none = refl }
 
 told_next : (n number : ℕ) → told n ≡ number → told (n + 1) ≡ min (number + 1) (2 ^ 32 - 1)
 told_next n number e = omega (arith, e)
@@ -64,6 +65,7 @@ reading_next text old new number next section behind_it rest more bytes line is 
   done = r.done ++ at r.n (now_of section) line ∷ [];
   n = r.n + 1;
   whole = r.whole ∙ ap (λ ls. r.done ++ ls) (left_next r.n section behind_it rest more bytes line is first cut section_is) ∙ sym (append_assoc r.done (at r.n (now_of section) line ∷ []) (lines_left (r.n + 1) behind_it more));
+  counted = omega arith;
   told = told_next r.n number r.told ∙ sym next_is;
   settings = set r.done r.n r.told r.settings;
   none = find_on is_refused r.done (at r.n (now_of section) line ∷ []) r.none ∙ ap (λ t. cond t (Some (at r.n (now_of section) line)) None) taken;
@@ -74,6 +76,10 @@ pub reading_end : (text : List ℕ) (shown : Settings) (number : ℕ) (section r
 reading_end text shown number section rest is r =
     let all : lines_of text ≡ r.done = r.whole ∙ ap (λ left. r.done ++ lines_left r.n section left) is ∙ no_more r.done in
     (r.settings ∙ ap settings_of (sym all), ap first_refused all ∙ ap (option_map (λ (p : Placed). p.number)) r.none)
+
+-- the next line has a number from 1 on
+pub reading_counted : (text : List ℕ) (shown : Settings) (number : ℕ) (section rest : Option (Bor (List ℕ))) → IsReading text shown number section rest → 1 ≤ number
+reading_counted text shown number section rest r = let told_is : min r.n (2 ^ 32 - 1) ≡ number = r.told in let counted = r.counted in omega arith
 
 -- the next line is refused
 pub reading_refused : (text : List ℕ) (shown : Settings) (number : ℕ) (section rest more : Option (Bor (List ℕ))) (bytes : Bor (List ℕ)) (line : List ℕ)

@@ -1,4 +1,4 @@
-ghost use Rattle.std.specs.Prelude.{◌≡◌, ℕ, List, [], ◌∷◌, ◌++◌, None, Some, false, true, option_map, IfOk, OnOk};
+ghost use Rattle.std.specs.Prelude.{◌≡◌, ◌≤◌, ℕ, List, [], ◌∷◌, ◌++◌, None, Some, false, true, option_map, IfOk, OnOk};
 ghost use Rattle.lsv_conf.specs.Inner.{at, placed_setting, shown};
 ghost use Rattle.lsv_conf.specs.Lines.{Placed, first_refused, line_of, lines_of, refuses, section_behind};
 ghost use Rattle.lsv_conf.specs.Lines as lines;
@@ -76,6 +76,7 @@ pub fn read_conf(alloc: Global, text: &[u8]) -> Result<Conf, ConfFault>
     ensures settings { IfOk result (λ conf. settings_in conf ≡ settings_of (lines_of text.now)) }
     ensures none_refused { OnOk result (first_refused (lines_of text.now) ≡ None) }
     ensures refused { (n : ℕ) → result ≡ Err (ConfFault.Line n) → option_map told (first_refused (lines_of text.now)) ≡ Some n }
+    ensures counted { (n : ℕ) → result ≡ Err (ConfFault.Line n) → 1 ≤ n }
 {
     let mut draft = Draft::defaults(alloc)?;
     let mut section = None;

@@ -1,4 +1,4 @@
-//! The trusted edge: the real disk, standard input and standard output. They tell no content, and count their faults.
+//! The trusted edge: the real disk, text files, standard input and standard output. They tell no content, and count their faults.
 #![tactic(auto)]
 
 mod call;
@@ -11,10 +11,12 @@ mod read_only;
 mod span;
 mod store;
 mod streams;
+mod texts;
 mod unsynced;
 
 pub use clock::WallClock;
 pub use disk::FileDisk;
 pub use read_only::ReadOnlyDisk;
 pub use streams::{StdScreen, StdSink, StdSource};
+pub use texts::FileTexts;
 pub use unsynced::{SyncedFile, Unsynced};

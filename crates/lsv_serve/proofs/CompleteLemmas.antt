@@ -2,6 +2,7 @@
 use Rattle.std.proofs.Common.{◌≡◌, ◌≢◌, ◌≤◌, ◌<◌, ◌+◌, ◌-◌, ◌^◌, ◌⊎◌, ℕ, List, [], ◌∷◌, ◌++◌, map, refl, sym, ◌∙◌, ap, subst, inl, inr, arith, Option, Some, None, append_assoc, append-nil}
 use Rattle.std.specs.Prelude.{◌==◌, ◌||◌, ◌&&◌, Bool, true, false, if◌then◌else◌, nat_lt}
 use Rattle.std.specs.List.{concat, flat_map, list_any}
+use Rattle.std.specs.Option.{option_map}
 use Rattle.std.proofs.lemmas.List.{map-append}
 use Rattle.std.proofs.lemmas.List.Folds.{list_any-append}
 use Rattle.std.proofs.lemmas.Bool.Decides.{nat_tests}
@@ -14,6 +15,7 @@ use Rattle.lsv_disk.specs.declared.file.Owner.TheVariants.{Log, Events, Numbers,
 use Rattle.lsv_disk.specs.declared.file.Part.{Part}
 use Rattle.lsv_event.specs.declared.event.Kind.{Kind}
 use Rattle.lsv_iolog.specs.Recovered.{Replays}
+use Rattle.lsv_conf.specs.Lines.{Placed, first_refused, told}
 use Rattle.lsv_seq.specs.Drawn.{LastDrawn, entry_at}
 use Rattle.lsv_seq.specs.declared.entry.Entry.{Entry}
 use Rattle.lsv_msg.specs.declared.messages.ServerMessage.{ServerMessage}
@@ -39,14 +41,14 @@ use Rattle.lsv_keeper.specs.Opening.{IsStoreFault}
 use Rattle.lsv_keeper.specs.Reading.{IsDrawn, reading_of}
 use Rattle.lsv_keeper.specs.declared.fault.StoreFault.{StoreFault}
 use Rattle.lsv_keeper.specs.declared.fault.StoreFault.TheVariants as faults
-use Rattle.lsv_serve.specs.Causes.{HasStatusCause}
+use Rattle.lsv_serve.specs.Causes.{HasConfCause, HasProgramCause, HasStatusCause}
 use Rattle.lsv_serve.specs.Complete.{AllAmple, AreAmple, Completes, IsServedBy, IsUnhindered, answers_of, came_in, messages_of}
 use Rattle.lsv_serve.specs.Once.{AreTurns, Conforms, IsTurn, RunsOnce, outside_of, once_settings}
 use Rattle.lsv_serve.specs.Tape as tape
 use Rattle.lsv_serve.specs.Tape.{Leaves, Tape, TapeTurn, TurnsOf, bodies_in, jobs_of, once_conn, replies_in, shuts, turns_in, was_shut}
 use Rattle.lsv_serve.specs.World.{World}
 use Rattle.lsv_serve.specs.declared.status.Status.{Status}
-use Rattle.lsv_serve.specs.declared.status.Status.TheVariants.{Served, Usage, Store, ReadFault, WriteFault, NoMem}
+use Rattle.lsv_serve.specs.declared.status.Status.TheVariants.{Served, Usage, Conf, Store, ReadFault, WriteFault, NoMem}
 
 -- ---- Counts that didn't rise
 
@@ -395,6 +397,7 @@ module _ (kind : Kind) (log_exit : Bool) (texts : List (List ℕ)) (old new : Wo
   pub completes : (status : Status) → (status ≡ Usage → ⊥) → HasStatusCause old new status → Completes kind log_exit texts old new status
   completes Served not_usage cause = served_all
   completes Usage not_usage cause = absurd (not_usage refl)
+  completes (Conf line) not_usage cause = absurd cause
   completes (Store fault) not_usage cause = λ src snk told runs last lines bodies u. absurd (opened told fault cause u.no_call_failed u.whole u.own)
     where
       opened : old.disk_tells → (f : StoreFault) → HasStatusCause old new (Store f) → ((file : FileId) → HasRisen (old.disk.faults file) (new.disk.faults file) → ⊥)
@@ -406,3 +409,18 @@ module _ (kind : Kind) (log_exit : Bool) (texts : List (List ℕ)) (old new : Wo
   completes ReadFault not_usage cause = λ src snk told runs last lines bodies u. absurd (u.no_read_failed cause)
   completes WriteFault not_usage cause = λ src snk told runs last lines bodies u. absurd (u.no_write_failed cause)
   completes NoMem not_usage cause = λ src snk told runs last lines bodies u. absurd (u.had_memory refl)
+
+-- the same of a run of the program whose settings are read
+pub completes_set : (lines : List Placed) (faults faults' : ℕ) (kind : Kind) (log_exit : Bool) (texts : List (List ℕ)) (old new : World) (status : Status) → (status ≡ Usage → ⊥) → (HasRisen faults faults' → ⊥) → HasProgramCause lines faults faults' old new status
+    → first_refused lines ≡ None → Completes kind log_exit texts old new status
+completes_set lines faults faults' kind log_exit texts old new Served not_usage calm cause none = completes kind log_exit texts old new Served not_usage cause.1
+completes_set lines faults faults' kind log_exit texts old new Usage not_usage calm cause none = absurd (not_usage refl)
+completes_set lines faults faults' kind log_exit texts old new (Conf line) not_usage calm cause none = absurd (go cause)
+  where
+    go : HasConfCause lines faults faults' line → ⊥
+    go (inl (zero_is, risen)) = calm risen
+    go (inr (some, told_is)) = let h : None ≡ Some line = sym (ap (option_map told) none) ∙ told_is in cc
+completes_set lines faults faults' kind log_exit texts old new (Store fault) not_usage calm cause none = completes kind log_exit texts old new (Store fault) not_usage cause.1
+completes_set lines faults faults' kind log_exit texts old new ReadFault not_usage calm cause none = completes kind log_exit texts old new ReadFault not_usage cause.1
+completes_set lines faults faults' kind log_exit texts old new WriteFault not_usage calm cause none = completes kind log_exit texts old new WriteFault not_usage cause.1
+completes_set lines faults faults' kind log_exit texts old new NoMem not_usage calm cause none = completes kind log_exit texts old new NoMem not_usage tt

@@ -16,7 +16,7 @@ use Rattle.lsv_keeper.specs.Tails.{TurnGives}
 use Rattle.lsv_keeper.specs.Value.{IsResting, KeeperView}
 use Rattle.lsv_serve.specs.declared.server.End.TheVariants as ends
 use Rattle.lsv_serve.specs.declared.status.Status.{Status}
-use Rattle.lsv_serve.specs.declared.status.Status.TheVariants.{Served, Usage, Store, ReadFault, WriteFault, NoMem}
+use Rattle.lsv_serve.specs.declared.status.Status.TheVariants.{Served, Usage, Conf, Store, ReadFault, WriteFault, NoMem}
 use Rattle.lsv_serve.specs.Causes.{HasStatusCause}
 use Rattle.lsv_serve.specs.InnerRun.{Ended, MayEnd, Serves, Standing, TurnDone}
 use Rattle.lsv_serve.specs.Once.{AreTurns, Conforms, KeepsStore}
@@ -64,6 +64,7 @@ ends_last WriteFault reads may = subst (λ (b : Bool). Leaves b []) (sym may) re
 ends_last NoMem reads may = refl
 ends_last ReadFault reads may = absurd may
 ends_last Usage reads may = absurd may
+ends_last (Conf line) reads may = absurd may
 ends_last (Store fault) reads may = absurd may
 
 -- each of these turns was at a valid moment
@@ -111,6 +112,7 @@ module _ (set : Settings) (texts : List (List ℕ)) (old now : World) (v : Keepe
   goes WriteFault shut may = (inr (inr refl), may)
   goes NoMem shut may = absurd may
   goes Usage shut may = absurd may
+  goes (Conf line) shut may = absurd may
   goes (Store fault) shut may = absurd may
 
   none_lost : (status : Status) (reads : List TapeTurn) (lost : List (List ℕ)) → Goes status → (lost ≡ []) ⊎ ((status ≡ NoMem) × (was_shut reads ≡ false) × ((piece : List ℕ) × (lost ≡ piece ∷ []))) → lost ≡ []

@@ -6,4 +6,6 @@ pub mod ReadLemmas
 pub mod SilenceLemmas
 pub mod EndLemmas
 pub mod StartLemmas
+pub mod ProgramLemmas
+pub mod TextLemmas
 mod CompleteLemmas

@@ -19,7 +19,7 @@ use Rattle.lsv_keeper.specs.Tails.{TurnGives}
 use Rattle.lsv_keeper.specs.Value.{KeeperView, SameSet, settings_of}
 use Rattle.lsv_serve.specs.declared.server.End.{End}
 use Rattle.lsv_serve.specs.declared.server.End.TheVariants as ends
-use Rattle.lsv_serve.specs.declared.status.Status.TheVariants.{Served, Usage, Store, ReadFault, WriteFault, NoMem}
+use Rattle.lsv_serve.specs.declared.status.Status.TheVariants.{Served, Usage, Conf, Store, ReadFault, WriteFault, NoMem}
 use Rattle.lsv_serve.specs.Causes.{HasStatusCause}
 use Rattle.lsv_serve.specs.InnerRun.{AnswerEnds, Begun, Cuts, Ended, HasRead, HelloEnds, MayEnd, Standing, Takes, TurnDone, UnderWay, Unput, status_in}
 use Rattle.lsv_serve.specs.Tape.{PutsAll, PutsFor, TapeTurn, bodies_in, once_conn, replies_in, shuts, was_shut}
@@ -231,10 +231,12 @@ module _ (set : Settings) (texts : List (List ℕ)) (old : World) where
   ended_answering (ends.Open WriteFault) now v over unread replies put faults u more a =
       ended_put (ends.Open WriteFault) now v over unread replies put faults u more a.0 (λ e. absurd (cc)) (part_of now v over unread replies put u a.2) (risen_since _ _ _ u.read.write_faults a.1)
   ended_answering (ends.Last Usage) now v over unread replies put faults u more a = absurd a
+  ended_answering (ends.Last (Conf line)) now v over unread replies put faults u more a = absurd a
   ended_answering (ends.Last (Store fault)) now v over unread replies put faults u more a = absurd a
   ended_answering (ends.Last ReadFault) now v over unread replies put faults u more a = absurd a
   ended_answering (ends.Open Served) now v over unread replies put faults u more a = absurd a
   ended_answering (ends.Open Usage) now v over unread replies put faults u more a = absurd a
+  ended_answering (ends.Open (Conf line)) now v over unread replies put faults u more a = absurd a
   ended_answering (ends.Open (Store fault)) now v over unread replies put faults u more a = absurd a
   ended_answering (ends.Open ReadFault) now v over unread replies put faults u more a = absurd a
   ended_answering (ends.Open NoMem) now v over unread replies put faults u more a = absurd a
@@ -294,11 +296,13 @@ module _ (set : Settings) (texts : List (List ℕ)) (old : World) where
       (λ told. let f = h.1 told in (f.0, f.2 ∙ ap (λ (b : List ℕ). b ++ f.0) (b.put told), inl (refl, f.1))) (risen_since _ _ _ b.write_faults h.0)
   ended_greeting (ends.Last Served) now v put faults b more h = absurd h
   ended_greeting (ends.Last Usage) now v put faults b more h = absurd h
+  ended_greeting (ends.Last (Conf line)) now v put faults b more h = absurd h
   ended_greeting (ends.Last (Store fault)) now v put faults b more h = absurd h
   ended_greeting (ends.Last ReadFault) now v put faults b more h = absurd h
   ended_greeting (ends.Last WriteFault) now v put faults b more h = absurd h
   ended_greeting (ends.Open Served) now v put faults b more h = absurd h
   ended_greeting (ends.Open Usage) now v put faults b more h = absurd h
+  ended_greeting (ends.Open (Conf line)) now v put faults b more h = absurd h
   ended_greeting (ends.Open (Store fault)) now v put faults b more h = absurd h
   ended_greeting (ends.Open ReadFault) now v put faults b more h = absurd h
   ended_greeting (ends.Open NoMem) now v put faults b more h = absurd h

@@ -22,7 +22,7 @@ use Rattle.lsv_keeper.specs.Value.{KeeperView}
 use Rattle.lsv_keeper.specs.declared.fault.StoreFault.{StoreFault}
 use Rattle.lsv_keeper.specs.declared.fault.StoreFault.TheVariants as faults
 use Rattle.lsv_serve.specs.declared.status.Status.{Status}
-use Rattle.lsv_serve.specs.declared.status.Status.TheVariants.{Served, Usage, Store, ReadFault, WriteFault, NoMem}
+use Rattle.lsv_serve.specs.declared.status.Status.TheVariants.{Served, Usage, Conf, Store, ReadFault, WriteFault, NoMem}
 use Rattle.lsv_serve.specs.Causes.{HasStatusCause, HasStoreCause, OwnerFailed}
 use Rattle.lsv_serve.specs.InnerRun.{Begun, store_status}
 use Rattle.lsv_serve.specs.Once.{IsFresh, IsOpened, KeepsStore, RunsOnce, once_settings}
@@ -131,6 +131,7 @@ module _ (old : World) (after : DiskView) (alone : IsLeftAlone old.disk_tells ol
   pub cause_before : (new : World) (status : Status) → HasStatusCause (with_disk old after) new status → HasStatusCause old new status
   cause_before new Served c = c
   cause_before new Usage c = c
+  cause_before new (Conf line) c = c
   cause_before new (Store fault) c = store_cause_before new fault c
   cause_before new ReadFault c = c
   cause_before new WriteFault c = c
@@ -139,8 +140,8 @@ module _ (old : World) (after : DiskView) (alone : IsLeftAlone old.disk_tells ol
 -- ---- A run without turns
 
 -- a status at which nothing was read or put
-abbrev Nothing : Status → Type 0
-Nothing status = (status ≡ Usage) ⊎ ((fault : StoreFault) × (status ≡ Store fault)) ⊎ (status ≡ NoMem)
+abbrev pub Nothing : Status → Type 0
+Nothing status = (status ≡ Usage) ⊎ ((fault : StoreFault) × (status ≡ Store fault)) ⊎ (status ≡ NoMem) ⊎ ((line : ℕ) × (status ≡ Conf line))
 
 -- the store was opened or couldn't be, or nothing was done
 pub runs_nothing : (set : Settings) (texts : List (List ℕ)) (old : World) (disk : DiskView) (status : Status) → Nothing status → (old.disk_tells → OpensStore (reading_of set.lane set.lanes) set.lane set.lanes old.disk disk)
@@ -175,28 +176,32 @@ runs_nothing set texts old disk status n opens = record {
     ends : Nothing status → EndsFor status none
     ends (inl e) = subst (λ (s : Status). EndsFor s none) (sym e) refl
     ends (inr (inl (fault, e))) = subst (λ (s : Status). EndsFor s none) (sym e) refl
-    ends (inr (inr e)) = subst (λ (s : Status). EndsFor s none) (sym e) refl
+    ends (inr (inr (inl e))) = subst (λ (s : Status). EndsFor s none) (sym e) refl
+    ends (inr (inr (inr (line, e)))) = subst (λ (s : Status). EndsFor s none) (sym e) refl
 
     puts : Nothing status → PutsFor status [] []
     puts (inl e) = subst (λ (s : Status). PutsFor s [] []) (sym e) refl
     puts (inr (inl (fault, e))) = subst (λ (s : Status). PutsFor s [] []) (sym e) refl
-    puts (inr (inr e)) = subst (λ (s : Status). PutsFor s [] []) (sym e) (inl (refl, (hello, refl)))
+    puts (inr (inr (inl e))) = subst (λ (s : Status). PutsFor s [] []) (sym e) (inl (refl, (hello, refl)))
+    puts (inr (inr (inr (line, e)))) = subst (λ (s : Status). PutsFor s [] []) (sym e) refl
 
     served : Nothing status → status ≡ Served → ⊥
     served (inl e) is = cc
     served (inr (inl (fault, e))) is = cc
-    served (inr (inr e)) is = cc
+    served (inr (inr (inl e))) is = cc
+    served (inr (inr (inr (line, e)))) is = cc
 
     unopened : Nothing status → IsOpened status none → ⊥
     unopened (inl e) o = subst (λ (s : Status). IsOpened s none) e o
     unopened (inr (inl (fault, e))) o = subst (λ (s : Status). IsOpened s none) e o
-    unopened (inr (inr e)) o = subst (λ (s : Status). IsOpened s none) e o refl
+    unopened (inr (inr (inl e))) o = subst (λ (s : Status). IsOpened s none) e o refl
+    unopened (inr (inr (inr (line, e)))) o = subst (λ (s : Status). IsOpened s none) e o
 
 pub store_nothing : (fault : StoreFault) → Nothing (store_status fault)
 store_nothing (faults.Device o) = inr (inl (faults.Device o, refl))
 store_nothing (faults.Damaged file) = inr (inl (faults.Damaged file, refl))
 store_nothing (faults.LanesDiffer kept asked) = inr (inl (faults.LanesDiffer kept asked, refl))
-store_nothing faults.NoMem = inr (inr refl)
+store_nothing faults.NoMem = inr (inr (inl refl))
 
 -- the cause of a store that isn't opened
 pub store_cause : (old : World) (disk : DiskView) (fault : StoreFault) → (old.disk_tells → IsStoreFault 0 1 old.disk.reads fault) → ((o : _) → fault ≡ faults.Device o → OwnerFailed o old.disk disk)

@@ -1,6 +1,8 @@
 -- Why a run ended as it did.
-use Rattle.std.specs.Prelude.{◌≡◌, ◌⊎◌, Some, None, codes}
+use Rattle.std.specs.Prelude.{◌≡◌, ◌≤◌, ◌⊎◌, ℕ, List, Some, None, option_map}
 use Rattle.lsv_words.specs.Causes.{HasRisen}
+use Rattle.lsv_conf.specs.Lines.{Placed, first_refused}
+use Rattle.lsv_conf.specs.Settings.{told}
 use Rattle.lsv_disk.specs.View.{DiskView}
 use Rattle.lsv_disk.specs.declared.file.FileId.{FileId}
 use Rattle.lsv_disk.specs.declared.file.Owner.{Owner}
@@ -8,7 +10,7 @@ use Rattle.lsv_keeper.specs.Opening.{IsStoreFault}
 use Rattle.lsv_keeper.specs.declared.fault.StoreFault.{StoreFault}
 use Rattle.lsv_keeper.specs.declared.fault.StoreFault.TheVariants as faults
 use Rattle.lsv_serve.specs.declared.status.Status.{Status}
-use Rattle.lsv_serve.specs.declared.status.Status.TheVariants.{Served, Usage, Store, ReadFault, WriteFault, NoMem}
+use Rattle.lsv_serve.specs.declared.status.Status.TheVariants.{Served, Usage, Conf, Store, ReadFault, WriteFault, NoMem}
 use Rattle.lsv_serve.specs.World.{World}
 
 -- a device call on a file of the owner failed
@@ -22,15 +24,40 @@ HasStoreCause old new (faults.Damaged file) = old.disk_tells → IsStoreFault 0 
 HasStoreCause old new (faults.LanesDiffer kept asked) = old.disk_tells → IsStoreFault 0 1 old.disk.reads (faults.LanesDiffer kept asked)
 HasStoreCause old new faults.NoMem = ⊥
 
--- why a run ended so: a read failed, or a write, or the store wasn't opened
+-- why a connection's run ended so: a read failed, or a write, or the store wasn't opened
 abbrev pub HasStatusCause : World → World → Status → Type 0
 HasStatusCause old new Served = Unit {0}
 HasStatusCause old new Usage = Unit {0}
+HasStatusCause old new (Conf line) = ⊥
 HasStatusCause old new (Store fault) = HasStoreCause old new fault
 HasStatusCause old new ReadFault = HasRisen old.read_faults new.read_faults
 HasStatusCause old new WriteFault = HasRisen old.write_faults new.write_faults
 HasStatusCause old new NoMem = Unit {0}
 
--- the places of the store that the disk was given are the folder `store`, and in it the event log `events`; or out of memory it has none
-abbrev pub HasPlaces : DiskView → Type 0
-HasPlaces disk = (disk.places ≡ Some (record { logs = codes "store"; events = codes "store/events" })) ⊎ (disk.places ≡ None)
+-- why settings weren't read: with 0 the reading of their file failed, with another number this line is the first that is refused
+abbrev pub HasConfCause : (lines : List Placed) (faults faults' line : ℕ) → Type 0
+HasConfCause lines faults faults' line = ((line ≡ 0) × HasRisen faults faults') ⊎ ((1 ≤ line) × (option_map told (first_refused lines) ≡ Some line))
+
+-- why a run of the program ended so: its settings weren't read; else no line of them is refused, and the rest is as above
+abbrev pub HasProgramCause : (lines : List Placed) (faults faults' : ℕ) → World → World → Status → Type 0
+HasProgramCause lines faults faults' old new Served = (first_refused lines ≡ None) × HasStatusCause old new Served
+HasProgramCause lines faults faults' old new Usage = Unit {0}
+HasProgramCause lines faults faults' old new (Conf line) = HasConfCause lines faults faults' line
+HasProgramCause lines faults faults' old new (Store fault) = (first_refused lines ≡ None) × HasStatusCause old new (Store fault)
+HasProgramCause lines faults faults' old new ReadFault = (first_refused lines ≡ None) × HasStatusCause old new ReadFault
+HasProgramCause lines faults faults' old new WriteFault = (first_refused lines ≡ None) × HasStatusCause old new WriteFault
+HasProgramCause lines faults faults' old new NoMem = Unit {0}
+
+-- the places of the store that the disk was given are this folder of logs and this event log; or out of memory it has none
+abbrev pub HasPlaces : (logs events : List ℕ) → DiskView → Type 0
+HasPlaces logs events disk = (disk.places ≡ Some (record { logs = logs; events = events })) ⊎ (disk.places ≡ None)
+
+-- the places behind a run of the program, by its status: a disk that wasn't given any has those of before
+abbrev pub HasPlacesAt : (logs events : List ℕ) (old new : DiskView) → Status → Type 0
+HasPlacesAt logs events old new Served = HasPlaces logs events new
+HasPlacesAt logs events old new Usage = new.places ≡ old.places
+HasPlacesAt logs events old new (Conf line) = new.places ≡ old.places
+HasPlacesAt logs events old new (Store fault) = HasPlaces logs events new
+HasPlacesAt logs events old new ReadFault = HasPlaces logs events new
+HasPlacesAt logs events old new WriteFault = HasPlaces logs events new
+HasPlacesAt logs events old new NoMem = HasPlaces logs events new ⊎ (new.places ≡ old.places)

@@ -1,5 +1,5 @@
 -- A run of the command `once`: what it read, what it put, and what it did with the store, also where device calls fail and wherever the machine stops.
-use Rattle.std.specs.Prelude.{◌≡◌, ◌≢◌, ◌≤◌, ◌<◌, ◌-◌, ◌^◌, ◌⊎◌, ◌++◌, ℕ, Bool, false, List, [], ◌∷◌, length, map, IsSome, None, Ok, codes}
+use Rattle.std.specs.Prelude.{◌≡◌, ◌≢◌, ◌≤◌, ◌<◌, ◌-◌, ◌^◌, ◌⊎◌, ◌++◌, ℕ, Bool, false, List, [], ◌∷◌, length, map, IsSome, None, Ok}
 use Rattle.std.specs.List.{AllByRecursion, concat, flat_map}
 use Rattle.lsv_base.specs.Time.{nanos_of}
 use Rattle.lsv_disk.specs.View.{DiskView, IsCrashImage}
@@ -18,15 +18,11 @@ use Rattle.lsv_machine.specs.Turns.{Happened, Happened.Begins}
 use Rattle.lsv_keeper.specs.Reading.{reading_of}
 use Rattle.lsv_keeper.specs.Value.{event_line}
 use Rattle.lsv_serve.specs.declared.status.Status.{Status}
-use Rattle.lsv_serve.specs.declared.status.Status.TheVariants.{Served, Usage, Store, ReadFault, WriteFault, NoMem}
+use Rattle.lsv_serve.specs.declared.status.Status.TheVariants.{Served, Usage, Conf, Store, ReadFault, WriteFault, NoMem}
 use Rattle.lsv_serve.specs.Tape.{EndsFor, PutsFor, ShutLast, Tape, TapeTurn, TurnsOf, jobs_of, once_conn, replies_in, turns_in, was_shut}
 use Rattle.lsv_serve.specs.World.{World}
 
 -- ---- What is asked for
-
--- the words ask for the command once
-abbrev pub IsOnce : List (List ℕ) → Type 0
-IsOnce words = words ≡ codes "once" ∷ []
 
 -- the settings of the machine: one lane, event lines of this form, and those of exits where they are asked for
 abbrev pub once_settings : Kind → (log_exit : Bool) → Settings
@@ -77,6 +73,7 @@ IsOpened ReadFault tape = Unit {0}
 IsOpened WriteFault tape = Unit {0}
 IsOpened NoMem tape = turns_in tape ≢ []
 IsOpened Usage tape = ⊥
+IsOpened (Conf line) tape = ⊥
 IsOpened (Store fault) tape = ⊥
 
 -- at no moment of the run, whatever happened before it, has a log two writers

@@ -1,12 +1,14 @@
 -- How a run ended, as the program tells it.
-use Rattle.std.specs.Prelude.{ℕ, List, [], codes}
+use Rattle.std.specs.Prelude.{ℕ, List, [], ◌++◌, codes}
+use Rattle.std.specs.Fmt.{decimal}
 use Rattle.lsv_serve.specs.declared.status.Status.{Status}
-use Rattle.lsv_serve.specs.declared.status.Status.TheVariants.{Served, Usage, Store, ReadFault, WriteFault, NoMem}
+use Rattle.lsv_serve.specs.declared.status.Status.TheVariants.{Served, Usage, Conf, Store, ReadFault, WriteFault, NoMem}
 
 -- the exit status of the program
 abbrev pub number_of : Status → ℕ
 number_of Served = 0
 number_of Usage = 2
+number_of (Conf line) = 3
 number_of (Store fault) = 4
 number_of ReadFault = 5
 number_of WriteFault = 6
@@ -16,6 +18,7 @@ number_of NoMem = 9
 abbrev pub text_of : Status → List ℕ
 text_of Served = []
 text_of Usage = codes "usage"
+text_of (Conf line) = codes "settings line " ++ decimal line
 text_of (Store fault) = codes "store"
 text_of ReadFault = codes "read fault"
 text_of WriteFault = codes "write fault"

@@ -15,7 +15,7 @@ use Rattle.lsv_session.specs.declared.reply.Reply.{Reply}
 use Rattle.lsv_session.specs.declared.reply.ReplyBody.{ReplyBody}
 use Rattle.lsv_session.specs.declared.reply.ReplyBody.TheVariants.{Say, Shut}
 use Rattle.lsv_serve.specs.declared.status.Status.{Status}
-use Rattle.lsv_serve.specs.declared.status.Status.TheVariants.{Served, Usage, Store, ReadFault, WriteFault, NoMem}
+use Rattle.lsv_serve.specs.declared.status.Status.TheVariants.{Served, Usage, Conf, Store, ReadFault, WriteFault, NoMem}
 
 -- ---- Turns
 
@@ -95,6 +95,7 @@ EndsFor ReadFault tape = (was_shut tape.reads ≡ false) × IsGone tape.leaving
 EndsFor WriteFault tape = Leaves (was_shut tape.reads) tape.leaving
 EndsFor NoMem tape = tape.leaving ≡ []
 EndsFor Usage tape = turns_in tape ≡ []
+EndsFor (Conf line) tape = turns_in tape ≡ []
 EndsFor (Store fault) tape = turns_in tape ≡ []
 
 -- ---- What was put
@@ -123,4 +124,5 @@ PutsFor ReadFault turns bytes = PutsAll turns bytes
 PutsFor WriteFault turns bytes = PutsPart turns bytes
 PutsFor NoMem turns bytes = PutsPart turns bytes
 PutsFor Usage turns bytes = bytes ≡ []
+PutsFor (Conf line) turns bytes = bytes ≡ []
 PutsFor (Store fault) turns bytes = bytes ≡ []

@@ -9,6 +9,7 @@ mod outside;
 mod program;
 mod server;
 mod status;
+mod text;
 
 pub use laws::an_empty_store_may_be_served;
 pub use once::run_once;

@@ -1,7 +1,7 @@
 //! The command `once`: one connection, from a source to a sink.
 
 ghost use Rattle.std.specs.Prelude.{◌≡◌, []};
-ghost use Rattle.lsv_disk.specs.View.{IsCrashImage};
+ghost use Rattle.lsv_disk.specs.View.{IsCrashImage, IsLeftAlone};
 ghost use Rattle.lsv_event.specs.declared.event.Kind.TheVariants as kinds;
 ghost use Rattle.lsv_machine.specs.Disks.{NumbersFit};
 ghost use Rattle.lsv_keeper.specs.Reading.{reading_of};
@@ -14,6 +14,7 @@ ghost use Rattle.lsv_serve.specs.World.{world_of};
 use crate::outside::{Kept, Options, Outside};
 use crate::server::Server;
 use crate::status::Status;
+use crate::text::text_of;
 use lsv_base::{Bytes, Clock, List, Sink, Source};
 use lsv_disk::Disk;
 use lsv_event::Kind;
@@ -22,11 +23,6 @@ use lsv_keeper::{Keeper, StoreFault};
 use lsv_mask::{Prompt, Search};
 use std::alloc::Global;
 
-/// The folder of the logs, and the path of the event log.
-const STORE: &str = "store";
-
-const EVENTS: &str = "store/events";
-
 /// Serves one connection, from the source to the sink, over the store of one lane. Nothing else changes the store while it
 /// runs.
 pub fn run_once<
@@ -34,10 +30,11 @@ pub fn run_once<
     K: Sink,
     D: Disk,
     C: Clock,
+    T,
     F: LineWriter + Drop,
     J: LineWriter + Drop,
     H: Search + Drop,
->(alloc: Global, options: Options, out: &mut Outside<S, K, D, C>, kept: Kept<F, J, H>) -> Status
+>(alloc: Global, options: Options, out: &mut Outside<S, K, D, C, T>, kept: Kept<F, J, H>) -> Status
     requires sudo { kept.sudo.kind ≡ kinds.Sudo }
     requires json { kept.json.kind ≡ kinds.Json }
     requires fresh { D.tells → IsFresh (D.view out.old.disk) }
@@ -51,14 +48,15 @@ pub fn run_once<
         (world_of ⟦<S as Source>⟧ ⟦<K as Sink>⟧ ⟦<D as Disk>⟧ out.old.source out.old.sink out.old.disk)
         (world_of ⟦<S as Source>⟧ ⟦<K as Sink>⟧ ⟦<D as Disk>⟧ out.new.source out.new.sink out.new.disk) result }
     ensures not_usage { result ≡ Status.Usage → ⊥ }
-    ensures places { D.tells → HasPlaces (D.view out.new.disk) }
+    ensures places { D.tells → HasPlaces options.logs options.events (D.view out.new.disk) }
     ensures fresh_again { D.tells → NumbersFit (reading_of 0 1) 0 1 (IsCrashImage (D.view out.old.disk)) → NumbersFit (reading_of 0 1) 0 1 (IsCrashImage (D.view out.new.disk)) }
 {
-    out.disk.root(STORE, EVENTS);
+    give_places(&mut out.disk, &options);
     let Options {
         form,
         log_exit,
         prompts,
+        ..
     } = options;
     match form {
         Kind::Sudo => serve_store(alloc, out, kept.sudo, log_exit, prompts, kept.prompt),
@@ -66,10 +64,18 @@ pub fn run_once<
     }
 }
 
+/// Gives the disk the places of the store.
+fn give_places<D: Disk>(disk: &mut D, options: &Options)
+    ensures places { D.tells → HasPlaces options.now.logs options.now.events (D.view disk.new) }
+    ensures frame { IsLeftAlone D.tells (D.view disk.old) (D.view disk.new) }
+{
+    disk.root(text_of(&options.logs), text_of(&options.events));
+}
+
 /// Opens the store, whose places the disk was given, and serves the connection.
-fn serve_store<S: Source, K: Sink, D: Disk, C: Clock, F: LineWriter + Drop, H: Search + Drop>(
+fn serve_store<S: Source, K: Sink, D: Disk, C: Clock, T, F: LineWriter + Drop, H: Search + Drop>(
     alloc: Global,
-    out: &mut Outside<S, K, D, C>,
+    out: &mut Outside<S, K, D, C, T>,
     formatter: Formatter<F>,
     log_exit: bool,
     prompts: List<Bytes>,

@@ -1,7 +1,8 @@
-ghost use Rattle.std.specs.Prelude.{◌≡◌, IfOk};
+ghost use Rattle.std.specs.Prelude.{◌≡◌, ◌++◌, codes, IfOk};
+ghost use Rattle.std.specs.Fmt.{decimal};
 ghost use Rattle.lsv_serve.specs.Status.{number_of, text_of};
 
-use lsv_base::Bytes;
+use lsv_base::{Bytes, NoMem};
 use lsv_keeper::StoreFault;
 use std::alloc::Global;
 
@@ -12,6 +13,8 @@ pub enum Status {
     Served,
     /// The words are no command.
     Usage,
+    /// This line of the settings file is the first that is refused, counted from 1; with 0 the file couldn't be read.
+    Conf(u32),
     /// The store couldn't be opened.
     Store(StoreFault),
     /// A read of the input failed.
@@ -30,6 +33,7 @@ impl Status {
         match self {
             Status::Served => 0,
             Status::Usage => 2,
+            Status::Conf(_) => 3,
             Status::Store(_) => 4,
             Status::ReadFault => 5,
             Status::WriteFault => 6,
@@ -38,12 +42,13 @@ impl Status {
     }
 
     /// What the program prints on standard error behind its name. It is empty for `Served`.
-    pub fn text(&self, alloc: Global) -> Result<Bytes, lsv_base::NoMem>
+    pub fn text(&self, alloc: Global) -> Result<Bytes, NoMem>
         ensures { IfOk result (λ text. text ≡ text_of self.now) }
     {
         let text = match self {
             Status::Served => "",
             Status::Usage => "usage",
+            Status::Conf(line) => return conf_text(alloc, *line),
             Status::Store(_) => "store",
             Status::ReadFault => "read fault",
             Status::WriteFault => "write fault",
@@ -51,4 +56,12 @@ impl Status {
         };
         Bytes::of(alloc, text.as_bytes())
     }
+}
+
+/// What is printed of a line of the settings file.
+fn conf_text(alloc: Global, line: u32) -> Result<Bytes, NoMem>
+    ensures { IfOk result (λ text. text ≡ codes "settings line " ++ decimal line) }
+{
+    let text = format!(in alloc; "settings line {line}")?;
+    Bytes::of(alloc, text.as_bytes())
 }

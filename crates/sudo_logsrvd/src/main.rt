@@ -1,6 +1,9 @@
 //! The log server of sudo: it stores the sessions that sudo sends it.
 #![tactic(auto)]
 
+mod told;
+
+use crate::told::ToldTexts;
 use lsv_base::{Bytes, List};
 use lsv_hook::Formatter;
 use lsv_mask::{Prompt, TextSearch};
@@ -41,6 +44,7 @@ fn run(rt: HostRuntime) -> Status {
         sink: StdSink::new(rt),
         disk: FileDisk::new(rt, "sudo_logsrvd"),
         clock: WallClock::new(rt),
+        texts: ToldTexts::new(rt),
     };
     let kept = Kept {
         sudo: Formatter::sudo(),

@@ -2,7 +2,7 @@ use Rattle.std.proofs.Common.{◌≡◌, ◌∙◌, Some, ap, sym, subst, arith,
 use Rattle.lsv_conf.specs.Inner.{AreTexts, shown}
 use Rattle.lsv_conf.proofs.Cuts.{left_less}
 use Rattle.lsv_conf.proofs.Utf8.{settings_are_text}
-use Rattle.lsv_conf.proofs.Reading.{reading_start, reading_next, reading_end, reading_refused}
+use Rattle.lsv_conf.proofs.Reading.{reading_start, reading_next, reading_end, reading_counted, reading_refused}
 use Rattle.lsv_conf.proofs.read.read_conf.Goals as goal
 
 pub loop-rest-smaller : goal.loop-rest-smaller
@@ -22,6 +22,12 @@ returns-in_err-section-clause-refused c = λ n is.
     let bad = c.in_err-section.ensures.refused n (search rules) in
     reading_refused c.args.text.now (shown c.loop-rest.draft) c.loop-rest.number c.loop-rest.section c.loop-rest.rest c.cut.result.1 c.in-Some.bytes c.cut.result.0.now
     c.in-Some.is c.cut.ensures.before c.cut.ensures.behind bad.1 c.loop-rest.invariant ∙ ap (λ k. Some k) (sym bad.0)
+
+pub returns-in_err-section-clause-counted : goal.returns-in_err-section-clause-counted
+returns-in_err-section-clause-counted c = λ n is.
+    let bad = c.in_err-section.ensures.refused n (search rules) in
+    let counted = reading_counted c.args.text.now (shown c.loop-rest.draft) c.loop-rest.number c.loop-rest.section c.loop-rest.rest c.loop-rest.invariant in
+    rw bad.0 counted
 
 pub returns-clause-settings : goal.returns-clause-settings
 returns-clause-settings c = c.finish.ensures ∙ (reading_end c.args.text.now (shown c.loop-rest.draft) c.loop-rest.number c.loop-rest.section c.loop-rest.rest c.in_default.is c.loop-rest.invariant).0

@@ -1,0 +1,47 @@
+-- What the words of the program and its settings file ask for.
+use Rattle.std.specs.Prelude.{◌≡◌, ℕ, List, [], Option, Some, None, IsTrue, unwrap_or, if◌then◌else◌}
+use Rattle.std.specs.List.{list_all}
+use Rattle.std.specs.Str.{is_utf8}
+use Rattle.clap.specs.Words.{fault_of}
+use Rattle.lsv_args.specs.Commands.{commands}
+use Rattle.lsv_args.specs.Reading.{Asked, Load, Once, Options, Relay, Serve, asked}
+use Rattle.lsv_conf.specs.Lines.{Placed, lines_of}
+use Rattle.lsv_conf.specs.Settings.{settings_of}
+use Rattle.lsv_conf.specs.Settings as conf
+use Rattle.lsv_machine.specs.Machine.{Settings}
+use Rattle.lsv_serve.specs.Once.{once_settings}
+
+-- the words ask for the command `once`: each is UTF-8, clap takes them, and this is what they say
+pub record IsOnce (words : List (List ℕ)) : Type 0 where
+  pub text : IsTrue (list_all is_utf8 words)
+  pub taken : fault_of commands words ≡ []
+  pub options : Options
+  pub once : asked words ≡ Some (Once options)
+
+-- the settings file of what is asked
+abbrev pub file_of : Option Asked → List ℕ
+file_of None = []
+file_of (Some (Once o)) = o.conf
+file_of (Some (Serve o)) = o.conf
+file_of (Some (Relay o)) = o.conf
+file_of (Some (Load o count)) = o.conf
+
+-- the lines of a settings file that was found so: where there is none, they are those of an empty one
+abbrev pub lines_in : Option (List ℕ) → List Placed
+lines_in found = lines_of (unwrap_or found [])
+
+-- what it sets
+abbrev pub set_by : Option (List ℕ) → conf.Settings
+set_by found = settings_of (lines_in found)
+
+-- the settings of the machine: those of one lane, with the form of event lines and the lines of exits as they are set
+abbrev pub machine_of : conf.Settings → Settings
+machine_of set = once_settings set.format set.log_exit
+
+-- the texts behind which what is typed is masked: where passwords are stored as they are typed, none
+abbrev pub prompts_of : conf.Settings → List (List ℕ)
+prompts_of set = if set.log_passwords then [] else set.prompts
+
+-- this holds of the settings file as it was found, which is as the texts tell it, where they tell
+abbrev pub AsFound : (tells : Type 0) (words : List (List ℕ)) (texts : List ℕ → Option (List ℕ)) (Holds : Option (List ℕ) → Type 0) → Type 0
+AsFound tells words texts Holds = (found : Option (List ℕ)) × (tells → found ≡ texts (file_of (asked words))) × Holds found
