@@ -15,7 +15,8 @@ use Rattle.lsv_disk.specs.declared.file.Owner.TheVariants.{Log, Events, Numbers,
 use Rattle.lsv_disk.specs.declared.file.Part.{Part}
 use Rattle.lsv_event.specs.declared.event.Kind.{Kind}
 use Rattle.lsv_iolog.specs.Recovered.{Replays}
-use Rattle.lsv_conf.specs.Lines.{Placed, first_refused, told}
+use Rattle.lsv_conf.specs.Lines.{Placed, first_refused}
+use Rattle.lsv_conf.specs.Settings.{told}
 use Rattle.lsv_seq.specs.Drawn.{LastDrawn, entry_at}
 use Rattle.lsv_seq.specs.declared.entry.Entry.{Entry}
 use Rattle.lsv_msg.specs.declared.messages.ServerMessage.{ServerMessage}

@@ -74,8 +74,8 @@ returns-in-Sudo-clause-complete g c =
     let cause = cause_before old (g.D.Disk.view c.give_places.new.disk) c.give_places.ensures.frame new c.serve_store.result c.serve_store.ensures.cause in
     completes c.args.options.form c.args.options.log_exit c.args.options.prompts old new c.serve_store.result c.serve_store.ensures.not_usage cause
 
-pub returns-in-Json-clause-complete : goal.returns-in-Json-clause-complete
-returns-in-Json-clause-complete g c =
+pub returns-clause-complete : goal.returns-clause-complete
+returns-clause-complete g c =
     let old : World = world_of g.S.Source g.K.Sink g.D.Disk c.args.out.now.source c.args.out.now.sink c.args.out.now.disk in
     let new : World = world_of g.S.Source g.K.Sink g.D.Disk c.serve_store-in-Json.new.out.source c.serve_store-in-Json.new.out.sink c.serve_store-in-Json.new.out.disk in
     let cause = cause_before old (g.D.Disk.view c.give_places.new.disk) c.give_places.ensures.frame new c.serve_store-in-Json.result c.serve_store-in-Json.ensures.cause in

@@ -1,4 +1,4 @@
-use Rattle.std.proofs.Common.{◌∙◌, inl, inr, refl, sym, ap, subst, List, ℕ, Option}
+use Rattle.std.proofs.Common.{◌∙◌, inl, inr, refl, sym, ap, subst, List, ℕ, Option, Err}
 use Rattle.lsv_args.specs.Reading.{asked}
 use Rattle.lsv_conf.specs.Settings as conf
 use Rattle.lsv_serve.specs.Causes.{HasPlaces}
@@ -76,7 +76,7 @@ returns-in-Ok-conf_in-clause-places g c disk =
     (found, λ told. c.in-Ok-found_file.ensures.ok told ∙ ap (g.T.Texts.texts c.args.out.now.texts) (sym c.in-Ok.ensures.file), places_given (set_by found).iolog_dir (set_by found).path (g.D.Disk.view c.args.out.now.disk) after old new c.run_once.result c.run_once.ensures.not_usage c.run_once.ensures.cause p)
 
 pub returns-in-Err-Usage-clause-complete : goal.returns-in-Err-Usage-clause-complete
-returns-in-Err-Usage-clause-complete g c = λ is. absurd (c.once_opts.ensures.usage refl is)
+returns-in-Err-Usage-clause-complete g c = λ is. absurd (c.once_opts.ensures.usage (c.in-Err-Usage.is ∙ ap Err c.in-Err-Usage.field-0-is) is)
 
 pub returns-in-Err-NoMem-clause-complete : goal.returns-in-Err-NoMem-clause-complete
 returns-in-Err-NoMem-clause-complete g c = λ is calm.
