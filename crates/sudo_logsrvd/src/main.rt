@@ -7,7 +7,7 @@ use crate::told::ToldTexts;
 use lsv_base::{Bytes, List};
 use lsv_hook::Formatter;
 use lsv_mask::{Prompt, TextSearch};
-use lsv_real::{FileDisk, StdSink, StdSource, WallClock};
+use lsv_real::{FileDisk, FileTexts, StdSink, StdSource, WallClock};
 use lsv_serve::{Kept, Outside, Status, logsrvd};
 use std::alloc::Global;
 use std::env;
@@ -44,7 +44,7 @@ fn run(rt: HostRuntime) -> Status {
         sink: StdSink::new(rt),
         disk: FileDisk::new(rt, "sudo_logsrvd"),
         clock: WallClock::new(rt),
-        texts: ToldTexts::new(rt),
+        texts: ToldTexts::new(rt, FileTexts::new(rt, "sudo_logsrvd")),
     };
     let kept = Kept {
         sudo: Formatter::sudo(),

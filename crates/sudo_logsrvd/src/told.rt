@@ -2,23 +2,19 @@
 
 use lsv_base::{Bytes, TextFault, Texts};
 use lsv_conf::{ConfFault, read_conf};
-use lsv_real::FileTexts;
 use std::alloc::Global;
 
-/// The settings files of the system. Of each that is read it is told on standard error which keys are passed over and which
-/// line is refused, by its path and the line.
+/// Settings files as they are. Of each that is read it is told on standard error which keys are passed over and which line is
+/// refused, by its path and the line.
 #[derive(Drop)]
-pub struct ToldTexts {
+pub struct ToldTexts<T> {
     rt: HostRuntime,
-    files: FileTexts,
+    files: T,
 }
 
-impl ToldTexts {
-    pub fn new(rt: HostRuntime) -> Self {
-        ToldTexts {
-            rt,
-            files: FileTexts::new(rt, "sudo_logsrvd"),
-        }
+impl<T> ToldTexts<T> {
+    pub fn new(rt: HostRuntime, files: T) -> Self {
+        ToldTexts { rt, files }
     }
 
     /// Says what is passed over or refused of a text.
@@ -42,12 +38,12 @@ impl ToldTexts {
     }
 }
 
-impl Texts for ToldTexts {
-    ghost tells = { ⊥ };
+impl<T: Texts> Texts for ToldTexts<T> {
+    ghost tells = { T.tells };
 
-    ghost texts = { λ _ path. None };
+    ghost texts = { λ t. T.texts t.files };
 
-    ghost faults = { λ t. ⟦<FileTexts as Texts>⟧.faults t.files };
+    ghost faults = { λ t. T.faults t.files };
 
     fn text(&mut self, alloc: Global, path: &str) -> Result<Option<Bytes>, TextFault> {
         let found = self.files.text(alloc, path)?;
