@@ -20,7 +20,7 @@ with_one : (a : Option ℕ) (b : Option (ℕ × ℕ)) (most : ℕ) (d : ℕ × �
 with_one a b most d p q = rw p (rw q refl)
 
 greatest_more : (lane most : ℕ) (d : ℕ × ℕ) (image : Image) → greatest lane image ≡ Some most → drawn lane image ≡ Some d → greatest (lane + 1) image ≡ Some (max most d.0)
-greatest_more lane most d image so_far one = subst (λ k. greatest k image ≡ Some (max most d.0)) (omega arith) (with_one (greatest lane image) (drawn lane image) most d so_far one)
+greatest_more lane most d image so_far one = let next : suc lane ≡ lane + 1 = omega arith in subst (λ (k : ℕ). greatest k image ≡ Some (max most d.0)) next (with_one (greatest lane image) (drawn lane image) most d so_far one)
 
 -- without it
 without : (a : Option ℕ) (b : Option (ℕ × ℕ)) → (a ≡ None) ⊎ (b ≡ None) → option_and_then (λ m. option_map (λ e. max m e.0) b) a ≡ None

@@ -1,9 +1,8 @@
 -- Logs that are listed one by one, and what is put of them by the end.
-use Rattle.std.proofs.Common.{◌≡◌, ◌∙◌, ◌++◌, ◌⊎◌, inl, inr, ℕ, suc, ◌+◌, ◌<◌, ◌≤◌, List, [], ◌∷◌, Option, Some, None, Result, Ok, Err, Bool, true, false, length, refl, sym, ap, subst, append-nil, append_assoc, arith, if◌then◌else◌}
+use Rattle.std.proofs.Common.{◌≡◌, ◌∙◌, ◌++◌, ◌⊎◌, inl, inr, ℕ, suc, ◌+◌, ◌<◌, ◌≤◌, List, [], ◌∷◌, Option, Some, None, Result, Ok, Err, length, refl, sym, ap, subst, append-nil, append_assoc, arith}
 use Rattle.std.specs.Option.{option_or}
 use Rattle.lsv_disk.specs.declared.file.FileId.{FileId}
 use Rattle.lsv_disk.specs.declared.file.Part.{Part}
-use Rattle.lsv_disk.specs.declared.file.Part.TheVariants.{Slots}
 use Rattle.lsv_disk.specs.Throughout.{OnlyReads}
 use Rattle.lsv_disk.specs.View.{Image, DiskView}
 use Rattle.lsv_disk.proofs.Composition.{OnlyNow, reads_trans}
@@ -15,36 +14,20 @@ use Rattle.lsv_iolog.specs.Faults.{IsOpenFault}
 use Rattle.lsv_iolog.specs.Recovered.{Replays}
 use Rattle.lsv_iolog.proofs.Scans.{reads_nothing}
 use Rattle.lsv_play.specs.declared.screen.Item.{Item}
-use Rattle.lsv_play.specs.declared.screen.Item.TheVariants.{Put}
 use Rattle.lsv_play.specs.Items.{IsPart}
 use Rattle.lsv_play.proofs.Parts.{part_behind, part_whole}
 use Rattle.lsv_playback.proofs.Played.{same_image}
 use Rattle.lsv_search.specs.Grammar.{Expression}
-use Rattle.lsv_search.specs.Meaning.{matches}
 use Rattle.lsv_search.specs.Steps.{AreStepsOf}
 use Rattle.lsv_search.specs.declared.step.Step.{Step}
-use Rattle.lsv_words.specs.Pieces.{IsPrefix}
 use Rattle.lsv_listing.specs.Faults.{IsNumbersFault, of_log}
-use Rattle.lsv_listing.specs.Listing.{Found, Nowhere, Faulty, There, IsFound, AreFound, Lists, ListsAll, ListsNone, ListsSome, damage_in, first_damage, line_if, line_of, listing}
+use Rattle.lsv_listing.specs.Listing.{Found, Nowhere, Faulty, There, IsFound, AreFound, Lists, ListsAll, ListsNone, ListsSome, damage_in, first_damage, line_if, listing}
 use Rattle.lsv_listing.specs.Numbers.{last_number}
 use Rattle.lsv_listing.specs.Walk.{IsCut, ListedPart, ListedTo, ListsHead, ListsOne, ListsTo}
 use Rattle.lsv_listing.specs.declared.fault.ListFault.{ListFault}
 use Rattle.lsv_listing.specs.declared.fault.ListFault.TheVariants as faults
 
 -- ---- one log
-
--- the line of a log that is searched for, and of one that isn't
-pub line_there : (searched : Option Expression) (n : ℕ) (head : Head) (found : Bool) → found ≡ matches searched head → found ≡ true → line_if searched n (There head) ≡ Put (line_of n head) ∷ []
-line_there searched n head found is yes = let e : matches searched head ≡ true = sym is ∙ yes in rw e refl
-
-pub line_not : (searched : Option Expression) (n : ℕ) (head : Head) (found : Bool) → found ≡ matches searched head → found ≡ false → [] ≡ line_if searched n (There head)
-line_not searched n head found is no_ = let e : matches searched head ≡ false = sym is ∙ no_ in rw e refl
-
--- what is put of a line that isn't put wholly
-pub line_cut : (searched : Option Expression) (n : ℕ) (head : Head) (front line : List ℕ) → line_if searched n (There head) ≡ Put (line_of n head) ∷ [] → line ≡ line_of n head → IsPrefix front line
-    → IsPart (Put front ∷ []) (line_if searched n (There head))
-line_cut searched n head front line is same prefix =
-    subst (λ (items : List Item). IsPart (Put front ∷ []) items) (sym is) (inr (refl, subst (λ (bytes : List ℕ). IsPrefix front bytes) same prefix))
 
 -- a log that is opened is listed as its head is
 pub one_of_head : (searched : Option Expression) (image : Image) (n : ℕ) (head : Head) (r : Result (Option Part) ListFault) (put : List Item) → IsFound image n (There head) → ListsHead searched n head r put → ListsOne searched image n r put
@@ -145,24 +128,26 @@ module _ (tells shows : Type 0) (e : List Step) (n number : ℕ) (first : Option
     reads = λ told. reads_trans old now later (is.reads told) (reads told);
     listed = λ told told_too searched steps.
         let to = is.listed told told_too searched steps in
-        let more = one told told_too searched steps in
-        (to.0 ++ more.0,
-        more.1 ∙ ap (λ (items : List Item). items ++ more.0) to.1 ∙ append_assoc before to.0 more.0,
-        subst (λ (o : Option Part). ListedTo searched old.reads (n + 1) o (to.0 ++ more.0)) (sym first_is)
-            (listed_more searched old.reads n number first damage to.0 more.0 to.2 next
-            (subst (λ (image : Image). ListsOne searched image number (Ok damage) more.0) (same_image old now (is.reads told)) more.2)));
+        let more = one told told_too searched steps in (
+          to.0 ++ more.0,
+          more.1 ∙ ap (λ (items : List Item). items ++ more.0) to.1 ∙ append_assoc before to.0 more.0,
+          subst (λ (o : Option Part). ListedTo searched old.reads (n + 1) o (to.0 ++ more.0)) (sym first_is)
+              (listed_more searched old.reads n number first damage to.0 more.0 to.2 next
+              (subst (λ (image : Image). ListsOne searched image number (Ok damage) more.0) (same_image old now (is.reads told)) more.2)),
+        );
   }
 
   pub listing_stops : (fault : ListFault) (r : Result (Option Part) ListFault) (last : ℕ) (after : List Item) → OneListed tells shows e number (Err fault) now shown after → r ≡ Err fault → number ≤ last
       → tells → shows → (searched : Option Expression) → AreStepsOf searched e → (put : List Item) × (after ≡ before ++ put) × ListsTo searched old.reads last r put
   listing_stops fault r last after one same within told told_too searched steps =
       let to = is.listed told told_too searched steps in
-      let more = one told told_too searched steps in
-      (to.0 ++ more.0,
-      more.1 ∙ ap (λ (items : List Item). items ++ more.0) to.1 ∙ append_assoc before to.0 more.0,
-      subst (λ (x : Result (Option Part) ListFault). ListsTo searched old.reads last x (to.0 ++ more.0)) (sym same)
-          (cut_of searched old.reads n number last first to.0 more.0 fault to.2 next within
-          (subst (λ (image : Image). ListsOne searched image number (Err fault) more.0) (same_image old now (is.reads told)) more.2)))
+      let more = one told told_too searched steps in (
+        to.0 ++ more.0,
+        more.1 ∙ ap (λ (items : List Item). items ++ more.0) to.1 ∙ append_assoc before to.0 more.0,
+        subst (λ (x : Result (Option Part) ListFault). ListsTo searched old.reads last x (to.0 ++ more.0)) (sym same)
+            (cut_of searched old.reads n number last first to.0 more.0 fault to.2 next within
+            (subst (λ (image : Image). ListsOne searched image number (Err fault) more.0) (same_image old now (is.reads told)) more.2)),
+      )
 
 -- ---- all of it
 
@@ -191,11 +176,12 @@ some_listed {T} searched image last e r put same is to = subst (λ (x : Result T
   at faults.NoMem to = some to
 
 -- all of the listing is put
-pub all_listed : (searched : Option Expression) (image : Image) (last : ℕ) (first : Option Part) (put : List Item) → last_number image ≡ Some last → ListedTo searched image last first put → ListsAll searched image put first
-all_listed searched image last first put is to = record {
+pub all_listed : (searched : Option Expression) (image : Image) (mid : DiskView) (last : ℕ) (found first : Option Part) (put : List Item) → last_number image ≡ Some last → mid.reads ≡ image → found ≡ first
+    → ListedTo searched mid.reads last found put → ListsAll searched image put first
+all_listed searched image mid last found first put is same damage to = record {
   found = to.found;
-  are = to.are;
+  are = subst (λ (i : Image). AreFound i to.found) same to.are;
   last = is ∙ ap (λ (k : ℕ). Some k) (sym to.count);
   put_is = to.put_is;
-  damage_is = sym to.first_is;
+  damage_is = sym to.first_is ∙ damage;
 }

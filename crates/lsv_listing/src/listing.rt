@@ -133,6 +133,7 @@ fn list_head<S: Screen>(
     Ok(None)
 }
 
+#[tactic(auto, unfolding(crate::specs::Listing::line_of))]
 /// The line of a log: that of the event by which it was accepted.
 fn line_of(alloc: Global, number: LogNo, head: &Head) -> Result<Bytes, NoMem>
     requires timed { IsSome (nanos_of head.now.submit) }

@@ -12,6 +12,7 @@ ghost use Rattle.lsv_play.specs.declared.screen.Item.{Item};
 ghost use Rattle.lsv_replay_args.specs.Asked.{IsTextual, asked_in, manner_in, task_in};
 ghost use Rattle.lsv_replay_args.specs.Request.{Asked, dir_asked};
 ghost use Rattle.lsv_replay.specs.Replay.{Answers, Asks, Does, HasWords, IsOnlyRead, IsUsage, ListsWords, PlaysNumber};
+ghost use Rattle.lsv_replay.specs.Tasks.{IsOfList, IsOfPlay, IsOfTask};
 ghost use Rattle.lsv_replay.specs.declared.status.ReplayStatus.TheVariants as statuses;
 
 use crate::ReplayStatus;
@@ -79,6 +80,7 @@ fn do_task<D: Disk, S: Screen>(
     screen: &mut S,
 ) -> ReplayStatus
     requires text { IsTextual task.now }
+    ensures status { IsOfTask (task_in [] task.now) result }
     ensures does { D.tells → S.tells → (put : List Item) × (S.shown screen.new ≡ S.shown screen.old ++ put) × Does (task_in [] task.now) (D.view disk.old).reads result put }
     ensures reads { D.tells → OnlyReads (D.view disk.old) (D.view disk.new) }
     ensures disk { HasOwnCause IsListed (result ≡ statuses.ReadFault) (D.view disk.old) (D.view disk.new) }
@@ -98,6 +100,7 @@ fn play<D: Disk, S: Screen>(
     disk: &mut D,
     screen: &mut S,
 ) -> ReplayStatus
+    ensures status { IsOfPlay result }
     ensures plays { D.tells → S.tells → (put : List Item) × (S.shown screen.new ≡ S.shown screen.old ++ put) × PlaysNumber (manner_in options.now) (log_no_in id.now) (D.view disk.old).reads result put }
     ensures reads { D.tells → OnlyReads (D.view disk.old) (D.view disk.new) }
     ensures disk { HasOwnCause IsListed (result ≡ statuses.ReadFault) (D.view disk.old) (D.view disk.new) }
@@ -117,6 +120,7 @@ fn list<D: Disk, S: Screen>(
     screen: &mut S,
 ) -> ReplayStatus
     requires text { IsTrue (list_all is_utf8 words.now) }
+    ensures status { IsOfList words.now result }
     ensures lists { D.tells → S.tells → (put : List Item) × (S.shown screen.new ≡ S.shown screen.old ++ put) × ListsWords words.now (D.view disk.old).reads result put }
     ensures reads { D.tells → OnlyReads (D.view disk.old) (D.view disk.new) }
     ensures disk { HasOwnCause IsListed (result ≡ statuses.ReadFault) (D.view disk.old) (D.view disk.new) }
