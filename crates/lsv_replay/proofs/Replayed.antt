@@ -3,7 +3,8 @@ use Rattle.std.proofs.Common.{◌≡◌, ◌∙◌, ◌++◌, ◌⊎◌, inl, in
 use Rattle.std.proofs.Math.Path.{fun_ext}
 use Rattle.std.specs.Prelude.{IsTrue}
 use Rattle.std.specs.List.{list_all}
-use Rattle.std.specs.Str.{is_utf8}
+use Rattle.std.specs.Str.{IsUtf8, is_utf8}
+use Rattle.std.proofs.lemmas.Str.{IsUtf8-from_is_utf8}
 use Rattle.clap.specs.Faults.{fault_of}
 use Rattle.lsv_disk.specs.declared.file.FileId.{FileId}
 use Rattle.lsv_disk.specs.Throughout.{OnlyReads}
@@ -92,15 +93,22 @@ never Failed disk none = record { monotone = λ f. omega arith; risen = λ is. a
 
 -- ---- the words
 
+-- a text is text, as it is computed
+pub not_text : (bytes : List ℕ) → (IsUtf8 bytes → ⊥) → false ≡ is_utf8 bytes
+not_text bytes none = at (is_utf8 bytes) refl where
+  at : (b : Bool) → is_utf8 bytes ≡ b → false ≡ is_utf8 bytes
+  at true e = absurd (none (IsUtf8-from_is_utf8 bytes e))
+  at false e = sym e
+
 -- words that are no command ask for nothing
 pub not_both : (words : List (List ℕ)) (asked : Asked) → IsUsage words → Asks words asked → ⊥
 not_both words asked (inl text) asks = true_false (list_all is_utf8 words) asks.text text where
   true_false : (b : Bool) → b ≡ true → b ≡ false → ⊥
-  true_false b yes no_ = cc
+  true_false b one two = cc
 not_both words asked (inr (inl taken)) asks = taken asks.taken
 not_both words asked (inr (inr none)) asks = some_none (requests.asked words) asked asks.asks none where
   some_none : (o : Option Asked) (a : Asked) → o ≡ Some a → o ≡ None → ⊥
-  some_none o a yes no_ = cc
+  some_none o a one two = cc
 
 one_asked : (words : List (List ℕ)) (a b : Asked) → Asks words a → Asks words b → a ≡ b
 one_asked words a b one two = same (requests.asked words) a b one.asks two.asks where

@@ -67,9 +67,16 @@ fn request_of(alloc: Global, words: &List<Bytes>) -> Result<Request, ArgFault>
 fn are_text(words: &[Bytes]) -> bool
     ensures { result ≡ list_all is_utf8 words.now }
 {
-    words
-        .iter()
-        .all(|word| str::from_utf8(word.as_slice()).is_ok())
+    words.iter().all(|word| is_text(word.as_slice()))
+}
+
+fn is_text(word: &[u8]) -> bool
+    ensures { result ≡ is_utf8 word.now }
+{
+    let Ok(_) = str::from_utf8(word) else {
+        return false;
+    };
+    true
 }
 
 /// Plays the log, or lists the logs.
