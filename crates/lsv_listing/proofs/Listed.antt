@@ -1,5 +1,5 @@
 -- Logs that are listed one by one, and what is put of them by the end.
-use Rattle.std.proofs.Common.{◌≡◌, ◌∙◌, ◌++◌, ◌⊎◌, inl, inr, ℕ, suc, ◌+◌, ◌<◌, ◌≤◌, List, [], ◌∷◌, Option, Some, None, Result, Ok, Err, length, refl, sym, ap, subst, append-nil, append_assoc, arith}
+use Rattle.std.proofs.Common.{◌≡◌, ◌∙◌, ◌++◌, inl, inr, ℕ, suc, ◌+◌, ◌≤◌, List, [], ◌∷◌, Option, Some, None, Result, Ok, Err, length, refl, sym, ap, subst, append-nil, append_assoc, arith}
 use Rattle.std.specs.Option.{option_or}
 use Rattle.lsv_disk.specs.declared.file.FileId.{FileId}
 use Rattle.lsv_disk.specs.declared.file.Part.{Part}
@@ -21,7 +21,7 @@ use Rattle.lsv_search.specs.Grammar.{Expression}
 use Rattle.lsv_search.specs.Steps.{AreStepsOf}
 use Rattle.lsv_search.specs.declared.step.Step.{Step}
 use Rattle.lsv_listing.specs.Faults.{IsNumbersFault, of_log}
-use Rattle.lsv_listing.specs.Listing.{Found, Nowhere, Faulty, There, IsFound, AreFound, Lists, ListsAll, ListsNone, ListsSome, damage_in, first_damage, line_if, listing}
+use Rattle.lsv_listing.specs.Listing.{Nowhere, Faulty, There, IsFound, AreFound, Lists, ListsAll, ListsSome, first_damage, line_if, listing}
 use Rattle.lsv_listing.specs.Numbers.{last_number}
 use Rattle.lsv_listing.specs.Walk.{IsCut, ListedPart, ListedTo, ListsHead, ListsOne, ListsTo}
 use Rattle.lsv_listing.specs.declared.fault.ListFault.{ListFault}

@@ -1,14 +1,12 @@
 -- What a run of the program comes to.
-use Rattle.std.proofs.Common.{◌≡◌, ◌∙◌, ◌++◌, ◌⊎◌, inl, inr, ℕ, ◌≤◌, List, [], Option, Some, None, Result, Ok, Err, Bool, true, false, refl, sym, ap, subst, append-nil, arith}
+use Rattle.std.proofs.Common.{◌≡◌, ◌∙◌, inl, inr, ℕ, ◌≤◌, List, Option, Some, None, Result, Ok, Err, Bool, true, false, refl, sym, ap, subst, arith}
 use Rattle.std.proofs.Math.Path.{fun_ext}
-use Rattle.std.specs.Prelude.{IsTrue}
 use Rattle.std.specs.List.{list_all}
 use Rattle.std.specs.Str.{IsUtf8, is_utf8}
 use Rattle.std.proofs.lemmas.Str.{IsUtf8-from_is_utf8}
-use Rattle.clap.specs.Faults.{fault_of}
 use Rattle.lsv_disk.specs.declared.file.FileId.{FileId}
 use Rattle.lsv_disk.specs.Throughout.{OnlyReads}
-use Rattle.lsv_disk.specs.View.{Image, DiskView, HasOwnCause, IsCrashImage, IsLeftAlone, IsUntouched}
+use Rattle.lsv_disk.specs.View.{Image, DiskView, HasOwnCause, IsUntouched}
 use Rattle.lsv_disk.proofs.Composition.{OnlyNow, unchanged_reads}
 use Rattle.lsv_iolog.specs.Recovered.{IsOfLog}
 use Rattle.lsv_listing.specs.declared.fault.ListFault.{ListFault}
@@ -20,10 +18,9 @@ use Rattle.lsv_playback.specs.declared.fault.PlayFault.TheVariants as plays
 use Rattle.lsv_replay_args.specs.Asked.{task_in}
 use Rattle.lsv_replay_args.specs.declared.request.Task.{Task}
 use Rattle.lsv_replay_args.specs.declared.request.Task.TheVariants as tasks
-use Rattle.lsv_replay_args.specs.Program.{program}
 use Rattle.lsv_replay_args.specs.Request.{Asked, Play, Search, dir_asked}
 use Rattle.lsv_replay_args.specs.Request as requests
-use Rattle.lsv_replay.specs.Replay.{Answers, Asks, Does, HasWords, IsOnlyRead, IsUsage}
+use Rattle.lsv_replay.specs.Replay.{Asks, Does, HasWords, IsOnlyRead, IsUsage}
 use Rattle.lsv_replay.specs.Status.{of_listing, of_playing}
 use Rattle.lsv_replay.specs.Tasks.{IsOfList, IsOfPlay, IsOfTask}
 use Rattle.lsv_replay.specs.declared.status.ReplayStatus.{ReplayStatus}

@@ -4,7 +4,6 @@ use Rattle.std.specs.List.{list_all}
 use Rattle.std.specs.Str.{is_utf8}
 use Rattle.clap.specs.Faults.{fault_of}
 use Rattle.lsv_base.specs.LogNo.{log_no_in}
-use Rattle.lsv_disk.specs.declared.file.Part.{Part}
 use Rattle.lsv_disk.specs.View.{Image, DiskView, IsCrashImage, Quiet, Uncounted}
 use Rattle.lsv_listing.specs.declared.fault.ListFault.{ListFault}
 use Rattle.lsv_listing.specs.Listing.{Lists}

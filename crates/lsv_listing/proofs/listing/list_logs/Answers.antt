@@ -1,7 +1,6 @@
 -- The numbers are read, and then the logs are listed.
-use Rattle.std.proofs.Common.{◌≡◌, ◌≤◌, ◌≢◌, ℕ, [], None, Some, Err, inl, append-nil, subst, sym}
+use Rattle.std.proofs.Common.{[], None, Some, Err, inl, append-nil, subst, sym}
 use Rattle.lsv_disk.specs.View.{DiskView, Image}
-use Rattle.lsv_play.specs.declared.screen.Item.{Item}
 use Rattle.lsv_playback.proofs.Played.{same_image}
 use Rattle.lsv_listing.specs.Walk.{ListsTo}
 use Rattle.lsv_listing.proofs.Answers.{err_as}

@@ -1,8 +1,6 @@
 -- Each log is listed behind those before it.
-use Rattle.std.proofs.Common.{◌≡◌, ◌≤◌, ◌+◌, ℕ, Option, Some, None, arith, rules}
+use Rattle.std.proofs.Common.{◌≡◌, ◌≤◌, ◌+◌, arith, rules}
 use Rattle.std.specs.Option.{option_or}
-use Rattle.lsv_disk.specs.declared.file.Part.{Part}
-use Rattle.lsv_disk.specs.View.{DiskView}
 use Rattle.lsv_listing.proofs.Answers.{err_as}
 use Rattle.lsv_listing.proofs.Listed.{listing_goes_on, listing_stops}
 use Rattle.lsv_listing.proofs.listing.list_to.Goals as goal

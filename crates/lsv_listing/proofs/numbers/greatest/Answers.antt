@@ -1,6 +1,5 @@
 -- Each lane's last number is read, and the greatest kept.
-use Rattle.std.proofs.Common.{◌≡◌, ◌≢◌, ◌∙◌, ℕ, ◌+◌, ◌<◌, max, None, arith, rules}
-use Rattle.lsv_disk.specs.View.{DiskView}
+use Rattle.std.proofs.Common.{◌≡◌, ◌≢◌, ◌<◌, max, None, arith, rules}
 use Rattle.lsv_listing.specs.Numbers.{greatest}
 use Rattle.lsv_listing.specs.declared.fault.ListFault.{ListFault}
 use Rattle.lsv_listing.specs.declared.fault.ListFault.TheVariants as faults

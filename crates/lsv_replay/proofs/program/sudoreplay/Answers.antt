@@ -1,5 +1,5 @@
 -- The words are read, and then what they ask for is done.
-use Rattle.std.proofs.Common.{◌≡◌, ℕ, List, [], inl, inr, append-nil, refl, subst, sym}
+use Rattle.std.proofs.Common.{ℕ, List, [], inl, inr, append-nil, refl, subst, sym}
 use Rattle.std.specs.String.{string_bytes}
 use Rattle.lsv_disk.specs.View.{DiskView, Image}
 use Rattle.lsv_replay_args.specs.Asked.{asked_in, task_in}
