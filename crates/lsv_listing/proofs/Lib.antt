@@ -2,3 +2,4 @@ pub mod Answers
 pub mod Drawing
 pub mod Heads
 pub mod Listed
+pub mod Stored
