@@ -9,6 +9,7 @@ which shows that the cost is linear. PEER is sudo's own sudoreplay, over its own
 """
 import os
 import shutil
+import subprocess
 import sys
 import tempfile
 
@@ -28,13 +29,8 @@ INFO = {
 
 def run(program, words):
     """The processor seconds and the peak memory in bytes of one run, whose output is dropped."""
-    pid = os.fork()
-    if pid == 0:
-        null = os.open(os.devnull, os.O_RDWR)
-        for number in (0, 1):
-            os.dup2(null, number)
-        os.execv(program, [program, *words])
-    peak, status, usage = watched(pid)
+    child = subprocess.Popen([program, *words], stdin=subprocess.DEVNULL, stdout=subprocess.DEVNULL)
+    peak, status, usage = watched(child.pid)
     if status != 0:
         sys.exit(f"{program} {words}: status {status}")
     return usage.ru_utime + usage.ru_stime, peak

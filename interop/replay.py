@@ -90,7 +90,7 @@ def searches(rng):
         yield ["!"] + test, ["!"] + test
     for _ in range(100):
         a, b, c = (rng.choice(tests) for _ in range(3))
-        for words in (a + b, a + ["and"] + b, a + ["or"] + b, a + ["or"] + b + ["and"] + c, ["("] + a + ["or"] + b + [")"] + c, ["!", "("] + a + ["or"] + b + [")"]):
+        for words in (a + b, a + ["and"] + b, a + ["or"] + b, a + ["and"] + b + ["or"] + c, ["("] + a + ["or"] + b + [")"] + c, ["!", "("] + a + ["or"] + b + [")"]):
             yield words, words
     for name in ("fromdate", "todate"):
         for hours in (0, 1, 20):

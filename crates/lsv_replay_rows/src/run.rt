@@ -11,9 +11,9 @@ use std::str;
 
 /// The words of a line, between single spaces: none of an empty one. The word `~` stands for the byte FF.
 fn words_of(alloc: Global, line: &str) -> Result<List<Bytes>, NoMem> {
-    let mut words = List::new(alloc);
+    let mut words = Vec::new(alloc);
     if line.is_empty() {
-        return Ok(words);
+        return Ok(List::from_vec(words));
     }
     for word in line.split(' ') {
         let word = if word == "~" {
@@ -23,7 +23,7 @@ fn words_of(alloc: Global, line: &str) -> Result<List<Bytes>, NoMem> {
         };
         words.push(word)?;
     }
-    Ok(words)
+    Ok(List::from_vec(words))
 }
 
 /// Runs the program on a screen of which this call fails.
