@@ -7,18 +7,22 @@ DESTDIR ?=
 
 CRATE = crates/sudo_logsrvd
 PROGRAM = $(CRATE)/out/sudo_logsrvd
+REPLAY_CRATE = crates/sudoreplay
+REPLAY = $(REPLAY_CRATE)/out/sudoreplay
 MEASURES = crates/lsv_bench
 
 .PHONY: all build run test wrong-bodies bench install clean
 
 all: build
 
-# `rt run` proves what is not proved yet, builds, and runs the program: here on an empty input, with a store in the crate's folder.
+# `rt run` proves what is not proved yet, builds, and runs the program: the server on an empty input, with a store in the
+# crate's folder, and sudoreplay on the store in its data/.
 build:
 	cd $(CRATE) && rt run -- once -f data/conf </dev/null >/dev/null
+	cd $(REPLAY_CRATE) && rt run -- -d store -l >/dev/null
 
 run: build
-	bash examples/run $(PROGRAM)
+	bash examples/run $(PROGRAM) $(REPLAY)
 
 test:
 	rt ci
@@ -29,9 +33,11 @@ wrong-bodies:
 bench: build
 	cd $(MEASURES) && rt run -- decode >/dev/null
 	python3 bench/bench.py $(PROGRAM) $(MEASURES)/out/lsv_bench
+	python3 bench/replay.py $(REPLAY)
 
 install: build
 	install -D -m 755 $(PROGRAM) $(DESTDIR)$(PREFIX)/sbin/sudo_logsrvd
+	install -D -m 755 $(REPLAY) $(DESTDIR)$(PREFIX)/bin/sudoreplay
 
 clean:
 	rm -rf crates/*/out

@@ -8,7 +8,7 @@ use crate::path::Places;
 use crate::store::read_from;
 use lru::LruCache;
 use lsv_disk::{Disk, DiskFault, FileId, Owner, Part};
-use std::fs::{File, OpenOptions};
+use std::fs::{self, File, OpenOptions};
 use std::io;
 use std::io::ErrorKind;
 use std::num::NonZeroUsize;
@@ -93,10 +93,7 @@ impl ReadOnlyDisk {
         let Some(store) = &mut self.store else {
             return Err(ErrorKind::NotFound.into());
         };
-        match store.file(&self.rt, f)? {
-            Some(file) => Ok(Some(file.metadata()?.len())),
-            None => Ok(None),
-        }
+        store.length(&self.rt, f)
     }
 
     /// Reads as many bytes as there are and as the buffer takes; an absent file has none.
@@ -127,6 +124,22 @@ impl Opened {
             Err(_) => return Err(ErrorKind::OutOfMemory.into()),
         };
         Ok(Opened { places, handles })
+    }
+
+    /// How many bytes a file has, None where there is none. A file that isn't open stays so, since a listing asks how long
+    /// files are that it doesn't read.
+    fn length(&mut self, rt: &HostRuntime, f: FileId) -> io::Result<Option<u64>> {
+        if let Some(file) = self.handles.get(&f) {
+            return Ok(Some(file.metadata()?.len()));
+        }
+        let Some(place) = self.places.place_of(rt.alloc(), f)? else {
+            return Err(ErrorKind::InvalidInput.into());
+        };
+        match fs::metadata(rt, place.path.as_str()) {
+            Ok(metadata) => Ok(Some(metadata.len())),
+            Err(e) if e.kind() == ErrorKind::NotFound => Ok(None),
+            Err(e) => Err(e),
+        }
     }
 
     /// An open file. None where there is no such file.

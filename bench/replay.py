@@ -1,0 +1,87 @@
+#!/usr/bin/env python3
+"""Measures `sudoreplay` over generated stores on /dev/shm.
+
+usage: replay.py PROGRAM [PEER]
+
+It prints the processor time a log of a listing of 10,000 logs, and a record of a session of 1,000,000 records of ten bytes
+that is played without waits, the peak of memory of each, and the ratio of the times to those of a tenth of each load,
+which shows that the cost is linear. PEER is sudo's own sudoreplay, over its own store: of the listing, the time a log.
+"""
+import os
+import shutil
+import subprocess
+import sys
+import tempfile
+
+sys.path.insert(0, os.path.join(os.path.dirname(os.path.abspath(__file__)), "..", "interop"))
+import replay as interop  # noqa: E402
+import stores  # noqa: E402
+from bench import watched  # noqa: E402
+
+LOGS = 10_000
+RECORDS = 1_000_000
+RUNS = 5
+INFO = {
+    "columns": 80, "command": "/usr/bin/id", "lines": 24, "runargv": ["id", "-u"], "rungid": 0, "rungroup": "root", "runuid": 0,
+    "runuser": "root", "submitcwd": "/home/ann", "submithost": "web1", "submituser": "ann", "ttyname": "/dev/pts/0",
+}
+
+
+def run(program, words):
+    """The processor seconds and the peak memory in bytes of one run, whose output is dropped."""
+    child = subprocess.Popen([program, *words], stdin=subprocess.DEVNULL, stdout=subprocess.DEVNULL)
+    peak, status, usage = watched(child.pid)
+    if status != 0:
+        sys.exit(f"{program} {words}: status {status}")
+    return usage.ru_utime + usage.ru_stime, peak
+
+
+def best(program, words):
+    """The least processor time of some runs, and the peak of memory."""
+    runs = [run(program, words) for _ in range(RUNS)]
+    return min(seconds for seconds, _ in runs), max(peak for _, peak in runs)
+
+
+def many_logs(folder, count, peer):
+    """A store of so many small sessions."""
+    head = stores.head_text((1700000000, 0), INFO)
+    records = [(1, "ttyout", b"0\r\n")]
+    for number in range(1, count + 1):
+        if peer:
+            interop.write_peer(folder, number, 1700000000, INFO, records)
+        else:
+            stores.write_log(folder, number, head, records, stores.exit_text((1, 0), 0))
+    stores.write_numbers(folder, count)
+
+
+def many_records(folder, count):
+    """A store of one session of so many records."""
+    records = [(1_000_000, "ttyout", b"0123456789")] * count
+    stores.write_log(folder, 1, stores.head_text((1700000000, 0), INFO), records, stores.exit_text((1, 0), 0))
+    stores.write_numbers(folder, 1)
+
+
+def measure(name, program, fill, count, words):
+    """Prints the cost of each of so many."""
+    times = []
+    for size in (count // 10, count):
+        folder = tempfile.mkdtemp(dir="/dev/shm")
+        fill(folder, size)
+        seconds, peak = best(program, ["-d", folder, *words])
+        times.append(seconds)
+        shutil.rmtree(folder)
+    print(f"{name}: {times[1] / count * 1e6:.2f} µs, {times[1] / times[0]:.1f} times that of a tenth, {peak / 2**20:.1f} MB")
+
+
+def main():
+    program = os.path.realpath(sys.argv[1])
+    measure("a log of a listing", program, lambda folder, n: many_logs(folder, n, False), LOGS, ["-l"])
+    measure("a log of a search by command", program, lambda folder, n: many_logs(folder, n, False), LOGS, ["-l", "command", "^/bin"])
+    measure("a record that is played", program, many_records, RECORDS, ["-m", "0", "000001"])
+    if len(sys.argv) > 2:
+        measure("the peer, a log of a listing", sys.argv[2], lambda folder, n: many_logs(folder, n, True), LOGS, ["-l"])
+        measure("the peer, a log of a search", sys.argv[2], lambda folder, n: many_logs(folder, n, True), LOGS, ["-l", "command", "^/bin"])
+
+
+if __name__ == "__main__":
+    main()

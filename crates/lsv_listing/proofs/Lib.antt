@@ -1,0 +1,5 @@
+pub mod Answers
+pub mod Drawing
+pub mod Heads
+pub mod Listed
+pub mod Stored

@@ -1,0 +1,170 @@
+-- What a run of the program comes to.
+use Rattle.std.proofs.Common.{◌≡◌, ◌∙◌, inl, inr, ℕ, ◌≤◌, List, Option, Some, None, Result, Ok, Err, Bool, true, false, refl, sym, ap, subst, arith}
+use Rattle.std.proofs.Math.Path.{fun_ext}
+use Rattle.std.specs.List.{list_all}
+use Rattle.std.specs.Str.{IsUtf8, is_utf8}
+use Rattle.std.proofs.lemmas.Str.{IsUtf8-from_is_utf8}
+use Rattle.lsv_disk.specs.declared.file.FileId.{FileId}
+use Rattle.lsv_disk.specs.Throughout.{OnlyReads}
+use Rattle.lsv_disk.specs.View.{Image, DiskView, HasOwnCause, IsUntouched}
+use Rattle.lsv_disk.proofs.Composition.{OnlyNow, unchanged_reads}
+use Rattle.lsv_iolog.specs.Recovered.{IsOfLog}
+use Rattle.lsv_listing.specs.declared.fault.ListFault.{ListFault}
+use Rattle.lsv_listing.specs.declared.fault.ListFault.TheVariants as lists
+use Rattle.lsv_listing.specs.Numbers.{IsListed}
+use Rattle.lsv_play.specs.declared.screen.Item.{Item}
+use Rattle.lsv_playback.specs.declared.fault.PlayFault.{PlayFault}
+use Rattle.lsv_playback.specs.declared.fault.PlayFault.TheVariants as plays
+use Rattle.lsv_replay_args.specs.Asked.{task_in}
+use Rattle.lsv_replay_args.specs.declared.request.Task.{Task}
+use Rattle.lsv_replay_args.specs.declared.request.Task.TheVariants as tasks
+use Rattle.lsv_replay_args.specs.Request.{Asked, Play, Search, dir_asked}
+use Rattle.lsv_replay_args.specs.Request as requests
+use Rattle.lsv_replay.specs.Replay.{Asks, Does, HasWords, IsOnlyRead, IsUsage}
+use Rattle.lsv_replay.specs.Status.{of_listing, of_playing}
+use Rattle.lsv_replay.specs.Tasks.{IsOfList, IsOfPlay, IsOfTask}
+use Rattle.lsv_replay.specs.declared.status.ReplayStatus.{ReplayStatus}
+use Rattle.lsv_replay.specs.declared.status.ReplayStatus.TheVariants.{Shown, Usage, BadExpression, Damaged, ReadFault, WriteFault, Absent, NoMem}
+
+-- ---- statuses
+
+pub play_status : {T : Type 0} (r : Result T PlayFault) → IsOfPlay (of_playing r)
+play_status (Ok end) = tt
+play_status (Err plays.Absent) = tt
+play_status (Err (plays.Damaged part)) = tt
+play_status (Err plays.Disk) = tt
+play_status (Err plays.Screen) = tt
+play_status (Err plays.NoMem) = tt
+
+pub list_status : {T : Type 0} (words : List (List ℕ)) (r : Result T ListFault) → IsOfList words (of_listing r)
+list_status words (Ok end) = tt
+list_status words (Err (lists.Damaged part)) = tt
+list_status words (Err lists.Disk) = tt
+list_status words (Err lists.Screen) = tt
+list_status words (Err lists.NoMem) = tt
+
+-- a read fault comes of a read that failed, and a write fault of the screen's
+pub play_disk : {T : Type 0} (r : Result T PlayFault) (s : ReplayStatus) → s ≡ of_playing r → s ≡ ReadFault → r ≡ Err plays.Disk
+play_disk (Ok end) s e is = absurd (cc)
+play_disk (Err plays.Absent) s e is = absurd (cc)
+play_disk (Err (plays.Damaged part)) s e is = absurd (cc)
+play_disk (Err plays.Disk) s e is = refl
+play_disk (Err plays.Screen) s e is = absurd (cc)
+play_disk (Err plays.NoMem) s e is = absurd (cc)
+
+pub play_screen : {T : Type 0} (r : Result T PlayFault) (s : ReplayStatus) → s ≡ of_playing r → s ≡ WriteFault → r ≡ Err plays.Screen
+play_screen (Ok end) s e is = absurd (cc)
+play_screen (Err plays.Absent) s e is = absurd (cc)
+play_screen (Err (plays.Damaged part)) s e is = absurd (cc)
+play_screen (Err plays.Disk) s e is = absurd (cc)
+play_screen (Err plays.Screen) s e is = refl
+play_screen (Err plays.NoMem) s e is = absurd (cc)
+
+pub list_disk : {T : Type 0} (r : Result T ListFault) (s : ReplayStatus) → s ≡ of_listing r → s ≡ ReadFault → r ≡ Err lists.Disk
+list_disk (Ok end) s e is = absurd (cc)
+list_disk (Err (lists.Damaged part)) s e is = absurd (cc)
+list_disk (Err lists.Disk) s e is = refl
+list_disk (Err lists.Screen) s e is = absurd (cc)
+list_disk (Err lists.NoMem) s e is = absurd (cc)
+
+pub list_screen : {T : Type 0} (r : Result T ListFault) (s : ReplayStatus) → s ≡ of_listing r → s ≡ WriteFault → r ≡ Err lists.Screen
+list_screen (Ok end) s e is = absurd (cc)
+list_screen (Err (lists.Damaged part)) s e is = absurd (cc)
+list_screen (Err lists.Disk) s e is = absurd (cc)
+list_screen (Err lists.Screen) s e is = refl
+list_screen (Err lists.NoMem) s e is = absurd (cc)
+
+-- the files of a log are among those that are read
+pub of_log_cause : (n : ℕ) (Failed Cause : Type 0) (old new : DiskView) → HasOwnCause (IsOfLog n) Cause old new → (Failed → Cause) → HasOwnCause IsListed Failed old new
+of_log_cause n Failed Cause old new cause when = record {
+  monotone = cause.monotone;
+  risen = λ is. let one = cause.risen (when is) in (one.0, inr (n, one.1), one.2);
+}
+
+pub list_cause : (Failed Cause : Type 0) (old new : DiskView) → HasOwnCause IsListed Cause old new → (Failed → Cause) → HasOwnCause IsListed Failed old new
+list_cause Failed Cause old new cause when = record { monotone = cause.monotone; risen = λ is. cause.risen (when is) }
+
+-- nothing failed
+pub never : (Failed : Type 0) (disk : DiskView) → (Failed → ⊥) → HasOwnCause IsListed Failed disk disk
+never Failed disk none = record { monotone = λ f. omega arith; risen = λ is. absurd (none is) }
+
+-- ---- the words
+
+-- a text is text, as it is computed
+pub not_text : (bytes : List ℕ) → (IsUtf8 bytes → ⊥) → false ≡ is_utf8 bytes
+not_text bytes none = at (is_utf8 bytes) refl where
+  at : (b : Bool) → is_utf8 bytes ≡ b → false ≡ is_utf8 bytes
+  at true e = absurd (none (IsUtf8-from_is_utf8 bytes e))
+  at false e = sym e
+
+-- words that are no command ask for nothing
+pub not_both : (words : List (List ℕ)) (asked : Asked) → IsUsage words → Asks words asked → ⊥
+not_both words asked (inl text) asks = true_false (list_all is_utf8 words) asks.text text where
+  true_false : (b : Bool) → b ≡ true → b ≡ false → ⊥
+  true_false b one two = cc
+not_both words asked (inr (inl taken)) asks = taken asks.taken
+not_both words asked (inr (inr none)) asks = some_none (requests.asked words) asked asks.asks none where
+  some_none : (o : Option Asked) (a : Asked) → o ≡ Some a → o ≡ None → ⊥
+  some_none o a one two = cc
+
+one_asked : (words : List (List ℕ)) (a b : Asked) → Asks words a → Asks words b → a ≡ b
+one_asked words a b one two = same (requests.asked words) a b one.asks two.asks where
+  same : (o : Option Asked) (a b : Asked) → o ≡ Some a → o ≡ Some b → a ≡ b
+  same o a b p q = cc
+
+-- the folder that is asked for is the task's
+dir_of_task : (dir : List ℕ) (task : Task) → dir_asked (task_in dir task) ≡ dir
+dir_of_task dir (tasks.Play o id) = refl
+dir_of_task dir (tasks.List words) = refl
+
+pub dir_is : (words : List (List ℕ)) (asked : Asked) (dir : List ℕ) (task : Task) → Asks words asked → Asks words (task_in dir task) → dir ≡ dir_asked asked
+dir_is words asked dir task one two = sym (dir_of_task dir task) ∙ ap (λ (a : Asked). dir_asked a) (one_asked words (task_in dir task) asked two one)
+
+-- what is done doesn't hang on the folder
+pub does_anywhere : (dir other : List ℕ) (task : Task) (image : Image) (status : ReplayStatus) (put : List Item) → Does (task_in dir task) image status put → Does (task_in other task) image status put
+does_anywhere dir other (tasks.Play o id) image status put does = does
+does_anywhere dir other (tasks.List words) image status put does = does
+
+-- a status of a task has its words
+pub words_of_task : (words : List (List ℕ)) (dir other : List ℕ) (task : Task) (status : ReplayStatus) → Asks words (task_in dir task) → IsOfTask (task_in other task) status → HasWords words status
+words_of_task words dir other task Shown asks is = (task_in dir task, asks)
+words_of_task words dir other task (Damaged part) asks is = (task_in dir task, asks)
+words_of_task words dir other task ReadFault asks is = (task_in dir task, asks)
+words_of_task words dir other task WriteFault asks is = (task_in dir task, asks)
+words_of_task words dir other task NoMem asks is = tt
+words_of_task words dir other (tasks.Play o id) Usage asks is = absurd is
+words_of_task words dir other (tasks.List search) Usage asks is = absurd is
+words_of_task words dir other (tasks.Play o id) (BadExpression at) asks is = absurd is
+words_of_task words dir other (tasks.List search) (BadExpression at) asks is = record { dir = dir; search = search; asks = asks; first_bad = is }
+words_of_task words dir other (tasks.Play o id) Absent asks is = record { dir = dir; manner = _; id = id; asks = asks }
+words_of_task words dir other (tasks.List search) Absent asks is = absurd is
+
+-- ---- the disk
+
+-- no call was made
+pub read_nothing : (disk : DiskView) → OnlyNow disk → IsOnlyRead disk disk
+read_nothing disk now = record {
+  quiet = record { same = λ f. refl; crash = λ f c is. is };
+  each = λ k image from to is. now image (subst (λ (m : ℕ). disk.crash_images_at m image) (omega arith) is);
+  counts = record { writes = λ f. refl; syncs = λ f. refl };
+}
+
+-- the places were noted, and then files were read
+pub read_only : (old mid new : DiskView) → IsUntouched old mid → OnlyReads mid new → IsOnlyRead old new
+read_only old mid new root reads = record {
+  quiet = record {
+    same = λ f. unchanged_reads mid new reads.unchanged f ∙ root.quiet.same f;
+    crash = λ f c is. root.quiet.crash f c (reads.unchanged.elsewhere.crash f (λ never. never) c is);
+  };
+  each = λ k image from to is. let since : mid.moment ≤ k = omega (arith, root.moment) in λ f. root.quiet.crash f (image f) (reads.unchanged.beside k image since to is f (λ never. never));
+  counts = record { writes = λ f. reads.counts.writes f ∙ root.counts.writes f; syncs = λ f. reads.counts.syncs f ∙ root.counts.syncs f };
+}
+
+pub rooted_image : (old mid : DiskView) → IsUntouched old mid → mid.reads ≡ old.reads
+rooted_image old mid root = fun_ext (λ f. root.quiet.same f)
+
+pub rooted_cause : (Failed : Type 0) (old mid new : DiskView) → ((f : FileId) → mid.faults f ≡ old.faults f) → HasOwnCause IsListed Failed mid new → HasOwnCause IsListed Failed old new
+rooted_cause Failed old mid new same cause = record {
+  monotone = λ f. omega (arith, same f, cause.monotone f);
+  risen = λ is. let one = cause.risen is in (one.0, one.1, λ small. omega (arith, same one.0, one.2 small));
+}

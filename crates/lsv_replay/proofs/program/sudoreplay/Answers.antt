@@ -1,0 +1,32 @@
+-- The words are read, and then what they ask for is done.
+use Rattle.std.proofs.Common.{ℕ, List, [], inl, inr, append-nil, refl, subst, sym}
+use Rattle.std.specs.String.{string_bytes}
+use Rattle.lsv_disk.specs.View.{DiskView, Image}
+use Rattle.lsv_replay_args.specs.Asked.{asked_in, task_in}
+use Rattle.lsv_replay.specs.Replay.{Does, IsUsage}
+use Rattle.lsv_replay.proofs.Replayed.{does_anywhere, rooted_image}
+use Rattle.lsv_replay.proofs.program.sudoreplay.Goals as goal
+
+pub returns-in-Err-Usage-clause-words : goal.returns-in-Err-Usage-clause-words
+returns-in-Err-Usage-clause-words g c = (rw c.in-Err-Usage.field-0-is at c.in-Err-Usage.ensures.usage) refl
+
+pub returns-in-Err-Usage-clause-runs : goal.returns-in-Err-Usage-clause-runs
+returns-in-Err-Usage-clause-runs g c told told_too =
+    let usage : IsUsage c.args.words.now = (rw c.in-Err-Usage.field-0-is at c.in-Err-Usage.ensures.usage) refl in
+    ([], sym (append-nil (g.S.Screen.shown c.args.screen.now)), inl (usage, refl, refl))
+
+pub returns-clause-runs : goal.returns-clause-runs
+returns-clause-runs g c told told_too =
+    let old : DiskView = g.D.Disk.view c.args.disk.now in
+    let mid : DiskView = g.D.Disk.view c.root.new.self in
+    let dir : List ℕ = string_bytes c.in-Ok.request.dir in
+    let task = c.in-Ok.request.task in
+    let puts = c.do_task.ensures.does told told_too in (
+      puts.0,
+      puts.1,
+      inr (inr (
+        asked_in c.in-Ok.request,
+        c.in-Ok.ensures.ok,
+        subst (λ (image : Image). Does (task_in dir task) image c.do_task.result puts.0) (rooted_image old mid (c.root.ensures.frame.untouched told)) (does_anywhere [] dir task mid.reads c.do_task.result puts.0 puts.2),
+      )),
+    )

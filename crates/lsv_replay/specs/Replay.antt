@@ -1,0 +1,108 @@
+-- What a run of the program puts on the screen, by its words, the store and the status that it ends with.
+use Rattle.std.specs.Prelude.{◌≡◌, ◌⊎◌, ℕ, ◌≤◌, List, [], Option, Some, None, Result, IsTrue, false}
+use Rattle.std.specs.List.{list_all}
+use Rattle.std.specs.Str.{is_utf8}
+use Rattle.clap.specs.Faults.{fault_of}
+use Rattle.lsv_base.specs.LogNo.{log_no_in}
+use Rattle.lsv_disk.specs.View.{Image, DiskView, IsCrashImage, Quiet, Uncounted}
+use Rattle.lsv_listing.specs.declared.fault.ListFault.{ListFault}
+use Rattle.lsv_listing.specs.Listing.{Lists}
+use Rattle.lsv_play.specs.declared.options.Options.{Options}
+use Rattle.lsv_play.specs.declared.screen.Item.{Item}
+use Rattle.lsv_playback.specs.declared.fault.PlayFault.{PlayFault}
+use Rattle.lsv_playback.specs.Playing.{Plays}
+use Rattle.lsv_replay_args.specs.Asked.{manner_in}
+use Rattle.lsv_replay_args.specs.Program.{program}
+use Rattle.lsv_replay_args.specs.Request.{Asked, IsRefused, Manner, Play, Search}
+use Rattle.lsv_replay_args.specs.Request as requests
+use Rattle.lsv_search.specs.Grammar.{Expression, IsSearch}
+use Rattle.lsv_search.specs.Places.{IsFirstBad}
+use Rattle.lsv_replay.specs.Status.{of_listing, of_playing}
+use Rattle.lsv_replay.specs.declared.status.ReplayStatus.{ReplayStatus}
+use Rattle.lsv_replay.specs.declared.status.ReplayStatus.TheVariants.{Shown, Usage, BadExpression, Damaged, ReadFault, WriteFault, Absent, NoMem}
+
+-- ---- What is asked for
+
+-- the words are no command: one isn't UTF-8, or they are refused
+abbrev pub IsUsage : List (List ℕ) → Type 0
+IsUsage words = (list_all is_utf8 words ≡ false) ⊎ IsRefused words
+
+-- the words are a command, and ask for this
+pub record Asks (words : List (List ℕ)) (asked : Asked) : Type 0 where
+  pub text : IsTrue (list_all is_utf8 words)
+  pub taken : fault_of program words ≡ []
+  pub asks : requests.asked words ≡ Some asked
+
+-- ---- What is put
+
+-- a log is played in this manner: nothing of what has no number, and else what the log's playing puts
+abbrev pub PlaysNumber : Manner → Option ℕ → Image → ReplayStatus → List Item → Type 0
+PlaysNumber manner None image status put = (status ≡ Absent) × (put ≡ [])
+PlaysNumber manner (Some n) image status put = (o : Options) × (manner_in o ≡ manner)
+    × ((answer : Result (Unit {0}) PlayFault) × (status ≡ of_playing answer) × Plays o n image answer put)
+
+-- nothing is put where the words are no search
+pub record PutsNone (words : List (List ℕ)) (status : ReplayStatus) (put : List Item) : Type 0 where
+  pub at : ℕ
+  pub first_bad : IsFirstBad words at
+  pub status_is : status ≡ BadExpression at
+  pub put_is : put ≡ []
+
+-- the logs are listed that words search for
+pub record ListsSearched (words : List (List ℕ)) (image : Image) (status : ReplayStatus) (put : List Item) : Type 0 where
+  pub searched : Option Expression
+  pub search : IsSearch words searched
+  pub answer : Result (Unit {0}) ListFault
+  pub status_is : status ≡ of_listing answer
+  pub lists : Lists searched image answer put
+
+-- or nothing is put, out of memory or since the words are no search
+abbrev pub ListsWords : List (List ℕ) → Image → ReplayStatus → List Item → Type 0
+ListsWords words image status put = PutsNone words status put ⊎ ((status ≡ NoMem) × (put ≡ [])) ⊎ ListsSearched words image status put
+
+-- what is asked for is done
+abbrev pub Does : Asked → Image → ReplayStatus → List Item → Type 0
+Does (Play dir manner id) image status put = PlaysNumber manner (log_no_in id) image status put
+Does (Search dir words) image status put = ListsWords words image status put
+
+-- what a run puts: nothing where its words are no command, or out of memory, and else what it is asked for
+abbrev pub Answers : List (List ℕ) → Image → ReplayStatus → List Item → Type 0
+Answers words image status put =
+    (IsUsage words × (status ≡ Usage) × (put ≡ []))
+    ⊎ ((status ≡ NoMem) × (put ≡ []))
+    ⊎ ((asked : Asked) × Asks words asked × Does asked image status put)
+
+-- ---- What the words have to do with a status
+
+-- a search is asked for by words that are none, of which this is the first at fault
+pub record AsksBadly (words : List (List ℕ)) (at : ℕ) : Type 0 where
+  pub dir : List ℕ
+  pub search : List (List ℕ)
+  pub asks : Asks words (Search dir search)
+  pub first_bad : IsFirstBad search at
+
+-- a log is to be played
+pub record AsksToPlay (words : List (List ℕ)) : Type 0 where
+  pub dir : List ℕ
+  pub manner : Manner
+  pub id : List ℕ
+  pub asks : Asks words (Play dir manner id)
+
+-- what the words are at each status
+abbrev pub HasWords : List (List ℕ) → ReplayStatus → Type 0
+HasWords words Shown = (asked : Asked) × Asks words asked
+HasWords words Usage = IsUsage words
+HasWords words (BadExpression at) = AsksBadly words at
+HasWords words (Damaged part) = (asked : Asked) × Asks words asked
+HasWords words ReadFault = (asked : Asked) × Asks words asked
+HasWords words WriteFault = (asked : Asked) × Asks words asked
+HasWords words Absent = AsksToPlay words
+HasWords words NoMem = Unit {0}
+
+-- ---- What stays
+
+-- nothing is written: each file reads as before, a crash leaves of it what it left before, at each moment, and none was written or synced
+pub record IsOnlyRead (old new : DiskView) : Type 0 where
+  pub quiet : Quiet old new
+  pub each : (k : ℕ) (image : Image) → old.moment ≤ k → k ≤ new.moment → new.crash_images_at k image → IsCrashImage old image
+  pub counts : Uncounted old new

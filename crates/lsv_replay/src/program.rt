@@ -1,0 +1,142 @@
+//! The program behind its name.
+ghost use Rattle.std.specs.Prelude.{◌≡◌, ◌⊎◌, ◌++◌, List, Some, None, [], IsTrue, IfOk, Err};
+ghost use Rattle.std.specs.List.{list_all};
+ghost use Rattle.std.specs.Str.{is_utf8};
+ghost use Rattle.lsv_args.specs.declared.command.ArgFault.TheVariants as faults;
+ghost use Rattle.lsv_base.specs.LogNo.{log_no_in};
+ghost use Rattle.lsv_base.specs.Outside.{HasCause};
+ghost use Rattle.lsv_disk.specs.Throughout.{OnlyReads};
+ghost use Rattle.lsv_disk.specs.View.{HasOwnCause};
+ghost use Rattle.lsv_listing.specs.Numbers.{IsListed};
+ghost use Rattle.lsv_play.specs.declared.screen.Item.{Item};
+ghost use Rattle.lsv_replay_args.specs.Asked.{IsTextual, asked_in, manner_in, task_in};
+ghost use Rattle.lsv_replay_args.specs.Request.{Asked, dir_asked};
+ghost use Rattle.lsv_replay.specs.Replay.{Answers, Asks, Does, HasWords, IsOnlyRead, IsUsage, ListsWords, PlaysNumber};
+ghost use Rattle.lsv_replay.specs.Tasks.{IsOfList, IsOfPlay, IsOfTask};
+ghost use Rattle.lsv_replay.specs.declared.status.ReplayStatus.TheVariants as statuses;
+
+use crate::ReplayStatus;
+use lsv_base::{Bytes, List, LogNo};
+use lsv_disk::Disk;
+use lsv_listing::list_logs;
+use lsv_play::{Options, Screen};
+use lsv_playback::play_log;
+use lsv_replay_args::{ArgFault, Request, Task, read_request};
+use lsv_search::{ExprFault, read_expr};
+use std::alloc::Global;
+use std::str;
+
+/// `sudoreplay`, behind its name: it plays a log, or with `-l` lists the logs that are searched for. Nothing is written to
+/// the store.
+pub fn sudoreplay<D: Disk, S: Screen>(
+    alloc: Global,
+    words: &List<Bytes>,
+    disk: &mut D,
+    screen: &mut S,
+) -> ReplayStatus
+    ensures runs { D.tells → S.tells → (put : List Item) × (S.shown screen.new ≡ S.shown screen.old ++ put) × Answers words.now (D.view disk.old).reads result put }
+    ensures words { HasWords words.now result }
+    ensures reads { D.tells → IsOnlyRead (D.view disk.old) (D.view disk.new) }
+    ensures disk { HasOwnCause IsListed (result ≡ statuses.ReadFault) (D.view disk.old) (D.view disk.new) }
+    ensures screen { HasCause (result ≡ statuses.WriteFault) (S.faults screen.old) (S.faults screen.new) }
+    ensures places { D.tells → (asked : Asked) → Asks words.now asked → (result ≡ statuses.NoMem)
+        ⊎ ((D.view disk.new).places ≡ Some (record { logs = dir_asked asked; events = [] })) ⊎ ((D.view disk.new).places ≡ None) }
+{
+    let request = match request_of(alloc, words) {
+        Ok(request) => request,
+        Err(ArgFault::Usage) => return ReplayStatus::Usage,
+        Err(ArgFault::NoMem) => return ReplayStatus::NoMem,
+    };
+    disk.root(request.dir.as_str(), "");
+    do_task(alloc, &request.task, disk, screen)
+}
+
+/// What the words ask for. A word that isn't UTF-8 is no word of the program's.
+fn request_of(alloc: Global, words: &List<Bytes>) -> Result<Request, ArgFault>
+    ensures ok { IfOk result (λ r. Asks words.now (asked_in r)) }
+    ensures text { IfOk result (λ r. IsTextual r.task) }
+    ensures usage { result ≡ Err faults.Usage → IsUsage words.now }
+{
+    if !are_text(words.as_slice()) {
+        return Err(ArgFault::Usage);
+    }
+    read_request(alloc, words)
+}
+
+/// Whether each word is UTF-8.
+fn are_text(words: &[Bytes]) -> bool
+    ensures { result ≡ list_all is_utf8 words.now }
+{
+    words.iter().all(|word| is_text(word.as_slice()))
+}
+
+fn is_text(word: &[u8]) -> bool
+    ensures { result ≡ is_utf8 word.now }
+{
+    let Ok(_) = str::from_utf8(word) else {
+        return false;
+    };
+    true
+}
+
+/// Plays the log, or lists the logs.
+fn do_task<D: Disk, S: Screen>(
+    alloc: Global,
+    task: &Task,
+    disk: &mut D,
+    screen: &mut S,
+) -> ReplayStatus
+    requires text { IsTextual task.now }
+    ensures status { IsOfTask (task_in [] task.now) result }
+    ensures does { D.tells → S.tells → (put : List Item) × (S.shown screen.new ≡ S.shown screen.old ++ put) × Does (task_in [] task.now) (D.view disk.old).reads result put }
+    ensures reads { D.tells → OnlyReads (D.view disk.old) (D.view disk.new) }
+    ensures disk { HasOwnCause IsListed (result ≡ statuses.ReadFault) (D.view disk.old) (D.view disk.new) }
+    ensures screen { HasCause (result ≡ statuses.WriteFault) (S.faults screen.old) (S.faults screen.new) }
+{
+    match task {
+        Task::Play(options, id) => play(alloc, options, id, disk, screen),
+        Task::List(words) => list(alloc, words, disk, screen),
+    }
+}
+
+/// Plays the log with this identifier.
+fn play<D: Disk, S: Screen>(
+    alloc: Global,
+    options: &Options,
+    id: &Bytes,
+    disk: &mut D,
+    screen: &mut S,
+) -> ReplayStatus
+    ensures status { IsOfPlay result }
+    ensures plays { D.tells → S.tells → (put : List Item) × (S.shown screen.new ≡ S.shown screen.old ++ put) × PlaysNumber (manner_in options.now) (log_no_in id.now) (D.view disk.old).reads result put }
+    ensures reads { D.tells → OnlyReads (D.view disk.old) (D.view disk.new) }
+    ensures disk { HasOwnCause IsListed (result ≡ statuses.ReadFault) (D.view disk.old) (D.view disk.new) }
+    ensures screen { HasCause (result ≡ statuses.WriteFault) (S.faults screen.old) (S.faults screen.new) }
+{
+    let Some(number) = LogNo::read(id.as_slice()) else {
+        return ReplayStatus::Absent;
+    };
+    ReplayStatus::of_playing(play_log(alloc, disk, number, options, screen))
+}
+
+/// Lists the logs that these words search for.
+fn list<D: Disk, S: Screen>(
+    alloc: Global,
+    words: &List<Bytes>,
+    disk: &mut D,
+    screen: &mut S,
+) -> ReplayStatus
+    requires text { IsTrue (list_all is_utf8 words.now) }
+    ensures status { IsOfList words.now result }
+    ensures lists { D.tells → S.tells → (put : List Item) × (S.shown screen.new ≡ S.shown screen.old ++ put) × ListsWords words.now (D.view disk.old).reads result put }
+    ensures reads { D.tells → OnlyReads (D.view disk.old) (D.view disk.new) }
+    ensures disk { HasOwnCause IsListed (result ≡ statuses.ReadFault) (D.view disk.old) (D.view disk.new) }
+    ensures screen { HasCause (result ≡ statuses.WriteFault) (S.faults screen.old) (S.faults screen.new) }
+{
+    let e = match read_expr(alloc, words) {
+        Ok(e) => e,
+        Err(ExprFault::BadExpression(at)) => return ReplayStatus::BadExpression(at),
+        Err(ExprFault::NoMem) => return ReplayStatus::NoMem,
+    };
+    ReplayStatus::of_listing(list_logs(alloc, disk, &e, screen))
+}

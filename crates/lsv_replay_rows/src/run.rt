@@ -1,0 +1,80 @@
+//! Runs of the program, and what they put.
+
+use anyhow::{Result, anyhow};
+use lsv_base::{Bytes, List, NoMem};
+use lsv_disk::MemDisk;
+use lsv_play::{Item, MemScreen};
+use lsv_replay::{ReplayStatus, sudoreplay};
+use md5::{Digest, Md5};
+use std::alloc::Global;
+use std::str;
+
+/// The words of a line, between single spaces: none of an empty one. The word `~` stands for the byte FF.
+fn words_of(alloc: Global, line: &str) -> Result<List<Bytes>, NoMem> {
+    let mut words = Vec::new(alloc);
+    if line.is_empty() {
+        return Ok(List::from_vec(words));
+    }
+    for word in line.split(' ') {
+        let word = if word == "~" {
+            Bytes::of(alloc, b"\xFF")?
+        } else {
+            Bytes::of(alloc, word.as_bytes())?
+        };
+        words.push(word)?;
+    }
+    Ok(List::from_vec(words))
+}
+
+/// Runs the program on a screen of which this call fails.
+fn run(
+    alloc: Global,
+    disk: &mut MemDisk,
+    fail: u64,
+    line: &str,
+) -> Result<(MemScreen, ReplayStatus), NoMem> {
+    let words = words_of(alloc, line)?;
+    let mut screen = MemScreen::new(alloc, vec![in alloc; fail]?);
+    let status = sudoreplay(alloc, &words, disk, &mut screen);
+    Ok((screen, status))
+}
+
+/// Prints how a run ended.
+fn show_status(rt: &HostRuntime, status: ReplayStatus) -> Result<()> {
+    let text = status.text(rt.alloc())?;
+    let text = str::from_utf8(text.as_slice()).map_err(|_| anyhow!("no text"))?;
+    println!(rt; "status {} {text}", status.number())?;
+    Ok(())
+}
+
+/// Prints what a run shows, and how it ended.
+pub fn show(rt: &HostRuntime, disk: &mut MemDisk, fail: u64, line: &str) -> Result<()> {
+    let alloc = rt.alloc();
+    let (screen, status) = run(alloc, disk, fail, line)?;
+    for item in screen.items() {
+        match item {
+            Item::Wait(nanos) => println!(rt; "wait {nanos}")?,
+            Item::Put(bytes) => println!(rt; "put {}", hex::encode(alloc, bytes.as_slice())?)?,
+        }
+    }
+    show_status(rt, status)
+}
+
+/// Prints how many items a run shows, the MD5 digest of the bytes that it puts, and how it ended.
+pub fn sum(rt: &HostRuntime, disk: &mut MemDisk, fail: u64, line: &str) -> Result<()> {
+    let alloc = rt.alloc();
+    let (screen, status) = run(alloc, disk, fail, line)?;
+    let mut all = Bytes::new(alloc);
+    for item in screen.items() {
+        if let Item::Put(bytes) = item {
+            all.add(bytes.as_slice())?;
+        }
+    }
+    let digest = Md5::digest(all.as_slice());
+    println!(rt;
+        "items {} digest {}",
+        screen.items().len(),
+        hex::encode(alloc, digest.as_slice())?
+    )?;
+    show_status(rt, status)
+}
