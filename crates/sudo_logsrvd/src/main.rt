@@ -60,7 +60,6 @@ fn tell(rt: &HostRuntime, status: Status) {
         return;
     }
     let Ok(text) = status.text(rt.alloc()) else {
-        let _ = eprintln!(rt; "sudo_logsrvd: out of memory");
         return;
     };
     if let Ok(text) = str::from_utf8(text.as_slice()) {

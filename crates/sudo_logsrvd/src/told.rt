@@ -25,7 +25,7 @@ impl<T> ToldTexts<T> {
                     let line = note.line;
                     if let Ok(key) = str::from_utf8(note.key.as_slice()) {
                         let _ = eprintln!(self.rt;
-                            "sudo_logsrvd: {path}:{line}: {key} is passed over"
+                            "sudo_logsrvd: {path}:{line}: warning: {key} is passed over"
                         );
                     }
                 }
@@ -51,7 +51,7 @@ impl<T: Texts> Texts for ToldTexts<T> {
             Some(text) => self.tell(alloc, path, text.as_slice()),
             None => {
                 let _ = eprintln!(self.rt;
-                    "sudo_logsrvd: {path}: no such file, so the defaults count"
+                    "sudo_logsrvd: {path}: warning: no such file, so the defaults count"
                 );
             }
         }
