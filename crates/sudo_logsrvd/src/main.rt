@@ -44,7 +44,10 @@ fn run(rt: HostRuntime) -> Status {
         sink: StdSink::new(rt),
         disk: FileDisk::new(rt, "sudo_logsrvd"),
         clock: WallClock::new(rt),
-        texts: ToldTexts::new(rt, FileTexts::new(rt, "sudo_logsrvd")),
+        texts: ToldTexts {
+            rt,
+            files: FileTexts::new(rt, "sudo_logsrvd"),
+        },
     };
     let kept = Kept {
         sudo: Formatter::sudo(),

@@ -8,15 +8,11 @@ use std::alloc::Global;
 /// refused, by its path and the line.
 #[derive(Drop)]
 pub struct ToldTexts<T> {
-    rt: HostRuntime,
-    files: T,
+    pub rt: HostRuntime,
+    pub files: T,
 }
 
 impl<T> ToldTexts<T> {
-    pub fn new(rt: HostRuntime, files: T) -> Self {
-        ToldTexts { rt, files }
-    }
-
     /// Says what is passed over or refused of a text.
     fn tell(&self, alloc: Global, path: &str, text: &[u8]) {
         match read_conf(alloc, text) {
