@@ -1,5 +1,5 @@
 -- The listing of logs that the disk holds.
-use Rattle.std.proofs.Common.{◌≡◌, ◌∙◌, ◌++◌, ◌⊎◌, inl, inr, ℕ, suc, ◌≤◌, List, [], ◌∷◌, length, Option, Some, None, Ok, refl, sym, ap, subst, arith}
+use Rattle.std.proofs.Common.{◌≡◌, ◌∙◌, ◌++◌, ◌⊎◌, inl, inr, ℕ, suc, ◌≤◌, List, [], ◌∷◌, length, Option, Some, None, refl, sym, ap, subst, arith}
 use Rattle.std.proofs.Math.Nat.{eq-or-lt_of_le}
 use Rattle.std.specs.Option.{option_or}
 use Rattle.lsv_disk.specs.declared.file.Part.{Part}
@@ -11,7 +11,7 @@ use Rattle.lsv_play.proofs.Parts.{part_of_more}
 use Rattle.lsv_record.specs.Points.{Stored}
 use Rattle.lsv_search.specs.Grammar.{Expression}
 use Rattle.lsv_listing.specs.Held.{AreHeld, line_held, line_read, listing_held}
-use Rattle.lsv_listing.specs.Listing.{AreFound, Found, IsFound, ListsAll, ListsSome, There, damage_in, first_damage, line_if, listing}
+use Rattle.lsv_listing.specs.Listing.{AreFound, Found, IsFound, ListsAll, ListsSome, damage_in, first_damage, line_if, listing}
 use Rattle.lsv_listing.specs.Numbers.{last_number}
 use Rattle.lsv_listing.proofs.Stored.{absent_found, stored_found}
 
@@ -62,9 +62,9 @@ first_logs searched image [] [] put held are (inr less) part = part
 first_logs searched image [] (f ∷ found) put held are (inr less) part = absurd (omega arith)
 first_logs searched image (log ∷ logs) found put held are (inr less) part =
     elim (eq-or-lt_of_le less) [
-      inl same ↦ subst (λ (items : List Item). IsPart put items) (all_same searched image (log ∷ logs) found held are same).lines part
-    | inr lt ↦ let le : length found ≤ length logs = omega (arith, lt) in
-        part_of_more put (listing_held searched logs) (line_held searched (suc (length logs)) log) (first_logs searched image logs found put held.1 are (inr le) part)
+      | inl same ↦ subst (λ (items : List Item). IsPart put items) (all_same searched image (log ∷ logs) found held are same).lines part
+      | inr lt ↦ let le : length found ≤ length logs = omega (arith, lt) in
+          part_of_more put (listing_held searched logs) (line_held searched (suc (length logs)) log) (first_logs searched image logs found put held.1 are (inr le) part)
     ]
 
 pub held_part : (searched : Option Expression) (image : Image) (logs : List (Option Stored)) (put : List Item) → AreHeld image logs → last_number image ≡ Some (length logs)
