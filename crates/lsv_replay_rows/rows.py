@@ -153,7 +153,7 @@ title("searches")
 whole_session()
 case("run -l", put(line(1)), status(0))
 FOUND = [
-    "user ann command id", "user ann and command id", "host web1", "runas root", "group root", "cwd /home/ann", "tty pts/0", "tty /dev/pts/0", "command ^/usr/bin/id[ ]-u$",
+    "user ann command id", "user ann and command id", "host web1", "runas root", "group root", "cwd /home/ann", "tty pts/0", "tty /dev/pts/0", "command ^/usr/bin/id\\s-u$",
     "fromdate 2023-11-14T22:13:20Z", "todate 2023-11-14T22:13:20Z", "u ann", "co id", "( user ann )", "! user bob", "! ! user ann",
     "user ann or user bob and user bob", "user bob and user bob or user ann", "( user bob or user ann ) and user ann", "user and or user ann",
 ]

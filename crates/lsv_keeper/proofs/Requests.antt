@@ -1,20 +1,23 @@
 -- What is known of a request that its judgement lets through.
-use Rattle.std.proofs.Common.{◌≡◌, pos, refl, subst, Option, Some, None}
+use Rattle.std.proofs.Common.{◌≡◌, ◌∙◌, ℕ, ap, pos, refl, subst, Option, Some, None}
 use Rattle.std.specs.Prelude.{Bool, true, false, if◌then◌else◌, Result, Ok, Err, IsSome, is_some}
+use Rattle.lsv_base.specs.LogNo.{log_no_in}
 use Rattle.lsv_base.specs.Time.{nanos_of}
 use Rattle.lsv_base.specs.declared.time.TimeSpec.{TimeSpec}
 use Rattle.lsv_info.specs.declared.times.Exit.{Exit}
 use Rattle.lsv_msg.specs.declared.messages.ClientMessage.{ClientMessage}
 use Rattle.lsv_msg.specs.declared.messages.ClientMessage.TheVariants as client
 use Rattle.lsv_msg.specs.declared.messages.ExitMessage.{ExitMessage}
+use Rattle.lsv_msg.specs.declared.messages.RestartMessage.{RestartMessage}
 use Rattle.lsv_record.specs.Records.{IsValid}
 use Rattle.lsv_record.specs.declared.records.Record.{Record}
 use Rattle.lsv_record.specs.declared.records.Stream.TheVariants as stream
-use Rattle.lsv_request.specs.Requests.{accept_of, alert_of, and_then, data_of, exit_of, reject_of, request_of, restart_of, run_of, suspend_of, window_of}
+use Rattle.lsv_request.specs.Requests.{accept_of, alert_of, and_then, data_of, exit_of, nanos_in, reject_of, request_of, restart_at, restart_of, run_of, suspend_of, window_of}
 use Rattle.lsv_request.specs.declared.refusal.Refusal.{Refusal}
 use Rattle.lsv_request.specs.declared.refusal.Refusal.TheVariants.{BadTime}
 use Rattle.lsv_request.specs.declared.request.Request.{Request}
 use Rattle.lsv_request.specs.declared.request.Request.TheVariants as request
+use Rattle.lsv_request.specs.declared.request.Restart.{Restart}
 use Rattle.lsv_request.proofs.Meanings.{record_sized}
 use Rattle.lsv_session.specs.declared.connection.ConnState.{ConnState}
 use Rattle.lsv_session.specs.declared.connection.ConnState.TheVariants.{Fresh, Greeted, Alerted, Running, Dead}
@@ -25,6 +28,7 @@ use Rattle.lsv_machine.specs.Machine.{is_dead}
 use Rattle.lsv_machine.specs.Judgement.{judged}
 use Rattle.lsv_machine.proofs.JudgedLemmas.{judged_ok}
 use Rattle.lsv_keeper.specs.Logs.{IsWindowFit}
+use Rattle.lsv_keeper.specs.Syncs.{IsRestartOf}
 
 -- a record is valid
 pub valid_record : (s : ConnState) (m : ClientMessage) (r : Record) → IsWindowFit m → judged s m ≡ Ok (request.Record r) → IsValid r
@@ -85,6 +89,46 @@ asked_timed (client.Suspend m) exit e = absurd (never (suspend_of m) (λ r. requ
 -- the time of an exit is valid
 pub exit_timed : (s : ConnState) (m : ClientMessage) (exit : Exit) → judged s m ≡ Ok (request.Exit exit) → IsSome (nanos_of exit.run)
 exit_timed s m exit e = asked_timed m exit (judged_ok s m (request.Exit exit) e).0
+
+-- ---- The log of a restart
+
+one_restart : (a b : Restart) → done a ≡ done b → a ≡ b
+one_restart a b e = cc
+
+asked_restart : (a b : Restart) → done (request.Restart a) ≡ done (request.Restart b) → a ≡ b
+asked_restart a b e = cc
+
+point_log : (w : Result ℕ Refusal) (o : Option ℕ) (restart : Restart) → and_then w (λ point. restart_at o point) ≡ Ok restart → o ≡ Some restart.log
+point_log (Ok point) (Some log) restart e = ap (λ (x : Restart). Some x.log) (one_restart (record { log = log; point = point }) restart e)
+point_log (Ok point) None restart e = absurd (cc)
+point_log (Err why) o restart e = absurd (cc)
+
+restart_log : (m : RestartMessage) (restart : Restart) (w : Result Restart Refusal) → restart_of m ≡ w → and_then w (λ x. done (request.Restart x)) ≡ Ok (request.Restart restart) → log_no_in m.log_id ≡ Some restart.log
+restart_log m restart (Ok x) is e = point_log (nanos_in m.resume_point) (log_no_in m.log_id) restart (is ∙ ap (λ (y : Restart). done y) (asked_restart x restart e))
+restart_log m restart (Err why) is e = absurd (cc)
+
+no_restart : {A : Type 0} (w : Result A Refusal) (f : A → Request) (restart : Restart) → ((a : A) → done (f a) ≡ done (request.Restart restart) → ⊥) → and_then w (λ a. done (f a)) ≡ Ok (request.Restart restart) → ⊥
+no_restart (Ok a) f restart other e = other a e
+no_restart (Err why) f restart other e = cc
+
+asked_log : (m : ClientMessage) (restart : Restart) → request_of m ≡ Ok (request.Restart restart) → IsRestartOf m restart.log
+asked_log (client.Hello m) restart e = cc
+asked_log (client.Accept m) restart e = no_restart (accept_of m) (λ a. request.Accept a) restart (λ a f. cc) e
+asked_log (client.Reject m) restart e = no_restart (reject_of m) (λ a. request.Reject a) restart (λ a f. cc) e
+asked_log (client.Alert m) restart e = no_restart (alert_of m) (λ a. request.Alert a) restart (λ a f. cc) e
+asked_log (client.Restart m) restart e = restart_log m restart (restart_of m) refl e
+asked_log (client.Exit m) restart e = no_restart (exit_of m) (λ a. request.Exit a) restart (λ a f. cc) e
+asked_log (client.Ttyin m) restart e = no_restart (data_of stream.Ttyin m) (λ r. request.Record r) restart (λ a f. cc) e
+asked_log (client.Ttyout m) restart e = no_restart (data_of stream.Ttyout m) (λ r. request.Record r) restart (λ a f. cc) e
+asked_log (client.Stdin m) restart e = no_restart (data_of stream.Stdin m) (λ r. request.Record r) restart (λ a f. cc) e
+asked_log (client.Stdout m) restart e = no_restart (data_of stream.Stdout m) (λ r. request.Record r) restart (λ a f. cc) e
+asked_log (client.Stderr m) restart e = no_restart (data_of stream.Stderr m) (λ r. request.Record r) restart (λ a f. cc) e
+asked_log (client.Winsize m) restart e = no_restart (window_of m) (λ r. request.Record r) restart (λ a f. cc) e
+asked_log (client.Suspend m) restart e = no_restart (suspend_of m) (λ r. request.Record r) restart (λ a f. cc) e
+
+-- a restart is of the log that its message names
+pub restart_named : (s : ConnState) (m : ClientMessage) (restart : Restart) → judged s m ≡ Ok (request.Restart restart) → IsRestartOf m restart.log
+restart_named s m restart e = asked_log m restart (judged_ok s m (request.Restart restart) e).0
 
 -- ---- A connection that asks for something isn't dead
 

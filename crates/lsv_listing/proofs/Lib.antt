@@ -1,5 +1,6 @@
 pub mod Answers
 pub mod Drawing
 pub mod Heads
+pub mod Held
 pub mod Listed
 pub mod Stored

@@ -156,18 +156,15 @@ pub none_listed : {T : Type 0} (searched : Option Expression) (image : Image) (e
 none_listed {T} searched image e r same fault none = subst (λ (x : Result T ListFault). Lists searched image x []) (sym same) (at e fault none) where
   at : (e : ListFault) → IsNumbersFault e → ((e ≡ faults.Disk → ⊥) → last_number image ≡ None) → Lists {T = T} searched image (Err e) []
   at (faults.Damaged part) fault none = inr (record { none = none (λ is. cc); part_is = fault; put_is = refl })
-  at faults.Disk fault none = record { found = []; are = tt; within = λ last is. omega arith; part = tt }
+  at faults.Disk fault none = record { found = []; are = tt; within = inl refl; part = tt }
   at faults.Screen fault none = absurd fault
   at faults.NoMem fault none = absurd fault
-
-some_last : (a b : ℕ) → Some a ≡ Some b → a ≡ b
-some_last a b e = cc
 
 -- a first part is put of the listing
 pub some_listed : {T : Type 0} (searched : Option Expression) (image : Image) (last : ℕ) (e : ListFault) (r : Result T ListFault) (put : List Item) → r ≡ Err e → last_number image ≡ Some last → ListsTo searched image last (Err e) put → Lists searched image r put
 some_listed {T} searched image last e r put same is to = subst (λ (x : Result T ListFault). Lists searched image x put) (sym same) (at e to) where
   some : ListedPart searched image last put → ListsSome searched image put
-  some part = record { found = part.found; are = part.are; within = λ other at. let one : last ≡ other = some_last last other (sym is ∙ at) in omega (arith, part.count); part = part.part }
+  some part = record { found = part.found; are = part.are; within = inr (last, is, part.count); part = part.part }
 
   at : (e : ListFault) → ListsTo searched image last (Err e) put → Lists {T = T} searched image (Err e) put
   at (faults.Damaged part) to = absurd to

@@ -1,5 +1,5 @@
 -- A log that the disk holds is found as it is.
-use Rattle.std.proofs.Common.{◌≡◌, ◌∙◌, ◌++◌, ◌⊎◌, inl, inr, ℕ, ◌<◌, List, [], ◌∷◌, Option, Some, None, Ok, length, length-append, take, drop, refl, sym, ap, subst, slice_index, arith}
+use Rattle.std.proofs.Common.{◌≡◌, ◌∙◌, inl, inr, ℕ, List, [], ◌∷◌, Option, Some, None, Ok, length, length-append, take, drop, refl, sym, ap, subst, slice_index, arith}
 use Rattle.std.proofs.lemmas.List.{take-append-drop}
 use Rattle.lsv_disk.specs.declared.file.Owner.{Owner}
 use Rattle.lsv_disk.specs.declared.file.Part.{Part}
@@ -10,7 +10,7 @@ use Rattle.lsv_disk.specs.View.{Image}
 use Rattle.lsv_bundle.specs.declared.body.Body.{Body}
 use Rattle.lsv_bundle.specs.declared.shape.Shape.TheVariants as shapes
 use Rattle.lsv_bundle.specs.Body.{encoded, length_of}
-use Rattle.lsv_bundle.specs.Committed.{Committed, HasPrefix, HoldsEntry, IsDamaged, IsFirstShort, IsShort}
+use Rattle.lsv_bundle.specs.Committed.{HasPrefix, IsDamaged, IsFirstShort, IsShort}
 use Rattle.lsv_bundle.specs.Shape.{IsPart, index_of, parts_of}
 use Rattle.lsv_bundle.proofs.Laws.{one_body}
 use Rattle.lsv_info.specs.declared.times.Head.{Head}
@@ -53,7 +53,7 @@ module _ (n : ℕ) (image : Image) (log : Stored) (holds : HoldsLog n log image)
   not_damaged : (part : Part) → IsDamaged (owner_of n) shapes.Log image part → ⊥
   not_damaged part damaged =
       let body : damaged.body ≡ holds.entry.body =
-          one_body damaged.body holds.entry.body damaged.entry.is_body holds.holds.is_body (one_some _ (encoded damaged.body) (encoded holds.entry.body) damaged.entry.last holds.holds.last) in
+      one_body damaged.body holds.entry.body damaged.entry.is_body holds.holds.is_body (one_some _ (encoded damaged.body) (encoded holds.entry.body) damaged.entry.last holds.holds.last) in
       no_first (owner_of n) image holds.entry.body.lens (parts_of shapes.Log) part all_there
       (subst (λ (b : Body). IsFirstShort (owner_of n) image b.lens (parts_of shapes.Log) part) body damaged.first)
 
@@ -69,11 +69,11 @@ module _ (n : ℕ) (image : Image) (log : Stored) (holds : HoldsLog n log image)
   own_head : (body : Body) (head : Head) → IsOpened n body head image → head_of log.head ≡ Ok head
   own_head body head opened =
       let same : body ≡ holds.entry.body =
-          one_body body holds.entry.body opened.entry.is_body holds.holds.is_body (one_some _ (encoded body) (encoded holds.entry.body) opened.entry.last holds.holds.last) in
+      one_body body holds.entry.body opened.entry.is_body holds.holds.is_body (one_some _ (encoded body) (encoded holds.entry.body) opened.entry.last holds.holds.last) in
       let text : text_at n body image HeadPart ≡ holds.entry.bytes HeadPart =
-          prefix_same (text_at n body image HeadPart) (holds.entry.bytes HeadPart) (image (file_of (owner_of n) HeadPart))
-          (opened.long HeadPart tt ∙ ap (λ (b : Body). length_of b HeadPart) same ∙ sym (holds.holds.lengths HeadPart tt))
-          (taken_begins (image (file_of (owner_of n) HeadPart)) (length_of body HeadPart) (holds.entry.bytes HeadPart) (holds.holds.bytes HeadPart tt)) (holds.holds.bytes HeadPart tt) in
+      prefix_same (text_at n body image HeadPart) (holds.entry.bytes HeadPart) (image (file_of (owner_of n) HeadPart))
+      (opened.long HeadPart tt ∙ ap (λ (b : Body). length_of b HeadPart) same ∙ sym (holds.holds.lengths HeadPart tt))
+      (taken_begins (image (file_of (owner_of n) HeadPart)) (length_of body HeadPart) (holds.entry.bytes HeadPart) (holds.holds.bytes HeadPart tt)) (holds.holds.bytes HeadPart tt) in
       ap (λ (bytes : List ℕ). head_of bytes) (sym (text ∙ holds.is.head)) ∙ opened.head_is
 
 pub stored_found : (image : Image) (n : ℕ) (log : Stored) (found : Found) → Replays image n (Some log) → IsFound image n found → (head : Head) × (head_of log.head ≡ Ok head) × (found ≡ There head)

@@ -71,11 +71,11 @@ pub record ListsAll (searched : Option Expression) (image : Image) (put : List I
   pub put_is : put ≡ listing searched found
   pub damage_is : first_damage found ≡ damage
 
--- a first part is put
+-- a first part is put: nothing, or of logs up to the last number
 pub record ListsSome (searched : Option Expression) (image : Image) (put : List Item) : Type 0 where
   pub found : List Found
   pub are : AreFound image found
-  pub within : (last : ℕ) → last_number image ≡ Some last → length found ≤ last
+  pub within : (found ≡ []) ⊎ ((last : ℕ) × (last_number image ≡ Some last) × (length found ≤ last))
   pub part : IsPart put (listing searched found)
 
 -- nothing is put, since a number file is damaged

@@ -7,5 +7,5 @@ mod listing;
 mod numbers;
 
 pub use fault::ListFault;
-pub use laws::a_stored_log_is_found;
+pub use laws::{a_stored_log_is_found, stored_logs_are_listed};
 pub use listing::list_logs;

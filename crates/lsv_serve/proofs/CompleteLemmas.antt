@@ -386,7 +386,7 @@ module _ (kind : Kind) (log_exit : Bool) (texts : List (List ℕ)) (old new : Wo
       where
         go : (b : Bool) → was_shut reads ≡ b → AreFirst (bodies_in reads) bodies → bodies ≡ bodies_in reads
         go false e first =
-            let none : new.rest ≡ [] = runs.reads.ended refl e from_source u.few_reads in
+            let none : new.rest ≡ [] = runs.reads.ended refl e from_source u.few_bytes in
             let whole : old.rest ≡ concat runs.reads.pieces = rest_is ∙ (ap (λ (bytes : List ℕ). concat runs.reads.pieces ++ bytes) none ∙ append-nil (concat runs.reads.pieces)) in
             one_list (subst (λ (bytes : List ℕ). AreJobs bytes bodies) whole u.sent) got
         go true e ([], is) = is ∙ append-nil (bodies_in reads)

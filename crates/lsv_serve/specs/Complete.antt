@@ -50,11 +50,11 @@ pub record IsUnhindered (set : Settings) (old new : World) (status : Status) (ta
   pub own : (kept asked : ℕ) → IsStoreFault 0 1 old.disk.reads (faults.LanesDiffer kept asked) → ⊥
   -- no file, elapsed time or log number passes its limit
   pub fits : Fits set once_conn (last + 1) Fresh lines (came_in tape.reads) bodies
-  -- no read, no write and no call of the disk failed, and no count stands where it can't rise
+  -- no read, no write and no call of the disk failed, and the source gave fewer bytes than its count can tell
   pub no_read_failed : HasRisen old.read_faults new.read_faults → ⊥
   pub no_write_failed : HasRisen old.write_faults new.write_faults → ⊥
   pub no_call_failed : (file : FileId) → HasRisen (old.disk.faults file) (new.disk.faults file) → ⊥
-  pub few_reads : new.count < 2 ^ 63 - 1
+  pub few_bytes : new.count < 2 ^ 63 - 1
   -- memory was ample
   pub had_memory : status ≢ NoMem
   pub ample : AllAmple story.turns

@@ -11,7 +11,7 @@ pub record World : Type 1 where
   pub source_tells : Type 0
   pub sink_tells : Type 0
   pub disk_tells : Type 0
-  -- the pieces that the source gave, the bytes that it has still to give, how many it gave, and how often a read failed
+  -- the pieces that the source gave, the bytes that it has still to give, how many bytes it gave, and how often a read failed
   pub given : List (List ℕ)
   pub rest : List ℕ
   pub count : ℕ

@@ -109,7 +109,7 @@ fn options_of(alloc: Global, conf: Conf) -> Options
 }
 
 /// `sudo_logsrvd`, behind its name. The command `once` serves one connection, from the source to the sink, by the settings of
-/// its file; where there is no such file they are the defaults. Keys that the settings pass over are told nowhere.
+/// its file; where there is no such file they are the defaults. Keys that the settings pass over are not told by this call.
 pub fn logsrvd<
     S: Source,
     K: Sink,

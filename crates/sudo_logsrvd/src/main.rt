@@ -44,7 +44,10 @@ fn run(rt: HostRuntime) -> Status {
         sink: StdSink::new(rt),
         disk: FileDisk::new(rt, "sudo_logsrvd"),
         clock: WallClock::new(rt),
-        texts: ToldTexts::new(rt, FileTexts::new(rt, "sudo_logsrvd")),
+        texts: ToldTexts {
+            rt,
+            files: FileTexts::new(rt, "sudo_logsrvd"),
+        },
     };
     let kept = Kept {
         sudo: Formatter::sudo(),
@@ -60,7 +63,6 @@ fn tell(rt: &HostRuntime, status: Status) {
         return;
     }
     let Ok(text) = status.text(rt.alloc()) else {
-        let _ = eprintln!(rt; "sudo_logsrvd: out of memory");
         return;
     };
     if let Ok(text) = str::from_utf8(text.as_slice()) {

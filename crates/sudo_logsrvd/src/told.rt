@@ -8,15 +8,11 @@ use std::alloc::Global;
 /// refused, by its path and the line.
 #[derive(Drop)]
 pub struct ToldTexts<T> {
-    rt: HostRuntime,
-    files: T,
+    pub rt: HostRuntime,
+    pub files: T,
 }
 
 impl<T> ToldTexts<T> {
-    pub fn new(rt: HostRuntime, files: T) -> Self {
-        ToldTexts { rt, files }
-    }
-
     /// Says what is passed over or refused of a text.
     fn tell(&self, alloc: Global, path: &str, text: &[u8]) {
         match read_conf(alloc, text) {
@@ -25,7 +21,7 @@ impl<T> ToldTexts<T> {
                     let line = note.line;
                     if let Ok(key) = str::from_utf8(note.key.as_slice()) {
                         let _ = eprintln!(self.rt;
-                            "sudo_logsrvd: {path}:{line}: {key} is passed over"
+                            "sudo_logsrvd: {path}:{line}: warning: {key} is passed over"
                         );
                     }
                 }
@@ -51,7 +47,7 @@ impl<T: Texts> Texts for ToldTexts<T> {
             Some(text) => self.tell(alloc, path, text.as_slice()),
             None => {
                 let _ = eprintln!(self.rt;
-                    "sudo_logsrvd: {path}: no such file, so the defaults count"
+                    "sudo_logsrvd: {path}: warning: no such file, so the defaults count"
                 );
             }
         }

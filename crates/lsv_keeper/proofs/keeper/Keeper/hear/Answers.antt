@@ -1,4 +1,4 @@
-use Rattle.std.proofs.Common.{◌≡◌, ◌∙◌, Err, ap, sym}
+use Rattle.std.proofs.Common.{◌≡◌, ◌∙◌, Err, ap, sym, subst}
 use Rattle.std.specs.Prelude.{false, Ok, Result}
 use Rattle.lsv_msg.specs.declared.messages.ClientMessage.{ClientMessage}
 use Rattle.lsv_request.specs.declared.request.Request.{Request}
@@ -10,8 +10,9 @@ use Rattle.lsv_machine.specs.Machine.{is_dead}
 use Rattle.lsv_keeper.specs.Value.{settings_of}
 use Rattle.lsv_keeper.specs.Views.{view_of}
 use Rattle.lsv_keeper.specs.Syncing.{GoesOnWith}
-use Rattle.lsv_keeper.specs.Syncs.{Restarts}
+use Rattle.lsv_keeper.specs.Syncs.{IsRestartOf, Restarts}
 use Rattle.lsv_keeper.proofs.Judging.{judged_fair, message_refused}
+use Rattle.lsv_keeper.proofs.Requests.{restart_named}
 use Rattle.lsv_keeper.proofs.Syncing.{of_none, wider}
 use Rattle.lsv_keeper.proofs.keeper.Keeper.hear.Goals as goal
 
@@ -29,7 +30,8 @@ asked what = Ok what
 pub returns-in-Ok-clause-syncs : goal.returns-in-Ok-clause-syncs
 returns-in-Ok-clause-syncs g c told m at =
     wider (GoesOnWith c.in-Ok.request) (Restarts (bodies.Msg c.args.message)) (view_of c.args.self.now) (view_of c.work.new.self) (g.D.Disk.view c.args.disk.now) (g.D.Disk.view c.work.new.disk)
-    (λ n goes. (c.state.result, goes.0, ap (λ (x : ClientMessage). judged c.state.result x) (sym c.windowed-message.ensures.same) ∙ sym c.in-Ok.ensures ∙ ap (λ (x : Request). asked x) goes.1, goes.2)) (c.work.ensures.syncs told m at)
+    (λ n goes. subst (IsRestartOf c.args.message) (sym goes.2) (restart_named c.state.result c.args.message goes.0
+    (ap (λ (x : ClientMessage). judged c.state.result x) (sym c.windowed-message.ensures.same) ∙ sym c.in-Ok.ensures ∙ ap (λ (x : Request). asked x) goes.1))) (c.work.ensures.syncs told m at)
 
 pub returns-in-Err-clause-syncs : goal.returns-in-Err-clause-syncs
 returns-in-Err-clause-syncs g c told m at = of_none (Restarts (bodies.Msg c.args.message)) (view_of c.args.self.now) (view_of c.refuse.new.self) (g.D.Disk.view c.args.disk.now) (g.D.Disk.view c.refuse.new.disk) (c.refuse.ensures.syncs told m at)
