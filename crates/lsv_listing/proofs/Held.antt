@@ -69,4 +69,8 @@ first_logs searched image (log ∷ logs) found put held are (inr less) part =
 
 pub held_part : (searched : Option Expression) (image : Image) (logs : List (Option Stored)) (put : List Item) → AreHeld image logs → last_number image ≡ Some (length logs)
     → ListsSome searched image put → IsPart put (listing_held searched logs)
-held_part searched image logs put held last some = first_logs searched image logs some.found put held some.are (inr (some.within (length logs) last)) some.part
+held_part searched image logs put held last some = first_logs searched image logs some.found put held some.are (inr (few some.within)) some.part
+  where
+    few : (some.found ≡ []) ⊎ ((l : ℕ) × (last_number image ≡ Some l) × (length some.found ≤ l)) → length some.found ≤ length logs
+    few (inl none) = let e : length some.found ≡ 0 = ap length none in omega arith
+    few (inr (l, is, less)) = let e : l ≡ length logs = some_length l (length logs) (sym is ∙ last) in omega arith
