@@ -171,7 +171,9 @@ impl<'s> Table<'s> {
             reopenings,
             breaches,
         } = self.counts;
-        print!(rt; "{name}: {plays} plays, {images} images, {reopenings} openings that are cut off, ")?;
+        print!(rt;
+            "{name}: {plays} plays, {images} images, {reopenings} openings that are cut off, "
+        )?;
         match breaches {
             0 => println!(rt; "each before or after")?,
             breaches => println!(rt; "{breaches} breaches")?,
