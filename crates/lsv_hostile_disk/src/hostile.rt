@@ -109,6 +109,11 @@ impl Hostile {
         self.failed.contains(&f)
     }
 
+    /// Whether all the calls that have failed since were on files of logs.
+    pub fn has_failed_at_logs(&self) -> bool {
+        self.failed.iter().all(|f| matches!(f.owner, Owner::Log(_)))
+    }
+
     /// The bytes of a file.
     pub fn bytes(&self, f: FileId) -> Option<&[u8]> {
         self.disk.bytes(f)
