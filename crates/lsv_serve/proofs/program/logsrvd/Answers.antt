@@ -102,6 +102,8 @@ pub returns-in-Ok-conf_in-clause-complete : goal.returns-in-Ok-conf_in-clause-co
 returns-in-Ok-conf_in-clause-complete g c = λ is calm.
     let found : Option (List ℕ) = c.in-Ok-found_file.found in
     let old : World = world_of g.S.Source g.K.Sink g.D.Disk c.args.out.now.source c.args.out.now.sink c.args.out.now.disk in
-    let new : World = world_of g.S.Source g.K.Sink g.D.Disk c.run_once.new.out.source c.run_once.new.out.sink c.run_once.new.out.disk in
-    (found, λ told. c.in-Ok-found_file.ensures.ok told ∙ ap (g.T.Texts.texts c.args.out.now.texts) (sym c.in-Ok.ensures.file),
-      λ none. completes (set_by found).format (set_by found).log_exit (prompts_of (set_by found)) old new c.run_once.result c.run_once.ensures.not_usage c.run_once.ensures.cause)
+    let new : World = world_of g.S.Source g.K.Sink g.D.Disk c.run_once.new.out.source c.run_once.new.out.sink c.run_once.new.out.disk in (
+      found,
+      λ told. c.in-Ok-found_file.ensures.ok told ∙ ap (g.T.Texts.texts c.args.out.now.texts) (sym c.in-Ok.ensures.file),
+      λ none. completes (set_by found).format (set_by found).log_exit (prompts_of (set_by found)) old new c.run_once.result c.run_once.ensures.not_usage c.run_once.ensures.cause,
+    )
