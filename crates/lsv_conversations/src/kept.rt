@@ -4,10 +4,11 @@ ghost use Rattle.lsv_keeper.specs.Value.{IsResting};
 ghost use Rattle.lsv_keeper.specs.Views.{view_of};
 ghost use Rattle.std.specs.Prelude.{IfOk};
 
-use crate::show::log_lines;
+use crate::show::{ends_lines, line_lines, log_lines};
 use crate::unwatched::Unwatched;
 use anyhow::{Result, anyhow};
 use lsv_base::{Bytes, List, LogNo, TimeSpec};
+use lsv_disk::{FileId, Owner, Part};
 use lsv_hook::{Formatter, SudoLines};
 use lsv_iolog::{LogFault, LogView};
 use lsv_keeper::Keeper;
@@ -78,12 +79,34 @@ fn stored_lines(alloc: Global, disk: &mut Unwatched, number: LogNo) -> Result<St
     log_lines(alloc, number, &records, body.elapsed, body.extra, has_exit)
 }
 
-/// The lines of the logs up to a number.
-pub fn stored_logs(alloc: Global, disk: &mut Unwatched, most: u32) -> Result<String> {
+/// The files of a log's head and exit, where it is there.
+fn stored_ends(alloc: Global, disk: &Unwatched, number: LogNo) -> Result<String> {
+    let owner = Owner::Log(number.get());
+    let head = disk.bytes(FileId::new(owner, Part::Head)).unwrap_or(&[]);
+    let exit = disk.bytes(FileId::new(owner, Part::Exit)).unwrap_or(&[]);
+    ends_lines(alloc, head, exit)
+}
+
+/// The lines of the event log of a lane, as its file holds them.
+pub fn event_lines(alloc: Global, disk: &Unwatched, lane: u32) -> Result<String> {
+    let file = FileId::new(Owner::Events(lane), Part::Lines);
+    line_lines(alloc, disk.bytes(file).unwrap_or(&[]))
+}
+
+/// The lines of the logs up to a number; is_whole: with those of their heads and exits.
+pub fn stored_logs(
+    alloc: Global,
+    disk: &mut Unwatched,
+    most: u32,
+    is_whole: bool,
+) -> Result<String> {
     let mut lines = String::new(alloc);
     for n in 1..=most {
         let number = LogNo::new(n).ok_or(anyhow!("a number"))?;
         lines.push_str(stored_lines(alloc, disk, number)?.as_str())?;
+        if is_whole {
+            lines.push_str(stored_ends(alloc, disk, number)?.as_str())?;
+        }
     }
     Ok(lines)
 }

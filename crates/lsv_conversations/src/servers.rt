@@ -4,9 +4,9 @@ ghost use Rattle.std.specs.Prelude.{[], IfOk};
 ghost use Rattle.lsv_keeper.specs.Value.{IsResting};
 ghost use Rattle.lsv_keeper.specs.Views.{view_of};
 
-use crate::kept::{Kept, keeper_turn, open_keeper, stored_logs};
+use crate::kept::{Kept, event_lines, keeper_turn, open_keeper, stored_logs};
 use crate::lines::{conn_of, job_of, settings_of, texts_of};
-use crate::show::{log_lines, reply_lines};
+use crate::show::{ends_lines, log_lines, reply_lines};
 use crate::unwatched::Unwatched;
 use anyhow::Result;
 use lsv_base::{Bytes, LogNo, NoMem, TimeSpec};
@@ -19,7 +19,7 @@ use std::mem;
 /// Up to which number logs are looked for.
 const MOST_LOGS: u32 = 100;
 
-/// Event lines are no part of the conversations.
+/// The machine's event lines are no part of the conversations.
 struct NoLines;
 
 impl EventLines for NoLines {
@@ -46,8 +46,8 @@ fn print_both(rt: &HostRuntime, machine: &str, keeper: &str) -> Result<()> {
     Ok(())
 }
 
-/// The lines of the machine's logs.
-fn machine_logs(alloc: Global, model: &Model) -> Result<String> {
+/// The lines of the machine's logs; is_whole: with those of their heads and exits.
+fn machine_logs(alloc: Global, model: &Model, is_whole: bool) -> Result<String> {
     let mut lines = String::new(alloc);
     for log in model.logs() {
         let records = &log.records;
@@ -60,6 +60,13 @@ fn machine_logs(alloc: Global, model: &Model) -> Result<String> {
             log.exit.is_some(),
         )?;
         lines.push_str(text.as_str())?;
+        if is_whole {
+            let exit = match &log.exit {
+                Some(exit) => exit.as_slice(),
+                None => &[],
+            };
+            lines.push_str(ends_lines(alloc, log.head.as_slice(), exit)?.as_str())?;
+        }
     }
     Ok(lines)
 }
@@ -75,6 +82,7 @@ fn job_in(alloc: Global, line: &str) -> Result<Job> {
 pub struct Servers {
     settings: RunSettings,
     has_prompts: bool,
+    is_whole: bool,
     model: Model,
     disk: Unwatched,
     keeper: Kept,
@@ -88,13 +96,15 @@ impl Servers {
         ensures { IfOk result (λ s. IsResting (view_of s.keeper)) }
     {
         let settings = settings_of(heading)?;
-        let has_prompts = heading.ends_with("on");
+        let has_prompts = heading.contains("prompts on");
+        let is_whole = heading.ends_with("whole");
         let model = Model::new(alloc, texts_of(alloc, has_prompts)?);
         let mut disk = Unwatched::new(alloc)?;
         let keeper = open_keeper(alloc, &mut disk, settings, texts_of(alloc, has_prompts)?)?;
         Ok(Servers {
             settings,
             has_prompts,
+            is_whole,
             model,
             disk,
             keeper,
@@ -147,8 +157,13 @@ impl Servers {
         let alloc = rt.alloc();
         print_both(
             rt,
-            machine_logs(alloc, &self.model)?.as_str(),
-            stored_logs(alloc, &mut self.disk, MOST_LOGS)?.as_str(),
-        )
+            machine_logs(alloc, &self.model, self.is_whole)?.as_str(),
+            stored_logs(alloc, &mut self.disk, MOST_LOGS, self.is_whole)?.as_str(),
+        )?;
+        if self.is_whole {
+            let lines = event_lines(alloc, &self.disk, self.settings.lane)?;
+            print!(rt; "{lines}")?;
+        }
+        Ok(())
     }
 }

@@ -64,3 +64,21 @@ pub fn log_lines(
     add_text(alloc, &mut lines, "ttyout", &laid.ttyout)?;
     Ok(lines)
 }
+
+/// The lines of a log's head and exit.
+pub fn ends_lines(alloc: Global, head: &[u8], exit: &[u8]) -> Result<String> {
+    let mut lines = String::new(alloc);
+    add_text(alloc, &mut lines, "head", &Bytes::of(alloc, head)?)?;
+    add_text(alloc, &mut lines, "ending", &Bytes::of(alloc, exit)?)?;
+    Ok(lines)
+}
+
+/// The lines of an event log.
+pub fn line_lines(alloc: Global, text: &[u8]) -> Result<String> {
+    let text = str::from_utf8(text).map_err(|_| anyhow!("an event line"))?;
+    let mut lines = String::new(alloc);
+    for line in text.lines() {
+        lines.push_str(format!(in alloc; "line {line}\n")?.as_str())?;
+    }
+    Ok(lines)
+}

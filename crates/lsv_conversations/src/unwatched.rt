@@ -40,6 +40,11 @@ impl Unwatched {
         }
     }
 
+    /// The bytes of a file.
+    pub fn bytes(&self, f: FileId) -> Option<&[u8]> {
+        self.disk.bytes(f)
+    }
+
     /// A failure at a file is counted.
     fn counted<T: Drop>(&mut self, _f: FileId, answer: Result<T, DiskFault>) -> Result<T, DiskFault>
         ensures same { result ≡ answer }
