@@ -54,8 +54,7 @@ impl Folders {
         self.sync(folder)
     }
 
-    /// Makes a folder and those above it that are not there. The parent of each that was there is synced too, once,
-    /// since it may have been made by a program that was killed before it synced.
+    /// Makes a folder and those above it that are not there. Their names are on the disk once `sync_names` was called.
     pub fn make(&mut self, folder: &str) -> io::Result<()> {
         let mut made = String::new(self.alloc);
         for name in folder.split('/') {
@@ -69,30 +68,50 @@ impl Folders {
         Ok(())
     }
 
+    /// Makes a folder that isn't there, and none in a parent that may not be opened, and so not be synced.
     fn make_one(&mut self, folder: &str, parent: &str) -> io::Result<()> {
+        if fs::exists(&self.rt, folder)? {
+            return Ok(());
+        }
+        let _ = File::open(&self.rt, parent)?;
+        self.change(parent);
         match DirBuilder::new().mode(MODE).create(&self.rt, folder) {
-            Ok(()) => {
-                self.change(parent);
-                fs::set_permissions(&self.rt, folder, Permissions::from_mode(MODE))?;
-                self.sync(parent)
-            }
-            Err(e) if e.kind() == ErrorKind::AlreadyExists => self.sync_found(parent),
+            Ok(()) => fs::set_permissions(&self.rt, folder, Permissions::from_mode(MODE)),
+            // Another server, which wants the same store, was faster.
+            Err(e) if e.kind() == ErrorKind::AlreadyExists => Ok(()),
             Err(e) => Err(e),
         }
     }
 
-    /// Syncs the parent of a folder that was there. One that may not be opened is passed over: this program can't
-    /// have made a folder in it, since it would not have gone on without the sync.
-    fn sync_found(&mut self, parent: &str) -> io::Result<()> {
+    /// Waits until the names of a folder and of those above it are on the disk, also of those that were there, since
+    /// they may have been made by a program that was killed before it synced. Each parent is synced once.
+    pub fn sync_names(&mut self, folder: &str) -> io::Result<()> {
+        let mut path = String::new(self.alloc);
+        for name in folder.split('/') {
+            if !name.is_empty() {
+                self.sync_parent(parent_of(path.as_str()))?;
+                path.push_str(name)?;
+            }
+            path.push('/')?;
+        }
+        Ok(())
+    }
+
+    /// Syncs the parent of a folder that is there. One that may not be opened is passed over: this program made no
+    /// folder in it.
+    fn sync_parent(&mut self, parent: &str) -> io::Result<()> {
         match self.sync_once(parent) {
             Err(e) if e.kind() == ErrorKind::PermissionDenied => Ok(()),
-            Err(e) => Err(e),
-            Ok(()) => Ok(()),
+            answer => answer,
         }
     }
 }
 
-/// The folder that a path ends in a name of.
-fn parent_of(made: &str) -> &str {
-    if made.is_empty() { "." } else { made }
+/// The folder that a path ends in a name of, where the path before that name is this, with its slash.
+fn parent_of(above: &str) -> &str {
+    match above.strip_suffix('/') {
+        Some("") => "/",
+        Some(parent) => parent,
+        None => ".",
+    }
 }

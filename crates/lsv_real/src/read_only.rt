@@ -4,8 +4,8 @@ ghost use Rattle.lsv_words.specs.Causes.{HasRisen};
 ghost use Rattle.lsv_real.specs.Untold.{untold};
 
 use crate::call::Call;
+use crate::handle::read_from;
 use crate::path::Places;
-use crate::store::read_from;
 use lru::LruCache;
 use lsv_disk::{Disk, DiskFault, FileId, Owner, Part};
 use std::fs::{self, File, OpenOptions};

@@ -2,23 +2,28 @@
 ghost use Rattle.std.specs.Prelude.{◌≤◌, IfOk, length};
 
 use crate::folders::Folders;
+use crate::handle::Handle;
 use crate::limit::SizeLimit;
 use crate::path::{Place, Places};
 use crate::unsynced::Unsynced;
 use lru::LruCache;
 use lsv_disk::{FileId, Owner, Part};
 use std::alloc::{AllocError, Global};
+use std::collections::HashMap;
 use std::fs::{File, OpenOptions, Permissions, TryLockError};
 use std::io;
 use std::io::ErrorKind;
 use std::num::NonZeroUsize;
-use std::os::unix::fs::{FileExt, OpenOptionsExt, PermissionsExt};
+use std::os::unix::fs::{OpenOptionsExt, PermissionsExt};
 
 /// So many files are kept open: a log has nine, and a process has 1,024 descriptors by default.
 const MOST_OPEN: usize = 512;
 
 /// Whoever runs the server may read and write its files, and nobody else.
 const MODE: u32 = 0o600;
+
+/// The bits of a file's mode that tell who may do what.
+const ALL_BITS: u32 = 0o777;
 
 /// Why a store can't be used.
 #[derive(Drop)]
@@ -47,8 +52,9 @@ pub struct Store {
     alloc: Global,
     places: Places,
     folders: Folders,
-    handles: LruCache<FileId, File>,
-    unsynced: Unsynced,
+    handles: LruCache<FileId, Handle>,
+    /// What was written to files that are closed, and could not be synced.
+    left: HashMap<FileId, Unsynced>,
     limit: SizeLimit,
     _lock: File,
 }
@@ -60,6 +66,7 @@ impl Store {
         let places = Places::new(alloc, dir, events)?;
         let mut folders = Folders::new(rt);
         folders.make(dir)?;
+        folders.sync_names(dir)?;
         let lock = take_lock(&rt, alloc, dir)?;
         let Some(most) = NonZeroUsize::new(MOST_OPEN) else {
             return Err(StoreFault::Io(ErrorKind::InvalidInput.into()));
@@ -74,7 +81,7 @@ impl Store {
             places,
             folders,
             handles,
-            unsynced: Unsynced::new(alloc),
+            left: HashMap::new(alloc),
             limit: SizeLimit::now(),
             _lock: lock,
         })
@@ -95,6 +102,7 @@ impl Store {
 
     /// Makes empty files of one owner, which all stand in one folder, and waits until that folder is on the disk with
     /// them. A new file that is empty is there once its folder was synced after it was made, so none is synced itself.
+    /// All is made before the first sync, so that a file system with a journal takes it in one transaction.
     pub fn make_all(&mut self, owner: Owner, parts: &[Part]) -> io::Result<()> {
         let [first, ..] = parts else {
             return Ok(());
@@ -103,21 +111,33 @@ impl Store {
         self.folders.make(folder.as_str())?;
         self.folders.change(folder.as_str());
         for part in parts {
-            let f = FileId::new(owner, *part);
-            let place = self.place_of(f)?;
-            let file = make_file(&self.rt, place.path.as_str())?;
-            self.keep(f, file)?;
+            self.make_one(FileId::new(owner, *part))?;
         }
-        self.folders.sync(folder.as_str())
+        self.folders.sync(folder.as_str())?;
+        self.folders.sync_names(folder.as_str())?;
+        self.set_named(owner, parts);
+        Ok(())
+    }
+
+    fn make_one(&mut self, f: FileId) -> io::Result<()> {
+        let place = self.place_of(f)?;
+        let file = make_file(&self.rt, place.path.as_str())?;
+        self.keep(f, file)
+    }
+
+    /// The folder of these files was synced since they were made.
+    fn set_named(&mut self, owner: Owner, parts: &[Part]) {
+        for part in parts {
+            if let Some(handle) = self.handles.get_mut(&FileId::new(owner, *part)) {
+                handle.set_named();
+            }
+        }
     }
 
     /// How many bytes a file has, None where there is none.
     pub fn length(&mut self, f: FileId) -> io::Result<Option<u64>> {
-        if !self.is_open(f)? {
-            return Ok(None);
-        }
-        match self.handles.get(&f) {
-            Some(file) => Ok(Some(file.metadata()?.len())),
+        match self.handle(f)? {
+            Some(handle) => Ok(Some(handle.length()?)),
             None => Ok(None),
         }
     }
@@ -126,24 +146,17 @@ impl Store {
     pub fn read(&mut self, f: FileId, at: u64, buf: &mut [u8]) -> io::Result<usize>
         ensures { IfOk result (λ n. n ≤ length buf.old) }
     {
-        if !self.is_open(f)? {
-            return Ok(0);
-        }
-        match self.handles.get(&f) {
-            Some(file) => read_from(file, at, buf),
+        match self.handle(f)? {
+            Some(handle) => handle.read(at, buf),
             None => Ok(0),
         }
     }
 
     /// Writes, and remembers what is to be synced.
     pub fn write(&mut self, f: FileId, at: u64, bytes: &[u8]) -> io::Result<()> {
-        if !self.is_open(f)? {
-            return Err(ErrorKind::NotFound.into());
-        }
         self.limit.check(at, bytes.len())?;
-        self.unsynced.note(f, at, bytes.len())?;
-        match self.handles.get(&f) {
-            Some(file) => file.write_all_at(bytes, at),
+        match self.handle(f)? {
+            Some(handle) => handle.write(at, bytes),
             None => Err(ErrorKind::NotFound.into()),
         }
     }
@@ -151,22 +164,32 @@ impl Store {
     /// Waits until what was written is on the disk. A file that wasn't made in this run may have been made by a
     /// program that was killed, so its folder is synced with it, once.
     pub fn sync(&mut self, f: FileId) -> io::Result<()> {
-        if !self.is_open(f)? {
-            return Ok(());
+        match self.handle(f)? {
+            Some(handle) if handle.is_named() => return handle.sync(),
+            Some(_) => {}
+            None => return Ok(()),
         }
         let folder = self.place_of(f)?.folder;
         self.folders.sync_once(folder.as_str())?;
-        match self.handles.get(&f) {
-            Some(file) => self.unsynced.sync(f, file),
+        match self.handle(f)? {
+            Some(handle) => {
+                handle.set_named();
+                handle.sync()
+            }
             None => Err(ErrorKind::NotFound.into()),
         }
     }
 
-    /// Whether a file is open, and so is there.
-    fn is_open(&mut self, f: FileId) -> io::Result<bool> {
-        if self.handles.get(&f).is_some() {
-            return Ok(true);
+    /// A file, opened where it isn't. None where it is not there.
+    fn handle(&mut self, f: FileId) -> io::Result<Option<&mut Handle>> {
+        if !self.handles.contains(&f) && !self.open_file(f)? {
+            return Ok(None);
         }
+        Ok(self.handles.get_mut(&f))
+    }
+
+    /// Opens a file. False where it is not there.
+    fn open_file(&mut self, f: FileId) -> io::Result<bool> {
         let place = self.place_of(f)?;
         let opened = OpenOptions::new()
             .read(true)
@@ -182,17 +205,36 @@ impl Store {
         }
     }
 
-    /// Keeps a file open. The one that was not used for longest is closed where there are too many, and synced before
-    /// where something was written to it: a failure then is that file's, and told at its next sync.
+    /// Keeps a file open, in the place of the one that was not used for longest where there are too many.
     fn keep(&mut self, f: FileId, file: File) -> io::Result<()> {
         if self.handles.len() >= MOST_OPEN {
-            if let Some((oldest, file)) = self.handles.pop_lru() {
-                if self.unsynced.has(oldest) {
-                    let _ = self.unsynced.sync(oldest, &file);
-                }
-            }
+            self.close_oldest()?;
         }
-        match self.handles.put(f, file) {
+        let unsynced = match self.left.get(&f) {
+            Some(unsynced) => *unsynced,
+            None => Unsynced::new(),
+        };
+        match self.handles.put(f, Handle::new(file, unsynced)) {
+            Ok(_) => {
+                let _ = self.left.remove(&f);
+                Ok(())
+            }
+            Err(_) => Err(ErrorKind::OutOfMemory.into()),
+        }
+    }
+
+    /// Closes the file that was not used for longest, and syncs it before where something was written to it: a
+    /// failure then is that file's, and told at its next sync.
+    fn close_oldest(&mut self) -> io::Result<()> {
+        self.left.reserve(1)?;
+        let Some((oldest, handle)) = self.handles.pop_lru() else {
+            return Ok(());
+        };
+        let unsynced = handle.close();
+        if unsynced.is_empty() {
+            return Ok(());
+        }
+        match self.left.insert(oldest, unsynced) {
             Ok(_) => Ok(()),
             Err(_) => Err(ErrorKind::OutOfMemory.into()),
         }
@@ -223,21 +265,8 @@ fn make_file(rt: &HostRuntime, path: &str) -> io::Result<File> {
         .create_new(true)
         .mode(MODE)
         .open(rt, path)?;
-    file.set_permissions(Permissions::from_mode(MODE))?;
-    Ok(file)
-}
-
-/// Reads as many bytes as there are and as the buffer takes.
-pub fn read_from(file: &File, at: u64, buf: &mut [u8]) -> io::Result<usize>
-    ensures { IfOk result (λ n. n ≤ length buf.old) }
-{
-    let mut done = 0;
-    while done < buf.len() {
-        match file.read_at(&mut buf[done..], at.saturating_add(done as u64)) {
-            Ok(0) => return Ok(done),
-            Ok(n) => done += n,
-            Err(e) => return Err(e),
-        }
+    if file.metadata()?.permissions().mode() & ALL_BITS != MODE {
+        file.set_permissions(Permissions::from_mode(MODE))?;
     }
-    Ok(done)
+    Ok(file)
 }

@@ -2,12 +2,8 @@
 ghost use Rattle.std.specs.Prelude.{◌≤◌, IfOk, length};
 
 use crate::span::Span;
-use lsv_disk::FileId;
-use std::alloc::Global;
-use std::collections::HashMap;
 use std::fs::File;
 use std::io;
-use std::io::ErrorKind;
 use std::os::unix::fs::FileExt;
 
 /// So many bytes are written again at a time.
@@ -40,61 +36,46 @@ impl SyncedFile for File {
     }
 }
 
-/// Which bytes of which files were written since their last sync that succeeded.
-#[derive(Drop)]
+/// Which bytes of a file were written since its last sync that succeeded.
+#[derive(Clone, Copy)]
 pub struct Unsynced {
-    spans: HashMap<FileId, Span>,
+    span: Option<Span>,
 }
 
 impl Unsynced {
     /// Nothing was written.
-    pub fn new(alloc: Global) -> Self {
-        Unsynced {
-            spans: HashMap::new(alloc),
-        }
+    pub fn new() -> Self {
+        Unsynced { span: None }
     }
 
-    /// Whether something was written to a file and not synced.
-    pub fn has(&self, f: FileId) -> bool {
-        self.spans.get(&f).is_some()
+    /// Whether nothing was written since.
+    pub fn is_empty(&self) -> bool {
+        self.span.is_none()
     }
 
     /// Remembers the bytes that a write is about to touch.
-    pub fn note(&mut self, f: FileId, at: u64, count: usize) -> io::Result<()> {
-        self.remember(f, Span::of(at, count))
+    pub fn note(&mut self, at: u64, count: usize) {
+        let written = Span::of(at, count);
+        self.span = match self.span {
+            Some(before) => Some(before.with(written)),
+            None => Some(written),
+        };
     }
 
-    /// Syncs a file. After a sync that failed the system may have let the bytes go and say Ok to the next one, so
+    /// Syncs the file. After a sync that failed the system may have let the bytes go and say Ok to the next one, so
     /// they are read and written once more before it: the disk then takes them, or says why not.
-    pub fn sync<F: SyncedFile>(&mut self, f: FileId, file: &F) -> io::Result<()> {
-        let span = self.spans.get(&f).copied();
-        match (sync_again(file, span), span) {
-            (Ok(()), _) => {
-                let _ = self.spans.remove(&f);
+    pub fn sync<F: SyncedFile>(&mut self, file: &F) -> io::Result<()> {
+        match sync_again(file, self.span) {
+            Ok(()) => {
+                self.span = None;
                 Ok(())
             }
-            (Err(e), Some(span)) => {
-                self.remember(
-                    f,
-                    Span {
-                        failed: true,
-                        ..span
-                    },
-                )?;
+            Err(e) => {
+                if let Some(span) = &mut self.span {
+                    span.failed = true;
+                }
                 Err(e)
             }
-            (Err(e), None) => Err(e),
-        }
-    }
-
-    fn remember(&mut self, f: FileId, span: Span) -> io::Result<()> {
-        let span = match self.spans.get(&f) {
-            Some(before) => before.with(span),
-            None => span,
-        };
-        match self.spans.insert(f, span) {
-            Ok(_) => Ok(()),
-            Err(_) => Err(ErrorKind::OutOfMemory.into()),
         }
     }
 }

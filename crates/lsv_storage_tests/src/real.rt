@@ -168,32 +168,32 @@ impl SyncedFile for Failing {
 }
 
 /// Whether three syncs in a row succeed of which the first ones fail, how many bytes were written again after each,
-/// and whether something is unsynced at last.
-fn syncs(rt: &HostRuntime, fails: u32) -> Result<([(bool, usize); 3], bool), Fail> {
+/// and whether nothing is unsynced at last.
+fn syncs(fails: u32) -> ([(bool, usize); 3], bool) {
     let file = Failing {
         fails: Cell::new(fails),
         written: Cell::new(0),
     };
-    let mut unsynced = Unsynced::new(rt.alloc());
-    unsynced.note(OUTPUT, 1, 2)?;
-    unsynced.note(OUTPUT, 4, 9)?;
+    let mut unsynced = Unsynced::new();
+    unsynced.note(1, 2);
+    unsynced.note(4, 9);
     let mut seen = [(false, 0); 3];
     for told in &mut seen {
-        let synced = unsynced.sync(OUTPUT, &file).is_ok();
+        let synced = unsynced.sync(&file).is_ok();
         *told = (synced, file.written.get());
     }
-    Ok((seen, unsynced.has(OUTPUT)))
+    (seen, unsynced.is_empty())
 }
 
 #[test]
 fn bytes_whose_sync_failed_are_written_again(rt: HostRuntime) -> Result<(), Fail> {
     for (fails, want) in [
-        (0, ([(true, 0), (true, 0), (true, 0)], false)),
-        (1, ([(false, 0), (true, 5), (true, 5)], false)),
-        (2, ([(false, 0), (false, 5), (true, 10)], false)),
-        (3, ([(false, 0), (false, 5), (false, 10)], true)),
+        (0, ([(true, 0), (true, 0), (true, 0)], true)),
+        (1, ([(false, 0), (true, 5), (true, 5)], true)),
+        (2, ([(false, 0), (false, 5), (true, 10)], true)),
+        (3, ([(false, 0), (false, 5), (false, 10)], false)),
     ] {
-        assert_eq!(rt; syncs(&rt, fails)?, want, "{fails} faults");
+        assert_eq!(rt; syncs(fails), want, "{fails} faults");
     }
     Ok(())
 }

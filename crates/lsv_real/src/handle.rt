@@ -1,0 +1,83 @@
+// A file of the store that is kept open, and what of it may not be on the disk yet.
+ghost use Rattle.std.specs.Prelude.{◌≤◌, IfOk, length};
+
+use crate::unsynced::Unsynced;
+use std::fs::File;
+use std::io;
+use std::os::unix::fs::FileExt;
+
+/// A file that is kept open.
+#[derive(Drop)]
+pub struct Handle {
+    file: File,
+    unsynced: Unsynced,
+    /// Its folder was synced in this run, with its name in it.
+    is_named: bool,
+}
+
+impl Handle {
+    /// A file with what was written to it and not synced, before it was closed.
+    pub fn new(file: File, unsynced: Unsynced) -> Self {
+        Handle {
+            file,
+            unsynced,
+            is_named: false,
+        }
+    }
+
+    /// Whether its folder was synced in this run.
+    pub fn is_named(&self) -> bool {
+        self.is_named
+    }
+
+    /// Its folder was synced.
+    pub fn set_named(&mut self) {
+        self.is_named = true;
+    }
+
+    /// How many bytes it has.
+    pub fn length(&self) -> io::Result<u64> {
+        Ok(self.file.metadata()?.len())
+    }
+
+    /// Reads as many bytes as there are and as the buffer takes.
+    pub fn read(&self, at: u64, buf: &mut [u8]) -> io::Result<usize>
+        ensures { IfOk result (λ n. n ≤ length buf.old) }
+    {
+        read_from(&self.file, at, buf)
+    }
+
+    /// Writes, and remembers what is to be synced.
+    pub fn write(&mut self, at: u64, bytes: &[u8]) -> io::Result<()> {
+        self.unsynced.note(at, bytes.len());
+        self.file.write_all_at(bytes, at)
+    }
+
+    /// Waits until what was written is on the disk.
+    pub fn sync(&mut self) -> io::Result<()> {
+        self.unsynced.sync(&self.file)
+    }
+
+    /// Syncs it before it is closed, where something was written. It gives what a failed sync leaves.
+    pub fn close(mut self) -> Unsynced {
+        if !self.unsynced.is_empty() {
+            let _ = self.sync();
+        }
+        self.unsynced
+    }
+}
+
+/// Reads as many bytes as there are and as the buffer takes.
+pub fn read_from(file: &File, at: u64, buf: &mut [u8]) -> io::Result<usize>
+    ensures { IfOk result (λ n. n ≤ length buf.old) }
+{
+    let mut done = 0;
+    while done < buf.len() {
+        match file.read_at(&mut buf[done..], at.saturating_add(done as u64)) {
+            Ok(0) => return Ok(done),
+            Ok(n) => done += n,
+            Err(e) => return Err(e),
+        }
+    }
+    Ok(done)
+}
