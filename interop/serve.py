@@ -421,9 +421,11 @@ def part_sudo_subcommands(trial):
 
 
 def part_sudo_recorded(trial):
-    """A session that sudo itself recorded, sent by sudo_sendlog."""
+    """A session that sudo itself recorded, sent by sudo_sendlog. It has no run time, so sudo's own server refuses it."""
+    if trial.kind == "sudo":
+        return
     kept = os.path.join(trial.work, "kept")
-    trial.sudo.run("/bin/sh", "-c", "echo ready; read line; seq 1 500", terminal=True, given=b"x\n", server=False, defaults=["use_pty", f"iolog_dir={kept}", "iolog_file=one"])
+    trial.sudo.run("/bin/sh", "-c", "echo ready; read line; seq 1 500", terminal=True, given=b"x\n", server=False, defaults=["use_pty", "!compress_io", f"iolog_dir={kept}", "iolog_file=one"])
     folder = os.path.join(kept, "one")
     _, records, whole = peer.read_session(folder)
     same("recorded", (whole, len(records) > 2), (True, True))

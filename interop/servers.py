@@ -84,11 +84,16 @@ class Serve:
         self.port = place.port
         self.process = None
 
-    def start(self, seconds=20):
+    def spawn(self):
+        """Starts it, and doesn't wait. Gives how much was said before."""
         told = os.path.getsize(self.place.errors) if os.path.exists(self.place.errors) else 0
         with open(self.place.errors, "ab") as errors:
             words = [self.program, *self.words, self.place.conf, *self.further]
             self.process = subprocess.Popen(words, stdin=subprocess.DEVNULL, stdout=subprocess.DEVNULL, stderr=errors)
+        return told
+
+    def start(self, seconds=20):
+        told = self.spawn()
         end = time.monotonic() + seconds
         while not self.listens(told):
             if self.process.poll() is not None or time.monotonic() > end:
@@ -104,7 +109,9 @@ class Serve:
         return client.connect(self.port, timeout)
 
     def kill(self):
-        """Ends it as a power cut would, but for the bytes that the system has."""
+        """Ends it at once."""
+        if self.process.poll() is not None:
+            raise Failed(f"{self.program} has ended by itself: status {self.process.returncode}: {self.place.said()[-500:]}")
         self.process.send_signal(signal.SIGKILL)
         self.process.wait()
 
@@ -140,9 +147,10 @@ class Once:
 
     def __init__(self, program, place, further=()):
         self.program, self.place, self.further = program, place, further
-        self.process = None
+        self.process, self.up, self.lock = None, False, threading.Lock()
 
     def start(self):
+        self.up = True
         return self
 
     def spawn(self, link):
@@ -154,7 +162,10 @@ class Once:
     def connect(self, timeout=30):
         self.end()
         ours, theirs = socket.socketpair()
-        with theirs:
+        with self.lock, theirs:
+            if not self.up:
+                ours.close()
+                raise ConnectionRefusedError("no server runs")
             self.process = self.spawn(theirs)
         return client.Connection(ours, timeout)
 
@@ -164,9 +175,11 @@ class Once:
             raise Failed(f"{self.program} once: status {self.process.returncode}: {self.place.said()[-500:]}")
 
     def kill(self):
-        if self.process:
-            self.process.send_signal(signal.SIGKILL)
-            self.process.wait()
+        with self.lock:
+            self.up = False
+            if self.process:
+                self.process.send_signal(signal.SIGKILL)
+                self.process.wait()
 
     def stop(self):
         self.end()
