@@ -128,7 +128,7 @@ class Drill:
         kind = servers.Once if args.kind == "once" else servers.Serve
         self.server = kind(os.path.realpath(args.server), self.place, ["--fault", args.fault] if args.fault else [])
         self.clients = 1 if self.server.is_alone() else args.clients
-        self.lock, self.wrong = threading.Lock(), []
+        self.lock, self.greeted, self.wrong = threading.Lock(), threading.Event(), []
         self.sessions, self.open, self.exits = {}, [], {}
         self.before, self.dead = 0, False
         self.count = dict.fromkeys(("logs", "records", "commit points", "exits", "resumed", "cut off", "complete already", "refusals"), 0)
@@ -142,6 +142,7 @@ class Drill:
         name, told = link.read()
         if name != "hello":
             raise Wrong(f"{name} {told} for a hello")
+        self.greeted.set()
         return link
 
     def new_session(self, link, rng):
@@ -321,9 +322,12 @@ class Drill:
             self.server.kill()
         self.server.start()
         self.dead = False
+        self.greeted.clear()
         threads = [threading.Thread(target=self.run_client, args=(random.Random(self.rng.random()),)) for _ in range(self.clients)]
         for thread in threads:
             thread.start()
+        if self.rng.random() < 0.9:
+            self.greeted.wait(20)
         time.sleep(seconds)
         self.dead = True
         self.server.kill()

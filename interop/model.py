@@ -1,7 +1,7 @@
 #!/usr/bin/env python3
 """A small log server by docs/ alone, with which the scripts of this folder are tried: `once` and `serve` on one thread.
 
-usage: model.py once|serve -f CONF [--fault NAME]
+usage: model.py once|serve -f CONF [--stop-after N] [--fault NAME]
 
 It syncs nothing, so it promises nothing over a power cut. A fault makes it wrong in a way that the drill must find:
     early   commit points are told a turn before their records are written
@@ -10,6 +10,7 @@ It syncs nothing, so it promises nothing over a power cut. A fault makes it wron
     longer  a restart keeps all records at its point, and not the first alone
     silent  event lines are written a turn late
 """
+import fcntl
 import json
 import os
 import selectors
@@ -22,6 +23,9 @@ import store
 
 SECOND = 10**9
 KEYS = ("command", "runuser", "submituser", "submithost")
+
+
+LARGEST = 2_097_152
 
 
 class Refused(Exception):
@@ -75,8 +79,8 @@ class OpenLog:
         # written whole each time, but for what stands there already
         for file, text in zip(self.files, texts):
             length = os.fstat(file).st_size
-            if os.pread(file, length, 0)[:len(text)] != text:
-                os.pwrite(file, text, 0)
+            if os.pread(file, length, 0)[:len(text)] != text and os.pwrite(file, text, 0) < len(text):
+                raise OSError("a part alone was written")
         elapsed = sum(r[0] for r in self.records)
         numbers = [len(self.records), elapsed] + [len(text) for text in texts] + [self.cuts]
         self.journal.append(bytes([kind]) + b"".join(n.to_bytes(8, "big") for n in numbers))
@@ -91,6 +95,24 @@ def timing_line(record):
     else:
         number, tail = (5, f"{rest[0]} {rest[1]}") if event == "winsize" else (7, rest[0])
     return f"{number} {delay // SECOND}.{delay % SECOND:09} {tail}\n".encode()
+
+
+def is_time(name, at):
+    """Whether the time of a message is there and valid. An exit needs none, and a hello has none."""
+    if name == "hello" or (name == "exit" and at is None):
+        return True
+    if at is None:
+        return False
+    found = client.fields(at)
+    seconds, nanoseconds = client.signed(client.one(found, 1, 0)), client.signed(client.one(found, 2, 0), 32)
+    return seconds >= 0 and 0 <= nanoseconds < SECOND and seconds * SECOND + nanoseconds < 2**63
+
+
+def is_record(name, told):
+    """Whether a window's size and a signal are such."""
+    if name == "winsize":
+        return told[2] >= 0 and told[3] >= 0
+    return name != "suspend" or store.SIGNAL.fullmatch(told[2].encode()) is not None
 
 
 class Settings:
@@ -144,7 +166,7 @@ class Server:
         if self.fault == "silent":
             self.late, self.new = self.new, self.late
         self.flush_events()
-        for digits in sorted(self.owned):
+        for digits in sorted(self.owned):  # a session that ends leaves its place
             session, log = self.owned[digits]
             if not log.staged:
                 continue
@@ -152,7 +174,13 @@ class Server:
                 session.say(2, client.timespec(sum(r[0] for r in log.records)))
                 if len(log.records) % 5:
                     continue
-            point = log.flush(1, None)
+            try:
+                point = log.flush(1, None)
+            except OSError:
+                log.staged = False
+                session.say(4, b"device fault")
+                session.release()
+                continue
             if self.fault != "early":
                 session.say(2, client.timespec(point))
 
@@ -167,6 +195,7 @@ class Session:
         self.out.append(client.frame(client.field(1, client.field(1, "lsv 1") + client.scalar(4, 1))))
 
     def say(self, number, body):
+        body = body.encode() if isinstance(body, str) else body
         self.out.append(client.frame(client.field(number, body)))
 
     def release(self):
@@ -181,27 +210,47 @@ class Session:
 
     def feed(self, piece):
         for message in self.frames.feed(piece):
-            if self.over:
-                return
-            try:
-                self.turn(*self.read(message))
-            except Refused as error:
-                self.say(4, str(error))
-                self.release()
+            self.take(lambda: self.turn(*self.read(message)))
+        if int.from_bytes(self.frames.rest[:4].ljust(4, b"\0"), "big") > LARGEST:
+            self.take(self.too_large)
+
+    def too_large(self):
+        raise Refused("message too large")
+
+    def take(self, work):
+        if self.over:
+            return
+        try:
+            work()
+        except Refused as error:
+            self.say(4, str(error))
+            self.release()
 
     def read(self, message):
+        """A message, and what is wrong with its time, its size or its signal."""
         try:
-            return client.read_client(message)
+            (number, body), = client.fields(message)
+            name, found = client.CLIENT[number], client.fields(body)
+            again = {"accept": 2, "reject": 3, "alert": 3}.get(name)
+            single = [number for number, _ in found if number != again]
+            if len(set(single)) < len(single):
+                raise client.Malformed("a field comes twice")
+            told = client.read_client(message)[1]
         except (client.Malformed, ValueError, KeyError, TypeError) as fault:
             raise Refused("malformed message") from fault
+        at = client.one(found, 2 if name == "restart" else 1, None)
+        bad = "bad time" if not is_time(name, at) else "bad size or signal" if not is_record(name, told) else None
+        return name, told, bad
 
-    def turn(self, name, told):
+    def turn(self, name, told, bad):
         wanted = {"hello": ["fresh"], "restart": ["fresh", "greeted"], "exit": ["running", "logging"]}
         usual = ["logging"] if name in client.STREAMS + ("winsize", "suspend") else ["fresh", "greeted", "alerted", "running", "logging"]
         if name in ("reject",):
             usual = ["fresh", "greeted", "alerted"]
         if self.state not in wanted.get(name, usual):
             raise Refused("unexpected message")
+        if bad:
+            raise Refused(bad)
         if name in ("accept", "reject", "alert", "hello", "restart", "exit"):
             getattr(self, "on_" + name)(told)
         else:
@@ -274,26 +323,38 @@ class Session:
         self.release()
 
 
-def once(server):
+def once(server, _):
+    """Gives the exit status: 0, or 6 where the answers couldn't be put."""
     session, link = Session(server, "0.1"), socket.socket(fileno=os.dup(0))
+    status = 0
     while True:
-        link.sendall(b"".join(session.out))
-        session.out = []
-        piece = b"" if session.over else link.recv(65536)
+        try:
+            link.sendall(b"".join(session.out))
+            session.out = []
+            piece = b"" if session.over else link.recv(65536)
+        except ConnectionError:
+            piece, status = b"", 6
         session.feed(piece)
         if not piece:
             session.release()
             server.tail()
-            return
+            return status
         server.tail()
 
 
-def serve(server):
+def tell(text):
+    try:
+        os.write(2, f"model: {text}\n".encode())
+    except OSError:
+        pass
+
+
+def serve(server, stop_after):
     listener = socket.create_server(("127.0.0.1", server.settings.port), backlog=128)
     poll, count = selectors.DefaultSelector(), 0
     poll.register(listener, selectors.EVENT_READ, None)
-    print(f"model: 127.0.0.1:{server.settings.port}, {server.settings.folder}, last number {server.last}", file=sys.stderr, flush=True)
-    while True:
+    tell(f"127.0.0.1:{server.settings.port}, {server.settings.folder}, last number {server.last}")
+    while count < stop_after or len(poll.get_map()) > 1:
         busy = []
         for key, _ in poll.select(0.01):
             if key.data is None:
@@ -329,10 +390,27 @@ def answer(poll, link, session):
         link.close()
 
 
+def locked(folder):
+    """Whether this is the only server on the store. The lock goes with the process."""
+    os.makedirs(folder, exist_ok=True)
+    try:
+        fcntl.flock(os.open(os.path.join(folder, "lock"), os.O_RDWR | os.O_CREAT, 0o600), fcntl.LOCK_EX | fcntl.LOCK_NB)
+        return True
+    except OSError:
+        return False
+
+
 def main():
+    while os.open("/dev/null", os.O_RDWR) < 3:
+        pass
     words = sys.argv[1:]
-    server = Server(Settings(words[words.index("-f") + 1]), words[words.index("--fault") + 1] if "--fault" in words else None)
-    (once if words[0] == "once" else serve)(server)
+    value = {word: words[at + 1] for at, word in enumerate(words[:-1])}
+    settings = Settings(value["-f"])
+    if not locked(settings.folder):
+        tell("another server uses this store")
+        sys.exit(4)
+    server = Server(settings, value.get("--fault"))
+    sys.exit((once if words[0] == "once" else serve)(server, int(value.get("--stop-after", 2**63))))
 
 
 if __name__ == "__main__":

@@ -83,13 +83,15 @@ class Serve:
         self.program, self.place, self.further = program, place, further
         self.port = place.port
         self.process = None
+        # what the process does before it becomes the server; whether it is asked by a connection if it listens
+        self.before, self.probe = None, False
 
     def spawn(self):
         """Starts it, and doesn't wait. Gives how much was said before."""
         told = os.path.getsize(self.place.errors) if os.path.exists(self.place.errors) else 0
         with open(self.place.errors, "ab") as errors:
             words = [self.program, *self.words, self.place.conf, *self.further]
-            self.process = subprocess.Popen(words, stdin=subprocess.DEVNULL, stdout=subprocess.DEVNULL, stderr=errors)
+            self.process = subprocess.Popen(words, stdin=subprocess.DEVNULL, stdout=subprocess.DEVNULL, stderr=errors, preexec_fn=self.before)
         return told
 
     def start(self, seconds=20):
@@ -103,7 +105,13 @@ class Serve:
 
     def listens(self, told):
         """The server says its address in a line, once it listens."""
-        return f":{self.port}" in self.place.said()[told:]
+        if not self.probe:
+            return f":{self.port}" in self.place.said()[told:]
+        try:
+            socket.create_connection(("127.0.0.1", self.port), timeout=1).close()
+            return True
+        except OSError:
+            return False
 
     def connect(self, timeout=30):
         return client.connect(self.port, timeout)
@@ -122,6 +130,10 @@ class Serve:
         self.process.returncode = 0
         return usage.ru_utime + usage.ru_stime
 
+    def has_ended(self):
+        """Whether it ended by itself."""
+        return self.process.poll() is not None
+
     def is_alone(self):
         return False
 
@@ -132,12 +144,9 @@ class Sudo(Serve):
     words = ("-n", "-f")
     name = "sudo"
 
-    def listens(self, told):
-        try:
-            socket.create_connection(("127.0.0.1", self.port), timeout=1).close()
-            return True
-        except OSError:
-            return False
+    def __init__(self, program, place, further=()):
+        super().__init__(program, place, further)
+        self.probe = True
 
 
 class Once:
@@ -148,6 +157,7 @@ class Once:
     def __init__(self, program, place, further=()):
         self.program, self.place, self.further = program, place, further
         self.process, self.up, self.lock = None, False, threading.Lock()
+        self.before, self.probe = None, False
 
     def start(self):
         self.up = True
@@ -157,7 +167,7 @@ class Once:
         """The process that serves this end of a connection."""
         with open(self.place.errors, "ab") as errors:
             words = [self.program, "once", "-f", self.place.conf, *self.further]
-            return subprocess.Popen(words, stdin=link.fileno(), stdout=link.fileno(), stderr=errors)
+            return subprocess.Popen(words, stdin=link.fileno(), stdout=link.fileno(), stderr=errors, preexec_fn=self.before)
 
     def connect(self, timeout=30):
         self.end()
@@ -184,6 +194,9 @@ class Once:
     def stop(self):
         self.end()
         return 0
+
+    def has_ended(self):
+        return False
 
     def is_alone(self):
         return True

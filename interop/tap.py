@@ -38,7 +38,11 @@ class Tap:
                 near, _ = self.listener.accept()
             except OSError:
                 return
-            far = socket.create_connection(("127.0.0.1", self.server))
+            try:
+                far = socket.create_connection(("127.0.0.1", self.server))
+            except OSError:
+                near.close()
+                continue
             pair = Pair()
             self.pairs.append(pair)
             for source, target, kept in ((near, far, pair.sent), (far, near, pair.answered)):
