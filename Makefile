@@ -1,6 +1,7 @@
 # `make` proves and builds the program, `make run` does its main job on the session in examples/,
 # `make test` is the gate's proofs and tests, `make wrong-bodies` tries the wrong bodies that the gate leaves out,
-# `make bench` measures, `make install` installs.
+# `make bench` measures, `make interop` tries the programs with sudo's own clients, `make drill` kills the server N times
+# under load and reads the store after each, `make install` installs.
 
 PREFIX ?= /usr/local
 DESTDIR ?=
@@ -11,7 +12,11 @@ REPLAY_CRATE = crates/sudoreplay
 REPLAY = $(REPLAY_CRATE)/out/sudoreplay
 MEASURES = crates/lsv_bench
 
-.PHONY: all build run test wrong-bodies bench install clean
+# how often the drill kills, and what: a process for each connection
+N ?= 50
+AS ?= once
+
+.PHONY: all build run test wrong-bodies bench interop drill install clean
 
 all: build
 
@@ -34,6 +39,12 @@ bench: build
 	cd $(MEASURES) && rt run -- decode >/dev/null
 	python3 bench/bench.py $(PROGRAM) $(MEASURES)/out/lsv_bench
 	python3 bench/replay.py $(REPLAY)
+
+interop: build
+	bash interop/run once
+
+drill: build
+	python3 interop/drill.py --server $(PROGRAM) --as $(AS) --kills $(N)
 
 install: build
 	install -D -m 755 $(PROGRAM) $(DESTDIR)$(PREFIX)/sbin/sudo_logsrvd

@@ -1,254 +1,277 @@
 #!/usr/bin/env python3
-"""Measures the server of this repository beside sudo's own, over sockets.
+"""Measures `sudo_logsrvd serve` beside sudo's own server, interleaved in one run, on /dev/shm and on disk.
 
-usage: serve.py [PROGRAM] [PEER]
+usage: serve.py PROGRAM [--peer PEER] [--disk FOLDER] [--share S] [--only WORD]
 
-PROGRAM is this repository's sudo_logsrvd, or `-` to measure the peer alone; PEER is sudo's own (by default
-/usr/sbin/sudo_logsrvd, of Debian's package sudo). Both are run in turn, over stores on /dev/shm and on disk (where this is
-run), with 8 and with 64 connections at once. A client of its own speaks the protocol, many records in a write, and drains
-what comes. Of each load it prints the processor time of the server a record or a log, the peak of its memory, and the
-ratios of this program to the peer: of each the least of some runs. What was stored is compared with what was sent.
+PEER is by default the sudo_logsrvd of Debian's package sudo, where it is installed; sudo's own server never syncs. Each figure
+is the least of some runs, and behind it stands that of the peer and the ratio of both. Processor time is that of the server
+alone, without its start. S makes the loads smaller (0.01), to try the script. `--only peer` measures the peer alone.
 """
+import argparse
 import os
 import selectors
 import shutil
-import signal
 import socket
 import subprocess
 import sys
 import tempfile
 import time
 
-sys.path.insert(0, os.path.dirname(os.path.abspath(__file__)))
-from bench import field, frame, varint  # noqa: E402
+sys.path.insert(0, os.path.join(os.path.dirname(os.path.abspath(__file__)), "..", "interop"))
+import client  # noqa: E402
+import servers  # noqa: E402
 
+SECOND = 10**9
+INFO = {"command": "/bin/ls", "runargv": ["ls", "-l"], "runuser": "root", "submituser": "ann", "submithost": "web1", "submitcwd": "/", "ttyname": "/dev/pts/1", "lines": 24, "columns": 80}
 RUNS = 3
-CROWDS = (8, 64)
-# What is counted of a load, how many records all its logs have, and of how many bytes each is.
-LOADS = [
-    ("a record of 10 bytes", 400_000, 10),
-    ("a record of 1,000 bytes", 100_000, 1_000),
-]
-SHORT_LOGS, SHORT_RECORDS = 2_000, 3
-BATCH = 1_000
-PATIENCE = 60
-KEYS = [(b"command", b"/bin/ls"), (b"runuser", b"root"), (b"submituser", b"ann"), (b"submithost", b"web1"),
-        (b"submitcwd", b"/home/ann"), (b"ttyname", b"/dev/pts/0")]
-PEER = "/usr/sbin/sudo_logsrvd"
-CONF = """[server]
-listen_address = 127.0.0.1:{port}
-{server}
-[iolog]
-iolog_dir = {folder}/logs
-{iolog}
-[eventlog]
-log_type = logfile
-log_exit = false
-
-[logfile]
-path = {folder}/events
-"""
-# What only the peer's settings have: no file of its number, no messages of its own, and its logs by number as ours are.
-OF_PEER = {"server": "pid_file =\nserver_log = stderr\n", "iolog": "iolog_file = %{seq}\niolog_compress = false\n"}
-OF_OURS = {"server": "", "iolog": ""}
+SYNCS = 4
 
 
-def head():
-    """A hello, and an accept that opens a log."""
-    entries = b"".join(field(2, field(1, key) + field(3, text)) for key, text in KEYS)
-    entries += field(2, field(1, b"runargv") + field(4, field(1, b"ls") + field(1, b"-l")))
-    return frame(field(13, field(1, b"sudo"))) + frame(field(1, field(1, b"\x08" + varint(1_700_000_000)) + entries + b"\x18\x01"))
+def conversation(count, size):
+    """The client's bytes of a whole session with so many records of so many bytes."""
+    record = client.record((1000, "ttyout", b"x" * size))
+    return client.hello() + client.accept(1_700_000_000 * SECOND, INFO) + record * count + client.exited(count * 1000)
 
 
-def record(size):
-    """A millisecond later, so many bytes of terminal output."""
-    return frame(field(7, field(1, b"\x10" + varint(1_000_000)) + field(2, b"x" * size)))
+class Crowd:
+    """Connections that are served at the same time; each sends its bytes and reads until the server ends it."""
 
+    def __init__(self, port, texts, most):
+        self.port, self.texts, self.most = port, iter(texts), most
+        self.poll, self.open, self.over = selectors.DefaultSelector(), 0, 0
+        self.bytes = 0
 
-def tail():
-    return frame(field(3, field(1, b"\x08\x01")))
-
-
-def pieces(count, size):
-    """The bytes of a client with so many records, some records in each write."""
-    yield head()
-    one = record(size)
-    for _ in range(count // BATCH):
-        yield one * BATCH
-    yield one * (count % BATCH) + tail()
-
-
-class Client:
-    """One connection, which puts its pieces as the server takes them, and reads what comes until the end."""
-
-    def __init__(self, port, parts):
-        self.parts = parts
-        self.rest = memoryview(next(parts))
-        self.got = b""
-        self.has_log = self.is_done = False
-        self.socket = socket.create_connection(("127.0.0.1", port))
-        self.socket.setblocking(False)
-
-    def events(self):
-        return selectors.EVENT_READ | (selectors.EVENT_WRITE if self.rest is not None else 0)
-
-    def put(self):
-        while self.rest is not None:
-            try:
-                count = self.socket.send(self.rest)
-            except BlockingIOError:
+    def more(self):
+        """Opens connections up to the greatest number."""
+        while self.open < self.most:
+            text = next(self.texts, None)
+            if text is None:
                 return
-            self.rest = self.rest[count:]
-            if not self.rest:
-                part = next(self.parts, None)
-                self.rest = None if part is None else memoryview(part)
+            link = socket.create_connection(("127.0.0.1", self.port))
+            link.setblocking(False)
+            self.poll.register(link, selectors.EVENT_READ | selectors.EVENT_WRITE, [memoryview(text), b""])
+            self.open += 1
 
-    def take(self):
-        try:
-            came = self.socket.recv(65536)
-        except BlockingIOError:
+    def run(self):
+        self.more()
+        while self.open:
+            for key, events in self.poll.select(30):
+                if events & selectors.EVENT_WRITE:
+                    self.write(key)
+                if events & selectors.EVENT_READ:
+                    self.read(key)
+        return self.over
+
+    def write(self, key):
+        sent = key.fileobj.send(key.data[0])
+        key.data[0] = key.data[0][sent:]
+        if not key.data[0]:
+            self.poll.modify(key.fileobj, selectors.EVENT_READ, key.data)
+
+    def read(self, key):
+        piece = key.fileobj.recv(65536)
+        self.bytes += len(piece)
+        if piece:
+            key.data[1] = (key.data[1] + piece)[-200:]
             return
-        self.is_done = not came
-        self.got += came
-        while len(self.got) >= 4:
-            length = int.from_bytes(self.got[:4], "big")
-            if len(self.got) < 4 + length:
-                return
-            self.see(self.got[4:4 + length])
-            self.got = self.got[4 + length:]
-
-    def see(self, message):
-        """An error, or the end of the connection: the peer waits for the client to leave after the last commit point."""
-        if message[:1] in (b"\x22", b"\x2a"):
-            sys.exit(f"serve: the server answered {message!r}")
-        if message[:1] == b"\x12" and self.rest is None:
-            self.is_done = True
+        self.poll.unregister(key.fileobj)
+        key.fileobj.close()
+        self.open -= 1
+        self.over += 1
+        # the last message is the commit point of the exit
+        if b"\x12" not in key.data[1][-14:]:
+            sys.exit(f"bench: a session has ended with {key.data[1]!r}")
+        self.more()
 
 
-def drive(port, crowd, sessions):
-    """Runs all sessions, so many at once."""
-    sessions = iter(sessions)
-    with selectors.DefaultSelector() as selector:
-        def enter():
-            parts = next(sessions, None)
-            if parts is None:
-                return 0
-            client = Client(port, parts)
-            selector.register(client.socket, client.events(), client)
-            return 1
+class Side:
+    """One of the two servers."""
 
-        live = sum(enter() for _ in range(crowd))
-        while live:
-            ready = selector.select(PATIENCE)
-            if not ready:
-                sys.exit("serve: the server answers nothing")
-            for key, mask in ready:
-                client = key.data
-                before = client.events()
-                if mask & selectors.EVENT_WRITE:
-                    client.put()
-                if mask & selectors.EVENT_READ:
-                    client.take()
-                if client.is_done:
-                    selector.unregister(client.socket)
-                    client.socket.close()
-                    live += enter() - 1
-                elif client.events() != before:
-                    selector.modify(client.socket, client.events(), client)
+    def __init__(self, program, kind):
+        self.program, self.kind = program, kind
+        self.idle = None
+
+    def place(self, parent):
+        return servers.Place(servers.SUDO if self.kind is servers.Sudo else servers.OURS, parent)
+
+    def served(self, parent, texts, most):
+        """Processor and wall seconds of a server that serves these sessions, and no more."""
+        place = self.place(parent)
+        server = self.kind(self.program, place).start()
+        begin = time.monotonic()
+        Crowd(place.port, texts, most).run()
+        wall = time.monotonic() - begin
+        used = server.stop()
+        # a mass delete on a disk makes the next files slow
+        if parent == "/dev/shm":
+            shutil.rmtree(place.folder)
+        return used, wall
+
+    def start_time(self):
+        """Processor seconds of a start and an end."""
+        if self.idle is None:
+            self.idle = min(self.served("/dev/shm", [], 1)[0] for _ in range(RUNS))
+        return self.idle
 
 
-def free_port():
-    with socket.socket() as it:
-        it.bind(("127.0.0.1", 0))
-        return it.getsockname()[1]
-
-
-def wait_for(port, child):
-    """Waits until the server takes connections."""
-    for _ in range(PATIENCE * 100):
-        try:
-            socket.create_connection(("127.0.0.1", port)).close()
-            return
-        except ConnectionRefusedError:
-            if child.poll() is not None:
-                sys.exit(f"serve: the server ended with status {child.returncode}")
-            time.sleep(0.01)
-    sys.exit("serve: the server doesn't listen")
-
-
-def stored(folder):
-    """How many bytes of terminal output are stored."""
-    return sum(os.path.getsize(os.path.join(place, "ttyout")) for place, _, names in os.walk(folder) if "ttyout" in names)
-
-
-def run(words, settings, place, crowd, sessions, expected):
-    """The processor seconds and the peak of memory of a server under a load, and how long the load took."""
-    folder = os.path.abspath(tempfile.mkdtemp(dir=place))
-    try:
-        port = free_port()
-        path = os.path.join(folder, "conf")
-        with open(path, "w") as conf:
-            conf.write(CONF.format(port=port, folder=folder, **settings))
-        child = subprocess.Popen([*words, "-f", path], stdin=subprocess.DEVNULL, stdout=subprocess.DEVNULL, stderr=subprocess.DEVNULL, cwd=folder)
-        try:
-            wait_for(port, child)
-            start = time.monotonic()
-            drive(port, crowd, sessions)
-            took = time.monotonic() - start
-        finally:
-            peak = peak_of(child.pid)
-            child.send_signal(signal.SIGTERM)
-            _, status, usage = os.wait4(child.pid, 0)
-            child.returncode = status
-        got = stored(os.path.join(folder, "logs"))
-        if got != expected:
-            sys.exit(f"serve: {words[0]} stored {got} bytes of {expected}")
-        return usage.ru_utime + usage.ru_stime, peak, took
-    finally:
-        shutil.rmtree(folder)
-
-
-def peak_of(pid):
-    """The most memory in bytes that a process has held."""
-    try:
-        with open(f"/proc/{pid}/status") as told:
-            return max([0] + [int(line.split()[1]) * 1024 for line in told if line.startswith("VmHWM")])
-    except OSError:
-        return 0
-
-
-def loads(crowd):
-    """Each load: what is counted, how many there are, their sessions, and the bytes that are to be stored."""
-    for what, count, size in LOADS:
-        each = count // crowd
-        yield what, each * crowd, lambda each=each, size=size: (pieces(each, size) for _ in range(crowd)), each * crowd * size
-    yield "a log of 3 records", SHORT_LOGS, lambda: (pieces(SHORT_RECORDS, 10) for _ in range(SHORT_LOGS)), SHORT_LOGS * SHORT_RECORDS * 10
-
-
-def best(servers, place, crowd, sessions, expected):
-    """Of each server the least processor time, the least peak of memory and the least time, all run in turn."""
-    seen = {name: [] for name, _, _ in servers}
+def interleaved(sides, measure):
+    """The least results of some runs of each side, one after the other."""
+    results = [[] for _ in sides]
     for _ in range(RUNS):
-        for name, words, settings in servers:
-            seen[name].append(run(words, settings, place, crowd, sessions(), expected))
-    return {name: tuple(min(it[i] for it in runs) for i in range(3)) for name, runs in seen.items()}
+        for kept, side in zip(results, sides):
+            kept.append(measure(side))
+    return [tuple(map(min, zip(*kept))) for kept in results]
+
+
+def told(name, unit, figures, wanted=""):
+    """Prints the figure of each side, and the ratio of the first to the second."""
+    text = " to ".join(f"{it:.3g}" for it in figures)
+    ratio = f", ratio {figures[0] / figures[1]:.2f}" if len(figures) == 2 and figures[1] else ""
+    print(f"{name}: {text} {unit}{ratio}{wanted}", flush=True)
+
+
+def measure_loads(sides, places, share):
+    loads = [
+        ("a record of 10 bytes, 8 connections", 8, 8, int(25_000 * share), 10, "records"),
+        ("a record of 1,000 bytes, 8 connections", 8, 8, int(2_500 * share), 1_000, "records"),
+        ("a log of 3 records, 64 connections", int(2_000 * share) + 64, 64, 3, 10, "logs"),
+    ]
+    for place, where in places:
+        for name, sessions, most, count, size, what in loads:
+            text = conversation(count, size)
+            number = sessions * (count if what == "records" else 1)
+            results = interleaved(sides, lambda side: side.served(place, [text] * sessions, most))
+            told(f"{name}, {where}, processor time", "us", [max(0, used - side.start_time()) / number * 1e6 for (used, _), side in zip(results, sides)])
+            told(f"{name}, {where}, {what} a second", "", [number / wall for _, wall in results])
+
+
+def memory(process, key):
+    with open(f"/proc/{process.pid}/status", encoding="ascii") as file:
+        return next(int(line.split()[1]) * 1024 for line in file if line.startswith(key))
+
+
+def measure_memory(sides, share):
+    """Peak with 64 open sessions, and what is added from the first logs to the last."""
+    peaks, grown = [], []
+    for side in sides:
+        place = side.place("/dev/shm")
+        server = side.kind(side.program, place).start()
+        links = [client.connect(place.port) for _ in range(64)]
+        for link in links:
+            link.send(client.hello(), client.accept(5 * SECOND, INFO), *[client.record((1000, "ttyout", b"0123456789"))] * 100)
+        for link in links:
+            while link.read()[0] != "log_id":
+                pass
+        time.sleep(1)
+        peaks.append(memory(server.process, "VmHWM") / 2**20)
+        for link in links:
+            link.close()
+        logs = int(10_000 * share)
+        Crowd(place.port, [conversation(3, 10)] * (logs // 10), 64).run()
+        first = memory(server.process, "VmRSS")
+        Crowd(place.port, [conversation(3, 10)] * logs, 64).run()
+        grown.append((memory(server.process, "VmRSS") - first) / 2**20)
+        server.stop()
+        shutil.rmtree(place.folder)
+    told("peak of memory with 64 open sessions", "MiB", peaks)
+    told(f"memory added over {logs} logs", "MiB", grown)
+
+
+def syncs_alone(folder, times):
+    """How often a second two data files and twice a journal can be written and synced, one after the other."""
+    files = [os.open(os.path.join(folder, f"alone{number}"), os.O_RDWR | os.O_CREAT, 0o600) for number in range(3)]
+    begin, at = time.monotonic(), 0
+    for _ in range(times):
+        for file, text, place in ((files[0], b"4 0.000001000 10\n", at), (files[1], b"0123456789", at), (files[2], b"x" * 90, 2), (files[2], b"\1", 1)):
+            os.pwrite(file, text, place)
+            os.fdatasync(file)
+        at += 17
+    return times / (time.monotonic() - begin)
+
+
+def commits(side, folder, connections, seconds):
+    """Commit points a second, where each connection sends a record once it has the commit point of the one before."""
+    place = side.place(folder)
+    server = side.kind(side.program, place).start()
+    record = client.record((1000, "ttyout", b"0123456789"))
+    links = [client.connect(place.port) for _ in range(connections)]
+    poll, count = selectors.DefaultSelector(), 0
+    for link in links:
+        link.send(client.hello(), client.accept(5 * SECOND, INFO), record)
+        poll.register(link.link, selectors.EVENT_READ, link)
+    begin = time.monotonic()
+    while time.monotonic() < begin + seconds:
+        for key, _ in poll.select(1):
+            points = sum(name == "commit_point" for name, _ in key.data.waiting())
+            count += points
+            if points:
+                key.data.send(record)
+    took = time.monotonic() - begin
+    for link in links:
+        link.close()
+    server.stop()
+    return count / took
+
+
+def measure_commits(ours, folder, share):
+    """The peer's commit points are told by a timer and synced by nobody."""
+    alone, one, many = [], [], []
+    for _ in range(RUNS):
+        alone.append(syncs_alone(folder, int(1_000 * share) + 10))
+        one.append(commits(ours, folder, 1, 2 * share + 0.5))
+        many.append(commits(ours, folder, 64, 2 * share + 0.5))
+    print(f"commit points a second on disk, one connection: {max(one):.0f}, {max(one) / max(alone):.2f} of the rate of their {SYNCS} writes and "
+          f"syncs alone, {max(alone):.0f} a second; 64 connections: {max(many):.0f}, {max(many) / max(alone):.2f} of it", flush=True)
+
+
+def load_time(program, count):
+    """Processor seconds a log of `load`."""
+    place = servers.Place(parent="/dev/shm")
+    with open(place.errors, "wb") as errors:
+        child = subprocess.Popen([program, "load", "-f", place.conf, str(count)], stdout=subprocess.DEVNULL, stderr=errors)
+    _, status, usage = os.wait4(child.pid, 0)
+    child.returncode = status
+    if status != 0:
+        print(f"load: status {os.waitstatus_to_exitcode(status)}: {place.said()[-200:]}")
+        return None
+    shutil.rmtree(place.folder)
+    return (usage.ru_utime + usage.ru_stime) / count
+
+
+def measure_linear(program):
+    times = {}
+    for _ in range(RUNS):
+        for count in (1_000, 10_000):
+            used = load_time(program, count)
+            if used is None:
+                return
+            times[count] = min(used, times.get(count, used))
+    print(f"load 10000: {times[10_000] * 1e6:.1f} us a log, {times[10_000] / times[1_000]:.3f} times that of load 1000 (at most 1.05)")
 
 
 def main():
-    program = os.path.abspath(sys.argv[1]) if len(sys.argv) > 1 and sys.argv[1] != "-" else None
-    peer = sys.argv[2] if len(sys.argv) > 2 else PEER
-    servers = [("this", [program, "serve"], OF_OURS)] if program else []
-    if os.path.exists(peer):
-        servers.append(("peer", [peer, "-n"], OF_PEER))
-    for place, where in (("/dev/shm", "/dev/shm"), (".", "disk")):
-        for crowd in CROWDS:
-            for what, count, sessions, expected in loads(crowd):
-                seen = best(servers, place, crowd, sessions, expected)
-                told = [f"{name} {cpu / count * 1e6:.2f} us of processor time, {took / count * 1e6:.2f} us, {peak / 2**20:.1f} MiB"
-                        for name, (cpu, peak, took) in seen.items()]
-                if len(seen) == 2:
-                    told.append("ratios {:.2f}, {:.2f}, {:.2f}".format(*(seen["this"][i] / seen["peer"][i] for i in (0, 2, 1))))
-                print(f"{what}, {crowd} connections, {where}: " + "; ".join(told), flush=True)
+    words = argparse.ArgumentParser(description=__doc__)
+    words.add_argument("program")
+    words.add_argument("--peer", default=servers.tool("sudo_logsrvd"))
+    words.add_argument("--disk", default=".")
+    words.add_argument("--share", type=float, default=1.0)
+    words.add_argument("--only", default="")
+    args = words.parse_args()
+    ours = Side(os.path.realpath(args.program), servers.Serve)
+    peer = Side(args.peer, servers.Sudo) if args.peer else None
+    folder = tempfile.mkdtemp(prefix="bench", dir=args.disk)
+    sides = [side for side in (None if args.only == "peer" else ours, peer) if side]
+    if not peer:
+        print("bench: sudo's own sudo_logsrvd isn't there, so nothing stands beside these figures")
+    if args.only in ("", "peer", "loads"):
+        measure_loads(sides, [("/dev/shm", "/dev/shm"), (os.path.abspath(folder), "disk")], args.share)
+    if args.only in ("", "peer", "memory"):
+        measure_memory(sides, args.share)
+    if args.only in ("", "commits"):
+        measure_commits(ours, os.path.abspath(folder), args.share)
+    if args.only in ("", "load"):
+        measure_linear(ours.program)
+    shutil.rmtree(folder)
 
 
 if __name__ == "__main__":

@@ -1,0 +1,416 @@
+#!/usr/bin/env python3
+"""Kills a server with -9 at random moments, under load, and starts it again on the same store.
+
+usage: drill.py --server PROGRAM [--as serve|once] [--kills N] [--clients N] [--seed N] [--fault NAME]
+
+Clients open logs, send records and exits, read commit points, are cut off with the server or close by themselves, and resume
+at their last commit point with records that they make anew. After each kill, before the next start, store.py reads the store:
+
+- each log has its records through the last commit point that its client read, and further ones only as they were sent;
+- an exit whose commit point was read is there, and a complete log has all of its records;
+- no number was told twice, none is above the number file, and those of a later life are above those of the earlier ones;
+- the accept of each log that a client was told of has just one event line, an exit with its commit point too.
+
+A restart must be accepted wherever the log isn't complete. `once` has one client, on a pair of sockets, and a process for each
+connection. --fault is handed to model.py, the wrong server by which the drill is tried. It ends with 1 where something differs.
+"""
+import argparse
+import json
+import os
+import random
+import shutil
+import sys
+import threading
+import time
+
+import client
+import servers
+import store
+import tap
+
+SECOND = 10**9
+INFO = {"command": "/usr/bin/vi", "runargv": ["vi", "/etc/motd"], "runuser": "root", "submituser": "ann", "submithost": "web1", "submitcwd": "/"}
+
+
+class Wrong(Exception):
+    """The server broke a promise."""
+
+
+class Session:
+    """A log as its clients know it.
+
+    `kept` are the records that a commit point promised. Behind them stands one of `tails`: what was sent on each connection
+    since, of which the server may have any first part. `ended` has the exits that were sent, by the number of their tail.
+    """
+
+    def __init__(self, digits, info):
+        self.digits, self.info = digits, info
+        self.kept, self.tails, self.ended = [], [[]], {}
+        self.point, self.complete = None, False
+        # what was read while no server ran, until a restart is sent: nobody may change it
+        self.at_rest = None
+
+    def sent(self, record):
+        self.tails[-1].append(record)
+
+    def sent_exit(self, value):
+        self.ended[len(self.tails) - 1] = value
+
+    def committed(self, point):
+        """A commit point came on the present connection: of that tail the first record that ends there is kept."""
+        tail = self.tails[-1]
+        if point == (self.point or 0) and not (self.point is None and tail):
+            return
+        base = sum(record[0] for record in self.kept)
+        if point < base:
+            raise Wrong(f"log {self.digits}: a commit point of {point} after one of {base}")
+        taken = tap.cut_at(tail, point - base) if point > base or self.point is None else []
+        if taken is None:
+            raise Wrong(f"log {self.digits}: a commit point of {point}, where no record ends")
+        exits = self.ended.get(len(self.tails) - 1)
+        self.kept, self.tails, self.point = self.kept + taken, [tail[len(taken):]], point
+        self.ended = {} if exits is None else {0: exits}
+
+    def accepted(self):
+        """A restart was accepted, so what was sent on the earlier connections behind the point is gone."""
+        self.tails, self.ended = [self.tails[-1]], {}
+
+    def finished(self):
+        """The commit point of the exit came: all that was sent is kept."""
+        self.kept, self.complete = self.kept + self.tails[-1], True
+        self.ended = {0: self.ended[len(self.tails) - 1]}
+        self.tails = [[]]
+
+    def resumed(self):
+        """A restart at the last commit point is sent: what is stored may be cut there, or not yet."""
+        self.tails.append([])
+        self.at_rest = None
+
+    def check(self, log):
+        """The log as it is read is one that the promises allow."""
+        if log is None:
+            raise Wrong(f"log {self.digits} isn't there")
+        if log.info != self.info:
+            raise Wrong(f"log {self.digits} tells {log.info} for {self.info}")
+        if self.at_rest not in (None, (log.records, log.exit)):
+            raise Wrong(f"log {self.digits} has changed, and nobody wrote to it")
+        count = len(self.kept)
+        if log.records[:count] != self.kept:
+            raise Wrong(f"log {self.digits} has {len(log.records)} records, and {count} were committed through {self.point}")
+        rest = log.records[count:]
+        if not any(rest == tail[:len(rest)] for tail in self.tails):
+            raise Wrong(f"log {self.digits}: the {len(rest)} records behind the commit point {self.point} are no first part of what was sent")
+        if self.complete and not log.is_complete():
+            raise Wrong(f"log {self.digits}: the exit was committed, and the log isn't complete")
+        if log.is_complete():
+            allowed = [tap.exit_members(exit_of(value)) for at, value in self.ended.items() if rest == self.tails[at]]
+            if log.exit not in allowed:
+                raise Wrong(f"log {self.digits} is complete with {log.exit}, which wasn't sent behind these records")
+
+    def settle(self, log):
+        """What is stored while no server runs is all that there is."""
+        self.at_rest = log.records, log.exit
+        self.tails = [log.records[len(self.kept):]]
+        self.complete = self.complete or log.is_complete()
+        self.ended = {0: log.exit["exit_value"]} if log.is_complete() else {}
+
+
+def exit_of(value):
+    return {"run_time": value * SECOND, "exit_value": value, "dumped_core": False, "signal": "", "error": ""}
+
+
+class Drill:
+    """What all clients know, and the server."""
+
+    def __init__(self, args):
+        self.rng = random.Random(args.seed)
+        self.place = servers.Place(parent=args.folder)
+        kind = servers.Once if args.kind == "once" else servers.Serve
+        self.server = kind(os.path.realpath(args.server), self.place, ["--fault", args.fault] if args.fault else [])
+        self.clients = 1 if self.server.is_alone() else args.clients
+        self.lock, self.greeted, self.wrong = threading.Lock(), threading.Event(), []
+        self.sessions, self.open, self.exits = {}, [], {}
+        self.before, self.dead = 0, False
+        self.count = dict.fromkeys(("logs", "records", "commit points", "exits", "resumed", "cut off", "complete already", "refusals"), 0)
+
+    def add(self, what, number=1):
+        with self.lock:
+            self.count[what] += number
+
+    def connection(self):
+        link = self.server.connect(timeout=20)
+        name, told = link.read()
+        if name != "hello":
+            raise Wrong(f"{name} {told} for a hello")
+        self.greeted.set()
+        return link
+
+    def new_session(self, link, rng):
+        """Opens a log."""
+        info = {**INFO, "lines": rng.randrange(100), "submitcwd": f"/{rng.random()}"}
+        link.send(client.hello(), client.accept(rng.randrange(2**31) * SECOND, info))
+        name, digits = link.read()
+        if name != "log_id":
+            raise Wrong(f"{name} {digits} for a log_id")
+        with self.lock:
+            if digits in self.sessions:
+                raise Wrong(f"the number {digits} was told twice")
+            if store.number_of(digits) <= self.before:
+                raise Wrong(f"the number {digits} was told after {store.digits_of(self.before)}, in an earlier life")
+            session = self.sessions[digits] = Session(digits, info)
+        self.add("logs")
+        return session
+
+    def old_session(self, link, session, rng):
+        """Resumes a log at its last commit point; None where it is complete already."""
+        session.resumed()
+        first = record_of(rng)
+        session.sent(first)
+        link.send(client.hello(), client.restart(session.digits, session.point), client.record(first))
+        name, told = link.read()
+        if name == "commit_point":
+            session.accepted()
+            session.committed(told)
+            self.add("resumed")
+            return session
+        session.tails.pop()
+        if told == "log in use":
+            return False
+        if told == "log complete" and session.ended:
+            session.complete = True
+            self.add("complete already")
+            return None
+        raise Wrong(f"log {session.digits}: a restart at {session.point} was answered by {name} {told}")
+
+    def hear(self, link, session, wait=False):
+        """Takes the commit points that came by now."""
+        for name, told in [link.read()] if wait else link.waiting():
+            if name != "commit_point":
+                raise Wrong(f"log {session.digits}: {name} {told} for a commit point")
+            session.committed(told)
+            self.add("commit points")
+
+    def serve_session(self, link, session, rng):
+        """Sends records and perhaps the exit. True where the session is over."""
+        for _ in range(rng.choice([1, 5, 20, 60])):
+            self.send_records(link, session, [record_of(rng) for _ in range(rng.choice([1, 1, 2, 10, 50]))])
+            self.hear(link, session, rng.random() < 0.5)
+            if rng.random() < 0.03:
+                # the client goes away by itself, and comes back later
+                return False
+        self.end_session(link, session, rng)
+        return True
+
+    def send_records(self, link, session, records):
+        for record in records:
+            session.sent(record)
+        link.send(*map(client.record, records))
+        self.add("records", len(records))
+
+    def end_session(self, link, session, rng):
+        """Sends the exit, and waits for its commit point. The last record alone ends at the last point, so that one commit
+        point there is that of the record, or of both, and a second one that of the exit."""
+        self.send_records(link, session, [(rng.randrange(1, 10**6), "stdout", b"the last one")])
+        end = sum(record[0] for record in session.kept + session.tails[-1])
+        seen = 0
+        if rng.random() < 0.5:
+            while session.point != end:
+                self.hear(link, session, True)
+            seen = 1
+        value = rng.randrange(100)
+        session.sent_exit(value)
+        link.send(client.exited(value * SECOND, value))
+        heard = link.rest()
+        by_itself = not self.dead
+        for name, told in heard:
+            if name != "commit_point":
+                raise Wrong(f"log {session.digits}: {name} {told} behind the exit")
+            session.committed(told)
+        if by_itself and heard[-1:] != [("commit_point", end)]:
+            raise Wrong(f"log {session.digits}: the exit was answered by {heard}, and the last record ends at {end}")
+        if seen + heard.count(("commit_point", end)) < 2 and not by_itself:
+            raise client.Closed("before the commit point of the exit was known")
+        session.finished()
+        with self.lock:
+            self.exits[session.digits] = value
+        self.add("exits")
+
+    def refused_session(self, link, rng):
+        """An alert and a reject, of which nothing is told to the client but the end."""
+        link.send(client.hello(), client.refusal("alert", 5 * SECOND, "beware", INFO), client.refusal("reject", 6 * SECOND, "no", INFO))
+        if link.rest():
+            raise Wrong("a reject was answered")
+        if not self.dead:
+            self.add("refusals")
+
+    def run_client(self, rng):
+        session = None
+        while not self.dead and not self.wrong:
+            link = None
+            try:
+                link = self.connection()
+                resumed, session = session, None
+                session = self.next_session(link, resumed, rng)
+            except (client.Closed, ConnectionError) as fault:
+                self.cut_off(link, fault)
+            except TimeoutError as fault:
+                self.wrong.append(f"no answer: {fault}")
+            except (Wrong, servers.Failed) as fault:
+                self.wrong.append(str(fault))
+            finally:
+                if link:
+                    link.close()
+        if session:
+            self.give_back(session)
+
+    def cut_off(self, link, fault):
+        """A connection ended: by the kill, or the server is at fault."""
+        if self.dead:
+            self.add("cut off")
+            return
+        try:
+            said = link.rest() if link else []
+        except OSError:
+            said = []
+        if not self.dead:
+            self.wrong.append(f"the server ended a connection: {fault}; it said {said}; {self.place.said()[-300:]}")
+
+    def next_session(self, link, session, rng):
+        """One connection. Gives the session that is to be resumed, or None."""
+        if session is None:
+            with self.lock:
+                session = self.open.pop() if self.open else None
+        if session is not None:
+            return self.resume(link, session, rng)
+        if rng.random() < 0.1:
+            self.refused_session(link, rng)
+            return None
+        session = self.new_session(link, rng)
+        return self.go_on(link, session, rng)
+
+    def resume(self, link, session, rng):
+        found = False
+        try:
+            found = self.old_session(link, session, rng)
+        except (client.Closed, ConnectionError):
+            self.give_back(session)
+            raise
+        if found is False:
+            time.sleep(0.005)
+            return session
+        return self.go_on(link, session, rng) if found else None
+
+    def go_on(self, link, session, rng):
+        try:
+            over = self.serve_session(link, session, rng)
+        except (client.Closed, ConnectionError):
+            self.give_back(session)
+            raise
+        # without a commit point there is nothing to resume at
+        return None if over or session.point is None else session
+
+    def give_back(self, session):
+        if session.point is not None:
+            with self.lock:
+                self.open.append(session)
+
+    def life(self, seconds):
+        """The server runs for so long under load, and is killed; at times while it still opens its store."""
+        if not self.server.is_alone() and self.rng.random() < 0.1:
+            self.server.spawn()
+            time.sleep(self.rng.random() * 0.05)
+            self.server.kill()
+        self.server.start()
+        self.dead = False
+        self.greeted.clear()
+        threads = [threading.Thread(target=self.run_client, args=(random.Random(self.rng.random()),)) for _ in range(self.clients)]
+        for thread in threads:
+            thread.start()
+        if self.rng.random() < 0.9:
+            self.greeted.wait(20)
+        time.sleep(seconds)
+        self.dead = True
+        self.server.kill()
+        for thread in threads:
+            thread.join()
+        if not self.wrong:
+            self.check()
+
+    def check(self):
+        """Reads the store, while no server runs."""
+        try:
+            found = store.numbers(self.place.store)
+            last = found[0] if found else 0
+            for digits, session in self.sessions.items():
+                log = store.read_log(self.place.store, digits)
+                session.check(log)
+                session.settle(log)
+                if store.number_of(digits) > last:
+                    raise Wrong(f"the number {digits} was told, and the last drawn one is {last}")
+            self.check_events()
+            self.before = max([last] + [store.number_of(digits) for digits in self.sessions])
+        except (Wrong, store.Damaged) as fault:
+            self.wrong.append(str(fault))
+
+    def check_events(self):
+        lines = [json.loads(line) for line in store.lines(self.place.events) or []]
+        accepts, exits, refusals = {}, {}, 0
+        for line in lines:
+            ((name, members),) = line.items()
+            if name == "accept":
+                accepts.setdefault(members["iolog"], []).append(members["info"])
+            elif name == "exit":
+                exits.setdefault(members["iolog"], []).append(members["exit_value"])
+            else:
+                refusals += name == "reject"
+        twice = [digits for found in (accepts, exits) for digits, told in found.items() if len(told) > 1]
+        if twice:
+            raise Wrong(f"these logs have two accepts or two exits in the event log: {twice}")
+        for digits, session in self.sessions.items():
+            if accepts.get(digits) != [session.info]:
+                raise Wrong(f"log {digits} was told, and its accepts in the event log are {accepts.get(digits)}")
+        for digits, value in self.exits.items():
+            if exits.get(digits) != [value]:
+                raise Wrong(f"log {digits} has ended with {value}, and its exits in the event log are {exits.get(digits)}")
+        if refusals < self.count["refusals"]:
+            raise Wrong(f"{refusals} rejects are in the event log of {self.count['refusals']}")
+
+
+def record_of(rng):
+    """A record; one of ten has no delay."""
+    delay = 0 if rng.random() < 0.1 else rng.randrange(1, 10**7)
+    kind = rng.random()
+    if kind < 0.05:
+        return delay, "winsize", rng.randrange(1, 99), rng.randrange(1, 300)
+    if kind < 0.08:
+        return delay, "suspend", rng.choice(["TSTP", "CONT"])
+    return delay, rng.choice(client.STREAMS), rng.randbytes(rng.choice([0, 1, 10, 10, 100, 3000]))
+
+
+def main():
+    words = argparse.ArgumentParser(description=__doc__)
+    words.add_argument("--server", required=True)
+    words.add_argument("--as", dest="kind", choices=["serve", "once"], default="serve")
+    words.add_argument("--kills", type=int, default=50)
+    words.add_argument("--clients", type=int, default=6)
+    words.add_argument("--seed", type=int, default=int(time.time()))
+    words.add_argument("--folder", help="where the store is made, by default a temporary folder")
+    words.add_argument("--fault")
+    args = words.parse_args()
+    print(f"drill.py: {args.kind}, seed {args.seed}", flush=True)
+    drill, kills = Drill(args), 0
+    while kills < args.kills and not drill.wrong:
+        drill.life(drill.rng.choice([0.01, 0.05, 0.15, 0.3]) * (0.5 + drill.rng.random()))
+        kills += 1
+    for fault in drill.wrong:
+        print(f"drill.py: {fault}")
+    print(f"drill.py: {kills} kills, " + ", ".join(f"{number} {what}" for what, number in drill.count.items()))
+    if drill.wrong:
+        print(f"drill.py: the store is left in {drill.place.folder}")
+        return 1
+    shutil.rmtree(drill.place.folder)
+    return 0
+
+
+if __name__ == "__main__":
+    sys.exit(main())

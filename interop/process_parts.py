@@ -1,0 +1,137 @@
+"""What is tried of the process itself: its first line, its descriptors, its limits, a second one on the same store."""
+import os
+import re
+import resource
+import shutil
+import subprocess
+
+import client
+import servers
+import store
+from protocol_parts import ACCEPT, INFO, whole
+from trial import SECOND, Differs, only, same
+
+LIMIT = 300_000
+
+
+class Fresh:
+    """A server of its own, started otherwise than the one that all parts share."""
+
+    def __init__(self, trial, before=None, probe=False, settings=""):
+        self.place = servers.Place()
+        if settings:
+            with open(self.place.conf, "a", encoding="utf-8") as file:
+                file.write(settings)
+        self.server = (servers.Serve if trial.kind == "serve" else servers.Once)(trial.program, self.place)
+        self.server.before, self.server.probe = before, probe
+
+    def __enter__(self):
+        self.server.start()
+        return self
+
+    def __exit__(self, *_):
+        self.server.kill()
+        shutil.rmtree(self.place.folder)
+
+    def session(self):
+        """A whole session is served and stored."""
+        records = [(5, "ttyout", b"abc"), (6, "ttyin", b"def")]
+        digits = whole(self.server.connect(), SECOND, INFO, records)
+        same("records", store.read_log(self.place.store, digits).records, records)
+        return digits
+
+    def last_line(self):
+        return [line for line in self.place.said().splitlines() if f":{self.place.port}" in line][-1]
+
+
+@only("serve")
+def part_first_line(trial):
+    """One line tells the address, the store and its last number, at each start."""
+    with Fresh(trial) as fresh:
+        for wanted in ("0|000000", "1|000001", "2|000002"):
+            line = fresh.last_line()
+            if fresh.place.store not in line or not re.search(rf"\b({wanted})\b", line.replace(fresh.place.store, "")):
+                raise Differs(f"the first line {line!r} lacks the store or the last number {wanted}")
+            fresh.session()
+            fresh.server.kill()
+            fresh.server.start()
+
+
+@only("serve")
+def part_closed_descriptors(trial):
+    """Without standard input, output and error: no file of the store takes their numbers."""
+    with Fresh(trial, before=lambda: [os.close(it) for it in (0, 1, 2)], probe=True) as fresh:
+        fresh.session()
+        for number in (0, 1, 2):
+            same(f"descriptor {number}", os.readlink(f"/proc/{fresh.server.process.pid}/fd/{number}"), "/dev/null")
+        fresh.session()
+
+
+@only("once")
+def part_closed_standard_error(trial):
+    with Fresh(trial, before=lambda: os.close(2)) as fresh:
+        fresh.session()
+
+
+def broken_pipe():
+    """Standard error is a pipe that nobody reads."""
+    near, far = os.pipe()
+    os.dup2(far, 2)
+    os.close(near)
+    os.close(far)
+
+
+@only("serve", "once")
+def part_broken_standard_error(trial):
+    """What is told goes into a pipe that nobody reads, and SIGPIPE ends nothing."""
+    with Fresh(trial, before=broken_pipe, probe=True, settings="[server]\ntimeout = 5\n") as fresh:
+        fresh.session()
+        fresh.session()
+
+
+def small_files():
+    resource.setrlimit(resource.RLIMIT_FSIZE, (LIMIT, LIMIT))
+
+
+@only("serve", "once")
+def part_limit_of_files(trial):
+    """A log that would pass the limit of the size of files is refused, and SIGXFSZ ends nothing."""
+    with Fresh(trial, before=small_files) as fresh:
+        link = fresh.server.connect()
+        link.send(client.hello(), ACCEPT)
+        heard = [link.read(), link.read()]
+        while heard[-1][0] != "error" and len(heard) < 100:
+            link.send(client.record((SECOND, "ttyout", b"x" * 10_000)))
+            heard.append(link.read())
+        link.close()
+        same("last answer", heard[-1], ("error", "device fault"))
+        points = [told for name, told in heard if name == "commit_point"]
+        fresh.session()
+        log = store.read_log(fresh.place.store, heard[1][1])
+        if points and log.body.elapsed < points[-1]:
+            raise Differs(f"{log.body.elapsed} ns are stored, and {points[-1]} were committed")
+
+
+@only("serve")
+def part_second_server(trial):
+    """Another server on the same store ends with status 4, and the first goes on."""
+    with Fresh(trial) as fresh:
+        text = servers.OURS.format(port=servers.free_port(), folder=fresh.place.folder)
+        path = os.path.join(fresh.place.folder, "second")
+        with open(path, "w", encoding="utf-8") as file:
+            file.write(text)
+        child = subprocess.run([trial.program, "serve", "-f", path], stdin=subprocess.DEVNULL, capture_output=True, timeout=20, check=False)
+        same(f"status, {child.stderr}", child.returncode, 4)
+        fresh.session()
+
+
+@only("serve")
+def part_stop_after(trial):
+    """With --stop-after 3 the server ends with 0 once three connections came and went."""
+    place = servers.Place()
+    server = servers.Serve(trial.program, place, ["--stop-after", "3"]).start()
+    for _ in range(3):
+        whole(server.connect(), SECOND, INFO, [(5, "ttyout", b"abc")])
+    same("status", server.process.wait(20), 0)
+    same("logs", store.folders(place.store), ["000001", "000002", "000003"])
+    shutil.rmtree(place.folder)

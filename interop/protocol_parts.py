@@ -1,0 +1,253 @@
+"""What is tried with our own client: each error, the limits, information of all kinds, restarts, many connections at once."""
+import random
+
+import client
+import store
+import tap
+from trial import SECOND, Differs, only, same
+
+INFO = {"command": "/bin/ls", "runuser": "root", "submituser": "ann", "submithost": "web1"}
+LARGEST = 2_097_152
+ACCEPT = client.accept(SECOND, INFO)
+OUTPUT = client.record((5, "ttyout", b"abc"))
+
+
+def message(name, *fields):
+    """A message of parts that needn't fit."""
+    return client.frame(client.field(client.NUMBER[name], b"".join(fields)))
+
+
+def time_of(seconds, nanoseconds):
+    return client.field(1, client.scalar(1, seconds) + client.scalar(2, nanoseconds))
+
+
+def keys(number=2):
+    return b"".join(client.field(number, client.entry(*it)) for it in INFO.items())
+
+
+# what is sent, and the error that it must be answered by
+ERRORS = [
+    ("unexpected message", [OUTPUT]),
+    ("unexpected message", [client.hello(), client.hello()]),
+    ("unexpected message", [client.hello(), client.exited(5)]),
+    ("unexpected message", [ACCEPT, client.hello()]),
+    ("unexpected message", [ACCEPT, client.restart("000001", 5)]),
+    ("unexpected message", [client.accept(SECOND, INFO, False), OUTPUT]),
+    ("unexpected message", [client.refusal("alert", 5, "a", INFO), client.hello()]),
+    ("unexpected message", [ACCEPT, client.refusal("reject", 5, "a", INFO)]),
+    ("malformed message", [client.frame(b"")]),
+    ("malformed message", [client.frame(b"\x6a\x06\x0a\x01a\x0a\x01b")]),
+    ("malformed message", [client.frame(b"\x6a\x06\x0a\x04su")]),
+    ("malformed message", [client.frame(b"\x6b")]),
+    ("malformed message", [client.hello(), client.frame(b"\xff" * 20)]),
+    ("message too large", [(LARGEST + 1).to_bytes(4, "big")]),
+    ("message too large", [ACCEPT, (2**32 - 1).to_bytes(4, "big")]),
+    ("bad time", [message("accept", time_of(5, 10**9), keys())]),
+    ("bad time", [message("accept", keys())]),
+    ("bad time", [ACCEPT, message("ttyout", time_of(0, -1), client.field(2, b"x"))]),
+    ("bad time", [ACCEPT, message("ttyout", client.field(2, b"x"))]),
+    ("bad time", [ACCEPT, message("exit", time_of(-1, 0))]),
+    ("bad size or signal", [ACCEPT, message("winsize", time_of(1, 0), client.scalar(2, -1), client.scalar(3, 1))]),
+    ("bad size or signal", [ACCEPT, client.record((5, "suspend", "x" * 33))]),
+    ("bad size or signal", [ACCEPT, client.record((5, "suspend", "a b"))]),
+    ("bad size or signal", [ACCEPT, client.record((5, "suspend", ""))]),
+    ("missing key", [client.accept(SECOND, {key: value for key, value in INFO.items() if key != "submithost"})]),
+    ("missing key", [client.accept(SECOND, {**INFO, "runuser": 5})]),
+    ("no such log", [client.restart("00000a", 5)]),
+    ("no such log", [client.restart("0ZZZZZ", 5)]),
+    ("no such log", [client.hello(), client.restart("", 5)]),
+    ("bad time", [message("restart", client.field(1, "0ZZZZZ"))]),
+]
+
+
+@only("serve", "once")
+def part_errors(trial):
+    """Each error comes as the last message, and the connection ends."""
+    for text, sent in ERRORS:
+        link = trial.direct()
+        link.send(*sent)
+        heard = link.rest()
+        link.close()
+        same(f"answer to {b''.join(sent)[:60]!r}", heard[-1:], [("error", text)])
+
+
+def whole(link, submit, info, records, value=0):
+    """A whole session: its log."""
+    link.send(client.hello(), client.accept(submit, info), *map(client.record, records), client.exited(SECOND + 1, value))
+    heard = link.rest()
+    link.close()
+    same("answers", [name for name, _ in heard[:2]], ["hello", "log_id"])
+    same("last answer", heard[-1], ("commit_point", sum(record[0] for record in records)))
+    return heard[1][1]
+
+
+def compared(trial, count=1):
+    trial.store.compare(trial.told(count))
+
+
+@only("serve", "once")
+def part_values(trial):
+    """Information of all kinds, and an exit of all kinds."""
+    info = {
+        **INFO, "numbers": [1, -1, 2**63 - 1, -(2**63)], "negative": -5, "empty": [], "text": 'a "quoted" \\ text\n\t\x01\x7f', "ä": "öß€𝄞", "none": "",
+        "argv": ["", "a", "ä"], "bytes": b"\xff\xfea", "zero": 0,
+    }
+    link = trial.connect()
+    link.send(client.hello(), client.accept(2**31 * SECOND + 999_999_999, info), client.exited(3 * SECOND, -1, True, "SEGV", 'an "error"'))
+    link.rest()
+    link.close()
+    compared(trial)
+
+
+@only("serve", "once")
+def part_limits(trial):
+    """A message of the greatest size, records without bytes, and one long delay."""
+    record = (5, "ttyout", b"")
+    spent = len(client.record(record)) - 4
+    records = [(2**62, "stdin", b""), record]
+    for size in range(LARGEST - spent - 20, LARGEST):
+        if len(client.record((5, "ttyout", bytes(size)))) - 4 == LARGEST:
+            records.append((5, "ttyout", b"y" * size))
+    same("records of the greatest size", len(records), 3)
+    whole(trial.connect(), SECOND, INFO, records)
+    compared(trial)
+
+
+@only("serve", "once")
+def part_byte_by_byte(trial):
+    link = trial.connect()
+    for byte in client.hello() + ACCEPT + OUTPUT * 3 + client.exited(5):
+        link.send(bytes([byte]))
+    link.rest()
+    link.close()
+    compared(trial)
+
+
+@only("serve", "once")
+def part_no_records(trial):
+    """An accept without records, and one whose log stays empty."""
+    for expects in (False, True):
+        link = trial.connect()
+        link.send(client.hello(), client.accept(SECOND, INFO, expects), client.exited(5))
+        link.rest()
+        link.close()
+        compared(trial)
+
+
+@only("serve", "once")
+def part_resumed_otherwise(trial):
+    """A client that resumes and sends other records than before, three times; the journal counts the cuts."""
+    rng = random.Random(5)
+    link = trial.connect()
+    first = [(rng.randrange(1, 10**6), "ttyout", rng.randbytes(100)) for _ in range(50)]
+    link.send(client.hello(), ACCEPT, *map(client.record, first))
+    heard = [link.read(), link.read()]
+    end = sum(record[0] for record in first)
+    while heard[-1] != ("commit_point", end):
+        heard.append(link.read())
+    link.close()
+    trial.told(1)
+    digits, records = heard[1][1], first
+    for count in (1, 2, 3):
+        records = other_end(trial, digits, records, rng)
+        log = store.read_log(trial.place.store, digits)
+        same("records", log.records, records)
+        same("cuts", log.body.extra, count)
+    same("complete", log.is_complete(), False)
+
+
+def other_end(trial, digits, records, rng):
+    """Drops the last third of a log, and sends others. Gives its records."""
+    keep = len(records) * 2 // 3
+    point = sum(record[0] for record in records[:keep])
+    new = [(rng.randrange(1, 10**6), "ttyin", rng.randbytes(30)) for _ in range(9)]
+    link = trial.connect()
+    link.send(client.restart(digits, point), *map(client.record, new))
+    end = point + sum(record[0] for record in new)
+    while link.read() != ("commit_point", end):
+        pass
+    link.close()
+    (told,) = trial.told(1)
+    same("errors", told.errors, [])
+    return records[:keep] + new
+
+
+@only("serve", "once")
+def part_restarts_refused(trial):
+    digits = whole(trial.connect(), SECOND, INFO, [(5, "ttyout", b"abc")])
+    compared(trial)
+    link = trial.direct()
+    link.send(client.hello(), client.accept(SECOND, INFO), client.record((5, "ttyout", b"abc")))
+    heard = [link.read(), link.read(), link.read()]
+    if trial.kind == "serve":
+        refused(trial, heard[1][1], 5, "log in use")
+    link.close()
+    refused(trial, heard[1][1], 4, "no such resume point")
+    refused(trial, digits, 5, "log complete")
+
+
+def refused(trial, digits, point, text):
+    """A restart is refused; while the server hasn't yet seen that the writer is gone, another error may come."""
+    for _ in range(100):
+        link = trial.direct()
+        link.send(client.restart(digits, point))
+        heard = link.rest()
+        link.close()
+        if heard[-1:] == [("error", text)]:
+            return
+        if heard[-1:] != [("error", "log in use")]:
+            break
+    raise Differs(f"a restart of {digits} at {point} was answered by {heard[-1:]}, not by {text}")
+
+
+@only("serve")
+def part_many_at_once(trial):
+    """64 sessions at the same time, a record of each in turn."""
+    rng = random.Random(6)
+    links = [trial.connect() for _ in range(64)]
+    for number, link in enumerate(links):
+        link.send(client.hello(), client.accept(number * SECOND, {**INFO, "number": number}))
+    for _ in range(30):
+        for link in links:
+            link.send(client.record((rng.randrange(10**6), rng.choice(client.STREAMS), rng.randbytes(rng.randrange(300)))))
+            link.waiting()
+    for number, link in enumerate(links):
+        link.send(client.exited(SECOND, number))
+    for link in links:
+        link.rest()
+        link.close()
+    compared(trial, 64)
+
+
+@only("serve")
+def part_a_client_that_reads_nothing(trial):
+    """It is held up, and nobody else."""
+    lazy = trial.direct()
+    lazy.link.settimeout(0.2)
+    lazy.send(client.hello(), ACCEPT)
+    try:
+        for _ in range(2_000):
+            lazy.link.sendall(client.record((5, "ttyout", b"x" * 1_000)))
+            whole_now = None
+    except TimeoutError:
+        pass
+    whole_now = whole(trial.connect(), SECOND, INFO, [(5, "ttyout", b"abc")])
+    told = trial.told(1)
+    same("log", told[0].log_ids, [whole_now])
+    trial.store.log(told[0], None)
+    lazy.close()
+
+
+@only("serve")
+def part_gone_in_the_middle(trial):
+    """Clients that vanish with answers unread, in the middle of a frame: the others go on."""
+    for cut in (0, 3, 7, 40, 200, 1_000):
+        link = trial.direct()
+        link.send((client.hello() + ACCEPT + OUTPUT * 200)[:cut] if cut else b"\0")
+        link.link.setsockopt(1, 13, b"\1\0\0\0\0\0\0\0")
+        link.close()
+    digits = whole(trial.connect(), SECOND, INFO, [(5, "ttyout", b"abc")])
+    told = trial.told(1)
+    same("log", told[0].digits(), digits)
+    trial.store.log(told[0], None)
+    same("kept", tap.cut_at(told[0].records, 5), told[0].records)

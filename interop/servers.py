@@ -1,0 +1,237 @@
+"""Servers that the scripts of this folder start: this repository's, as `serve` or as `once`, and sudo's own beside it."""
+import os
+import resource
+import signal
+import socket
+import subprocess
+import tempfile
+import threading
+import time
+
+import client
+
+OURS = """[server]
+listen_address = 127.0.0.1:{port}
+[iolog]
+iolog_dir = {folder}/store
+[eventlog]
+log_format = json
+log_exit = true
+[logfile]
+path = {folder}/events
+"""
+
+# Sudo's own server: the same, without what it else would do on the machine, and without lines of exits, since sudo 1.9.13p3
+# refuses an exit that has no run time, as sudo_sendlog sends it, where it is to log it
+SUDO = """[server]
+listen_address = 127.0.0.1:{port}
+pid_file =
+server_log = {folder}/errors
+[iolog]
+iolog_dir = {folder}/store
+iolog_file = %{{seq}}
+[eventlog]
+log_type = logfile
+log_format = json
+[logfile]
+path = {folder}/events
+"""
+
+# Debian's tools stand where a user's PATH may not lead
+BINS = ("/usr/sbin", "/usr/bin", "/sbin", "/bin")
+
+
+def tool(name):
+    """The path of a program of the system, or None."""
+    return next((os.path.join(folder, name) for folder in BINS if os.access(os.path.join(folder, name), os.X_OK)), None)
+
+
+def free_port():
+    with socket.socket() as link:
+        link.bind(("127.0.0.1", 0))
+        return link.getsockname()[1]
+
+
+class Failed(Exception):
+    """A server that didn't start, or ended by itself."""
+
+
+class Place:
+    """A folder with the settings, the store and the event log of a server, and what it said on standard error."""
+
+    def __init__(self, form=OURS, parent=None):
+        self.folder = tempfile.mkdtemp(prefix="interop", dir=parent)
+        self.store, self.events = os.path.join(self.folder, "store"), os.path.join(self.folder, "events")
+        self.errors = os.path.join(self.folder, "errors")
+        self.conf = os.path.join(self.folder, "conf")
+        self.port = free_port()
+        with open(self.conf, "w", encoding="utf-8") as file:
+            file.write(form.format(port=self.port, folder=self.folder))
+
+    def said(self):
+        with open(self.errors, encoding="utf-8", errors="replace") as file:
+            return file.read()
+
+
+class Serve:
+    """`serve`: a process that has a port."""
+
+    words = ("serve", "-f")
+    name = "serve"
+
+    def __init__(self, program, place, further=()):
+        self.program, self.place, self.further = program, place, further
+        self.port = place.port
+        self.process = None
+        # what the process does before it becomes the server; whether it is asked by a connection if it listens
+        self.before, self.probe = None, False
+
+    def spawn(self):
+        """Starts it, and doesn't wait. Gives how much was said before."""
+        told = os.path.getsize(self.place.errors) if os.path.exists(self.place.errors) else 0
+        with open(self.place.errors, "ab") as errors:
+            words = [self.program, *self.words, self.place.conf, *self.further]
+            self.process = subprocess.Popen(words, stdin=subprocess.DEVNULL, stdout=subprocess.DEVNULL, stderr=errors, preexec_fn=self.before)
+        return told
+
+    def start(self, seconds=20):
+        told = self.spawn()
+        end = time.monotonic() + seconds
+        while not self.listens(told):
+            if self.process.poll() is not None or time.monotonic() > end:
+                raise Failed(f"{self.program} {' '.join(self.words)}: status {self.process.poll()}: {self.place.said()[-500:]}")
+            time.sleep(0.002)
+        return self
+
+    def listens(self, told):
+        """The server says its address in a line, once it listens."""
+        if not self.probe:
+            return f":{self.port}" in self.place.said()[told:]
+        try:
+            socket.create_connection(("127.0.0.1", self.port), timeout=1).close()
+            return True
+        except OSError:
+            return False
+
+    def connect(self, timeout=30):
+        return client.connect(self.port, timeout)
+
+    def kill(self):
+        """Ends it at once."""
+        if self.process.poll() is not None:
+            raise Failed(f"{self.program} has ended by itself: status {self.process.returncode}: {self.place.said()[-500:]}")
+        self.process.send_signal(signal.SIGKILL)
+        self.process.wait()
+
+    def stop(self):
+        """Ends it, and gives the processor seconds that it took."""
+        self.process.terminate()
+        _, _, usage = os.wait4(self.process.pid, 0)
+        self.process.returncode = 0
+        return usage.ru_utime + usage.ru_stime
+
+    def has_ended(self):
+        """Whether it ended by itself."""
+        return self.process.poll() is not None
+
+    def is_alone(self):
+        return False
+
+
+class Sudo(Serve):
+    """sudo's own server, which says nothing when it listens."""
+
+    words = ("-n", "-f")
+    name = "sudo"
+
+    def __init__(self, program, place, further=()):
+        super().__init__(program, place, further)
+        self.probe = True
+
+
+class Once:
+    """`once`: a process for each connection, one at a time, with a pair of sockets."""
+
+    name = "once"
+
+    def __init__(self, program, place, further=()):
+        self.program, self.place, self.further = program, place, further
+        self.process, self.up, self.lock = None, False, threading.Lock()
+        self.before, self.probe = None, False
+
+    def start(self):
+        self.up = True
+        return self
+
+    def spawn(self, link):
+        """The process that serves this end of a connection."""
+        with open(self.place.errors, "ab") as errors:
+            words = [self.program, "once", "-f", self.place.conf, *self.further]
+            return subprocess.Popen(words, stdin=link.fileno(), stdout=link.fileno(), stderr=errors, preexec_fn=self.before)
+
+    def connect(self, timeout=30):
+        self.end()
+        ours, theirs = socket.socketpair()
+        with self.lock, theirs:
+            if not self.up:
+                ours.close()
+                raise ConnectionRefusedError("no server runs")
+            self.process = self.spawn(theirs)
+        return client.Connection(ours, timeout)
+
+    def end(self):
+        """Waits for the process of the connection before, which ends once that one is closed."""
+        if self.process and self.process.wait(30) not in (0, -signal.SIGKILL, 5, 6):
+            raise Failed(f"{self.program} once: status {self.process.returncode}: {self.place.said()[-500:]}")
+
+    def kill(self):
+        with self.lock:
+            self.up = False
+            if self.process:
+                self.process.send_signal(signal.SIGKILL)
+                self.process.wait()
+
+    def stop(self):
+        self.end()
+        return 0
+
+    def has_ended(self):
+        return False
+
+    def is_alone(self):
+        return True
+
+
+class Listener(Once):
+    """`once` behind a port: each connection has a process, and the next one waits until it ended."""
+
+    name = "once behind a port"
+
+    def start(self):
+        self.listener = socket.create_server(("127.0.0.1", self.place.port), backlog=64)
+        self.port = self.place.port
+        self.statuses = []
+        threading.Thread(target=self.run, daemon=True).start()
+        return self
+
+    def run(self):
+        while True:
+            try:
+                link, _ = self.listener.accept()
+            except OSError:
+                return
+            with link:
+                process = self.spawn(link)
+            self.statuses.append(process.wait())
+
+    def stop(self):
+        self.listener.close()
+        wrong = [status for status in self.statuses if status not in (0, 5, 6)]
+        if wrong:
+            raise Failed(f"{self.program} once: statuses {wrong}: {self.place.said()[-500:]}")
+        return 0
+
+
+def usage_of_children():
+    usage = resource.getrusage(resource.RUSAGE_CHILDREN)
+    return usage.ru_utime + usage.ru_stime
