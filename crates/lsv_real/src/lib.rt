@@ -5,6 +5,7 @@ mod call;
 mod clock;
 mod disk;
 mod folders;
+mod foreign;
 mod limit;
 mod path;
 mod read_only;

@@ -1,8 +1,10 @@
 //! The log server of sudo: it stores the sessions that sudo sends it.
 #![tactic(auto)]
 
+mod advice;
 mod told;
 
+use crate::advice::advise;
 use crate::told::ToldTexts;
 use lsv_base::{Bytes, List};
 use lsv_hook::Formatter;
@@ -68,6 +70,7 @@ fn tell(rt: &HostRuntime, status: Status) {
     if let Ok(text) = str::from_utf8(text.as_slice()) {
         let _ = eprintln!(rt; "sudo_logsrvd: {text}");
     }
+    advise(rt, status);
 }
 
 fn main(rt: HostRuntime) -> ExitCode {
