@@ -28,6 +28,7 @@ INSTALLED = \
 	$(SBINDIR)/$(FRONT)sudo_logsrvd \
 	$(BINDIR)/$(FRONT)sudoreplay \
 	$(BINDIR)/$(FRONT)sudo-layout \
+	$(MANDIR)/man1/$(FRONT)sudo-layout.1 \
 	$(MANDIR)/man8/$(FRONT)sudo_logsrvd.8 \
 	$(MANDIR)/man8/$(FRONT)sudoreplay.8 \
 	$(MANDIR)/man5/$(FRONT)sudo_logsrvd.conf.5
@@ -64,6 +65,7 @@ install:
 	install -D -m 755 $(PROGRAM) $(DESTDIR)$(SBINDIR)/$(FRONT)sudo_logsrvd
 	install -D -m 755 $(REPLAY) $(DESTDIR)$(BINDIR)/$(FRONT)sudoreplay
 	install -D -m 755 contrib/sudo-layout $(DESTDIR)$(BINDIR)/$(FRONT)sudo-layout
+	install -D -m 644 man/sudo-layout.1 $(DESTDIR)$(MANDIR)/man1/$(FRONT)sudo-layout.1
 	install -D -m 644 man/sudo_logsrvd.8 $(DESTDIR)$(MANDIR)/man8/$(FRONT)sudo_logsrvd.8
 	install -D -m 644 man/sudoreplay.8 $(DESTDIR)$(MANDIR)/man8/$(FRONT)sudoreplay.8
 	install -D -m 644 man/sudo_logsrvd.conf.5 $(DESTDIR)$(MANDIR)/man5/$(FRONT)sudo_logsrvd.conf.5

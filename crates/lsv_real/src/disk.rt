@@ -4,7 +4,7 @@ ghost use Rattle.lsv_words.specs.Causes.{HasRisen};
 ghost use Rattle.lsv_real.specs.Untold.{untold};
 
 use crate::call::Call;
-use crate::foreign::{Foreign, foreign};
+use crate::foreign::{Foreign, foreign_at};
 use crate::path::Place;
 use crate::store::{Store, StoreFault};
 use lsv_disk::{Disk, DiskFault, FileId, Owner, Part};
@@ -89,7 +89,7 @@ fn say(rt: &HostRuntime, program: &str, path: &str, call: Call, e: &io::Error) {
 /// Whether another program's files stand where the store is to be, or it can't be seen whether they do. Both are told on
 /// standard error, with what to do.
 fn is_foreign(rt: &HostRuntime, program: &str, dir: &str, events: &str) -> bool {
-    match foreign(rt, rt.alloc(), dir, events) {
+    match foreign_at(rt, rt.alloc(), dir, events) {
         Ok(None) => return false,
         Ok(Some(Foreign::Logs)) => {
             let _ = eprintln!(rt;

@@ -15,7 +15,7 @@ pub enum Foreign {
 }
 
 /// Whose files stand at these places, where they aren't this server's. Nothing is changed.
-pub fn foreign(
+pub fn foreign_at(
     rt: &HostRuntime,
     alloc: Global,
     dir: &str,
