@@ -1,39 +1,42 @@
 //! What to do about a run that failed, in a further line on standard error.
 
-use lsv_disk::{FileId, Owner, Part};
+use lsv_conf::Conf;
+use lsv_disk::Owner;
 use lsv_keeper::StoreFault;
-use lsv_serve::Status;
+use std::str;
 
 /// The forms of the commands that are built.
-const FORMS: &str = "usage: sudo_logsrvd once [-f FILE]";
-
-/// Where the event log is shorter than its journal says.
-const SHORT_EVENTS: &str = "the event log, `path` of [logfile], is absent or shorter than its journal says: if it was rotated, move the journal away too, which has the same name and .slots";
-
-/// Where the number file is none of this server's.
-const ODD_NUMBERS: &str =
-    "the number file seq2 in iolog_dir is damaged: put it back as it was, or let iolog_dir be a new folder";
-
-/// Where the store was made with several lanes.
-const OTHER_LANES: &str =
-    "the store was made with another number of lanes, as its file seq2 says: start the server with that number";
-
-/// Says what to do, where more can be said than the status does. Faults of the disk and of the settings file have had a
-/// line of their own before.
-pub fn advise(rt: &HostRuntime, status: Status) {
-    let text = match status {
-        Status::Usage => FORMS,
-        Status::Store(StoreFault::Damaged(f)) => damaged(f),
-        Status::Store(StoreFault::LanesDiffer { .. }) => OTHER_LANES,
-        _ => return,
-    };
-    let _ = eprintln!(rt; "{text}");
+pub fn show_forms(rt: &HostRuntime) {
+    let _ = eprintln!(rt; "usage: sudo_logsrvd once [-f FILE]");
 }
 
-/// What to do about a file that is damaged.
-fn damaged(f: FileId) -> &'static str {
-    match (f.owner, f.part) {
-        (Owner::Events(_), Part::Lines) => SHORT_EVENTS,
-        _ => ODD_NUMBERS,
+/// Says why a store isn't opened, where the disk hasn't said it already, and what to do.
+pub fn advise(rt: &HostRuntime, fault: StoreFault, conf: &Conf) {
+    let dir = text_of(conf.iolog_dir.as_slice());
+    let events = text_of(conf.path.as_slice());
+    match fault {
+        StoreFault::Damaged(f) => match f.owner {
+            Owner::Events(_) => {
+                let _ = eprintln!(rt;
+                    "sudo_logsrvd: {events}: it is absent or shorter than its journal {events}.slots says: if it was rotated, move the journal away too"
+                );
+            }
+            _ => {
+                let _ = eprintln!(rt;
+                    "sudo_logsrvd: {dir}/seq2: it is damaged: put it back from a copy, or let iolog_dir be a new folder"
+                );
+            }
+        },
+        StoreFault::LanesDiffer { kept, .. } => {
+            let _ = eprintln!(rt;
+                "sudo_logsrvd: {dir}/seq2: the store is of {kept} lanes: start the server with so many"
+            );
+        }
+        StoreFault::Device(_) | StoreFault::NoMem => {}
     }
+}
+
+/// A place of the settings, which are UTF-8.
+fn text_of(bytes: &[u8]) -> &str {
+    str::from_utf8(bytes).unwrap_or("the store")
 }

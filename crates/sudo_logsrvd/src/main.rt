@@ -4,7 +4,7 @@
 mod advice;
 mod told;
 
-use crate::advice::advise;
+use crate::advice::{advise, show_forms};
 use crate::told::ToldTexts;
 use lsv_base::{Bytes, List};
 use lsv_hook::Formatter;
@@ -49,6 +49,7 @@ fn run(rt: HostRuntime) -> Status {
         texts: ToldTexts {
             rt,
             files: FileTexts::new(rt, "sudo_logsrvd"),
+            conf: None,
         },
     };
     let kept = Kept {
@@ -56,7 +57,11 @@ fn run(rt: HostRuntime) -> Status {
         json: Formatter::json(),
         prompt: Prompt::new(TextSearch),
     };
-    logsrvd(alloc, &words, &mut out, kept)
+    let status = logsrvd(alloc, &words, &mut out, kept);
+    if let (Status::Store(fault), Some(conf)) = (status, &out.texts.conf) {
+        advise(&rt, fault, conf);
+    }
+    status
 }
 
 /// Prints why the run failed, where it did.
@@ -70,7 +75,9 @@ fn tell(rt: &HostRuntime, status: Status) {
     if let Ok(text) = str::from_utf8(text.as_slice()) {
         let _ = eprintln!(rt; "sudo_logsrvd: {text}");
     }
-    advise(rt, status);
+    if status == Status::Usage {
+        show_forms(rt);
+    }
 }
 
 fn main(rt: HostRuntime) -> ExitCode {

@@ -1,7 +1,9 @@
 //! The settings file, as the administrator is told of it.
 
+ghost use Rattle.std.specs.Prelude.{◌≡◌};
+
 use lsv_base::{Bytes, NoMem, TextFault, Texts};
-use lsv_conf::{ConfFault, read_conf};
+use lsv_conf::{Conf, ConfFault, read_conf};
 use std::alloc::Global;
 use std::str;
 
@@ -11,11 +13,15 @@ use std::str;
 pub struct ToldTexts<T> {
     pub rt: HostRuntime,
     pub files: T,
+    /// What the last settings say, where they were taken.
+    pub conf: Option<Conf>,
 }
 
 impl<T> ToldTexts<T> {
-    /// Says what is passed over or refused of a text.
-    fn tell(&self, alloc: Global, path: &str, text: &[u8]) {
+    /// Says what is passed over or refused of a text, and keeps what it says.
+    fn tell(&mut self, alloc: Global, path: &str, text: &[u8])
+        ensures { self.new.files ≡ self.old.files }
+    {
         match read_conf(alloc, text) {
             Ok(conf) => {
                 for note in conf.notes.as_slice() {
@@ -26,6 +32,7 @@ impl<T> ToldTexts<T> {
                         );
                     }
                 }
+                self.conf = Some(conf);
             }
             Err(ConfFault::Line(line)) => {
                 let reason = reason(alloc, text, line).unwrap_or("out of memory");
@@ -51,6 +58,7 @@ impl<T: Texts> Texts for ToldTexts<T> {
                 let _ = eprintln!(self.rt;
                     "sudo_logsrvd: {path}: warning: no such file, so the defaults count"
                 );
+                self.conf = read_conf(alloc, b"").ok();
             }
         }
         Ok(found)
