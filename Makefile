@@ -1,10 +1,23 @@
-# `make` proves and builds the program, `make run` does its main job on the session in examples/,
+# `make` proves and builds the programs, `make run` does their main job on the session in examples/,
 # `make test` is the gate's proofs and tests, `make wrong-bodies` tries the wrong bodies that the gate leaves out,
 # `make bench` measures, `make interop` tries the programs with sudo's own clients, `make drill` kills the server N times
-# under load and reads the store after each, `make install` installs.
+# under load and reads the store after each. `make install` installs what was built, and proves nothing, `make uninstall`
+# takes it away, `make installed` tries an installed tree, `make dist` makes a tarball, `make pages` looks up the manual pages.
+
+VERSION = 0.1.0
+NAME = lithiumfinch
 
 PREFIX ?= /usr/local
+SYSCONFDIR ?= /etc
 DESTDIR ?=
+SBINDIR ?= $(PREFIX)/sbin
+BINDIR ?= $(PREFIX)/bin
+MANDIR ?= $(PREFIX)/share/man
+DOCDIR ?= $(PREFIX)/share/doc/$(NAME)
+
+# What stands before the names of programs and pages. Below /usr the names are those of Debian's package sudo, which isn't
+# overwritten unless it is told so, as by `make install PREFIX=/usr FRONT=`.
+FRONT ?= $(if $(filter /usr,$(abspath $(PREFIX))),$(NAME)-)
 
 CRATE = crates/sudo_logsrvd
 PROGRAM = $(CRATE)/out/sudo_logsrvd
@@ -16,7 +29,16 @@ MEASURES = crates/lsv_bench
 N ?= 50
 AS ?= once
 
-.PHONY: all build run test wrong-bodies bench interop drill install clean
+INSTALLED = \
+	$(SBINDIR)/$(FRONT)sudo_logsrvd \
+	$(BINDIR)/$(FRONT)sudoreplay \
+	$(BINDIR)/$(FRONT)sudo-layout \
+	$(MANDIR)/man1/$(FRONT)sudo-layout.1 \
+	$(MANDIR)/man8/$(FRONT)sudo_logsrvd.8 \
+	$(MANDIR)/man8/$(FRONT)sudoreplay.8 \
+	$(MANDIR)/man5/$(FRONT)sudo_logsrvd.conf.5
+
+.PHONY: all build run test wrong-bodies bench interop drill install uninstall installed pages dist clean
 
 all: build
 
@@ -46,9 +68,42 @@ interop: build
 drill: build
 	python3 interop/drill.py --server $(PROGRAM) --as $(AS) --kills $(N)
 
-install: build
-	install -D -m 755 $(PROGRAM) $(DESTDIR)$(PREFIX)/sbin/sudo_logsrvd
-	install -D -m 755 $(REPLAY) $(DESTDIR)$(PREFIX)/bin/sudoreplay
+# Copies what `make` built. The settings are put in place where there are none, and are never overwritten.
+install:
+	@for program in $(PROGRAM) $(REPLAY); do \
+	  [ -x $$program ] || { echo "make install: $$program isn't built: run make first, as another user than root" >&2; exit 1; }; \
+	done
+	install -D -m 755 $(PROGRAM) $(DESTDIR)$(SBINDIR)/$(FRONT)sudo_logsrvd
+	install -D -m 755 $(REPLAY) $(DESTDIR)$(BINDIR)/$(FRONT)sudoreplay
+	install -D -m 755 contrib/sudo-layout $(DESTDIR)$(BINDIR)/$(FRONT)sudo-layout
+	install -D -m 644 man/sudo-layout.1 $(DESTDIR)$(MANDIR)/man1/$(FRONT)sudo-layout.1
+	install -D -m 644 man/sudo_logsrvd.8 $(DESTDIR)$(MANDIR)/man8/$(FRONT)sudo_logsrvd.8
+	install -D -m 644 man/sudoreplay.8 $(DESTDIR)$(MANDIR)/man8/$(FRONT)sudoreplay.8
+	install -D -m 644 man/sudo_logsrvd.conf.5 $(DESTDIR)$(MANDIR)/man5/$(FRONT)sudo_logsrvd.conf.5
+	install -d $(DESTDIR)$(DOCDIR)/examples
+	install -m 644 README.md docs/FORMATS.md docs/OPERATIONS.md docs/SETTINGS.md docs/TRUST.md $(DESTDIR)$(DOCDIR)
+	install -m 644 etc/sudo_logsrvd.conf etc/logrotate etc/sysusers etc/tmpfiles $(DESTDIR)$(DOCDIR)/examples
+	@if [ -e $(DESTDIR)$(SYSCONFDIR)/sudo_logsrvd.conf ]; then \
+	  echo "make install: $(DESTDIR)$(SYSCONFDIR)/sudo_logsrvd.conf is there, and stays as it is"; \
+	else \
+	  install -D -m 644 etc/sudo_logsrvd.conf $(DESTDIR)$(SYSCONFDIR)/sudo_logsrvd.conf; \
+	fi
+
+# Takes away what `make install` with the same words put in place, but for the settings. No store is touched.
+uninstall:
+	rm -f $(addprefix $(DESTDIR),$(INSTALLED))
+	rm -rf $(DESTDIR)$(DOCDIR)
+
+installed:
+	bash interop/installed $(PROGRAM) $(REPLAY)
+
+pages:
+	python3 interop/pages.py $(PROGRAM) $(REPLAY)
+
+# A tarball of what is committed.
+dist:
+	mkdir -p out
+	git archive --prefix=$(NAME)-$(VERSION)/ -o out/$(NAME)-$(VERSION).tar.gz HEAD
 
 clean:
-	rm -rf crates/*/out
+	rm -rf crates/*/out out

@@ -4,6 +4,7 @@ ghost use Rattle.lsv_words.specs.Causes.{HasRisen};
 ghost use Rattle.lsv_real.specs.Untold.{untold};
 
 use crate::call::Call;
+use crate::foreign::{Foreign, foreign_at};
 use crate::path::Place;
 use crate::store::{Store, StoreFault};
 use lsv_disk::{Disk, DiskFault, FileId, Owner, Part};
@@ -85,6 +86,28 @@ fn say(rt: &HostRuntime, program: &str, path: &str, call: Call, e: &io::Error) {
     let _ = eprintln!(rt; "{program}: {path}: {call}: {e}");
 }
 
+/// Whether another program's files stand where the store is to be, or it can't be seen whether they do. Both are told on
+/// standard error, with what to do.
+fn is_foreign(rt: &HostRuntime, program: &str, dir: &str, events: &str) -> bool {
+    match foreign_at(rt, rt.alloc(), dir, events) {
+        Ok(None) => return false,
+        Ok(Some(Foreign::Logs)) => {
+            let _ = eprintln!(rt;
+                "{program}: {dir}: sudo's own programs keep their logs here, as its file seq shows: nothing is changed; let iolog_dir be another folder"
+            );
+        }
+        Ok(Some(Foreign::Events)) => {
+            let _ = eprintln!(rt;
+                "{program}: {events}: it has lines, and no journal {events}.slots beside it: nothing is changed; move it away, or let path of [logfile] be another file"
+            );
+        }
+        Err(e) => {
+            let _ = eprintln!(rt; "{program}: {dir}: look: {e}");
+        }
+    }
+    true
+}
+
 impl Disk for FileDisk {
     ghost tells = { ⊥ };
 
@@ -100,6 +123,9 @@ impl Disk for FileDisk {
 
     fn root(&mut self, dir: &str, events: &str) {
         let program = self.program;
+        if is_foreign(&self.rt, program, dir, events) {
+            return;
+        }
         match Store::open(self.rt, dir, events) {
             Ok(store) => self.store = Some(store),
             Err(StoreFault::InUse) => {

@@ -5,6 +5,7 @@ mod call;
 mod clock;
 mod disk;
 mod folders;
+mod foreign;
 mod handle;
 mod limit;
 mod path;

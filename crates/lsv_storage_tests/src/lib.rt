@@ -14,4 +14,6 @@ mod disk;
 #[cfg(test)]
 mod journal;
 #[cfg(test)]
+mod places;
+#[cfg(test)]
 mod real;

@@ -1,8 +1,10 @@
 //! The log server of sudo: it stores the sessions that sudo sends it.
 #![tactic(auto)]
 
+mod advice;
 mod told;
 
+use crate::advice::{advise, show_forms};
 use crate::told::ToldTexts;
 use lsv_base::{Bytes, List};
 use lsv_hook::Formatter;
@@ -47,6 +49,7 @@ fn run(rt: HostRuntime) -> Status {
         texts: ToldTexts {
             rt,
             files: FileTexts::new(rt, "sudo_logsrvd"),
+            conf: None,
         },
     };
     let kept = Kept {
@@ -54,7 +57,11 @@ fn run(rt: HostRuntime) -> Status {
         json: Formatter::json(),
         prompt: Prompt::new(TextSearch),
     };
-    logsrvd(alloc, &words, &mut out, kept)
+    let status = logsrvd(alloc, &words, &mut out, kept);
+    if let (Status::Store(fault), Some(conf)) = (status, &out.texts.conf) {
+        advise(&rt, fault, conf);
+    }
+    status
 }
 
 /// Prints why the run failed, where it did.
@@ -67,6 +74,9 @@ fn tell(rt: &HostRuntime, status: Status) {
     };
     if let Ok(text) = str::from_utf8(text.as_slice()) {
         let _ = eprintln!(rt; "sudo_logsrvd: {text}");
+    }
+    if status == Status::Usage {
+        show_forms(rt);
     }
 }
 

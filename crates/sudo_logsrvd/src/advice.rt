@@ -1,0 +1,42 @@
+//! What to do about a run that failed, in a further line on standard error.
+
+use lsv_conf::Conf;
+use lsv_disk::Owner;
+use lsv_keeper::StoreFault;
+use std::str;
+
+/// The forms of the commands that are built.
+pub fn show_forms(rt: &HostRuntime) {
+    let _ = eprintln!(rt; "usage: sudo_logsrvd once [-f FILE]");
+}
+
+/// Says why a store isn't opened, where the disk hasn't said it already, and what to do.
+pub fn advise(rt: &HostRuntime, fault: StoreFault, conf: &Conf) {
+    let dir = text_of(conf.iolog_dir.as_slice());
+    let events = text_of(conf.path.as_slice());
+    match fault {
+        StoreFault::Damaged(f) => match f.owner {
+            Owner::Events(_) => {
+                let _ = eprintln!(rt;
+                    "sudo_logsrvd: {events}: it is absent or shorter than its journal {events}.slots says: if it was rotated, move the journal away too"
+                );
+            }
+            _ => {
+                let _ = eprintln!(rt;
+                    "sudo_logsrvd: {dir}/seq2: it is damaged: put it back from a copy, or let iolog_dir be a new folder"
+                );
+            }
+        },
+        StoreFault::LanesDiffer { kept, .. } => {
+            let _ = eprintln!(rt;
+                "sudo_logsrvd: {dir}/seq2: the store is of {kept} lanes: start the server with so many"
+            );
+        }
+        StoreFault::Device(_) | StoreFault::NoMem => {}
+    }
+}
+
+/// A place of the settings, which are UTF-8.
+fn text_of(bytes: &[u8]) -> &str {
+    str::from_utf8(bytes).unwrap_or("the store")
+}

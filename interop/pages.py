@@ -1,0 +1,213 @@
+#!/usr/bin/env python3
+"""Reads the manual pages against the programs: the same commands, options, settings, defaults, statuses and messages.
+
+usage: pages.py PROGRAM REPLAY
+
+PROGRAM is sudo_logsrvd, REPLAY sudoreplay. Each option that a page shows must be taken, and no other letter; each setting of
+sudo_logsrvd.conf(5) must be known with its default, and each key that the page says is passed over must be told as that. The
+sample in etc/ must hold each setting with its default. The numbers and texts of the statuses, and the texts that a client gets,
+are compared with the sources. It ends with 1 where something differs.
+"""
+import os
+import re
+import string
+import subprocess
+import sys
+import tempfile
+
+ROOT = os.path.join(os.path.dirname(os.path.abspath(__file__)), "..")
+DIFFERENCES = "DIFFERENCES FROM SUDO'S OWN"
+
+
+def text_of(path):
+    with open(os.path.join(ROOT, path), encoding="utf-8") as file:
+        return file.read()
+
+
+def sections(page):
+    """The sections of a page, by their names."""
+    parts = re.split(r"^\.Sh (.*)$", text_of(page), flags=re.M)
+    return dict(zip(parts[1::2], parts[2::2]))
+
+
+class Pages:
+    def __init__(self, program, replay):
+        self.program, self.replay = os.path.realpath(program), os.path.realpath(replay)
+        self.folder = tempfile.mkdtemp()
+        self.asked = self.differ = 0
+        self.conf = os.path.join(self.folder, "conf")
+        self.places = f"\n[iolog]\niolog_dir = {self.folder}/store\n[logfile]\npath = {self.folder}/events\n"
+
+    def same(self, what, one, other):
+        self.asked += 1
+        if one != other:
+            self.differ += 1
+            print(f"{what}: {one!r} for {other!r}"[:1000])
+
+    def run(self, program, *words):
+        return subprocess.run([program, *words], stdin=subprocess.DEVNULL, capture_output=True, cwd=self.folder, check=False)
+
+    def read(self, settings):
+        """What the server says of settings, line by line, and how it ends."""
+        with open(self.conf, "w", encoding="utf-8") as file:
+            file.write(settings)
+        answer = self.run(self.program, "once", "-f", self.conf)
+        return answer.stderr.decode().splitlines(), answer.returncode
+
+    def options(self):
+        """Letters that a program takes, with a value or without one, and those of its page."""
+        self.read(self.places)
+        os.makedirs(self.folder + "/empty", exist_ok=True)
+        values = {"d": "empty", "f": "stdout"}
+        shown = set(re.findall(r"^\.It Fl (\w)", sections("man/sudoreplay.8")["DESCRIPTION"], flags=re.M))
+        taken = set()
+        for letter in string.ascii_letters + string.digits:
+            front = [] if letter == "d" else ["-d", "empty"]
+            for value in ([], [values.get(letter, "1")]):
+                if self.run(self.replay, *front, "-" + letter, *value, *([] if letter == "l" else ["000001"])).returncode in (0, 8):
+                    taken.add(letter)
+        self.same("options of sudoreplay", sorted(taken), sorted(shown))
+        shown = set(re.findall(r"^\.It Fl (\w)", sections("man/sudo_logsrvd.8")["DESCRIPTION"], flags=re.M))
+        taken = set()
+        for letter in string.ascii_letters + string.digits:
+            for value in ([], [self.conf]):
+                front = [] if letter == "f" else ["-f", self.conf]
+                if self.run(self.program, "once", *front, "-" + letter, *value).returncode == 0:
+                    taken.add(letter)
+        self.same("options of sudo_logsrvd", sorted(taken), sorted(shown))
+        for words in (["--help"], ["-h"], ["--version"], ["-V"], ["help"], []):
+            for program in (self.program, self.replay):
+                self.same(f"status of {words}", self.run(program, *words).returncode, 2)
+        shown = set(re.findall(r"^\.It Cm (\w+)$", sections("man/sudo_logsrvd.8")["DESCRIPTION"], flags=re.M))
+        taken = {word for word in ("once", "serve", "relay", "load", "send") if self.run(self.program, word, "-f", self.conf).returncode != 2}
+        self.same("commands", taken, shown)
+
+    def forms(self):
+        """The second line of a usage error shows what the synopsis does."""
+        for program, name in ((self.program, "sudo_logsrvd"), (self.replay, "sudoreplay")):
+            lines = self.run(program, "--none").stderr.decode().splitlines()
+            self.same(f"lines of a usage error of {name}", (len(lines), lines[0]), (2, f"{name}: usage"))
+            synopsis = sections(f"man/{name}.8")["SYNOPSIS"]
+            letters = sorted("".join(re.findall(r"Fl (\w+)", synopsis)))
+            self.same(f"options of the forms of {name}", sorted("".join(re.findall(r"(?<![\w-])-(\w+)", lines[1]))), letters)
+
+    def settings(self):
+        """Each setting of the page is known, with its default, and the sample has it."""
+        page = sections("man/sudo_logsrvd.conf.5")
+        parts = re.split(r"^\.Ss (\w+)$", page["DESCRIPTION"], flags=re.M)
+        sample = re.findall(r"^\[(\w+)\]|^#(\w+) = (.*)$", text_of("etc/sudo_logsrvd.conf"), flags=re.M)
+        place, sampled = None, {}
+        for section, key, value in sample:
+            place = section or place
+            if key:
+                sampled[place, key] = value
+        shown = {}
+        for section, body in zip(parts[1::2], parts[2::2]):
+            for item in re.split(r"^\.It ", body, flags=re.M)[1:]:
+                key = re.match(r"Cm (\w+) No =", item)[1]
+                default = re.search(r"default is\n\.\w+ (.*?)(?: [.:])?$", item, flags=re.M)
+                shown[section, key] = default[1] if default else None
+        self.same("settings of the sample", sorted(sampled), sorted(shown))
+        table = re.findall(r'row "(\w+)" "(\w+)" \w+\)?(?: "(.*)")? ∷', text_of("crates/lsv_conf/specs/Table.antt"))
+        self.same("settings of the table", {(section, key): default or None for section, key, default in table}, shown)
+        known = sorted((section, key) for section, key in self.candidates() if self.is_known(section, key))
+        self.same("settings that are known", known, sorted(shown))
+        for (section, key), default in shown.items():
+            if default is None:
+                continue
+            self.same(f"sample of {key}", sampled[section, key], default)
+            self.same(f"default of {key}", self.read(f"[{section}]\n{key} = {default}\n{self.places}"), ([], 0))
+        for whole in (text_of("etc/sudo_logsrvd.conf"), re.sub(r"^#(\w+ = )", r"\1", text_of("etc/sudo_logsrvd.conf"), flags=re.M)):
+            self.same("sample", self.read(whole + self.places), ([], 0))
+
+    def candidates(self):
+        """Keys of this repository's and of sudo's own documents, in each section."""
+        keys = {key for text in ("man/sudo_logsrvd.conf.5", "etc/sudo_logsrvd.conf") for key in re.findall(r"\b[a-z]+_[a-z]+\b|^\.(?:It Cm|Ql) (\w+)", text_of(text)) if key}
+        keys |= {"prompts", "path"} | set(re.findall(r"\b[a-z]+_[a-z_]*[a-z]\b", text_of("docs/SETTINGS.md")))
+        if os.path.exists("/etc/sudo_logsrvd.conf"):
+            keys |= set(re.findall(r"^#?(\w+) = ", text_of("/etc/sudo_logsrvd.conf"), flags=re.M))
+        return [(section, key) for section in ("server", "relay", "iolog", "eventlog", "logfile", "syslog") for key in sorted(keys)]
+
+    def is_known(self, section, key):
+        """A known key isn't told as passed over, whatever its value."""
+        wanted = f"{section} {key}"
+        if not hasattr(self, "told"):
+            lines = [f"[{s}]\n{k} = on" for s, k in self.candidates()]
+            self.told = self.passed_over(lines)
+        return wanted not in self.told
+
+    def passed_over(self, lines):
+        """The settings that are told as passed over. A refused line ends the reading, so it is taken out."""
+        lines = list(lines)
+        while True:
+            told, status = self.read("\n".join(lines) + self.places)
+            refused = [int(number) for number in re.findall(r":(\d+): the line is refused", "\n".join(told))]
+            if status != 3 or not refused:
+                break
+            del lines[(refused[0] - 1) // 2]
+        passed = set()
+        for number, key in re.findall(r":(\d+): warning: (\w+) is passed over", "\n".join(told)):
+            section = lines[(int(number) - 1) // 2].split("]")[0].strip("[")
+            passed.add(f"{section} {key}")
+        return passed
+
+    def passed(self):
+        """What the page says is passed over is."""
+        item = sections("man/sudo_logsrvd.conf.5")[DIFFERENCES].split("and those of the section")[0]
+        keys = [key for key in re.findall(r"^\.Ql (\w+)", item, flags=re.M) if not key.startswith("tls_")] + ["tls_cert"]
+        for key in keys:
+            told, status = self.read(f"[server]\n{key} = x\n{self.places}")
+            self.same(f"passed over {key}", (told, status), ([f"sudo_logsrvd: {self.conf}:2: warning: {key} is passed over"], 0))
+
+    def refused(self):
+        """The reasons of refused lines are those of the page."""
+        reasons = re.findall(r"^\.It Sy (.*)$", sections("man/sudo_logsrvd.conf.5")["DIAGNOSTICS"], flags=re.M)
+        found = []
+        for line in (b"\xff", b"key", b"key = 1", b"[iolog]\nlog_passwords = perhaps", b"[iolog]\n= 1", b"[server]\nlisten_address = *:30344(tls)"):
+            with open(self.conf, "wb") as file:
+                file.write(line + b"\n")
+            answer = self.run(self.program, "once", "-f", self.conf)
+            told = answer.stderr.decode().splitlines()
+            number = line.count(b"\n") + 1
+            front = f"sudo_logsrvd: {self.conf}:{number}: the line is refused: "
+            self.same(f"refusal of {line}", (answer.returncode, told[0].startswith(front), told[1]), (3, True, f"sudo_logsrvd: settings line {number}"))
+            found.append(told[0].removeprefix(front).replace("`[section]`", "`[section]'").replace("`key = value`", "`key = value'"))
+        self.same("reasons", sorted(set(found)), sorted(reasons))
+
+    def statuses(self):
+        """Numbers and texts of the statuses, as the sources have them, and texts that a client gets."""
+        for page, source in (("man/sudo_logsrvd.8", "crates/lsv_serve/src/status.rt"), ("man/sudoreplay.8", "crates/lsv_replay/src/status.rt")):
+            code = text_of(source)
+            numbers = dict(re.findall(r"\w*Status::(\w+)(?:\(_\))? => (\d+),", code))
+            texts = dict(re.findall(r'\w*Status::(\w+)(?:\(_\))? => (?:Bytes::of\(alloc, b)?"([a-z ]+)"', code))
+            wanted = sorted((number, texts.get(name)) for name, number in numbers.items())
+            shown = re.findall(r"^\.It (\d+)\n(?:\.Sy ([a-z ]+?)(?: n)? ?[.:]$)?", sections(page)["EXIT STATUS"], flags=re.M)
+            self.same(f"statuses of {page}", sorted(number for number, _ in shown), sorted(numbers.values()))
+            told = {number: text for number, text in shown if text}
+            self.same(f"texts of {page}", {number: told.get(number) for number, text in wanted if text}, {number: text for number, text in wanted if text})
+        code = re.findall(r'Refusal::\w+ => "([a-z ]+)"', text_of("crates/lsv_request/src/refusal.rt"))
+        shown = re.findall(r"^\.It Sy (.*)$", text_of("man/sudo_logsrvd.8").split(".Ss To the client")[1], flags=re.M)
+        self.same("texts for clients", shown, code)
+
+    def sudoreplays(self):
+        """Names of searches and streams of the page."""
+        page = sections("man/sudoreplay.8")["DESCRIPTION"]
+        names = re.findall(r"^\.It Cm (\w+) Ar", page, flags=re.M)
+        for name in names:
+            value = "2026-11-28T09:30:00Z" if name.endswith("date") else "x"
+            self.same(f"search {name}", self.run(self.replay, "-d", "empty", "-l", name, value).returncode, 0)
+        self.same("names of searches", len(names), 9)
+        for name in re.findall(r"^\.Cm (\w+) [,.]$", page.split(".It Fl f")[1].split("The default")[0], flags=re.M):
+            self.same(f"stream {name}", self.run(self.replay, "-d", "empty", "-f", name, "000001").returncode, 8)
+
+
+def main():
+    pages = Pages(*sys.argv[1:3])
+    for step in (pages.options, pages.forms, pages.settings, pages.passed, pages.refused, pages.statuses, pages.sudoreplays):
+        step()
+    print(f"{pages.asked} asked, {pages.differ} differ")
+    return 1 if pages.differ else 0
+
+
+if __name__ == "__main__":
+    sys.exit(main())
