@@ -34,7 +34,6 @@ ERRORS = [
     ("unexpected message", [ACCEPT, client.restart("000001", 5)]),
     ("unexpected message", [client.accept(SECOND, INFO, False), OUTPUT]),
     ("unexpected message", [client.refusal("alert", 5, "a", INFO), client.hello()]),
-    ("unexpected message", [ACCEPT, client.refusal("reject", 5, "a", INFO)]),
     ("malformed message", [client.frame(b"")]),
     ("malformed message", [client.frame(b"\x6a\x06\x0a\x01a\x0a\x01b")]),
     ("malformed message", [client.frame(b"\x6a\x06\x0a\x04su")]),
@@ -64,11 +63,15 @@ ERRORS = [
 def part_errors(trial):
     """Each error comes as the last message, and the connection ends."""
     for text, sent in ERRORS:
-        link = trial.direct()
+        link = trial.direct(timeout=5)
         link.send(*sent)
-        heard = link.rest()
-        link.close()
-        same(f"answer to {b''.join(sent)[:60]!r}", heard[-1:], [("error", text)])
+        try:
+            heard = link.rest()
+        except TimeoutError as fault:
+            raise Differs(f"no answer to {b''.join(sent)[-60:]!r}, for {text}") from fault
+        finally:
+            link.close()
+        same(f"answer to {b''.join(sent)[-60:]!r}", heard[-1:], [("error", text)])
 
 
 def whole(link, submit, info, records, value=0):
@@ -129,6 +132,30 @@ def part_no_records(trial):
     for expects in (False, True):
         link = trial.connect()
         link.send(client.hello(), client.accept(SECOND, INFO, expects), client.exited(5))
+        link.rest()
+        link.close()
+        compared(trial)
+
+
+@only("serve", "once")
+def part_events_of_a_session(trial):
+    """Accepts, alerts and rejects within a session are event lines, and the session goes on."""
+    link = trial.connect()
+    further = [client.accept(2 * SECOND, {**INFO, "command": "/bin/sub"}, False), client.refusal("reject", 3 * SECOND, "no", INFO), client.refusal("alert", 4 * SECOND, "beware", INFO)]
+    link.send(client.hello(), ACCEPT, OUTPUT, *further, OUTPUT, client.exited(5))
+    link.rest()
+    link.close()
+    (told,) = trial.told(1)
+    same("events", [name for name, _ in told.events], ["accept", "accept", "reject", "alert", "exit"])
+    trial.store.compare([told])
+
+
+@only("serve", "once")
+def part_refusals(trial):
+    """A reject, and an alert before one, without a session."""
+    for alerts in ([], [client.refusal("alert", 4 * SECOND, "beware", INFO)]):
+        link = trial.connect()
+        link.send(client.hello(), *alerts, client.refusal("reject", 3 * SECOND, "", {}))
         link.rest()
         link.close()
         compared(trial)

@@ -139,11 +139,11 @@ def exit_members(told):
 
 
 def event_members(name, what, digits):
-    """The members of an event line, but for the connection and the moment, which the server alone knows."""
+    """An event line, but for the connection and the moment, which the server alone knows. An accept and an exit name the log."""
     if name == "exit":
         members = exit_members(what)
     elif name == "accept":
         members = {"info": what["info"], "submit_time": stamp(what["time"])}
     else:
         members = {"info": what["info"], "reason": what["reason"], "alert_time" if name == "alert" else "submit_time": stamp(what["time"])}
-    return {name: {**members, **({"iolog": digits} if digits else {})}}
+    return {name: {**members, **({"iolog": digits} if digits and name in ("accept", "exit") else {})}}

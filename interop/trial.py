@@ -207,7 +207,7 @@ class Namespace:
         lines = ["Defaults !fqdn, log_input, log_output, !use_pty, !authenticate, !lecture, !mailerpath, log_exit_status"]
         lines += [f"Defaults log_servers = 127.0.0.1:{self.port}", "Defaults !syslog"] if server else ["Defaults !syslog"]
         lines += [f"Defaults {it}" for it in defaults]
-        lines += ["root ALL = (ALL:ALL) ALL", "nobody ALL = (root) /usr/bin/id"]
+        lines += ["root ALL = (ALL:ALL) ALL", "nobody ALL = (root) /usr/bin/id", "daemon ALL = (root) /bin/sh, /bin/echo"]
         path = os.path.join(self.work, "sudoers")
         if os.path.exists(path):
             os.remove(path)
