@@ -12,13 +12,15 @@ at their last commit point with records that they make anew. After each kill, be
 - the accept of each log that a client was told of has just one event line, an exit with its commit point too.
 
 A restart must be accepted wherever the log isn't complete. `once` has one client, on a pair of sockets, and a process for each
-connection. --fault is handed to model.py, the wrong server by which the drill is tried. It ends with 1 where something differs.
+connection. --fault is handed to model.py, the wrong server by which the drill is tried. It ends with 1 where something differs; ended
+by SIGTERM it tells what was found until then.
 """
 import argparse
 import json
 import os
 import random
 import shutil
+import signal
 import sys
 import threading
 import time
@@ -398,13 +400,14 @@ def main():
     words.add_argument("--fault")
     args = words.parse_args()
     print(f"drill.py: {args.kind}, seed {args.seed}", flush=True)
-    drill, kills = Drill(args), 0
-    while kills < args.kills and not drill.wrong:
+    drill, kills, stopped = Drill(args), 0, []
+    signal.signal(signal.SIGTERM, lambda *_: stopped.append(True))
+    while kills < args.kills and not drill.wrong and not stopped:
         drill.life(drill.rng.choice([0.01, 0.05, 0.15, 0.3]) * (0.5 + drill.rng.random()))
         kills += 1
     for fault in drill.wrong:
         print(f"drill.py: {fault}")
-    print(f"drill.py: {kills} kills, " + ", ".join(f"{number} {what}" for what, number in drill.count.items()))
+    print(f"drill.py: {kills} kills{' until it was ended' * bool(stopped)}, " + ", ".join(f"{number} {what}" for what, number in drill.count.items()))
     if drill.wrong:
         print(f"drill.py: the store is left in {drill.place.folder}")
         return 1

@@ -158,7 +158,7 @@ class Trial:
         self.tap = tap.Tap(self.server.port)
         self.store = (Theirs if kind == "sudo" else Ours)(self.place)
         self.work = tempfile.mkdtemp(prefix="interop")
-        self.sudo = Namespace(self.work, self.tap.port) if os.geteuid() == 0 and servers.tool("sudo") and servers.tool("unshare") else None
+        self.sudo = Namespace(self.work, self.tap.port)
 
     def session(self, name, records, info):
         """The folder of a session in sudo's own form."""
@@ -201,6 +201,12 @@ class Namespace:
     def __init__(self, work, port):
         self.work, self.port = work, port
         os.chmod(work, 0o755)
+
+    @staticmethod
+    def is_possible():
+        """Whether this user may make such a namespace, and bind a file in it."""
+        words = ["unshare", "-m", "--propagation", "private", "mount", "--bind", "/etc/sudoers", "/etc/sudoers"]
+        return os.geteuid() == 0 and subprocess.run(words, capture_output=True, check=False).returncode == 0
 
     def run(self, *words, user="root", defaults=(), terminal=False, given=b"", server=True):
         """The status and the output of `sudo WORDS` by a user."""
