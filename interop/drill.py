@@ -130,7 +130,7 @@ class Drill:
         kind = servers.Once if args.kind == "once" else servers.Serve
         self.server = kind(os.path.realpath(args.server), self.place, ["--fault", args.fault] if args.fault else [])
         self.clients = 1 if self.server.is_alone() else args.clients
-        self.lock, self.greeted, self.wrong = threading.Lock(), threading.Event(), []
+        self.lock, self.greeted, self.sending, self.wrong = threading.Lock(), threading.Event(), threading.Event(), []
         self.sessions, self.open, self.exits = {}, [], {}
         self.before, self.dead = 0, False
         self.count = dict.fromkeys(("logs", "records", "commit points", "exits", "resumed", "cut off", "complete already", "refusals"), 0)
@@ -139,8 +139,12 @@ class Drill:
         with self.lock:
             self.count[what] += number
 
+    def lacks(self):
+        """What hasn't happened yet, without which the drill says nothing."""
+        return [what for what in ("logs", "commit points", "exits", "resumed", "cut off") if self.count[what] == 0]
+
     def connection(self):
-        link = self.server.connect(timeout=20)
+        link = self.server.connect(timeout=60)
         name, told = link.read()
         if name != "hello":
             raise Wrong(f"{name} {told} for a hello")
@@ -207,6 +211,7 @@ class Drill:
         for record in records:
             session.sent(record)
         link.send(*map(client.record, records))
+        self.sending.set()
         self.add("records", len(records))
 
     def end_session(self, link, session, rng):
@@ -331,6 +336,11 @@ class Drill:
         if self.rng.random() < 0.9:
             self.greeted.wait(20)
         time.sleep(seconds)
+        if self.rng.random() < 0.5:
+            # right behind a send, so that the server is at work
+            self.sending.clear()
+            self.sending.wait(1)
+            time.sleep(self.rng.random() * 0.003)
         self.dead = True
         self.server.kill()
         for thread in threads:
@@ -402,9 +412,11 @@ def main():
     print(f"drill.py: {args.kind}, seed {args.seed}", flush=True)
     drill, kills, stopped = Drill(args), 0, []
     signal.signal(signal.SIGTERM, lambda *_: stopped.append(True))
-    while kills < args.kills and not drill.wrong and not stopped:
+    while (kills < args.kills or drill.lacks() and kills < 10 * args.kills) and not drill.wrong and not stopped:
         drill.life(drill.rng.choice([0.01, 0.05, 0.15, 0.3]) * (0.5 + drill.rng.random()))
         kills += 1
+    if drill.lacks() and not drill.wrong and not stopped:
+        drill.wrong.append(f"nothing was tried of: {', '.join(drill.lacks())}")
     for fault in drill.wrong:
         print(f"drill.py: {fault}")
     print(f"drill.py: {kills} kills{' until it was ended' * bool(stopped)}, " + ", ".join(f"{number} {what}" for what, number in drill.count.items()))
