@@ -167,7 +167,7 @@ class Server:
         if self.fault == "silent":
             self.late, self.new = self.new, self.late
         self.flush_events()
-        for digits in sorted(self.owned):  # a session that ends leaves its place
+        for digits in sorted(self.owned):
             session, log = self.owned[digits]
             if not log.staged:
                 continue

@@ -254,14 +254,13 @@ def part_a_client_that_reads_nothing(trial):
     lazy.send(client.hello(), ACCEPT)
     try:
         for _ in range(2_000):
-            lazy.link.sendall(client.record((5, "ttyout", b"x" * 1_000)))
-            whole_now = None
+            lazy.link.sendall(OUTPUT * 100)
     except TimeoutError:
         pass
-    whole_now = whole(trial.connect(), SECOND, INFO, [(5, "ttyout", b"abc")])
-    told = trial.told(1)
-    same("log", told[0].log_ids, [whole_now])
-    trial.store.log(told[0], None)
+    digits = whole(trial.connect(), SECOND, INFO, [(5, "ttyout", b"abc")])
+    (told,) = trial.told(1)
+    same("log", told.log_ids, [digits])
+    trial.store.log(told, None)
     lazy.close()
 
 
