@@ -166,7 +166,7 @@ def part_resumed_otherwise(trial):
     """A client that resumes and sends other records than before, three times; the journal counts the cuts."""
     rng = random.Random(5)
     link = trial.connect()
-    first = [(rng.randrange(1, 10**6), "ttyout", rng.randbytes(100)) for _ in range(50)]
+    first = [output(rng, at, "ttyout") for at in range(50)]
     link.send(client.hello(), ACCEPT, *map(client.record, first))
     heard = [link.read(), link.read()]
     end = sum(record[0] for record in first)
@@ -183,11 +183,18 @@ def part_resumed_otherwise(trial):
     same("complete", log.is_complete(), False)
 
 
+def output(rng, at, stream):
+    """A record; two of three have no delay."""
+    return 0 if at % 3 else rng.randrange(1, 10**6), stream, rng.randbytes(30)
+
+
 def other_end(trial, digits, records, rng):
-    """Drops the last third of a log, and sends others. Gives its records."""
+    """Drops some third of a log, and sends others. Of the records that end at the point the first alone stays. Gives its records."""
     keep = len(records) * 2 // 3
+    while records[keep - 1][0] == 0:
+        keep -= 1
     point = sum(record[0] for record in records[:keep])
-    new = [(rng.randrange(1, 10**6), "ttyin", rng.randbytes(30)) for _ in range(9)]
+    new = [output(rng, at, "ttyin") for at in range(9)]
     link = trial.connect()
     link.send(client.restart(digits, point), *map(client.record, new))
     end = point + sum(record[0] for record in new)
