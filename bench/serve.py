@@ -123,11 +123,11 @@ def interleaved(sides, measure):
     return [tuple(map(min, zip(*kept))) for kept in results]
 
 
-def told(name, unit, figures, wanted=""):
+def told(name, unit, figures):
     """Prints the figure of each side, and the ratio of the first to the second."""
     text = " to ".join(f"{it:.3g}" for it in figures)
     ratio = f", ratio {figures[0] / figures[1]:.2f}" if len(figures) == 2 and figures[1] else ""
-    print(f"{name}: {text} {unit}{ratio}{wanted}", flush=True)
+    print(f"{name}: {text}{' ' * bool(unit)}{unit}{ratio}", flush=True)
 
 
 def measure_loads(sides, places, share):

@@ -12,13 +12,15 @@ at their last commit point with records that they make anew. After each kill, be
 - the accept of each log that a client was told of has just one event line, an exit with its commit point too.
 
 A restart must be accepted wherever the log isn't complete. `once` has one client, on a pair of sockets, and a process for each
-connection. --fault is handed to model.py, the wrong server by which the drill is tried. It ends with 1 where something differs.
+connection. --fault is handed to model.py, the wrong server by which the drill is tried. It ends with 1 where something differs; ended
+by SIGTERM it tells what was found until then.
 """
 import argparse
 import json
 import os
 import random
 import shutil
+import signal
 import sys
 import threading
 import time
@@ -128,8 +130,10 @@ class Drill:
         kind = servers.Once if args.kind == "once" else servers.Serve
         self.server = kind(os.path.realpath(args.server), self.place, ["--fault", args.fault] if args.fault else [])
         self.clients = 1 if self.server.is_alone() else args.clients
-        self.lock, self.greeted, self.wrong = threading.Lock(), threading.Event(), []
+        self.lock, self.greeted, self.sending, self.wrong = threading.Lock(), threading.Event(), threading.Event(), []
         self.sessions, self.open, self.exits = {}, [], {}
+        # what the event log has: its lines, the accept and the exit of each log, and how many rejects
+        self.lines, self.accepts, self.ended, self.rejects = [], {}, {}, 0
         self.before, self.dead = 0, False
         self.count = dict.fromkeys(("logs", "records", "commit points", "exits", "resumed", "cut off", "complete already", "refusals"), 0)
 
@@ -137,8 +141,12 @@ class Drill:
         with self.lock:
             self.count[what] += number
 
+    def lacks(self):
+        """What hasn't happened yet, without which the drill says nothing."""
+        return [what for what in ("logs", "commit points", "exits", "resumed", "cut off") if self.count[what] == 0]
+
     def connection(self):
-        link = self.server.connect(timeout=20)
+        link = self.server.connect(timeout=60)
         name, told = link.read()
         if name != "hello":
             raise Wrong(f"{name} {told} for a hello")
@@ -205,6 +213,7 @@ class Drill:
         for record in records:
             session.sent(record)
         link.send(*map(client.record, records))
+        self.sending.set()
         self.add("records", len(records))
 
     def end_session(self, link, session, rng):
@@ -329,6 +338,11 @@ class Drill:
         if self.rng.random() < 0.9:
             self.greeted.wait(20)
         time.sleep(seconds)
+        if self.rng.random() < 0.5:
+            # right behind a send, so that the server is at work
+            self.sending.clear()
+            self.sending.wait(1)
+            time.sleep(self.rng.random() * 0.003)
         self.dead = True
         self.server.kill()
         for thread in threads:
@@ -336,44 +350,52 @@ class Drill:
         if not self.wrong:
             self.check()
 
-    def check(self):
-        """Reads the store, while no server runs."""
+    def check(self, whole=False):
+        """Reads the store, while no server runs: the logs that were written in this life and some of the others, or all."""
         try:
             found = store.numbers(self.place.store)
             last = found[0] if found else 0
-            for digits, session in self.sessions.items():
-                log = store.read_log(self.place.store, digits)
+            at_rest = [session for session in self.sessions.values() if session.at_rest is not None]
+            written = [session for session in self.sessions.values() if session.at_rest is None]
+            for session in written + (at_rest if whole else self.rng.sample(at_rest, min(10, len(at_rest)))):
+                log = store.read_log(self.place.store, session.digits)
                 session.check(log)
                 session.settle(log)
-                if store.number_of(digits) > last:
-                    raise Wrong(f"the number {digits} was told, and the last drawn one is {last}")
+            told = max(map(store.number_of, self.sessions), default=0)
+            if told > last:
+                raise Wrong(f"the number {store.digits_of(told)} was told, and the last drawn one is {last}")
             self.check_events()
-            self.before = max([last] + [store.number_of(digits) for digits in self.sessions])
+            self.before = last
         except (Wrong, store.Damaged) as fault:
             self.wrong.append(str(fault))
 
     def check_events(self):
-        lines = [json.loads(line) for line in store.lines(self.place.events) or []]
-        accepts, exits, refusals = {}, {}, 0
-        for line in lines:
-            ((name, members),) = line.items()
-            if name == "accept":
-                accepts.setdefault(members["iolog"], []).append(members["info"])
-            elif name == "exit":
-                exits.setdefault(members["iolog"], []).append(members["exit_value"])
-            else:
-                refusals += name == "reject"
-        twice = [digits for found in (accepts, exits) for digits, told in found.items() if len(told) > 1]
-        if twice:
-            raise Wrong(f"these logs have two accepts or two exits in the event log: {twice}")
+        """The event log begins with the lines that it had, and has one accept of each log that was told, and one of each exit."""
+        lines = store.lines(self.place.events) or []
+        if lines[:len(self.lines)] != self.lines:
+            raise Wrong("lines of the event log have changed")
+        for line in lines[len(self.lines):]:
+            ((name, members),) = json.loads(line).items()
+            self.take_event(name, members)
+        self.lines = lines
         for digits, session in self.sessions.items():
-            if accepts.get(digits) != [session.info]:
-                raise Wrong(f"log {digits} was told, and its accepts in the event log are {accepts.get(digits)}")
+            if self.accepts.get(digits) != session.info:
+                raise Wrong(f"log {digits} was told, and its accept in the event log is {self.accepts.get(digits)}")
         for digits, value in self.exits.items():
-            if exits.get(digits) != [value]:
-                raise Wrong(f"log {digits} has ended with {value}, and its exits in the event log are {exits.get(digits)}")
-        if refusals < self.count["refusals"]:
-            raise Wrong(f"{refusals} rejects are in the event log of {self.count['refusals']}")
+            if self.ended.get(digits) != value:
+                raise Wrong(f"log {digits} has ended with {value}, and its exit in the event log is {self.ended.get(digits)}")
+        if self.rejects < self.count["refusals"]:
+            raise Wrong(f"{self.rejects} rejects are in the event log of {self.count['refusals']}")
+
+    def take_event(self, name, members):
+        kept = {"accept": self.accepts, "exit": self.ended}.get(name)
+        if kept is None:
+            self.rejects += name == "reject"
+            return
+        digits = members["iolog"]
+        if digits in kept:
+            raise Wrong(f"log {digits} has two lines of its {name} in the event log")
+        kept[digits] = members["info"] if name == "accept" else members["exit_value"]
 
 
 def record_of(rng):
@@ -398,13 +420,18 @@ def main():
     words.add_argument("--fault")
     args = words.parse_args()
     print(f"drill.py: {args.kind}, seed {args.seed}", flush=True)
-    drill, kills = Drill(args), 0
-    while kills < args.kills and not drill.wrong:
+    drill, kills, stopped = Drill(args), 0, []
+    signal.signal(signal.SIGTERM, lambda *_: stopped.append(True))
+    while (kills < args.kills or drill.lacks() and kills < 10 * args.kills) and not drill.wrong and not stopped:
         drill.life(drill.rng.choice([0.01, 0.05, 0.15, 0.3]) * (0.5 + drill.rng.random()))
         kills += 1
+    if not drill.wrong:
+        drill.check(whole=True)
+    if drill.lacks() and not drill.wrong and not stopped:
+        drill.wrong.append(f"nothing was tried of: {', '.join(drill.lacks())}")
     for fault in drill.wrong:
         print(f"drill.py: {fault}")
-    print(f"drill.py: {kills} kills, " + ", ".join(f"{number} {what}" for what, number in drill.count.items()))
+    print(f"drill.py: {kills} kills{' until it was ended' * bool(stopped)}, " + ", ".join(f"{number} {what}" for what, number in drill.count.items()))
     if drill.wrong:
         print(f"drill.py: the store is left in {drill.place.folder}")
         return 1

@@ -159,14 +159,15 @@ class Server:
 
     def event(self, session, name, members):
         told = {**members, "peer": session.peer, "server_time": stamp(time.time_ns())}
-        self.new.append(compact({name: {**told, **({"iolog": session.digits} if session.digits else {})}}))
+        named = {"iolog": session.digits} if session.digits and name in ("accept", "exit") else {}
+        self.new.append(compact({name: {**told, **named}}))
 
     def tail(self):
         """What is done at the end of a turn: the event lines, then the logs with staged records."""
         if self.fault == "silent":
             self.late, self.new = self.new, self.late
         self.flush_events()
-        for digits in sorted(self.owned):  # a session that ends leaves its place
+        for digits in sorted(self.owned):
             session, log = self.owned[digits]
             if not log.staged:
                 continue
@@ -245,8 +246,6 @@ class Session:
     def turn(self, name, told, bad):
         wanted = {"hello": ["fresh"], "restart": ["fresh", "greeted"], "exit": ["running", "logging"]}
         usual = ["logging"] if name in client.STREAMS + ("winsize", "suspend") else ["fresh", "greeted", "alerted", "running", "logging"]
-        if name in ("reject",):
-            usual = ["fresh", "greeted", "alerted"]
         if self.state not in wanted.get(name, usual):
             raise Refused("unexpected message")
         if bad:
@@ -266,7 +265,8 @@ class Session:
 
     def on_reject(self, told):
         self.server.event(self, "reject", {"info": told["info"], "reason": told["reason"], "submit_time": stamp(told["time"])})
-        self.release()
+        if self.state not in ("running", "logging"):
+            self.release()
 
     def on_accept(self, told):
         if self.state not in ("running", "logging"):

@@ -34,7 +34,6 @@ ERRORS = [
     ("unexpected message", [ACCEPT, client.restart("000001", 5)]),
     ("unexpected message", [client.accept(SECOND, INFO, False), OUTPUT]),
     ("unexpected message", [client.refusal("alert", 5, "a", INFO), client.hello()]),
-    ("unexpected message", [ACCEPT, client.refusal("reject", 5, "a", INFO)]),
     ("malformed message", [client.frame(b"")]),
     ("malformed message", [client.frame(b"\x6a\x06\x0a\x01a\x0a\x01b")]),
     ("malformed message", [client.frame(b"\x6a\x06\x0a\x04su")]),
@@ -64,11 +63,15 @@ ERRORS = [
 def part_errors(trial):
     """Each error comes as the last message, and the connection ends."""
     for text, sent in ERRORS:
-        link = trial.direct()
+        link = trial.direct(timeout=5)
         link.send(*sent)
-        heard = link.rest()
-        link.close()
-        same(f"answer to {b''.join(sent)[:60]!r}", heard[-1:], [("error", text)])
+        try:
+            heard = link.rest()
+        except TimeoutError as fault:
+            raise Differs(f"no answer to {b''.join(sent)[-60:]!r}, for {text}") from fault
+        finally:
+            link.close()
+        same(f"answer to {b''.join(sent)[-60:]!r}", heard[-1:], [("error", text)])
 
 
 def whole(link, submit, info, records, value=0):
@@ -135,11 +138,35 @@ def part_no_records(trial):
 
 
 @only("serve", "once")
+def part_events_of_a_session(trial):
+    """Accepts, alerts and rejects within a session are event lines, and the session goes on."""
+    link = trial.connect()
+    further = [client.accept(2 * SECOND, {**INFO, "command": "/bin/sub"}, False), client.refusal("reject", 3 * SECOND, "no", INFO), client.refusal("alert", 4 * SECOND, "beware", INFO)]
+    link.send(client.hello(), ACCEPT, OUTPUT, *further, OUTPUT, client.exited(5))
+    link.rest()
+    link.close()
+    (told,) = trial.told(1)
+    same("events", [name for name, _ in told.events], ["accept", "accept", "reject", "alert", "exit"])
+    trial.store.compare([told])
+
+
+@only("serve", "once")
+def part_refusals(trial):
+    """A reject, and an alert before one, without a session."""
+    for alerts in ([], [client.refusal("alert", 4 * SECOND, "beware", INFO)]):
+        link = trial.connect()
+        link.send(client.hello(), *alerts, client.refusal("reject", 3 * SECOND, "", {}))
+        link.rest()
+        link.close()
+        compared(trial)
+
+
+@only("serve", "once")
 def part_resumed_otherwise(trial):
     """A client that resumes and sends other records than before, three times; the journal counts the cuts."""
     rng = random.Random(5)
     link = trial.connect()
-    first = [(rng.randrange(1, 10**6), "ttyout", rng.randbytes(100)) for _ in range(50)]
+    first = [output(rng, at, "ttyout") for at in range(50)]
     link.send(client.hello(), ACCEPT, *map(client.record, first))
     heard = [link.read(), link.read()]
     end = sum(record[0] for record in first)
@@ -156,11 +183,18 @@ def part_resumed_otherwise(trial):
     same("complete", log.is_complete(), False)
 
 
+def output(rng, at, stream):
+    """A record; two of three have no delay."""
+    return 0 if at % 3 else rng.randrange(1, 10**6), stream, rng.randbytes(30)
+
+
 def other_end(trial, digits, records, rng):
-    """Drops the last third of a log, and sends others. Gives its records."""
+    """Drops some third of a log, and sends others. Of the records that end at the point the first alone stays. Gives its records."""
     keep = len(records) * 2 // 3
+    while records[keep - 1][0] == 0:
+        keep -= 1
     point = sum(record[0] for record in records[:keep])
-    new = [(rng.randrange(1, 10**6), "ttyin", rng.randbytes(30)) for _ in range(9)]
+    new = [output(rng, at, "ttyin") for at in range(9)]
     link = trial.connect()
     link.send(client.restart(digits, point), *map(client.record, new))
     end = point + sum(record[0] for record in new)
@@ -227,14 +261,13 @@ def part_a_client_that_reads_nothing(trial):
     lazy.send(client.hello(), ACCEPT)
     try:
         for _ in range(2_000):
-            lazy.link.sendall(client.record((5, "ttyout", b"x" * 1_000)))
-            whole_now = None
+            lazy.link.sendall(OUTPUT * 100)
     except TimeoutError:
         pass
-    whole_now = whole(trial.connect(), SECOND, INFO, [(5, "ttyout", b"abc")])
-    told = trial.told(1)
-    same("log", told[0].log_ids, [whole_now])
-    trial.store.log(told[0], None)
+    digits = whole(trial.connect(), SECOND, INFO, [(5, "ttyout", b"abc")])
+    (told,) = trial.told(1)
+    same("log", told.log_ids, [digits])
+    trial.store.log(told, None)
     lazy.close()
 
 

@@ -25,14 +25,14 @@ import trial
 PARTS = [(module, name[5:], part) for module in (sudo_parts, protocol_parts, process_parts) for name, part in vars(module).items() if name.startswith("part_")]
 
 
-def lacks(name, args):
+def lacks(name):
     """Why a part can't be tried here, or None."""
     if name.startswith("sendlog_") and not servers.tool("sudo_sendlog"):
         return "without sudo_sendlog (Debian's package sudo)"
     if name.startswith("sudo_") and not servers.tool("sudo"):
         return "without sudo"
-    if name.startswith("sudo_") and os.geteuid() != 0:
-        return "by another user than root"
+    if name.startswith("sudo_") and not trial.Namespace.is_possible():
+        return "of sudo itself, since only root, where it may make a mount namespace, can give it a sudoers"
     return None
 
 
@@ -63,7 +63,7 @@ def main():
     for _, name, part in PARTS:
         if args.only not in name or not is_for(part, args.kind):
             continue
-        why = lacks(name, args)
+        why = lacks(name)
         if why:
             left[why] = left.get(why, 0) + 1
             continue

@@ -1,6 +1,5 @@
 """Servers that the scripts of this folder start: this repository's, as `serve` or as `once`, and sudo's own beside it."""
 import os
-import resource
 import signal
 import socket
 import subprocess
@@ -230,8 +229,3 @@ class Listener(Once):
         if wrong:
             raise Failed(f"{self.program} once: statuses {wrong}: {self.place.said()[-500:]}")
         return 0
-
-
-def usage_of_children():
-    usage = resource.getrusage(resource.RUSAGE_CHILDREN)
-    return usage.ru_utime + usage.ru_stime

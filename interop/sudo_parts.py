@@ -200,6 +200,16 @@ def part_sudo_subcommands(trial):
     trial.store.compare(told)
 
 
+def part_sudo_subcommand_refused(trial):
+    """A command that the shell may not run is a reject within the session."""
+    status, out, _ = trial.sudo.run("/bin/sh", "-c", "/usr/bin/id -u; /bin/echo end", user="daemon", defaults=["intercept"])
+    same("status", (status, out), (0, b"end\n"))
+    (told,) = trial.told(1)
+    if "reject" not in [name for name, _ in told.events]:
+        raise Differs(f"events {[name for name, _ in told.events]}")
+    trial.store.compare([told])
+
+
 @only("serve", "once")
 def part_sudo_recorded(trial):
     """A session that sudo itself recorded, sent by sudo_sendlog. It has no run time, so sudo's own server refuses it."""

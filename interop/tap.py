@@ -52,16 +52,10 @@ class Tap:
         try:
             while piece := source.recv(65536):
                 if self.cut is not None and kept is pair.sent and len(kept) + len(piece) > self.cut:
-                    piece = piece[:self.cut - len(kept)]
-                    kept += piece
-                    target.sendall(piece)
-                    # what the server still answers is handed on before the client is cut off
-                    time.sleep(0.3)
-                    for link in (source, target):
-                        link.shutdown(socket.SHUT_RDWR)
+                    self.cut_off(pair, piece, source, target)
                     break
                 kept += piece
-                target.sendall(piece)
+                hand_on(piece, target, kept is pair.sent)
         except OSError:
             pass
         try:
@@ -72,6 +66,17 @@ class Tap:
         if pair.open == 0:
             source.close()
             target.close()
+
+    def cut_off(self, pair, piece, source, target):
+        """Hands on what is left before the cut, waits for a commit point of it, and ends both sides."""
+        piece = piece[:self.cut - len(pair.sent)]
+        pair.sent += piece
+        target.sendall(piece)
+        end = time.monotonic() + 20
+        while not Told(pair).points and time.monotonic() < end:
+            time.sleep(0.02)
+        for link in (source, target):
+            link.shutdown(socket.SHUT_RDWR)
 
     def settled(self, count, seconds=20):
         """The pairs that came since the last call, once so many are there and all have ended."""
@@ -85,6 +90,15 @@ class Tap:
 
     def close(self):
         self.listener.close()
+
+
+def hand_on(piece, target, is_sent):
+    """Answers are kept also where the client is gone by then."""
+    try:
+        target.sendall(piece)
+    except OSError:
+        if is_sent:
+            raise
 
 
 class Told:
@@ -139,11 +153,11 @@ def exit_members(told):
 
 
 def event_members(name, what, digits):
-    """The members of an event line, but for the connection and the moment, which the server alone knows."""
+    """An event line, but for the connection and the moment, which the server alone knows. An accept and an exit name the log."""
     if name == "exit":
         members = exit_members(what)
     elif name == "accept":
         members = {"info": what["info"], "submit_time": stamp(what["time"])}
     else:
         members = {"info": what["info"], "reason": what["reason"], "alert_time" if name == "alert" else "submit_time": stamp(what["time"])}
-    return {name: {**members, **({"iolog": digits} if digits else {})}}
+    return {name: {**members, **({"iolog": digits} if digits and name in ("accept", "exit") else {})}}

@@ -158,7 +158,7 @@ class Trial:
         self.tap = tap.Tap(self.server.port)
         self.store = (Theirs if kind == "sudo" else Ours)(self.place)
         self.work = tempfile.mkdtemp(prefix="interop")
-        self.sudo = Namespace(self.work, self.tap.port) if os.geteuid() == 0 and servers.tool("sudo") and servers.tool("unshare") else None
+        self.sudo = Namespace(self.work, self.tap.port)
 
     def session(self, name, records, info):
         """The folder of a session in sudo's own form."""
@@ -202,12 +202,18 @@ class Namespace:
         self.work, self.port = work, port
         os.chmod(work, 0o755)
 
+    @staticmethod
+    def is_possible():
+        """Whether this user may make such a namespace, and bind a file in it."""
+        words = ["unshare", "-m", "--propagation", "private", "mount", "--bind", "/etc/sudoers", "/etc/sudoers"]
+        return os.geteuid() == 0 and subprocess.run(words, capture_output=True, check=False).returncode == 0
+
     def run(self, *words, user="root", defaults=(), terminal=False, given=b"", server=True):
         """The status and the output of `sudo WORDS` by a user."""
         lines = ["Defaults !fqdn, log_input, log_output, !use_pty, !authenticate, !lecture, !mailerpath, log_exit_status"]
         lines += [f"Defaults log_servers = 127.0.0.1:{self.port}", "Defaults !syslog"] if server else ["Defaults !syslog"]
         lines += [f"Defaults {it}" for it in defaults]
-        lines += ["root ALL = (ALL:ALL) ALL", "nobody ALL = (root) /usr/bin/id"]
+        lines += ["root ALL = (ALL:ALL) ALL", "nobody ALL = (root) /usr/bin/id", "daemon ALL = (root) /bin/sh, /bin/echo"]
         path = os.path.join(self.work, "sudoers")
         if os.path.exists(path):
             os.remove(path)
