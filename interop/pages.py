@@ -95,19 +95,19 @@ class Pages:
         script = os.path.join(ROOT, "contrib", "sudo-layout")
         taken = set()
         for letter in string.ascii_lowercase:
-            front = [] if letter == "o" else ["-o", out]
-            if self.run(script, "-" + letter, "empty", *front).returncode == 0:
+            front = ["-d", "empty"] if letter == "o" else ["-o", out]
+            if self.run(script, *front, "-" + letter, "empty").returncode == 0:
                 taken.add(letter)
         self.same("options of sudo-layout", sorted(taken), sorted(shown))
 
     def forms(self):
         """The second line of a usage error shows what the synopsis does."""
         for program, name in ((self.program, "sudo_logsrvd"), (self.replay, "sudoreplay")):
-            lines = self.run(program, "--none").stderr.decode().splitlines()
-            self.same(f"lines of a usage error of {name}", (len(lines), lines[0]), (2, f"{name}: usage"))
+            front, *forms = self.run(program, "--none").stderr.decode().splitlines()
+            self.same(f"lines of a usage error of {name}", (front, len(forms)), (f"{name}: usage", 1))
             synopsis = sections(f"man/{name}.8")["SYNOPSIS"]
             letters = sorted(re.findall(r"Fl (\S+)", synopsis))
-            shown = [word.removeprefix("-") for word in re.findall(r"(?<![\w-])-([\w-]+)", lines[1])]
+            shown = [word.removeprefix("-") for word in re.findall(r"(?<![\w-])-([\w-]+)", " ".join(forms))]
             self.same(f"options of the forms of {name}", sorted(shown), sorted(letter.removeprefix("-") for letter in letters))
 
     def settings(self):
