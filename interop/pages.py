@@ -84,9 +84,10 @@ class Pages:
                     if self.run(self.program, command, *front, "-" + letter, *value, *behind).returncode == 3:
                         taken.add(letter)
         self.same("options of sudo_logsrvd", sorted(taken), sorted(shown))
-        for words in (["--help"], ["-h"], ["--version"], ["-V"], ["help"], []):
+        for words in (["--help"], ["-h"], ["--version"], ["-V"], []):
             for program in (self.program, self.replay):
                 self.same(f"status of {words}", self.run(program, *words).returncode, 2)
+        self.same("status of help", self.run(self.program, "help").returncode, 2)
 
     def script(self):
         """The options of sudo-layout, as of the programs."""
