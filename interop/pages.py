@@ -45,7 +45,7 @@ class Pages:
             print(f"{what}: {one!r} for {other!r}"[:1000])
 
     def run(self, program, *words):
-        return subprocess.run([program, *words], stdin=subprocess.DEVNULL, capture_output=True, cwd=self.folder, check=False)
+        return subprocess.run([program, *words], stdin=subprocess.DEVNULL, capture_output=True, cwd=self.folder, check=False, timeout=60)
 
     def read(self, settings):
         """What the server says of settings, line by line, and how it ends."""
@@ -56,7 +56,6 @@ class Pages:
 
     def options(self):
         """Letters that a program takes, with a value or without one, and those of its page."""
-        self.read(self.places)
         os.makedirs(self.folder + "/empty", exist_ok=True)
         values = {"d": "empty", "f": "stdout"}
         shown = set(re.findall(r"^\.It Fl (\w)", sections("man/sudoreplay.8")["DESCRIPTION"], flags=re.M))
@@ -67,29 +66,50 @@ class Pages:
                 if self.run(self.replay, *front, "-" + letter, *value, *([] if letter == "l" else ["000001"])).returncode in (0, 8):
                     taken.add(letter)
         self.same("options of sudoreplay", sorted(taken), sorted(shown))
-        shown = set(re.findall(r"^\.It Fl (\w)", sections("man/sudo_logsrvd.8")["DESCRIPTION"], flags=re.M))
+        # a settings file that is refused ends a command whose words are taken at once, and it touches nothing
+        with open(self.folder + "/wrong", "w", encoding="utf-8") as file:
+            file.write("wrong\n")
+        page = sections("man/sudo_logsrvd.8")["DESCRIPTION"]
+        shown = set(re.findall(r"^\.It Cm (\w+)$", page, flags=re.M))
+        taken = {word for word in ("once", "serve", "relay", "load", "send") if 3 in [self.run(self.program, word, "-f", "wrong", *behind).returncode for behind in ([], ["1"])]}
+        self.same("commands", taken, shown)
+        taken_commands = taken
+        shown = set(re.findall(r"^\.It Fl (\S+)", page, flags=re.M))
+        letters = list(string.ascii_letters + string.digits) + ["-" + name for name in ("lanes", "stop-after", "help", "version", "conf", "count")]
         taken = set()
-        for letter in string.ascii_letters + string.digits:
-            for value in ([], [self.conf]):
-                front = [] if letter == "f" else ["-f", self.conf]
-                if self.run(self.program, "once", *front, "-" + letter, *value).returncode == 0:
-                    taken.add(letter)
+        for letter in letters:
+            for command in sorted(taken_commands):
+                for value in ([], ["wrong" if letter == "f" else "1"]):
+                    front, behind = [] if letter == "f" else ["-f", "wrong"], ["1"] if command == "load" else []
+                    if self.run(self.program, command, *front, "-" + letter, *value, *behind).returncode == 3:
+                        taken.add(letter)
         self.same("options of sudo_logsrvd", sorted(taken), sorted(shown))
-        for words in (["--help"], ["-h"], ["--version"], ["-V"], ["help"], []):
+        for words in (["--help"], ["-h"], ["--version"], ["-V"], []):
             for program in (self.program, self.replay):
                 self.same(f"status of {words}", self.run(program, *words).returncode, 2)
-        shown = set(re.findall(r"^\.It Cm (\w+)$", sections("man/sudo_logsrvd.8")["DESCRIPTION"], flags=re.M))
-        taken = {word for word in ("once", "serve", "relay", "load", "send") if self.run(self.program, word, "-f", self.conf).returncode != 2}
-        self.same("commands", taken, shown)
+        self.same("status of help", self.run(self.program, "help").returncode, 2)
+
+    def script(self):
+        """The options of sudo-layout, as of the programs."""
+        out = self.folder + "/out"
+        shown = set(re.findall(r"^\.It Fl (\w)", sections("man/sudo-layout.1")["DESCRIPTION"], flags=re.M))
+        script = os.path.join(ROOT, "contrib", "sudo-layout")
+        taken = set()
+        for letter in string.ascii_lowercase:
+            front = ["-d", "empty"] if letter == "o" else ["-o", out]
+            if self.run(script, *front, "-" + letter, "empty").returncode == 0:
+                taken.add(letter)
+        self.same("options of sudo-layout", sorted(taken), sorted(shown))
 
     def forms(self):
         """The second line of a usage error shows what the synopsis does."""
         for program, name in ((self.program, "sudo_logsrvd"), (self.replay, "sudoreplay")):
-            lines = self.run(program, "--none").stderr.decode().splitlines()
-            self.same(f"lines of a usage error of {name}", (len(lines), lines[0]), (2, f"{name}: usage"))
+            front, *forms = self.run(program, "--none").stderr.decode().splitlines()
+            self.same(f"lines of a usage error of {name}", (front, len(forms)), (f"{name}: usage", 1))
             synopsis = sections(f"man/{name}.8")["SYNOPSIS"]
-            letters = sorted("".join(re.findall(r"Fl (\w+)", synopsis)))
-            self.same(f"options of the forms of {name}", sorted("".join(re.findall(r"(?<![\w-])-(\w+)", lines[1]))), letters)
+            letters = sorted(re.findall(r"Fl (\S+)", synopsis))
+            shown = [word.removeprefix("-") for word in re.findall(r"(?<![\w-])-([\w-]+)", " ".join(forms))]
+            self.same(f"options of the forms of {name}", sorted(shown), sorted(letter.removeprefix("-") for letter in letters))
 
     def settings(self):
         """Each setting of the page is known, with its default, and the sample has it."""
@@ -203,7 +223,7 @@ class Pages:
 
 def main():
     pages = Pages(*sys.argv[1:3])
-    for step in (pages.options, pages.forms, pages.settings, pages.passed, pages.refused, pages.statuses, pages.sudoreplays):
+    for step in (pages.options, pages.script, pages.forms, pages.settings, pages.passed, pages.refused, pages.statuses, pages.sudoreplays):
         step()
     print(f"{pages.asked} asked, {pages.differ} differ")
     return 1 if pages.differ else 0

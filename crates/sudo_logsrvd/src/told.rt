@@ -36,7 +36,9 @@ impl<T> ToldTexts<T> {
             }
             Err(ConfFault::Line(line)) => {
                 let reason = reason(alloc, text, line).unwrap_or("out of memory");
-                let _ = eprintln!(self.rt; "sudo_logsrvd: {path}:{line}: the line is refused: {reason}");
+                let _ = eprintln!(self.rt;
+                    "sudo_logsrvd: {path}:{line}: the line is refused: {reason}"
+                );
             }
             Err(ConfFault::NoMem) => {}
         }
@@ -100,8 +102,5 @@ fn reason_of(alloc: Global, mut before: Bytes, line: &[u8]) -> Result<&'static s
 
 /// Whether a text has a line that is refused.
 fn is_refused(alloc: Global, text: &Bytes) -> bool {
-    matches!(
-        read_conf(alloc, text.as_slice()),
-        Err(ConfFault::Line(_))
-    )
+    matches!(read_conf(alloc, text.as_slice()), Err(ConfFault::Line(_)))
 }

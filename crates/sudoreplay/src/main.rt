@@ -11,13 +11,16 @@ use std::io::ErrorKind;
 use std::process::ExitCode;
 
 /// The forms of the command line.
-const FORMS: &str = "usage: sudoreplay [-nS] [-d DIR] [-f LIST] [-m N] [-s N] ID, or sudoreplay -l [-d DIR] [SEARCH]";
+const FORMS: &str =
+    "usage: sudoreplay [-nS] [-d DIR] [-f LIST] [-m N] [-s N] ID, or sudoreplay -l [-d DIR] [SEARCH]";
 
 /// What a search is made of.
-const SEARCH: &str = "a search: user, host, runas, group, tty, cwd, command, fromdate, todate, each with its argument; and, or, !, ( ); a date is YYYY-MM-DDTHH:MM:SSZ; words count from 0, behind -l";
+const SEARCH: &str =
+    "a search: user, host, runas, group, tty, cwd, command, fromdate, todate, each with its argument; and, or, !, ( ); a date is YYYY-MM-DDTHH:MM:SSZ; words count from 0, behind -l";
 
 /// What an identifier is, and where logs are looked for.
-const IDENTIFIER: &str = "an identifier is six of 0 to 9 and A to Z, as TSID= tells it; the folder of the logs is that of -d, by default /var/log/sudo-io";
+const IDENTIFIER: &str =
+    "an identifier is six of 0 to 9 and A to Z, as TSID= tells it; the folder of the logs is that of -d, by default /var/log/sudo-io";
 
 /// The words behind the program's name. One that isn't UTF-8 makes them a faulty command line.
 fn words(rt: &HostRuntime, alloc: Global) -> Result<List<Bytes>, ReplayStatus> {
