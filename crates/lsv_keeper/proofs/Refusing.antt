@@ -22,11 +22,10 @@ use Rattle.lsv_machine.specs.Machine.{Machine, insert_once, is_dead, leaves, log
 use Rattle.lsv_machine.specs.Work.{plain, refused, takes}
 use Rattle.lsv_machine.proofs.JudgedLemmas.{judged_ok}
 use Rattle.lsv_keeper.specs.Leaving.{TakenOut}
-use Rattle.lsv_keeper.specs.Logs.{Appends, IsAppendFault, RefusesRecord, log_refusal, open_logs}
+use Rattle.lsv_keeper.specs.Logs.{IsAppendFault, RefusesRecord, log_refusal, open_logs, with_open}
 use Rattle.lsv_keeper.specs.Represents.{Held, LogIs, Represents}
 use Rattle.lsv_keeper.specs.Rows.{Left, RowGives}
 use Rattle.lsv_keeper.specs.Value.{Keeps, KeeperView, log_in, settings_of}
-use Rattle.lsv_keeper.specs.declared.logs.Appended.TheVariants as appended
 use Rattle.lsv_keeper.specs.declared.logs.OpenLog.{OpenLog}
 use Rattle.lsv_keeper.specs.declared.logs.OpenLogs.{OpenLogs}
 use Rattle.lsv_keeper.specs.declared.told.Told.TheVariants as told
@@ -64,7 +63,7 @@ written_open v disk m k n at state closed =
 
 -- a record that its log refused
 pub record_refused : (v v' : KeeperView) (now : TimeSpec) (job : Job) (n : ℕ) (r : Record) (its after : OpenLog) (fault : LogFault) (m : Machine) (old new : DiskView) → Laws old → Represents v old m
-    → AsksFor (m.states job.conn) job.body (request.Record r) → log_of (m.states job.conn) ≡ Some n → log_in v n ≡ Some its → RefusesRecord its r fault after → Left job.conn Dead v m v' old new
+    → AsksFor (m.states job.conn) job.body (request.Record r) → log_of (m.states job.conn) ≡ Some n → log_in v n ≡ Some its → RefusesRecord v.texts its r fault after → Left job.conn Dead v m v' old new
     → RowGives v now job (told.Refused (log_refusal fault)) m v' old new
 record_refused v v' now job n r its after fault m old new laws at asks state here no_room l = go fault refl
   where
@@ -97,9 +96,9 @@ record_refused v v' now job n r its after fault m old new laws at asks state her
     go faults.Disk e = absurd (why_is faults.Disk e)
 
 -- a log that refused a record was taken out
-pub refused_out : (v : KeeperView) (logs' : OpenLogs) (n : ℕ) (r : Record) (left : OpenLog) (fault : LogFault) → Appends n r (appended.Refused left fault) (open_logs v.logs) (open_logs logs')
-    → TakenOut n left v (record v { logs = logs' })
-refused_out v logs' n r left fault (its, here, no_room, is_logs) = record {
+pub refused_out : (v : KeeperView) (logs' : OpenLogs) (n : ℕ) (r : Record) (its left : OpenLog) (fault : LogFault) → log_in v n ≡ Some its → RefusesRecord v.texts its r fault left
+    → open_logs logs' ≡ with_open n None (open_logs v.logs) → TakenOut n left v (record v { logs = logs' })
+refused_out v logs' n r its left fault here no_room is_logs = record {
   beside = record { lane = refl; lanes = refl; log_exit = refl; kind = refl; texts = refl; numbers = refl; events = refl; noting = refl };
   table = refl;
   waiting = refl;

@@ -84,12 +84,15 @@ impl<F: LineWriter, H: Search> Keeper<F, H> {
             → RowGives (view_of self.old) now job result m (view_of self.new) (D.view disk.old) (D.view disk.new) }
         ensures syncs { D.tells → (m : Machine) → Represents (view_of self.old) (D.view disk.old) m → log_of (m.states conn) ≡ Some log → Syncs NoLog (view_of self.old) (view_of self.new) (D.view disk.old) (D.view disk.new) }
     {
-        match self.logs.append(log, &self.prompt, r) {
+        match self.logs.append(log, &self.prompt, &self.texts, r) {
             Appended::Staged => {
                 let _ = insert_once(&mut self.waiting, log);
                 Told::Nothing
             }
-            Appended::Refused(its, fault) => {
+            Appended::Refused(fault) => {
+                let Some(its) = self.logs.take(log) else {
+                    return Told::Nothing;
+                };
                 self.let_go(disk, conn, ConnState::Dead, log, its);
                 Told::Refused(log_refusal(fault))
             }
