@@ -178,7 +178,7 @@ record_step set now job r n promised stored m own there asks fits =
 -- a record that its log took: no disk is touched, and the log waits for its commit point
 pub record_staged : (v : KeeperView) (logs' : OpenLogs) (waiting' : List ℕ) (now : TimeSpec) (job : Job) (n : ℕ) (r : Record) (its after : OpenLog) (m : Machine) (disk : DiskView)
     → Laws disk → Represents v disk m → AsksFor (m.states job.conn) job.body (request.Record r) → log_of (m.states job.conn) ≡ Some n → IsValid r
-    → log_in v n ≡ Some its → TakesRecord its r after → open_logs logs' ≡ with_open n (Some after) (open_logs v.logs) → waiting' ≡ insert_once n v.waiting
+    → log_in v n ≡ Some its → TakesRecord v.texts its r after → open_logs logs' ≡ with_open n (Some after) (open_logs v.logs) → waiting' ≡ insert_once n v.waiting
     → RowGives v now job told.Nothing m (record v { logs = logs'; waiting = waiting' }) disk disk
 record_staged v logs' waiting' now job n r its after m disk laws at asks state valid here took is_logs is_waiting answers tells = (
   m',

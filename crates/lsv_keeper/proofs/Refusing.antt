@@ -22,18 +22,18 @@ use Rattle.lsv_machine.specs.Machine.{Machine, insert_once, is_dead, leaves, log
 use Rattle.lsv_machine.specs.Work.{plain, refused, takes}
 use Rattle.lsv_machine.proofs.JudgedLemmas.{judged_ok}
 use Rattle.lsv_keeper.specs.Leaving.{TakenOut}
-use Rattle.lsv_keeper.specs.Logs.{Appends, IsAppendFault, RefusesRecord, log_refusal, open_logs}
+use Rattle.lsv_keeper.specs.Logs.{IsAppendFault, RefusesRecord, log_refusal, open_logs, with_open}
+use Rattle.lsv_keeper.specs.Moved.{MaskMoved}
 use Rattle.lsv_keeper.specs.Represents.{Held, LogIs, Represents}
 use Rattle.lsv_keeper.specs.Rows.{Left, RowGives}
 use Rattle.lsv_keeper.specs.Value.{Keeps, KeeperView, log_in, settings_of}
-use Rattle.lsv_keeper.specs.declared.logs.Appended.TheVariants as appended
 use Rattle.lsv_keeper.specs.declared.logs.OpenLog.{OpenLog}
 use Rattle.lsv_keeper.specs.declared.logs.OpenLogs.{OpenLogs}
 use Rattle.lsv_keeper.specs.declared.told.Told.TheVariants as told
 use Rattle.lsv_keeper.proofs.Acting.{ends_wants}
 use Rattle.lsv_keeper.proofs.Frames.{Laws}
 use Rattle.lsv_keeper.proofs.Leaving.{act_of, ended_row, refused_row, wants_step}
-use Rattle.lsv_keeper.proofs.Opens.{one_open}
+use Rattle.lsv_keeper.proofs.Opens.{one_open, put_its, put_twice}
 use Rattle.lsv_keeper.proofs.Recording.{alive_of, plain_record}
 use Rattle.lsv_keeper.proofs.Sizes.{going_log, takes_not}
 
@@ -64,7 +64,7 @@ written_open v disk m k n at state closed =
 
 -- a record that its log refused
 pub record_refused : (v v' : KeeperView) (now : TimeSpec) (job : Job) (n : ℕ) (r : Record) (its after : OpenLog) (fault : LogFault) (m : Machine) (old new : DiskView) → Laws old → Represents v old m
-    → AsksFor (m.states job.conn) job.body (request.Record r) → log_of (m.states job.conn) ≡ Some n → log_in v n ≡ Some its → RefusesRecord its r fault after → Left job.conn Dead v m v' old new
+    → AsksFor (m.states job.conn) job.body (request.Record r) → log_of (m.states job.conn) ≡ Some n → log_in v n ≡ Some its → RefusesRecord v.texts its r fault after → Left job.conn Dead v m v' old new
     → RowGives v now job (told.Refused (log_refusal fault)) m v' old new
 record_refused v v' now job n r its after fault m old new laws at asks state here no_room l = go fault refl
   where
@@ -96,18 +96,47 @@ record_refused v v' now job n r its after fault m old new laws at asks state her
     go (faults.NoPoint point) e = absurd (why_is (faults.NoPoint point) e)
     go faults.Disk e = absurd (why_is faults.Disk e)
 
--- a log that refused a record was taken out
-pub refused_out : (v : KeeperView) (logs' : OpenLogs) (n : ℕ) (r : Record) (left : OpenLog) (fault : LogFault) → Appends n r (appended.Refused left fault) (open_logs v.logs) (open_logs logs')
-    → TakenOut n left v (record v { logs = logs' })
-refused_out v logs' n r left fault (its, here, no_room, is_logs) = record {
+-- a log that refused a record is open, with its mask moved on
+pub refused_moved : (v : KeeperView) (logs' : OpenLogs) (n : ℕ) (r : Record) (its left : OpenLog) (fault : LogFault) → log_in v n ≡ Some its → RefusesRecord v.texts its r fault left
+    → open_logs logs' ≡ with_open n (Some left) (open_logs v.logs) → MaskMoved n left v (record v { logs = logs' })
+refused_moved v logs' n r its left fault here no_room is_logs = record {
   beside = record { lane = refl; lanes = refl; log_exit = refl; kind = refl; texts = refl; numbers = refl; events = refl; noting = refl };
   table = refl;
   waiting = refl;
-  logs = λ i. ap (λ (f : ℕ → Option OpenLog). f i) is_logs;
+  logs = is_logs;
   open_one = its;
   was = here;
   same = sym no_room.same;
 }
+
+-- it is the one that is there
+pub moved_there : (v v' : KeeperView) (n : ℕ) (left : OpenLog) → MaskMoved n left v v' → log_in v' n ≡ Some left
+moved_there v v' n left moved = ap (λ (f : ℕ → Option OpenLog). f n) moved.logs ∙ put_its (open_logs v.logs) n (Some left)
+
+-- and then it was taken out
+pub moved_out : (v v' : KeeperView) (logs' : OpenLogs) (n : ℕ) (left its : OpenLog) → MaskMoved n left v v' → Some its ≡ log_in v' n → open_logs logs' ≡ with_open n None (open_logs v'.logs)
+    → TakenOut n its v (record v' { logs = logs' })
+moved_out v v' logs' n left its moved took out =
+    let one : its ≡ left = (let e : Some its ≡ Some left = took ∙ moved_there v v' n left moved in cc) in
+    let gone : open_logs logs' ≡ with_open n None (open_logs v.logs) = out ∙ (ap (λ (f : ℕ → Option OpenLog). with_open n None f) moved.logs ∙ put_twice (open_logs v.logs) n (Some left) None) in
+    record {
+      beside = record {
+        lane = moved.beside.lane;
+        lanes = moved.beside.lanes;
+        log_exit = moved.beside.log_exit;
+        kind = moved.beside.kind;
+        texts = moved.beside.texts;
+        numbers = moved.beside.numbers;
+        events = moved.beside.events;
+        noting = moved.beside.noting;
+      };
+      table = moved.table;
+      waiting = moved.waiting;
+      logs = λ i. ap (λ (f : ℕ → Option OpenLog). f i) gone;
+      open_one = moved.open_one;
+      was = moved.was;
+      same = moved.same ∙ ap (λ (o : OpenLog). o.log) (sym one);
+    }
 
 -- ---- What is kept
 

@@ -10,6 +10,7 @@ pub mod Rows
 pub mod Tails
 pub mod Room
 pub mod Leaving
+pub mod Moved
 pub mod Opening
 pub mod Accepting
 pub mod Syncs

@@ -1,5 +1,5 @@
 -- Open logs by number, and what becomes of one where a record comes or where it is flushed.
-use Rattle.std.specs.Prelude.{ℕ, ◌≡◌, ◌≤◌, ◌<◌, ◌+◌, ◌^◌, ◌==◌, nat_eq, true, false, if◌then◌else◌, List, [], ◌∷◌, ◌++◌, Option, Some, None}
+use Rattle.std.specs.Prelude.{ℕ, ◌≡◌, ◌⊎◌, ◌≤◌, ◌<◌, ◌+◌, ◌^◌, ◌==◌, nat_eq, true, false, if◌then◌else◌, List, [], ◌∷◌, ◌++◌, Option, Some, None}
 use Rattle.std.specs.HashMap as hash
 use Rattle.std.specs.Prelude.{FitsSigned}
 use Rattle.std.specs.Int.{w32}
@@ -40,17 +40,17 @@ with_open n its logs = λ i. if i == n then its else logs i
 
 -- ---- A record
 
--- a record is covered as the mask says, and the mask then stands behind it
-pub record Covers (old : Seen) (r stored : Record) (new : Seen) : Type 0 where
-  pub covered : (texts : List (List ℕ)) (records : List Record) → old ≡ seen texts records → stored ≡ covered texts records r
-  pub behind : (texts : List (List ℕ)) (records : List Record) → old ≡ seen texts records → new ≡ seen texts (records ++ stored ∷ [])
+-- a record is covered as the mask of these texts says, and the mask then stands behind it; without texts it may stay where it stands
+pub record Covers (texts : List (List ℕ)) (old : Seen) (r stored : Record) (new : Seen) : Type 0 where
+  pub covered : (records : List Record) → old ≡ seen texts records → stored ≡ covered texts records r
+  pub behind : (records : List Record) → old ≡ seen texts records → (new ≡ seen texts (records ++ stored ∷ [])) ⊎ ((texts ≡ []) × (new ≡ old))
   pub shape : shape_of stored ≡ shape_of r
 
 -- an open log took a record: it is staged as it is covered
-pub record TakesRecord (old : OpenLog) (r : Record) (new : OpenLog) : Type 0 where
+pub record TakesRecord (texts : List (List ℕ)) (old : OpenLog) (r : Record) (new : OpenLog) : Type 0 where
   pub going : is_complete old.log ≡ false
   pub stored : Record
-  pub covers : Covers old.mask r stored new.mask
+  pub covers : Covers texts old.mask r stored new.mask
   pub stages : Stages old.log stored new.log
   pub room : IsRoomFor old.log.bundle stored
 
@@ -79,18 +79,18 @@ log_refusal faults.Complete = refusals.DeviceFault
 log_refusal (faults.NoPoint point) = refusals.DeviceFault
 
 -- an open log refused a record: it is as it was, but for its mask
-pub record RefusesRecord (old : OpenLog) (r : Record) (fault : LogFault) (new : OpenLog) : Type 0 where
+pub record RefusesRecord (texts : List (List ℕ)) (old : OpenLog) (r : Record) (fault : LogFault) (new : OpenLog) : Type 0 where
   pub going : is_complete old.log ≡ false
   pub stored : Record
-  pub covers : Covers old.mask r stored new.mask
+  pub covers : Covers texts old.mask r stored new.mask
   pub same : new.log ≡ old.log
   pub why : IsAppendFault old.log stored fault
 
--- what a record does to the open log of a number: it is staged; or refused, and then the log isn't open any more; or no log is open there that isn't complete
-abbrev pub Appends : ℕ → Record → Appended → (old new : ℕ → Option OpenLog) → Type 0
-Appends n r appended.Staged old new = (its : OpenLog) × (after : OpenLog) × (old n ≡ Some its) × TakesRecord its r after × (new ≡ with_open n (Some after) old)
-Appends n r (appended.Refused left fault) old new = (its : OpenLog) × (old n ≡ Some its) × RefusesRecord its r fault left × (new ≡ with_open n None old)
-Appends n r appended.NotOpen old new = ((its : OpenLog) → old n ≡ Some its → is_complete its.log ≡ true) × (new ≡ old)
+-- what a record does to the open log of a number: it is staged; or refused, and then the log is still open; or no log is open there that isn't complete
+abbrev pub Appends : ℕ → List (List ℕ) → Record → Appended → (old new : ℕ → Option OpenLog) → Type 0
+Appends n texts r appended.Staged old new = (its : OpenLog) × (after : OpenLog) × (old n ≡ Some its) × TakesRecord texts its r after × (new ≡ with_open n (Some after) old)
+Appends n texts r (appended.Refused fault) old new = (its : OpenLog) × (left : OpenLog) × (old n ≡ Some its) × RefusesRecord texts its r fault left × (new ≡ with_open n (Some left) old)
+Appends n texts r appended.NotOpen old new = ((its : OpenLog) → old n ≡ Some its → is_complete its.log ≡ true) × (new ≡ old)
 
 -- ---- A flush
 

@@ -4,11 +4,11 @@ ghost use Rattle.std.specs.Prelude.{◌≡◌, ◌≤◌, ℕ, false, Some, None
 ghost use Rattle.lsv_iolog.specs.Represents.{Represents};
 ghost use Rattle.lsv_iolog.specs.Value.{LogValue, is_complete};
 ghost use Rattle.lsv_record.specs.Records.{IsValid};
-ghost use Rattle.lsv_keeper.specs.Logs.{Appends, Flushes, RefusesRecord, TakesRecord, log_refusal, open_logs, spare_logs, with_open};
+ghost use Rattle.lsv_keeper.specs.Logs.{Appends, Covers, Flushes, RefusesRecord, TakesRecord, log_refusal, open_logs, spare_logs, with_open};
 ghost use Rattle.lsv_keeper.specs.declared.logs.Appended.{Appended};
 ghost use Rattle.lsv_keeper.specs.declared.logs.OpenLog.{OpenLog};
 
-use lsv_base::{LogNo, NoMem, Point};
+use lsv_base::{Bytes, List, LogNo, NoMem, Point};
 use lsv_disk::Disk;
 use lsv_iolog::{IoLog, LogFault};
 use lsv_mask::{Mask, Prompt, Search};
@@ -25,12 +25,12 @@ pub struct OpenLog {
 }
 
 /// What came of a record.
-#[derive(Drop)]
+#[derive(Clone, Copy, Debug)]
 pub enum Appended {
     /// It is staged.
     Staged,
-    /// The log refused it, and isn't among the open ones any more, since its mask has moved on.
-    Refused(OpenLog, LogFault),
+    /// The log refused it, and is to be taken out, since its mask has moved on.
+    Refused(LogFault),
     /// No log is open there that isn't complete.
     NotOpen,
 }
@@ -89,10 +89,16 @@ impl OpenLogs {
         self.map.remove(&log.get())
     }
 
-    /// Covers a valid record as the log's mask says, and stages it. A log that refuses it is taken out and handed out.
-    pub fn append<H: Search>(&mut self, log: LogNo, prompt: &Prompt<H>, r: Record) -> Appended
+    /// Covers a valid record as the log's mask of these texts says, and stages it.
+    pub fn append<H: Search>(
+        &mut self,
+        log: LogNo,
+        prompt: &Prompt<H>,
+        texts: &List<Bytes>,
+        r: Record,
+    ) -> Appended
         requires valid { IsValid r }
-        ensures { Appends log r result (open_logs self.old) (open_logs self.new) }
+        ensures { Appends log texts.now r result (open_logs self.old) (open_logs self.new) }
     {
         let Some(its) = self.map.get_mut(&log.get()) else {
             return Appended::NotOpen;
@@ -100,19 +106,9 @@ impl OpenLogs {
         if its.log.is_complete() {
             return Appended::NotOpen;
         }
-        match its.append(prompt, r) {
+        match its.append(prompt, texts, r) {
             Ok(()) => Appended::Staged,
-            Err(fault) => self.refuse(log, fault),
-        }
-    }
-
-    /// Takes out a log that refused a record for this fault.
-    fn refuse(&mut self, log: LogNo, fault: LogFault) -> Appended
-        ensures { (its : OpenLog) → open_logs self.old log ≡ Some its → (result ≡ Appended.Refused its fault) × (open_logs self.new ≡ with_open log None (open_logs self.old)) }
-    {
-        match self.take(log) {
-            Some(its) => Appended::Refused(its, fault),
-            None => Appended::NotOpen,
+            Err(fault) => Appended::Refused(fault),
         }
     }
 
@@ -135,19 +131,36 @@ impl OpenLogs {
 }
 
 impl OpenLog {
-    /// Covers a valid record as the mask says, and stages it in a log that isn't complete. Where the log refuses it, its
-    /// mask alone has moved on.
-    fn append<H: Search>(&mut self, prompt: &Prompt<H>, r: Record) -> Result<(), LogFault>
+    /// Covers a valid record as the mask of these texts says, and stages it in a log that isn't complete. Where the log
+    /// refuses it, its mask alone has moved on.
+    fn append<H: Search>(
+        &mut self,
+        prompt: &Prompt<H>,
+        texts: &List<Bytes>,
+        r: Record,
+    ) -> Result<(), LogFault>
         requires valid { IsValid r }
         requires going { is_complete self.old.log ≡ false }
-        ensures staged { OnOk result (TakesRecord self.old r self.new) }
-        ensures refused { IfErr result (λ fault. RefusesRecord self.old r fault self.new) }
+        ensures staged { OnOk result (TakesRecord texts.now self.old r self.new) }
+        ensures refused { IfErr result (λ fault. RefusesRecord texts.now self.old r fault self.new) }
     {
-        let mut r = r;
-        self.mask.cover(prompt, &mut r);
+        let r = self.covered(prompt, texts, r);
         match self.log.append(&r) {
             Ok(_) => Ok(()),
             Err(fault) => Err(fault),
         }
+    }
+
+    /// A record as the mask of these texts covers it. Without texts it stays as it is, and the mask looks at nothing.
+    fn covered<H: Search>(&mut self, prompt: &Prompt<H>, texts: &List<Bytes>, r: Record) -> Record
+        ensures covers { Covers texts.now self.old.mask r result self.new.mask }
+        ensures log { self.new.log ≡ self.old.log }
+    {
+        if texts.as_slice().is_empty() {
+            return r;
+        }
+        let mut r = r;
+        self.mask.cover(prompt, &mut r);
+        r
     }
 }

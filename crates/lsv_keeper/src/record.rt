@@ -10,8 +10,11 @@ ghost use Rattle.lsv_machine.specs.Failures.{AsksFor};
 ghost use Rattle.lsv_machine.specs.Machine.{Machine, is_dead, log_of};
 ghost use Rattle.lsv_keeper.specs.Logs.{IsWindowFit};
 ghost use Rattle.lsv_keeper.specs.Represents.{Represents};
-ghost use Rattle.lsv_keeper.specs.Rows.{IsTold, RowGives};
-ghost use Rattle.lsv_keeper.specs.Value.{Keeps, room, sessions_of};
+ghost use Rattle.lsv_keeper.specs.Moved.{MaskMoved};
+ghost use Rattle.lsv_keeper.specs.Rows.{IsTold, Left, RowGives};
+ghost use Rattle.lsv_keeper.specs.Value.{Keeps, KeeperView, room, sessions_of};
+ghost use Rattle.lsv_keeper.specs.declared.logs.OpenLog.{OpenLog};
+ghost use Rattle.lsv_session.specs.declared.connection.ConnState.TheVariants.{Dead};
 ghost use Rattle.lsv_keeper.specs.Views.{view_of};
 ghost use Rattle.lsv_keeper.specs.Syncing.{NoLog, Syncs};
 
@@ -84,17 +87,36 @@ impl<F: LineWriter, H: Search> Keeper<F, H> {
             → RowGives (view_of self.old) now job result m (view_of self.new) (D.view disk.old) (D.view disk.new) }
         ensures syncs { D.tells → (m : Machine) → Represents (view_of self.old) (D.view disk.old) m → log_of (m.states conn) ≡ Some log → Syncs NoLog (view_of self.old) (view_of self.new) (D.view disk.old) (D.view disk.new) }
     {
-        match self.logs.append(log, &self.prompt, r) {
+        match self.logs.append(log, &self.prompt, &self.texts, r) {
             Appended::Staged => {
                 let _ = insert_once(&mut self.waiting, log);
                 Told::Nothing
             }
-            Appended::Refused(its, fault) => {
-                self.let_go(disk, conn, ConnState::Dead, log, its);
+            Appended::Refused(fault) => {
+                self.let_refused(disk, conn, log);
                 Told::Refused(log_refusal(fault))
             }
             Appended::NotOpen => Told::Nothing,
         }
+    }
+
+    /// A log that refused a record is taken out and let go, and its connection is shut. It stands apart, since a log is
+    /// large to move, and room for one would be cleared for each record.
+    #[cold]
+    #[inline(never)]
+    fn let_refused<D: Disk>(&mut self, disk: &mut D, conn: ConnId, log: LogNo)
+        requires moved { D.tells → (before : KeeperView) × (its : OpenLog) × (m : Machine) × MaskMoved log its before (view_of self.old) × Represents before (D.view disk.old) m }
+        requires room { 1 ≤ room (view_of self.old) }
+        ensures keeps { Keeps (view_of self.old) (view_of self.new) }
+        ensures left { D.tells → (before : KeeperView) (its : OpenLog) (m : Machine) → MaskMoved log its before (view_of self.old) → Represents before (D.view disk.old) m → log_of (m.states conn) ≡ Some log
+            → Left conn Dead before m (view_of self.new) (D.view disk.old) (D.view disk.new) }
+        ensures syncs { D.tells → (before : KeeperView) (its : OpenLog) (m : Machine) → MaskMoved log its before (view_of self.old) → Represents before (D.view disk.old) m → log_of (m.states conn) ≡ Some log
+            → Syncs NoLog before (view_of self.new) (D.view disk.old) (D.view disk.new) }
+    {
+        let Some(its) = self.logs.take(log) else {
+            return;
+        };
+        self.let_go(disk, conn, ConnState::Dead, log, its);
     }
 
     /// Memory is wanting: the connection is refused, and the log that it wrote let go.

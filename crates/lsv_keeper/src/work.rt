@@ -30,6 +30,13 @@ use lsv_msg::ClientMessage;
 use lsv_request::Request;
 use lsv_session::{Body, ConnId, ConnState, Job, Reply};
 
+/// A state, to be passed on twice.
+fn copied(state: &ConnState) -> ConnState
+    ensures { result ≡ state.now }
+{
+    *state
+}
+
 impl<F: LineWriter, H: Search> Keeper<F, H> {
     /// A job is done, and its replies are put at the end, for which there is room.
     pub(crate) fn answer_job<D: Disk>(
@@ -65,15 +72,24 @@ impl<F: LineWriter, H: Search> Keeper<F, H> {
             → RowGives (view_of self.old) now job result m (view_of self.new) (D.view disk.old) (D.view disk.new) }
         ensures syncs { D.tells → (m : Machine) → Represents (view_of self.old) (D.view disk.old) m → Syncs (Restarts body) (view_of self.old) (view_of self.new) (D.view disk.old) (D.view disk.new) }
     {
-        if let ConnState::Dead = self.table.state(conn) {
+        let state = self.table.state(conn);
+        if let ConnState::Dead = state {
             return self.drop_job(disk, conn, &body);
         }
-        self.act(disk, now, conn, body)
+        self.act(disk, now, conn, state, body)
     }
 
     /// What a connection brings that wasn't shut is done.
-    fn act<D: Disk>(&mut self, disk: &mut D, now: TimeSpec, conn: ConnId, body: Body) -> Told
+    fn act<D: Disk>(
+        &mut self,
+        disk: &mut D,
+        now: TimeSpec,
+        conn: ConnId,
+        state: ConnState,
+        body: Body,
+    ) -> Told
         requires timed { IsSome (nanos_of now) }
+        requires state { state ≡ (sessions_of (view_of self.old)).states conn }
         requires alive { is_dead ((sessions_of (view_of self.old)).states conn) ≡ false }
         requires stands { D.tells → (m : Machine) × Represents (view_of self.old) (D.view disk.old) m }
         requires room { 1 ≤ room (view_of self.old) }
@@ -84,7 +100,7 @@ impl<F: LineWriter, H: Search> Keeper<F, H> {
         ensures syncs { D.tells → (m : Machine) → Represents (view_of self.old) (D.view disk.old) m → Syncs (Restarts body) (view_of self.old) (view_of self.new) (D.view disk.old) (D.view disk.new) }
     {
         match body {
-            Body::Msg(message) => self.hear(disk, now, conn, message),
+            Body::Msg(message) => self.hear(disk, now, conn, state, message),
             Body::Bad(fault) => self.refuse(disk, conn, fault_refusal(fault)),
             Body::Gone => self.farewell(disk, conn),
         }
@@ -96,9 +112,11 @@ impl<F: LineWriter, H: Search> Keeper<F, H> {
         disk: &mut D,
         now: TimeSpec,
         conn: ConnId,
+        state: ConnState,
         message: ClientMessage,
     ) -> Told
         requires timed { IsSome (nanos_of now) }
+        requires state { state ≡ (sessions_of (view_of self.old)).states conn }
         requires alive { is_dead ((sessions_of (view_of self.old)).states conn) ≡ false }
         requires stands { D.tells → (m : Machine) × Represents (view_of self.old) (D.view disk.old) m }
         requires room { 1 ≤ room (view_of self.old) }
@@ -109,11 +127,8 @@ impl<F: LineWriter, H: Search> Keeper<F, H> {
         ensures syncs { D.tells → (m : Machine) → Represents (view_of self.old) (D.view disk.old) m → Syncs (Restarts (bodies.Msg message)) (view_of self.old) (view_of self.new) (D.view disk.old) (D.view disk.new) }
     {
         let message = windowed(message);
-        match judged(self.table.state(conn), message) {
-            Ok(request) => {
-                let state = self.table.state(conn);
-                self.work(disk, now, conn, state, request)
-            }
+        match judged(copied(&state), message) {
+            Ok(request) => self.work(disk, now, conn, state, request),
             Err(why) => self.refuse(disk, conn, why),
         }
     }

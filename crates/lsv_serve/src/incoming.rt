@@ -21,6 +21,8 @@ pub(crate) struct Incoming {
     pub alloc: Global,
     pub framer: Framer,
     pub is_over: bool,
+    /// For how many jobs the last piece's list had room. The next one is likely to need as much.
+    pub room: usize,
 }
 
 impl Incoming {
@@ -32,6 +34,7 @@ impl Incoming {
             alloc,
             framer: Framer::new(alloc),
             is_over: false,
+            room: 0,
         }
     }
 
@@ -39,12 +42,13 @@ impl Incoming {
     pub fn take(&mut self, piece: &[u8]) -> Result<Vec<Job>, NoMem>
         ensures { IfOk result (λ jobs. Takes piece.now self.old.is_over self.old.framer jobs.items self.new.is_over self.new.framer) }
     {
-        let mut jobs = Vec::new(self.alloc);
         if self.is_over {
-            return Ok(jobs);
+            return Ok(Vec::new(self.alloc));
         }
         self.framer.feed(piece)?;
+        let mut jobs = Vec::with_capacity(self.alloc, self.room)?;
         self.cut_all(&mut jobs)?;
+        self.room = jobs.capacity();
         Ok(jobs)
     }
 

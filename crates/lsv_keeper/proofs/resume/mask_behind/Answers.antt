@@ -1,7 +1,6 @@
 -- A mask of no texts covers nothing; else the records are read.
-use Rattle.std.proofs.Common.{◌≡◌, ℕ, List, [], ◌∷◌, length, true, Some, None, Result, Err, IsErrOf, refl, sym, ◌∙◌, ap, subst, arith}
+use Rattle.std.proofs.Common.{◌≡◌, ℕ, List, length, Some, None, Result, Err, IsErrOf, sym, ◌∙◌, ap, subst}
 use Rattle.std.specs.Prelude.{◌==◌}
-use Rattle.std.proofs.lemmas.Bool.Decides.{nat_tests}
 use Rattle.lsv_iolog.specs.Faults.{IsOpenFault}
 use Rattle.lsv_iolog.specs.Reading.{ViewState}
 use Rattle.lsv_iolog.specs.declared.fault.LogFault.{LogFault}
@@ -9,7 +8,7 @@ use Rattle.lsv_iolog.specs.declared.fault.LogFault.TheVariants as logs
 use Rattle.lsv_iolog.proofs.Replaying.{one_replay}
 use Rattle.lsv_iolog.proofs.Results.{same_log_fault}
 use Rattle.lsv_record.specs.Points.{cut}
-use Rattle.lsv_keeper.proofs.Masking.{masks_any, masks_now}
+use Rattle.lsv_keeper.proofs.Masking.{empty_of, masks_any, masks_now}
 use Rattle.lsv_keeper.proofs.Viewing.{viewed, view_whole}
 use Rattle.lsv_keeper.proofs.resume.mask_behind.Goals as goal
 
@@ -18,10 +17,6 @@ view_err e d is = ap (λ (x : LogFault). let y : Result ViewState LogFault = Err
 
 unit_err : (e d : LogFault) → e ≡ d → IsErrOf {T = Unit {0}} (Err e) d
 unit_err e d is = ap (λ (x : LogFault). let y : Result (Unit {0}) LogFault = Err x in y) is
-
-empty_of : (xs : List (List ℕ)) → (length xs == 0) ≡ true → xs ≡ []
-empty_of [] e = refl
-empty_of (x ∷ xs) e = absurd (let h : length (x ∷ xs) ≡ 0 = grind (arith, nat_tests) in omega (arith, h))
 
 pub returns-then-is_empty-clause-masks : goal.returns-then-is_empty-clause-masks
 returns-then-is_empty-clause-masks g c told stored holds =

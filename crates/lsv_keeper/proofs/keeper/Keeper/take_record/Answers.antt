@@ -1,4 +1,4 @@
-use Rattle.std.proofs.Common.{◌≡◌, Some, arith, refl, subst, sym}
+use Rattle.std.proofs.Common.{◌≡◌, Some, refl, subst, sym}
 use Rattle.lsv_disk.specs.View.{DiskView}
 use Rattle.lsv_request.specs.declared.refusal.Refusal.{Refusal}
 use Rattle.lsv_request.specs.declared.request.Request.TheVariants as request
@@ -7,26 +7,25 @@ use Rattle.lsv_session.specs.declared.connection.ConnState.TheVariants.{Dead}
 use Rattle.lsv_machine.specs.Failures.{AsksFor}
 use Rattle.lsv_machine.specs.Machine.{log_of}
 use Rattle.lsv_keeper.specs.Rows.{Left, RowGives}
-use Rattle.lsv_keeper.specs.Value.{KeeperView, sessions_of}
+use Rattle.lsv_keeper.specs.Value.{KeeperView}
 use Rattle.lsv_keeper.specs.Views.{view_of}
 use Rattle.lsv_keeper.specs.declared.told.Told.TheVariants as told
 use Rattle.lsv_keeper.specs.Syncing.{NoLog}
-use Rattle.lsv_keeper.proofs.Departing.{room_one}
 use Rattle.lsv_keeper.proofs.ExitEnds.{keeps_from}
 use Rattle.lsv_keeper.proofs.Frames.{Laws}
 use Rattle.lsv_keeper.proofs.Opens.{given_ok}
 use Rattle.lsv_keeper.proofs.Recording.{record_staged}
-use Rattle.lsv_keeper.proofs.Refusing.{keeps_same, record_refused, refused_out, staged_keeps, written_open}
+use Rattle.lsv_keeper.proofs.Refusing.{keeps_same, record_refused, refused_moved, staged_keeps, written_open}
 use Rattle.lsv_keeper.proofs.Syncing.{nothing}
 use Rattle.lsv_keeper.proofs.keeper.Keeper.take_record.Goals as goal
 
-pub let_go-requires : goal.let_go-requires
-let_go-requires g c = record {
-  taken_out = λ told_is.
+pub let_refused-requires : goal.let_refused-requires
+let_refused-requires g c = record {
+  moved = λ told_is.
       let (m, at) = c.requires.stands told_is in
-      (view_of c.args.self.now, m, refused_out (view_of c.args.self.now) c.append.new.self c.args.log c.args.r c.in-Refused.its c.in-Refused.fault c.in-Refused.ensures, at);
-  writes_none = refl;
-  room = let x = room_one ((sessions_of (view_of c.args.self.now)).states c.args.conn) Dead in let y = c.requires.room in omega arith;
+      let (was, left, here, no_room, put) = c.in-Refused.ensures in
+      (view_of c.args.self.now, left, m, refused_moved (view_of c.args.self.now) c.append.new.self c.args.log c.args.r was left c.in-Refused.fault here no_room put, at);
+  room = c.requires.room;
 }
 
 pub returns-in-Staged-clause-keeps : goal.returns-in-Staged-clause-keeps
@@ -44,19 +43,19 @@ returns-in-Staged-clause-row g c told_is m job now at is state asks =
     (given_ok c.insert_once.result _ (c.insert_once.ensures.room c.requires.waiting) c.insert_once.ensures.inserted)
 
 pub returns-in-Refused-clause-keeps : goal.returns-in-Refused-clause-keeps
-returns-in-Refused-clause-keeps g c = keeps_from (view_of c.args.self.now) (view_of c.let_go.new.self) c.append.new.self c.let_go.ensures.keeps
+returns-in-Refused-clause-keeps g c = keeps_from (view_of c.args.self.now) (view_of c.let_refused.new.self) c.append.new.self c.let_refused.ensures.keeps
 
 pub returns-in-Refused-clause-row : goal.returns-in-Refused-clause-row
 returns-in-Refused-clause-row g c told_is m job now at is state asks =
     let v : KeeperView = view_of c.args.self.now in
-    let v' : KeeperView = view_of c.let_go.new.self in
+    let v' : KeeperView = view_of c.let_refused.new.self in
     let old : DiskView = g.D.Disk.view c.args.disk.now in
-    let new : DiskView = g.D.Disk.view c.let_go.new.disk in
+    let new : DiskView = g.D.Disk.view c.let_refused.new.disk in
     let laws : Laws old = record { reads_itself = g.met.D.Disk.reads_itself told_is c.args.disk.now; is_now = g.met.D.Disk.is_now told_is c.args.disk.now; only_now = g.met.D.Disk.only_now told_is c.args.disk.now } in
-    let (its, here, no_room, is_logs) = c.in-Refused.ensures in
-    let left = c.let_go.ensures.left told_is v m (refused_out v c.append.new.self c.args.log c.args.r c.in-Refused.its c.in-Refused.fault c.in-Refused.ensures) at state in
+    let (was, its, here, no_room, put) = c.in-Refused.ensures in
+    let left = c.let_refused.ensures.left told_is v its m (refused_moved v c.append.new.self c.args.log c.args.r was its c.in-Refused.fault here no_room put) at state in
     subst (λ (why : Refusal). RowGives v now job (told.Refused why) m v' old new) (sym c.log_refusal.ensures)
-    (record_refused v v' now job c.args.log c.args.r its c.in-Refused.its c.in-Refused.fault m old new laws at
+    (record_refused v v' now job c.args.log c.args.r was its c.in-Refused.fault m old new laws at
     (subst (λ (k : ConnId). AsksFor (m.states k) job.body (request.Record c.args.r)) (sym is) asks) (subst (λ (k : ConnId). log_of (m.states k) ≡ Some c.args.log) (sym is) state) here no_room
     (subst (λ (k : ConnId). Left k Dead v m v' old new) (sym is) left))
 
@@ -73,7 +72,8 @@ returns-in-Staged-clause-syncs g c told_is m at state = nothing NoLog (view_of c
 pub returns-in-Refused-clause-syncs : goal.returns-in-Refused-clause-syncs
 returns-in-Refused-clause-syncs g c told_is m at state =
     let v : KeeperView = view_of c.args.self.now in
-    c.let_go.ensures.syncs told_is v m (refused_out v c.append.new.self c.args.log c.args.r c.in-Refused.its c.in-Refused.fault c.in-Refused.ensures) at state
+    let (was, its, here, no_room, put) = c.in-Refused.ensures in
+    c.let_refused.ensures.syncs told_is v its m (refused_moved v c.append.new.self c.args.log c.args.r was its c.in-Refused.fault here no_room put) at state
 
 pub returns-in-NotOpen-clause-syncs : goal.returns-in-NotOpen-clause-syncs
 returns-in-NotOpen-clause-syncs g c told_is m at state = nothing NoLog (view_of c.args.self.now) _ (g.D.Disk.view c.args.disk.now) refl refl

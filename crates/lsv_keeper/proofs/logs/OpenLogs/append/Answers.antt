@@ -1,9 +1,8 @@
-use Rattle.std.proofs.Common.{◌≡◌, ◌∙◌, ℕ, nat_eq, Option, None, Some, ap, subst, sym, rules}
+use Rattle.std.proofs.Common.{◌≡◌, ◌∙◌, ℕ, nat_eq, Option, Some, ap, sym, rules}
 use Rattle.std.specs.HashMap as hash
-use Rattle.lsv_keeper.specs.Logs.{Appends, open_logs, with_open}
-use Rattle.lsv_keeper.specs.declared.logs.Appended.{Appended}
+use Rattle.lsv_keeper.specs.Logs.{open_logs, with_open}
 use Rattle.lsv_keeper.specs.declared.logs.OpenLog.{OpenLog}
-use Rattle.lsv_keeper.proofs.Opens.{put_at, put_its, put_twice}
+use Rattle.lsv_keeper.proofs.Opens.{put_at}
 use Rattle.lsv_keeper.proofs.logs.OpenLogs.append.Goals as goal
 
 pub returns-in-Err : goal.returns-in-Err
@@ -14,6 +13,4 @@ returns-in-Err g c =
     let here : old n ≡ Some c.in-Some.its.now = ap (λ (k : ℕ). hash.get nat_eq c.args.self.now.map k) (sym c.get.ensures.value) ∙ sym c.in-Some.ensures.value in
     let mid : hash.get nat_eq (c.get_mut.follows.lender after) ≡ with_open n (Some after) old =
     put_at old (hash.get nat_eq (c.get_mut.follows.lender after)) c.get.result n (Some after) c.get.ensures.value ((c.get_mut.follows.holds after).3 (search rules)).0 in
-    let refused = c.refuse.ensures after (ap (λ (f : ℕ → Option OpenLog). f n) mid ∙ put_its old n (Some after)) in
-    subst (λ (x : Appended). Appends n c.args.r x old (open_logs c.refuse.new.self)) (sym refused.0)
-    (c.in-Some.its.now, here, c.in-Err.ensures.refused, refused.1 ∙ ap (λ (f : ℕ → Option OpenLog). with_open n None f) mid ∙ put_twice old n (Some after) None)
+    (c.in-Some.its.now, after, here, c.in-Err.ensures.refused, mid)

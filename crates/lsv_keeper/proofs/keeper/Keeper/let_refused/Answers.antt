@@ -1,0 +1,40 @@
+-- A log that refused a record is there to be taken.
+use Rattle.std.proofs.Common.{◌∙◌, arith, refl}
+use Rattle.lsv_session.specs.declared.connection.ConnState.TheVariants.{Dead}
+use Rattle.lsv_keeper.specs.Value.{sessions_of}
+use Rattle.lsv_keeper.specs.Views.{view_of}
+use Rattle.lsv_keeper.proofs.Departing.{room_one}
+use Rattle.lsv_keeper.proofs.ExitEnds.{keeps_from}
+use Rattle.lsv_keeper.proofs.Refusing.{keeps_same, moved_out, moved_there}
+use Rattle.lsv_keeper.proofs.keeper.Keeper.let_refused.Goals as goal
+
+pub let_go-requires : goal.let_go-requires
+let_go-requires g c = record {
+  taken_out = λ told.
+      let (before, left, m, moved, at) = c.requires.moved told in
+      (before, m, moved_out before (view_of c.args.self.now) c.take.new.self c.args.log left c.in-Some.its moved c.in-Some.ensures.taken c.take.ensures.rest, at);
+  writes_none = refl;
+  room = let x = room_one ((sessions_of (view_of c.args.self.now)).states c.args.conn) Dead in let y = c.requires.room in omega arith;
+}
+
+pub returns-in_default-clause-keeps : goal.returns-in_default-clause-keeps
+returns-in_default-clause-keeps g c = keeps_same (view_of c.args.self.now) c.take.new.self
+
+pub returns-clause-keeps : goal.returns-clause-keeps
+returns-clause-keeps g c = keeps_from (view_of c.args.self.now) (view_of c.let_go.new.self) c.take.new.self c.let_go.ensures.keeps
+
+pub returns-in_default-clause-left : goal.returns-in_default-clause-left
+returns-in_default-clause-left g c told before left m moved at state =
+    absurd (c.in_default.not-Some left (c.take.ensures.taken ∙ moved_there before (view_of c.args.self.now) c.args.log left moved))
+
+pub returns-clause-left : goal.returns-clause-left
+returns-clause-left g c told before left m moved at state =
+    c.let_go.ensures.left told before m (moved_out before (view_of c.args.self.now) c.take.new.self c.args.log left c.in-Some.its moved c.in-Some.ensures.taken c.take.ensures.rest) at state
+
+pub returns-in_default-clause-syncs : goal.returns-in_default-clause-syncs
+returns-in_default-clause-syncs g c told before left m moved at state =
+    absurd (c.in_default.not-Some left (c.take.ensures.taken ∙ moved_there before (view_of c.args.self.now) c.args.log left moved))
+
+pub returns-clause-syncs : goal.returns-clause-syncs
+returns-clause-syncs g c told before left m moved at state =
+    c.let_go.ensures.syncs told before m (moved_out before (view_of c.args.self.now) c.take.new.self c.args.log left c.in-Some.its moved c.in-Some.ensures.taken c.take.ensures.rest) at state
