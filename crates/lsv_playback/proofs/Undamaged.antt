@@ -146,8 +146,8 @@ module _ (l : Laid) (body : Body) (all rs : List Record) (laid : IsLayout l all)
   no_lack : (s : Stream) (more : List Record) → all ≡ rs ++ more → LacksData l body rs s → ⊥
   no_lack s [] is (told, next, goes, few) = no_line_at_end l.timing (length (timing_of rs)) next.0 told (at_end is) next.1
   no_lack s (r ∷ more) is (told, next, goes, few) =
-      let data : length (data_in s r) ≡ told_count s told = data_length s r ∙ ap (told_count s) (sym (next_shape r more told is next)) in
-      omega (arith, few, data, stream_split s r more is)
+      let bytes : length (data_in s r) ≡ told_count s told = data_length s r ∙ ap (told_count s) (sym (next_shape r more told is next)) in
+      omega (arith, few, bytes, stream_split s r more is)
 
   no_stream_fault : (before : List Stream) (s : Stream) (more : List Record) → all ≡ rs ++ more → IsStreamFault l body rs before s → ⊥
   no_stream_fault before s more is (inl lacks) = no_lack s more is lacks
