@@ -141,6 +141,20 @@ files_of_log(1, HEAD, RECORDS, EXIT, timing=timing.replace(b"4 0.000000000 5", b
 case("run 000001", *played(RECORDS[:2]), status(4))
 case("run -l", put(line(1)), status(0))
 
+title("an absent file of which nothing is committed")
+for part in ("stdin", "stdout", "stderr", "ttyin"):
+    case("store")
+    numbers(1)
+    files_of_log(1, HEAD, RECORDS, EXIT, **{part: None})
+    case("run 000001", status(4))
+    case("run -l", status(4))
+for part in ("exit_json", "ttyout", "timing"):
+    case("store")
+    numbers(1)
+    files_of_log(1, HEAD, [], None, **{part: None})
+    case("run 000001", status(4))
+    case("run -l", status(4))
+
 title("a journal that was cut off")
 case("store")
 body = stores.body_of(3, RECORDS, stores.files_of(HEAD, RECORDS, EXIT))

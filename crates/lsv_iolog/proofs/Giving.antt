@@ -28,11 +28,12 @@ use Rattle.lsv_record.proofs.Tallies.{totals_more, lines_are_timing, lines_tell_
 use Rattle.lsv_iolog.specs.declared.fault.LogFault.{LogFault}
 use Rattle.lsv_iolog.specs.declared.fault.LogFault.TheVariants as logs
 use Rattle.lsv_iolog.specs.Recovered.{part_of, laid_in}
-use Rattle.lsv_iolog.specs.Reading.{IsWindowOf, GoesOn, LacksData, AllUsed, IsLeftOver, IsTimingFault, IsFaultBehind}
+use Rattle.lsv_iolog.specs.Reading.{AreThere, IsWindowOf, GoesOn, LacksData, AllUsed, IsLeftOver, IsTimingFault, IsFaultBehind}
 use Rattle.lsv_iolog.specs.Inner.Scanning.{text_of, Scan, IsReading, IsBadLine, EachCounted, AllCounted, streams_before}
 use Rattle.lsv_iolog.specs.Inner.Judging.{IsBehindLines, AreWhole, IsWithin, LacksIn, IsEndFault, back_to}
 use Rattle.lsv_iolog.proofs.Replaying.{same_laid}
 use Rattle.lsv_iolog.proofs.Scans.{text_same}
+use Rattle.lsv_iolog.proofs.Viewing.{still_there, text_long}
 
 -- the totals of lines, one by one
 data_at : (lines : List Shaped) (s : Stream) → get_or (totals_of lines).data_bytes (event_of s) 0 ≡ told_data s lines
@@ -101,7 +102,7 @@ of_log Ttyout = tt
 
 -- a stream has as many bytes as the entry says
 stream_long : (lines : Scan) (rs : List Record) (disk : DiskView) (s : Stream) → IsBehindLines lines rs disk → length (stream_in s (laid_in (text_of lines.view disk))) ≡ length_of lines.view.body (part_of s)
-stream_long lines rs disk s is = ap length (stream_text (text_of lines.view disk) s) ∙ is.long (part_of s) (of_log s)
+stream_long lines rs disk s is = ap length (stream_text (text_of lines.view disk) s) ∙ text_long lines.view disk (part_of s) (is.there (part_of s) (of_log s))
 
 pub prefix_less : (a b : List ℕ) → IsPrefix a b → length a ≤ length b
 prefix_less a b is = let e = ap length is.1 in omega (arith, e, length-append a is.0)
@@ -138,12 +139,16 @@ texts_same old new disk later view reads part = ap (λ (v : View). text_of v lat
 laid_same : (old new : View) (disk later : DiskView) → new ≡ old → OnlyReads disk later → laid_in (text_of new later) ≡ laid_in (text_of old disk)
 laid_same old new disk later view reads = same_laid (text_of new later) (text_of old disk) (λ part own. texts_same old new disk later view reads part)
 
+-- the files that were there still are
+files_same : (old new : View) (disk later : DiskView) → new ≡ old → OnlyReads disk later → AreThere old.owner old.body disk.reads → AreThere new.owner new.body later.reads
+files_same old new disk later view reads there = subst (λ (v : View). AreThere v.owner v.body later.reads) (sym view) (still_there old.owner old.body disk later reads there)
+
 -- nothing was read
 pub behind_same : (old new : Scan) (rs : List Record) (disk later : DiskView) → new.view ≡ old.view → OnlyReads disk later → new.tally ≡ old.tally → IsReading new later → IsBehindLines old rs disk → IsBehindLines new rs later
 behind_same old new rs disk later view reads tally window is = record {
   begins = subst (λ (l : Laid). Begins l rs) (sym (laid_same old.view new.view disk later view reads)) is.begins;
   given = tally ∙ is.given;
-  long = λ part own. ap length (texts_same old.view new.view disk later view reads part) ∙ is.long part own ∙ ap (λ (v : View). length_of v.body part) (sym view);
+  there = files_same old.view new.view disk later view reads is.there;
   window = window;
 }
 
@@ -176,7 +181,7 @@ behind_more old new rs disk later told r view reads tally window stands good in_
   begins = subst (λ (l : Laid). Begins l (rs ++ r ∷ [])) (sym (laid_same old.view new.view disk later view reads))
       (begins_more old rs disk told r new.tally.timing is stands good (subst (λ (t : Totals). t.elapsed < 2 ^ 63) tally in_time) of);
   given = tally ∙ tally_more old.tally rs told is.given ∙ ap (λ (t : Shaped). totals_of (map shape_of rs ++ t ∷ [])) (sym of.shape) ∙ ap totals_of (sym (shapes_push rs r));
-  long = λ part own. ap length (texts_same old.view new.view disk later view reads part) ∙ is.long part own ∙ ap (λ (v : View). length_of v.body part) (sym view);
+  there = files_same old.view new.view disk later view reads is.there;
   window = window;
 }
 
@@ -259,7 +264,7 @@ lacks_behind lines rs disk later told next after part is reads stands more withi
 
 -- the lines end there
 timing_ends : (lines : Scan) (rs : List Record) (disk : DiskView) → IsBehindLines lines rs disk → lines.tally.timing ≡ length_of lines.view.body Timing → text_of lines.view disk Timing ≡ timing_of rs
-timing_ends lines rs disk is end = prefix_all (timing_of rs) (text_of lines.view disk Timing) is.begins.timing (is.long Timing tt ∙ sym end ∙ tally_timing lines.tally rs is.given)
+timing_ends lines rs disk is end = prefix_all (timing_of rs) (text_of lines.view disk Timing) is.begins.timing (text_long lines.view disk Timing (is.there Timing tt) ∙ sym end ∙ tally_timing lines.tally rs is.given)
 
 all_used : (lines : Scan) (rs : List Record) (disk : DiskView) (ss : List Stream) → IsBehindLines lines rs disk → EachCounted lines.view.body lines.tally ss → AllUsed (laid_in (text_of lines.view disk)) rs ss
 all_used lines rs disk [] is each = tt

@@ -26,7 +26,7 @@ use Rattle.lsv_record.specs.Tally.{totals_of}
 use Rattle.lsv_record.proofs.Layouts.{timing_of-append, stream_of-append, elapsed-append}
 use Rattle.lsv_iolog.specs.Recovered.{owner_of, HoldsLog}
 use Rattle.lsv_iolog.specs.Later.{IsLater}
-use Rattle.lsv_iolog.specs.Reading.{ViewState, committed_text, committed_laid, IsWindowOf, IsBehind}
+use Rattle.lsv_iolog.specs.Reading.{AreThere, ViewState, committed_text, committed_laid, IsWindowOf, IsBehind}
 use Rattle.lsv_iolog.proofs.Replaying.{same_laid}
 use Rattle.lsv_iolog.proofs.Giving.{tally_timing, prefix_less}
 use Rattle.lsv_iolog.proofs.Windows.{window_none}
@@ -78,12 +78,12 @@ goes_on was now rs more is cuts later = elim later [
 
 -- a view that reads on behind the records that were given
 pub later_behind : (view : ViewState) (old new : DiskView) (was now : Stored) (rs more : List Record) → HasEntry (owner_of view.number) view.body old.reads → OnlyReads old new
-    → ((part : Part) → IsPart shapes.Log part → length (committed_text view.number view.body new part) ≡ length_of view.body part)
+    → AreThere (owner_of view.number) view.body new.reads
     → was.records ≡ rs ++ more → was.cuts ≡ view.body.extra → HoldsLog view.number now old.reads → IsLater was now → view.given ≡ totals_of (map shape_of rs) → view.start ≡ view.given.timing → view.window ≡ [] → IsBehind view rs new
-later_behind view old new was now rs more entry reads long is cuts holds later given start window = record {
+later_behind view old new was now rs more entry reads there is cuts holds later given start window = record {
   begins = begins;
   given = given;
-  long = long;
+  there = there;
   window = subst (λ (w : List ℕ). IsWindowOf text view.start w view.given.timing) (sym window) (subst (λ (k : ℕ). IsWindowOf text k [] view.given.timing) (sym start)
       (window_none text view.given.timing (let a = tally_timing view.given rs given in let b = prefix_less (timing_of rs) text begins.timing in omega (arith, a, b))));
 } where

@@ -8,6 +8,7 @@ use Rattle.lsv_disk.specs.declared.file.Part.{Part}
 use Rattle.lsv_disk.specs.declared.file.Part.TheVariants.{Head}
 use Rattle.lsv_disk.specs.Throughout.{OnlyReads}
 use Rattle.lsv_disk.specs.View.{DiskView}
+use Rattle.lsv_disk.proofs.Composition.{unchanged_reads}
 use Rattle.lsv_bundle.specs.declared.body.Body.{Body}
 use Rattle.lsv_bundle.specs.declared.shape.Shape.TheVariants as shapes
 use Rattle.lsv_bundle.specs.declared.view.View.{View}
@@ -18,7 +19,7 @@ use Rattle.lsv_iolog.specs.declared.fault.LogFault.{LogFault}
 use Rattle.lsv_iolog.specs.declared.fault.LogFault.TheVariants as logs
 use Rattle.lsv_iolog.specs.Recovered.{owner_of, IsHeadText}
 use Rattle.lsv_iolog.specs.Damage.{IsViewDamage}
-use Rattle.lsv_iolog.specs.Reading.{committed_text}
+use Rattle.lsv_iolog.specs.Reading.{AreThere, committed_text}
 use Rattle.lsv_iolog.specs.Inner.Scanning.{text_of}
 use Rattle.lsv_iolog.proofs.Replaying.{on_log}
 use Rattle.lsv_iolog.proofs.Scans.{text_same}
@@ -50,6 +51,14 @@ begins_there (Some bytes) n enough = (drop n bytes, sym (take-append-drop n byte
 -- each data file has as many bytes as the entry says
 pub record IsEnough (owner : Owner) (body : Body) (disk : DiskView) : Type 0 where
   pub each : (part : Part) → IsPart shapes.Log part → IsShort (disk.reads (file_of owner part)) (length_of body part) → ⊥
+
+-- of a file that isn't short as many bytes are committed as the entry says
+pub text_long : (view : View) (disk : DiskView) (part : Part) → (IsShort (disk.reads (file_of view.owner part)) (length_of view.body part) → ⊥) → length (text_of view disk part) ≡ length_of view.body part
+text_long view disk part enough = all_there (disk.reads (file_of view.owner part)) (length_of view.body part) enough
+
+-- files that were there still are, where they were only read
+pub still_there : (owner : Owner) (body : Body) (old new : DiskView) → OnlyReads old new → AreThere owner body old.reads → AreThere owner body new.reads
+still_there owner body old new reads there part own = subst (λ (file : Option (List ℕ)). IsShort file (length_of body part) → ⊥) (sym (unchanged_reads old new reads.unchanged (file_of owner part))) (there part own)
 
 -- the committed bytes, by the log's number
 pub owner_text : (n : ℕ) (view : View) (disk : DiskView) (part : Part) → view.owner ≡ owner_of n → text_of view disk part ≡ committed_text n view.body disk part

@@ -2,13 +2,14 @@
 use Rattle.std.specs.Prelude.{◌≡◌, ℕ, ◌+◌, ◌<◌, ◌≤◌, ◌^◌, ◌⊎◌, List, [], ◌∷◌, length, map}
 use Rattle.lsv_words.specs.Pieces.{piece}
 use Rattle.lsv_disk.specs.Files.{file_of}
+use Rattle.lsv_disk.specs.declared.file.Owner.{Owner}
 use Rattle.lsv_disk.specs.declared.file.Part.{Part}
 use Rattle.lsv_disk.specs.declared.file.Part.TheVariants.{Head, Exit, Timing, Stdin, Stdout, Stderr, Ttyin, Ttyout, Lines, Id, Commit, Slots}
 use Rattle.lsv_disk.specs.View.{Image, DiskView}
 use Rattle.lsv_bundle.specs.declared.body.Body.{Body}
 use Rattle.lsv_bundle.specs.declared.shape.Shape.TheVariants as shapes
 use Rattle.lsv_bundle.specs.Body.{length_of}
-use Rattle.lsv_bundle.specs.Committed.{HasEntry, prefix_at}
+use Rattle.lsv_bundle.specs.Committed.{HasEntry, IsShort, prefix_at}
 use Rattle.lsv_bundle.specs.Shape.{IsPart}
 use Rattle.lsv_info.specs.declared.times.Head as info
 use Rattle.lsv_record.specs.declared.laid.Laid.{Laid}
@@ -42,6 +43,10 @@ committed_text n body disk part = prefix_at disk (file_of (owner_of n) part) (le
 abbrev pub committed_laid : ℕ → Body → DiskView → Laid
 committed_laid n body disk = laid_in (committed_text n body disk)
 
+-- each data file of a log is there, and has as many bytes as the entry says
+abbrev pub AreThere : Owner → Body → Image → Type 0
+AreThere owner body image = (part : Part) → IsPart shapes.Log part → IsShort (image (file_of owner part)) (length_of body part) → ⊥
+
 -- the window is one of this text, and the next line begins in it or at its end
 pub record IsWindowOf (text : List ℕ) (start : ℕ) (window : List ℕ) (next : ℕ) : Type 0 where
   pub bytes : window ≡ piece text start (length window)
@@ -49,11 +54,11 @@ pub record IsWindowOf (text : List ℕ) (start : ℕ) (window : List ℕ) (next 
   pub before : start ≤ next
   pub after : next ≤ start + length window
 
--- the view stands behind these records: the committed bytes begin with their layout
+-- the view stands behind these records: the committed bytes, which are there, begin with their layout
 pub record IsBehind (view : ViewState) (records : List Record) (disk : DiskView) : Type 0 where
   pub begins : Begins (committed_laid view.number view.body disk) records
   pub given : view.given ≡ totals_of (map shape_of records)
-  pub long : (part : Part) → IsPart shapes.Log part → length (committed_text view.number view.body disk part) ≡ length_of view.body part
+  pub there : AreThere (owner_of view.number) view.body disk.reads
   pub window : IsWindowOf (committed_text view.number view.body disk Timing) view.start view.window view.given.timing
 
 -- the committed bytes are the layout of these records, as many and of as much time as the entry says

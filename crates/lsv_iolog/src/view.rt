@@ -6,7 +6,6 @@ ghost use Rattle.lsv_words.specs.Pieces.{piece};
 ghost use Rattle.lsv_bundle.specs.Committed.{HasEntry};
 ghost use Rattle.lsv_bundle.specs.declared.shape.Shape.TheVariants as shapes;
 ghost use Rattle.lsv_bundle.specs.Body.{length_of};
-ghost use Rattle.lsv_bundle.specs.Shape.{IsPart};
 ghost use Rattle.lsv_info.specs.Reading.{head_of, exit_of};
 ghost use Rattle.lsv_info.specs.declared.times.Exit.{Exit};
 ghost use Rattle.lsv_record.specs.declared.records.Record.{Record};
@@ -20,7 +19,7 @@ ghost use Rattle.lsv_iolog.specs.Damage.{IsViewDamage};
 ghost use Rattle.lsv_iolog.specs.Faults.{IsOpenFault, IsNextFault};
 ghost use Rattle.lsv_iolog.specs.Inner.Scanning.{text_of, IsReading, IsViewOf, AllCounted};
 ghost use Rattle.lsv_iolog.specs.Inner.Judging.{IsBehindLines, AreWhole, LacksIn, IsWithin, IsEndFault, back_to};
-ghost use Rattle.lsv_iolog.specs.Reading.{committed_text, committed_laid, HasShrunk, IsBehind, IsWhole, IsFaultBehind};
+ghost use Rattle.lsv_iolog.specs.Reading.{committed_text, committed_laid, AreThere, HasShrunk, IsBehind, IsWhole, IsFaultBehind};
 
 use crate::LogFault;
 use crate::append::part_of;
@@ -283,7 +282,7 @@ fn view_log<D: Disk>(alloc: Global, disk: &mut D, number: LogNo) -> Result<(View
     ensures named { IfOk result (λ seen. IsViewOf number seen.0) }
     ensures entry { D.tells → IfOk result (λ seen. HasEntry (owner_of number) seen.0.body (D.view disk.old).reads) }
     ensures head { D.tells → IfOk result (λ seen. head_of (committed_text number seen.0.body (D.view disk.new) Part.Head) ≡ Ok seen.1) }
-    ensures long { D.tells → IfOk result (λ seen. (part : Part) → IsPart shapes.Log part → length (committed_text number seen.0.body (D.view disk.new) part) ≡ length_of seen.0.body part) }
+    ensures there { D.tells → IfOk result (λ seen. AreThere (owner_of number) seen.0.body (D.view disk.new).reads) }
     ensures absent { D.tells → IsErrOf result LogFault.Absent → Replays (D.view disk.old).reads number None }
     ensures damaged { D.tells → (part : Part) → IsErrOf result (LogFault.Damaged part) → IsViewDamage number part (D.view disk.old).reads }
     ensures reads { D.tells → OnlyReads (D.view disk.old) (D.view disk.new) }

@@ -57,7 +57,7 @@ pub record IsListing (tells shows : Type 0) (e : List Step) (n : ℕ) (first : O
   pub disk : (f : FileId) → old.faults f ≤ now.faults f
   pub screen : failed ≤ fails
   pub reads : tells → OnlyReads old now
-  pub listed : tells → shows → (searched : Option Expression) → AreStepsOf searched e → (put : List Item) × (shown ≡ before ++ put) × ListedTo searched old.reads n first put
+  pub listed : tells → (searched : Option Expression) → AreStepsOf searched e → (put : List Item) × (shows → shown ≡ before ++ put) × ListedTo searched old.reads n first put
 
 -- at first
 pub listing_starts : (tells shows : Type 0) (e : List Step) (disk : DiskView) (shown : List Item) (fails : ℕ) → (tells → OnlyNow disk) → IsListing tells shows e 0 None disk disk shown shown fails fails
@@ -65,7 +65,7 @@ listing_starts tells shows e disk shown fails now = record {
   disk = λ f. omega arith;
   screen = omega arith;
   reads = λ told. reads_nothing disk (now told);
-  listed = λ told told_too searched steps. ([], sym (append-nil shown), record { found = []; are = tt; count = refl; put_is = refl; first_is = refl });
+  listed = λ told searched steps. ([], λ told_too. sym (append-nil shown), record { found = []; are = tt; count = refl; put_is = refl; first_is = refl });
 }
 
 -- the listing with one log more
@@ -116,7 +116,7 @@ cut_of searched image n number last first put more faults.NoMem to next within o
 -- what one call on a log promises
 abbrev pub OneListed : (tells shows : Type 0) → List Step → ℕ → Result (Option Part) ListFault → DiskView → List Item → List Item → Type 0
 OneListed tells shows e number r disk before after =
-    tells → shows → (searched : Option Expression) → AreStepsOf searched e → (put : List Item) × (after ≡ before ++ put) × ListsOne searched disk.reads number r put
+    tells → (searched : Option Expression) → AreStepsOf searched e → (put : List Item) × (shows → after ≡ before ++ put) × ListsOne searched disk.reads number r put
 
 module _ (tells shows : Type 0) (e : List Step) (n number : ℕ) (first : Option Part) (old now : DiskView) (before shown : List Item) (failed fails : ℕ) (is : IsListing tells shows e n first old now before shown failed fails)
     (next : number ≡ n + 1) where
@@ -126,11 +126,11 @@ module _ (tells shows : Type 0) (e : List Step) (n number : ℕ) (first : Option
     disk = λ f. omega (arith, is.disk f, disk f);
     screen = omega (arith, is.screen, screen);
     reads = λ told. reads_trans old now later (is.reads told) (reads told);
-    listed = λ told told_too searched steps.
-        let to = is.listed told told_too searched steps in
-        let more = one told told_too searched steps in (
+    listed = λ told searched steps.
+        let to = is.listed told searched steps in
+        let more = one told searched steps in (
           to.0 ++ more.0,
-          more.1 ∙ ap (λ (items : List Item). items ++ more.0) to.1 ∙ append_assoc before to.0 more.0,
+          λ told_too. more.1 told_too ∙ ap (λ (items : List Item). items ++ more.0) (to.1 told_too) ∙ append_assoc before to.0 more.0,
           subst (λ (o : Option Part). ListedTo searched old.reads (n + 1) o (to.0 ++ more.0)) (sym first_is)
               (listed_more searched old.reads n number first damage to.0 more.0 to.2 next
               (subst (λ (image : Image). ListsOne searched image number (Ok damage) more.0) (same_image old now (is.reads told)) more.2)),
@@ -138,12 +138,12 @@ module _ (tells shows : Type 0) (e : List Step) (n number : ℕ) (first : Option
   }
 
   pub listing_stops : (fault : ListFault) (r : Result (Option Part) ListFault) (last : ℕ) (after : List Item) → OneListed tells shows e number (Err fault) now shown after → r ≡ Err fault → number ≤ last
-      → tells → shows → (searched : Option Expression) → AreStepsOf searched e → (put : List Item) × (after ≡ before ++ put) × ListsTo searched old.reads last r put
-  listing_stops fault r last after one same within told told_too searched steps =
-      let to = is.listed told told_too searched steps in
-      let more = one told told_too searched steps in (
+      → tells → (searched : Option Expression) → AreStepsOf searched e → (put : List Item) × (shows → after ≡ before ++ put) × ListsTo searched old.reads last r put
+  listing_stops fault r last after one same within told searched steps =
+      let to = is.listed told searched steps in
+      let more = one told searched steps in (
         to.0 ++ more.0,
-        more.1 ∙ ap (λ (items : List Item). items ++ more.0) to.1 ∙ append_assoc before to.0 more.0,
+        λ told_too. more.1 told_too ∙ ap (λ (items : List Item). items ++ more.0) (to.1 told_too) ∙ append_assoc before to.0 more.0,
         subst (λ (x : Result (Option Part) ListFault). ListsTo searched old.reads last x (to.0 ++ more.0)) (sym same)
             (cut_of searched old.reads n number last first to.0 more.0 fault to.2 next within
             (subst (λ (image : Image). ListsOne searched image number (Err fault) more.0) (same_image old now (is.reads told)) more.2)),

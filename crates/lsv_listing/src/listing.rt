@@ -37,8 +37,8 @@ pub fn list_logs<D: Disk, S: Screen>(
     e: &Expr,
     screen: &mut S,
 ) -> Result<(), ListFault>
-    ensures listed { D.tells → S.tells → (searched : Option Expression) → AreStepsOf searched e.now
-        → (put : List Item) × (S.shown screen.new ≡ S.shown screen.old ++ put) × Lists searched (D.view disk.old).reads result put }
+    ensures listed { D.tells → (searched : Option Expression) → AreStepsOf searched e.now
+        → (put : List Item) × (S.tells → S.shown screen.new ≡ S.shown screen.old ++ put) × Lists searched (D.view disk.old).reads result put }
     ensures reads { D.tells → OnlyReads (D.view disk.old) (D.view disk.new) }
     ensures disk { HasOwnCause IsListed (result ≡ Err faults.Disk) (D.view disk.old) (D.view disk.new) }
     ensures screen { HasCause (result ≡ Err faults.Screen) (S.faults screen.old) (S.faults screen.new) }
@@ -58,8 +58,8 @@ fn list_to<D: Disk, S: Screen>(
     last: u32,
     screen: &mut S,
 ) -> Result<Option<Part>, ListFault>
-    ensures listed { D.tells → S.tells → last ≤ 2176782335 → (searched : Option Expression) → AreStepsOf searched e.now
-        → (put : List Item) × (S.shown screen.new ≡ S.shown screen.old ++ put) × ListsTo searched (D.view disk.old).reads last result put }
+    ensures listed { D.tells → last ≤ 2176782335 → (searched : Option Expression) → AreStepsOf searched e.now
+        → (put : List Item) × (S.tells → S.shown screen.new ≡ S.shown screen.old ++ put) × ListsTo searched (D.view disk.old).reads last result put }
     ensures reads { D.tells → OnlyReads (D.view disk.old) (D.view disk.new) }
     ensures disk { HasOwnCause IsListed (result ≡ Err faults.Disk) (D.view disk.old) (D.view disk.new) }
     ensures screen { HasCause (result ≡ Err faults.Screen) (S.faults screen.old) (S.faults screen.new) }
@@ -84,8 +84,8 @@ fn list_log<D: Disk, S: Screen>(
     number: LogNo,
     screen: &mut S,
 ) -> Result<Option<Part>, ListFault>
-    ensures listed { D.tells → S.tells → (searched : Option Expression) → AreStepsOf searched e.now
-        → (put : List Item) × (S.shown screen.new ≡ S.shown screen.old ++ put) × ListsOne searched (D.view disk.old).reads number result put }
+    ensures listed { D.tells → (searched : Option Expression) → AreStepsOf searched e.now
+        → (put : List Item) × (S.tells → S.shown screen.new ≡ S.shown screen.old ++ put) × ListsOne searched (D.view disk.old).reads number result put }
     ensures reads { D.tells → OnlyReads (D.view disk.old) (D.view disk.new) }
     ensures disk { HasOwnCause (IsOfLog number) (result ≡ Err faults.Disk) (D.view disk.old) (D.view disk.new) }
     ensures screen { HasCause (result ≡ Err faults.Screen) (S.faults screen.old) (S.faults screen.new) }
@@ -117,8 +117,8 @@ fn list_head<S: Screen>(
     head: &Head,
     screen: &mut S,
 ) -> Result<Option<Part>, ListFault>
-    ensures listed { S.tells → IsSome (nanos_of head.now.submit) → (searched : Option Expression) → AreStepsOf searched e.now
-        → (put : List Item) × (S.shown screen.new ≡ S.shown screen.old ++ put) × ListsHead searched number head.now result put }
+    ensures listed { IsSome (nanos_of head.now.submit) → (searched : Option Expression) → AreStepsOf searched e.now
+        → (put : List Item) × (S.tells → S.shown screen.new ≡ S.shown screen.old ++ put) × ListsHead searched number head.now result put }
     ensures no_disk { result ≡ Err faults.Disk → ⊥ }
     ensures screen { HasCause (result ≡ Err faults.Screen) (S.faults screen.old) (S.faults screen.new) }
 {

@@ -47,3 +47,8 @@ part_there o records i r part lt is first =
 pub on_err : {T E P : Type 0} (r : Result T E) → P → OnErr r P
 on_err (Ok x) p = tt
 on_err (Err e) p = p
+
+-- what follows of an error's clause holds where there is one
+pub if_err : {T E : Type 0} (r : Result T E) (P Q : Type 0) → OnErr r P → (P → Q) → OnErr r Q
+if_err (Ok x) P Q is step = tt
+if_err (Err e) P Q is step = step is

@@ -1,7 +1,7 @@
-ghost use Rattle.std.specs.Prelude.{◌≡◌, ◌⊎◌, ℕ, List, [], ◌∷◌, ◌++◌, IsErr, OnOk, OnErr};
+ghost use Rattle.std.specs.Prelude.{◌≡◌, ℕ, List, [], ◌∷◌, ◌++◌, IsErr, OnOk, OnErr};
 ghost use Rattle.lsv_base.specs.Outside.{HasCause};
-ghost use Rattle.lsv_words.specs.Pieces.{IsPrefix};
 ghost use Rattle.lsv_play.specs.declared.screen.Item.{Item};
+ghost use Rattle.lsv_play.specs.Items.{IsPart};
 
 use lsv_base::{Bytes, SinkFault};
 
@@ -34,7 +34,6 @@ pub trait Screen {
     /// Puts all of these bytes at once, or at a fault some first part of them.
     fn put(&mut self, bytes: &[u8]) -> Result<(), SinkFault>
         ensures shown { tells → OnOk result (shown self.new ≡ shown self.old ++ Item.Put bytes.now ∷ []) }
-        ensures failed { tells → OnErr result ((shown self.new ≡ shown self.old)
-            ⊎ ((front : List ℕ) × IsPrefix front bytes.now × (shown self.new ≡ shown self.old ++ Item.Put front ∷ []))) }
+        ensures failed { OnErr result ((part : List Item) × IsPart part (Item.Put bytes.now ∷ []) × (tells → shown self.new ≡ shown self.old ++ part)) }
         ensures cause { HasCause (IsErr result) (faults self.old) (faults self.new) };
 }

@@ -14,7 +14,7 @@ const RESUMED: &[u8] = b"CONT";
 /// Shows these records, in order. At a fault a first part of them is shown.
 pub fn play<S: Screen>(o: &Options, records: &[Record], screen: &mut S) -> Result<(), SinkFault>
     ensures shown { S.tells → OnOk result (S.shown screen.new ≡ S.shown screen.old ++ play o.now records.now) }
-    ensures part { S.tells → OnErr result ((part : List Item) × IsPart part (play o.now records.now) × (S.shown screen.new ≡ S.shown screen.old ++ part)) }
+    ensures part { OnErr result ((part : List Item) × IsPart part (play o.now records.now) × (S.tells → S.shown screen.new ≡ S.shown screen.old ++ part)) }
     ensures cause { HasCause (IsErr result) (S.faults screen.old) (S.faults screen.new) }
 {
     for r in records {
@@ -27,7 +27,7 @@ pub fn play<S: Screen>(o: &Options, records: &[Record], screen: &mut S) -> Resul
 /// part of that is shown.
 pub fn play_record<S: Screen>(o: &Options, r: &Record, screen: &mut S) -> Result<(), SinkFault>
     ensures shown { S.tells → OnOk result (S.shown screen.new ≡ S.shown screen.old ++ items_of o.now r.now) }
-    ensures part { S.tells → OnErr result ((part : List Item) × IsPart part (items_of o.now r.now) × (S.shown screen.new ≡ S.shown screen.old ++ part)) }
+    ensures part { OnErr result ((part : List Item) × IsPart part (items_of o.now r.now) × (S.tells → S.shown screen.new ≡ S.shown screen.old ++ part)) }
     ensures cause { HasCause (IsErr result) (S.faults screen.old) (S.faults screen.new) }
 {
     screen.wait(wait_of(o, r.delay(), resumes(r)))?;
@@ -47,7 +47,7 @@ fn resumes(r: &Record) -> bool
 /// Puts the bytes that are shown of a record.
 fn put_bytes<S: Screen>(o: &Options, r: &Record, screen: &mut S) -> Result<(), SinkFault>
     ensures shown { S.tells → OnOk result (S.shown screen.new ≡ S.shown screen.old ++ bytes_shown o.now r.now) }
-    ensures part { S.tells → OnErr result ((part : List Item) × IsPart part (bytes_shown o.now r.now) × (S.shown screen.new ≡ S.shown screen.old ++ part)) }
+    ensures part { OnErr result ((part : List Item) × IsPart part (bytes_shown o.now r.now) × (S.tells → S.shown screen.new ≡ S.shown screen.old ++ part)) }
     ensures cause { HasCause (IsErr result) (S.faults screen.old) (S.faults screen.new) }
 {
     match r {

@@ -15,7 +15,7 @@ use Rattle.lsv_iolog.specs.declared.fault.LogFault.{LogFault}
 use Rattle.lsv_iolog.specs.declared.fault.LogFault.TheVariants as logs
 use Rattle.lsv_iolog.specs.Damage.{IsViewDamage}
 use Rattle.lsv_iolog.specs.Faults.{IsNextFault, IsOpenFault}
-use Rattle.lsv_iolog.specs.Reading.{ViewState, IsBehind, IsFaultBehind, IsWhole, committed_laid, committed_text}
+use Rattle.lsv_iolog.specs.Reading.{AreThere, ViewState, IsBehind, IsFaultBehind, IsWhole, committed_laid, committed_text}
 use Rattle.lsv_iolog.specs.Recovered.{IsOfLog, Replays, owner_of}
 use Rattle.lsv_iolog.proofs.Scans.{reads_nothing}
 use Rattle.lsv_record.specs.declared.laid.Laid.{Laid}
@@ -47,7 +47,7 @@ pub record IsPlaying (tells shows : Type 0) (o : Options) (start log : ViewState
   pub disk : (f : FileId) → old.faults f ≤ now.faults f
   pub screen : failed ≤ fails
   pub reads : tells → OnlyReads old now
-  pub behind : tells → shows → IsBehind start [] old → (rs : List Record) × IsBehind log rs now × (shown ≡ before ++ play o rs)
+  pub behind : tells → IsBehind start [] old → (rs : List Record) × IsBehind log rs now × (shows → shown ≡ before ++ play o rs)
 
 -- at first
 pub playing_starts : (tells shows : Type 0) (o : Options) (log : ViewState) (disk : DiskView) (shown : List Item) (fails : ℕ) → (tells → OnlyNow disk) → IsPlaying tells shows o log log disk disk shown shown fails fails
@@ -57,7 +57,7 @@ playing_starts tells shows o log disk shown fails now = record {
   disk = λ f. omega arith;
   screen = omega arith;
   reads = λ told. reads_nothing disk (now told);
-  behind = λ told told_too behind. ([], behind, sym (append-nil shown));
+  behind = λ told behind. ([], behind, λ told_too. sym (append-nil shown));
 }
 
 -- with one record more
@@ -71,10 +71,10 @@ playing_goes_on tells shows o start log next old now later before shown more fai
   disk = λ f. omega (arith, is.disk f, disk f);
   screen = omega (arith, is.screen, screen);
   reads = λ told. reads_trans old now later (is.reads told) (reads told);
-  behind = λ told told_too behind. let so_far = is.behind told told_too behind in (
+  behind = λ told behind. let so_far = is.behind told behind in (
     so_far.0 ++ r ∷ [],
     given told so_far.0 so_far.1,
-    put told_too ∙ ap (λ (items : List Item). items ++ items_of o r) so_far.2
+    λ told_too. put told_too ∙ ap (λ (items : List Item). items ++ items_of o r) (so_far.2 told_too)
         ∙ append_assoc before (play o so_far.0) (items_of o r) ∙ ap (λ (items : List Item). before ++ items) (sym (play_push o so_far.0 r)),
   );
 }
@@ -90,9 +90,9 @@ begins_same start log old now rs number body reads behind =
     subst (λ (l : Laid). Begins l rs) (laid_same start log old now number body (same_image old now reads)) behind.begins
 
 -- what is put of a log's records, where their playing came to this
-pub record Puts {T : Type 0} (o : Options) (l : Laid) (body : Body) (r : Result T PlayFault) (before shown : List Item) : Type 0 where
+pub record Puts {T : Type 0} (shows : Type 0) (o : Options) (l : Laid) (body : Body) (r : Result T PlayFault) (before shown : List Item) : Type 0 where
   pub put : List Item
-  pub put_is : shown ≡ before ++ put
+  pub put_is : shows → shown ≡ before ++ put
   pub plays : PlaysRecords o l body r put
 
 -- an error is this one
@@ -114,9 +114,9 @@ fault_puts T o l body rs (logs.TooLong point) begins is fault = absurd is
 fault_puts T o l body rs logs.NoMem begins is fault = (rs, begins, part_whole (play o rs))
 
 module _ (tells shows : Type 0) (o : Options) (start log : ViewState) (old now : DiskView) (before shown : List Item) (failed fails : ℕ) (is : IsPlaying tells shows o start log old now before shown failed fails)
-    (told : tells) (told_too : shows) (fresh : IsBehind start [] old) where
-  so_far : (rs : List Record) × IsBehind log rs now × (shown ≡ before ++ play o rs)
-  so_far = is.behind told told_too fresh
+    (told : tells) (fresh : IsBehind start [] old) where
+  so_far : (rs : List Record) × IsBehind log rs now × (shows → shown ≡ before ++ play o rs)
+  so_far = is.behind told fresh
 
   begun : Begins (laid_at start.number start.body old.reads) so_far.0
   begun = begins_same start log old now so_far.0 is.number is.body (is.reads told) so_far.1
@@ -124,7 +124,7 @@ module _ (tells shows : Type 0) (o : Options) (start log : ViewState) (old now :
   -- the log gives no record, for this reason
   pub next_fails : {T : Type 0} (r : Result T PlayFault) (e : LogFault) → IsErrAnd r (λ x. x ≡ of_log e) → IsNextFault e
       → ((part : Part) → e ≡ logs.Damaged part → (rs : List Record) → IsBehind log rs now → IsFaultBehind (committed_laid log.number log.body now) log.body rs part)
-      → Puts o (laid_at start.number start.body old.reads) start.body r before shown
+      → Puts shows o (laid_at start.number start.body old.reads) start.body r before shown
   next_fails {T} r e err is_fault fault = record {
     put = play o so_far.0;
     put_is = so_far.2;
@@ -135,7 +135,7 @@ module _ (tells shows : Type 0) (o : Options) (start log : ViewState) (old now :
   }
 
   -- the log has no further record
-  pub next_ends : {T : Type 0} (x : T) → ((rs : List Record) → IsBehind log rs now → IsWhole log rs now) → Puts o (laid_at start.number start.body old.reads) start.body (Ok x) before shown
+  pub next_ends : {T : Type 0} (x : T) → ((rs : List Record) → IsBehind log rs now → IsWhole log rs now) → Puts shows o (laid_at start.number start.body old.reads) start.body (Ok x) before shown
   next_ends {T} x whole = let all = whole so_far.0 so_far.1 in record {
     put = play o so_far.0;
     put_is = so_far.2;
@@ -154,10 +154,10 @@ module _ (tells shows : Type 0) (o : Options) (start log : ViewState) (old now :
   -- a record that the log gave isn't all put
   pub show_fails : {T : Type 0} (r : Result T PlayFault) (next : ViewState) (later : DiskView) (given : Record) (after part : List Item) → IsErrAnd r (λ x. x ≡ faults.Screen)
       → next.number ≡ log.number → next.body ≡ log.body → OnlyReads now later → ((rs : List Record) → IsBehind log rs now → IsBehind next (rs ++ given ∷ []) later)
-      → IsPart part (items_of o given) → after ≡ shown ++ part → Puts o (laid_at start.number start.body old.reads) start.body r before after
+      → IsPart part (items_of o given) → (shows → after ≡ shown ++ part) → Puts shows o (laid_at start.number start.body old.reads) start.body r before after
   show_fails {T} r next later given after part err number body reads more is_part put = record {
     put = play o so_far.0 ++ part;
-    put_is = put ∙ ap (λ (items : List Item). items ++ part) so_far.2 ∙ append_assoc before (play o so_far.0) part;
+    put_is = λ told_too. put told_too ∙ ap (λ (items : List Item). items ++ part) (so_far.2 told_too) ∙ append_assoc before (play o so_far.0) part;
     plays = subst (λ (x : Result T PlayFault). PlaysRecords o (laid_at start.number start.body old.reads) start.body x (play o so_far.0 ++ part)) (err_as r faults.Screen err) (
       so_far.0 ++ given ∷ [],
       begins_same start next old later (so_far.0 ++ given ∷ []) (number ∙ is.number) (body ∙ is.body) (reads_trans old now later (is.reads told) reads) (more so_far.0 so_far.1),
@@ -166,7 +166,7 @@ module _ (tells shows : Type 0) (o : Options) (start log : ViewState) (old now :
   }
 
   -- the loop ends
-  pub loop_ends : {T : Type 0} (r : Result T PlayFault) → IsErrAnd r (λ x. x ≡ faults.NoMem) → Puts o (laid_at start.number start.body old.reads) start.body r before shown
+  pub loop_ends : {T : Type 0} (r : Result T PlayFault) → IsErrAnd r (λ x. x ≡ faults.NoMem) → Puts shows o (laid_at start.number start.body old.reads) start.body r before shown
   loop_ends {T} r err = record {
     put = play o so_far.0;
     put_is = so_far.2;
@@ -240,8 +240,7 @@ ok_no_err r x e one two = cc
 pub opened_log : (n : ℕ) (v : ViewState) (old new : DiskView) → v.number ≡ n → OnlyReads old new → HasEntry (owner_of n) v.body old.reads → head_of (committed_text n v.body new HeadPart) ≡ Ok v.head → IsBehind v [] new → IsOpened n v.body v.head old.reads
 opened_log n v old new number reads entry head behind = record {
   entry = entry;
-  long = λ part is.
-      ap (λ (image : Image). length (text_at n v.body image part)) (sym (same_image old new reads)) ∙ ap (λ (k : ℕ). length (text_at k v.body new.reads part)) (sym number) ∙ behind.long part is;
+  there = subst (λ (image : Image). AreThere (owner_of n) v.body image) (same_image old new reads) (subst (λ (k : ℕ). AreThere (owner_of k) v.body new.reads) number behind.there);
   head_is = ap (λ (image : Image). head_of (text_at n v.body image HeadPart)) (sym (same_image old new reads)) ∙ head;
 }
 

@@ -14,6 +14,7 @@ use Rattle.lsv_info.specs.declared.times.Head.{Head}
 use Rattle.lsv_iolog.specs.Recovered.{HoldsLog, Replays, laid_in, owner_of}
 use Rattle.lsv_bundle.proofs.Laws.{one_body}
 use Rattle.lsv_iolog.proofs.Replaying.{prefix_same, same_laid}
+use Rattle.lsv_iolog.proofs.Viewing.{all_there}
 use Rattle.lsv_record.specs.declared.laid.Laid.{Laid}
 use Rattle.lsv_record.specs.declared.records.Record.{Record}
 use Rattle.lsv_record.specs.Layout.{Begins, IsLayout, layout_of}
@@ -45,22 +46,22 @@ none_some : (xs : List ℕ) → None ≡ Some xs → ⊥
 none_some xs e = cc
 
 module _ (n : ℕ) (body : Body) (head : Head) (image : Image) (log : Stored) (opened : IsOpened n body head image) (holds : HoldsLog n log image) where
-  same_body : body ≡ holds.entry.body
+  pub same_body : body ≡ holds.entry.body
   same_body = one_body body holds.entry.body opened.entry.is_body holds.holds.is_body (some_encoded (encoded body) (encoded holds.entry.body) (sym opened.entry.last ∙ holds.holds.last))
 
   same_text : (part : Part) → IsPartOf shapes.Log part → text_at n body image part ≡ holds.entry.bytes part
   same_text part is =
       prefix_same (text_at n body image part) (holds.entry.bytes part) (image (file_of (owner_of n) part))
-      (opened.long part is ∙ ap (λ (b : Body). length_of b part) same_body ∙ sym (holds.holds.lengths part is))
+      (all_there (image (file_of (owner_of n) part)) (length_of body part) (opened.there part is) ∙ ap (λ (b : Body). length_of b part) same_body ∙ sym (holds.holds.lengths part is))
       (taken_begins (image (file_of (owner_of n) part)) (length_of body part) (holds.entry.bytes part) (holds.holds.bytes part is)) (holds.holds.bytes part is)
 
   same_layout : laid_at n body image ≡ layout_of log.records
   same_layout = same_laid (text_at n body image) holds.entry.bytes same_text ∙ holds.is.layout
 
-  is_layout : IsLayout (laid_at n body image) log.records
+  pub is_layout : IsLayout (laid_at n body image) log.records
   is_layout = (layout_is_texts (laid_at n body image) log.records).1 same_layout
 
-  begins_log : Begins (laid_at n body image) log.records
+  pub begins_log : Begins (laid_at n body image) log.records
   begins_log = (laid_is_read (laid_at n body image) log.records holds.is.valid holds.is.in_time is_layout).begins
 
 -- ---- records that begin the bytes are the first of the log's
@@ -83,7 +84,7 @@ no_more l rs r more laid begins =
       ap length laid.timing,
     )
 
-some_of_all : (l : Laid) (all rs : List Record) → IsLayout l all → Begins l all → Begins l rs → OneBegins rs all → (more : List Record) × (all ≡ rs ++ more)
+pub some_of_all : (l : Laid) (all rs : List Record) → IsLayout l all → Begins l all → Begins l rs → OneBegins rs all → (more : List Record) × (all ≡ rs ++ more)
 some_of_all l all rs laid begins begun (inl (more, e)) = (more, e)
 some_of_all l all rs laid begins begun (inr ([], e)) = ([], sym (append-nil all) ∙ (sym e ∙ sym (append-nil rs)))
 some_of_all l all rs laid begins begun (inr (r ∷ more, e)) = absurd (no_more l all r more laid (subst (Begins l) e begun))

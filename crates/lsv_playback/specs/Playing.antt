@@ -6,10 +6,8 @@ use Rattle.lsv_disk.specs.Bytes.{bytes_of}
 use Rattle.lsv_disk.specs.Files.{file_of}
 use Rattle.lsv_disk.specs.View.{Image}
 use Rattle.lsv_bundle.specs.declared.body.Body.{Body}
-use Rattle.lsv_bundle.specs.declared.shape.Shape.TheVariants as shapes
 use Rattle.lsv_bundle.specs.Body.{length_of}
 use Rattle.lsv_bundle.specs.Committed.{HasEntry}
-use Rattle.lsv_bundle.specs.Shape.{IsPart as IsPartOf}
 use Rattle.lsv_info.specs.declared.times.Head.{Head}
 use Rattle.lsv_info.specs.Reading.{head_of}
 use Rattle.lsv_record.specs.declared.laid.Laid.{Laid}
@@ -17,7 +15,7 @@ use Rattle.lsv_record.specs.declared.records.Record.{Record}
 use Rattle.lsv_record.specs.Layout.{Begins, IsLayout}
 use Rattle.lsv_record.specs.Records.{elapsed}
 use Rattle.lsv_iolog.specs.Damage.{IsViewDamage}
-use Rattle.lsv_iolog.specs.Reading.{IsFaultBehind}
+use Rattle.lsv_iolog.specs.Reading.{AreThere, IsFaultBehind}
 use Rattle.lsv_iolog.specs.Recovered.{owner_of, laid_in, Replays}
 use Rattle.lsv_play.specs.declared.options.Options.{Options}
 use Rattle.lsv_play.specs.declared.screen.Item.{Item}
@@ -68,10 +66,10 @@ IsNotOpened n image (Err Disk) = Unit {0}
 IsNotOpened n image (Err Screen) = ⊥
 IsNotOpened n image (Err NoMem) = Unit {0}
 
--- the log has this last entry, its files hold the lengths that this says, and the text of its head is this head
+-- the log has this last entry, each of its data files is there and has as many bytes as this says, and the text of its head is this head
 pub record IsOpened (n : ℕ) (body : Body) (head : Head) (image : Image) : Type 0 where
   pub entry : HasEntry (owner_of n) body image
-  pub long : (part : Part) → IsPartOf shapes.Log part → length (text_at n body image part) ≡ length_of body part
+  pub there : AreThere (owner_of n) body image
   pub head_is : head_of (text_at n body image HeadPart) ≡ Ok head
 
 -- the log is opened, and its records are played

@@ -24,7 +24,7 @@ pub fn play_log<D: Disk, S: Screen>(
     o: &Options,
     screen: &mut S,
 ) -> Result<(), PlayFault>
-    ensures played { D.tells → S.tells → (put : List Item) × (S.shown screen.new ≡ S.shown screen.old ++ put) × Plays o.now number (D.view disk.old).reads result put }
+    ensures played { D.tells → (put : List Item) × (S.tells → S.shown screen.new ≡ S.shown screen.old ++ put) × Plays o.now number (D.view disk.old).reads result put }
     ensures reads { D.tells → OnlyReads (D.view disk.old) (D.view disk.new) }
     ensures disk { HasOwnCause (IsOfLog number) (result ≡ Err faults.Disk) (D.view disk.old) (D.view disk.new) }
     ensures screen { HasCause (result ≡ Err faults.Screen) (S.faults screen.old) (S.faults screen.new) }
@@ -40,7 +40,7 @@ fn play_records<D: Disk, S: Screen>(
     o: &Options,
     screen: &mut S,
 ) -> Result<(), PlayFault>
-    ensures played { D.tells → S.tells → IsBehind log.old [] (D.view disk.old) → (put : List Item) × (S.shown screen.new ≡ S.shown screen.old ++ put)
+    ensures played { D.tells → IsBehind log.old [] (D.view disk.old) → (put : List Item) × (S.tells → S.shown screen.new ≡ S.shown screen.old ++ put)
         × PlaysRecords o.now (laid_at log.old.number log.old.body (D.view disk.old).reads) log.old.body result put }
     ensures reads { D.tells → OnlyReads (D.view disk.old) (D.view disk.new) }
     ensures disk { HasOwnCause (IsOfLog log.old.number) (result ≡ Err faults.Disk) (D.view disk.old) (D.view disk.new) }

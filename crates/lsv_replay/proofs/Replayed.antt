@@ -4,6 +4,7 @@ use Rattle.std.proofs.Math.Path.{fun_ext}
 use Rattle.std.specs.List.{list_all}
 use Rattle.std.specs.Str.{IsUtf8, is_utf8}
 use Rattle.std.proofs.lemmas.Str.{IsUtf8-from_is_utf8}
+use Rattle.lsv_base.specs.LogNo.{log_no_in}
 use Rattle.lsv_disk.specs.declared.file.FileId.{FileId}
 use Rattle.lsv_disk.specs.Throughout.{OnlyReads}
 use Rattle.lsv_disk.specs.View.{Image, DiskView, HasOwnCause, IsUntouched}
@@ -15,33 +16,34 @@ use Rattle.lsv_listing.specs.Numbers.{IsListed}
 use Rattle.lsv_play.specs.declared.screen.Item.{Item}
 use Rattle.lsv_playback.specs.declared.fault.PlayFault.{PlayFault}
 use Rattle.lsv_playback.specs.declared.fault.PlayFault.TheVariants as plays
+use Rattle.lsv_search.specs.Grammar.{Expression, IsSearch}
 use Rattle.lsv_replay_args.specs.Asked.{task_in}
 use Rattle.lsv_replay_args.specs.declared.request.Task.{Task}
 use Rattle.lsv_replay_args.specs.declared.request.Task.TheVariants as tasks
-use Rattle.lsv_replay_args.specs.Request.{Asked, Play, Search, dir_asked}
+use Rattle.lsv_replay_args.specs.Request.{Asked, Manner, Play, Search, dir_asked}
 use Rattle.lsv_replay_args.specs.Request as requests
-use Rattle.lsv_replay.specs.Replay.{Asks, Does, HasWords, IsOnlyRead, IsUsage}
+use Rattle.lsv_replay.specs.Replay.{Asks, Does, HasWords, IsOnlyRead, IsSoundTask, IsUsage}
 use Rattle.lsv_replay.specs.Status.{of_listing, of_playing}
-use Rattle.lsv_replay.specs.Tasks.{IsOfList, IsOfPlay, IsOfTask}
+use Rattle.lsv_replay.specs.Tasks.{IsOfTask}
 use Rattle.lsv_replay.specs.declared.status.ReplayStatus.{ReplayStatus}
 use Rattle.lsv_replay.specs.declared.status.ReplayStatus.TheVariants.{Shown, Usage, BadExpression, Damaged, ReadFault, WriteFault, Absent, NoMem}
 
 -- ---- statuses
 
-pub play_status : {T : Type 0} (r : Result T PlayFault) → IsOfPlay (of_playing r)
-play_status (Ok end) = tt
-play_status (Err plays.Absent) = tt
-play_status (Err (plays.Damaged part)) = tt
-play_status (Err plays.Disk) = tt
-play_status (Err plays.Screen) = tt
-play_status (Err plays.NoMem) = tt
+pub play_status : {T : Type 0} (dir : List ℕ) (manner : Manner) (id : List ℕ) (n : ℕ) (r : Result T PlayFault) → log_no_in id ≡ Some n → IsOfTask (Play dir manner id) (of_playing r)
+play_status dir manner id n (Ok end) is = (n, is)
+play_status dir manner id n (Err plays.Absent) is = tt
+play_status dir manner id n (Err (plays.Damaged part)) is = (n, is)
+play_status dir manner id n (Err plays.Disk) is = (n, is)
+play_status dir manner id n (Err plays.Screen) is = (n, is)
+play_status dir manner id n (Err plays.NoMem) is = tt
 
-pub list_status : {T : Type 0} (words : List (List ℕ)) (r : Result T ListFault) → IsOfList words (of_listing r)
-list_status words (Ok end) = tt
-list_status words (Err (lists.Damaged part)) = tt
-list_status words (Err lists.Disk) = tt
-list_status words (Err lists.Screen) = tt
-list_status words (Err lists.NoMem) = tt
+pub list_status : {T : Type 0} (dir : List ℕ) (words : List (List ℕ)) (searched : Option Expression) (r : Result T ListFault) → IsSearch words searched → IsOfTask (Search dir words) (of_listing r)
+list_status dir words searched (Ok end) is = (searched, is)
+list_status dir words searched (Err (lists.Damaged part)) is = (searched, is)
+list_status dir words searched (Err lists.Disk) is = (searched, is)
+list_status dir words searched (Err lists.Screen) is = (searched, is)
+list_status dir words searched (Err lists.NoMem) is = tt
 
 -- a read fault comes of a read that failed, and a write fault of the screen's
 pub play_disk : {T : Type 0} (r : Result T PlayFault) (s : ReplayStatus) → s ≡ of_playing r → s ≡ ReadFault → r ≡ Err plays.Disk
@@ -107,7 +109,7 @@ not_both words asked (inr (inr none)) asks = some_none (requests.asked words) as
   some_none : (o : Option Asked) (a : Asked) → o ≡ Some a → o ≡ None → ⊥
   some_none o a one two = cc
 
-one_asked : (words : List (List ℕ)) (a b : Asked) → Asks words a → Asks words b → a ≡ b
+pub one_asked : (words : List (List ℕ)) (a b : Asked) → Asks words a → Asks words b → a ≡ b
 one_asked words a b one two = same (requests.asked words) a b one.asks two.asks where
   same : (o : Option Asked) (a b : Asked) → o ≡ Some a → o ≡ Some b → a ≡ b
   same o a b p q = cc
@@ -125,15 +127,19 @@ pub does_anywhere : (dir other : List ℕ) (task : Task) (image : Image) (status
 does_anywhere dir other (tasks.Play o id) image status put does = does
 does_anywhere dir other (tasks.List words) image status put does = does
 
+-- nor does it whether it can be done
+sound_anywhere : (dir other : List ℕ) (task : Task) → IsSoundTask (task_in other task) → IsSoundTask (task_in dir task)
+sound_anywhere dir other (tasks.Play o id) sound = sound
+sound_anywhere dir other (tasks.List words) sound = sound
+
 -- a status of a task has its words
 pub words_of_task : (words : List (List ℕ)) (dir other : List ℕ) (task : Task) (status : ReplayStatus) → Asks words (task_in dir task) → IsOfTask (task_in other task) status → HasWords words status
-words_of_task words dir other task Shown asks is = (task_in dir task, asks)
-words_of_task words dir other task (Damaged part) asks is = (task_in dir task, asks)
-words_of_task words dir other task ReadFault asks is = (task_in dir task, asks)
-words_of_task words dir other task WriteFault asks is = (task_in dir task, asks)
+words_of_task words dir other task Shown asks is = (task_in dir task, asks, sound_anywhere dir other task is)
+words_of_task words dir other task (Damaged part) asks is = (task_in dir task, asks, sound_anywhere dir other task is)
+words_of_task words dir other task ReadFault asks is = (task_in dir task, asks, sound_anywhere dir other task is)
+words_of_task words dir other task WriteFault asks is = (task_in dir task, asks, sound_anywhere dir other task is)
 words_of_task words dir other task NoMem asks is = tt
-words_of_task words dir other (tasks.Play o id) Usage asks is = absurd is
-words_of_task words dir other (tasks.List search) Usage asks is = absurd is
+words_of_task words dir other task Usage asks is = absurd is
 words_of_task words dir other (tasks.Play o id) (BadExpression at) asks is = absurd is
 words_of_task words dir other (tasks.List search) (BadExpression at) asks is = record { dir = dir; search = search; asks = asks; first_bad = is }
 words_of_task words dir other (tasks.Play o id) Absent asks is = record { dir = dir; manner = _; id = id; asks = asks }

@@ -33,6 +33,13 @@ pub record Asks (words : List (List ℕ)) (asked : Asked) : Type 0 where
   pub taken : fault_of program words ≡ []
   pub asks : requests.asked words ≡ Some asked
 
+-- the log of this number is to be played in this manner
+pub record AsksForLog (words : List (List ℕ)) (n : ℕ) (manner : Manner) : Type 0 where
+  pub dir : List ℕ
+  pub id : List ℕ
+  pub asks : Asks words (Play dir manner id)
+  pub number : log_no_in id ≡ Some n
+
 -- ---- What is put
 
 -- a log is played in this manner: nothing of what has no number, and else what the log's playing puts
@@ -88,14 +95,23 @@ pub record AsksToPlay (words : List (List ℕ)) : Type 0 where
   pub id : List ℕ
   pub asks : Asks words (Play dir manner id)
 
+-- what is asked for can be done: the identifier is a log's number, or the words are a search
+abbrev pub IsSoundTask : Asked → Type 0
+IsSoundTask (Play dir manner id) = (n : ℕ) × (log_no_in id ≡ Some n)
+IsSoundTask (Search dir words) = (searched : Option Expression) × IsSearch words searched
+
+-- a log with a number is to be played, or logs are searched for
+abbrev pub AsksSoundly : List (List ℕ) → Type 0
+AsksSoundly words = (asked : Asked) × Asks words asked × IsSoundTask asked
+
 -- what the words are at each status
 abbrev pub HasWords : List (List ℕ) → ReplayStatus → Type 0
-HasWords words Shown = (asked : Asked) × Asks words asked
+HasWords words Shown = AsksSoundly words
 HasWords words Usage = IsUsage words
 HasWords words (BadExpression at) = AsksBadly words at
-HasWords words (Damaged part) = (asked : Asked) × Asks words asked
-HasWords words ReadFault = (asked : Asked) × Asks words asked
-HasWords words WriteFault = (asked : Asked) × Asks words asked
+HasWords words (Damaged part) = AsksSoundly words
+HasWords words ReadFault = AsksSoundly words
+HasWords words WriteFault = AsksSoundly words
 HasWords words Absent = AsksToPlay words
 HasWords words NoMem = Unit {0}
 

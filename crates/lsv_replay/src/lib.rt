@@ -1,8 +1,10 @@
 //! `sudoreplay`: a stored log is played, or the logs of a store are listed.
 #![tactic(auto)]
 
+mod laws;
 mod program;
 mod status;
 
+pub use laws::a_stored_log_is_shown;
 pub use program::sudoreplay;
 pub use status::ReplayStatus;

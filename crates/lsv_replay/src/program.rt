@@ -10,9 +10,9 @@ ghost use Rattle.lsv_disk.specs.View.{HasOwnCause};
 ghost use Rattle.lsv_listing.specs.Numbers.{IsListed};
 ghost use Rattle.lsv_play.specs.declared.screen.Item.{Item};
 ghost use Rattle.lsv_replay_args.specs.Asked.{IsTextual, asked_in, manner_in, task_in};
-ghost use Rattle.lsv_replay_args.specs.Request.{Asked, dir_asked};
+ghost use Rattle.lsv_replay_args.specs.Request.{Asked, Play, Search, dir_asked};
 ghost use Rattle.lsv_replay.specs.Replay.{Answers, Asks, Does, HasWords, IsOnlyRead, IsUsage, ListsWords, PlaysNumber};
-ghost use Rattle.lsv_replay.specs.Tasks.{IsOfList, IsOfPlay, IsOfTask};
+ghost use Rattle.lsv_replay.specs.Tasks.{IsOfTask};
 ghost use Rattle.lsv_replay.specs.declared.status.ReplayStatus.TheVariants as statuses;
 
 use crate::ReplayStatus;
@@ -34,7 +34,7 @@ pub fn sudoreplay<D: Disk, S: Screen>(
     disk: &mut D,
     screen: &mut S,
 ) -> ReplayStatus
-    ensures runs { D.tells → S.tells → (put : List Item) × (S.shown screen.new ≡ S.shown screen.old ++ put) × Answers words.now (D.view disk.old).reads result put }
+    ensures runs { D.tells → (put : List Item) × (S.tells → S.shown screen.new ≡ S.shown screen.old ++ put) × Answers words.now (D.view disk.old).reads result put }
     ensures words { HasWords words.now result }
     ensures reads { D.tells → IsOnlyRead (D.view disk.old) (D.view disk.new) }
     ensures disk { HasOwnCause IsListed (result ≡ statuses.ReadFault) (D.view disk.old) (D.view disk.new) }
@@ -88,7 +88,7 @@ fn do_task<D: Disk, S: Screen>(
 ) -> ReplayStatus
     requires text { IsTextual task.now }
     ensures status { IsOfTask (task_in [] task.now) result }
-    ensures does { D.tells → S.tells → (put : List Item) × (S.shown screen.new ≡ S.shown screen.old ++ put) × Does (task_in [] task.now) (D.view disk.old).reads result put }
+    ensures does { D.tells → (put : List Item) × (S.tells → S.shown screen.new ≡ S.shown screen.old ++ put) × Does (task_in [] task.now) (D.view disk.old).reads result put }
     ensures reads { D.tells → OnlyReads (D.view disk.old) (D.view disk.new) }
     ensures disk { HasOwnCause IsListed (result ≡ statuses.ReadFault) (D.view disk.old) (D.view disk.new) }
     ensures screen { HasCause (result ≡ statuses.WriteFault) (S.faults screen.old) (S.faults screen.new) }
@@ -107,8 +107,8 @@ fn play<D: Disk, S: Screen>(
     disk: &mut D,
     screen: &mut S,
 ) -> ReplayStatus
-    ensures status { IsOfPlay result }
-    ensures plays { D.tells → S.tells → (put : List Item) × (S.shown screen.new ≡ S.shown screen.old ++ put) × PlaysNumber (manner_in options.now) (log_no_in id.now) (D.view disk.old).reads result put }
+    ensures status { IsOfTask (Play [] (manner_in options.now) id.now) result }
+    ensures plays { D.tells → (put : List Item) × (S.tells → S.shown screen.new ≡ S.shown screen.old ++ put) × PlaysNumber (manner_in options.now) (log_no_in id.now) (D.view disk.old).reads result put }
     ensures reads { D.tells → OnlyReads (D.view disk.old) (D.view disk.new) }
     ensures disk { HasOwnCause IsListed (result ≡ statuses.ReadFault) (D.view disk.old) (D.view disk.new) }
     ensures screen { HasCause (result ≡ statuses.WriteFault) (S.faults screen.old) (S.faults screen.new) }
@@ -127,8 +127,8 @@ fn list<D: Disk, S: Screen>(
     screen: &mut S,
 ) -> ReplayStatus
     requires text { IsTrue (list_all is_utf8 words.now) }
-    ensures status { IsOfList words.now result }
-    ensures lists { D.tells → S.tells → (put : List Item) × (S.shown screen.new ≡ S.shown screen.old ++ put) × ListsWords words.now (D.view disk.old).reads result put }
+    ensures status { IsOfTask (Search [] words.now) result }
+    ensures lists { D.tells → (put : List Item) × (S.tells → S.shown screen.new ≡ S.shown screen.old ++ put) × ListsWords words.now (D.view disk.old).reads result put }
     ensures reads { D.tells → OnlyReads (D.view disk.old) (D.view disk.new) }
     ensures disk { HasOwnCause IsListed (result ≡ statuses.ReadFault) (D.view disk.old) (D.view disk.new) }
     ensures screen { HasCause (result ≡ statuses.WriteFault) (S.faults screen.old) (S.faults screen.new) }

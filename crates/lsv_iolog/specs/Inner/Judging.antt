@@ -5,10 +5,8 @@ use Rattle.lsv_disk.specs.declared.file.Part.{Part}
 use Rattle.lsv_disk.specs.declared.file.Part.TheVariants.{Timing}
 use Rattle.lsv_disk.specs.View.{DiskView}
 use Rattle.lsv_bundle.specs.declared.body.Body.{Body}
-use Rattle.lsv_bundle.specs.declared.shape.Shape.TheVariants as shapes
 use Rattle.lsv_bundle.specs.declared.view.View.{View}
 use Rattle.lsv_bundle.specs.Body.{length_of}
-use Rattle.lsv_bundle.specs.Shape.{IsPart}
 use Rattle.lsv_record.specs.declared.records.Record.{Record}
 use Rattle.lsv_record.specs.declared.records.Shaped.{Shaped}
 use Rattle.lsv_record.specs.declared.records.Stream.{Stream}
@@ -17,6 +15,7 @@ use Rattle.lsv_record.specs.Records.{event_of, shape_of, elapsed}
 use Rattle.lsv_record.specs.Tally.{Totals, totals_of, told_count}
 use Rattle.lsv_iolog.specs.declared.fault.LogFault.{LogFault}
 use Rattle.lsv_iolog.specs.declared.fault.LogFault.TheVariants as logs
+use Rattle.lsv_iolog.specs.Reading.{AreThere}
 use Rattle.lsv_iolog.specs.Recovered.{part_of, laid_in}
 use Rattle.lsv_iolog.specs.Inner.Scanning.{text_of, Scan, IsReading, IsFirstUncounted}
 
@@ -42,7 +41,7 @@ pub record LacksIn (view : View) (before after : Totals) (told : Shaped) (disk :
 pub record IsBehindLines (lines : Scan) (records : List Record) (disk : DiskView) : Type 0 where
   pub begins : Begins (laid_in (text_of lines.view disk)) records
   pub given : lines.tally ≡ totals_of (map shape_of records)
-  pub long : (part : Part) → IsPart shapes.Log part → length (text_of lines.view disk part) ≡ length_of lines.view.body part
+  pub there : AreThere lines.view.owner lines.view.body disk.reads
   pub window : IsReading lines disk
 
 -- the committed bytes are the layout of these records, as many and of as much time as the entry says

@@ -18,7 +18,7 @@ use Rattle.lsv_iolog.specs.Reading.{IsFaultBehind}
 use Rattle.lsv_iolog.specs.Inner.Scanning.{text_of, Scan, IsReading, AllCounted}
 use Rattle.lsv_iolog.specs.Inner.Judging.{IsWithin, LacksIn, IsEndFault}
 use Rattle.lsv_iolog.proofs.Scans.{if_some_at, if_none_at, none_there, text_same}
-use Rattle.lsv_iolog.proofs.Viewing.{err_is, err_of}
+use Rattle.lsv_iolog.proofs.Viewing.{err_is, err_of, text_long}
 use Rattle.lsv_iolog.proofs.Giving.{behind_same, behind_more, bad_behind, over_behind, lacks_behind, ends_behind, whole_behind, reading_on, timing_alone, IsRecordOf}
 use Rattle.lsv_iolog.proofs.view.next_record.Goals as goal
 
@@ -32,7 +32,7 @@ returns-in_err-told-clause-damaged g c told part is rs behind =
     let e : c.in_err-told.field-0.0 ≡ logs.Damaged part = err_is c.from_residual.result c.in_err-told.field-0.0 (logs.Damaged part) c.from_residual.ensures.1 is in
     let at : Timing ≡ part = timing_alone c.in_err-told.field-0.0 part e c.in_err-told.ensures.fault in
     subst (IsFaultBehind (laid_in (text_of lines.view disk)) lines.view.body rs) at
-    (bad_behind lines rs disk behind (c.in_err-told.ensures.bad told (err_of {T = Option Shaped} c.in_err-told.field-0.0 (logs.Damaged Timing) (e ∙ ap logs.Damaged (sym at))) behind.window (behind.long Timing tt)))
+    (bad_behind lines rs disk behind (c.in_err-told.ensures.bad told (err_of {T = Option Shaped} c.in_err-told.field-0.0 (logs.Damaged Timing) (e ∙ ap logs.Damaged (sym at))) behind.window (text_long lines.view disk Timing (behind.there Timing tt))))
 
 pub returns-in_err-check_end-clause-damaged : goal.returns-in_err-check_end-clause-damaged
 returns-in_err-check_end-clause-damaged g c told part is rs behind =

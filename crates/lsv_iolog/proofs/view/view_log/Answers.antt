@@ -1,6 +1,7 @@
 -- A view that can't be had says why.
-use Rattle.std.proofs.Common.{◌≡◌, Option, ap, ◌∙◌}
+use Rattle.std.proofs.Common.{◌≡◌, Option, ap, ◌∙◌, subst}
 use Rattle.lsv_disk.specs.Files.{file_of}
+use Rattle.lsv_disk.specs.declared.file.Owner.{Owner}
 use Rattle.lsv_disk.specs.View.{DiskView}
 use Rattle.lsv_disk.specs.declared.file.Part.{Part}
 use Rattle.lsv_disk.specs.declared.file.Part.TheVariants.{Head}
@@ -12,10 +13,11 @@ use Rattle.lsv_bundle.specs.Shape.{IsPart, IsOwnFile}
 use Rattle.lsv_bundle.proofs.Laws.{of_owner}
 use Rattle.lsv_info.specs.declared.times.Head as info
 use Rattle.lsv_iolog.specs.declared.fault.LogFault.TheVariants as logs
-use Rattle.lsv_iolog.specs.Recovered.{IsOfLog}
+use Rattle.lsv_iolog.specs.Reading.{AreThere}
+use Rattle.lsv_iolog.specs.Recovered.{IsOfLog, owner_of}
 use Rattle.lsv_iolog.proofs.Results.{disk_cause}
 use Rattle.lsv_iolog.proofs.Scans.{if_some_at}
-use Rattle.lsv_iolog.proofs.Viewing.{err_is, err_of, head_alone, head_damage}
+use Rattle.lsv_iolog.proofs.Viewing.{err_is, err_of, head_alone, head_damage, still_there}
 use Rattle.lsv_iolog.proofs.view.view_log.Goals as goal
 
 pub returns-in_err-view-clause-cause : goal.returns-in_err-view-clause-cause
@@ -35,3 +37,13 @@ returns-in_err-head-clause-damaged g c told part is =
     let head : part ≡ Head = head_alone c.in_err-head.field-0.0 part e c.in_err-head.ensures.fault in
     head_damage c.args.number c.owner_of.result view old (g.D.Disk.view c.view.new.disk) part c.owner_of.ensures named entry (record { each = enough }) (c.view.ensures.reads told)
     (c.in_err-head.ensures.damaged told (err_of {T = info.Head} c.in_err-head.field-0.0 (logs.Damaged Head) (e ∙ ap logs.Damaged head))) head
+
+pub returns-clause-there : goal.returns-clause-there
+returns-clause-there g c told =
+    let old : DiskView = g.D.Disk.view c.args.disk.now in
+    let mid : DiskView = g.D.Disk.view c.view.new.disk in
+    let new : DiskView = g.D.Disk.view c.read_log_head.new.disk in
+    let view : View = c.in-Some.view in
+    let enough : AreThere c.owner_of.result view.body old.reads = if_some_at c.in_ok-view.field-0 view (λ v. AreThere c.owner_of.result v.body old.reads) c.in-Some.is (c.in_ok-view.ensures.enough told) in
+    still_there (owner_of c.args.number) view.body mid new (c.read_log_head.ensures.reads told)
+    (still_there (owner_of c.args.number) view.body old mid (c.view.ensures.reads told) (subst (λ (o : Owner). AreThere o view.body old.reads) c.owner_of.ensures enough))

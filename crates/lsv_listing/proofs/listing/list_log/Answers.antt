@@ -16,7 +16,7 @@ use Rattle.lsv_listing.proofs.Listed.{one_of_fault, one_of_head}
 use Rattle.lsv_listing.proofs.listing.list_log.Goals as goal
 
 pub returns-in-Ok-clause-listed : goal.returns-in-Ok-clause-listed
-returns-in-Ok-clause-listed g c told told_too searched steps =
+returns-in-Ok-clause-listed g c told searched steps =
     let old : DiskView = g.D.Disk.view c.args.disk.now in
     let mid : DiskView = g.D.Disk.view c.open.new.disk in
     let v = c.in-Ok.log in
@@ -24,14 +24,14 @@ returns-in-Ok-clause-listed g c told told_too searched steps =
     opened_log c.args.number v old mid c.in-Ok.ensures.number (c.open.ensures.reads told) (c.in-Ok.ensures.entry told) (c.in-Ok.ensures.head told) (c.in-Ok.ensures.behind told) in
     let same : c.head.result.now ≡ v.head = c.head.ensures in
     let timed : IsSome (nanos_of c.head.result.now.submit) = subst (λ (h : Head). IsSome (nanos_of h.submit)) (sym same) (head_timed _ v.head (c.in-Ok.ensures.head told)) in
-    let puts = c.list_head.ensures.listed told_too timed searched steps in
+    let puts = c.list_head.ensures.listed timed searched steps in
     (puts.0, puts.1, one_of_head searched old.reads c.args.number c.head.result.now c.list_head.result puts.0 (subst (λ (h : Head). IsFound old.reads c.args.number (There h)) (sym same) (v.body, opened)) puts.2)
 
 pub returns-in-Err-clause-listed : goal.returns-in-Err-clause-listed
-returns-in-Err-clause-listed g c told told_too searched steps =
+returns-in-Err-clause-listed g c told searched steps =
     let old : DiskView = g.D.Disk.view c.args.disk.now in (
       [],
-      sym (append-nil (g.S.Screen.shown c.args.screen.now)),
+      λ told_too. sym (append-nil (g.S.Screen.shown c.args.screen.now)),
       subst (λ (r : Result (Option Part) ListFault). ListsOne searched old.reads c.args.number r []) (sym c.damage_of.ensures)
           (one_of_fault searched old.reads c.args.number c.in-Err.fault c.in-Err.ensures.fault
           (λ at. c.in-Err.ensures.absent told (err_of c.in-Err.fault logs.Absent at)) (λ part at. c.in-Err.ensures.damaged told part (err_of c.in-Err.fault (logs.Damaged part) at))),

@@ -5,15 +5,15 @@ use Rattle.lsv_play.proofs.Parts.{on_err, part_there}
 use Rattle.lsv_play.proofs.show.play.Goals as goal
 
 pub returns-in_err-play_record-clause-part : goal.returns-in_err-play_record-clause-part
-returns-in_err-play_record-clause-part g c told =
+returns-in_err-play_record-clause-part g c =
     let o = c.args.o.now in
     let records = c.args.records.now in
     let i = c.loop-r.r-index in
-    let one = c.in_err-play_record.ensures.part told in
+    let one = c.in_err-play_record.ensures.part in
     on_err c.from_residual.result (
       play o (take i records) ++ one.0,
       part_there o records i c.r-item.result one.0 c.loop-r-test.true c.r-item.is one.1,
-      one.2 ∙ (ap (λ (items : List Item). items ++ one.0) (c.loop-r.invariant.shown told) ∙ append_assoc (g.S.Screen.shown c.args.screen.now) (play o (take i records)) one.0),
+      λ told. one.2 told ∙ (ap (λ (items : List Item). items ++ one.0) (c.loop-r.invariant.shown told) ∙ append_assoc (g.S.Screen.shown c.args.screen.now) (play o (take i records)) one.0),
     )
 
 pub returns-in_err-play_record-clause-cause : goal.returns-in_err-play_record-clause-cause

@@ -10,9 +10,9 @@ use Rattle.lsv_playback.proofs.Played.{err_same, log_disk, log_screen, open_fail
 use Rattle.lsv_playback.proofs.playing.play_log.Goals as goal
 
 pub returns-in_err-log-clause-played : goal.returns-in_err-log-clause-played
-returns-in_err-log-clause-played g c told told_too = (
+returns-in_err-log-clause-played g c told = (
   [],
-  sym (append-nil (g.S.Screen.shown c.args.screen.now)),
+  λ told_too. sym (append-nil (g.S.Screen.shown c.args.screen.now)),
   open_fails c.args.o.now c.args.number (g.D.Disk.view c.args.disk.now).reads c.from_residual.result c.in_err-log.field-0.0 c.from_residual.ensures.1 c.in_err-log.ensures.fault
       (λ at. c.in_err-log.ensures.absent told (err_of c.in_err-log.field-0.0 logs.Absent at)) (λ part at. c.in_err-log.ensures.damaged told part (err_of c.in_err-log.field-0.0 (logs.Damaged part) at)),
 )
@@ -29,10 +29,10 @@ returns-in_err-log-clause-screen g c =
     (λ is. log_screen c.in_err-log.field-0.0 (err_same c.from_residual.result (of_log c.in_err-log.field-0.0) faults.Screen c.from_residual.ensures.1 is))
 
 pub returns-clause-played : goal.returns-clause-played
-returns-clause-played g c told told_too =
+returns-clause-played g c told =
     let old : DiskView = g.D.Disk.view c.args.disk.now in
     let mid : DiskView = g.D.Disk.view c.open.new.disk in
-    let puts = c.play_records.ensures.played told told_too (c.in_ok-log.ensures.behind told) in
+    let puts = c.play_records.ensures.played told (c.in_ok-log.ensures.behind told) in
     let opened = opened_log c.args.number c.in_ok-log.log old mid c.in_ok-log.ensures.number (c.open.ensures.reads told) (c.in_ok-log.ensures.entry told) (c.in_ok-log.ensures.head told) (c.in_ok-log.ensures.behind told) in
     (puts.0, puts.1, opened_plays c.args.o.now c.args.number c.in_ok-log.log old mid c.play_records.result puts.0 c.in_ok-log.ensures.number (c.open.ensures.reads told) opened puts.2)
 

@@ -30,9 +30,9 @@ records-preserved g c =
     (λ told. c.in_ok-play_record.ensures.shown told)
 
 pub returns-in_err-record-clause-played : goal.returns-in_err-record-clause-played
-returns-in_err-record-clause-played g c told told_too fresh =
+returns-in_err-record-clause-played g c told fresh =
     let puts = next_fails g.D.Disk.tells g.S.Screen.tells c.args.o.now c.args.log.now c.records.log (g.D.Disk.view c.args.disk.now) (g.D.Disk.view c.records.disk) (g.S.Screen.shown c.args.screen.now) (g.S.Screen.shown c.records.screen)
-    (g.S.Screen.faults c.args.screen.now) (g.S.Screen.faults c.records.screen) c.records.invariant told told_too fresh c.from_residual.result c.in_err-record.field-0.0 c.from_residual.ensures.1 c.in_err-record.ensures.fault
+    (g.S.Screen.faults c.args.screen.now) (g.S.Screen.faults c.records.screen) c.records.invariant told fresh c.from_residual.result c.in_err-record.field-0.0 c.from_residual.ensures.1 c.in_err-record.ensures.fault
     (λ part at. c.in_err-record.ensures.damaged told part (err_of {T = Option Record} c.in_err-record.field-0.0 (logs.Damaged part) at)) in
     (puts.put, puts.put_is, puts.plays)
 
@@ -51,9 +51,9 @@ returns-in_err-record-clause-screen g c =
     (λ is. log_screen c.in_err-record.field-0.0 (err_same c.from_residual.result (of_log c.in_err-record.field-0.0) faults.Screen c.from_residual.ensures.1 is))
 
 pub returns-in_default-clause-played : goal.returns-in_default-clause-played
-returns-in_default-clause-played g c told told_too fresh =
+returns-in_default-clause-played g c told fresh =
     let puts = next_ends g.D.Disk.tells g.S.Screen.tells c.args.o.now c.args.log.now c.records.log (g.D.Disk.view c.args.disk.now) (g.D.Disk.view c.records.disk) (g.S.Screen.shown c.args.screen.now) (g.S.Screen.shown c.records.screen)
-    (g.S.Screen.faults c.args.screen.now) (g.S.Screen.faults c.records.screen) c.records.invariant told told_too fresh (tt {0})
+    (g.S.Screen.faults c.args.screen.now) (g.S.Screen.faults c.records.screen) c.records.invariant told fresh (tt {0})
     (λ rs behind. (if_none_at c.in_ok-record.field-0 ((qs : List Record) → IsBehind c.records.log qs (g.D.Disk.view c.records.disk) → IsWhole c.records.log qs (g.D.Disk.view c.records.disk) × IsBehind c.next.new.self qs (g.D.Disk.view c.next.new.disk))
     (none_there c.in_ok-record.field-0 c.in_default.not-Some) (c.in_ok-record.ensures.end told) rs behind).0) in
     (puts.put, puts.put_is, puts.plays)
@@ -72,10 +72,10 @@ returns-in_default-clause-screen g c =
     screen_none _ (g.S.Screen.faults c.args.screen.now) (g.S.Screen.faults c.records.screen) c.records.invariant.screen (λ is. ok_no_err _ (tt {0}) faults.Screen refl is)
 
 pub returns-in_err-play_record-clause-played : goal.returns-in_err-play_record-clause-played
-returns-in_err-play_record-clause-played g c told told_too fresh =
-    let part = c.in_err-play_record.ensures.part told_too in
+returns-in_err-play_record-clause-played g c told fresh =
+    let part = c.in_err-play_record.ensures.part in
     let puts = show_fails g.D.Disk.tells g.S.Screen.tells c.args.o.now c.args.log.now c.records.log (g.D.Disk.view c.args.disk.now) (g.D.Disk.view c.records.disk) (g.S.Screen.shown c.args.screen.now) (g.S.Screen.shown c.records.screen)
-    (g.S.Screen.faults c.args.screen.now) (g.S.Screen.faults c.records.screen) c.records.invariant told told_too fresh c.from_residual-in_err-play_record.result c.next.new.self (g.D.Disk.view c.next.new.disk) c.in-Some.record
+    (g.S.Screen.faults c.args.screen.now) (g.S.Screen.faults c.records.screen) c.records.invariant told fresh c.from_residual-in_err-play_record.result c.next.new.self (g.D.Disk.view c.next.new.disk) c.in-Some.record
     (g.S.Screen.shown c.play_record.new.screen) part.0 c.from_residual-in_err-play_record.ensures.1 c.next.ensures.same.0 c.next.ensures.same.2 (c.next.ensures.reads told)
     (if_some_at c.in_ok-record.field-0 c.in-Some.record (λ r. (rs : List Record) → IsBehind c.records.log rs (g.D.Disk.view c.records.disk) → IsBehind c.next.new.self (rs ++ r ∷ []) (g.D.Disk.view c.next.new.disk))
     c.in-Some.is (c.in_ok-record.ensures.given told)) part.1 part.2 in
@@ -95,10 +95,10 @@ returns-in_err-play_record-clause-screen g c =
     screen_cause _ _ (g.S.Screen.faults c.args.screen.now) (g.S.Screen.faults c.records.screen) (g.S.Screen.faults c.play_record.new.screen) c.records.invariant.screen c.in_err-play_record.ensures.cause (λ is. refl)
 
 pub returns-clause-played : goal.returns-clause-played
-returns-clause-played g c told told_too fresh =
+returns-clause-played g c told fresh =
     let ended : Result (Unit {0}) PlayFault = Err faults.NoMem in
     let puts = loop_ends g.D.Disk.tells g.S.Screen.tells c.args.o.now c.args.log.now c.records.log (g.D.Disk.view c.args.disk.now) (g.D.Disk.view c.records.disk) (g.S.Screen.shown c.args.screen.now) (g.S.Screen.shown c.records.screen)
-    (g.S.Screen.faults c.args.screen.now) (g.S.Screen.faults c.records.screen) c.records.invariant told told_too fresh ended refl in
+    (g.S.Screen.faults c.args.screen.now) (g.S.Screen.faults c.records.screen) c.records.invariant told fresh ended refl in
     (puts.put, puts.put_is, puts.plays)
 
 pub returns-clause-reads : goal.returns-clause-reads

@@ -11,17 +11,17 @@ pub returns-in-Err-Usage-clause-words : goal.returns-in-Err-Usage-clause-words
 returns-in-Err-Usage-clause-words g c = (rw c.in-Err-Usage.field-0-is at c.in-Err-Usage.ensures.usage) refl
 
 pub returns-in-Err-Usage-clause-runs : goal.returns-in-Err-Usage-clause-runs
-returns-in-Err-Usage-clause-runs g c told told_too =
+returns-in-Err-Usage-clause-runs g c told =
     let usage : IsUsage c.args.words.now = (rw c.in-Err-Usage.field-0-is at c.in-Err-Usage.ensures.usage) refl in
-    ([], sym (append-nil (g.S.Screen.shown c.args.screen.now)), inl (usage, refl, refl))
+    ([], λ told_too. sym (append-nil (g.S.Screen.shown c.args.screen.now)), inl (usage, refl, refl))
 
 pub returns-clause-runs : goal.returns-clause-runs
-returns-clause-runs g c told told_too =
+returns-clause-runs g c told =
     let old : DiskView = g.D.Disk.view c.args.disk.now in
     let mid : DiskView = g.D.Disk.view c.root.new.self in
     let dir : List ℕ = string_bytes c.in-Ok.request.dir in
     let task = c.in-Ok.request.task in
-    let puts = c.do_task.ensures.does told told_too in (
+    let puts = c.do_task.ensures.does told in (
       puts.0,
       puts.1,
       inr (inr (

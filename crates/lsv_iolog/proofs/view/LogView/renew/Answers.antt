@@ -23,4 +23,4 @@ returns-clause-later g c told same was now rs more is cuts holds later given =
     subst (λ (v : ViewState). was.cuts ≡ v.body.extra) (sym c.self.view_is) cuts ∙ ap (λ (v : View). v.body.extra) (sym c.view.ensures) ∙ sym extra in
     subst (λ (l : Scan). IsBehind (record { number = c.self.inside.number; head = c.in_ok-view.head; body = l.view.body; given = l.tally; start = l.start; window = l.window }) rs new) (sym c.renew.ensures)
     (later_behind (record { number = c.self.inside.number; head = c.in_ok-view.head; body = c.in_ok-view.view.body; given = lines.tally; start = lines.tally.timing; window = [] })
-    old new was now rs more (c.in_ok-view.ensures.entry told) (c.view_log.ensures.reads told) (c.in_ok-view.ensures.long told) is cuts_in here later given_in refl refl)
+    old new was now rs more (c.in_ok-view.ensures.entry told) (c.view_log.ensures.reads told) (c.in_ok-view.ensures.there told) is cuts_in here later given_in refl refl)
