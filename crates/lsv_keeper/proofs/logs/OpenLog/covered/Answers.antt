@@ -1,5 +1,5 @@
 -- A mask of no texts looks at nothing.
-use Rattle.std.proofs.Common.{◌∙◌, ℕ, List, length, ap, sym, inl}
+use Rattle.std.proofs.Common.{◌∙◌, ℕ, List, length, ap, sym}
 use Rattle.std.specs.Prelude.{◌==◌}
 use Rattle.lsv_keeper.proofs.Masking.{covers_none, empty_of}
 use Rattle.lsv_keeper.proofs.logs.OpenLog.covered.Goals as goal
@@ -8,10 +8,3 @@ pub returns-then-is_empty-clause-covers : goal.returns-then-is_empty-clause-cove
 returns-then-is_empty-clause-covers g c =
     covers_none c.args.texts.now c.args.self.now.mask c.args.r
     (empty_of c.args.texts.now (ap (λ (xs : List (List ℕ)). length xs == 0) (sym c.as_slice.ensures) ∙ (sym c.is_empty.ensures ∙ c.if-is_empty.true)))
-
-pub returns-clause-covers : goal.returns-clause-covers
-returns-clause-covers g c = record {
-  covered = λ records is. c.cover.ensures.covered c.args.texts.now records is;
-  behind = λ records is. inl (c.cover.ensures.stored c.args.texts.now records is);
-  shape = c.cover.ensures.shape;
-}
