@@ -33,7 +33,7 @@ record IsPlayed (n : ℕ) (manner : Manner) (image : Image) (status : ReplayStat
 played_number : (n : ℕ) (manner : Manner) (number : Option ℕ) (image : Image) (status : ReplayStatus) (put : List Item) → number ≡ Some n → PlaysNumber manner number image status put → IsPlayed n manner image status put
 played_number n manner number image status put is does = at (subst (λ (k : Option ℕ). PlaysNumber manner k image status put) is does) where
   at : PlaysNumber manner (Some n) image status put → IsPlayed n manner image status put
-  at (o, manner_is, answer, status_is, plays) = record { o = o; manner_is = manner_is; answer = answer; status_is = status_is; plays = plays }
+  at (o, manner_is, (answer, status_is, plays)) = record { o = o; manner_is = manner_is; answer = answer; status_is = status_is; plays = plays }
 
 played : (words : List (List ℕ)) (n : ℕ) (manner : Manner) (image : Image) (status : ReplayStatus) (put : List Item) → AsksForLog words n manner → Answers words image status put
     → ((status ≡ NoMem) × (put ≡ [])) ⊎ IsPlayed n manner image status put
