@@ -14,6 +14,4 @@ mod disk;
 #[cfg(test)]
 mod journal;
 #[cfg(test)]
-mod places;
-#[cfg(test)]
 mod real;
