@@ -2,5 +2,7 @@
 #![tactic(auto)]
 
 mod port;
+mod step;
 
 pub use port::{Gave, Port, PortFault, Ready, Took};
+pub use step::Step;

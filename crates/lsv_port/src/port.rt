@@ -1,6 +1,6 @@
 ghost use Rattle.std.specs.Prelude.{◌≡◌, ℕ, ◌<◌, length, IfOk, OnErr, IsErr};
 ghost use Rattle.std.specs.List.{Contains};
-ghost use Rattle.lsv_port.specs.Counts.{PortCounts, AreMonotone, HasTurnCause, HasLinkCause};
+ghost use Rattle.lsv_port.specs.Ledger.{PortLedger, Continues, HasTurnCause, HasLinkCause};
 ghost use Rattle.lsv_port.specs.Port.{PortState, IsOpen, IsOwed, IsSame, Changes, Told, TakesWithin, MayTake, GivesWithin, after_read, after_write, closed};
 
 use thiserror::Error;
@@ -59,21 +59,21 @@ pub trait Port {
     /// The links so far: which were opened, and of each what was read and put, and how it stands.
     ghost state: { Self → PortState };
 
-    /// How often listening and turns failed, and how often reads and writes of each link did.
-    ghost counts: { Self → PortCounts };
+    /// What stays from call to call, whether it tells or not: its script, and the counts of its faults.
+    ghost ledger: { Self → PortLedger };
 
     /// Begins to take links at this address, a host and a port number as `*:30343`. With a number in `stop_after`
     /// a turn tells Stop once so many links were opened and closed.
     fn listen(&mut self, address: &str, stop_after: Option<u32>) -> Result<(), PortFault>
         ensures same { tells → IsSame (state self.old) (state self.new) }
-        ensures cause { HasTurnCause (IsErr result) (counts self.old) (counts self.new) };
+        ensures cause { HasTurnCause (IsErr result) (ledger self.old) (ledger self.new) };
 
     /// Waits until there is something to tell, or a while. Each link that is owed a read stands among those held.
     fn turn(&mut self, held: &[u32]) -> Result<Ready, PortFault>
         requires held { tells → (link : ℕ) → IsOwed (state self.old) link → Contains held.now link }
         ensures told { tells → IfOk result (λ ready. Told ready (state self.old) (state self.new)) }
         ensures failed { tells → OnErr result (IsSame (state self.old) (state self.new)) }
-        ensures cause { HasTurnCause (IsErr result) (counts self.old) (counts self.new) };
+        ensures cause { HasTurnCause (IsErr result) (ledger self.old) (ledger self.new) };
 
     /// Reads what has come on an open link, as much as the buffer takes. It never waits.
     fn read(&mut self, link: u32, buf: &mut [u8]) -> Took
@@ -82,7 +82,7 @@ pub trait Port {
         ensures within { TakesWithin result (length buf.old) }
         ensures change { tells → Changes link (after_read result buf.new ((state self.old).link link)) (state self.old) (state self.new) }
         ensures not_after_end { tells → MayTake result ((state self.old).link link) }
-        ensures cause { HasLinkCause link (result ≡ Took.Failed) (counts self.old) (counts self.new) };
+        ensures cause { HasLinkCause link (result ≡ Took.Failed) (ledger self.old) (ledger self.new) };
 
     /// Puts bytes on an open link, as many as it takes. It never waits.
     fn write(&mut self, link: u32, bytes: &[u8]) -> Gave
@@ -90,13 +90,13 @@ pub trait Port {
         requires some { 0 < length bytes.now }
         ensures within { GivesWithin result (length bytes.now) }
         ensures change { tells → Changes link (after_write result bytes.now ((state self.old).link link)) (state self.old) (state self.new) }
-        ensures cause { HasLinkCause link (result ≡ Gave.Failed) (counts self.old) (counts self.new) };
+        ensures cause { HasLinkCause link (result ≡ Gave.Failed) (ledger self.old) (ledger self.new) };
 
     /// Closes an open link. What was told of it stays as it was last.
     fn close(&mut self, link: u32)
         requires is_open { tells → IsOpen (state self.old) link }
         ensures change { tells → Changes link (closed ((state self.old).link link)) (state self.old) (state self.new) }
-        ensures counts { AreMonotone (counts self.old) (counts self.new) };
+        ensures continues { Continues (ledger self.old) (ledger self.new) };
 
     /// A link that is open was opened.
     ghost open_was_opened: { tells → (port : Self) (link : ℕ) → IsOpen (state port) link → Contains (state port).opened link };
