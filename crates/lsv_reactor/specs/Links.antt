@@ -3,7 +3,7 @@ use Rattle.std.specs.Prelude.{◌≡◌, ◌⊎◌, ◌<◌, ◌≤◌, ◌++◌
 use Rattle.std.specs.List.{Contains, list_any}
 use Rattle.lsv_words.specs.Causes.{HasRisen}
 use Rattle.lsv_words.specs.Pieces.{IsPrefix}
-use Rattle.lsv_port.specs.Counts.{PortCounts}
+use Rattle.lsv_port.specs.Ledger.{PortLedger}
 use Rattle.lsv_port.specs.Port.{LinkState, PortState}
 use Rattle.lsv_session.specs.Transcript.{AreFirst, AreJobs, answers, bodies_of}
 use Rattle.lsv_session.specs.declared.connection.ConnId.{ConnId}
@@ -18,7 +18,7 @@ use Rattle.lsv_turns.specs.Turns.{LaneTurn, jobs_in, replies_in, shuts}
 -- what is known of a port: its links, and how often it failed
 pub record PortView : Type 0 where
   pub state : PortState
-  pub counts : PortCounts
+  pub ledger : PortLedger
 
 -- no link is open, and Stop wasn't told
 pub record IsIdle (port : PortState) : Type 0 where
@@ -27,11 +27,11 @@ pub record IsIdle (port : PortState) : Type 0 where
 
 -- a call on this link failed meanwhile
 abbrev pub LinkFailed : ℕ → PortView → PortView → Type 0
-LinkFailed l old new = HasRisen (old.counts.links l) (new.counts.links l)
+LinkFailed l old new = HasRisen (old.ledger.links l) (new.ledger.links l)
 
 -- the port's listening or a turn of it failed meanwhile
 abbrev pub PortFailed : PortView → PortView → Type 0
-PortFailed old new = HasRisen old.counts.turns new.counts.turns
+PortFailed old new = HasRisen old.ledger.turns new.ledger.turns
 
 -- ---- What a connection brings
 
