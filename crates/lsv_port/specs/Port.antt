@@ -21,6 +21,8 @@ pub record LinkState : Type 0 where
   pub owed : Bool
   -- whether it is full, or was, when it was last open
   pub full : Bool
+  -- whether a read or a write of it failed
+  pub failed : Bool
   -- how long the buffers were that it was read into, in order, of the reads that didn't fail
   pub reads : List ℕ
   -- which links were open when it was opened
@@ -56,7 +58,7 @@ pub record Changes (l : ℕ) (now : LinkState) (old new : PortState) : Type 0 wh
 
 -- a link that was just opened, beside these
 abbrev pub fresh_link : (ℕ → Bool) → LinkState
-fresh_link beside = record { is_open = true; input = []; output = []; ended = false; owed = true; full = false; reads = []; beside = beside }
+fresh_link beside = record { is_open = true; input = []; output = []; ended = false; owed = true; full = false; failed = false; reads = []; beside = beside }
 
 -- a link of a new number was opened, beside those that were open, and nothing else changed
 pub record Opens (l : ℕ) (old new : PortState) : Type 0 where
@@ -115,7 +117,7 @@ abbrev pub after_read : Took → List ℕ → LinkState → LinkState
 after_read (took.Bytes n) buf link = record link { input = link.input ++ take n buf; reads = link.reads ++ length buf ∷ [] }
 after_read took.NotYet buf link = record link { owed = false; reads = link.reads ++ length buf ∷ [] }
 after_read took.End buf link = record link { ended = true; owed = false; reads = link.reads ++ length buf ∷ [] }
-after_read took.Failed buf link = record link { owed = false }
+after_read took.Failed buf link = record link { owed = false; failed = true }
 
 -- a write puts at least one byte, and no more than there are
 abbrev pub GivesWithin : Gave → ℕ → Type 0
@@ -127,7 +129,7 @@ GivesWithin gave.Failed count = Unit {0}
 abbrev pub after_write : Gave → List ℕ → LinkState → LinkState
 after_write (gave.Bytes n) bytes link = record link { output = link.output ++ take n bytes; full = false }
 after_write gave.NotYet bytes link = record link { full = true }
-after_write gave.Failed bytes link = record link { full = false }
+after_write gave.Failed bytes link = record link { full = false; failed = true }
 
 -- how the link stands after it was closed
 abbrev pub closed : LinkState → LinkState
