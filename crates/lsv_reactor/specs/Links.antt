@@ -1,4 +1,4 @@
--- What a server did with the links of its ports, against the turns of its lane: what was read became jobs, and what was replied was put.
+-- What a server did with the links of its ports, against the jobs and the replies of its lane: what was read became jobs, and what was replied was put.
 use Rattle.std.specs.Prelude.{◌≡◌, ◌⊎◌, ◌<◌, ◌≤◌, ◌++◌, ℕ, Bool, true, false, List, [], ◌∷◌, Option, Some, None, length, slice_get}
 use Rattle.std.specs.List.{Contains, list_any}
 use Rattle.lsv_words.specs.Causes.{HasRisen}
@@ -11,6 +11,7 @@ use Rattle.lsv_session.specs.declared.job.Body.{Body}
 use Rattle.lsv_session.specs.declared.job.Body.TheVariants.{Bad, Gone, Msg}
 use Rattle.lsv_session.specs.declared.job.Fault.TheVariants as fault
 use Rattle.lsv_session.specs.declared.job.Job.{Job}
+use Rattle.lsv_session.specs.declared.reply.Reply.{Reply}
 use Rattle.lsv_turns.specs.Turns.{LaneTurn, jobs_in, replies_in, shuts}
 
 -- ---- Ports
@@ -81,12 +82,12 @@ pub record Puts (link : LinkState) (failed : Type 0) (answers : List ℕ) : Type
   pub whole : (failed → ⊥) → link.full ≡ false → link.output ≡ answers
 
 -- a link was served as this connection
-pub record ServesLink (lane_tells : Type 0) (k : ConnId) (l : ℕ) (turns : List LaneTurn) (old new : PortView) : Type 0 where
-  pub brings : Brings (new.state.link l).input (shuts k (replies_in turns)) (bodies_of k (jobs_in turns))
-  pub cause : HasEndCause (shuts k (replies_in turns)) (bodies_of k (jobs_in turns)) l old new
+pub record ServesLink (lane_tells : Type 0) (k : ConnId) (l : ℕ) (jobs : List Job) (replies : List Reply) (old new : PortView) : Type 0 where
+  pub brings : Brings (new.state.link l).input (shuts k replies) (bodies_of k jobs)
+  pub cause : HasEndCause (shuts k replies) (bodies_of k jobs) l old new
   -- it was read until it was owed no more, unless it was let off or its port failed
-  pub paid : (IsLetOff (shuts k (replies_in turns)) (bodies_of k (jobs_in turns)) l old new → ⊥) → (PortFailed old new → ⊥) → (new.state.link l).owed ≡ false
-  pub puts : lane_tells → Puts (new.state.link l) (LinkFailed l old new) (answers k (replies_in turns))
+  pub paid : (IsLetOff (shuts k replies) (bodies_of k jobs) l old new → ⊥) → (PortFailed old new → ⊥) → (new.state.link l).owed ≡ false
+  pub puts : lane_tells → Puts (new.state.link l) (LinkFailed l old new) (answers k replies)
 
 -- a link that is no connection: it was closed at once, since 128 others were open or memory was wanting
 pub record IsTurnedAway (link : LinkState) : Type 0 where
@@ -94,9 +95,9 @@ pub record IsTurnedAway (link : LinkState) : Type 0 where
   pub unwritten : link.output ≡ []
 
 -- a link was served, as the connection of this number or as none
-abbrev pub IsServed : (lane_tells : Type 0) → (worker l : ℕ) → Option ℕ → List LaneTurn → PortView → PortView → Type 0
-IsServed lane_tells worker l None turns old new = IsTurnedAway (new.state.link l)
-IsServed lane_tells worker l (Some seq) turns old new = ServesLink lane_tells (conn_of worker seq) l turns old new
+abbrev pub IsServed : (lane_tells : Type 0) → (worker l : ℕ) → Option ℕ → (jobs : List Job) (replies : List Reply) → PortView → PortView → Type 0
+IsServed lane_tells worker l None jobs replies old new = IsTurnedAway (new.state.link l)
+IsServed lane_tells worker l (Some seq) jobs replies old new = ServesLink lane_tells (conn_of worker seq) l jobs replies old new
 
 -- ---- All links of a port
 
@@ -108,17 +109,17 @@ pub record Seats (old new : PortState) : Type 0 where
   -- different links are different connections
   pub apart : (l m seq : ℕ) → seat l ≡ Some seq → seat m ≡ Some seq → l ≡ m
 
--- all links of a port were served, whose worker has this number: each that was opened is closed again, and each job of the worker on the tape is of one of them
-pub record ServesPort (lane_tells : Type 0) (worker : ℕ) (turns : List LaneTurn) (old new : PortView) : Type 0 where
+-- all links of a port were served, whose worker has this number: each that was opened is closed again, and each job of the worker is of one of them
+pub record ServesPort (lane_tells : Type 0) (worker : ℕ) (jobs : List Job) (replies : List Reply) (old new : PortView) : Type 0 where
   pub seats : Seats old.state new.state
   pub closed : (l : ℕ) → (new.state.link l).is_open ≡ false
-  pub served : (l : ℕ) → Contains seats.opened l → IsServed lane_tells worker l (seats.seat l) turns old new
-  pub known : (job : Job) → Contains (jobs_in turns) job → job.conn.worker ≡ worker → (l : ℕ) × Contains seats.opened l × (seats.seat l ≡ Some job.conn.seq)
+  pub served : (l : ℕ) → Contains seats.opened l → IsServed lane_tells worker l (seats.seat l) jobs replies old new
+  pub known : (job : Job) → Contains jobs job → job.conn.worker ≡ worker → (l : ℕ) × Contains seats.opened l × (seats.seat l ≡ Some job.conn.seq)
   -- its turns were made until it told Stop, or one failed
   pub over : (new.state.stopped ≡ true) ⊎ PortFailed old new
 
 -- the links of all ports were served, by workers of the ports' places, and each job is of one of these workers
 pub record ServesPorts (lane_tells : Type 0) (turns : List LaneTurn) (old new : List PortView) : Type 0 where
   pub count : length new ≡ length old
-  pub each : (w : ℕ) (before after : PortView) → slice_get old w ≡ Some before → slice_get new w ≡ Some after → ServesPort lane_tells w turns before after
+  pub each : (w : ℕ) (before after : PortView) → slice_get old w ≡ Some before → slice_get new w ≡ Some after → ServesPort lane_tells w (jobs_in turns) (replies_in turns) before after
   pub known : (job : Job) → Contains (jobs_in turns) job → job.conn.worker < length old

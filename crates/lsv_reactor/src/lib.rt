@@ -1,1 +1,4 @@
+//! A server's loop on one thread.
 #![tactic(auto)]
+
+mod laws;

@@ -79,17 +79,23 @@ fn copy_body(alloc: Global, body: &Body) -> Result<Body, NoMem>
     }
 }
 
+/// A copy of a job.
+fn copy_job(alloc: Global, job: &Job) -> Result<Job, NoMem>
+    ensures { IfOk result (λ copy. copy ≡ job.now) }
+{
+    Ok(Job {
+        conn: job.conn,
+        body: copy_body(alloc, &job.body)?,
+    })
+}
+
 /// A copy of these jobs.
 fn copy_jobs(alloc: Global, jobs: &[Job]) -> Result<Vec<Job>, NoMem>
     ensures { IfOk result (λ copy. copy.items ≡ jobs.now) }
 {
     let mut copy = Vec::with_capacity(alloc, jobs.len())?;
     for job in jobs {
-        let body = copy_body(alloc, &job.body)?;
-        copy.push(Job {
-            conn: job.conn,
-            body,
-        })?;
+        copy.push(copy_job(alloc, job)?)?;
     }
     Ok(copy)
 }
