@@ -2,7 +2,10 @@
 use Rattle.std.specs.Prelude.{◌≡◌, ◌≤◌, ◌++◌, ℕ, Bool, List, [], ◌∷◌, length, map, IsSome, None, Ok}
 use Rattle.std.specs.List.{AllByRecursion, flat_map}
 use Rattle.lsv_base.specs.Time.{nanos_of}
+use Rattle.lsv_words.specs.Causes.{HasRisen}
 use Rattle.lsv_disk.specs.View.{DiskView, IsCrashImage}
+use Rattle.lsv_disk.specs.declared.file.FileId.{FileId}
+use Rattle.lsv_disk.specs.declared.file.Owner.{Owner}
 use Rattle.lsv_event.specs.declared.event.Kind.{Kind}
 use Rattle.lsv_eventlog.specs.Recovered.{HoldsLines}
 use Rattle.lsv_iolog.specs.Recovered.{Replays}
@@ -27,6 +30,10 @@ lane_settings lane lanes kind log_exit = record { lane = lane; lanes = lanes; lo
 -- the disk is one that this server's runs leave: unless the lane's number file is damaged or of another number of lanes, no image of it holds a file of a log of the lane above the last number that any image tells
 abbrev pub IsFresh : (lane lanes : ℕ) → DiskView → Type 0
 IsFresh lane lanes disk = (last : ℕ) → judged lane lanes (entry_at lane disk.reads) ≡ Ok last → NumbersFit (reading_of lane lanes) lane lanes (IsCrashImage disk)
+
+-- a device call on a file of the owner failed
+abbrev pub OwnerFailed : Owner → (old new : DiskView) → Type 0
+OwnerFailed o old new = (file : FileId) × (file.owner ≡ o) × HasRisen (old.faults file) (new.faults file)
 
 -- ---- Turns
 

@@ -5,4 +5,4 @@ mod bay;
 mod lane;
 
 pub use bay::Bay;
-pub use lane::StoreLane;
+pub use lane::{StoreLane, Unopened};

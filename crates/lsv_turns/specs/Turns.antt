@@ -52,13 +52,23 @@ is_shut Shut = true
 abbrev pub shuts : ConnId → List Reply → Bool
 shuts k replies = list_any (λ r. (same r.conn k && is_shut r.body) && not r.last) replies
 
--- ---- Gone
+-- ---- To whom replies go
+
+-- no reply is to this connection
+abbrev pub NoneFor : ConnId → List Reply → Type 0
+NoneFor k [] = Unit {0}
+NoneFor k (r ∷ replies) = (same r.conn k ≡ false) × NoneFor k replies
 
 -- where the connection brings its end, it is the last of these
 abbrev pub EndsWithGone : List Body → Type 0
 EndsWithGone [] = Unit {0}
 EndsWithGone (b ∷ bodies) = (b ≡ Gone → bodies ≡ []) × EndsWithGone bodies
 
--- and so of each connection in these jobs
-abbrev pub AllEndWithGone : List Job → Type 0
-AllEndWithGone jobs = (k : ConnId) → EndsWithGone (bodies_of k jobs)
+-- of these replies none is to a connection that brought none of these jobs; and none behind one that shuts its connection, if that brings nothing behind its end
+pub record AreAsked (jobs : List Job) (replies : List Reply) : Type 0 where
+  pub asked : (k : ConnId) → bodies_of k jobs ≡ [] → NoneFor k replies
+  pub behind : (k : ConnId) (before after : List Reply) (r : Reply) → EndsWithGone (bodies_of k jobs) → replies ≡ before ++ r ∷ after → same r.conn k ≡ true → r.body ≡ Shut → NoneFor k after
+
+-- and so of these turns
+abbrev pub AreAskedIn : List LaneTurn → Type 0
+AreAskedIn turns = AreAsked (jobs_in turns) (replies_in turns)

@@ -1,0 +1,131 @@
+-- What a worker's own jobs and replies say of its port, all say.
+use Rattle.std.proofs.Common.{◌≡◌, ◌≢◌, ◌++◌, ◌∷◌, [], List, ℕ, Bool, true, false, Option, Some, None, refl, sym, ap, subst, ◌∙◌, inl, inr, ◌⊎◌}
+use Rattle.std.specs.Prelude.{◌==◌, ◌&&◌, ◌||◌, not, if◌then◌else◌}
+use Rattle.std.specs.List.{Contains, list_any}
+use Rattle.lsv_msg.specs.declared.messages.ServerMessage.{ServerMessage}
+use Rattle.lsv_session.specs.Connections.{same}
+use Rattle.lsv_session.specs.Transcript.{answers, bodies_of, frames_of, messages_in, said_to}
+use Rattle.lsv_session.specs.declared.connection.ConnId.{ConnId}
+use Rattle.lsv_session.specs.declared.job.Body.{Body}
+use Rattle.lsv_session.specs.declared.job.Job.{Job}
+use Rattle.lsv_session.specs.declared.reply.Reply.{Reply}
+use Rattle.lsv_session.specs.declared.reply.ReplyBody.TheVariants.{Shut}
+use Rattle.lsv_turns.specs.Turns.{AreAsked, EndsWithGone, NoneFor, is_shut, shuts}
+use Rattle.lsv_reactor.specs.Links.{IsServed, PortView, ServesLink, ServesPort, conn_of}
+use Rattle.lsv_reactor.specs.Turns.{jobs_of, replies_to}
+use Rattle.lsv_reactor.proofs.Own.{EqOr, EqOr.equal, EqOr.unequal, contains_own, eq_or}
+
+-- ---- Its own connections
+
+bodies_own : (w seq : ℕ) (jobs : List Job) → bodies_of (conn_of w seq) (jobs_of w jobs) ≡ bodies_of (conn_of w seq) jobs
+bodies_own w seq [] = refl
+bodies_own w seq (x ∷ jobs) = elim (eq_or x.conn.worker w) [
+  | equal e t ↦ rw t (ap (λ (l : List Body). if x.conn.seq == seq then x.body ∷ l else l) (bodies_own w seq jobs))
+  | unequal ne t ↦ rw t (bodies_own w seq jobs)
+]
+
+shuts_own : (w seq : ℕ) (replies : List Reply) → shuts (conn_of w seq) (replies_to w replies) ≡ shuts (conn_of w seq) replies
+shuts_own w seq [] = refl
+shuts_own w seq (r ∷ replies) = elim (eq_or r.conn.worker w) [
+  | equal e t ↦ rw t (ap (λ (b : Bool). (((r.conn.seq == seq) && is_shut r.body) && not r.last) || b) (shuts_own w seq replies))
+  | unequal ne t ↦ rw t (shuts_own w seq replies)
+]
+
+said_own : (w seq : ℕ) (replies : List Reply) → said_to (conn_of w seq) (replies_to w replies) ≡ said_to (conn_of w seq) replies
+said_own w seq [] = refl
+said_own w seq (r ∷ replies) = elim (eq_or r.conn.worker w) [
+  | equal e t ↦ rw t (ap (λ (l : List ServerMessage). (if r.conn.seq == seq then messages_in r.body else []) ++ l) (said_own w seq replies))
+  | unequal ne t ↦ rw t (said_own w seq replies)
+]
+
+answers_own : (w seq : ℕ) (replies : List Reply) → answers (conn_of w seq) (replies_to w replies) ≡ answers (conn_of w seq) replies
+answers_own w seq replies = ap (λ (l : List ServerMessage). answers (conn_of w seq) [] ++ frames_of l) (said_own w seq replies)
+
+-- ---- Who is asked
+
+none_own : (w : ℕ) (k : ConnId) (replies : List Reply) → NoneFor k replies → NoneFor k (replies_to w replies)
+none_own w k [] n = tt
+none_own w k (r ∷ replies) n = elim (eq_or r.conn.worker w) [ | equal e t ↦ rw t (n.0, none_own w k replies n.1) | unequal ne t ↦ rw t (none_own w k replies n.1) ]
+
+-- to a connection of another worker
+none_other : (w : ℕ) (k : ConnId) (replies : List Reply) → k.worker ≢ w → NoneFor k (replies_to w replies)
+none_other w k [] no = tt
+none_other w k (r ∷ replies) no = elim (eq_or r.conn.worker w) [
+  | equal e t ↦ rw t (elim (eq_or r.conn.worker k.worker) [
+    | equal p s ↦ absurd (no (sym p ∙ e))
+    | unequal ne s ↦ (rw s refl, none_other w k replies no)
+  ])
+  | unequal ne t ↦ rw t (none_other w k replies no)
+]
+
+none_behind : (k : ConnId) (before after : List Reply) (r : Reply) → NoneFor k (before ++ r ∷ after) → NoneFor k after
+none_behind k [] after r n = n.1
+none_behind k (x ∷ before) after r n = none_behind k before after r n.1
+
+-- where a list of its own replies is split, so are all
+record Splits (w : ℕ) (replies : List Reply) (r : Reply) (after : List Reply) : Type 0 where
+  front : List Reply
+  back : List Reply
+  is : replies ≡ front ++ r ∷ back
+  own : replies_to w back ≡ after
+
+split : (w : ℕ) (replies before after : List Reply) (r : Reply) → replies_to w replies ≡ before ++ r ∷ after → Splits w replies r after
+split w [] [] after r e = absurd (cc)
+split w [] (x ∷ before) after r e = absurd (cc)
+split w (y ∷ replies) before after r e = elim (eq_or y.conn.worker w) [
+  | equal p t ↦ first before (rw t at e)
+  | unequal ne t ↦ more (split w replies before after r (rw t at e))
+]
+  where
+    more : Splits w replies r after → Splits w (y ∷ replies) r after
+    more s = record { front = y ∷ s.front; back = s.back; is = ap (λ (l : List Reply). y ∷ l) s.is; own = s.own }
+
+    first : (before : List Reply) → y ∷ replies_to w replies ≡ before ++ r ∷ after → Splits w (y ∷ replies) r after
+    first [] e =
+        let head : y ≡ r = cc in
+        record { front = []; back = replies; is = ap (λ (z : Reply). z ∷ replies) head; own = cc }
+    first (x ∷ before) e = let rest : replies_to w replies ≡ before ++ r ∷ after = cc in more (split w replies before after r rest)
+
+asked_own : (w : ℕ) (jobs : List Job) (replies : List Reply) → AreAsked jobs replies → AreAsked (jobs_of w jobs) (replies_to w replies)
+asked_own w jobs replies a = record {
+  asked = λ k none. elim (eq_or k.worker w) [
+    | equal e t ↦ none_own w k replies (a.asked k (sym (bodies_at k e) ∙ none))
+    | unequal ne t ↦ none_other w k replies ne
+  ];
+  behind = λ k before after r ends is to shut. elim (eq_or k.worker w) [
+    | equal e t ↦
+        let s = split w replies before after r is in
+        let all : EndsWithGone (bodies_of k jobs) = subst EndsWithGone (bodies_at k e) ends in
+        subst (λ (l : List Reply). NoneFor k l) s.own (none_own w k s.back (a.behind k s.front s.back r all s.is to shut))
+    | unequal ne t ↦ none_behind k before after r (subst (λ (l : List Reply). NoneFor k l) is (none_other w k replies ne))
+  ];
+}
+  where
+    bodies_at : (k : ConnId) → k.worker ≡ w → bodies_of k (jobs_of w jobs) ≡ bodies_of k jobs
+    bodies_at k e = subst (λ (v : ℕ). bodies_of (conn_of v k.seq) (jobs_of w jobs) ≡ bodies_of (conn_of v k.seq) jobs) (sym e) (bodies_own w k.seq jobs)
+
+-- ---- The port
+
+module _ (tells : Type 0) (w : ℕ) (jobs : List Job) (replies : List Reply) (old new : PortView) (asks : tells → AreAsked jobs replies) where
+  served_own : (l : ℕ) (seat : Option ℕ) → IsServed (AreAsked (jobs_of w jobs) (replies_to w replies)) w l seat (jobs_of w jobs) (replies_to w replies) old new → IsServed tells w l seat jobs replies old new
+  served_own l None s = s
+  served_own l (Some seq) s =
+      let k = conn_of w seq in
+      let t : ServesLink (AreAsked (jobs_of w jobs) (replies_to w replies)) k l (jobs_of w jobs) (replies_to w replies) old new = s in
+      let b : bodies_of k (jobs_of w jobs) ≡ bodies_of k jobs = bodies_own w seq jobs in
+      let h : shuts k (replies_to w replies) ≡ shuts k replies = shuts_own w seq replies in
+      record {
+        brings = rw (b, h) at t.brings;
+        cause = rw (b, h) at t.cause;
+        paid = rw (b, h) at t.paid;
+        puts = λ told. rw (answers_own w seq replies) at t.puts (asked_own w jobs replies (asks told));
+      }
+
+  pub serves_own : ServesPort (AreAsked (jobs_of w jobs) (replies_to w replies)) w (jobs_of w jobs) (replies_to w replies) old new → ServesPort tells w jobs replies old new
+  serves_own s = record {
+    seats = s.seats;
+    closed = s.closed;
+    served = λ l is. served_own l (s.seats.seat l) (s.served l is);
+    known = λ job c e. s.known job (contains_own w jobs job c e) e;
+    over = s.over;
+  }

@@ -1,0 +1,4 @@
+pub mod Own
+pub mod Places
+pub mod Rounds
+pub mod Ends
