@@ -2,8 +2,10 @@
 use Rattle.std.proofs.Common.{◌≡◌, ◌≢◌, ◌++◌, ◌∷◌, [], List, ℕ, Bool, true, false, Option, Some, None, refl, sym, ap, subst, ◌∙◌, inl, inr, ◌⊎◌}
 use Rattle.std.specs.Prelude.{◌==◌, ◌&&◌, ◌||◌, not, if◌then◌else◌}
 use Rattle.std.specs.List.{Contains, list_any}
+use Rattle.lsv_wire.specs.Frame.{frame_of}
+use Rattle.lsv_msg.specs.Messages.{server_bytes}
 use Rattle.lsv_msg.specs.declared.messages.ServerMessage.{ServerMessage}
-use Rattle.lsv_session.specs.Connections.{same}
+use Rattle.lsv_session.specs.Connections.{same, server_hello}
 use Rattle.lsv_session.specs.Transcript.{answers, bodies_of, frames_of, messages_in, said_to}
 use Rattle.lsv_session.specs.declared.connection.ConnId.{ConnId}
 use Rattle.lsv_session.specs.declared.job.Body.{Body}
@@ -17,29 +19,35 @@ use Rattle.lsv_reactor.proofs.Own.{EqOr, EqOr.equal, EqOr.unequal, contains_own,
 
 -- ---- Its own connections
 
+bodies_if : (w seq : ℕ) (b : Bool) (x : Job) (mine all : List Job) → (x.conn.worker == w) ≡ b → bodies_of (conn_of w seq) mine ≡ bodies_of (conn_of w seq) all
+    → bodies_of (conn_of w seq) (if b then x ∷ mine else mine) ≡ bodies_of (conn_of w seq) (x ∷ all)
+bodies_if w seq true x mine all t e = ap (λ (l : List Body). if same x.conn (conn_of w seq) then x.body ∷ l else l) e
+bodies_if w seq false x mine all t e = rw t e
+
 bodies_own : (w seq : ℕ) (jobs : List Job) → bodies_of (conn_of w seq) (jobs_of w jobs) ≡ bodies_of (conn_of w seq) jobs
 bodies_own w seq [] = refl
-bodies_own w seq (x ∷ jobs) = elim (eq_or x.conn.worker w) [
-  | equal e t ↦ rw t (ap (λ (l : List Body). if x.conn.seq == seq then x.body ∷ l else l) (bodies_own w seq jobs))
-  | unequal ne t ↦ rw t (bodies_own w seq jobs)
-]
+bodies_own w seq (x ∷ jobs) = bodies_if w seq (x.conn.worker == w) x (jobs_of w jobs) jobs refl (bodies_own w seq jobs)
+
+shuts_if : (w seq : ℕ) (b : Bool) (r : Reply) (mine all : List Reply) → (r.conn.worker == w) ≡ b → shuts (conn_of w seq) mine ≡ shuts (conn_of w seq) all
+    → shuts (conn_of w seq) (if b then r ∷ mine else mine) ≡ shuts (conn_of w seq) (r ∷ all)
+shuts_if w seq true r mine all t e = ap (λ (x : Bool). ((same r.conn (conn_of w seq) && is_shut r.body) && not r.last) || x) e
+shuts_if w seq false r mine all t e = rw t e
 
 shuts_own : (w seq : ℕ) (replies : List Reply) → shuts (conn_of w seq) (replies_to w replies) ≡ shuts (conn_of w seq) replies
 shuts_own w seq [] = refl
-shuts_own w seq (r ∷ replies) = elim (eq_or r.conn.worker w) [
-  | equal e t ↦ rw t (ap (λ (b : Bool). (((r.conn.seq == seq) && is_shut r.body) && not r.last) || b) (shuts_own w seq replies))
-  | unequal ne t ↦ rw t (shuts_own w seq replies)
-]
+shuts_own w seq (r ∷ replies) = shuts_if w seq (r.conn.worker == w) r (replies_to w replies) replies refl (shuts_own w seq replies)
+
+said_if : (w seq : ℕ) (b : Bool) (r : Reply) (mine all : List Reply) → (r.conn.worker == w) ≡ b → said_to (conn_of w seq) mine ≡ said_to (conn_of w seq) all
+    → said_to (conn_of w seq) (if b then r ∷ mine else mine) ≡ said_to (conn_of w seq) (r ∷ all)
+said_if w seq true r mine all t e = ap (λ (l : List ServerMessage). (if same r.conn (conn_of w seq) then messages_in r.body else []) ++ l) e
+said_if w seq false r mine all t e = rw t e
 
 said_own : (w seq : ℕ) (replies : List Reply) → said_to (conn_of w seq) (replies_to w replies) ≡ said_to (conn_of w seq) replies
 said_own w seq [] = refl
-said_own w seq (r ∷ replies) = elim (eq_or r.conn.worker w) [
-  | equal e t ↦ rw t (ap (λ (l : List ServerMessage). (if r.conn.seq == seq then messages_in r.body else []) ++ l) (said_own w seq replies))
-  | unequal ne t ↦ rw t (said_own w seq replies)
-]
+said_own w seq (r ∷ replies) = said_if w seq (r.conn.worker == w) r (replies_to w replies) replies refl (said_own w seq replies)
 
 answers_own : (w seq : ℕ) (replies : List Reply) → answers (conn_of w seq) (replies_to w replies) ≡ answers (conn_of w seq) replies
-answers_own w seq replies = ap (λ (l : List ServerMessage). answers (conn_of w seq) [] ++ frames_of l) (said_own w seq replies)
+answers_own w seq replies = ap (λ (l : List ServerMessage). frame_of (server_bytes server_hello) ++ frames_of l) (said_own w seq replies)
 
 -- ---- Who is asked
 
@@ -49,13 +57,13 @@ none_own w k (r ∷ replies) n = elim (eq_or r.conn.worker w) [ | equal e t ↦ 
 
 -- to a connection of another worker
 none_other : (w : ℕ) (k : ConnId) (replies : List Reply) → k.worker ≢ w → NoneFor k (replies_to w replies)
-none_other w k [] no = tt
-none_other w k (r ∷ replies) no = elim (eq_or r.conn.worker w) [
+none_other w k [] apart = tt
+none_other w k (r ∷ replies) apart = elim (eq_or r.conn.worker w) [
   | equal e t ↦ rw t (elim (eq_or r.conn.worker k.worker) [
-    | equal p s ↦ absurd (no (sym p ∙ e))
-    | unequal ne s ↦ (rw s refl, none_other w k replies no)
+    | equal p s ↦ absurd (apart (sym p ∙ e))
+    | unequal ne s ↦ (rw s refl, none_other w k replies apart)
   ])
-  | unequal ne t ↦ rw t (none_other w k replies no)
+  | unequal ne t ↦ rw t (none_other w k replies apart)
 ]
 
 none_behind : (k : ConnId) (before after : List Reply) (r : Reply) → NoneFor k (before ++ r ∷ after) → NoneFor k after
@@ -69,22 +77,26 @@ record Splits (w : ℕ) (replies : List Reply) (r : Reply) (after : List Reply) 
   is : replies ≡ front ++ r ∷ back
   own : replies_to w back ≡ after
 
+split_more : (w : ℕ) (y : Reply) (replies : List Reply) (r : Reply) (after : List Reply) → Splits w replies r after → Splits w (y ∷ replies) r after
+split_more w y replies r after s = record { front = y ∷ s.front; back = s.back; is = ap (λ (l : List Reply). y ∷ l) s.is; own = s.own }
+
+split_here : (w : ℕ) (y : Reply) (replies after : List Reply) (r : Reply) → y ∷ replies_to w replies ≡ r ∷ after → Splits w (y ∷ replies) r after
+split_here w y replies after r e = let head : y ≡ r = cc in record { front = []; back = replies; is = ap (λ (z : Reply). z ∷ replies) head; own = cc }
+
+cons_tail : (x y : Reply) (xs ys : List Reply) → x ∷ xs ≡ y ∷ ys → xs ≡ ys
+cons_tail x y xs ys e = cc
+
 split : (w : ℕ) (replies before after : List Reply) (r : Reply) → replies_to w replies ≡ before ++ r ∷ after → Splits w replies r after
 split w [] [] after r e = absurd (cc)
 split w [] (x ∷ before) after r e = absurd (cc)
-split w (y ∷ replies) before after r e = elim (eq_or y.conn.worker w) [
-  | equal p t ↦ first before (rw t at e)
-  | unequal ne t ↦ more (split w replies before after r (rw t at e))
+split w (y ∷ replies) [] after r e = elim (eq_or y.conn.worker w) [
+  | equal p t ↦ split_here w y replies after r (rw t at e)
+  | unequal ne t ↦ split_more w y replies r after (split w replies [] after r (rw t at e))
 ]
-  where
-    more : Splits w replies r after → Splits w (y ∷ replies) r after
-    more s = record { front = y ∷ s.front; back = s.back; is = ap (λ (l : List Reply). y ∷ l) s.is; own = s.own }
-
-    first : (before : List Reply) → y ∷ replies_to w replies ≡ before ++ r ∷ after → Splits w (y ∷ replies) r after
-    first [] e =
-        let head : y ≡ r = cc in
-        record { front = []; back = replies; is = ap (λ (z : Reply). z ∷ replies) head; own = cc }
-    first (x ∷ before) e = let rest : replies_to w replies ≡ before ++ r ∷ after = cc in more (split w replies before after r rest)
+split w (y ∷ replies) (x ∷ before) after r e = elim (eq_or y.conn.worker w) [
+  | equal p t ↦ split_more w y replies r after (split w replies before after r (cons_tail y x (replies_to w replies) (before ++ r ∷ after) (rw t at e)))
+  | unequal ne t ↦ split_more w y replies r after (split w replies (x ∷ before) after r (rw t at e))
+]
 
 asked_own : (w : ℕ) (jobs : List Job) (replies : List Reply) → AreAsked jobs replies → AreAsked (jobs_of w jobs) (replies_to w replies)
 asked_own w jobs replies a = record {

@@ -1,4 +1,4 @@
 pub mod Own
 pub mod Places
-pub mod Rounds
+pub mod TurnLemmas
 pub mod Ends

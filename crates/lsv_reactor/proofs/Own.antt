@@ -1,5 +1,5 @@
 -- What of a list is one worker's own.
-use Rattle.std.proofs.Common.{◌≡◌, ◌≢◌, ◌++◌, ◌∷◌, [], List, ℕ, Bool, true, false, refl, sym, ap, subst, ◌∙◌, append-nil, inl, inr, ◌⊎◌, arith}
+use Rattle.std.proofs.Common.{◌≡◌, ◌≢◌, ◌++◌, ◌∷◌, [], List, ℕ, Bool, true, false, length, ◌≤◌, refl, sym, ap, subst, ◌∙◌, append-nil, inl, inr, ◌⊎◌, arith}
 use Rattle.std.specs.Prelude.{◌==◌, ◌<◌, zero, suc, if◌then◌else◌, slice_index_or}
 use Rattle.std.specs.List.{Contains}
 use Rattle.std.proofs.lemmas.List.Elements.{Contains-append_cases, Contains-append_right}
@@ -45,7 +45,7 @@ pub other_jobs : (v w : ℕ) (xs : List Job) → v ≢ w → AreOf v xs → jobs
 other_jobs v w [] ne all = refl
 other_jobs v w (x ∷ xs) ne all = elim (eq_or x.conn.worker w) [
   | equal e t ↦ absurd (ne (sym all.0 ∙ e))
-  | unequal no t ↦ rw t (other_jobs v w xs ne all.1)
+  | unequal differs t ↦ rw t (other_jobs v w xs ne all.1)
 ]
 
 -- a reply is of the one worker's own
@@ -53,7 +53,7 @@ pub own_reply : (w : ℕ) (r : Reply) → r.conn.worker ≡ w → replies_to w (
 own_reply w r e = elim (eq_or r.conn.worker w) [ | equal p t ↦ rw t refl | unequal ne t ↦ absurd (ne e) ]
 
 pub other_reply : (w : ℕ) (r : Reply) → r.conn.worker ≢ w → replies_to w (r ∷ []) ≡ []
-other_reply w r ne = elim (eq_or r.conn.worker w) [ | equal p t ↦ absurd (ne p) | unequal no t ↦ rw t refl ]
+other_reply w r ne = elim (eq_or r.conn.worker w) [ | equal p t ↦ absurd (ne p) | unequal differs t ↦ rw t refl ]
 
 -- ---- One of a list
 
@@ -78,4 +78,19 @@ contains_own w (x ∷ jobs) job c e = elim (eq_or x.conn.worker w) [
     | inl first ↦ absurd (ne (ap (λ (y : Job). y.conn.worker) (only_one x job first) ∙ e))
     | inr later ↦ contains_own w jobs job later e
   ])
+]
+
+-- ---- Whether there are jobs
+
+pub some_jobs : (n : ℕ) (jobs : List Job) → n ≡ length jobs → false ≡ (n == 0) → 1 ≤ length jobs
+some_jobs n jobs is e = elim (eq_or n 0) [
+  | equal p t ↦ absurd (cc)
+  | unequal ne t ↦ omega arith
+]
+
+pub no_jobs : (n : ℕ) (jobs : List Job) → n ≡ length jobs → true ≡ (n == 0) → jobs ≡ []
+no_jobs n [] is e = refl
+no_jobs n (x ∷ jobs) is e = elim (eq_or n 0) [
+  | equal p t ↦ absurd (omega arith)
+  | unequal ne t ↦ absurd (cc)
 ]

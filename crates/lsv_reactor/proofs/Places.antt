@@ -32,14 +32,14 @@ set_there xs i j v x ne e =
 
 module _ {T S : Type 0} (number : T → ℕ) (made_by : S → T → List Job → List Reply → Type 0) where
   -- the post at a place
-  pub at_place : (starts : ℕ → S) (posts : List T) (i : ℕ) (x : T) (jobs : List Job) (took : List Reply) → i < length posts → x ≡ get_or posts i x → ArePosts number made_by starts posts jobs took → IsPost number made_by (starts i) i x jobs took
-  at_place starts posts i x jobs took less is all = all.each i x (slice_get-get_or posts i x less ∙ ap Some (sym is))
+  pub at_place : (starts : ℕ → S) (posts : List T) (i : ℕ) (d : T) (jobs : List Job) (took : List Reply) → i < length posts → ArePosts number made_by starts posts jobs took → IsPost number made_by (starts i) i (get_or posts i d) jobs took
+  at_place starts posts i d jobs took less all = all.each i (get_or posts i d) (slice_get-get_or posts i d less)
 
-  given : (starts : ℕ → S) (posts : List T) (i : ℕ) (x y : T) (jobs added : List Job) (took : List Reply) → i < length posts → x ≡ get_or posts i x → number y ≡ number x → AreOf (number x) added
-      → ((start : S) (gave : List Job) (got : List Reply) → made_by start x gave got → made_by start y (gave ++ added) got)
+  given : (starts : ℕ → S) (posts : List T) (i : ℕ) (d y : T) (jobs added : List Job) (took : List Reply) → i < length posts → number y ≡ number (get_or posts i d) → AreOf (number (get_or posts i d)) added
+      → ((start : S) (gave : List Job) (got : List Reply) → made_by start (get_or posts i d) gave got → made_by start y (gave ++ added) got)
       → ArePosts number made_by starts posts jobs took → (j : ℕ) (z : T) → slice_get (set posts i y) j ≡ Some z → IsPost number made_by (starts j) j z (jobs ++ added) took
-  given starts posts i x y jobs added took less is same own goes all j z e =
-      let at = at_place starts posts i x jobs took less is all in
+  given starts posts i d y jobs added took less same own goes all j z e =
+      let at = at_place starts posts i d jobs took less all in
       elim (eq_or j i) [
         | equal p t ↦
             let there : slice_get (set posts i y) i ≡ Some z = subst (λ (k : ℕ). slice_get (set posts i y) k ≡ Some z) p e in
@@ -51,7 +51,7 @@ module _ {T S : Type 0} (number : T → ℕ) (made_by : S → T → List Job →
             subst (λ (k : ℕ). IsPost number made_by (starts k) k z (jobs ++ added) took) (sym p) (subst (λ (w : T). IsPost number made_by (starts i) i w (jobs ++ added) took) (sym here) post)
         | unequal ne t ↦
             let was = all.each j z (set_there posts i j y z ne e) in
-            let none : jobs_of j added ≡ [] = other_jobs (number x) j added (λ q. ne (sym q ∙ at.numbered)) own in
+            let none : jobs_of j added ≡ [] = other_jobs (number (get_or posts i d)) j added (λ q. ne (sym q ∙ at.numbered)) own in
             record {
               numbered = was.numbered;
               made = subst (λ (l : List Job). made_by (starts j) z l (replies_to j took)) (sym (jobs_append j jobs added ∙ ap (λ (l : List Job). jobs_of j jobs ++ l) none ∙ append-nil (jobs_of j jobs))) was.made;
@@ -59,16 +59,16 @@ module _ {T S : Type 0} (number : T → ℕ) (made_by : S → T → List Job →
       ]
 
   -- of one post come jobs of its own
-  pub gives : (starts : ℕ → S) (posts : List T) (i : ℕ) (x y : T) (jobs added : List Job) (took : List Reply) → i < length posts → x ≡ get_or posts i x → number y ≡ number x → AreOf (number x) added
-      → ((start : S) (gave : List Job) (got : List Reply) → made_by start x gave got → made_by start y (gave ++ added) got)
+  pub gives : (starts : ℕ → S) (posts : List T) (i : ℕ) (d y : T) (jobs added : List Job) (took : List Reply) → i < length posts → number y ≡ number (get_or posts i d) → AreOf (number (get_or posts i d)) added
+      → ((start : S) (gave : List Job) (got : List Reply) → made_by start (get_or posts i d) gave got → made_by start y (gave ++ added) got)
       → ArePosts number made_by starts posts jobs took → ArePosts number made_by starts (set posts i y) (jobs ++ added) took
-  gives starts posts i x y jobs added took less is same own goes all = record {
-    each = given starts posts i x y jobs added took less is same own goes all;
+  gives starts posts i d y jobs added took less same own goes all = record {
+    each = given starts posts i d y jobs added took less same own goes all;
     within = λ job c. elim (Contains-append_cases jobs added job c) [
       | inl old ↦ let k : job.conn.worker < length posts = all.within job old in omega (arith, length-set posts i y)
       | inr new ↦
-          let k : job.conn.worker ≡ number x = of_worker (number x) added job own new in
-          let n : number x ≡ i = (at_place starts posts i x jobs took less is all).numbered in
+          let k : job.conn.worker ≡ number (get_or posts i d) = of_worker (number (get_or posts i d)) added job own new in
+          let n : number (get_or posts i d) ≡ i = (at_place starts posts i d jobs took less all).numbered in
           omega (arith, length-set posts i y)
     ];
   }
@@ -79,11 +79,11 @@ module _ {T S : Type 0} (number : T → ℕ) (made_by : S → T → List Job →
     made = subst (λ (l : List Reply). made_by (starts j) z (jobs_of j jobs) l) (sym (replies_append j took (r ∷ []) ∙ ap (λ (l : List Reply). replies_to j took ++ l) (other_reply j r ne) ∙ append-nil (replies_to j took))) was.made;
   }
 
-  taken : (starts : ℕ → S) (posts : List T) (i : ℕ) (x y : T) (r : Reply) (jobs : List Job) (took : List Reply) → i < length posts → x ≡ get_or posts i x → r.conn.worker ≡ i → number y ≡ number x
-      → ((start : S) (gave : List Job) (got : List Reply) → made_by start x gave got → made_by start y gave (got ++ r ∷ []))
+  taken : (starts : ℕ → S) (posts : List T) (i : ℕ) (d y : T) (r : Reply) (jobs : List Job) (took : List Reply) → i < length posts → r.conn.worker ≡ i → number y ≡ number (get_or posts i d)
+      → ((start : S) (gave : List Job) (got : List Reply) → made_by start (get_or posts i d) gave got → made_by start y gave (got ++ r ∷ []))
       → ArePosts number made_by starts posts jobs took → (j : ℕ) (z : T) → slice_get (set posts i y) j ≡ Some z → IsPost number made_by (starts j) j z jobs (took ++ r ∷ [])
-  taken starts posts i x y r jobs took less is to same goes all j z e =
-      let at = at_place starts posts i x jobs took less is all in
+  taken starts posts i d y r jobs took less to same goes all j z e =
+      let at = at_place starts posts i d jobs took less all in
       elim (eq_or j i) [
         | equal p t ↦
             let there : slice_get (set posts i y) i ≡ Some z = subst (λ (k : ℕ). slice_get (set posts i y) k ≡ Some z) p e in
@@ -96,11 +96,11 @@ module _ {T S : Type 0} (number : T → ℕ) (made_by : S → T → List Job →
       ]
 
   -- one post takes a reply to it
-  pub takes : (starts : ℕ → S) (posts : List T) (i : ℕ) (x y : T) (r : Reply) (jobs : List Job) (took : List Reply) → i < length posts → x ≡ get_or posts i x → r.conn.worker ≡ i → number y ≡ number x
-      → ((start : S) (gave : List Job) (got : List Reply) → made_by start x gave got → made_by start y gave (got ++ r ∷ []))
+  pub takes : (starts : ℕ → S) (posts : List T) (i : ℕ) (d y : T) (r : Reply) (jobs : List Job) (took : List Reply) → i < length posts → r.conn.worker ≡ i → number y ≡ number (get_or posts i d)
+      → ((start : S) (gave : List Job) (got : List Reply) → made_by start (get_or posts i d) gave got → made_by start y gave (got ++ r ∷ []))
       → ArePosts number made_by starts posts jobs took → ArePosts number made_by starts (set posts i y) jobs (took ++ r ∷ [])
-  takes starts posts i x y r jobs took less is to same goes all = record {
-    each = taken starts posts i x y r jobs took less is to same goes all;
+  takes starts posts i d y r jobs took less to same goes all = record {
+    each = taken starts posts i d y r jobs took less to same goes all;
     within = λ job c. let k : job.conn.worker < length posts = all.within job c in omega (arith, length-set posts i y);
   }
 

@@ -4,8 +4,8 @@
 
 mod deliver;
 mod post;
-mod serve;
+mod rounds;
 mod visit;
 
 pub use post::Post;
-pub use serve::serve;
+pub use rounds::serve;

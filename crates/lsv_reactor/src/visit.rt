@@ -34,7 +34,9 @@ fn turn<T: Post, L: Lane>(
         return Ok(());
     }
     let mut replies = Vec::new(alloc);
-    lane.turn(jobs, &mut replies)?;
+    let Ok(_) = lane.turn(jobs, &mut replies) else {
+        return Err(NoMem);
+    };
     deliver(posts, replies);
     Ok(())
 }
@@ -79,7 +81,9 @@ fn pass<T: Post, L: Lane>(
         (more : List LaneTurn) × ArePosts T.number T.made_by starts posts.new (jobs_in more ++ others.items) (replies_in more) × IsLane L.tells L.made_by start lane.new more) }
     ensures err { OnErr result ((start : L.Start) (turns : List LaneTurn) → IsLane L.tells L.made_by start lane.old turns → IsLane L.tells L.made_by start lane.new turns) }
 {
-    turn(alloc, posts, lane, jobs)?;
+    let Ok(()) = turn(alloc, posts, lane, jobs) else {
+        return Err(NoMem);
+    };
     Ok(push_at(alloc, posts, place))
 }
 
@@ -102,7 +106,13 @@ pub(crate) fn visit<T: Post, L: Lane>(
         if jobs.is_empty() {
             return Ok(());
         }
-        jobs = pass(alloc, posts, place, lane, jobs)?;
+        match pass(alloc, posts, place, lane, jobs) {
+            Ok(others) => jobs = others,
+            Err(_) => return Err(NoMem),
+        }
     }
-    turn(alloc, posts, lane, jobs)
+    let Ok(()) = turn(alloc, posts, lane, jobs) else {
+        return Err(NoMem);
+    };
+    Ok(())
 }

@@ -1,5 +1,6 @@
 -- The lane and the posts behind a turn.
-use Rattle.std.proofs.Common.{◌≡◌, ◌≤◌, ◌<◌, ◌++◌, ◌∷◌, [], List, ℕ, length, refl, sym, ap, subst, ◌∙◌, append-nil, append_assoc, arith}
+use Rattle.std.proofs.Common.{◌≡◌, ◌≤◌, ◌<◌, ◌++◌, ◌∷◌, [], List, ℕ, length, refl, sym, ap, subst, ◌∙◌, append-nil, append_assoc, arith, Some}
+use Rattle.std.specs.Prelude.{slice_get}
 use Rattle.std.specs.List.{AllByRecursion}
 use Rattle.std.proofs.lemmas.Grind.{flat_map-append}
 use Rattle.lsv_base.specs.declared.time.TimeSpec.{TimeSpec}
@@ -44,3 +45,22 @@ module _ {T S : Type 0} (number : T → ℕ) (made_by : S → T → List Job →
 
   pub posts_waiting : (starts : ℕ → S) (posts : List T) (jobs : List Job) (replies : List Reply) → ArePosts number made_by starts posts jobs replies → ArePosts number made_by starts posts (jobs ++ []) replies
   posts_waiting starts posts jobs replies is = subst (λ (l : List Job). ArePosts number made_by starts posts l replies) (sym (append-nil jobs)) is
+
+  -- posts that have done nothing
+  pub posts_begin : (starts : ℕ → S) (posts : List T) → ((i : ℕ) (post : T) → slice_get posts i ≡ Some post → number post ≡ i) → ((i : ℕ) (post : T) → slice_get posts i ≡ Some post → made_by (starts i) post [] [])
+      → ArePosts number made_by starts posts [] []
+  posts_begin starts posts numbered made = record {
+    each = λ i post e. record { numbered = numbered i post e; made = made i post e };
+    within = λ job c. absurd (let less = c.1 in omega arith);
+  }
+
+none_are_asked : AreAskedIn []
+none_are_asked = record { asked = λ k none. tt; behind = λ k before after r ends are to shut. absurd (no_reply before after r are) }
+  where
+    no_reply : (before after : List Reply) (r : Reply) → [] ≡ before ++ r ∷ after → ⊥
+    no_reply [] after r e = cc
+    no_reply (x ∷ before) after r e = cc
+
+-- a lane that has made no turn
+pub lane_begins : {L M : Type 0} (tells : Type 0) (made_by : M → L → List LaneTurn → Type 0) (start : M) (lane : L) → made_by start lane [] → IsLane tells made_by start lane []
+lane_begins tells made_by start lane made = record { made = made; sized = tt; asked = λ told. none_are_asked }

@@ -41,7 +41,9 @@ fn visit_all<T: Post, L: Lane>(
         (more : List LaneTurn) × IsLane L.tells L.made_by start lane.new more) }
 {
     'visits: for place in 0..posts.len() {
-        visit(alloc, posts, place, lane)?;
+        let Ok(()) = visit(alloc, posts, place, lane) else {
+            return Err(NoMem);
+        };
     }
     Ok(())
 }
@@ -71,7 +73,9 @@ fn run<T: Post, L: Lane>(
         if are_over(posts) {
             return Ok(());
         }
-        visit_all(alloc, posts, lane)?;
+        let Ok(()) = visit_all(alloc, posts, lane) else {
+            return Err(NoMem);
+        };
     }
     Err(NoMem)
 }

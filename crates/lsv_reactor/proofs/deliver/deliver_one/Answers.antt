@@ -1,0 +1,29 @@
+use Rattle.std.proofs.Common.{◌≡◌, ◌<◌, ◌≤◌, ◌++◌, ◌∷◌, [], List, ℕ, length, refl, sym, ap, subst, ◌∙◌, arith, append-nil}
+use Rattle.lsv_session.specs.declared.job.Job.{Job}
+use Rattle.lsv_session.specs.declared.reply.Reply.{Reply}
+use Rattle.lsv_turns.specs.Turns.{AreAsked, LaneTurn, jobs_in, replies_in}
+use Rattle.lsv_reactor.specs.InnerLoop.{ArePosts, IsLane}
+use Rattle.lsv_reactor.specs.Links.{ServesPort}
+use Rattle.lsv_reactor.specs.Turns.{jobs_of, most_jobs, replies_to}
+use Rattle.lsv_reactor.proofs.Ends.{serves_own}
+use Rattle.lsv_reactor.proofs.Places.{at_place, drops, gives, takes}
+use Rattle.lsv_reactor.proofs.TurnLemmas.{lane_begins, lane_turned, posts_begin, posts_none, posts_turned}
+use Rattle.lsv_reactor.proofs.deliver.deliver_one.Goals as goal
+
+pub take-requires-clause-begun : goal.take-requires-clause-begun
+take-requires-clause-begun g c =
+    let b = c.requires.begun in
+    let at = at_place g.T.Post.number g.T.Post.made_by b.0 c.args.posts.now c.args.reply.conn.worker c.index-posts-place.result b.1 b.2 c.if-place-posts.true b.3 in
+    (b.0 c.args.reply.conn.worker, jobs_of c.args.reply.conn.worker b.1, replies_to c.args.reply.conn.worker b.2, at.made)
+
+pub take-requires-clause-own : goal.take-requires-clause-own
+take-requires-clause-own g c =
+    let b = c.requires.begun in
+    sym (at_place g.T.Post.number g.T.Post.made_by b.0 c.args.posts.now c.args.reply.conn.worker c.index-posts-place.result b.1 b.2 c.if-place-posts.true b.3).numbered
+
+pub returns-then-place-posts : goal.returns-then-place-posts
+returns-then-place-posts g c = λ starts jobs took all.
+    takes g.T.Post.number g.T.Post.made_by starts c.args.posts.now c.args.reply.conn.worker c.index-posts-place.result c.take.new.self c.args.reply jobs took c.if-place-posts.true refl c.take.ensures.number c.take.ensures.made all
+
+pub returns : goal.returns
+returns g c = λ starts jobs took all. drops g.T.Post.number g.T.Post.made_by starts c.args.posts.now c.args.reply jobs took c.if-place-posts.false all
