@@ -1,5 +1,5 @@
 -- The Shut that an end gets comes of that end alone.
-use Rattle.std.proofs.Common.{◌≡◌, ◌⊎◌, inl, inr, ◌++◌, ◌∷◌, [], List, ℕ, Bool, true, false, Option, Some, None, refl, sym, ap, subst, ◌∙◌}
+use Rattle.std.proofs.Common.{◌≡◌, inl, inr, List, ℕ, Bool, true, false, Option, Some, None, refl, sym, ap, subst, ◌∙◌}
 use Rattle.std.specs.Prelude.{if◌then◌else◌, ◌||◌, not, Result, Ok, Err, is_some, nat_lt}
 use Rattle.std.specs.List.{list_any}
 use Rattle.lsv_base.specs.declared.time.TimeSpec.{TimeSpec}
@@ -7,7 +7,6 @@ use Rattle.lsv_info.specs.Layout.{exit_text, head_text}
 use Rattle.lsv_record.specs.Points.{Stored, first}
 use Rattle.lsv_record.specs.declared.records.Record.{Record}
 use Rattle.lsv_request.specs.declared.refusal.Refusal.{Refusal}
-use Rattle.lsv_request.specs.declared.refusal.Refusal.TheVariants as refusals
 use Rattle.lsv_request.specs.declared.request.Request.{Request}
 use Rattle.lsv_request.specs.declared.request.Request.TheVariants as request
 use Rattle.lsv_session.specs.declared.connection.ConnId.{ConnId}
@@ -16,10 +15,10 @@ use Rattle.lsv_session.specs.declared.connection.ConnState.TheVariants.{Fresh}
 use Rattle.lsv_session.specs.declared.job.Body.{Body}
 use Rattle.lsv_session.specs.declared.job.Body.TheVariants as body
 use Rattle.lsv_machine.specs.Answers.{Answer, is_refused}
-use Rattle.lsv_machine.specs.Failures.{Act, AsksFor, Breaks, IsRefused, LetsGo, LosesLog, Step, WantsMemory}
+use Rattle.lsv_machine.specs.Failures.{Act, AsksFor, Breaks, Step}
 use Rattle.lsv_machine.specs.Judgement.{judged}
 use Rattle.lsv_machine.specs.Machine.{LogState, LogState.Absent, LogState.Damaged, LogState.There, Machine, Settings, forgets, is_dead, is_running, let_go, log_of, same, with_log, without_conn}
-use Rattle.lsv_machine.specs.Work.{Done, alive, answered, can_cut, exited, finished, fits_file, has_line, last_number, line_fits, line_in, lined, opened, plain, recorded, restarted, restarted_at, resumed, taken, takes, work}
+use Rattle.lsv_machine.specs.Work.{Done, answered, can_cut, exited, finished, fits_file, has_line, last_number, line_fits, line_in, lined, opened, plain, recorded, restarted, restarted_at, resumed, taken, takes, work}
 use Rattle.lsv_machine.proofs.JobFits.{Last, Last.by_refusal, Last.by_shut, refused_last, wants_last}
 use Rattle.lsv_machine.proofs.Shapes.{its_state, without_itself}
 
@@ -118,8 +117,8 @@ last_gone set m act new (inr d) e = elim d.how [
 ]
   where
     broke : (b : Body) → Breaks set m act b new → ⊥
-    broke (body.Msg message) t = elim t.why [ | inl x ↦ broken_no act.job.conn act.answers e (wants_last act.job.conn act.answers x.0) | inr x ↦ broken_no act.job.conn act.answers e (refused_last act.job.conn act.answers x.0) ]
-    broke (body.Bad fault) t = elim t.why [ | inl x ↦ broken_no act.job.conn act.answers e (wants_last act.job.conn act.answers x.0) | inr x ↦ broken_no act.job.conn act.answers e (refused_last act.job.conn act.answers x.0) ]
+    broke (body.Msg message) t = elim t.why [ inl x ↦ broken_no act.job.conn act.answers e (wants_last act.job.conn act.answers x.0) | inr x ↦ broken_no act.job.conn act.answers e (refused_last act.job.conn act.answers x.0) ]
+    broke (body.Bad fault) t = elim t.why [ inl x ↦ broken_no act.job.conn act.answers e (wants_last act.job.conn act.answers x.0) | inr x ↦ broken_no act.job.conn act.answers e (refused_last act.job.conn act.answers x.0) ]
     broke body.Gone t = t
 
 -- ---- Who went is unknown

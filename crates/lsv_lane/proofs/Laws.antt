@@ -1,27 +1,23 @@
 -- To whom a lane replies.
-use Rattle.std.proofs.Common.{◌≡◌, ◌≢◌, ◌⊎◌, inl, inr, ◌++◌, ◌∷◌, [], List, ℕ, Bool, true, false, refl, sym, ap, subst, ◌∙◌, append_assoc, append-nil}
-use Rattle.std.specs.Prelude.{if◌then◌else◌, map}
+use Rattle.std.proofs.Common.{◌≡◌, inr, ◌++◌, ◌∷◌, [], List, ℕ, true, false, refl, sym, ap, subst, ◌∙◌, append_assoc}
+use Rattle.std.specs.Prelude.{map}
 use Rattle.std.specs.List.{flat_map, list_any}
 use Rattle.std.proofs.lemmas.List.{map-append}
 use Rattle.lsv_disk.specs.View.{DiskView}
-use Rattle.lsv_msg.specs.declared.messages.ServerMessage.{ServerMessage}
 use Rattle.lsv_session.specs.Connections.{same}
 use Rattle.lsv_session.specs.Transcript.{bodies_of}
 use Rattle.lsv_session.specs.declared.connection.ConnId.{ConnId}
-use Rattle.lsv_session.specs.declared.connection.ConnState.TheVariants.{Fresh}
 use Rattle.lsv_session.specs.declared.job.Body.{Body}
-use Rattle.lsv_session.specs.declared.job.Body.TheVariants as body
 use Rattle.lsv_session.specs.declared.job.Job.{Job}
 use Rattle.lsv_session.specs.declared.reply.Reply.{Reply}
 use Rattle.lsv_session.specs.declared.reply.ReplyBody.TheVariants as reply
-use Rattle.lsv_session.proofs.Replies.{bodies_of-append}
 use Rattle.lsv_machine.specs.Answers.{Answer, Saying, Saying.LogId, Saying.CommitPoint, Saying.Error, Saying.Shut, body_of, reply_of}
 use Rattle.lsv_machine.specs.Failures.{Act}
-use Rattle.lsv_machine.specs.Machine.{Machine, Settings}
+use Rattle.lsv_machine.specs.Machine.{Settings}
 use Rattle.lsv_machine.specs.Recovery.{Turn, all_turns}
 use Rattle.lsv_machine.specs.Silence.{EndsWithGone, NoJobs, NoneTo, NothingTo}
 use Rattle.lsv_machine.specs.Stands.{Sound}
-use Rattle.lsv_machine.specs.Turns.{Happened, Happened.Did, Happened.Tailed, Happened.Begins, Run, Tail, turn_of}
+use Rattle.lsv_machine.specs.Turns.{Happened, Happened.Did, Happened.Tailed, Happened.Begins, Tail, turn_of}
 use Rattle.lsv_machine.proofs.Choices.{SameOr.alike, SameOr.apart, same_or}
 use Rattle.lsv_machine.proofs.RunLaws.{starts_sound}
 use Rattle.lsv_machine.proofs.Silent.{none_append, silence}
@@ -29,8 +25,8 @@ use Rattle.lsv_keeper.specs.Value.{KeeperView}
 use Rattle.lsv_turns.specs.Turns as lane_turns
 use Rattle.lsv_turns.specs.Turns.{AreAskedIn, LaneTurn, NoneFor, jobs_in, replies_in}
 use Rattle.lsv_lane.specs.InnerLane.{Standing}
-use Rattle.lsv_lane.specs.Store.{AreTurns, IsTurn}
-use Rattle.lsv_lane.proofs.Silences.{Behind, BehindIn, ShutIn, behind_append, behind_in}
+use Rattle.lsv_lane.specs.Store.{AreTurns}
+use Rattle.lsv_lane.proofs.Silences.{Behind, BehindIn, behind_append, behind_in}
 
 -- ---- What a history brings and tells
 
@@ -130,7 +126,7 @@ behind_said k (a ∷ answers) [] after r b e is shut =
     let head : reply_of a ≡ r = cc in
     let rest : map reply_of answers ≡ after = cc in
     let conn : a.conn ≡ r.conn = ap (λ (x : Reply). x.conn) head in
-    let to : a.conn ≡ k = elim (same_or r.conn k) [ | alike p t ↦ conn ∙ p | apart ne t ↦ absurd (cc) ] in
+    let to : a.conn ≡ k = elim (same_or r.conn k) [ alike p t ↦ conn ∙ p | apart ne t ↦ absurd (cc) ] in
     let says : a.says ≡ Shut = says_shut a.says (ap (λ (x : Reply). x.body) head ∙ shut) in
     subst (λ (l : List Reply). NoneFor k l) rest (none_for k answers (b.0 to says))
 behind_said k (a ∷ answers) (x ∷ before) after r b e is shut = let rest : map reply_of answers ≡ before ++ r ∷ after = cc in behind_said k answers before after r b.1 rest is shut

@@ -1,6 +1,6 @@
 -- Behind a Shut nothing goes to its connection.
-use Rattle.std.proofs.Common.{◌≡◌, ◌≢◌, ◌⊎◌, inl, inr, ◌++◌, ◌∷◌, [], List, ℕ, Bool, true, false, Option, Some, None, refl, sym, ap, subst, ◌∙◌}
-use Rattle.std.specs.Prelude.{◌||◌, Contains}
+use Rattle.std.proofs.Common.{◌≡◌, ◌≢◌, ◌⊎◌, inl, inr, ◌++◌, ◌∷◌, [], List, ℕ, Bool, true, false, Some, None, refl, sym, ap, subst, ◌∙◌}
+use Rattle.std.specs.Prelude.{◌||◌}
 use Rattle.std.specs.List.{list_any}
 use Rattle.lsv_disk.specs.declared.file.Owner.{Owner}
 use Rattle.lsv_session.specs.declared.connection.ConnId.{ConnId}
@@ -9,14 +9,12 @@ use Rattle.lsv_session.specs.declared.connection.ConnState.TheVariants.{Dead, Fr
 use Rattle.lsv_session.specs.declared.job.Body.{Body}
 use Rattle.lsv_session.specs.declared.job.Body.TheVariants as body
 use Rattle.lsv_machine.specs.Answers.{Answer, Saying.Shut}
-use Rattle.lsv_machine.specs.Failures.{Act, Breaks, IsRefused, Step}
+use Rattle.lsv_machine.specs.Failures.{Act, Breaks, Step}
 use Rattle.lsv_machine.specs.Machine.{Machine, Settings, is_dead, leaves, let_go, log_of, same, with_log}
 use Rattle.lsv_machine.specs.Silence.{AllTo, EndsWithGone, NoJobs, NoneTo, NothingTo, ShutsAreDead}
 use Rattle.lsv_machine.specs.History.{Ledger}
 use Rattle.lsv_machine.specs.Stands.{Sound, as_list}
-use Rattle.lsv_machine.specs.Turns.{EndOfTurn, FlushesLines, FlushesLog, FlushesLogs, Happened, Happened.Did, Happened.Tailed, Happened.Begins, RefusesAll, RefusesOne, Run, Tail, with_lines}
-use Rattle.lsv_machine.specs.Work.{plain}
-use Rattle.lsv_machine.proofs.Choices.{SameOr.alike, SameOr.apart, same_or, same_refl}
+use Rattle.lsv_machine.specs.Turns.{EndOfTurn, FlushesLines, FlushesLog, FlushesLogs, Happened, Happened.Did, Happened.Tailed, Happened.Begins, RefusesAll, Run, Tail, with_lines}
 use Rattle.lsv_machine.proofs.Fits.{Fits}
 use Rattle.lsv_machine.proofs.RunFits.{flushed_together, lines_together}
 use Rattle.lsv_machine.proofs.JobFits.{Last, Last.by_refusal, Last.by_shut, refused_last, wants_last}
@@ -76,7 +74,7 @@ shut_dead k m (a ∷ answers) d (inl (p, q)) = go a.last refl
     go : (b : Bool) → a.last ≡ b → (m.states k ≡ Dead) ⊎ ((a.last || has_last answers) ≡ true)
     go true e = inr (rw e refl)
     go false e = inl (subst (λ (j : ConnId). m.states j ≡ Dead) p (d.0 q e))
-shut_dead k m (a ∷ answers) d (inr s) = elim (shut_dead k m answers d.1 s) [ | inl dead ↦ inl dead | inr last ↦ inr (or_true a.last (has_last answers) last) ]
+shut_dead k m (a ∷ answers) d (inr s) = elim (shut_dead k m answers d.1 s) [ inl dead ↦ inl dead | inr last ↦ inr (or_true a.last (has_last answers) last) ]
   where
     or_true : (x y : Bool) → y ≡ true → (x || y) ≡ true
     or_true true y e = refl
@@ -85,8 +83,8 @@ shut_dead k m (a ∷ answers) d (inr s) = elim (shut_dead k m answers d.1 s) [ |
 -- ---- A job
 
 broken_last : (set : Settings) (m : Machine) (act : Act) (new : Machine) (b : Body) → Breaks set m act b new → Last act.job.conn act.answers
-broken_last set m act new (body.Msg message) t = elim t.why [ | inl x ↦ wants_last act.job.conn act.answers x.0 | inr x ↦ refused_last act.job.conn act.answers x.0 ]
-broken_last set m act new (body.Bad fault) t = elim t.why [ | inl x ↦ wants_last act.job.conn act.answers x.0 | inr x ↦ refused_last act.job.conn act.answers x.0 ]
+broken_last set m act new (body.Msg message) t = elim t.why [ inl x ↦ wants_last act.job.conn act.answers x.0 | inr x ↦ refused_last act.job.conn act.answers x.0 ]
+broken_last set m act new (body.Bad fault) t = elim t.why [ inl x ↦ wants_last act.job.conn act.answers x.0 | inr x ↦ refused_last act.job.conn act.answers x.0 ]
 broken_last set m act new body.Gone t = absurd t
 
 step_behind : (set : Settings) (k : ConnId) (m : Machine) (act : Act) (new : Machine) → Step set m act new → Behind k act.answers
@@ -185,13 +183,13 @@ record Hushes (k : ConnId) (answers : List Answer) (new : Machine) : Type 0 wher
 hushes_append : (k : ConnId) (xs ys : List Answer) (mid new : Machine) → Hushes k xs mid → Hushes k ys new → (mid.states k ≡ Dead → StaysDead k ys new) → Hushes k (xs ++ ys) new
 hushes_append k xs ys mid new a b stays = record {
   behind = behind_append k xs ys a.behind b.behind (λ s. (stays (a.dead s)).none);
-  dead = λ s. elim (shut_parts k xs ys s) [ | inl x ↦ (stays (a.dead x)).dead | inr y ↦ b.dead y ];
+  dead = λ s. elim (shut_parts k xs ys s) [ inl x ↦ (stays (a.dead x)).dead | inr y ↦ b.dead y ];
 }
   where
     shut_parts : (k : ConnId) (xs ys : List Answer) → ShutIn k (xs ++ ys) → ShutIn k xs ⊎ ShutIn k ys
     shut_parts k [] ys s = inr s
     shut_parts k (x ∷ xs) ys (inl p) = inl (inl p)
-    shut_parts k (x ∷ xs) ys (inr s) = elim (shut_parts k xs ys s) [ | inl p ↦ inl (inr p) | inr q ↦ inr q ]
+    shut_parts k (x ∷ xs) ys (inr s) = elim (shut_parts k xs ys s) [ inl p ↦ inl (inr p) | inr q ↦ inr q ]
 
 hushes_none : (k : ConnId) (answers : List Answer) (new : Machine) → answers ≡ [] → Hushes k answers new
 hushes_none k answers new e = rw e (record { behind = tt; dead = λ s. absurd s })
@@ -214,7 +212,7 @@ refuses_hushes failed (j ∷ conns) k answers m new (inr (living, (mid, its, res
     (λ d. refuses_stays failed conns k rest mid new d more))
 
 flush_hushes : (failed : List Owner) (n : ℕ) (k : ConnId) (answers : List Answer) (m mid : Machine) → FlushesLog failed n answers m mid → Hushes k answers mid
-flush_hushes failed n k answers m mid (inl t) = rw t.told (record { behind = ((λ p q. tt), tt); dead = λ s. elim s [ | inl x ↦ absurd (let e = x.1 in cc) | inr y ↦ absurd y ] })
+flush_hushes failed n k answers m mid (inl t) = rw t.told (record { behind = ((λ p q. tt), tt); dead = λ s. elim s [ inl x ↦ absurd (let e = x.1 in cc) | inr y ↦ absurd y ] })
 flush_hushes failed n k answers m mid (inr t) = hushes_died t.writer k answers (with_log n t.log m) mid t.now (refused_last t.writer answers t.told)
 
 flushes_hushes : (set : Settings) (failed : List Owner) (numbers : List ℕ) (k : ConnId) (answers : List Answer) (m new : Machine) → Sound set m → FlushesLogs failed numbers answers m new → Hushes k answers new

@@ -22,7 +22,7 @@ use Rattle.lsv_keeper.specs.Tails.{TurnGives}
 use Rattle.lsv_keeper.specs.Value.{IsResting, KeeperView, SameSet, event_line, settings_of}
 use Rattle.lsv_turns.specs.Turns.{LaneTurn, TapeTurn, all_taped, taped}
 use Rattle.lsv_lane.specs.InnerLane.{IsMade, Standing}
-use Rattle.lsv_lane.specs.Store.{AreTimed, lane_settings}
+use Rattle.lsv_lane.specs.Store.{lane_settings}
 use Rattle.lsv_lane.proofs.TurnLists.{all_last, are_turns_last, taped_last}
 
 -- ---- Settings

@@ -1,13 +1,9 @@
 -- Turns with one turn more.
-use Rattle.std.proofs.Common.{◌≡◌, ◌++◌, ◌∷◌, [], List, ℕ, refl, sym, ap, ◌∙◌, append-nil}
-use Rattle.std.specs.Prelude.{map}
+use Rattle.std.proofs.Common.{◌≡◌, ◌++◌, ◌∷◌, [], List}
 use Rattle.std.specs.List.{AllByRecursion}
-use Rattle.std.proofs.lemmas.Grind.{flat_map-append}
 use Rattle.std.proofs.lemmas.List.{map-append}
-use Rattle.lsv_session.specs.declared.job.Job.{Job}
-use Rattle.lsv_session.specs.declared.reply.Reply.{Reply}
 use Rattle.lsv_machine.specs.Recovery.{Turn}
-use Rattle.lsv_turns.specs.Turns.{LaneTurn, TapeTurn, all_taped, jobs_in, replies_in, taped}
+use Rattle.lsv_turns.specs.Turns.{LaneTurn, all_taped, taped}
 use Rattle.lsv_lane.specs.Store.{AreTurns, IsTurn}
 
 pub all_last : {A : Type 0} (P : A → Type 0) (xs : List A) (x : A) → AllByRecursion P xs → P x → AllByRecursion P (xs ++ x ∷ [])

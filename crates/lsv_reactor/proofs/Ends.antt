@@ -1,7 +1,6 @@
 -- What a worker's own jobs and replies say of its port, all say.
-use Rattle.std.proofs.Common.{◌≡◌, ◌≢◌, ◌++◌, ◌∷◌, [], List, ℕ, Bool, true, false, Option, Some, None, refl, sym, ap, subst, ◌∙◌, inl, inr, ◌⊎◌}
+use Rattle.std.proofs.Common.{◌≡◌, ◌≢◌, ◌++◌, ◌∷◌, [], List, ℕ, Bool, true, false, Option, Some, None, refl, sym, ap, subst, ◌∙◌}
 use Rattle.std.specs.Prelude.{◌==◌, ◌&&◌, ◌||◌, not, if◌then◌else◌}
-use Rattle.std.specs.List.{Contains, list_any}
 use Rattle.lsv_wire.specs.Frame.{frame_of}
 use Rattle.lsv_msg.specs.Messages.{server_bytes}
 use Rattle.lsv_msg.specs.declared.messages.ServerMessage.{ServerMessage}
@@ -11,11 +10,10 @@ use Rattle.lsv_session.specs.declared.connection.ConnId.{ConnId}
 use Rattle.lsv_session.specs.declared.job.Body.{Body}
 use Rattle.lsv_session.specs.declared.job.Job.{Job}
 use Rattle.lsv_session.specs.declared.reply.Reply.{Reply}
-use Rattle.lsv_session.specs.declared.reply.ReplyBody.TheVariants.{Shut}
 use Rattle.lsv_turns.specs.Turns.{AreAsked, EndsWithGone, NoneFor, is_shut, shuts}
 use Rattle.lsv_reactor.specs.Links.{IsServed, PortView, ServesLink, ServesPort, conn_of}
 use Rattle.lsv_reactor.specs.Turns.{jobs_of, replies_to}
-use Rattle.lsv_reactor.proofs.Own.{EqOr, EqOr.equal, EqOr.unequal, contains_own, eq_or}
+use Rattle.lsv_reactor.proofs.Own.{EqOr.equal, EqOr.unequal, contains_own, eq_or}
 
 -- ---- Its own connections
 
@@ -53,7 +51,7 @@ answers_own w seq replies = ap (λ (l : List ServerMessage). frame_of (server_by
 
 none_own : (w : ℕ) (k : ConnId) (replies : List Reply) → NoneFor k replies → NoneFor k (replies_to w replies)
 none_own w k [] n = tt
-none_own w k (r ∷ replies) n = elim (eq_or r.conn.worker w) [ | equal e t ↦ rw t (n.0, none_own w k replies n.1) | unequal ne t ↦ rw t (none_own w k replies n.1) ]
+none_own w k (r ∷ replies) n = elim (eq_or r.conn.worker w) [ equal e t ↦ rw t (n.0, none_own w k replies n.1) | unequal ne t ↦ rw t (none_own w k replies n.1) ]
 
 -- to a connection of another worker
 none_other : (w : ℕ) (k : ConnId) (replies : List Reply) → k.worker ≢ w → NoneFor k (replies_to w replies)

@@ -1,5 +1,5 @@
 -- What of a list is one worker's own.
-use Rattle.std.proofs.Common.{◌≡◌, ◌≢◌, ◌++◌, ◌∷◌, [], List, ℕ, Bool, true, false, length, ◌≤◌, refl, sym, ap, subst, ◌∙◌, append-nil, inl, inr, ◌⊎◌, arith}
+use Rattle.std.proofs.Common.{◌≡◌, ◌≢◌, ◌++◌, ◌∷◌, [], List, ℕ, Bool, true, false, length, ◌≤◌, refl, sym, ap, subst, ◌∙◌, inl, inr, arith}
 use Rattle.std.specs.Prelude.{◌==◌, ◌<◌, zero, suc, if◌then◌else◌, slice_index_or}
 use Rattle.std.specs.List.{Contains}
 use Rattle.std.proofs.lemmas.List.Elements.{Contains-append_cases, Contains-append_right}
@@ -50,10 +50,10 @@ other_jobs v w (x ∷ xs) ne all = elim (eq_or x.conn.worker w) [
 
 -- a reply is of the one worker's own
 pub own_reply : (w : ℕ) (r : Reply) → r.conn.worker ≡ w → replies_to w (r ∷ []) ≡ r ∷ []
-own_reply w r e = elim (eq_or r.conn.worker w) [ | equal p t ↦ rw t refl | unequal ne t ↦ absurd (ne e) ]
+own_reply w r e = elim (eq_or r.conn.worker w) [ equal p t ↦ rw t refl | unequal ne t ↦ absurd (ne e) ]
 
 pub other_reply : (w : ℕ) (r : Reply) → r.conn.worker ≢ w → replies_to w (r ∷ []) ≡ []
-other_reply w r ne = elim (eq_or r.conn.worker w) [ | equal p t ↦ absurd (ne p) | unequal differs t ↦ rw t refl ]
+other_reply w r ne = elim (eq_or r.conn.worker w) [ equal p t ↦ absurd (ne p) | unequal differs t ↦ rw t refl ]
 
 -- ---- One of a list
 

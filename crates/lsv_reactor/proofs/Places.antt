@@ -1,5 +1,5 @@
 -- Posts at their places, of which one does something.
-use Rattle.std.proofs.Common.{◌≡◌, ◌≢◌, ◌<◌, ◌≤◌, ◌++◌, ◌∷◌, [], List, ℕ, Some, None, length, refl, sym, ap, subst, ◌∙◌, append-nil, arith, get_or, inl, inr}
+use Rattle.std.proofs.Common.{◌≡◌, ◌≢◌, ◌<◌, ◌≤◌, ◌++◌, ◌∷◌, [], List, ℕ, Some, length, sym, ap, subst, ◌∙◌, append-nil, arith, get_or, inl, inr}
 use Rattle.std.specs.Prelude.{slice_get}
 use Rattle.std.proofs.Math.ListN.{set}
 use Rattle.std.proofs.lemmas.List.{get_or-set_same, get_or-set_other, length-set}
@@ -10,7 +10,7 @@ use Rattle.lsv_reactor.specs.InnerLoop.{ArePosts, IsPost}
 use Rattle.lsv_reactor.specs.Turns.{AreOf, jobs_of, replies_to}
 use Rattle.std.specs.List.{Contains}
 use Rattle.std.proofs.lemmas.List.Elements.{Contains-append_cases}
-use Rattle.lsv_reactor.proofs.Own.{only_one, EqOr, EqOr.equal, EqOr.unequal, eq_or, jobs_append, other_jobs, other_reply, own_jobs, own_reply, replies_append}
+use Rattle.lsv_reactor.proofs.Own.{only_one, EqOr.equal, EqOr.unequal, eq_or, jobs_append, other_jobs, other_reply, own_jobs, own_reply, replies_append}
 
 -- a job of a worker's own is of that worker
 of_worker : (w : ℕ) (jobs : List Job) (job : Job) → AreOf w jobs → Contains jobs job → job.conn.worker ≡ w

@@ -4,7 +4,7 @@ use Rattle.std.specs.List.{Contains}
 use Rattle.lsv_session.specs.declared.job.Job.{Job}
 use Rattle.lsv_session.specs.declared.reply.Reply.{Reply}
 use Rattle.lsv_reactor.specs.Turns.{AreSized, jobs_of, replies_to}
-use Rattle.lsv_turns.specs.Turns.{AreAskedIn, LaneTurn, jobs_in, replies_in}
+use Rattle.lsv_turns.specs.Turns.{AreAskedIn, LaneTurn}
 
 -- a post is numbered by its place; and of these jobs it gave its own, and of these replies it took its own
 pub record IsPost {T S : Type 0} (number : T → ℕ) (made_by : S → T → List Job → List Reply → Type 0) (start : S) (i : ℕ) (post : T) (jobs : List Job) (replies : List Reply) : Type 0 where

@@ -29,11 +29,7 @@ fn are_over<T: Post>(posts: &[T]) -> bool
 }
 
 /// Visits each post.
-fn visit_all<T: Post, L: Lane>(
-    alloc: Global,
-    posts: &mut [T],
-    lane: &mut L,
-) -> Result<(), NoMem>
+fn visit_all<T: Post, L: Lane>(alloc: Global, posts: &mut [T], lane: &mut L) -> Result<(), NoMem>
     requires begun { (starts : ℕ → T.Start) × (start : L.Start) × (turns : List LaneTurn) × ArePosts T.number T.made_by starts posts.old (jobs_in turns) (replies_in turns) × IsLane L.tells L.made_by start lane.old turns }
     ensures ok { OnOk result ((starts : ℕ → T.Start) (start : L.Start) (turns : List LaneTurn) → ArePosts T.number T.made_by starts posts.old (jobs_in turns) (replies_in turns) → IsLane L.tells L.made_by start lane.old turns →
         (more : List LaneTurn) × ArePosts T.number T.made_by starts posts.new (jobs_in more) (replies_in more) × IsLane L.tells L.made_by start lane.new more) }
@@ -56,11 +52,7 @@ fn stop_all<T: Post>(posts: &mut [T]) {
 }
 
 /// Visits the posts until nothing more is to come of any.
-fn run<T: Post, L: Lane>(
-    alloc: Global,
-    posts: &mut [T],
-    lane: &mut L,
-) -> Result<(), NoMem>
+fn run<T: Post, L: Lane>(alloc: Global, posts: &mut [T], lane: &mut L) -> Result<(), NoMem>
     requires begun { (starts : ℕ → T.Start) × (start : L.Start) × (turns : List LaneTurn) × ArePosts T.number T.made_by starts posts.old (jobs_in turns) (replies_in turns) × IsLane L.tells L.made_by start lane.old turns }
     ensures ok { OnOk result ((starts : ℕ → T.Start) (start : L.Start) (turns : List LaneTurn) → ArePosts T.number T.made_by starts posts.old (jobs_in turns) (replies_in turns) → IsLane L.tells L.made_by start lane.old turns →
         (more : List LaneTurn) × IsLane L.tells L.made_by start lane.new more
@@ -82,11 +74,7 @@ fn run<T: Post, L: Lane>(
 
 /// Serves what comes at these posts, each numbered by its place, by turns of the lane, until nothing more is to come of any.
 /// Out of memory all links are closed.
-pub fn serve<T: Post, L: Lane>(
-    alloc: Global,
-    posts: &mut [T],
-    lane: &mut L,
-) -> Result<(), NoMem>
+pub fn serve<T: Post, L: Lane>(alloc: Global, posts: &mut [T], lane: &mut L) -> Result<(), NoMem>
     requires numbered { (i : ℕ) (post : T) → slice_get posts.old i ≡ Some post → T.number post ≡ i }
     requires posts { (starts : ℕ → T.Start) × ((i : ℕ) (post : T) → slice_get posts.old i ≡ Some post → T.made_by (starts i) post [] []) }
     requires lane { (start : L.Start) × L.made_by start lane.old [] }

@@ -1,5 +1,5 @@
 -- The turns of a lane: what came in each, at which moment, and what was replied.
-use Rattle.std.specs.Prelude.{◌≡◌, ◌&&◌, ◌++◌, ℕ, Bool, true, false, not, List, [], ◌∷◌, map}
+use Rattle.std.specs.Prelude.{◌≡◌, ◌&&◌, ◌++◌, Bool, true, false, not, List, [], ◌∷◌, map}
 use Rattle.std.specs.List.{flat_map, list_any}
 use Rattle.lsv_base.specs.declared.time.TimeSpec.{TimeSpec}
 use Rattle.lsv_session.specs.Connections.{same}

@@ -1,16 +1,9 @@
-use Rattle.std.proofs.Common.{◌≡◌, ◌<◌, ◌≤◌, ◌++◌, ◌∷◌, [], List, ℕ, length, refl, sym, ap, subst, ◌∙◌, arith, append-nil}
-use Rattle.lsv_session.specs.declared.job.Job.{Job}
-use Rattle.lsv_session.specs.declared.reply.Reply.{Reply}
-use Rattle.lsv_turns.specs.Turns.{AreAsked, LaneTurn, jobs_in, replies_in}
-use Rattle.lsv_reactor.specs.InnerLoop.{ArePosts, IsLane}
+use Rattle.std.proofs.Common.{◌≡◌, ◌<◌, ℕ, length, sym, subst, ◌∙◌, arith}
+use Rattle.lsv_turns.specs.Turns.{AreAsked}
 use Rattle.lsv_reactor.specs.Links.{ServesPort}
-use Rattle.lsv_reactor.specs.Turns.{jobs_of, most_jobs, replies_to}
-use Rattle.lsv_reactor.proofs.Ends.{serves_own}
-use Rattle.lsv_reactor.proofs.Places.{at_place, drops, gives, takes}
-use Rattle.lsv_reactor.proofs.TurnLemmas.{lane_begins, lane_turned, posts_begin, posts_none, posts_turned}
 use Rattle.std.specs.Prelude.{Some, slice_get}
 use Rattle.std.proofs.lemmas.Option.{get_or_from_slice_get, slice_get_within}
-use Rattle.lsv_reactor.proofs.Own.{EqOr, EqOr.equal, EqOr.unequal, eq_or}
+use Rattle.lsv_reactor.proofs.Own.{EqOr.equal, EqOr.unequal, eq_or}
 use Rattle.lsv_reactor.proofs.rounds.are_over.Goals as goal
 
 pub loop-post-preserved : goal.loop-post-preserved

@@ -1,13 +1,6 @@
-use Rattle.std.proofs.Common.{◌≡◌, ◌<◌, ◌≤◌, ◌++◌, ◌∷◌, [], List, ℕ, length, refl, sym, ap, subst, ◌∙◌, arith, append-nil}
-use Rattle.lsv_session.specs.declared.job.Job.{Job}
-use Rattle.lsv_session.specs.declared.reply.Reply.{Reply}
-use Rattle.lsv_turns.specs.Turns.{AreAsked, LaneTurn, jobs_in, replies_in}
+use Rattle.std.proofs.Common.{List, ℕ}
+use Rattle.lsv_turns.specs.Turns.{LaneTurn, jobs_in, replies_in}
 use Rattle.lsv_reactor.specs.InnerLoop.{ArePosts, IsLane}
-use Rattle.lsv_reactor.specs.Links.{ServesPort}
-use Rattle.lsv_reactor.specs.Turns.{jobs_of, most_jobs, replies_to}
-use Rattle.lsv_reactor.proofs.Ends.{serves_own}
-use Rattle.lsv_reactor.proofs.Places.{at_place, drops, gives, takes}
-use Rattle.lsv_reactor.proofs.TurnLemmas.{lane_begins, lane_turned, posts_begin, posts_none, posts_turned}
 use Rattle.lsv_reactor.proofs.rounds.visit_all.Given as goal
 
 abbrev pub invariant-visits : goal.invariant-visits

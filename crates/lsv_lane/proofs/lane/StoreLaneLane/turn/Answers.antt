@@ -1,4 +1,4 @@
-use Rattle.std.proofs.Common.{◌≡◌, List, ◌∙◌}
+use Rattle.std.proofs.Common.{◌∙◌}
 use Rattle.lsv_keeper.specs.Views.{view_of}
 use Rattle.lsv_turns.specs.Turns.{LaneTurn}
 use Rattle.lsv_lane.specs.InnerLane.{IsMade}
