@@ -52,3 +52,9 @@ runs_unopened tells taping set texts found left tape tape' fault same keeps plac
   keeps = λ told. keeps_less ⊥ (IsUp (unopened fault) []) set texts (record { found = found; left = left }) [] (not_up fault) (keeps told);
   places = places;
 }
+
+-- an end of a run whose store was opened needs no cause
+pub opened_cause : (tells : Type 0) (found left : DiskView) (end : End) → ((fault : StoreFault) → end ≡ Store fault → ⊥) → HasEndCause tells found left end
+opened_cause tells found left Over no_fault = tt
+opened_cause tells found left (Store fault) no_fault = absurd (no_fault fault refl)
+opened_cause tells found left NoMem no_fault = tt

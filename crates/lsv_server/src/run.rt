@@ -50,7 +50,7 @@ fn serve_lane<T: Post, D: Disk, C: Clock, G: Tape, F: LineWriter + Drop, H: Sear
     ensures runs { (starts : ℕ → T.Start) (start : Begun D G) → ((i : ℕ) (post : T) → slice_get posts.old i ≡ Some post → T.made_by (starts i) post [] []) → ⟦<StoreLane<D, C, G, F, H> as Lane>⟧.made_by start lane [] →
         (turns : List LaneTurn) × RunsStore D.tells G.tells start.set start.texts (D.view start.disk) (D.view result.0.disk) (G.turns start.tape) (G.turns result.0.tape) result.1 turns
         × (T.tells → result.1 ≡ End.Over → ServesAll D.tells T.begun T.view starts posts.new turns) }
-    ensures cause { (start : Begun D G) → HasEndCause D.tells (D.view start.disk) (D.view result.0.disk) result.1 }
+    ensures opened { (fault : StoreFault) → result.1 ≡ End.Store fault → ⊥ }
 {
     let mut lane = lane;
     match serve(alloc, posts, &mut lane) {

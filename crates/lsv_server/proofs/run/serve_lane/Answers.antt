@@ -25,10 +25,10 @@ returns-in-Err-clause-runs g c = λ starts start made lane.
       record {
         some = tt;
         sized = r.2;
-        timed = c.into_bay.ensures.timed start r.0 r.1;
-        taped = λ told. c.into_bay.ensures.taped told start r.0 r.1;
-        keeps = λ told. keeps_less (Unit {0}) (r.0 ≢ []) start.set start.texts _ r.0 (λ up. tt) (c.into_bay.ensures.kept told start r.0 r.1);
-        places = λ told. c.into_bay.ensures.places told start r.0 r.1;
+        timed = c.into_bay-in-Err.ensures.timed start r.0 r.1;
+        taped = λ told. c.into_bay-in-Err.ensures.taped told start r.0 r.1;
+        keeps = λ told. keeps_less (Unit {0}) (r.0 ≢ []) start.set start.texts _ r.0 (λ up. tt) (c.into_bay-in-Err.ensures.kept told start r.0 r.1);
+        places = λ told. c.into_bay-in-Err.ensures.places told start r.0 r.1;
       },
       λ told over. absurd (cc),
     )

@@ -1,6 +1,6 @@
 use Rattle.std.proofs.Common.{[], ap}
 use Rattle.lsv_lane.specs.Store.{lane_settings}
-use Rattle.lsv_server.proofs.RunLemmas.{not_over, runs_unopened, unopened_cause}
+use Rattle.lsv_server.proofs.RunLemmas.{not_over, opened_cause, runs_unopened, unopened_cause}
 use Rattle.lsv_server.proofs.run.serve_store.Goals as goal
 
 pub returns-in-Ok-clause-runs : goal.returns-in-Ok-clause-runs
@@ -18,3 +18,9 @@ returns-in-Err-clause-runs g c = λ starts made. rw c.unopened-end.ensures (
 pub returns-in-Err-clause-cause : goal.returns-in-Err-clause-cause
 returns-in-Err-clause-cause g c =
     rw c.unopened-end.ensures (unopened_cause g.D.Disk.tells (g.D.Disk.view c.args.bay.disk) (g.D.Disk.view c.in-Err.failed.bay.disk) c.in-Err.failed.fault c.in-Err.ensures.fault c.in-Err.ensures.cause)
+
+pub returns-in-Ok-clause-cause : goal.returns-in-Ok-clause-cause
+returns-in-Ok-clause-cause g c = opened_cause g.D.Disk.tells (g.D.Disk.view c.args.bay.disk) (g.D.Disk.view c.serve_lane.result.0.disk) c.serve_lane.result.1 c.serve_lane.ensures.opened
+
+pub returns-in-Ok-clause-unserved : goal.returns-in-Ok-clause-unserved
+returns-in-Ok-clause-unserved g c = λ fault e. absurd (c.serve_lane.ensures.opened fault e)
