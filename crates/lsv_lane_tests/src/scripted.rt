@@ -1,11 +1,25 @@
-//! A post whose messages are fixed beforehand.
+//! A post whose messages are fixed beforehand, and a clock that stands still.
 
 ghost use Rattle.lsv_lane_tests.specs.Nothing.{no_port};
 
+use lsv_base::{Clock, TimeSpec};
 use lsv_reactor::Post;
 use lsv_session::{Body, ConnId, Job, Reply, ReplyBody};
 
-/// One connection that brings these, one at a time, and counts what it is told.
+/// A clock that stands still.
+pub(crate) struct Still;
+
+impl Clock for Still {
+    fn now(&mut self) -> TimeSpec {
+        TimeSpec {
+            sec: 1_700_000_000,
+            nsec: 0,
+        }
+    }
+}
+
+/// One connection that brings these, the last first and one at a time, and counts what it is told.
+#[derive(Drop)]
 pub(crate) struct Scripted {
     pub number: u32,
     pub bodies: Vec<Body>,

@@ -1,5 +1,4 @@
-use Rattle.std.proofs.Common.{◌≢◌, [], List}
-use Rattle.lsv_turns.specs.Turns.{LaneTurn}
+use Rattle.std.proofs.Common.{◌≢◌, []}
 use Rattle.lsv_server.proofs.RunLemmas.{keeps_less}
 use Rattle.lsv_server.proofs.run.serve_lane.Goals as goal
 
