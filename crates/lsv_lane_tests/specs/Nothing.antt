@@ -1,5 +1,5 @@
 -- A port of which nothing is told.
-use Rattle.std.specs.Prelude.{ℕ, [], false}
+use Rattle.std.specs.Prelude.{[], false}
 use Rattle.lsv_port.specs.Port.{fresh_link}
 use Rattle.lsv_reactor.specs.Links.{PortView}
 

@@ -7,6 +7,7 @@ use lsv_reactor::Post;
 use lsv_session::{Body, ConnId, Job, Reply, ReplyBody};
 
 /// A clock that stands still.
+#[derive(Drop)]
 pub(crate) struct Still;
 
 impl Clock for Still {
