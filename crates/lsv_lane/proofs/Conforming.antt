@@ -1,0 +1,58 @@
+-- What a lane did with its store.
+use Rattle.std.proofs.Common.{◌≡◌, [], List, ℕ, Option, None, refl, subst, arith, ◌≤◌}
+use Rattle.lsv_disk.specs.View.{DiskView, Image, IsCrashImage}
+use Rattle.lsv_session.specs.declared.connection.ConnId.{ConnId}
+use Rattle.lsv_machine.specs.Disks.{NumbersFit}
+use Rattle.lsv_machine.specs.Durable.{Reading}
+use Rattle.lsv_machine.specs.Keeping.{OpensStore}
+use Rattle.lsv_machine.specs.Machine.{Machine, Settings}
+use Rattle.lsv_machine.specs.Recovery.{Recovers, Story}
+use Rattle.lsv_machine.specs.Turns.{Happened, Run}
+use Rattle.lsv_machine.proofs.Recovering.{only_opened}
+use Rattle.lsv_machine.proofs.RunLaws.{one_writer}
+use Rattle.lsv_keeper.specs.Reading.{reading_of}
+use Rattle.lsv_keeper.specs.Represents.{Free, LogIs}
+use Rattle.lsv_keeper.specs.Value.{KeeperView}
+use Rattle.lsv_turns.specs.Turns.{LaneTurn}
+use Rattle.lsv_lane.specs.InnerLane.{Standing}
+use Rattle.lsv_lane.specs.Store.{Conforms, KeepsStore}
+
+-- a log that nobody writes reads as the machine says
+free_reads : (v : KeeperView) (disk : DiskView) (m : Machine) (n : ℕ) → m.owner n ≡ None → LogIs v disk m n (m.owner n) → Free v disk m n
+free_reads v disk m n e is = subst (λ (o : Option ConnId). LogIs v disk m n o) e is
+
+conforms : (set : Settings) (texts : List (List ℕ)) (found now : DiskView) (v : KeeperView) (turns : List LaneTurn) → (s : Standing set texts found now v turns) → Conforms set texts (record { found = found; left = now }) s.story
+conforms set texts found now v turns s = record {
+  end = s.machine;
+  ran = s.so_far.ran;
+  one_writer = λ n before run rest e. one_writer set n before run rest texts s.so_far.ran.start s.machine s.so_far.ran.starts (subst (λ (h : List Happened). Run set s.so_far.ran.start h s.machine) e s.so_far.ran.run);
+  logs = λ n e. (free_reads v now s.machine n e (s.represents.logs n)).reads;
+  lines = s.so_far.lines;
+}
+
+-- what a run did with the store
+pub keeps : (opened : Type 0) (set : Settings) (texts : List (List ℕ)) (found now : DiskView) (v : KeeperView) (turns : List LaneTurn) → Standing set texts found now v turns → KeepsStore opened set texts (record { found = found; left = now }) turns
+keeps opened set texts found now v turns s = record {
+  story = s.story;
+  are = s.same;
+  conforms = λ up. conforms set texts found now v turns s;
+  recovers = s.so_far.recovers;
+}
+
+-- and where the store wasn't opened
+pub keeps_none : (set : Settings) (texts : List (List ℕ)) (found now : DiskView) → OpensStore (reading_of set.lane set.lanes) set.lane set.lanes found now → KeepsStore ⊥ set texts (record { found = found; left = now }) []
+keeps_none set texts found now opens = record {
+  story = record { opened = now.moment; turns = [] };
+  are = tt;
+  conforms = λ up. absurd up;
+  recovers = only_opened (reading_of set.lane set.lanes) set.lane set.lanes texts found now opens;
+}
+
+-- the numbers fit at the end of a run
+pub fit_now : (r : Reading) (lane lanes : ℕ) (texts : List (List ℕ)) (found left : DiskView) (s : Story) → ((image : Image) → IsCrashImage left image → left.crash_images_at left.moment image)
+    → Recovers r lane lanes texts (record { found = found; left = left }) s → NumbersFit r lane lanes (IsCrashImage found) → NumbersFit r lane lanes (IsCrashImage left)
+fit_now r lane lanes texts found left s is_now rec fit =
+    let spans = rec.spans in
+    let later : found.moment ≤ left.moment = let a = spans.first in let b = spans.within [] s.turns refl in omega arith in
+    let at = rec.numbers fit left.moment later (omega arith) in
+    record { told = λ image is. at.told image (is_now image is); none_above = λ a b last n is it. at.none_above a b last n (is_now a is) (is_now b it) }

@@ -1,0 +1,154 @@
+-- What the keeper and the disk stand for behind an opening, and behind each turn.
+use Rattle.std.proofs.Common.{◌≡◌, ◌++◌, ◌∷◌, [], List, ℕ, Bool, Option, Some, None, refl, sym, ap, subst, ◌∙◌, append_assoc}
+use Rattle.std.specs.Prelude.{IsSome}
+use Rattle.lsv_base.specs.Time.{nanos_of}
+use Rattle.lsv_base.specs.declared.time.TimeSpec.{TimeSpec}
+use Rattle.lsv_disk.specs.View.{DiskView, IsCrashImage}
+use Rattle.lsv_event.specs.declared.event.Kind.{Kind}
+use Rattle.lsv_session.specs.Table.{Sessions}
+use Rattle.lsv_session.specs.declared.connection.ConnId.{ConnId}
+use Rattle.lsv_session.specs.declared.job.Job.{Job}
+use Rattle.lsv_session.specs.declared.reply.Reply.{Reply}
+use Rattle.lsv_machine.specs.Disks.{NumbersFit}
+use Rattle.lsv_machine.specs.InnerSoFar.{with_turn}
+use Rattle.lsv_machine.specs.Keeping.{Opened, Turned}
+use Rattle.lsv_machine.specs.Machine.{Machine, Settings}
+use Rattle.lsv_machine.proofs.Recovering.{opening_begins, turn_joins}
+use Rattle.lsv_keeper.specs.Opening.{IsSetTo, OpensAs}
+use Rattle.lsv_keeper.specs.Reading.{reading_of}
+use Rattle.lsv_keeper.specs.Represents.{LogIs, Represents}
+use Rattle.lsv_keeper.specs.Room.{IsRoomier}
+use Rattle.lsv_keeper.specs.Tails.{TurnGives}
+use Rattle.lsv_keeper.specs.Value.{IsResting, KeeperView, SameSet, event_line, settings_of}
+use Rattle.lsv_turns.specs.Turns.{LaneTurn, TapeTurn, all_taped, taped}
+use Rattle.lsv_lane.specs.InnerLane.{IsMade, Standing}
+use Rattle.lsv_lane.specs.Store.{lane_settings}
+use Rattle.lsv_lane.proofs.TurnLists.{all_last, are_turns_last, taped_last}
+
+-- ---- Settings
+
+set_same : (v w : KeeperView) → SameSet v w → settings_of w ≡ settings_of v
+set_same v w e = λ i. record { lane = e.lane i; lanes = e.lanes i; log_exit = e.log_exit i; line_of = λ now k asked log. event_line (e.kind i) now k asked log }
+
+set_to : (lane lanes : ℕ) (kind : Kind) (log_exit : Bool) (texts : List (List ℕ)) (v : KeeperView) → IsSetTo lane lanes kind log_exit texts v → settings_of v ≡ lane_settings lane lanes kind log_exit
+set_to lane lanes kind log_exit texts v e = λ i. record { lane = e.lane_is i; lanes = e.lanes_is i; log_exit = e.log_exit_is i; line_of = λ now k asked log. event_line (e.kind_is i) now k asked log }
+
+-- ---- Room
+
+-- a keeper with another table is this one
+other_table : (v w : KeeperView) → IsRoomier v w → w ≡ record v { table = w.table }
+other_table v w r = ap (λ (y : KeeperView). record y { table = w.table }) r.others
+
+roomier_set : (v w : KeeperView) → IsRoomier v w → SameSet v w
+roomier_set v w r = record {
+  lane = ap (λ (y : KeeperView). y.lane) r.others;
+  lanes = ap (λ (y : KeeperView). y.lanes) r.others;
+  log_exit = ap (λ (y : KeeperView). y.log_exit) r.others;
+  kind = ap (λ (y : KeeperView). y.kind) r.others;
+  texts = ap (λ (y : KeeperView). y.texts) r.others;
+}
+
+log_is : (v : KeeperView) (t : _) (disk : DiskView) (m : Machine) (n : ℕ) (o : Option ConnId) → LogIs v disk m n o → LogIs (record v { table = t }) disk m n o
+log_is v t disk m n None f = record { closed = f.closed; reads = f.reads; enough = f.enough }
+log_is v t disk m n (Some k) h = record { its = h.its; here = h.here; value = h.value; represents = h.represents; number = h.number; going = h.going; mask = h.mask; promised = h.promised; there = h.there; enough = h.enough }
+
+pub roomier_stands : (v w : KeeperView) (disk : DiskView) (m : Machine) → IsRoomier v w → Represents v disk m → Represents w disk m
+roomier_stands v w disk m r is = subst (λ (y : KeeperView). Represents y disk m) (sym (other_table v w r)) (record {
+  sound = is.sound;
+  few_lanes = is.few_lanes;
+  texts = is.texts;
+  states = λ k. is.states k ∙ ap (λ (s : Sessions). s.states k) (sym r.sessions_are);
+  owner = λ n. is.owner n ∙ ap (λ (s : Sessions). s.owner n) (sym r.sessions_are);
+  waiting = is.waiting;
+  noting = is.noting;
+  rising = is.rising;
+  waits = is.waits;
+  logs = λ n. log_is v w.table disk m n (m.owner n) (is.logs n);
+  numbers = is.numbers;
+  unmade = is.unmade;
+  events = is.events;
+})
+
+pub roomier_rests : (v w : KeeperView) → IsRoomier v w → IsResting v → IsResting w
+roomier_rests v w r rests = record { none_waits = ap (λ (y : KeeperView). y.waiting) r.others ∙ rests.none_waits; nobody_noted = ap (λ (y : KeeperView). y.noting) r.others ∙ rests.nobody_noted }
+
+-- what a turn gives from a keeper with more room, it gives from this one
+roomier_gives : (v w : KeeperView) (now : TimeSpec) (jobs : List Job) (m : Machine) (said said' : List Reply) (v' : KeeperView) (old new : DiskView) → IsRoomier v w
+    → TurnGives w now jobs m said said' v' old new → TurnGives v now jobs m said said' v' old new
+roomier_gives v w now jobs m said said' v' old new r g =
+    let t : TurnGives (record v { table = w.table }) now jobs m said said' v' old new = subst (λ (y : KeeperView). TurnGives y now jobs m said said' v' old new) (other_table v w r) g in
+    record { replies = t.replies; after = t.after; told = t.told; turned = t.turned; no_line = t.no_line; represents = t.represents }
+
+-- ---- Behind an opening
+
+standing_open : (lane lanes : ℕ) (kind : Kind) (log_exit : Bool) (texts : List (List ℕ)) (found new : DiskView) (v : KeeperView) → IsSetTo lane lanes kind log_exit texts v → NumbersFit (reading_of lane lanes) lane lanes (IsCrashImage found)
+    → OpensAs lane lanes texts found new v → Standing (lane_settings lane lanes kind log_exit) texts found new v []
+standing_open lane lanes kind log_exit texts found new v is fit (m, opened, represents, none) =
+    let set = lane_settings lane lanes kind log_exit in
+    let opens : Opened (reading_of lane lanes) set texts m found new = subst (λ (s : Settings). Opened (reading_of lane lanes) s texts m found new) (set_to lane lanes kind log_exit texts v is) opened in
+    record { machine = m; story = record { opened = new.moment; turns = [] }; so_far = opening_begins (reading_of lane lanes) set texts m found new fit opens; same = tt; represents = represents; places = opens.store.files.places }
+
+pub made_open : (tells taping : Type 0) (lane lanes : ℕ) (kind : Kind) (log_exit : Bool) (texts : List (List ℕ)) (found new : DiskView) (v : KeeperView) (tape : List TapeTurn) → IsSetTo lane lanes kind log_exit texts v → IsResting v
+    → (tells → NumbersFit (reading_of lane lanes) lane lanes (IsCrashImage found)) → (tells → NumbersFit (reading_of lane lanes) lane lanes (IsCrashImage found) → OpensAs lane lanes texts found new v)
+    → IsMade tells taping (lane_settings lane lanes kind log_exit) texts found new v tape tape []
+made_open tells taping lane lanes kind log_exit texts found new v tape is rests fit opens = record {
+  rests = rests;
+  set_is = set_to lane lanes kind log_exit texts v is;
+  timed = tt;
+  taped = λ told. sym (append_nil_of tape);
+  standing = λ told. standing_open lane lanes kind log_exit texts found new v is (fit told) (opens told (fit told));
+}
+  where
+    append_nil_of : (xs : List TapeTurn) → xs ++ [] ≡ xs
+    append_nil_of [] = refl
+    append_nil_of (x ∷ xs) = ap (λ (ys : List TapeTurn). x ∷ ys) (append_nil_of xs)
+
+-- ---- Behind a turn
+
+standing_turn : (set : Settings) (texts : List (List ℕ)) (found old new : DiskView) (v v' : KeeperView) (turns : List LaneTurn) (t : LaneTurn) → settings_of v ≡ set → (s : Standing set texts found old v turns)
+    → TurnGives v t.now t.jobs s.machine [] t.replies v' old new → Standing set texts found new v' (turns ++ t ∷ [])
+standing_turn set texts found old new v v' turns t is s g =
+    let turned : Turned (reading_of set.lane set.lanes) set t.now t.jobs g.replies s.machine g.after old new =
+    subst (λ (x : Settings). Turned (reading_of x.lane x.lanes) x t.now t.jobs g.replies s.machine g.after old new) is g.turned in
+    record {
+      machine = g.after;
+      story = with_turn s.story t.now turned.acts turned.tail new.moment;
+      so_far = turn_joins (reading_of set.lane set.lanes) set texts found s.story t.now t.jobs g.replies s.machine g.after old new s.so_far turned;
+      same = are_turns_last turns s.story.turns t _ s.same (record { now = refl; jobs = turned.jobs_are; replies = turned.replies_are ∙ sym g.told });
+      represents = g.represents;
+      places = turned.files.places ∙ s.places;
+    }
+
+standing_roomier : (set : Settings) (texts : List (List ℕ)) (found old : DiskView) (v w : KeeperView) (turns : List LaneTurn) → IsRoomier v w → Standing set texts found old v turns → Standing set texts found old w turns
+standing_roomier set texts found old v w turns r s = record { machine = s.machine; story = s.story; so_far = s.so_far; same = s.same; represents = roomier_stands v w old s.machine r s.represents; places = s.places }
+
+module _ (tells taping : Type 0) (set : Settings) (texts : List (List ℕ)) (found : DiskView) (tape : List TapeTurn) where
+  -- with room for a turn
+  pub made_roomier : (old : DiskView) (v w : KeeperView) (kept : List TapeTurn) (turns : List LaneTurn) → IsRoomier v w → IsMade tells taping set texts found old v tape kept turns → IsMade tells taping set texts found old w tape kept turns
+  made_roomier old v w kept turns r is = record {
+    rests = roomier_rests v w r is.rests;
+    set_is = set_same v w (roomier_set v w r) ∙ is.set_is;
+    timed = is.timed;
+    taped = is.taped;
+    standing = λ told. standing_roomier set texts found old v w turns r (is.standing told);
+  }
+
+  -- with another tape that tells the same
+  pub made_taped : (old : DiskView) (v : KeeperView) (kept kept' : List TapeTurn) (turns : List LaneTurn) → (taping → kept' ≡ kept) → IsMade tells taping set texts found old v tape kept turns → IsMade tells taping set texts found old v tape kept' turns
+  made_taped old v kept kept' turns same is = record { rests = is.rests; set_is = is.set_is; timed = is.timed; taped = λ told. same told ∙ is.taped told; standing = is.standing }
+
+  -- behind a turn, which was kept
+  pub made_turn : (old new : DiskView) (v v' : KeeperView) (kept kept' : List TapeTurn) (turns : List LaneTurn) (t : LaneTurn) → IsSome (nanos_of t.now) → (taping → kept' ≡ kept ++ taped t ∷ [])
+      → IsResting v' → SameSet v v' → (tells → (m : Machine) → Represents v old m → TurnGives v t.now t.jobs m [] t.replies v' old new)
+      → IsMade tells taping set texts found old v tape kept turns → IsMade tells taping set texts found new v' tape kept' (turns ++ t ∷ [])
+  made_turn old new v v' kept kept' turns t valid more rests same gives is = record {
+    rests = rests;
+    set_is = set_same v v' same ∙ is.set_is;
+    timed = all_last (λ (x : LaneTurn). IsSome (nanos_of x.now)) turns t is.timed valid;
+    taped = λ told. more told ∙ ap (λ (l : List TapeTurn). l ++ taped t ∷ []) (is.taped told) ∙ append_assoc tape (all_taped turns) (taped t ∷ []) ∙ ap (λ (l : List TapeTurn). tape ++ l) (sym (taped_last turns t));
+    standing = λ told. let s = is.standing told in standing_turn set texts found old new v v' turns t is.set_is s (gives told s.machine s.represents);
+  }
+
+-- what a turn gives, where nothing was said before it
+pub gives_first : (v : KeeperView) (now : TimeSpec) (jobs : List Job) (m : Machine) (said said' : List Reply) (v' : KeeperView) (old new : DiskView) → said ≡ [] → TurnGives v now jobs m said said' v' old new → TurnGives v now jobs m [] said' v' old new
+gives_first v now jobs m said said' v' old new none g = subst (λ (s : List Reply). TurnGives v now jobs m s said' v' old new) none g

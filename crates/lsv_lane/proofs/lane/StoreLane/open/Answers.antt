@@ -1,0 +1,18 @@
+use Rattle.std.proofs.Common.{ap, Err}
+use Rattle.lsv_keeper.specs.Views.{view_of}
+use Rattle.lsv_lane.specs.Store.{lane_settings}
+use Rattle.lsv_lane.proofs.Conforming.{keeps_none}
+use Rattle.lsv_lane.proofs.Standing.{made_open}
+use Rattle.lsv_lane.proofs.lane.StoreLane.open.Goals as goal
+
+pub returns-in-Ok-clause-made : goal.returns-in-Ok-clause-made
+returns-in-Ok-clause-made g c =
+    made_open g.D.Disk.tells g.G.Tape.tells c.args.lane c.args.lanes c.args.formatter.kind c.args.log_exit c.args.texts (g.D.Disk.view c.args.bay.disk) (g.D.Disk.view c.open.new.disk) (view_of c.in-Ok.keeper)
+    (g.G.Tape.turns c.args.bay.tape) c.in-Ok.ensures.set c.in-Ok.ensures.rests (λ told. c.requires.fresh told _ (c.in-Ok.ensures.read told)) c.in-Ok.ensures.opened
+
+pub returns-in-Err-clause-cause : goal.returns-in-Err-clause-cause
+returns-in-Err-clause-cause g c = λ o e. (c.in-Err.ensures.cause o).risen (ap Err e)
+
+pub returns-in-Err-clause-store : goal.returns-in-Err-clause-store
+returns-in-Err-clause-store g c = λ told.
+    keeps_none (lane_settings c.args.lane c.args.lanes c.args.formatter.kind c.args.log_exit) c.args.texts (g.D.Disk.view c.args.bay.disk) (g.D.Disk.view c.open.new.disk) (c.in-Err.ensures.store told)

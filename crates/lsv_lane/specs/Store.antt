@@ -1,0 +1,78 @@
+-- What a run does with the store of its lane, turn by turn: also where device calls fail, and wherever the machine stops.
+use Rattle.std.specs.Prelude.{◌≡◌, ◌≤◌, ◌++◌, ℕ, Bool, List, [], ◌∷◌, length, map, IsSome, None, Ok}
+use Rattle.std.specs.List.{AllByRecursion, flat_map}
+use Rattle.lsv_base.specs.Time.{nanos_of}
+use Rattle.lsv_words.specs.Causes.{HasRisen}
+use Rattle.lsv_disk.specs.View.{DiskView, IsCrashImage}
+use Rattle.lsv_disk.specs.declared.file.FileId.{FileId}
+use Rattle.lsv_disk.specs.declared.file.Owner.{Owner}
+use Rattle.lsv_event.specs.declared.event.Kind.{Kind}
+use Rattle.lsv_eventlog.specs.Recovered.{HoldsLines}
+use Rattle.lsv_iolog.specs.Recovered.{Replays}
+use Rattle.lsv_seq.specs.Drawn.{entry_at, judged}
+use Rattle.lsv_machine.specs.Answers.{reply_of}
+use Rattle.lsv_machine.specs.Disks.{NumbersFit}
+use Rattle.lsv_machine.specs.History.{writers}
+use Rattle.lsv_machine.specs.Machine.{Machine, Settings}
+use Rattle.lsv_machine.specs.Recovery.{Outside, Ran, Recovers, Story, Turn, all_turns}
+use Rattle.lsv_machine.specs.Starts.{ReadsAs}
+use Rattle.lsv_machine.specs.Turns.{Happened, Happened.Begins}
+use Rattle.lsv_keeper.specs.Reading.{reading_of}
+use Rattle.lsv_keeper.specs.Value.{event_line}
+use Rattle.lsv_turns.specs.Turns.{LaneTurn}
+
+-- ---- What is asked for
+
+-- the settings of the machine: its lane and how many there are, event lines of this form, and those of exits where they are asked for
+abbrev pub lane_settings : (lane lanes : ℕ) → Kind → (log_exit : Bool) → Settings
+lane_settings lane lanes kind log_exit = record { lane = lane; lanes = lanes; log_exit = log_exit; line_of = λ now k asked log. event_line kind now k asked log }
+
+-- the disk is one that this server's runs leave: unless the lane's number file is damaged or of another number of lanes, no image of it holds a file of a log of the lane above the last number that any image tells
+abbrev pub IsFresh : (lane lanes : ℕ) → DiskView → Type 0
+IsFresh lane lanes disk = (last : ℕ) → judged lane lanes (entry_at lane disk.reads) ≡ Ok last → NumbersFit (reading_of lane lanes) lane lanes (IsCrashImage disk)
+
+-- a device call on a file of the owner failed
+abbrev pub OwnerFailed : Owner → (old new : DiskView) → Type 0
+OwnerFailed o old new = (file : FileId) × (file.owner ≡ o) × HasRisen (old.faults file) (new.faults file)
+
+-- ---- Turns
+
+-- a turn of the machine is this one
+pub record IsTurn (t : LaneTurn) (turn : Turn) : Type 0 where
+  pub now : turn.now ≡ t.now
+  pub jobs : map (λ act. act.job) turn.acts ≡ t.jobs
+  pub replies : map reply_of (flat_map (λ act. act.answers) turn.acts ++ turn.tail.answers) ≡ t.replies
+
+-- turns of the machine are these, one for one
+abbrev pub AreTurns : List LaneTurn → List Turn → Type 0
+AreTurns [] [] = Unit {0}
+AreTurns [] (turn ∷ turns) = ⊥
+AreTurns (t ∷ lane) [] = ⊥
+AreTurns (t ∷ lane) (turn ∷ turns) = IsTurn t turn × AreTurns lane turns
+
+-- each of these turns was at a valid moment
+abbrev pub AreTimed : List LaneTurn → Type 0
+AreTimed turns = AllByRecursion (λ t. IsSome (nanos_of t.now)) turns
+
+-- ---- What the machine did
+
+-- at no moment of the run, whatever happened before it, has a log two writers
+abbrev pub HasOneWriter : (texts : List (List ℕ)) → Story → Type 0
+HasOneWriter texts s = (n : ℕ) (before run rest : List Happened) → all_turns s.turns ≡ run ++ rest → length (writers (before ++ Begins texts ∷ run) n) ≤ 1
+
+-- the turns are the machine's, from what the disk was read as to what it reads as now
+pub record Conforms (set : Settings) (texts : List (List ℕ)) (o : Outside) (s : Story) : Type 0 where
+  pub end : Machine
+  -- each job is a step of the machine and each turn has its end; and what failed in them is at most what was counted
+  pub ran : Ran (reading_of set.lane set.lanes) set texts o end s
+  pub one_writer : HasOneWriter texts s
+  -- of each log that nobody writes, and of the event log, the disk reads as the machine says
+  pub logs : (n : ℕ) → end.owner n ≡ None → ReadsAs (Replays o.left.reads n) (end.logs n)
+  pub lines : HoldsLines o.left.reads set.lane end.lines
+
+-- what a run of these turns did with the store: where it was opened the turns are the machine's, and in any case each log recovers from a crash at each moment
+pub record KeepsStore (opened : Type 0) (set : Settings) (texts : List (List ℕ)) (o : Outside) (turns : List LaneTurn) : Type 0 where
+  pub story : Story
+  pub are : AreTurns turns story.turns
+  pub conforms : opened → Conforms set texts o story
+  pub recovers : Recovers (reading_of set.lane set.lanes) set.lane set.lanes texts o story

@@ -1,0 +1,63 @@
+//! A conversation through the loop, over a store in memory.
+
+use crate::scripted::{Scripted, Still};
+use lsv_base::List;
+use lsv_gen::conversation;
+use lsv_hook::Formatter;
+use lsv_hostile_disk::{Hostile, Plan};
+use lsv_lane::Bay;
+use lsv_mask::{Prompt, TextSearch};
+use lsv_msg::decode_client;
+use lsv_server::{End, serve_store};
+use lsv_session::Body;
+use lsv_turns::MemTape;
+use lsv_wire::Framer;
+use std::alloc::Global;
+use std::process::Abort;
+use std::test::Fail;
+
+/// The messages of generated conversation 1, and the connection's end, the last first.
+fn bodies(alloc: Global) -> Result<Vec<Body>, Fail> {
+    let bytes = conversation(alloc, 1)?;
+    let mut framer = Framer::new(alloc);
+    framer.feed(bytes.as_slice())?;
+    let mut bodies = Vec::new(alloc);
+    for _ in 0..10u8 {
+        if let Some(message) = framer.next(alloc).map_err(|_| "a frame")? {
+            let message = decode_client(alloc, message.as_slice()).map_err(|_| "a message")?;
+            bodies.push(Body::Msg(message))?;
+        }
+    }
+    bodies.push(Body::Gone)?;
+    bodies.reverse();
+    Ok(bodies)
+}
+
+#[test]
+fn a_conversation_is_served_and_each_turn_is_kept(rt: HostRuntime) -> Result<(), Fail> {
+    let alloc = rt.alloc();
+    let bay = Bay {
+        disk: Hostile::new(alloc, Plan::Whole)?,
+        clock: Still,
+        tape: MemTape::new(alloc),
+    };
+    let mut posts = [Scripted {
+        number: 0,
+        bodies: bodies(alloc)?,
+        said: 0,
+        is_shut: false,
+    }];
+    let (bay, end) = serve_store(
+        alloc,
+        &mut posts,
+        bay,
+        Formatter::sudo(),
+        true,
+        List::new(alloc),
+        Prompt::new(TextSearch),
+    );
+    assert_eq!(rt; end, End::Over);
+    assert_eq!(rt; (posts[0].said, posts[0].is_shut), (4, true));
+    assert_eq!(rt; bay.tape.turns().len(), 6);
+    Ok(())
+}

@@ -1,0 +1,70 @@
+//! A post whose messages are fixed beforehand, and a clock that stands still.
+
+ghost use Rattle.lsv_lane_tests.specs.Nothing.{no_port};
+
+use lsv_base::{Clock, TimeSpec};
+use lsv_reactor::Post;
+use lsv_session::{Body, ConnId, Job, Reply, ReplyBody};
+
+/// A clock that stands still.
+#[derive(Drop)]
+pub(crate) struct Still;
+
+impl Clock for Still {
+    fn now(&mut self) -> TimeSpec {
+        TimeSpec {
+            sec: 1_700_000_000,
+            nsec: 0,
+        }
+    }
+}
+
+/// One connection that brings these, the last first and one at a time, and counts what it is told.
+#[derive(Drop)]
+pub(crate) struct Scripted {
+    pub number: u32,
+    pub bodies: Vec<Body>,
+    pub said: u32,
+    pub is_shut: bool,
+}
+
+impl Post for Scripted {
+    ghost tells = { ⊥ };
+
+    ghost Start = { Unit {0} };
+
+    ghost begun = { λ _. no_port };
+
+    ghost view = { λ _. no_port };
+
+    ghost number = { λ p. p.number };
+
+    ghost made_by = { λ _ _ _ _. Unit {0} };
+
+    fn wait(&mut self, jobs: &mut Vec<Job>) {
+        if let Some(body) = self.bodies.pop() {
+            let conn = ConnId {
+                worker: self.number,
+                seq: 1,
+            };
+            let _ = jobs.push(Job { conn, body });
+        }
+    }
+
+    fn push(&mut self, _jobs: &mut Vec<Job>) {}
+
+    fn take(&mut self, reply: Reply) {
+        match reply.body {
+            ReplyBody::Say(_) => self.said = self.said.saturating_add(1),
+            ReplyBody::Shut => self.is_shut = true,
+        }
+    }
+
+    fn is_over(&self) -> bool {
+        self.bodies.is_empty() && self.is_shut
+    }
+
+    fn stop(&mut self) {
+        self.bodies.clear();
+    }
+}

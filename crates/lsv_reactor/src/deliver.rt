@@ -1,0 +1,31 @@
+//! Replies go to the posts of their connections.
+
+ghost use Rattle.std.specs.Prelude.{◌++◌, ◌∷◌, [], ℕ, List};
+ghost use Rattle.lsv_session.specs.declared.job.Job.{Job};
+ghost use Rattle.lsv_session.specs.declared.reply.Reply.{Reply};
+ghost use Rattle.lsv_reactor.specs.InnerLoop.{ArePosts};
+
+use crate::Post;
+use lsv_session::Reply;
+
+/// Hands a reply to the post whose place is the number of its connection's worker. Where there is none it is dropped.
+fn deliver_one<T: Post>(posts: &mut [T], reply: Reply)
+    requires begun { (starts : ℕ → T.Start) × (jobs : List Job) × (took : List Reply) × ArePosts T.number T.made_by starts posts.old jobs took }
+    ensures { (starts : ℕ → T.Start) (jobs : List Job) (took : List Reply) → ArePosts T.number T.made_by starts posts.old jobs took → ArePosts T.number T.made_by starts posts.new jobs (took ++ reply ∷ []) }
+{
+    let place = reply.conn.worker as usize;
+    if place < posts.len() {
+        posts[place].take(reply);
+        return;
+    }
+}
+
+/// Hands each reply to its post.
+pub(crate) fn deliver<T: Post>(posts: &mut [T], replies: Vec<Reply>)
+    requires begun { (starts : ℕ → T.Start) × (jobs : List Job) × (took : List Reply) × ArePosts T.number T.made_by starts posts.old jobs took }
+    ensures { (starts : ℕ → T.Start) (jobs : List Job) (took : List Reply) → ArePosts T.number T.made_by starts posts.old jobs took → ArePosts T.number T.made_by starts posts.new jobs (took ++ replies.items) }
+{
+    for reply in replies {
+        deliver_one(posts, reply);
+    }
+}

@@ -1,0 +1,11 @@
+//! A server's loop on one thread: it turns what serves each port, one after another, and lets a lane do the turns of their
+//! jobs between.
+#![tactic(auto)]
+
+mod deliver;
+mod post;
+mod rounds;
+mod visit;
+
+pub use post::Post;
+pub use rounds::serve;

@@ -1,0 +1,33 @@
+use Rattle.std.proofs.Common.{◌≢◌, []}
+use Rattle.lsv_server.proofs.RunLemmas.{keeps_less}
+use Rattle.lsv_server.proofs.run.serve_lane.Goals as goal
+
+pub returns-in-Ok-clause-runs : goal.returns-in-Ok-clause-runs
+returns-in-Ok-clause-runs g c = λ starts start made lane.
+    let r = c.in-Ok.ensures.ok starts start made lane in (
+      r.0,
+      record {
+        some = tt;
+        sized = r.2;
+        timed = c.into_bay.ensures.timed start r.0 r.1;
+        taped = λ told. c.into_bay.ensures.taped told start r.0 r.1;
+        keeps = λ told. c.into_bay.ensures.kept told start r.0 r.1;
+        places = λ told. c.into_bay.ensures.places told start r.0 r.1;
+      },
+      λ told over. record { each = r.4 told; within = r.3 },
+    )
+
+pub returns-in-Err-clause-runs : goal.returns-in-Err-clause-runs
+returns-in-Err-clause-runs g c = λ starts start made lane.
+    let r = c.in-Err.ensures.err start lane in (
+      r.0,
+      record {
+        some = tt;
+        sized = r.2;
+        timed = c.into_bay-in-Err.ensures.timed start r.0 r.1;
+        taped = λ told. c.into_bay-in-Err.ensures.taped told start r.0 r.1;
+        keeps = λ told. keeps_less (Unit {0}) (r.0 ≢ []) start.set start.texts _ r.0 (λ up. tt) (c.into_bay-in-Err.ensures.kept told start r.0 r.1);
+        places = λ told. c.into_bay-in-Err.ensures.places told start r.0 r.1;
+      },
+      λ told over. absurd (cc),
+    )

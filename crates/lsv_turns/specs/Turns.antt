@@ -1,0 +1,74 @@
+-- The turns of a lane: what came in each, at which moment, and what was replied.
+use Rattle.std.specs.Prelude.{◌≡◌, ◌&&◌, ◌++◌, Bool, true, false, not, List, [], ◌∷◌, map}
+use Rattle.std.specs.List.{flat_map, list_any}
+use Rattle.lsv_base.specs.declared.time.TimeSpec.{TimeSpec}
+use Rattle.lsv_session.specs.Connections.{same}
+use Rattle.lsv_session.specs.Transcript.{bodies_of}
+use Rattle.lsv_session.specs.declared.connection.ConnId.{ConnId}
+use Rattle.lsv_session.specs.declared.job.Body.{Body}
+use Rattle.lsv_session.specs.declared.job.Body.TheVariants.{Gone}
+use Rattle.lsv_session.specs.declared.job.Job.{Job}
+use Rattle.lsv_session.specs.declared.reply.Reply.{Reply}
+use Rattle.lsv_session.specs.declared.reply.ReplyBody.{ReplyBody}
+use Rattle.lsv_session.specs.declared.reply.ReplyBody.TheVariants.{Say, Shut}
+
+-- ---- A turn
+
+-- what a tape tells of a turn: its moment, and its jobs in order
+pub record TapeTurn : Type 0 where
+  pub now : TimeSpec
+  pub jobs : List Job
+
+-- a turn: its moment, its jobs, and the replies, in order
+pub record LaneTurn : Type 0 where
+  pub now : TimeSpec
+  pub jobs : List Job
+  pub replies : List Reply
+
+-- what a tape tells of it
+abbrev pub taped : LaneTurn → TapeTurn
+taped t = record { now = t.now; jobs = t.jobs }
+
+-- what a tape tells of these turns
+abbrev pub all_taped : List LaneTurn → List TapeTurn
+all_taped turns = map taped turns
+
+-- the jobs of these turns
+abbrev pub jobs_in : List LaneTurn → List Job
+jobs_in turns = flat_map (λ t. t.jobs) turns
+
+-- their replies
+abbrev pub replies_in : List LaneTurn → List Reply
+replies_in turns = flat_map (λ t. t.replies) turns
+
+-- ---- Shut
+
+-- whether this shuts a connection
+abbrev pub is_shut : ReplyBody → Bool
+is_shut (Say message) = false
+is_shut Shut = true
+
+-- whether one of these replies shuts the connection, for another cause than that it went
+abbrev pub shuts : ConnId → List Reply → Bool
+shuts k replies = list_any (λ r. (same r.conn k && is_shut r.body) && not r.last) replies
+
+-- ---- To whom replies go
+
+-- no reply is to this connection
+abbrev pub NoneFor : ConnId → List Reply → Type 0
+NoneFor k [] = Unit {0}
+NoneFor k (r ∷ replies) = (same r.conn k ≡ false) × NoneFor k replies
+
+-- where the connection brings its end, it is the last of these
+abbrev pub EndsWithGone : List Body → Type 0
+EndsWithGone [] = Unit {0}
+EndsWithGone (b ∷ bodies) = (b ≡ Gone → bodies ≡ []) × EndsWithGone bodies
+
+-- of these replies none is to a connection that brought none of these jobs; and none behind one that shuts its connection, if that brings nothing behind its end
+pub record AreAsked (jobs : List Job) (replies : List Reply) : Type 0 where
+  pub asked : (k : ConnId) → bodies_of k jobs ≡ [] → NoneFor k replies
+  pub behind : (k : ConnId) (before after : List Reply) (r : Reply) → EndsWithGone (bodies_of k jobs) → replies ≡ before ++ r ∷ after → same r.conn k ≡ true → r.body ≡ Shut → NoneFor k after
+
+-- and so of these turns
+abbrev pub AreAskedIn : List LaneTurn → Type 0
+AreAskedIn turns = AreAsked (jobs_in turns) (replies_in turns)

@@ -1,0 +1,32 @@
+ghost use Rattle.std.specs.Prelude.{List, [], ◌∷◌, ◌++◌, IsSome, IfOk, OnErr};
+ghost use Rattle.lsv_base.specs.Time.{nanos_of};
+ghost use Rattle.lsv_turns.specs.Turns.{AreAskedIn, LaneTurn};
+
+use lsv_base::{NoMem, TimeSpec};
+use lsv_session::{Job, Reply};
+
+/// What does the turns of a lane. A turn has jobs of many connections, and gives replies.
+pub trait Lane {
+    ghost use Rattle.std.specs.Prelude.{List};
+    ghost use Rattle.lsv_turns.specs.Turns.{LaneTurn};
+
+    /// Whether it is known to whom it replies.
+    ghost tells: { Type 0 };
+
+    /// From what a lane may have begun.
+    ghost Start: { Type 0 };
+
+    /// These turns, from this start on, made the lane what it is.
+    ghost made_by: { Start → Self → List LaneTurn → Type 0 };
+
+    /// Does a turn of these jobs, and gives its moment. The replies are this turn's alone. Where it is told, none is to a
+    /// connection that brought nothing, and none behind the Shut of one that brings nothing behind its end.
+    fn turn(&mut self, jobs: Vec<Job>, replies: &mut Vec<Reply>) -> Result<TimeSpec, NoMem>
+        requires begun { (start : Start) × (turns : List LaneTurn) × made_by start self.old turns }
+        ensures valid { IfOk result (λ now. IsSome (nanos_of now)) }
+        ensures made { IfOk result (λ now. (start : Start) (turns : List LaneTurn) → made_by start self.old turns →
+            made_by start self.new (turns ++ record { now = now; jobs = jobs.items; replies = replies.new.items } ∷ [])) }
+        ensures asked { tells → IfOk result (λ now. (start : Start) (turns : List LaneTurn) → made_by start self.old turns →
+            AreAskedIn (turns ++ record { now = now; jobs = jobs.items; replies = replies.new.items } ∷ [])) }
+        ensures lost { OnErr result ((start : Start) (turns : List LaneTurn) → made_by start self.old turns → made_by start self.new turns) };
+}
