@@ -1,6 +1,7 @@
 //! The port that a server's connections come through: links that are opened, read, written and closed, told by edges.
 #![tactic(auto)]
 
+mod memory;
 mod port;
 mod step;
 

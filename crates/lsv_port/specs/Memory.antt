@@ -1,0 +1,3 @@
+pub mod Link
+pub mod Numbers
+pub mod Script
