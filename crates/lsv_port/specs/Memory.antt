@@ -1,3 +1,5 @@
 pub mod Link
+pub mod Links
 pub mod Numbers
 pub mod Script
+pub mod Value

@@ -1,1 +1,3 @@
 mod link;
+mod links;
+mod run;

@@ -1,20 +1,31 @@
 -- One link of a port in memory.
-use Rattle.std.specs.Prelude.{◌≡◌, ℕ, ◌+◌, ◌-◌, ◌^◌, ◌≤◌, ◌==◌, ◌&&◌, ◌||◌, Bool, true, false, not, if◌then◌else◌, Option, Some, None, unwrap_or, List, [], ◌++◌, length, take, min}
+use Rattle.std.specs.Prelude.{◌≡◌, ◌⊎◌, ℕ, ◌+◌, ◌-◌, ◌^◌, ◌≤◌, ◌==◌, ◌&&◌, ◌||◌, Bool, true, false, not, if◌then◌else◌, Option, Some, None, unwrap_or, List, [], ◌++◌, length, take, min}
 use Rattle.lsv_port.specs.declared.memory.link.MemLink.{MemLink}
 use Rattle.lsv_port.specs.declared.port.Took.{Took}
 use Rattle.lsv_port.specs.declared.port.Took.TheVariants as took
 use Rattle.lsv_port.specs.declared.port.Gave.{Gave}
 use Rattle.lsv_port.specs.declared.port.Gave.TheVariants as gave
-use Rattle.lsv_port.specs.Port.{LinkState, IsCountOf}
+use Rattle.lsv_base.specs.Outside.{HasCause}
+use Rattle.lsv_base.specs.Script.{one_more}
+use Rattle.lsv_port.specs.Port.{LinkState, MayTake, after_read, after_write}
 use Rattle.lsv_port.specs.Memory.Numbers.{has}
 
 -- what is told of the link
 abbrev pub view_of : MemLink → LinkState
 view_of v = record { is_open = v.is_open; input = take v.taken v.arrived; output = v.output; ended = v.ended; owed = v.owed; full = v.full; failed = v.failed; reads = v.reads.items; beside = has v.beside.items }
 
--- a link that was just opened beside these
-abbrev pub IsFresh : List ℕ → MemLink → Type 0
-IsFresh beside v = (v.is_open ≡ true) × (v.arrived ≡ []) × (v.taken ≡ 0) × (v.output ≡ []) × (v.last ≡ false) × (v.ended ≡ false) × (v.owed ≡ true) × (v.full ≡ false) × (v.failed ≡ false) × (v.reads.items ≡ []) × (v.beside.items ≡ beside) × (v.faults ≡ 0)
+-- a link that was just opened, beside these
+pub record IsFresh (beside : List ℕ) (v : MemLink) : Type 0 where
+  pub is_open : v.is_open ≡ true
+  pub arrived : v.arrived ≡ []
+  pub output : v.output ≡ []
+  pub last : v.last ≡ false
+  pub ended : v.ended ≡ false
+  pub owed : v.owed ≡ true
+  pub full : v.full ≡ false
+  pub failed : v.failed ≡ false
+  pub reads : v.reads.items ≡ []
+  pub those : v.beside.items ≡ beside
 
 -- how many bytes have arrived and weren't read
 abbrev pub waiting_of : MemLink → ℕ
@@ -59,3 +70,34 @@ with_last v = if v.last then v else record v { last = true; owed = v.owed || v.i
 -- the link after there was room for so many bytes more
 abbrev pub with_room : ℕ → MemLink → MemLink
 with_room count v = record v { room = Some (min (unwrap_or v.room 0 + count) (2 ^ 64 - 1)); full = v.full && not v.is_open }
+
+-- the link whose next read or write fails
+abbrev pub breaking : MemLink → MemLink
+breaking v = record v { breaks = true }
+
+-- the link that is closed
+abbrev pub shut : MemLink → MemLink
+shut v = record v { is_open = false }
+
+-- what a read with this answer makes of a link, where the buffer then holds these bytes
+pub record IsRead (answer : Took) (buf : List ℕ) (old new : MemLink) : Type 0 where
+  pub view : view_of new ≡ after_read answer buf (view_of old)
+  pub may : MayTake answer (view_of old)
+  pub sound : IsSound new
+  pub sent : IsSameSent old new
+  pub cause : HasCause (answer ≡ took.Failed) old.faults new.faults
+
+-- what a write of these bytes with this answer makes of a link
+pub record IsWritten (answer : Gave) (bytes : List ℕ) (old new : MemLink) : Type 0 where
+  pub view : view_of new ≡ after_write answer bytes (view_of old)
+  pub sound : IsSound new
+  pub sent : IsSameSent old new
+  pub cause : HasCause (answer ≡ gave.Failed) old.faults new.faults
+
+-- the link answers a read as it is to, and was refused no memory; or it was, and that was counted
+abbrev pub AnswersRead : Took → ℕ → MemLink → ℕ → ℕ → Type 0
+AnswersRead answer room link refused_before refused_now = ((answer ≡ took_of link room) × (refused_now ≡ refused_before)) ⊎ ((answer ≡ took.Failed) × (refused_now ≡ one_more refused_before))
+
+-- and so a write
+abbrev pub AnswersWrite : Gave → ℕ → MemLink → ℕ → ℕ → Type 0
+AnswersWrite answer count link refused_before refused_now = ((answer ≡ gave_of link count) × (refused_now ≡ refused_before)) ⊎ ((answer ≡ gave.Failed) × (refused_now ≡ one_more refused_before))

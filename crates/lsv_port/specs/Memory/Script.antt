@@ -36,3 +36,25 @@ sent_next l sent Stop = sent
 -- what was sent on this link by these steps
 abbrev pub sent_by : ℕ → List Step → Sent
 sent_by l steps = fold (sent_next l) unsent steps
+
+-- the step makes the turn fail
+abbrev pub fails_turn : Step → Bool
+fails_turn (Open l) = false
+fails_turn (Give l bytes) = false
+fails_turn (Room l count) = false
+fails_turn (Last l) = false
+fails_turn (Break l) = false
+fails_turn BreakTurn = true
+fails_turn Wake = false
+fails_turn Stop = false
+
+-- the step tells Stop
+abbrev pub is_stop : Step → Bool
+is_stop (Open l) = false
+is_stop (Give l bytes) = false
+is_stop (Room l count) = false
+is_stop (Last l) = false
+is_stop (Break l) = false
+is_stop BreakTurn = false
+is_stop Wake = false
+is_stop Stop = true

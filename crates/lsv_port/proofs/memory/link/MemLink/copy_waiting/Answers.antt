@@ -1,4 +1,4 @@
-use Rattle.std.proofs.Common.{ℕ, List, ap, ◌∙◌, ◌≡◌, ◌++◌, ◌+◌, sym, subst, take, drop}
+use Rattle.std.proofs.Common.{ℕ, List, ap, ◌∙◌, ◌++◌, sym, take, drop}
 use Rattle.std.proofs.Math.Seq.{take-add}
 use Rattle.std.proofs.lemmas.List.{take_rest}
 use Rattle.lsv_port.proofs.memory.link.MemLink.copy_waiting.Goals as goal

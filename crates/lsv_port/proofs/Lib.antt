@@ -1,0 +1,5 @@
+pub mod LinkLemmas
+pub mod NumberLemmas
+pub mod RunLemmas
+pub mod StepLemmas
+pub mod TurnLemmas
