@@ -106,8 +106,8 @@ bytes_same bytes s (Some v) h e =
     elim (true_or_false v.last) [
       | inl last ↦ ap (λ (b : Bool). view_of (cond b v more)) last
       | inr going ↦
-        let same : view_of more ≡ view_of v = λ i. record (view_of v) { input = take-append-le v.taken v.arrived bytes h.1.within i; owed = or_false v.owed v.is_open (open_where_last v.is_open v.last e going) i } in
-        ap (λ (b : Bool). view_of (cond b v more)) going ∙ same
+          let same : view_of more ≡ view_of v = λ i. record (view_of v) { input = take-append-le v.taken v.arrived bytes h.1.within i; owed = or_false v.owed v.is_open (open_where_last v.is_open v.last e going) i } in
+          ap (λ (b : Bool). view_of (cond b v more)) going ∙ same
     ]
 
 owed_is_open : (owed is_open : Bool) → is_open ≡ true → (owed || is_open) ≡ false → ⊥
@@ -127,12 +127,16 @@ bytes_sent bytes true s None h = subst (λ (t : Sent). cond (goes_on t) (record 
 bytes_sent bytes true s (Some v) h =
     let more : MemLink = record v { arrived = v.arrived ++ bytes; owed = v.owed || v.is_open } in
     let sent : (t : Sent) → t ≡ sent_to v → cond (goes_on t) (record t { bytes = t.bytes ++ bytes }) t ≡ cond (goes_on (sent_to v)) (record (sent_to v) { bytes = v.arrived ++ bytes }) (sent_to v)
-          = λ t e. ap (λ (u : Sent). cond (goes_on u) (record u { bytes = u.bytes ++ bytes }) u) e in
+    = λ t e. ap (λ (u : Sent). cond (goes_on u) (record u { bytes = u.bytes ++ bytes }) u) e in
     elim (true_or_false v.last) [
-      | inl last ↦ (sent s h.0 ∙ ap (λ (b : Bool). cond (not b) (record (sent_to v) { bytes = v.arrived ++ bytes }) (sent_to v)) last ∙ sym (ap (λ (b : Bool). sent_to (cond b v more)) last),
-            subst (λ (b : Bool). IsSound (cond b v more)) (sym last) h.1)
-      | inr going ↦ (sent s h.0 ∙ ap (λ (b : Bool). cond (not b) (record (sent_to v) { bytes = v.arrived ++ bytes }) (sent_to v)) going ∙ sym (ap (λ (b : Bool). sent_to (cond b v more)) going),
-            subst (λ (b : Bool). IsSound (cond b v more)) (sym going) (bytes_sound bytes v h.1 going))
+      | inl last ↦ (
+        sent s h.0 ∙ ap (λ (b : Bool). cond (not b) (record (sent_to v) { bytes = v.arrived ++ bytes }) (sent_to v)) last ∙ sym (ap (λ (b : Bool). sent_to (cond b v more)) last),
+        subst (λ (b : Bool). IsSound (cond b v more)) (sym last) h.1,
+      )
+      | inr going ↦ (
+        sent s h.0 ∙ ap (λ (b : Bool). cond (not b) (record (sent_to v) { bytes = v.arrived ++ bytes }) (sent_to v)) going ∙ sym (ap (λ (b : Bool). sent_to (cond b v more)) going),
+        subst (λ (b : Bool). IsSound (cond b v more)) (sym going) (bytes_sound bytes v h.1 going),
+      )
     ]
 
 -- ---- A link's input ends
@@ -152,8 +156,8 @@ last_same s (Some v) h e =
     elim (true_or_false v.last) [
       | inl last ↦ ap (λ (b : Bool). view_of (cond b v more)) last
       | inr going ↦
-        let same : view_of more ≡ view_of v = λ i. record (view_of v) { owed = or_false v.owed v.is_open (open_where_last v.is_open v.last e going) i } in
-        ap (λ (b : Bool). view_of (cond b v more)) going ∙ same
+          let same : view_of more ≡ view_of v = λ i. record (view_of v) { owed = or_false v.owed v.is_open (open_where_last v.is_open v.last e going) i } in
+          ap (λ (b : Bool). view_of (cond b v more)) going ∙ same
     ]
 
 last_sound : (v : MemLink) → IsSound v → v.last ≡ false → IsSound (record v { last = true; owed = v.owed || v.is_open })
@@ -170,12 +174,16 @@ last_sent true s None h = subst (λ (t : Sent). cond (goes_on t) (record t { end
 last_sent true s (Some v) h =
     let more : MemLink = record v { last = true; owed = v.owed || v.is_open } in
     let sent : cond (goes_on s) (record s { ended = true }) s ≡ cond (goes_on (sent_to v)) (record (sent_to v) { ended = true }) (sent_to v)
-          = ap (λ (u : Sent). cond (goes_on u) (record u { ended = true }) u) h.0 in
+    = ap (λ (u : Sent). cond (goes_on u) (record u { ended = true }) u) h.0 in
     elim (true_or_false v.last) [
-      | inl last ↦ (sent ∙ ap (λ (b : Bool). cond (not b) (record (sent_to v) { ended = true }) (sent_to v)) last ∙ sym (ap (λ (b : Bool). sent_to (cond b v more)) last),
-            subst (λ (b : Bool). IsSound (cond b v more)) (sym last) h.1)
-      | inr going ↦ (sent ∙ ap (λ (b : Bool). cond (not b) (record (sent_to v) { ended = true }) (sent_to v)) going ∙ sym (ap (λ (b : Bool). sent_to (cond b v more)) going),
-            subst (λ (b : Bool). IsSound (cond b v more)) (sym going) (last_sound v h.1 going))
+      | inl last ↦ (
+        sent ∙ ap (λ (b : Bool). cond (not b) (record (sent_to v) { ended = true }) (sent_to v)) last ∙ sym (ap (λ (b : Bool). sent_to (cond b v more)) last),
+        subst (λ (b : Bool). IsSound (cond b v more)) (sym last) h.1,
+      )
+      | inr going ↦ (
+        sent ∙ ap (λ (b : Bool). cond (not b) (record (sent_to v) { ended = true }) (sent_to v)) going ∙ sym (ap (λ (b : Bool). sent_to (cond b v more)) going),
+        subst (λ (b : Bool). IsSound (cond b v more)) (sym going) (last_sound v h.1 going),
+      )
     ]
 
 -- ---- A link takes more, or is to fail

@@ -47,16 +47,6 @@ has_at (x ∷ xs) m (suc k) within e = ap (λ (b : Bool). (x == m) || b) (has_at
 pub has_all : (xs : List ℕ) (m : ℕ) → Contains xs m → has xs m ≡ true
 has_all xs m h = has_at xs m h.0 h.1 h.2
 
-contains_next : (x m : ℕ) (xs : List ℕ) → Contains xs m → Contains (x ∷ xs) m
-contains_next x m xs h = (suc h.0, omega (arith, h.1), h.2)
-
-pub has_then : (xs : List ℕ) (m : ℕ) → has xs m ≡ true → Contains xs m
-has_then [] m e = absurd cc
-has_then (x ∷ xs) m e = elim (true_or_false (x == m)) [
-  | inl same ↦ (0, omega arith, one_number x m same)
-  | inr other ↦ contains_next x m xs (has_then xs m (sym (ap (λ (b : Bool). b || has xs m) other) ∙ e))
-]
-
 left_bits : (t e d h : Bool) → (e ≡ true → t ≡ d) → cond (not t) (e || (h && not d)) (h && not d) ≡ ((e || h) && not d)
 left_bits true false d h f = refl
 left_bits false false d h f = refl

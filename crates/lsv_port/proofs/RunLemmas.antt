@@ -52,16 +52,18 @@ use_runs l Used old links refused h keeps run =
     record {
       done = run.done;
       sent = subst (λ (g : LinkMap). AreSentBy (λ m. sent_by m (take old.done old.script.items)) g) (sym h.links)
-        (each_used l f h.now (λ m o. IsSentBy (sent_by m (take old.done old.script.items)) o)
-            ((subst (λ (o : Option MemLink). IsSentBy (sent_by l (take old.done old.script.items)) o) h.here (run.sent l)).0
-                ∙ same_sent h.was h.now kept.2, kept.1)
-            (λ m ne. run.sent m));
+          (each_used l f h.now (λ m o. IsSentBy (sent_by m (take old.done old.script.items)) o) (
+            (subst (λ (o : Option MemLink). IsSentBy (sent_by l (take old.done old.script.items)) o) h.here (run.sent l)).0
+                ∙ same_sent h.was h.now kept.2,
+            kept.1,
+          )
+          (λ m ne. run.sent m));
       opened = λ m. ap (λ (ns : List ℕ). has ns m) h.opened
-        ∙ subst (λ (g : LinkMap). has old.links.opened.items m ≡ is_some (g m)) (sym h.links)
-            (each_used l f h.now (λ k o. has old.links.opened.items k ≡ is_some o) (run.opened l ∙ ap is_some h.here) (λ k ne. run.opened k) m);
+          ∙ subst (λ (g : LinkMap). has old.links.opened.items m ≡ is_some (g m)) (sym h.links)
+          (each_used l f h.now (λ k o. has old.links.opened.items k ≡ is_some o) (run.opened l ∙ ap is_some h.here) (λ k ne. run.opened k) m);
       open_now = λ m. ap (λ (ns : List ℕ). has ns m) h.open_now
-        ∙ subst (λ (g : LinkMap). has old.links.open_now.items m ≡ is_open_in (g m)) (sym h.links)
-            (each_used l f h.now (λ k o. has old.links.open_now.items k ≡ is_open_in o) (run.open_now l ∙ ap is_open_in h.here ∙ sym kept.0) (λ k ne. run.open_now k) m);
+          ∙ subst (λ (g : LinkMap). has old.links.open_now.items m ≡ is_open_in (g m)) (sym h.links)
+          (each_used l f h.now (λ k o. has old.links.open_now.items k ≡ is_open_in o) (run.open_now l ∙ ap is_open_in h.here ∙ sym kept.0) (λ k ne. run.open_now k) m);
       stopped = run.stopped;
     }
   where
@@ -118,7 +120,7 @@ pub close_changes : (l : ℕ) (old new : Links) (stopped : Bool) → links_of ne
 close_changes l old new stopped links opened here =
     subst (λ (g : LinkMap). Changes l (closed (told_of (links_of old l))) (state_of (links_of old) old.opened.items stopped) (state_of g new.opened.items stopped)) (sym links)
     (subst (λ (o : List ℕ). Changes l (closed (told_of (links_of old l))) (state_of (links_of old) old.opened.items stopped) (state_of (changed_at l shut (links_of old)) o stopped)) (sym opened)
-        (tells_change (links_of old) l shut old.opened.items stopped _ (shut_told (links_of old l) here)))
+    (tells_change (links_of old) l shut old.opened.items stopped _ (shut_told (links_of old l) here)))
 
 shut_sent : (b : Bool) (s : Sent) (o : Option MemLink) → IsSentBy s o → IsSentBy s (cond b (option_map shut o) o)
 shut_sent false s o h = h

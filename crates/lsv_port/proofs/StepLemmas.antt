@@ -30,11 +30,11 @@ change_takes step ready l F old new h mild answer tells sent =
     record {
       answer = answer;
       told = λ was stopped hs ho hn.
-        let here : Told (ready_of f step) (state_of f old.opened.items stopped) (state_of (changed_at l F f) old.opened.items stopped) = tells was old.opened.items stopped hs in
-        let there : Told (ready_of f step) (state_of f old.opened.items stopped) (state_of (links_of new) new.opened.items stopped)
-            = subst (λ (g : LinkMap). Told (ready_of f step) (state_of f old.opened.items stopped) (state_of g new.opened.items stopped)) (sym h.links)
-            (subst (λ (o : List ℕ). Told (ready_of f step) (state_of f old.opened.items stopped) (state_of (changed_at l F f) o stopped)) (sym h.opened) here) in
-        subst (λ (r : Ready). Told r (state_of f old.opened.items stopped) (state_of (links_of new) new.opened.items stopped)) (sym answer) there;
+          let here : Told (ready_of f step) (state_of f old.opened.items stopped) (state_of (changed_at l F f) old.opened.items stopped) = tells was old.opened.items stopped hs in
+          let there : Told (ready_of f step) (state_of f old.opened.items stopped) (state_of (links_of new) new.opened.items stopped)
+          = subst (λ (g : LinkMap). Told (ready_of f step) (state_of f old.opened.items stopped) (state_of g new.opened.items stopped)) (sym h.links)
+          (subst (λ (o : List ℕ). Told (ready_of f step) (state_of f old.opened.items stopped) (state_of (changed_at l F f) o stopped)) (sym h.opened) here) in
+          subst (λ (r : Ready). Told r (state_of f old.opened.items stopped) (state_of (links_of new) new.opened.items stopped)) (sym answer) there;
       sent = λ was hs. subst (λ (g : LinkMap). AreSentBy (λ m. sent_next m (was m) step) g) (sym h.links) (sent was hs);
       opened = λ ho m. ap (λ (o : List ℕ). has o m) h.opened ∙ ho m ∙ sym (mild_some F (l == m) (f m)) ∙ ap (λ (g : LinkMap). is_some (g m)) (sym h.links);
       open_now = λ hn m. ap (λ (o : List ℕ). has o m) h.open_now ∙ hn m ∙ sym (mild_open F mild (l == m) (f m)) ∙ ap (λ (g : LinkMap). is_open_in (g m)) (sym h.links);
@@ -46,8 +46,8 @@ give_takes l bytes ready old new answer h =
     let f = links_of old in
     change_takes (step.Give l bytes) ready l (with_bytes bytes) old new h (bytes_mild bytes) answer
     (λ sent opened stopped hs. told_either (is_hearing (f l)) (Readable l) _ _
-        (λ e. record { is_open = hearing_open (f l) e; going = hearing_going (sent l) (f l) (hs l) e; change = tells_change f l (with_bytes bytes) opened stopped _ (bytes_owe bytes (sent l) (f l) (hs l) e) })
-        (λ e. tells_same f l (with_bytes bytes) opened stopped (bytes_same bytes (sent l) (f l) (hs l) e)))
+    (λ e. record { is_open = hearing_open (f l) e; going = hearing_going (sent l) (f l) (hs l) e; change = tells_change f l (with_bytes bytes) opened stopped _ (bytes_owe bytes (sent l) (f l) (hs l) e) })
+    (λ e. tells_same f l (with_bytes bytes) opened stopped (bytes_same bytes (sent l) (f l) (hs l) e)))
     (λ sent hs m. bytes_sent bytes (l == m) (sent m) (f m) (hs m))
 
 pub last_takes : (l : ℕ) (ready : Ready) (old new : Links) → ready ≡ told_if (is_hearing (links_of old l)) (Readable l) → ChangesOne l with_last old new → Takes (step.Last l) ready old new
@@ -55,8 +55,8 @@ last_takes l ready old new answer h =
     let f = links_of old in
     change_takes (step.Last l) ready l with_last old new h last_mild answer
     (λ sent opened stopped hs. told_either (is_hearing (f l)) (Readable l) _ _
-        (λ e. record { is_open = hearing_open (f l) e; going = hearing_going (sent l) (f l) (hs l) e; change = tells_change f l with_last opened stopped _ (last_owes (sent l) (f l) (hs l) e) })
-        (λ e. tells_same f l with_last opened stopped (last_same (sent l) (f l) (hs l) e)))
+    (λ e. record { is_open = hearing_open (f l) e; going = hearing_going (sent l) (f l) (hs l) e; change = tells_change f l with_last opened stopped _ (last_owes (sent l) (f l) (hs l) e) })
+    (λ e. tells_same f l with_last opened stopped (last_same (sent l) (f l) (hs l) e)))
     (λ sent hs m. last_sent (l == m) (sent m) (f m) (hs m))
 
 pub room_takes : (l count : ℕ) (ready : Ready) (old new : Links) → ready ≡ told_if (is_open_in (links_of old l)) (Writable l) → ChangesOne l (with_room count) old new → Takes (step.Room l count) ready old new
@@ -64,8 +64,8 @@ room_takes l count ready old new answer h =
     let f = links_of old in
     change_takes (step.Room l count) ready l (with_room count) old new h (room_mild count) answer
     (λ sent opened stopped hs. told_either (is_open_in (f l)) (Writable l) _ _
-        (λ e. record { is_open = sym (is_open_told (f l)) ∙ e; change = tells_change f l (with_room count) opened stopped _ (room_frees count (f l) e) })
-        (λ e. tells_same f l (with_room count) opened stopped (room_same count (f l) e)))
+    (λ e. record { is_open = sym (is_open_told (f l)) ∙ e; change = tells_change f l (with_room count) opened stopped _ (room_frees count (f l) e) })
+    (λ e. tells_same f l (with_room count) opened stopped (room_same count (f l) e)))
     (λ sent hs m. room_sent count (l == m) (sent m) (f m) (hs m))
 
 pub break_takes : (l : ℕ) (old new : Links) → ChangesOne l breaking old new → Takes (step.Break l) Woken old new
@@ -91,7 +91,7 @@ fresh_told beside v h = λ i. record {
   full = h.full i;
   failed = h.failed i;
   reads = h.reads i;
-  beside = has v.beside.items;
+  beside = has v.beside;
 }
 
 or_on : (a b : Bool) → b ≡ true → (a || b) ≡ true
@@ -119,14 +119,16 @@ open_sent : (l : ℕ) (v : MemLink) (f : LinkMap) (sent : ℕ → Sent) → f l 
     → (m : ℕ) → IsSentBy (sent_next m (sent m) (step.Open l)) (with_link l (Some v) f m)
 open_sent l v f sent none may fresh sound hs m = elim (one_or_two m l) [
   | inl is ↦ subst (λ (k : ℕ). IsSentBy (sent_next k (sent k) (step.Open l)) (with_link l (Some v) f k)) (sym is)
-    (subst (λ (o : Option MemLink). IsSentBy (sent_next l (sent l) (step.Open l)) o) (sym (put_at f l (Some v)))
-        (ap (λ (b : Bool). cond (b && may_open l) (record (sent l) { opened = true }) (sent l)) (itself l)
+      (subst (λ (o : Option MemLink). IsSentBy (sent_next l (sent l) (step.Open l)) o) (sym (put_at f l (Some v))) (
+        ap (λ (b : Bool). cond (b && may_open l) (record (sent l) { opened = true }) (sent l)) (itself l)
             ∙ ap (λ (b : Bool). cond b (record (sent l) { opened = true }) (sent l)) may
             ∙ ap (λ (s : Sent). record s { opened = true }) (none_unsent (sent l) (f l) (hs l) none)
-            ∙ sym fresh, sound))
+            ∙ sym fresh,
+        sound,
+      ))
   | inr ne ↦
-    let other : nat_eq l m ≡ false = two_numbers l m (λ e. ne (sym e)) in
-    subst (λ (b : Bool). IsSentBy (cond (b && may_open m) (record (sent m) { opened = true }) (sent m)) (cond b (Some v) (f m))) (sym other) (hs m)
+      let other : nat_eq l m ≡ false = two_numbers l m (λ e. ne (sym e)) in
+      subst (λ (b : Bool). IsSentBy (cond (b && may_open m) (record (sent m) { opened = true }) (sent m)) (cond b (Some v) (f m))) (sym other) (hs m)
 ]
 
 pub open_takes : (l : ℕ) (old new : Links) → may_open l ≡ true → links_of old l ≡ None → OpensOne l old new → Takes (step.Open l) (Opened l) old new
@@ -135,19 +137,19 @@ open_takes l old new may none h =
     let v = h.link in
     let sent_is : sent_to v ≡ record unsent { opened = true } = λ i. record { opened = true; bytes = h.fresh.arrived i; ended = h.fresh.last i } in
     let opens : (stopped : Bool) → AreOpened old.opened.items f → AreOpen old.open_now.items f → Opens l (state_of f old.opened.items stopped) (state_of (with_link l (Some v) f) (old.opened.items ++ l ∷ []) stopped)
-        = λ stopped ho hn. record {
-          fresh = λ was. absurd (let e : true ≡ false = sym (has_all old.opened.items l was) ∙ ho l ∙ none_some (f l) none in cc);
-          this = subst (λ (o : Option MemLink). told_of o ≡ fresh_link (told_of o).beside) (sym (put_at f l (Some v))) (fresh_told old.open_now.items v h.fresh);
-          beside = λ m. ap (λ (o : Option MemLink). (told_of o).beside m) (put_at f l (Some v)) ∙ ap (λ (ns : List ℕ). has ns m) h.fresh.those ∙ hn m ∙ is_open_told (f m);
-          others = λ m ne. ap told_of (put_other f l (Some v) m ne);
-          opened = refl;
-          stopped = refl;
-        } in
+    = λ stopped ho hn. record {
+      fresh = λ was. absurd (let e : true ≡ false = sym (has_all old.opened.items l was) ∙ ho l ∙ none_some (f l) none in cc);
+      this = subst (λ (o : Option MemLink). told_of o ≡ fresh_link (told_of o).beside) (sym (put_at f l (Some v))) (fresh_told old.open_now.items v h.fresh);
+      beside = λ m. ap (λ (o : Option MemLink). (told_of o).beside m) (put_at f l (Some v)) ∙ ap (λ (ns : List ℕ). has ns m) h.fresh.those ∙ hn m ∙ is_open_told (f m);
+      others = λ m ne. ap told_of (put_other f l (Some v) m ne);
+      opened = refl;
+      stopped = refl;
+    } in
     record {
       answer = sym (ap (λ (b : Bool). told_if (b && not (is_some (f l))) (Opened l)) may ∙ ap (λ (b : Bool). told_if (not b) (Opened l)) (none_some (f l) none));
       told = λ was stopped hs ho hn.
-        subst (λ (g : LinkMap). Opens l (state_of f old.opened.items stopped) (state_of g new.opened.items stopped)) (sym h.links)
-        (subst (λ (o : List ℕ). Opens l (state_of f old.opened.items stopped) (state_of (with_link l (Some v) f) o stopped)) (sym h.opened) (opens stopped ho hn));
+          subst (λ (g : LinkMap). Opens l (state_of f old.opened.items stopped) (state_of g new.opened.items stopped)) (sym h.links)
+          (subst (λ (o : List ℕ). Opens l (state_of f old.opened.items stopped) (state_of (with_link l (Some v) f) o stopped)) (sym h.opened) (opens stopped ho hn));
       sent = λ was hs. subst (λ (g : LinkMap). AreSentBy (λ m. sent_next m (was m) (step.Open l)) g) (sym h.links) (open_sent l v f was none may sent_is h.sound hs);
       opened = λ ho m. ap (λ (o : List ℕ). has o m) h.opened ∙ has_more old.opened.items l m ∙ ap (λ (b : Bool). b || (l == m)) (ho m) ∙ put_some l v f m ∙ ap (λ (g : LinkMap). is_some (g m)) (sym h.links);
       open_now = λ hn m. ap (λ (o : List ℕ). has o m) h.open_now ∙ has_more old.open_now.items l m ∙ ap (λ (b : Bool). b || (l == m)) (hn m) ∙ put_open l v f none h.fresh.is_open m ∙ ap (λ (g : LinkMap). is_open_in (g m)) (sym h.links);
@@ -157,16 +159,21 @@ open_takes l old new may none h =
     by_some : (b : Bool) (v : MemLink) (o : Option MemLink) → (is_some o || b) ≡ is_some (cond b (Some v) o)
     by_some true v o = or_on (is_some o) true refl
     by_some false v o = or_off (is_some o) false refl
+
     put_some : (l : ℕ) (v : MemLink) (f : LinkMap) (m : ℕ) → (is_some (f m) || (l == m)) ≡ is_some (with_link l (Some v) f m)
     put_some l v f m = by_some (l == m) v (f m)
+
     by_open : (b : Bool) (v : MemLink) (o : Option MemLink) → v.is_open ≡ true → (is_open_in o || b) ≡ is_open_in (cond b (Some v) o)
     by_open true v o e = or_on (is_open_in o) true refl ∙ sym e
     by_open false v o e = or_off (is_open_in o) false refl
+
     put_open : (l : ℕ) (v : MemLink) (f : LinkMap) → f l ≡ None → v.is_open ≡ true → (m : ℕ) → (is_open_in (f m) || (l == m)) ≡ is_open_in (with_link l (Some v) f m)
     put_open l v f none e m = by_open (l == m) v (f m) e
+
     none_faults : (o : Option MemLink) → o ≡ None → (n : ℕ) → faults_of o ≤ n
     none_faults None e n = omega arith
     none_faults (Some v) e n = absurd cc
+
     put_faults : (l : ℕ) (v : MemLink) (f : LinkMap) → f l ≡ None → (m : ℕ) → faults_of (f m) ≤ faults_of (with_link l (Some v) f m)
     put_faults l v f none m = elim (one_or_two m l) [
       | inl is ↦ none_faults (f m) (ap f is ∙ none) _

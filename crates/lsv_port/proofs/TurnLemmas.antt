@@ -18,7 +18,7 @@ use Rattle.lsv_port.specs.Port.{IsSame, Told}
 use Rattle.lsv_port.specs.Memory.Numbers.{has}
 use Rattle.lsv_port.specs.Memory.Script.{Sent, unsent, sent_next, sent_by, fails_turn, is_stop}
 use Rattle.lsv_port.specs.Memory.Links.{LinkMap, links_of, told_of, state_of, faults_of, is_open_in, IsSentBy, AreSentBy, AreOpened, AreOpen, AreSame, ready_of, Takes}
-use Rattle.lsv_port.specs.Memory.Value.{told_by, ledger_of, next_step, answer_of, turn_of, IsTurn, IsRefusedTurn, HasStopped, IsRun}
+use Rattle.lsv_port.specs.Memory.Value.{told_by, ledger_of, value_of, next_step, answer_of, turn_of, IsTurn, IsRefusedTurn, HasStopped, IsRun}
 
 -- the steps taken after one more
 steps_more : (xs : List Step) (i : ℕ) (step : Step) → slice_get xs i ≡ Some step → take (i + 1) xs ≡ take i xs ++ step ∷ []
@@ -57,7 +57,7 @@ stopped_more old step e was stopped why told = elim (why told) [
     | inr all ↦ absurd (let within : old.done < length old.script.items = slice_get_within old.script.items old.done step e in omega (arith, within, all))
   ]
   | inr now ↦ inl (subst (λ (xs : List Step). Contains xs steps.Stop) (sym (steps_more old.script.items old.done step e))
-    (subst (λ (s : Step). Contains (take old.done old.script.items ++ s ∷ []) steps.Stop) (sym now) (Contains-push (take old.done old.script.items) steps.Stop)))
+      (subst (λ (s : Step). Contains (take old.done old.script.items ++ s ∷ []) steps.Stop) (sym now) (Contains-push (take old.done old.script.items) steps.Stop)))
 ]
 
 -- a port runs on where a step was taken
@@ -91,7 +91,7 @@ stop_same step e l s = subst (λ (t : Step). sent_next l s t ≡ s) (sym (stop_i
 
 -- a turn's answer
 pub turn_told : (answer : Option Ready) (old : Run) (step : Step) (links : Links) (stopped : Bool) (turns : ℕ) → slice_get old.script.items old.done ≡ Some step → answer ≡ answer_of (links_of old.links) step
-    → IsTurn answer old (record { script = old.script; done = old.done + 1; links = links; stopped = stopped; turns = turns; refused = old.refused })
+    → IsTurn answer (value_of old) (value_of (record { script = old.script; done = old.done + 1; links = links; stopped = stopped; turns = turns; refused = old.refused }))
 turn_told answer old step links stopped turns e is = record {
   told = is ∙ sym (ap (turn_of (links_of old.links)) e);
   done = let within : old.done < length old.script.items = slice_get_within old.script.items old.done step e in omega (arith, within);

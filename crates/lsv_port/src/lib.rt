@@ -5,5 +5,6 @@ mod memory;
 mod port;
 mod step;
 
+pub use memory::MemPort;
 pub use port::{Gave, Port, PortFault, Ready, Took};
 pub use step::Step;

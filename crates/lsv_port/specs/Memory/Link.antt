@@ -12,7 +12,7 @@ use Rattle.lsv_port.specs.Memory.Numbers.{has}
 
 -- what is told of the link
 abbrev pub view_of : MemLink → LinkState
-view_of v = record { is_open = v.is_open; input = take v.taken v.arrived; output = v.output; ended = v.ended; owed = v.owed; full = v.full; failed = v.failed; reads = v.reads.items; beside = has v.beside.items }
+view_of v = record { is_open = v.is_open; input = take v.taken v.arrived; output = v.output; ended = v.ended; owed = v.owed; full = v.full; failed = v.failed; reads = v.reads; beside = has v.beside }
 
 -- a link that was just opened, beside these
 pub record IsFresh (beside : List ℕ) (v : MemLink) : Type 0 where
@@ -24,8 +24,8 @@ pub record IsFresh (beside : List ℕ) (v : MemLink) : Type 0 where
   pub owed : v.owed ≡ true
   pub full : v.full ≡ false
   pub failed : v.failed ≡ false
-  pub reads : v.reads.items ≡ []
-  pub those : v.beside.items ≡ beside
+  pub reads : v.reads ≡ []
+  pub those : v.beside ≡ beside
 
 -- how many bytes have arrived and weren't read
 abbrev pub waiting_of : MemLink → ℕ

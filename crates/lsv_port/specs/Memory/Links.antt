@@ -131,7 +131,7 @@ ready_of links step.Stop = Woken
 pub record Takes (step : Step) (ready : Ready) (old new : Links) : Type 0 where
   pub answer : ready ≡ ready_of (links_of old) step
   pub told : (sent : ℕ → Sent) (stopped : Bool) → AreSentBy sent (links_of old) → AreOpened old.opened.items (links_of old) → AreOpen old.open_now.items (links_of old)
-    → Told ready (state_of (links_of old) old.opened.items stopped) (state_of (links_of new) new.opened.items stopped)
+      → Told ready (state_of (links_of old) old.opened.items stopped) (state_of (links_of new) new.opened.items stopped)
   pub sent : (sent : ℕ → Sent) → AreSentBy sent (links_of old) → AreSentBy (λ l. sent_next l (sent l) step) (links_of new)
   pub opened : AreOpened old.opened.items (links_of old) → AreOpened new.opened.items (links_of new)
   pub open_now : AreOpen old.open_now.items (links_of old) → AreOpen new.open_now.items (links_of new)

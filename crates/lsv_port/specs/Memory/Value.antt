@@ -1,8 +1,10 @@
 -- A port in memory: a script, and what its steps have made so far.
-use Rattle.std.specs.Prelude.{◌≡◌, ◌⊎◌, ℕ, ◌+◌, ◌<◌, ◌≤◌, Bool, true, false, List, [], length, take, min, if◌then◌else◌, Option, Some, None, Result, Ok, Err}
+use Rattle.std.specs.Prelude.{◌≡◌, ◌⊎◌, ℕ, nat_eq, ◌+◌, ◌<◌, ◌≤◌, Bool, true, false, List, [], length, take, min, if◌then◌else◌, Option, Some, None, Result, Ok, Err}
 use Rattle.std.specs.List.{Contains, slice_get}
+use Rattle.std.specs.Map.{lookup}
 use Rattle.lsv_words.specs.Pieces.{IsPrefix}
 use Rattle.lsv_base.specs.Script.{one_more}
+use Rattle.lsv_port.specs.declared.memory.link.MemLink.{MemLink}
 use Rattle.lsv_port.specs.declared.memory.run.Run.{Run}
 use Rattle.lsv_port.specs.declared.port.Ready.{Ready}
 use Rattle.lsv_port.specs.declared.port.Ready.TheVariants as ready
@@ -14,17 +16,48 @@ use Rattle.lsv_port.specs.Memory.Numbers.{has}
 use Rattle.lsv_port.specs.Memory.Script.{Sent, sent_by, fails_turn, is_stop}
 use Rattle.lsv_port.specs.Memory.Links.{LinkMap, links_of, told_of, state_of, faults_of, ready_of, AreSentBy, AreOpened, AreOpen}
 
--- what it tells
+-- what a run tells
 abbrev pub told_by : Run → PortState
 told_by p = state_of (links_of p.links) p.links.opened.items p.stopped
 
--- what stays of it from call to call
+-- what stays of a run from call to call
 abbrev pub ledger_of : Run → PortLedger
 ledger_of p = record { script = p.script.items; turns = p.turns; links = λ l. faults_of (links_of p.links l) }
 
+-- a port in memory: its script, how many of its steps were taken, its links, those that were opened and those that are open, whether Stop was told, how often turns failed, and how often a call failed for lack of memory
+pub record PortValue : Type 0 where
+  pub script : List Step
+  pub done : ℕ
+  pub links : List (ℕ × MemLink)
+  pub opened : List ℕ
+  pub open_now : List ℕ
+  pub stopped : Bool
+  pub turns : ℕ
+  pub refused : ℕ
+
+-- a run is such a port
+abbrev pub value_of : Run → PortValue
+value_of p = record { script = p.script.items; done = p.done; links = p.links.by_number.entries; opened = p.links.opened.items; open_now = p.links.open_now.items; stopped = p.stopped; turns = p.turns; refused = p.refused }
+
+-- the links by their numbers
+abbrev pub link_map : PortValue → LinkMap
+link_map p l = lookup (nat_eq l) p.links
+
+-- those of the numbers that were opened
+abbrev pub listed : PortValue → LinkMap
+listed p l = if has p.opened l then link_map p l else None
+
+-- what a port in memory tells
+abbrev pub port_state : PortValue → PortState
+port_state p = state_of (listed p) p.opened p.stopped
+
+-- what stays of it from call to call
+abbrev pub port_ledger : PortValue → PortLedger
+port_ledger p = record { script = p.script; turns = p.turns; links = λ l. faults_of (link_map p l) }
+
 -- the next step of the script, where there is one
-abbrev pub next_step : Run → Option Step
-next_step p = slice_get p.script.items p.done
+abbrev pub next_step : PortValue → Option Step
+next_step p = slice_get p.script p.done
 
 -- what a step tells, None where it makes the turn fail
 abbrev pub answer_of : LinkMap → Step → Option Ready
@@ -36,13 +69,13 @@ turn_of links None = Some ready.Stop
 turn_of links (Some step) = answer_of links step
 
 -- a turn that told this: a step more was taken, where there was one
-pub record IsTurn (answer : Option Ready) (old new : Run) : Type 0 where
-  pub told : answer ≡ turn_of (links_of old.links) (next_step old)
-  pub done : new.done ≡ min (old.done + 1) (length old.script.items)
+pub record IsTurn (answer : Option Ready) (old new : PortValue) : Type 0 where
+  pub told : answer ≡ turn_of (link_map old) (next_step old)
+  pub done : new.done ≡ min (old.done + 1) (length old.script)
   pub refused : new.refused ≡ old.refused
 
 -- a turn to which memory was refused: no step was taken
-pub record IsRefusedTurn (answer : Option Ready) (old new : Run) : Type 0 where
+pub record IsRefusedTurn (answer : Option Ready) (old new : PortValue) : Type 0 where
   pub told : answer ≡ None
   pub done : new.done ≡ old.done
   pub refused : new.refused ≡ one_more old.refused

@@ -5,7 +5,7 @@ ghost use Rattle.lsv_port.specs.Port.{TakesWithin, MayTake, GivesWithin, after_r
 ghost use Rattle.lsv_port.specs.Memory.Link.{view_of, IsFresh, IsSound, IsSameSent, took_of, waiting_of, taken_of, gave_of, with_bytes, with_last, with_room};
 
 use crate::{Gave, Took};
-use lsv_base::{Bytes, NoMem};
+use lsv_base::{Bytes, List, NoMem};
 use std::alloc::Global;
 
 /// One link in memory.
@@ -19,7 +19,7 @@ pub(crate) struct MemLink {
     pub(crate) last: bool,
     pub(crate) ended: bool,
     pub(crate) owed: bool,
-    pub(crate) reads: Vec<usize>,
+    pub(crate) reads: List<usize>,
     pub(crate) output: Bytes,
     /// How many bytes it takes, where it doesn't take all.
     pub(crate) room: Option<usize>,
@@ -28,7 +28,7 @@ pub(crate) struct MemLink {
     pub(crate) breaks: bool,
     pub(crate) failed: bool,
     pub(crate) faults: u64,
-    pub(crate) beside: Vec<u32>,
+    pub(crate) beside: List<u32>,
 }
 
 /// Copies as many of the bytes as the buffer takes to its front.
@@ -43,8 +43,8 @@ fn copy_prefix(bytes: &[u8], buf: &mut [u8]) -> usize
 
 impl MemLink {
     /// A link that was just opened, beside these.
-    pub(crate) fn new(alloc: Global, beside: Vec<u32>) -> Self
-        ensures fresh { IsFresh beside.items result }
+    pub(crate) fn new(alloc: Global, beside: List<u32>) -> Self
+        ensures fresh { IsFresh beside result }
         ensures sound { IsSound result }
     {
         MemLink {
@@ -54,7 +54,7 @@ impl MemLink {
             last: false,
             ended: false,
             owed: true,
-            reads: Vec::new(alloc),
+            reads: List::new(alloc),
             output: Bytes::new(alloc),
             room: None,
             full: false,
@@ -63,6 +63,14 @@ impl MemLink {
             faults: 0,
             beside,
         }
+    }
+
+    /// The bytes that were read.
+    pub(crate) fn input(&self) -> &[u8]
+        ensures { result.now ≡ (view_of self.now).input }
+    {
+        let arrived = self.arrived.as_slice();
+        &arrived[..self.taken.min(arrived.len())]
     }
 
     /// Counts a read that failed.

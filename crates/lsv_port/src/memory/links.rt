@@ -9,7 +9,7 @@ ghost use Rattle.lsv_port.specs.Memory.Links.{links_of, AreSentBy, AreSound, Use
 
 use crate::memory::link::MemLink;
 use crate::{Gave, Ready, Step, Took};
-use lsv_base::NoMem;
+use lsv_base::{List, NoMem};
 use std::alloc::Global;
 use std::collections::HashMap;
 
@@ -53,7 +53,7 @@ impl Links {
         ensures ok { OnOk result (OpensOne number self.old self.new) }
         ensures err { OnErr result (AreSame self.old self.new) }
     {
-        let beside = self.open_now.to_vec(alloc)?;
+        let beside = List::from_vec(self.open_now.to_vec(alloc)?);
         self.opened.reserve(1)?;
         self.open_now.reserve(1)?;
         self.by_number.insert(number, MemLink::new(alloc, beside))?;

@@ -7,7 +7,7 @@ ghost use Rattle.lsv_port.specs.Port.{IsSame, Changes, Told, TakesWithin, MayTak
 ghost use Rattle.lsv_port.specs.Ledger.{Continues, HasTurnCause, HasLinkCause};
 ghost use Rattle.lsv_port.specs.Memory.Link.{AnswersRead, AnswersWrite};
 ghost use Rattle.lsv_port.specs.Memory.Links.{links_of, is_open_in};
-ghost use Rattle.lsv_port.specs.Memory.Value.{told_by, ledger_of, IsRun, IsTurn, IsRefusedTurn};
+ghost use Rattle.lsv_port.specs.Memory.Value.{told_by, ledger_of, value_of, IsRun, IsTurn, IsRefusedTurn};
 
 use crate::memory::links::Links;
 use crate::{Gave, PortFault, Ready, Step, Took};
@@ -61,7 +61,7 @@ impl Run {
         ensures told { IfOk result (λ ready. Told ready (told_by self.old) (told_by self.new)) }
         ensures failed { OnErr result (IsSame (told_by self.old) (told_by self.new)) }
         ensures cause { HasTurnCause (IsErr result) (ledger_of self.old) (ledger_of self.new) }
-        ensures answer { IsTurn (result_ok result) self.old self.new ⊎ IsRefusedTurn (result_ok result) self.old self.new }
+        ensures answer { IsTurn (result_ok result) (value_of self.old) (value_of self.new) ⊎ IsRefusedTurn (result_ok result) (value_of self.old) (value_of self.new) }
     {
         let Some(step) = step_at(&self.script, self.done) else {
             self.stopped = true;

@@ -31,7 +31,7 @@ returns-in-Ok-clause-told c = link_told c.args.self.now c.in-Some.step.now c.in-
 pub returns-in-Ok-clause-answer : goal.returns-in-Ok-clause-answer
 returns-in-Ok-clause-answer c =
     inl (turn_told _ c.args.self.now c.in-Some.step.now c.take.new.self c.args.self.now.stopped c.args.self.now.turns (search rules)
-        (link_answer (links_of c.args.self.now.links) c.in-Some.step.now c.in-Ok.ready (search rules) (search rules) c.in-Ok.ensures.ok.answer))
+    (link_answer (links_of c.args.self.now.links) c.in-Some.step.now c.in-Ok.ready (search rules) (search rules) c.in-Ok.ensures.ok.answer))
 
 pub returns-in-Err-clause-run : goal.returns-in-Err-clause-run
 returns-in-Err-clause-run c = refused_runs c.args.self.now c.take.new.self _ _ c.requires.run c.in-Err.ensures.err
