@@ -1,3 +1,4 @@
+pub mod LedgerLemmas
 pub mod LinkLemmas
 pub mod NumberLemmas
 pub mod PortLemmas
