@@ -1,10 +1,10 @@
 -- What a change of one link says, and which links are sound after it.
-use Rattle.std.proofs.Common.{◌≡◌, ◌≢◌, ◌⊎◌, inl, inr, ◌≤◌, ◌+◌, ℕ, Bool, true, false, ◌==◌, ◌&&◌, ◌||◌, not, cond, nat_eq, List, [], ◌∷◌, ◌++◌, length, take, Option, Some, None, is_some, option_map, refl, sym, ap, subst, ◌∙◌, arith}
+use Rattle.std.proofs.Common.{◌≡◌, ◌≢◌, inl, inr, ◌≤◌, ◌+◌, ℕ, Bool, true, false, ◌&&◌, ◌||◌, not, cond, List, ◌++◌, length, Option, Some, None, is_some, option_map, refl, sym, ap, subst, ◌∙◌, arith}
 use Rattle.std.proofs.lemmas.List.{take-append-le, length-append}
 use Rattle.lsv_port.specs.declared.memory.link.MemLink.{MemLink}
 use Rattle.lsv_port.specs.declared.port.Ready.{Ready}
 use Rattle.lsv_port.specs.Port.{LinkState, PortState, Changes, IsSame, Told}
-use Rattle.lsv_port.specs.Memory.Link.{view_of, IsSound, IsReadOut, with_bytes, with_last, with_room, breaking, shut}
+use Rattle.lsv_port.specs.Memory.Link.{view_of, IsSound, with_bytes, with_last, with_room, breaking}
 use Rattle.lsv_port.specs.Memory.Script.{Sent, unsent, goes_on}
 use Rattle.lsv_port.specs.Memory.Links.{LinkMap, told_of, state_of, faults_of, is_open_in, is_hearing, sent_to, IsSentBy, told_if, changed_at, with_link}
 use Rattle.lsv_port.proofs.NumberLemmas.{true_or_false, itself, one_or_two, two_numbers}

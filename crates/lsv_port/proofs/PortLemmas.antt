@@ -1,14 +1,12 @@
 -- What a port in memory tells is what its run tells.
-use Rattle.std.proofs.Common.{◌≡◌, ◌⊎◌, inl, inr, ◌≤◌, ℕ, Bool, true, false, cond, List, [], ◌∷◌, ◌++◌, take, drop, length, Option, Some, None, is_some, refl, sym, ap, subst, ◌∙◌, arith}
-use Rattle.std.specs.List.{Contains}
+use Rattle.std.proofs.Common.{◌≡◌, inl, inr, ℕ, Bool, true, cond, take, drop, length, Option, Some, None, is_some, refl, sym, ap, subst, ◌∙◌, arith}
 use Rattle.std.proofs.lemmas.List.{take-append-drop, take_all}
 use Rattle.lsv_port.specs.declared.memory.link.MemLink.{MemLink}
 use Rattle.lsv_port.specs.declared.memory.run.Run.{Run}
-use Rattle.lsv_port.specs.Port.{LinkState, PortState, IsOpen}
-use Rattle.lsv_port.specs.Memory.Numbers.{has}
-use Rattle.lsv_port.specs.Memory.Script.{Sent, unsent, sent_by}
-use Rattle.lsv_port.specs.Memory.Links.{LinkMap, links_of, told_of, state_of, is_open_in, IsSentBy}
-use Rattle.lsv_port.specs.Memory.Value.{told_by, value_of, port_state, IsRun, TellsSent, TellsSteps, TellsScript}
+use Rattle.lsv_port.specs.Port.{PortState, IsOpen}
+use Rattle.lsv_port.specs.Memory.Script.{Sent, sent_by}
+use Rattle.lsv_port.specs.Memory.Links.{links_of, told_of, is_open_in, IsSentBy}
+use Rattle.lsv_port.specs.Memory.Value.{told_by, value_of, port_state, IsRun, TellsSent, TellsScript}
 use Rattle.lsv_port.proofs.LinkLemmas.{is_open_told}
 
 some_or_none : {X : Type 0} (o : Option X) → cond (is_some o) o None ≡ o

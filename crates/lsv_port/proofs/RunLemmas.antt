@@ -1,5 +1,5 @@
 -- What a call says of a port in memory.
-use Rattle.std.proofs.Common.{◌≡◌, ◌≢◌, ◌⊎◌, inl, inr, ◌≤◌, ◌+◌, ◌<◌, ℕ, Bool, true, false, ◌==◌, ◌&&◌, not, cond, nat_eq, List, [], ◌∷◌, ◌++◌, take, length, Option, Some, None, is_some, option_map, refl, sym, ap, subst, ◌∙◌, arith}
+use Rattle.std.proofs.Common.{◌≡◌, ◌≢◌, inl, inr, ◌≤◌, ℕ, Bool, true, false, ◌==◌, cond, List, take, Option, Some, None, is_some, option_map, refl, sym, ap, subst, ◌∙◌, arith}
 use Rattle.lsv_base.specs.Outside.{HasCause}
 use Rattle.lsv_words.specs.Causes.{HasRisen}
 use Rattle.lsv_port.specs.declared.memory.link.MemLink.{MemLink}
@@ -9,13 +9,13 @@ use Rattle.lsv_port.specs.declared.port.Took.{Took}
 use Rattle.lsv_port.specs.declared.port.Took.TheVariants as took
 use Rattle.lsv_port.specs.declared.port.Gave.{Gave}
 use Rattle.lsv_port.specs.declared.port.Gave.TheVariants as gave
-use Rattle.lsv_port.specs.Ledger.{PortLedger, Continues, HasTurnCause, HasLinkCause}
+use Rattle.lsv_port.specs.Ledger.{Continues, HasLinkCause}
 use Rattle.lsv_port.specs.Port.{LinkState, Changes, MayTake, after_read, after_write, closed}
 use Rattle.lsv_port.specs.Memory.Link.{view_of, IsSound, IsSameSent, IsRead, IsWritten, shut}
 use Rattle.lsv_port.specs.Memory.Numbers.{has}
 use Rattle.lsv_port.specs.Memory.Script.{Sent, sent_by}
-use Rattle.lsv_port.specs.Memory.Links.{LinkMap, links_of, told_of, state_of, faults_of, is_open_in, sent_to, IsSentBy, AreSentBy, AreSound, AreOpened, AreOpen, changed_at, with_link, UsesOne}
-use Rattle.lsv_port.specs.Memory.Value.{told_by, ledger_of, IsRun}
+use Rattle.lsv_port.specs.Memory.Links.{LinkMap, links_of, told_of, state_of, faults_of, is_open_in, sent_to, IsSentBy, AreSentBy, AreSound, AreOpen, changed_at, with_link, UsesOne}
+use Rattle.lsv_port.specs.Memory.Value.{ledger_of, IsRun}
 use Rattle.lsv_port.proofs.NumberLemmas.{one_or_two}
 use Rattle.lsv_port.proofs.LinkLemmas.{put_at, put_other, tells_change}
 

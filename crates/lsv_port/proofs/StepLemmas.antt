@@ -1,6 +1,5 @@
 -- What each step of a script does to the links.
-use Rattle.std.proofs.Common.{◌≡◌, ◌≢◌, ◌⊎◌, inl, inr, ◌≤◌, ◌+◌, ◌<◌, ℕ, zero, suc, take, Bool, true, false, ◌==◌, ◌&&◌, ◌||◌, not, cond, nat_eq, nat_lt, List, [], ◌∷◌, ◌++◌, Option, Some, None, is_some, option_map, refl, sym, ap, subst, ◌∙◌, arith}
-use Rattle.std.specs.List.{Contains}
+use Rattle.std.proofs.Common.{◌≡◌, inl, inr, ◌≤◌, ℕ, zero, suc, take, Bool, true, false, ◌==◌, ◌&&◌, ◌||◌, not, cond, nat_eq, List, [], ◌∷◌, ◌++◌, Option, Some, None, is_some, refl, sym, ap, subst, ◌∙◌, arith}
 use Rattle.std.specs.Prelude.{Result, Ok, Err, IfOk, OnOk, OnErr}
 use Rattle.lsv_port.specs.declared.memory.link.MemLink.{MemLink}
 use Rattle.lsv_port.specs.declared.memory.links.Links.{Links}
@@ -8,12 +7,12 @@ use Rattle.lsv_port.specs.declared.port.Ready.{Ready}
 use Rattle.lsv_port.specs.declared.port.Ready.TheVariants.{Opened, Readable, Writable, Woken}
 use Rattle.lsv_port.specs.declared.step.Step.{Step}
 use Rattle.lsv_port.specs.declared.step.Step.TheVariants as step
-use Rattle.lsv_port.specs.Port.{LinkState, PortState, fresh_link, Changes, IsSame, Opens, Told}
+use Rattle.lsv_port.specs.Port.{fresh_link, Opens, Told}
 use Rattle.lsv_port.specs.Memory.Numbers.{has}
 use Rattle.lsv_port.specs.Memory.Link.{view_of, IsFresh, IsSound, with_bytes, with_last, with_room, breaking}
 use Rattle.lsv_port.specs.Memory.Script.{Sent, unsent, may_open, sent_next}
 use Rattle.lsv_port.specs.Memory.Links.{LinkMap, links_of, told_of, state_of, faults_of, is_open_in, is_hearing, sent_to, IsSentBy, AreSentBy, AreOpened, AreOpen, changed_at, with_link, ChangesOne, OpensOne, told_if, ready_of, Takes}
-use Rattle.lsv_port.proofs.NumberLemmas.{true_or_false, itself, one_number, one_or_two, two_numbers, has_more, has_all}
+use Rattle.lsv_port.proofs.NumberLemmas.{itself, one_or_two, two_numbers, has_more, has_all}
 use Rattle.lsv_port.proofs.LinkLemmas.{put_at, put_other, tells_change, tells_same, told_either, is_open_told, hearing_open, hearing_going, bytes_owe, bytes_same, bytes_sent, last_owes, last_same, last_sent, room_frees, room_same, room_sent, break_same, break_sent, IsMild, bytes_mild, last_mild, room_mild, break_mild, mild_some, mild_open, mild_faults}
 
 -- what a step says of links of which one changes

@@ -1,11 +1,10 @@
 -- What a turn of a port in memory makes of it.
-use Rattle.std.proofs.Common.{◌≡◌, ◌⊎◌, inl, inr, ◌≤◌, ◌+◌, ◌<◌, ℕ, Bool, true, false, cond, List, [], ◌∷◌, ◌++◌, take, length, min, Option, Some, None, is_some, refl, sym, ap, subst, ◌∙◌, arith}
+use Rattle.std.proofs.Common.{◌≡◌, ◌⊎◌, inl, inr, ◌≤◌, ◌+◌, ◌<◌, ℕ, Bool, true, false, cond, List, [], ◌∷◌, ◌++◌, take, length, Option, Some, None, is_some, refl, sym, ap, subst, ◌∙◌, arith}
 use Rattle.std.specs.List.{Contains, slice_get}
-use Rattle.std.proofs.lemmas.List.{take_more, take_all}
+use Rattle.std.proofs.lemmas.List.{take_more}
 use Rattle.std.proofs.lemmas.List.Sums.{fold_push}
 use Rattle.std.proofs.lemmas.List.Elements.{Contains-append_left, Contains-push}
 use Rattle.std.proofs.lemmas.Option.{slice_get_within, get_or_from_slice_get}
-use Rattle.lsv_base.specs.Script.{one_more}
 use Rattle.lsv_words.specs.Causes.{HasRisen}
 use Rattle.lsv_port.specs.declared.memory.links.Links.{Links}
 use Rattle.lsv_port.specs.declared.memory.run.Run.{Run}
@@ -13,12 +12,12 @@ use Rattle.lsv_port.specs.declared.port.Ready.{Ready}
 use Rattle.lsv_port.specs.declared.port.Ready.TheVariants as ready
 use Rattle.lsv_port.specs.declared.step.Step.{Step}
 use Rattle.lsv_port.specs.declared.step.Step.TheVariants as steps
-use Rattle.lsv_port.specs.Ledger.{Continues, HasTurnCause}
+use Rattle.lsv_port.specs.Ledger.{HasTurnCause}
 use Rattle.lsv_port.specs.Port.{IsSame, Told}
 use Rattle.lsv_port.specs.Memory.Numbers.{has}
 use Rattle.lsv_port.specs.Memory.Script.{Sent, unsent, sent_next, sent_by, fails_turn, is_stop}
 use Rattle.lsv_port.specs.Memory.Links.{LinkMap, links_of, told_of, state_of, faults_of, is_open_in, IsSentBy, AreSentBy, AreOpened, AreOpen, AreSame, ready_of, Takes}
-use Rattle.lsv_port.specs.Memory.Value.{told_by, ledger_of, value_of, next_step, answer_of, turn_of, IsTurn, IsRefusedTurn, HasStopped, IsRun}
+use Rattle.lsv_port.specs.Memory.Value.{told_by, ledger_of, value_of, answer_of, turn_of, IsTurn, HasStopped, IsRun}
 
 -- the steps taken after one more
 steps_more : (xs : List Step) (i : ℕ) (step : Step) → slice_get xs i ≡ Some step → take (i + 1) xs ≡ take i xs ++ step ∷ []

@@ -1,7 +1,7 @@
 -- The law of a port, for one in memory.
-use Rattle.std.specs.Prelude.{◌≡◌, ◌⊎◌, ℕ, ◌+◌, ◌<◌, ◌==◌, ◌||◌, if◌then◌else◌, Bool, true, false, List, [], ◌∷◌, length, Option, Some, None, refl}
+use Rattle.std.specs.Prelude.{◌≡◌, ◌⊎◌, ℕ, ◌==◌, ◌||◌, Bool, true, false, List, [], ◌∷◌, None, refl}
 use Rattle.std.specs.List.{Contains}
-use Rattle.std.proofs.Common.{inl, inr, sym, ap, ◌∙◌, arith, zero, suc, cond, nat_eq}
+use Rattle.std.proofs.Common.{inl, inr, sym, ap, ◌∙◌, arith, suc, cond, nat_eq}
 use Rattle.std.proofs.lemmas.Bool.Decides.{nat_tests}
 use Rattle.lsv_port.specs.Port.{IsOpen}
 use Rattle.lsv_port.specs.Memory.Numbers.{has}

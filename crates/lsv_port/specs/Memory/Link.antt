@@ -1,5 +1,5 @@
 -- One link of a port in memory.
-use Rattle.std.specs.Prelude.{◌≡◌, ◌⊎◌, ℕ, ◌+◌, ◌-◌, ◌^◌, ◌≤◌, ◌==◌, ◌&&◌, ◌||◌, Bool, true, false, not, if◌then◌else◌, Option, Some, None, unwrap_or, List, [], ◌++◌, length, take, min}
+use Rattle.std.specs.Prelude.{◌≡◌, ◌⊎◌, ℕ, ◌+◌, ◌-◌, ◌^◌, ◌≤◌, ◌==◌, ◌&&◌, ◌||◌, true, false, not, if◌then◌else◌, Some, unwrap_or, List, [], ◌++◌, length, take, min}
 use Rattle.lsv_port.specs.declared.memory.link.MemLink.{MemLink}
 use Rattle.lsv_port.specs.declared.port.Took.{Took}
 use Rattle.lsv_port.specs.declared.port.Took.TheVariants as took

@@ -1,5 +1,5 @@
 -- What a script makes of each link.
-use Rattle.std.specs.Prelude.{ℕ, ◌==◌, ◌&&◌, Bool, true, false, not, nat_lt, if◌then◌else◌, List, [], ◌∷◌, ◌++◌}
+use Rattle.std.specs.Prelude.{ℕ, ◌==◌, ◌&&◌, Bool, true, false, not, nat_lt, if◌then◌else◌, List, [], ◌++◌}
 use Rattle.std.specs.List.{fold}
 use Rattle.lsv_port.specs.declared.step.Step.{Step}
 use Rattle.lsv_port.specs.declared.step.Step.TheVariants.{Open, Give, Room, Last, Break, BreakTurn, Wake, Stop}

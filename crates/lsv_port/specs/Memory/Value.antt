@@ -1,5 +1,5 @@
 -- A port in memory: a script, and what its steps have made so far.
-use Rattle.std.specs.Prelude.{◌≡◌, ◌⊎◌, ℕ, nat_eq, ◌+◌, ◌<◌, ◌≤◌, Bool, true, false, List, [], length, take, min, if◌then◌else◌, Option, Some, None, Result, Ok, Err}
+use Rattle.std.specs.Prelude.{◌≡◌, ◌⊎◌, ℕ, nat_eq, ◌+◌, ◌≤◌, Bool, true, false, List, length, take, min, if◌then◌else◌, Option, Some, None}
 use Rattle.std.specs.List.{Contains, slice_get}
 use Rattle.std.specs.Map.{lookup}
 use Rattle.lsv_words.specs.Pieces.{IsPrefix}
@@ -14,7 +14,7 @@ use Rattle.lsv_port.specs.Ledger.{PortLedger}
 use Rattle.lsv_port.specs.Port.{LinkState, PortState}
 use Rattle.lsv_port.specs.Memory.Numbers.{has}
 use Rattle.lsv_port.specs.Memory.Script.{Sent, sent_by, fails_turn, is_stop}
-use Rattle.lsv_port.specs.Memory.Links.{LinkMap, links_of, told_of, state_of, faults_of, ready_of, AreSentBy, AreOpened, AreOpen}
+use Rattle.lsv_port.specs.Memory.Links.{LinkMap, links_of, state_of, faults_of, ready_of, AreSentBy, AreOpened, AreOpen}
 
 -- what a run tells
 abbrev pub told_by : Run → PortState

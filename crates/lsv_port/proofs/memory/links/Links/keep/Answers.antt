@@ -1,4 +1,4 @@
-use Rattle.std.proofs.Common.{List, ℕ, refl, sym, subst, rules, arith}
+use Rattle.std.proofs.Common.{List, ℕ, subst, rules}
 use Rattle.lsv_port.specs.Memory.Link.{IsFresh}
 use Rattle.lsv_port.proofs.memory.links.Links.keep.Goals as goal
 

@@ -1,6 +1,5 @@
 use Rattle.std.proofs.Common.{rules, arith}
 use Rattle.std.proofs.lemmas.Bool.Decides.{nat_tests}
-use Rattle.lsv_port.specs.Memory.Links.{AreSame}
 use Rattle.lsv_port.proofs.StepLemmas.{open_takes, on_err}
 use Rattle.lsv_port.proofs.memory.links.Links.open.Goals as goal
 

@@ -1,6 +1,6 @@
 use Rattle.lsv_port.specs.Port.{after_read}
 use Rattle.lsv_port.specs.Memory.Link.{IsRead}
-use Rattle.lsv_port.proofs.RunLemmas.{sound_sent, use_changes, use_runs, use_cause, read_keeps, read_may}
+use Rattle.lsv_port.proofs.RunLemmas.{use_changes, use_runs, use_cause, read_keeps}
 use Rattle.lsv_port.proofs.memory.run.Run.read.Goals as goal
 
 pub returns-clause-run : goal.returns-clause-run

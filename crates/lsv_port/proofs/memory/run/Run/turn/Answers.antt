@@ -1,5 +1,4 @@
-use Rattle.std.proofs.Common.{◌≡◌, ◌⊎◌, inl, inr, Option, Some, true, false, refl, rules, arith, sym, ◌∙◌}
-use Rattle.std.specs.List.{slice_get}
+use Rattle.std.proofs.Common.{◌≡◌, inl, inr, true, rules}
 use Rattle.lsv_port.specs.Memory.Links.{links_of}
 use Rattle.lsv_port.proofs.TurnLemmas.{step_runs, plain_runs, fails_same, stop_same, stop_is, turn_told, fails_answer, stop_answer, link_answer, link_told, refused_runs, refused_told, refused_cause}
 use Rattle.lsv_port.proofs.memory.run.Run.turn.Goals as goal

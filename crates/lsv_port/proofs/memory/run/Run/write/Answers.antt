@@ -1,6 +1,6 @@
 use Rattle.lsv_port.specs.Port.{after_write}
 use Rattle.lsv_port.specs.Memory.Link.{IsWritten}
-use Rattle.lsv_port.proofs.RunLemmas.{sound_sent, use_changes, use_runs, use_cause, write_keeps}
+use Rattle.lsv_port.proofs.RunLemmas.{use_changes, use_runs, use_cause, write_keeps}
 use Rattle.lsv_port.proofs.memory.run.Run.write.Goals as goal
 
 pub returns-clause-run : goal.returns-clause-run
