@@ -1,3 +1,6 @@
+ghost use Rattle.std.specs.Prelude.{◌≡◌};
+ghost use Rattle.lsv_port.specs.Memory.Script.{fails_turn, is_stop};
+
 use lsv_base::Bytes;
 
 /// What happens next at a port whose links are fixed beforehand.
@@ -19,4 +22,20 @@ pub enum Step {
     Wake,
     /// The server is to end.
     Stop,
+}
+
+impl Step {
+    /// Whether it makes the turn fail.
+    pub(crate) fn fails_turn(&self) -> bool
+        ensures { result ≡ fails_turn self.now }
+    {
+        matches!(self, Step::BreakTurn)
+    }
+
+    /// Whether it tells Stop.
+    pub(crate) fn is_stop(&self) -> bool
+        ensures { result ≡ is_stop self.now }
+    {
+        matches!(self, Step::Stop)
+    }
 }
