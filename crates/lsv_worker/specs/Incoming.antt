@@ -107,22 +107,44 @@ weight Starving = 2
 weight (Leaving why) = 1
 weight (Left why) = 0
 
--- Of a link, whose bytes read are these, so much was put to each lane.
-pub record Hears (link : Incoming) (read : List ℕ) (put : ℕ → List Body) : Type 0 where
+-- a keeper shut the connection
+abbrev pub is_shut : Why → Bool
+is_shut Ended = false
+is_shut Refused = false
+is_shut Shut = true
+is_shut Starved = false
+
+-- a connection at this stage ends since a keeper shut it
+abbrev pub was_shut : Stage → Bool
+was_shut Hearing = false
+was_shut Ending = false
+was_shut Starving = false
+was_shut (Leaving why) = is_shut why
+was_shut (Left why) = is_shut why
+
+-- what came of outside: that a keeper shut the connection by itself, and that no more bytes come
+pub record Marks : Type 0 where
+  pub shut : Bool
+  pub over : Bool
+
+-- Of a link, whose bytes read are these, so much was put to each lane; it ends only by what came.
+pub record Hears (link : Incoming) (read : List ℕ) (put : ℕ → List Body) (marks : Marks) : Type 0 where
   pub said : List Body
   pub routed : Routed link.route put said (pending link)
   pub quiet : link.route.lane ≡ None → link.waiting ≡ None
   pub bodies : AreBodies link.stage read link.rest (said ++ pending link)
+  pub shut : was_shut link.stage ≡ true → marks.shut ≡ true
+  pub over : hears link.stage ≡ false → marks.over ≡ true
+
+-- what was read and put keeps its sense, whatever it was
+abbrev pub SameWay : Incoming → Incoming → Type 0
+SameWay old new = (read : List ℕ) (put : ℕ → List Body) (marks : Marks) → Hears old read put marks → Hears new read put marks
 
 -- What a call puts to each lane, whatever was read and put before.
 pub record Puts (c : ConnId) (old new : Incoming) (before after : ℕ → List Job) : Type 0 where
   pub added : ℕ → List Body
   pub put : (lane : ℕ) → after lane ≡ before lane ++ map (job_of c) (added lane)
-  pub goes : (read : List ℕ) (past : ℕ → List Body) → Hears old read past → Hears new read (λ lane. past lane ++ added lane)
-
--- what was read and put keeps its sense, whatever it was
-abbrev pub SameWay : Incoming → Incoming → Type 0
-SameWay old new = (read : List ℕ) (put : ℕ → List Body) → Hears old read put → Hears new read put
+  pub goes : (read : List ℕ) (past : ℕ → List Body) (marks : Marks) → Hears old read past marks → Hears new read (λ lane. past lane ++ added lane) marks
 
 -- the lane of a connection was full: the count of its refused puts rose
 abbrev pub WasFull : Routing → (ℕ → ℕ) → (ℕ → ℕ) → Type 0

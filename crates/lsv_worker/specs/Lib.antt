@@ -1,2 +1,5 @@
 pub mod Lanes
 pub mod Incoming
+pub mod Outgoing
+pub mod Links
+pub mod Worker

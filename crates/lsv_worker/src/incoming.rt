@@ -7,7 +7,7 @@ ghost use Rattle.lsv_session.specs.Transcript.{AreAllJobs};
 ghost use Rattle.lsv_session.specs.declared.job.Body.{Body};
 ghost use Rattle.lsv_session.specs.declared.job.Body.TheVariants as bodies;
 ghost use Rattle.lsv_session.specs.declared.job.Fault.TheVariants as faults;
-ghost use Rattle.lsv_worker.specs.Incoming.{Hears, Puts, SameWay, WasFull, cuts, drops, has_left, hears, kept, weight};
+ghost use Rattle.lsv_worker.specs.Incoming.{Hears, Marks, Puts, SameWay, WasFull, cuts, drops, has_left, hears, kept, weight};
 ghost use Rattle.lsv_worker.specs.Lanes.{Routed};
 
 use crate::Inbox;
@@ -99,6 +99,14 @@ impl Stage {
         }
     }
 
+    /// Whether memory was wanting for it.
+    pub(crate) fn is_starved(self) -> bool {
+        match self {
+            Stage::Starving | Stage::Leaving(Why::Starved) | Stage::Left(Why::Starved) => true,
+            _ => false,
+        }
+    }
+
     /// Whether its end was put.
     pub(crate) fn has_left(self) -> bool
         ensures { result ≡ has_left self }
@@ -127,7 +135,7 @@ fn malformed(fault: MsgFault) -> Option<Fault>
 impl Incoming {
     pub(crate) fn new(alloc: Global, lanes: u32, seq: u64) -> Self
         requires { 0 < lanes }
-        ensures hears { Hears result [] (λ lane. []) }
+        ensures hears { Hears result [] (λ lane. []) (record { shut = false; over = false }) }
         ensures stage { result.stage ≡ Stage.Hearing }
     {
         Incoming {
@@ -146,6 +154,7 @@ impl Incoming {
         ensures goes { SameWay self.old self.new }
         ensures stage { self.new.stage ≡ Stage.Starving }
         ensures rest { self.new.rest ≡ self.old.rest }
+        ensures lanes { self.new.route.lanes ≡ self.old.route.lanes }
     {
         self.route.settle();
         self.stage = Stage::Starving;
@@ -160,6 +169,7 @@ impl Incoming {
         ensures ready { kept self.new.first ++ kept self.new.waiting ≡ kept self.old.first ++ body ∷ [] }
         ensures quiet { self.new.route.lane ≡ None → self.new.waiting ≡ None }
         ensures routed { (put : ℕ → List Body) (said : List Body) → Routed self.old.route put said (kept self.old.first) → Routed self.new.route put said (kept self.old.first ++ body ∷ []) }
+        ensures lanes { self.new.route.lanes ≡ self.old.route.lanes }
     {
         if self.route.is_decided() {
             self.waiting = Some(body);
@@ -179,8 +189,9 @@ impl Incoming {
         requires cutting { cuts self.old.stage ≡ true }
         ensures rest { self.new.rest ≡ self.old.rest }
         ensures stage { self.new.stage ≡ Stage.Leaving Why.Refused }
-        ensures goes { (read : List ℕ) (put : ℕ → List Body) (h : Hears self.old read put)
-            → AreAllJobs read ((h.said ++ kept self.old.first) ++ bodies.Bad fault ∷ []) → Hears self.new read put }
+        ensures goes { (read : List ℕ) (put : ℕ → List Body) (marks : Marks) (h : Hears self.old read put marks)
+            → AreAllJobs read ((h.said ++ kept self.old.first) ++ bodies.Bad fault ∷ []) → Hears self.new read put marks }
+        ensures lanes { self.new.route.lanes ≡ self.old.route.lanes }
     {
         self.receive(Body::Bad(fault));
         self.stage = Stage::Leaving(Why::Refused);
@@ -189,7 +200,7 @@ impl Incoming {
     /// Memory was wanting for this connection elsewhere: a job says so before its end, unless that or the end was put.
     pub(crate) fn want(&mut self)
         ensures goes { SameWay self.old self.new }
-        ensures hush { hears self.new.stage ≡ false → hears self.old.stage ≡ false }
+        ensures lanes { self.new.route.lanes ≡ self.old.route.lanes }
     {
         match self.stage {
             Stage::Hearing | Stage::Ending => self.starve(),
@@ -205,9 +216,8 @@ impl Incoming {
 
     /// A Shut was taken that isn't the last: nothing more is cut, and its end comes behind what waits.
     pub(crate) fn shut(&mut self)
-        ensures goes { SameWay self.old self.new }
-        ensures hush { hears self.new.stage ≡ false → hears self.old.stage ≡ false }
-        ensures cuts { cuts self.new.stage ≡ false }
+        ensures goes { (read : List ℕ) (put : ℕ → List Body) (marks : Marks) → Hears self.old read put marks → Hears self.new read put (record marks { shut = true }) }
+        ensures lanes { self.new.route.lanes ≡ self.old.route.lanes }
     {
         if self.stage.is_cutting() {
             self.route.settle();
@@ -217,8 +227,8 @@ impl Incoming {
 
     /// No more bytes come.
     pub(crate) fn end(&mut self)
-        ensures goes { SameWay self.old self.new }
-        ensures cuts { cuts self.new.stage ≡ cuts self.old.stage }
+        ensures goes { (read : List ℕ) (put : ℕ → List Body) (marks : Marks) → Hears self.old read put marks → Hears self.new read put (record marks { over = true }) }
+        ensures lanes { self.new.route.lanes ≡ self.old.route.lanes }
     {
         if let Stage::Hearing = self.stage {
             self.stage = Stage::Ending;
@@ -228,9 +238,8 @@ impl Incoming {
     /// These bytes came.
     pub(crate) fn hear(&mut self, piece: &[u8])
         requires { hears self.old.stage ≡ true }
-        ensures goes { (read : List ℕ) (put : ℕ → List Body) → Hears self.old read put → Hears self.new (read ++ piece.now) put }
-        ensures stage { hears self.new.stage ≡ true }
-        ensures cuts { cuts self.old.stage ≡ false → cuts self.new.stage ≡ false }
+        ensures goes { (read : List ℕ) (put : ℕ → List Body) (marks : Marks) → Hears self.old read put marks → Hears self.new (read ++ piece.now) put marks }
+        ensures lanes { self.new.route.lanes ≡ self.old.route.lanes }
     {
         if self.stage.is_cutting() {
             if self.rest.feed(piece).is_err() {
@@ -299,8 +308,8 @@ impl Incoming {
         requires cutting { cuts self.old.stage ≡ true }
         ensures goes { SameWay self.old self.new }
         ensures less { result ≡ Tried.More → length self.new.rest + weight self.new.stage < length self.old.rest + weight self.old.stage }
-        ensures hush { hears self.new.stage ≡ false → hears self.old.stage ≡ false }
         ensures full { result ≢ Tried.Full }
+        ensures lanes { self.new.route.lanes ≡ self.old.route.lanes }
     {
         match self.rest.peek() {
             Ok(None) => {
@@ -349,7 +358,6 @@ impl Incoming {
         ensures lanes { I.lanes inbox.new ≡ self.new.route.lanes }
         ensures same { I.is_same inbox.old inbox.new }
         ensures full { result ≡ Tried.Full → WasFull self.new.route (I.refused inbox.old) (I.refused inbox.new) }
-        ensures hush { hears self.new.stage ≡ false → hears self.old.stage ≡ false }
     {
         let body = Body::Bad(Fault::NoMem);
         match inbox.put(self.route.lane(), Job { conn, body }) {
@@ -374,7 +382,6 @@ impl Incoming {
         ensures lanes { I.lanes inbox.new ≡ self.new.route.lanes }
         ensures same { I.is_same inbox.old inbox.new }
         ensures full { result ≡ Tried.Full → WasFull self.new.route (I.refused inbox.old) (I.refused inbox.new) }
-        ensures hush { hears self.new.stage ≡ false → hears self.old.stage ≡ false }
     {
         let body = Body::Gone;
         match inbox.put(self.route.lane(), Job { conn, body }) {
@@ -397,8 +404,6 @@ impl Incoming {
         ensures lanes { I.lanes inbox.new ≡ self.new.route.lanes }
         ensures same { I.is_same inbox.old inbox.new }
         ensures full { result ≡ Tried.Full → WasFull self.new.route (I.refused inbox.old) (I.refused inbox.new) }
-        ensures hush { hears self.new.stage ≡ false → hears self.old.stage ≡ false }
-        ensures cuts { cuts self.old.stage ≡ false → cuts self.new.stage ≡ false }
     {
         match self.stage {
             Stage::Hearing | Stage::Ending => self.cut(),
@@ -417,8 +422,6 @@ impl Incoming {
         ensures lanes { I.lanes inbox.new ≡ self.new.route.lanes }
         ensures same { I.is_same inbox.old inbox.new }
         ensures full { result ≡ Tried.Full → WasFull self.new.route (I.refused inbox.old) (I.refused inbox.new) }
-        ensures hush { hears self.new.stage ≡ false → hears self.old.stage ≡ false }
-        ensures cuts { cuts self.old.stage ≡ false → cuts self.new.stage ≡ false }
     {
         if let Tried::Full = self.offer_first(conn, inbox) {
             return Tried::Full;
@@ -437,8 +440,6 @@ impl Incoming {
         ensures lanes { I.lanes inbox.new ≡ self.new.route.lanes }
         ensures same { I.is_same inbox.old inbox.new }
         ensures full { IsTrue result → WasFull self.new.route (I.refused inbox.old) (I.refused inbox.new) }
-        ensures hush { hears self.new.stage ≡ false → hears self.old.stage ≡ false }
-        ensures cuts { cuts self.old.stage ≡ false → cuts self.new.stage ≡ false }
     {
         'tries: loop {
             match self.step(conn, inbox) {

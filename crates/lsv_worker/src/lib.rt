@@ -4,8 +4,14 @@
 
 mod inbox;
 mod incoming;
+mod link;
+mod outgoing;
 mod route;
+mod worker;
 
 pub use inbox::Inbox;
 pub use incoming::{Incoming, Stage, Why};
+pub use link::{Link, Pause, Phase};
+pub use outgoing::{Outgoing, Voice};
 pub use route::Route;
+pub use worker::Worker;

@@ -1,0 +1,146 @@
+-- What a worker stands for: its connections, their links of the port, the jobs that it put and the replies that it took.
+use Rattle.std.specs.Prelude.{◌≡◌, ◌≢◌, ◌⊎◌, ℕ, ◌<◌, ◌≤◌, ◌&&◌, not, Bool, true, false, List, [], ◌∷◌, ◌++◌, length}
+use Rattle.std.specs.List.{All, Contains}
+use Rattle.std.specs.Vec.{vec_capacity, vec_len}
+use Rattle.lsv_port.specs.Port.{LinkState, PortState, IsOpen, IsOwed}
+use Rattle.lsv_port.specs.declared.port.Ready.{Ready}
+use Rattle.lsv_port.specs.declared.port.Ready.TheVariants.{Opened, Readable, Writable, Woken, Stop}
+use Rattle.lsv_session.specs.Connections.{same}
+use Rattle.lsv_session.specs.Transcript.{bodies_of}
+use Rattle.lsv_session.specs.declared.connection.ConnId.{ConnId}
+use Rattle.lsv_session.specs.declared.job.Job.{Job}
+use Rattle.lsv_session.specs.declared.reply.Reply.{Reply}
+use Rattle.lsv_worker.specs.Incoming.{has_left}
+use Rattle.lsv_worker.specs.Links.{LinkStands, PauseIsFor, is_done}
+use Rattle.lsv_worker.specs.declared.link.Link.{Link}
+use Rattle.lsv_worker.specs.declared.link.Pause.TheVariants.{Calm}
+use Rattle.lsv_worker.specs.declared.link.Phase.{Phase}
+use Rattle.lsv_worker.specs.declared.link.Phase.TheVariants.{Going, Stopping}
+use Rattle.lsv_worker.specs.declared.worker.Worker.{Worker}
+
+-- a worker's number, its lanes, the number of its next connection, and its phase
+pub record Setting : Type 0 where
+  pub number : ℕ
+  pub lanes : ℕ
+  pub next : ℕ
+  pub phase : Phase
+
+abbrev pub setting : Worker → Setting
+setting w = record { number = w.number; lanes = w.lanes; next = w.next; phase = w.phase }
+
+-- exactly the links whose reading stopped are held
+pub record AreHeld (links : List Link) (held : List ℕ) : Type 0 where
+  pub each : All (λ link. link.pause ≢ Calm → Contains held link.number) links
+  pub only : (l : ℕ) → Contains held l → (link : Link) × Contains links link × (link.number ≡ l) × (link.pause ≢ Calm)
+
+-- each connection goes to one of so many lanes
+abbrev pub AreOfLanes : ℕ → List Link → Type 0
+AreOfLanes lanes [] = Unit {0}
+AreOfLanes lanes (link ∷ links) = (link.incoming.route.lanes ≡ lanes) × AreOfLanes lanes links
+
+-- the links that a worker stopped reading
+abbrev pub held_by : Worker → List ℕ
+held_by w = w.held.items
+
+-- a worker's connection of this number
+abbrev pub conn_at : Setting → ℕ → ConnId
+conn_at set seq = record { worker = set.number; seq = seq }
+
+-- the worker has made a connection of this number
+pub record IsMade (set : Setting) (seq : ℕ) : Type 0 where
+  pub first : 1 ≤ seq
+  pub below : seq < set.next
+
+-- no connection in a table has this number
+abbrev pub IsApart : ℕ → List Link → Type 0
+IsApart seq [] = Unit {0}
+IsApart seq (link ∷ links) = (link.conn.seq ≢ seq) × IsApart seq links
+
+-- the connections in a table are as they were last, and stand there once
+abbrev pub AreLast : (ℕ → Link) → Setting → List Link → Type 0
+AreLast last set [] = Unit {0}
+AreLast last set (link ∷ links) = IsMade set link.conn.seq × (last link.conn.seq ≡ link) × IsApart link.conn.seq links × AreLast last set links
+
+-- a connection of this number stands in a table
+abbrev pub IsIn : ℕ → List Link → Type 0
+IsIn seq [] = ⊥
+IsIn seq (link ∷ links) = (link.conn.seq ≡ seq) ⊎ IsIn seq links
+
+-- no reply is to this connection
+abbrev pub IsUnasked : ConnId → List Reply → Type 0
+IsUnasked c [] = Unit {0}
+IsUnasked c (reply ∷ replies) = (same reply.conn c ≡ false) × IsUnasked c replies
+
+-- The connections that were made so far stand for all jobs that were put to each lane and all replies that were taken:
+-- as each was last, those that are done too. The table has all that aren't done.
+pub record Stands (set : Setting) (links : List Link) (port : PortState) (jobs : ℕ → List Job) (replies : List Reply) : Type 0 where
+  pub last : ℕ → Link
+  pub table : AreLast last set links
+  pub complete : (k : ℕ) → IsMade set k → is_done (last k) ≡ false → IsIn k links
+  pub conn : (k : ℕ) → IsMade set k → (last k).conn ≡ conn_at set k
+  pub each : (k : ℕ) → IsMade set k → LinkStands set.phase (last k) (port.link (last k).number) (λ lane. bodies_of (last k).conn (jobs lane)) replies
+  pub apart : (j k : ℕ) → IsMade set j → IsMade set k → j ≢ k → (last j).number ≢ (last k).number
+  pub known : (k : ℕ) → IsMade set k → Contains port.opened (last k).number
+  pub linked : (l : ℕ) → IsOpen port l → (k : ℕ) × IsMade set k × ((last k).number ≡ l)
+  pub unused : (k : ℕ) → (IsMade set k → ⊥) → (lane : ℕ) → bodies_of (conn_at set k) (jobs lane) ≡ []
+  pub unasked : (k : ℕ) → (IsMade set k → ⊥) → IsUnasked (conn_at set k) replies
+  pub stop : set.phase ≡ Stopping → port.stopped ≡ true
+
+-- A worker over its port, where these jobs were put to each lane and these replies taken.
+abbrev pub Represents : Worker → PortState → (ℕ → List Job) → List Reply → Type 0
+Represents w port jobs replies = Stands (setting w) w.links.items port jobs replies
+
+-- a worker matches its port
+pub record IsAt (w : Worker) (port : PortState) : Type 0 where
+  pub jobs : ℕ → List Job
+  pub replies : List Reply
+  pub represents : Represents w port jobs replies
+
+-- what a call puts to each lane, whatever was put and taken before
+pub record Goes (old new : Worker) (before after : PortState) (jobs_before jobs_after : ℕ → List Job) : Type 0 where
+  pub added : ℕ → List Job
+  pub put : (lane : ℕ) → jobs_after lane ≡ jobs_before lane ++ added lane
+  pub goes : (jobs : ℕ → List Job) (replies : List Reply) → Represents old before jobs replies → Represents new after (λ lane. jobs lane ++ added lane) replies
+
+-- the worker is the same one, and forgot no connection
+pub record IsSameWorker (old new : Worker) : Type 0 where
+  pub number : new.number ≡ old.number
+  pub lanes : new.lanes ≡ old.lanes
+  pub next : old.next ≤ new.next
+
+-- each link that is open and owed a read is held
+abbrev pub HoldsOwed : Worker → PortState → Type 0
+HoldsOwed w port = (l : ℕ) → IsOwed port l → Contains (held_by w) l
+
+-- a link is held for one of these reasons
+pub record IsHeldFor (w : Worker) (l : ℕ) (before after : PortState) (refused_before refused_after : ℕ → ℕ) : Type 0 where
+  pub link : Link
+  pub is : Contains w.links.items link
+  pub number : link.number ≡ l
+  pub paused : link.pause ≢ Calm
+  pub reason : PauseIsFor link (before.link l) (after.link l) refused_before refused_after
+
+-- all that was taken is written, of each open link that isn't full
+abbrev pub IsWritten : List Link → PortState → Type 0
+IsWritten [] port = Unit {0}
+IsWritten (link ∷ links) port = (link.live ≡ true → (port.link link.number).full ≡ false → link.outgoing.unsent ≡ []) × IsWritten links port
+
+-- a worker has from 1 to 8 lanes, and room for the numbers of all its links
+pub record IsFit (w : Worker) : Type 0 where
+  pub some : 1 ≤ w.lanes
+  pub few : w.lanes ≤ 8
+  pub room : vec_len w.links ≤ vec_capacity w.held
+  pub lanes : AreOfLanes w.lanes w.links.items
+
+-- each connection has left and was shut
+abbrev pub HaveLeft : List Link → Type 0
+HaveLeft [] = Unit {0}
+HaveLeft (link ∷ links) = (link.shut ≡ true) × (has_left link.incoming.stage ≡ true) × HaveLeft links
+
+-- the phase after a readiness
+abbrev pub phase_after : Ready → Phase
+phase_after (Opened l) = Going
+phase_after (Readable l) = Going
+phase_after (Writable l) = Going
+phase_after Woken = Going
+phase_after Stop = Stopping

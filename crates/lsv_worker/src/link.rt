@@ -1,0 +1,322 @@
+//! One connection: a link of the port, in both directions.
+
+ghost use Rattle.std.specs.Prelude.{◌≡◌, ◌≢◌, ◌⊎◌, ℕ, ◌+◌, ◌<◌, ◌≤◌, List, [], ◌∷◌, ◌++◌, length, IsTrue, true, false};
+ghost use Rattle.lsv_words.specs.Causes.{HasRisen};
+ghost use Rattle.lsv_port.specs.Ledger.{Continues, HasLinkCause};
+ghost use Rattle.lsv_port.specs.Port.{Changes, IsOpen, LinkState, PortState, closed};
+ghost use Rattle.lsv_session.specs.declared.job.Body.{Body};
+ghost use Rattle.lsv_session.specs.declared.job.Job.{Job};
+ghost use Rattle.lsv_session.specs.declared.reply.Reply.{Reply};
+ghost use Rattle.lsv_session.specs.declared.reply.ReplyBody.TheVariants as said;
+ghost use Rattle.lsv_worker.specs.Incoming.{WasFull};
+ghost use Rattle.lsv_worker.specs.Links.{Fails, HasBlame, LetsEnd, LinkStands, LinkStep, PauseIsFor, SameSides, Takes, WasRead, WasReadAtMost, is_done, reads_in};
+
+use crate::outgoing::{Outgoing, Voice};
+use crate::{Inbox, Incoming, Stage, Why};
+use lsv_msg::ServerMessage;
+use lsv_port::{Port, Took};
+use lsv_session::{ConnId, Reply, ReplyBody};
+
+/// How far a worker is.
+#[derive(Clone, Copy, Debug, PartialEq, Eq)]
+pub enum Phase {
+    Going,
+    /// Stop came: each link is read until it is owed no more, and then it ends.
+    Stopping,
+    /// A turn of the port failed: no link is read, and each ends.
+    Failed,
+    /// The worker was stopped: every link is closed, and no job is put.
+    Stopped,
+}
+
+/// Why the reading of a link stopped: nothing is owed; its lane was full; too much is unsent; it was read often enough;
+/// memory was wanting.
+#[derive(Clone, Copy, Debug, PartialEq, Eq)]
+pub enum Pause {
+    Calm,
+    Full,
+    Laden,
+    Tired,
+    Starved,
+}
+
+/// A connection: its link of the port, and its two ways.
+#[derive(Debug, Drop)]
+pub struct Link {
+    pub(crate) number: u32,
+    pub(crate) conn: ConnId,
+    pub(crate) incoming: Incoming,
+    pub(crate) outgoing: Outgoing,
+    /// It is open in the port.
+    pub(crate) live: bool,
+    /// It is owed a read.
+    pub(crate) owed: bool,
+    /// Its Shut was taken.
+    pub(crate) shut: bool,
+    pub(crate) pause: Pause,
+}
+
+/// How many times a link is read in one call.
+const MOST_READS: u32 = 16;
+
+/// A link with so many unsent bytes isn't read.
+const LADEN: usize = 65_536;
+
+/// The length of the buffer that links are read into.
+pub(crate) const PIECE: usize = 65_536;
+
+impl Link {
+    /// Puts the jobs of what came. True where its lane was full.
+    fn advance<I: Inbox>(&mut self, inbox: &mut I) -> bool
+        requires lanes { I.lanes inbox.old ≡ self.old.incoming.route.lanes }
+        ensures step { (phase : Phase) (port : PortState) → LinkStep phase self.old self.new port port (I.jobs inbox.old) (I.jobs inbox.new) }
+        ensures sides { SameSides self.old self.new }
+        ensures counts { (m : ℕ) → I.refused inbox.old m ≤ I.refused inbox.new m }
+        ensures lanes { I.lanes inbox.new ≡ self.new.incoming.route.lanes }
+        ensures same { I.is_same inbox.old inbox.new }
+        ensures full { IsTrue result → WasFull self.new.incoming.route (I.refused inbox.old) (I.refused inbox.new) }
+    {
+        self.incoming.advance(self.conn, inbox)
+    }
+
+    /// The link is of no more use: it is closed, and no more bytes come.
+    fn fail<P: Port>(&mut self, port: &mut P)
+        requires is_open { P.tells → IsOpen (P.state port.old) self.old.number }
+        ensures change { P.tells → Changes self.old.number (closed ((P.state port.old).link self.old.number)) (P.state port.old) (P.state port.new) }
+        ensures is { Fails self.old self.new }
+        ensures continues { Continues (P.ledger port.old) (P.ledger port.new) }
+    {
+        port.close(self.number);
+        self.live = false;
+        self.outgoing.silence(Voice::Failed);
+        self.incoming.end();
+    }
+
+    /// Reads once.
+    fn read_once<P: Port>(&mut self, port: &mut P, buffer: &mut [u8; PIECE])
+        requires is_open { P.tells → IsOpen (P.state port.old) self.old.number }
+        requires owed { self.old.owed ≡ true }
+        requires live { self.old.live ≡ true }
+        ensures step { P.tells → (phase : Phase) (jobs : ℕ → List Job) → reads_in phase ≡ true → LinkStep phase self.old self.new (P.state port.old) (P.state port.new) jobs jobs }
+        ensures number { self.new.number ≡ self.old.number }
+        ensures lanes { self.new.incoming.route.lanes ≡ self.old.incoming.route.lanes }
+        ensures is_open { P.tells → self.new.live ≡ true → IsOpen (P.state port.new) self.old.number }
+        ensures once { P.tells → self.new.owed ≡ true → WasRead 1 ((P.state port.old).link self.old.number) ((P.state port.new).link self.old.number) }
+        ensures most { P.tells → WasReadAtMost 1 ((P.state port.old).link self.old.number) ((P.state port.new).link self.old.number) }
+        ensures unsent { self.new.live ≡ true → self.new.outgoing ≡ self.old.outgoing }
+        ensures blame { P.tells → HasBlame (P.state port.old) (P.ledger port.old) (P.state port.new) (P.ledger port.new) }
+        ensures continues { Continues (P.ledger port.old) (P.ledger port.new) }
+    {
+        match port.read(self.number, buffer) {
+            Took::Bytes(count) => {
+                if self.incoming.stage.is_hearing() {
+                    self.incoming.hear(&buffer[..count]);
+                    return;
+                }
+            }
+            Took::NotYet => {
+                self.owed = false;
+            }
+            Took::End => {
+                self.owed = false;
+                self.incoming.end();
+            }
+            Took::Failed => {
+                self.owed = false;
+                self.fail(port);
+            }
+        }
+    }
+
+    /// Puts the jobs of what came and reads on, and says why it stopped.
+    fn read_on<P: Port, I: Inbox>(
+        &mut self,
+        port: &mut P,
+        inbox: &mut I,
+        buffer: &mut [u8; PIECE],
+        phase: Phase,
+    ) -> Pause
+        requires lanes { I.lanes inbox.old ≡ self.old.incoming.route.lanes }
+        requires phase { reads_in phase ≡ true }
+        requires is_open { P.tells → self.old.live ≡ true → IsOpen (P.state port.old) self.old.number }
+        ensures step { P.tells → LinkStep phase self.old self.new (P.state port.old) (P.state port.new) (I.jobs inbox.old) (I.jobs inbox.new) }
+        ensures calm { result ≡ Pause.Calm → self.new.live ≡ true → self.new.owed ≡ false }
+        ensures full { result ≡ Pause.Full → WasFull self.new.incoming.route (I.refused inbox.old) (I.refused inbox.new) }
+        ensures laden { result ≡ Pause.Laden → 65536 ≤ length self.new.outgoing.unsent }
+        ensures tired { P.tells → result ≡ Pause.Tired → WasRead 16 ((P.state port.old).link self.old.number) ((P.state port.new).link self.old.number) }
+        ensures most { P.tells → WasReadAtMost 16 ((P.state port.old).link self.old.number) ((P.state port.new).link self.old.number) }
+        ensures light { P.tells → phase ≡ Phase.Going → 65536 ≤ length self.old.outgoing.unsent → ((P.state port.new).link self.old.number).reads ≡ ((P.state port.old).link self.old.number).reads }
+        ensures unsent { self.new.live ≡ true → self.new.outgoing ≡ self.old.outgoing }
+        ensures blame { P.tells → HasBlame (P.state port.old) (P.ledger port.old) (P.state port.new) (P.ledger port.new) }
+        ensures continues { Continues (P.ledger port.old) (P.ledger port.new) }
+        ensures counts { (m : ℕ) → I.refused inbox.old m ≤ I.refused inbox.new m }
+        ensures lanes { I.lanes inbox.new ≡ self.new.incoming.route.lanes }
+        ensures same { I.is_same inbox.old inbox.new }
+    {
+        if self.advance(inbox) {
+            return Pause::Full;
+        }
+        'reads: for k in 0..MOST_READS {
+            if !self.live || !self.owed {
+                return Pause::Calm;
+            }
+            if self.incoming.stage.is_starved() {
+                return Pause::Starved;
+            }
+            if phase == Phase::Going && self.outgoing.unsent.as_slice().len() >= LADEN {
+                return Pause::Laden;
+            }
+            self.read_once(port, buffer);
+            if self.advance(inbox) {
+                return Pause::Full;
+            }
+        }
+        if self.live && self.owed {
+            Pause::Tired
+        } else {
+            Pause::Calm
+        }
+    }
+
+    /// No more bytes come: puts the rest of its jobs. True where its lane was full.
+    fn finish<I: Inbox>(&mut self, inbox: &mut I) -> bool
+        requires lanes { I.lanes inbox.old ≡ self.old.incoming.route.lanes }
+        ensures step { (phase : Phase) (port : PortState) → ((s : LinkState) → s.owed ≡ self.old.owed → LetsEnd phase s) → LinkStep phase self.old self.new port port (I.jobs inbox.old) (I.jobs inbox.new) }
+        ensures sides { SameSides self.old self.new }
+        ensures counts { (m : ℕ) → I.refused inbox.old m ≤ I.refused inbox.new m }
+        ensures lanes { I.lanes inbox.new ≡ self.new.incoming.route.lanes }
+        ensures same { I.is_same inbox.old inbox.new }
+        ensures full { IsTrue result → WasFull self.new.incoming.route (I.refused inbox.old) (I.refused inbox.new) }
+    {
+        self.incoming.end();
+        self.advance(inbox)
+    }
+
+    /// Writes what is unsent. A link that was shut is closed once nothing is, and after Stop or a fault of the port's turn
+    /// in any case.
+    fn send<P: Port>(&mut self, port: &mut P, phase: Phase)
+        requires is_open { P.tells → IsOpen (P.state port.old) self.old.number }
+        requires live { self.old.live ≡ true }
+        ensures step { P.tells → (jobs : ℕ → List Job) → LinkStep phase self.old self.new (P.state port.old) (P.state port.new) jobs jobs }
+        ensures number { self.new.number ≡ self.old.number }
+        ensures lanes { self.new.incoming.route.lanes ≡ self.old.incoming.route.lanes }
+        ensures is_open { P.tells → self.new.live ≡ true → IsOpen (P.state port.new) self.old.number }
+        ensures reads { P.tells → ((P.state port.new).link self.old.number).reads ≡ ((P.state port.old).link self.old.number).reads }
+        ensures written { P.tells → ((P.state port.new).link self.old.number).full ≡ false → self.new.outgoing.unsent ≡ [] }
+        ensures blame { P.tells → HasBlame (P.state port.old) (P.ledger port.old) (P.state port.new) (P.ledger port.new) }
+        ensures continues { Continues (P.ledger port.old) (P.ledger port.new) }
+    {
+        if self.outgoing.write(self.number, port) {
+            self.fail(port);
+            return;
+        }
+        if self.shut && (self.outgoing.unsent.as_slice().is_empty() || phase != Phase::Going) {
+            port.close(self.number);
+            self.live = false;
+        }
+    }
+
+    /// Writes, reads on and puts jobs, as far as it may, and keeps why it stopped.
+    pub(crate) fn pass<P: Port, I: Inbox>(
+        &mut self,
+        port: &mut P,
+        inbox: &mut I,
+        buffer: &mut [u8; PIECE],
+        phase: Phase,
+    )
+        requires lanes { I.lanes inbox.old ≡ self.old.incoming.route.lanes }
+        requires is_open { P.tells → self.old.live ≡ true → IsOpen (P.state port.old) self.old.number }
+        ensures step { P.tells → LinkStep phase self.old self.new (P.state port.old) (P.state port.new) (I.jobs inbox.old) (I.jobs inbox.new) }
+        ensures calm { reads_in phase ≡ true → self.new.pause ≡ Pause.Calm → self.new.live ≡ true → self.new.owed ≡ false }
+        ensures reason { P.tells → PauseIsFor self.new ((P.state port.old).link self.old.number) ((P.state port.new).link self.old.number) (I.refused inbox.old) (I.refused inbox.new) }
+        ensures most { P.tells → WasReadAtMost 16 ((P.state port.old).link self.old.number) ((P.state port.new).link self.old.number) }
+        ensures light { P.tells → phase ≡ Phase.Going → 65536 ≤ length self.new.outgoing.unsent → ((P.state port.new).link self.old.number).reads ≡ ((P.state port.old).link self.old.number).reads }
+        ensures written { P.tells → self.new.live ≡ true → ((P.state port.new).link self.old.number).full ≡ false → self.new.outgoing.unsent ≡ [] }
+        ensures blame { P.tells → HasBlame (P.state port.old) (P.ledger port.old) (P.state port.new) (P.ledger port.new) }
+        ensures continues { Continues (P.ledger port.old) (P.ledger port.new) }
+        ensures counts { (m : ℕ) → I.refused inbox.old m ≤ I.refused inbox.new m }
+        ensures lanes { I.lanes inbox.new ≡ self.new.incoming.route.lanes }
+        ensures same { I.is_same inbox.old inbox.new }
+    {
+        if self.live {
+            self.send(port, phase);
+        }
+        match phase {
+            Phase::Going => self.pause = self.read_on(port, inbox, buffer, phase),
+            Phase::Stopping => {
+                self.pause = self.read_on(port, inbox, buffer, phase);
+                if !self.owed && self.finish(inbox) {
+                    self.pause = Pause::Full;
+                }
+            }
+            Phase::Failed => {
+                self.pause = if self.finish(inbox) { Pause::Full } else { Pause::Calm };
+            }
+            Phase::Stopped => self.pause = Pause::Calm,
+        }
+    }
+
+    /// Takes what is said to it. Where memory is wanting nothing more is put on it, and it is heard no more.
+    fn say(&mut self, message: &ServerMessage)
+        ensures says { (reply : Reply) (port : PortState) → reply.conn ≡ self.old.conn → reply.body ≡ said.Say message.now → Takes reply self.old self.new port port }
+    {
+        if self.shut {
+            self.outgoing.silence(Voice::Over);
+            return;
+        }
+        if !self.outgoing.say(message) {
+            self.incoming.want();
+        }
+    }
+
+    /// Takes a Shut. It is closed at once where nothing is unsent. One that its end asked for counts only behind its end.
+    fn take_shut<P: Port>(&mut self, last: bool, port: &mut P)
+        requires is_open { P.tells → self.old.live ≡ true → IsOpen (P.state port.old) self.old.number }
+        ensures takes { P.tells → (reply : Reply) → reply.conn ≡ self.old.conn → reply.body ≡ said.Shut → reply.last ≡ last → Takes reply self.old self.new (P.state port.old) (P.state port.new) }
+        ensures continues { Continues (P.ledger port.old) (P.ledger port.new) }
+    {
+        if last && !self.incoming.stage.has_left() {
+            return;
+        }
+        self.shut = true;
+        if !last {
+            self.incoming.shut();
+        }
+        if self.live && self.outgoing.unsent.as_slice().is_empty() {
+            port.close(self.number);
+            self.live = false;
+        }
+    }
+
+    /// Takes a reply.
+    pub(crate) fn take<P: Port>(&mut self, reply: &Reply, port: &mut P)
+        requires is_open { P.tells → self.old.live ≡ true → IsOpen (P.state port.old) self.old.number }
+        requires conn { reply.now.conn ≡ self.old.conn }
+        ensures takes { P.tells → Takes reply.now self.old self.new (P.state port.old) (P.state port.new) }
+        ensures continues { Continues (P.ledger port.old) (P.ledger port.new) }
+    {
+        match &reply.body {
+            ReplyBody::Say(message) => self.say(message),
+            ReplyBody::Shut => self.take_shut(reply.last, port),
+        }
+    }
+
+    /// It is closed, and nothing more is put on it.
+    pub(crate) fn stop<P: Port>(&mut self, port: &mut P)
+        requires is_open { P.tells → self.old.live ≡ true → IsOpen (P.state port.old) self.old.number }
+        ensures continues { Continues (P.ledger port.old) (P.ledger port.new) }
+    {
+        if self.live {
+            port.close(self.number);
+            self.live = false;
+        }
+        self.outgoing.silence(Voice::Over);
+    }
+
+    /// Whether nothing more comes of it.
+    pub(crate) fn is_done(&self) -> bool
+        ensures { result ≡ is_done self.now }
+    {
+        !self.live && self.shut && self.incoming.stage.has_left()
+    }
+}

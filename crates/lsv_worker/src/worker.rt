@@ -1,0 +1,330 @@
+//! A worker over its port.
+
+ghost use Rattle.std.specs.Prelude.{◌≡◌, ◌≢◌, ◌⊎◌, ℕ, ◌<◌, ◌≤◌, ◌++◌, ◌∷◌, List, [], length, IsTrue, IfOk, Some, None, true, false, slice_index_or, vec_capacity};
+ghost use Rattle.std.specs.List.{Contains};
+ghost use Rattle.lsv_port.specs.Ledger.{Continues};
+ghost use Rattle.lsv_port.specs.Port.{IsOpen, PortState, Told};
+ghost use Rattle.lsv_session.specs.declared.job.Job.{Job};
+ghost use Rattle.lsv_session.specs.declared.reply.Reply.{Reply};
+ghost use Rattle.lsv_worker.specs.Links.{HasBlame, WasReadAtMost, reads_in};
+ghost use Rattle.lsv_worker.specs.Worker.{AreHeld, AreOfLanes, Goes, HaveLeft, HoldsOwed, IsAt, IsFit, IsHeldFor, IsMade, IsSameWorker, IsWritten, Represents, held_by, phase_after, setting};
+
+use crate::link::{Link, PIECE, Pause, Phase};
+use crate::{Inbox, Incoming, Outgoing};
+use lsv_base::NoMem;
+use lsv_port::{Port, Ready};
+use lsv_session::{ConnId, Reply, server_hello};
+use std::alloc::Global;
+
+/// How many links may be open at once.
+const MOST_LINKS: usize = 128;
+
+/// The connections of one port. It reads their links, cuts the bytes into jobs and puts these into an inbox; and it takes
+/// the keepers' replies and writes them. Connections are numbered from 1 on, in the order in which their links were opened.
+#[derive(Debug, Drop)]
+pub struct Worker {
+    alloc: Global,
+    number: u32,
+    lanes: u32,
+    next: u64,
+    phase: Phase,
+    links: Vec<Link>,
+    held: Vec<u32>,
+}
+
+/// Whether a link was opened and is not closed.
+fn count_open(links: &[Link]) -> usize {
+    let mut count = 0;
+    for link in links {
+        if link.live {
+            count += 1;
+        }
+    }
+    count
+}
+
+/// Where the connection stands in the table, if it does.
+fn place_of(links: &[Link], conn: ConnId) -> Option<usize>
+    ensures found { (i : ℕ) → result ≡ Some i → i < length links.now }
+    ensures is { (i : ℕ) (d : Link) → result ≡ Some i → (slice_index_or links.now i d).conn ≡ conn }
+    ensures none { result ≡ None → (i : ℕ) (d : Link) → i < length links.now → (slice_index_or links.now i d).conn ≢ conn }
+{
+    for place in 0..links.len() {
+        if links[place].conn == conn {
+            return Some(place);
+        }
+    }
+    None
+}
+
+/// Whether each connection has left and was shut.
+fn have_left(links: &[Link]) -> bool
+    ensures { result ≡ true → HaveLeft links.now }
+{
+    for link in links {
+        if !link.shut || !link.incoming.stage.has_left() {
+            return false;
+        }
+    }
+    true
+}
+
+/// The links whose reading stopped, though more may come.
+fn collect(links: &[Link], held: &mut Vec<u32>)
+    requires { length links.now ≤ vec_capacity held.old }
+    ensures held { AreHeld links.now held.new.items }
+    ensures room { vec_capacity held.old ≤ vec_capacity held.new }
+{
+    held.clear();
+    for link in links {
+        if link.pause != Pause::Calm {
+            let _ = held.push(link.number);
+        }
+    }
+}
+
+/// Each link is written, read and heard as far as it may be.
+fn pass_all<P: Port, I: Inbox>(
+    links: &mut [Link],
+    port: &mut P,
+    inbox: &mut I,
+    buffer: &mut [u8; PIECE],
+    phase: Phase,
+)
+    requires lanes { AreOfLanes (I.lanes inbox.old) links.old }
+    ensures continues { Continues (P.ledger port.old) (P.ledger port.new) }
+{
+    for link in links.iter_mut() {
+        link.pass(port, inbox, buffer, phase);
+    }
+}
+
+/// Each link is closed, and nothing more is put on it.
+fn close_all<P: Port>(links: &mut [Link], port: &mut P)
+    ensures continues { Continues (P.ledger port.old) (P.ledger port.new) }
+{
+    for link in links.iter_mut() {
+        link.stop(port);
+    }
+}
+
+impl Worker {
+    /// A worker with no connections: its number, and how many lanes there are.
+    pub fn new(alloc: Global, number: u32, lanes: u32) -> Result<Self, NoMem>
+        requires lanes { (1 ≤ lanes) × (lanes ≤ 8) }
+        ensures fit { IfOk result IsFit }
+        ensures set { IfOk result (λ w. setting w ≡ record { number = number; lanes = lanes; next = 1; phase = Phase.Going }) }
+        ensures links { IfOk result (λ w. w.links.items ≡ []) }
+        ensures held { IfOk result (λ w. held_by w ≡ []) }
+    {
+        Ok(Worker {
+            alloc,
+            number,
+            lanes,
+            next: 1,
+            phase: Phase::Going,
+            links: Vec::new(alloc),
+            held: Vec::with_capacity(alloc, MOST_LINKS)?,
+        })
+    }
+
+    /// The links that it stopped reading in the last `on` or `push_out`: the next turn of its port is handed these.
+    pub fn held(&self) -> &[u32]
+        ensures { result.now ≡ held_by self.now }
+    {
+        &self.held
+    }
+
+    /// Does what the port told, and tries each link again: it writes what is unsent, reads what is owed, and puts the jobs.
+    pub fn on<P: Port, I: Inbox>(&mut self, port: &mut P, ready: Ready, inbox: &mut I)
+        requires fit { IsFit self.old }
+        requires going { self.old.phase ≡ Phase.Going }
+        requires lanes { I.lanes inbox.old ≡ self.old.lanes }
+        requires at { P.tells → (before : PortState) × Told ready before (P.state port.old) × IsAt self.old before }
+        ensures fit { IsFit self.new }
+        ensures worker { IsSameWorker self.old self.new }
+        ensures phase { self.new.phase ≡ phase_after ready }
+        ensures goes { P.tells → (before : PortState) → Told ready before (P.state port.old) → Goes self.old self.new before (P.state port.new) (I.jobs inbox.old) (I.jobs inbox.new) }
+        ensures owed { P.tells → HoldsOwed self.new (P.state port.new) }
+        ensures reasons { P.tells → (l : ℕ) → Contains (held_by self.new) l → IsHeldFor self.new l (P.state port.old) (P.state port.new) (I.refused inbox.old) (I.refused inbox.new) }
+        ensures most { P.tells → (l : ℕ) → WasReadAtMost 16 ((P.state port.old).link l) ((P.state port.new).link l) }
+        ensures written { P.tells → IsWritten self.new.links.items (P.state port.new) }
+        ensures blame { P.tells → HasBlame (P.state port.old) (P.ledger port.old) (P.state port.new) (P.ledger port.new) }
+        ensures continues { Continues (P.ledger port.old) (P.ledger port.new) }
+        ensures counts { (m : ℕ) → I.refused inbox.old m ≤ I.refused inbox.new m }
+        ensures lanes { I.lanes inbox.new ≡ I.lanes inbox.old }
+        ensures same { I.is_same inbox.old inbox.new }
+    {
+        self.note(port, ready);
+        self.pass(port, inbox);
+    }
+
+    /// Tries each link again, as `on` does.
+    pub fn push_out<P: Port, I: Inbox>(&mut self, port: &mut P, inbox: &mut I)
+        requires fit { IsFit self.old }
+        requires lanes { I.lanes inbox.old ≡ self.old.lanes }
+        requires at { P.tells → IsAt self.old (P.state port.old) }
+        ensures fit { IsFit self.new }
+        ensures worker { IsSameWorker self.old self.new }
+        ensures phase { self.new.phase ≡ self.old.phase }
+        ensures goes { P.tells → Goes self.old self.new (P.state port.old) (P.state port.new) (I.jobs inbox.old) (I.jobs inbox.new) }
+        ensures owed { P.tells → reads_in self.old.phase ≡ true → HoldsOwed self.new (P.state port.new) }
+        ensures reasons { P.tells → (l : ℕ) → Contains (held_by self.new) l → IsHeldFor self.new l (P.state port.old) (P.state port.new) (I.refused inbox.old) (I.refused inbox.new) }
+        ensures most { P.tells → (l : ℕ) → WasReadAtMost 16 ((P.state port.old).link l) ((P.state port.new).link l) }
+        ensures written { P.tells → IsWritten self.new.links.items (P.state port.new) }
+        ensures blame { P.tells → HasBlame (P.state port.old) (P.ledger port.old) (P.state port.new) (P.ledger port.new) }
+        ensures continues { Continues (P.ledger port.old) (P.ledger port.new) }
+        ensures counts { (m : ℕ) → I.refused inbox.old m ≤ I.refused inbox.new m }
+        ensures lanes { I.lanes inbox.new ≡ I.lanes inbox.old }
+        ensures same { I.is_same inbox.old inbox.new }
+    {
+        self.pass(port, inbox);
+    }
+
+    /// A turn of the port failed: no link is read any more, and each connection ends behind the jobs of what it sent.
+    pub fn turn_failed<P: Port, I: Inbox>(&mut self, port: &mut P, inbox: &mut I)
+        requires fit { IsFit self.old }
+        requires lanes { I.lanes inbox.old ≡ self.old.lanes }
+        requires at { P.tells → IsAt self.old (P.state port.old) }
+        ensures fit { IsFit self.new }
+        ensures worker { IsSameWorker self.old self.new }
+        ensures goes { P.tells → Goes self.old self.new (P.state port.old) (P.state port.new) (I.jobs inbox.old) (I.jobs inbox.new) }
+        ensures blame { P.tells → HasBlame (P.state port.old) (P.ledger port.old) (P.state port.new) (P.ledger port.new) }
+        ensures continues { Continues (P.ledger port.old) (P.ledger port.new) }
+        ensures counts { (m : ℕ) → I.refused inbox.old m ≤ I.refused inbox.new m }
+        ensures lanes { I.lanes inbox.new ≡ I.lanes inbox.old }
+        ensures same { I.is_same inbox.old inbox.new }
+    {
+        self.phase = Phase::Failed;
+        self.pass(port, inbox);
+    }
+
+    /// Takes a reply to a connection that it made. What is said is sent by the next `on` or `push_out`. A connection that is
+    /// shut is closed once nothing is unsent.
+    pub fn take<P: Port>(&mut self, reply: Reply, port: &mut P)
+        requires fit { IsFit self.old }
+        requires worker { reply.conn.worker ≡ self.old.number }
+        requires made { IsMade (setting self.old) reply.conn.seq }
+        requires at { P.tells → IsAt self.old (P.state port.old) }
+        ensures fit { IsFit self.new }
+        ensures set { setting self.new ≡ setting self.old }
+        ensures held { held_by self.new ≡ held_by self.old }
+        ensures takes { P.tells → (jobs : ℕ → List Job) (replies : List Reply) → Represents self.old (P.state port.old) jobs replies → Represents self.new (P.state port.new) jobs (replies ++ reply ∷ []) }
+        ensures owed { P.tells → HoldsOwed self.old (P.state port.old) → HoldsOwed self.new (P.state port.new) }
+        ensures blame { P.tells → HasBlame (P.state port.old) (P.ledger port.old) (P.state port.new) (P.ledger port.new) }
+        ensures continues { Continues (P.ledger port.old) (P.ledger port.new) }
+    {
+        let Some(place) = place_of(&self.links, reply.conn) else {
+            return;
+        };
+        let link = &mut self.links[place];
+        link.take(&reply, port);
+    }
+
+    /// Whether nothing more is to come: Stop or a fault of the port's turn came, each connection has left, and each was shut;
+    /// or it was stopped.
+    pub fn ended(&self) -> bool
+        ensures yes { result ≡ true → (self.now.phase ≡ Phase.Stopped) ⊎ ((self.now.phase ≢ Phase.Going) × HaveLeft self.now.links.items) }
+    {
+        match self.phase {
+            Phase::Going => false,
+            Phase::Stopping | Phase::Failed => have_left(&self.links),
+            Phase::Stopped => true,
+        }
+    }
+
+    /// Closes every link. No job is put any more, and nothing more is sent.
+    pub fn stop<P: Port>(&mut self, port: &mut P)
+        requires fit { IsFit self.old }
+        requires at { P.tells → IsAt self.old (P.state port.old) }
+        ensures fit { IsFit self.new }
+        ensures worker { IsSameWorker self.old self.new }
+        ensures phase { self.new.phase ≡ Phase.Stopped }
+        ensures goes { P.tells → (jobs : ℕ → List Job) → Goes self.old self.new (P.state port.old) (P.state port.new) jobs jobs }
+        ensures closed { P.tells → (l : ℕ) → IsOpen (P.state port.new) l → ⊥ }
+        ensures blame { P.tells → HasBlame (P.state port.old) (P.ledger port.old) (P.state port.new) (P.ledger port.new) }
+        ensures continues { Continues (P.ledger port.old) (P.ledger port.new) }
+    {
+        self.phase = Phase::Stopped;
+        close_all(&mut self.links, port);
+    }
+
+    /// A connection for a link that was just opened, with the server's hello on the way; None where memory is wanting.
+    fn fresh(&self, number: u32) -> Option<Link> {
+        let mut outgoing = Outgoing::new(self.alloc);
+        let Ok(hello) = server_hello(self.alloc) else {
+            return None;
+        };
+        if !outgoing.say(&hello) {
+            return None;
+        }
+        Some(Link {
+            number,
+            conn: ConnId {
+                worker: self.number,
+                seq: self.next,
+            },
+            incoming: Incoming::new(self.alloc, self.lanes, self.next),
+            outgoing,
+            live: true,
+            owed: true,
+            shut: false,
+            pause: Pause::Calm,
+        })
+    }
+
+    /// Takes a connection into the table. False where memory is wanting.
+    fn admit(&mut self, link: Link) -> bool {
+        if self.held.reserve(self.links.len() + 1).is_err() {
+            return false;
+        }
+        if self.links.push(link).is_err() {
+            return false;
+        }
+        self.next += 1;
+        true
+    }
+
+    /// A link was opened. It is closed at once, and is no connection, where 128 others are open, the numbers are spent, or
+    /// memory is wanting.
+    fn opened<P: Port>(&mut self, port: &mut P, number: u32) {
+        if count_open(&self.links) >= MOST_LINKS || self.next == u64::MAX {
+            port.close(number);
+            return;
+        }
+        let Some(link) = self.fresh(number) else {
+            port.close(number);
+            return;
+        };
+        if !self.admit(link) {
+            port.close(number);
+        }
+    }
+
+    /// What the port told is noted.
+    fn note<P: Port>(&mut self, port: &mut P, ready: Ready) {
+        match ready {
+            Ready::Opened(number) => self.opened(port, number),
+            Ready::Readable(number) => mark(&mut self.links, number),
+            Ready::Writable(_) | Ready::Woken => {}
+            Ready::Stop => self.phase = Phase::Stopping,
+        }
+    }
+
+    /// Each link is tried; those of which nothing more comes are forgotten.
+    fn pass<P: Port, I: Inbox>(&mut self, port: &mut P, inbox: &mut I) {
+        let mut buffer = [0; PIECE];
+        pass_all(&mut self.links, port, inbox, &mut buffer, self.phase);
+        self.links.retain(|link| !link.is_done());
+        collect(&self.links, &mut self.held);
+    }
+}
+
+/// The link of this number is owed a read.
+fn mark(links: &mut [Link], number: u32) {
+    for link in links.iter_mut() {
+        if link.number == number {
+            link.owed = true;
+        }
+    }
+}
