@@ -1,5 +1,5 @@
 -- From bytes to jobs that wait.
-use Rattle.std.proofs.Common.{◌≡◌, ℕ, Bool, true, false, Option, Some, None, List, [], ◌∷◌, ◌++◌, refl, sym, ap, subst, ◌∙◌, append_assoc}
+use Rattle.std.proofs.Common.{◌≡◌, ℕ, Bool, true, false, Ok, Err, Option, Some, None, List, [], ◌∷◌, ◌++◌, refl, sym, ap, subst, ◌∙◌, append_assoc}
 use Rattle.std.proofs.lemmas.List.{append-nil}
 use Rattle.lsv_wire.specs.Frame.{IsPartial, IsTooLong}
 use Rattle.lsv_msg.specs.Messages.{client_in}
@@ -97,7 +97,7 @@ leaves why link route read put marks now none some cutting last h are shut over 
       said = h.said;
       routed = routed;
       quiet = λ no. let some : route.lane ≡ Some lane.0 = lane.1 in absurd cc;
-      bodies = record { heard = h.said ++ ready link; are = are; whole = sym (append_assoc h.said (ready link) (Gone ∷ [])) ∙ ap (λ (w : List Body). (h.said ++ ready link) ++ w ++ Gone ∷ []) (sym last) };
+      bodies = record { heard = h.said ++ ready link; are = are; whole = sym (append_assoc h.said (ready link) (Gone ∷ [])) ∙ ap (λ (w : List Body). (h.said ++ ready link) ++ (w ++ Gone ∷ [])) (sym last) };
       shut = shut;
       over = over;
     }
@@ -145,8 +145,8 @@ wants_at : (why : Why) (link : Incoming) (read : List ℕ) (put : ℕ → List B
 wants_at why link read put marks last begin stage h =
     let known : pending link ≡ ready link ++ Gone ∷ [] = ap (λ (s : Stage). ready link ++ tail s) stage in
     let routed : Routed link.route put h.said (ready link ++ Gone ∷ []) = subst (Routed link.route put h.said) known h.routed in
-    let all : IsWhole why read (h.said ++ ready link ++ Gone ∷ []) = subst (λ (p : List Body). IsWhole why read (h.said ++ p)) known (subst (λ (s : Stage). AreBodies s read link.rest (h.said ++ pending link)) stage h.bodies) in
-    let same : all.heard ≡ h.said ++ ready link = snoc_same all.heard (h.said ++ ready link) Gone (sym (all.whole ∙ ap (λ (w : List Body). all.heard ++ w ++ Gone ∷ []) last) ∙ sym (append_assoc h.said (ready link) (Gone ∷ []))) in
+    let all : IsWhole why read (h.said ++ (ready link ++ Gone ∷ [])) = subst (λ (p : List Body). IsWhole why read (h.said ++ p)) known (subst (λ (s : Stage). AreBodies s read link.rest (h.said ++ pending link)) stage h.bodies) in
+    let same : all.heard ≡ h.said ++ ready link = snoc_same all.heard (h.said ++ ready link) Gone (sym (all.whole ∙ ap (λ (w : List Body). all.heard ++ (w ++ Gone ∷ [])) last) ∙ sym (append_assoc h.said (ready link) (Gone ∷ []))) in
     record {
       said = h.said;
       routed = routed_swap link.route put h.said (ready link) routed;
@@ -235,3 +235,13 @@ refuses link mid fault empty cutting is routed read put marks h all =
       shut = λ e. absurd cc;
       over = λ e. absurd cc;
     }
+
+pub has_first : (link : Incoming) (read : List ℕ) (put : ℕ → List Body) (marks : Marks) → link.waiting ≡ None → cuts link.stage ≡ true → (h : Hears link read put marks) → HasCut read (h.said ++ kept link.first) link.rest
+has_first link read put marks empty cutting h = subst (λ (r : List Body). HasCut read (h.said ++ r) link.rest) (alone link empty) (cut_has link read put marks cutting h)
+
+pub cuts_message : (link new : Incoming) (message behind : List ℕ) (m : ClientMessage) → link.waiting ≡ None → cuts link.stage ≡ true → InFront message behind link.rest → client_in message ≡ Ok m → new.rest ≡ behind
+    → new.stage ≡ link.stage → ready new ≡ kept link.first ++ Msg m ∷ [] → (new.route.lane ≡ None → new.waiting ≡ None)
+    → ((put : ℕ → List Body) (said : List Body) → Routed link.route put said (kept link.first) → Routed new.route put said (kept link.first ++ Msg m ∷ [])) → SameWay link new
+cuts_message link new message behind m empty cutting front is rest stage ready quiet routed read put marks h =
+    receives link new (Msg m) behind empty cutting stage ready quiet routed read put marks h
+    (subst (HasCut read ((h.said ++ kept link.first) ++ Msg m ∷ [])) (sym rest) (cut_message read link.rest message behind (h.said ++ kept link.first) m (has_first link read put marks empty cutting h) front is))

@@ -1,3 +1,5 @@
 pub mod Routes
 pub mod Cutting
 pub mod Putting
+pub mod Ports
+pub mod Linking

@@ -64,8 +64,8 @@ pub lane_is : (route : Routing) (n : ℕ) → route.lane ≡ Some n → route.la
 lane_is route n e = e ∙ sym (ap (λ (l : Option ℕ). Some (unwrap_or l route.home)) e)
 
 pub some_lane : (l : Option ℕ) → l ≢ None → (n : ℕ) × (l ≡ Some n)
-some_lane None no = absurd (no refl)
-some_lane (Some n) no = (n, refl)
+some_lane None not = absurd (not refl)
+some_lane (Some n) not = (n, refl)
 
 -- ---- what an inbox does
 
@@ -99,7 +99,7 @@ puts_then c a b d p q r s t = record {
   added = λ m. s.added m ++ t.added m;
   put = λ m. t.put m ∙ ap (λ (l : List Job). l ++ map (job_of c) (t.added m)) (s.put m) ∙ append_assoc (p m) (map (job_of c) (s.added m)) (map (job_of c) (t.added m))
       ∙ ap (λ (l : List Job). p m ++ l) (sym (map-append (job_of c) (s.added m) (t.added m)));
-  goes = λ read past marks h. hears_ext d read (λ m. past m ++ s.added m ++ t.added m) (λ m. (past m ++ s.added m) ++ t.added m) marks (λ m. sym (append_assoc (past m) (s.added m) (t.added m)))
+  goes = λ read past marks h. hears_ext d read (λ m. past m ++ (s.added m ++ t.added m)) (λ m. (past m ++ s.added m) ++ t.added m) marks (λ m. sym (append_assoc (past m) (s.added m) (t.added m)))
       (t.goes read (λ m. past m ++ s.added m) marks (s.goes read past marks h));
 }
 

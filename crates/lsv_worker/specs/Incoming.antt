@@ -37,7 +37,7 @@ last_words Starved = Bad NoMem ∷ []
 pub record IsWhole (why : Why) (read : List ℕ) (bodies : List Body) : Type 0 where
   pub heard : List Body
   pub are : Heard why read heard
-  pub whole : bodies ≡ heard ++ last_words why ++ Gone ∷ []
+  pub whole : bodies ≡ heard ++ (last_words why ++ Gone ∷ [])
 
 -- what waits for room
 abbrev pub kept : Option Body → List Body

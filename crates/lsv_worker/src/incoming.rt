@@ -1,14 +1,14 @@
 //! From the bytes of a link to its jobs.
 
 ghost use Rattle.std.specs.Prelude.{◌≡◌, ◌≢◌, ℕ, ◌+◌, ◌<◌, ◌≤◌, ◌++◌, ◌∷◌, List, [], length, Some, None, IsTrue, IfSome, true, false};
-ghost use Rattle.lsv_words.specs.Causes.{HasRisen};
+ghost use Rattle.lsv_wire.specs.Frame.{IsPartial};
 ghost use Rattle.lsv_msg.specs.declared.fault.MsgFault.TheVariants as message_faults;
 ghost use Rattle.lsv_session.specs.Transcript.{AreAllJobs};
 ghost use Rattle.lsv_session.specs.declared.job.Body.{Body};
 ghost use Rattle.lsv_session.specs.declared.job.Body.TheVariants as bodies;
 ghost use Rattle.lsv_session.specs.declared.job.Fault.TheVariants as faults;
 ghost use Rattle.lsv_worker.specs.Incoming.{Hears, Marks, Puts, SameWay, WasFull, cuts, drops, has_left, hears, kept, weight};
-ghost use Rattle.lsv_worker.specs.Lanes.{Routed};
+ghost use Rattle.lsv_worker.specs.Lanes.{Routed, lane_by};
 
 use crate::Inbox;
 use crate::route::{Route, is_hello};
@@ -175,10 +175,22 @@ impl Incoming {
             self.waiting = Some(body);
             return;
         }
-        if self.first.is_none() && is_hello(&body) {
+        if let Some(_) = &self.first {
+            self.wait_deciding(body);
+            return;
+        }
+        if is_hello(&body) {
             self.first = Some(body);
             return;
         }
+        self.wait_deciding(body);
+    }
+
+    /// A job waits for room, and decides the lane.
+    fn wait_deciding(&mut self, body: Body)
+        ensures same { self.new ≡ record self.old { waiting = Some body; route = self.new.route } }
+        ensures route { self.new.route ≡ record self.old.route { lane = Some (lane_by self.old.route.lanes self.old.route.home body) } }
+    {
         self.route.decide(&body);
         self.waiting = Some(body);
     }
@@ -242,9 +254,14 @@ impl Incoming {
         ensures lanes { self.new.route.lanes ≡ self.old.route.lanes }
     {
         if self.stage.is_cutting() {
-            if self.rest.feed(piece).is_err() {
-                self.starve();
-                return;
+            match self.rest.feed(piece) {
+                Ok(()) => {
+                    return;
+                }
+                Err(_) => {
+                    self.starve();
+                    return;
+                }
             }
         }
     }
@@ -255,15 +272,32 @@ impl Incoming {
         ensures puts { Puts conn self.old self.new (I.jobs inbox.old) (I.jobs inbox.new) }
         ensures stage { self.new.stage ≡ self.old.stage }
         ensures rest { self.new.rest ≡ self.old.rest }
-        ensures emptied { result ≡ Tried.More → (n : ℕ) → self.new.route.lane ≡ Some n → self.new.first ≡ None }
+        ensures emptied { result ≢ Tried.Full → (n : ℕ) → self.new.route.lane ≡ Some n → self.new.first ≡ None }
         ensures counts { (m : ℕ) → I.refused inbox.old m ≤ I.refused inbox.new m }
         ensures lanes { I.lanes inbox.new ≡ self.new.route.lanes }
         ensures same { I.is_same inbox.old inbox.new }
         ensures full { result ≡ Tried.Full → WasFull self.new.route (I.refused inbox.old) (I.refused inbox.new) }
     {
-        if !self.route.is_decided() {
-            return Tried::More;
+        if self.route.is_decided() {
+            return self.put_first(conn, inbox);
         }
+        Tried::More
+    }
+
+    /// Puts the first hello, where the lane is decided.
+    #[tactic(auto, using(crate::proofs::Putting::puts_none, crate::proofs::Putting::first_back))]
+    fn put_first<I: Inbox>(&mut self, conn: ConnId, inbox: &mut I) -> Tried
+        requires lanes { I.lanes inbox.old ≡ self.old.route.lanes }
+        requires decided { self.old.route.lane ≢ None }
+        ensures puts { Puts conn self.old self.new (I.jobs inbox.old) (I.jobs inbox.new) }
+        ensures stage { self.new.stage ≡ self.old.stage }
+        ensures rest { self.new.rest ≡ self.old.rest }
+        ensures emptied { result ≢ Tried.Full → self.new.first ≡ None }
+        ensures counts { (m : ℕ) → I.refused inbox.old m ≤ I.refused inbox.new m }
+        ensures lanes { I.lanes inbox.new ≡ self.new.route.lanes }
+        ensures same { I.is_same inbox.old inbox.new }
+        ensures full { result ≡ Tried.Full → WasFull self.new.route (I.refused inbox.old) (I.refused inbox.new) }
+    {
         let Some(body) = self.first.take() else {
             return Tried::More;
         };
@@ -277,14 +311,16 @@ impl Incoming {
     }
 
     /// Puts the job that waits for room.
+    #[tactic(auto, using(crate::proofs::Putting::puts_none, crate::proofs::Putting::waiting_back))]
     fn offer<I: Inbox>(&mut self, conn: ConnId, inbox: &mut I) -> Tried
         requires lanes { I.lanes inbox.old ≡ self.old.route.lanes }
+        requires first { (n : ℕ) → self.old.route.lane ≡ Some n → self.old.first ≡ None }
         ensures puts { Puts conn self.old self.new (I.jobs inbox.old) (I.jobs inbox.new) }
         ensures stage { self.new.stage ≡ self.old.stage }
         ensures rest { self.new.rest ≡ self.old.rest }
         ensures first { self.new.first ≡ self.old.first }
         ensures route { self.new.route ≡ self.old.route }
-        ensures emptied { result ≡ Tried.More → self.new.waiting ≡ None }
+        ensures emptied { result ≢ Tried.Full → self.new.waiting ≡ None }
         ensures counts { (m : ℕ) → I.refused inbox.old m ≤ I.refused inbox.new m }
         ensures lanes { I.lanes inbox.new ≡ self.new.route.lanes }
         ensures same { I.is_same inbox.old inbox.new }
@@ -313,13 +349,7 @@ impl Incoming {
     {
         match self.rest.peek() {
             Ok(None) => {
-                if let Stage::Ending = self.stage {
-                    self.route.settle();
-                    self.stage = Stage::Leaving(Why::Ended);
-                    Tried::More
-                } else {
-                    Tried::Idle
-                }
+                return self.cut_nothing();
             }
             Ok(Some(message)) => {
                 let length = message.len();
@@ -327,25 +357,61 @@ impl Incoming {
                     Ok(message) => {
                         self.rest.consume(length);
                         self.receive(Body::Msg(message));
-                        Tried::More
+                        return Tried::More;
                     }
                     Err(fault) => {
-                        match malformed(fault) {
-                            Some(fault) => self.refuse(fault),
-                            None => self.starve(),
-                        }
-                        Tried::More
+                        return self.cut_no_message(fault);
                     }
                 }
             }
             Err(stated) => {
                 self.refuse(Fault::TooLarge(stated));
-                Tried::More
+                return Tried::More;
+            }
+        }
+    }
+
+    /// Less than a frame is left: where no more bytes come, its end is next.
+    fn cut_nothing(&mut self) -> Tried
+        requires cutting { cuts self.old.stage ≡ true }
+        requires partial { IsPartial self.old.rest }
+        ensures goes { SameWay self.old self.new }
+        ensures less { result ≡ Tried.More → length self.new.rest + weight self.new.stage < length self.old.rest + weight self.old.stage }
+        ensures full { result ≢ Tried.Full }
+        ensures lanes { self.new.route.lanes ≡ self.old.route.lanes }
+    {
+        if let Stage::Ending = self.stage {
+            self.route.settle();
+            self.stage = Stage::Leaving(Why::Ended);
+            return Tried::More;
+        }
+        Tried::Idle
+    }
+
+    /// The next frame is no message, or there is no memory to read it.
+    fn cut_no_message(&mut self, fault: MsgFault) -> Tried
+        requires empty { self.old.waiting ≡ None }
+        requires cutting { cuts self.old.stage ≡ true }
+        ensures goes { (read : List ℕ) (put : ℕ → List Body) (marks : Marks) (h : Hears self.old read put marks)
+            → (fault ≢ message_faults.NoMem → AreAllJobs read ((h.said ++ kept self.old.first) ++ bodies.Bad (faults.Malformed fault) ∷ [])) → Hears self.new read put marks }
+        ensures less { length self.new.rest + weight self.new.stage < length self.old.rest + weight self.old.stage }
+        ensures full { result ≢ Tried.Full }
+        ensures lanes { self.new.route.lanes ≡ self.old.route.lanes }
+    {
+        match malformed(fault) {
+            Some(fault) => {
+                self.refuse(fault);
+                return Tried::More;
+            }
+            None => {
+                self.starve();
+                return Tried::More;
             }
         }
     }
 
     /// Says that memory was wanting, where nothing waits.
+    #[tactic(auto, using(crate::proofs::Putting::puts_none))]
     fn tell_starved<I: Inbox>(&mut self, conn: ConnId, inbox: &mut I) -> Tried
         requires lanes { I.lanes inbox.old ≡ self.old.route.lanes }
         requires first { (n : ℕ) → self.old.route.lane ≡ Some n → self.old.first ≡ None }
@@ -363,13 +429,16 @@ impl Incoming {
         match inbox.put(self.route.lane(), Job { conn, body }) {
             Ok(()) => {
                 self.stage = Stage::Leaving(Why::Starved);
-                Tried::More
+                return Tried::More;
             }
-            Err(_) => Tried::Full,
+            Err(_) => {
+                return Tried::Full;
+            }
         }
     }
 
     /// Puts its end, where nothing waits.
+    #[tactic(auto, using(crate::proofs::Putting::puts_none))]
     fn leave<I: Inbox>(&mut self, why: Why, conn: ConnId, inbox: &mut I) -> Tried
         requires lanes { I.lanes inbox.old ≡ self.old.route.lanes }
         requires first { (n : ℕ) → self.old.route.lane ≡ Some n → self.old.first ≡ None }
@@ -387,9 +456,11 @@ impl Incoming {
         match inbox.put(self.route.lane(), Job { conn, body }) {
             Ok(()) => {
                 self.stage = Stage::Left(why);
-                Tried::More
+                return Tried::More;
             }
-            Err(_) => Tried::Full,
+            Err(_) => {
+                return Tried::Full;
+            }
         }
     }
 

@@ -36,19 +36,6 @@ pub struct Outgoing {
     pub(crate) voice: Voice,
 }
 
-/// Without the first bytes.
-fn drop_front(bytes: Bytes, count: usize) -> Bytes
-    requires { count ≤ length bytes }
-    ensures { result ≡ drop count bytes }
-{
-    let mut bytes = bytes.into_vec();
-    bytes.drain(..count);
-    if bytes.is_empty() && bytes.capacity() > KEPT {
-        bytes.shrink_to(0);
-    }
-    Bytes::from_vec(bytes)
-}
-
 impl Outgoing {
     pub(crate) fn new(alloc: Global) -> Self
         ensures unsent { result.unsent ≡ [] }
@@ -70,9 +57,24 @@ impl Outgoing {
         ensures is { self.old.voice ≡ Voice.Speaking → self.new.voice ≡ why }
     {
         self.unsent = Bytes::new(self.alloc);
-        if self.voice == Voice::Speaking {
-            self.voice = why;
+        match self.voice {
+            Voice::Speaking => self.voice = why,
+            Voice::Failed | Voice::Starved | Voice::Over => {}
         }
+    }
+
+    /// So many bytes were sent.
+    fn drop_front(&mut self, count: usize)
+        requires { count ≤ length self.old.unsent }
+        ensures unsent { self.new.unsent ≡ drop count self.old.unsent }
+        ensures voice { self.new.voice ≡ self.old.voice }
+    {
+        let mut bytes = mem::replace(&mut self.unsent, Bytes::new(self.alloc)).into_vec();
+        bytes.drain(..count);
+        if bytes.is_empty() && bytes.capacity() > KEPT {
+            bytes.shrink_to(0);
+        }
+        self.unsent = Bytes::from_vec(bytes);
     }
 
     /// Takes what is said. Where memory is wanting, nothing more is put, and it answers false.
@@ -81,14 +83,32 @@ impl Outgoing {
         ensures voice { result ≡ true → self.new.voice ≡ self.old.voice }
         ensures starved { (self.new.voice ≡ self.old.voice) ⊎ (self.new.voice ≡ Voice.Starved) }
     {
-        if self.voice != Voice::Speaking {
-            return true;
+        match self.voice {
+            Voice::Speaking => {
+                return self.speak(message);
+            }
+            Voice::Failed | Voice::Starved | Voice::Over => {
+                return true;
+            }
         }
-        if put_server(self.alloc, &mut self.unsent, message).is_err() {
-            self.silence(Voice::Starved);
-            return false;
+    }
+
+    /// Adds the frame of what is said to the unsent bytes.
+    fn speak(&mut self, message: &ServerMessage) -> bool
+        requires { self.old.voice ≡ Voice.Speaking }
+        ensures goes { (output answers : List ℕ) → Speaks self.old output answers → Speaks self.new output (answers ++ frame_of (server_bytes message.now)) }
+        ensures voice { result ≡ true → self.new.voice ≡ self.old.voice }
+        ensures starved { (self.new.voice ≡ self.old.voice) ⊎ (self.new.voice ≡ Voice.Starved) }
+    {
+        match put_server(self.alloc, &mut self.unsent, message) {
+            Ok(()) => {
+                return true;
+            }
+            Err(_) => {
+                self.silence(Voice::Starved);
+                return false;
+            }
         }
-        true
     }
 
     /// Writes what is unsent, until nothing is, the link is full or a write fails. True where one failed.
@@ -105,10 +125,7 @@ impl Outgoing {
     {
         'writes: while !self.unsent.as_slice().is_empty() {
             match port.write(link, self.unsent.as_slice()) {
-                Gave::Bytes(count) => {
-                    let unsent = mem::replace(&mut self.unsent, Bytes::new(self.alloc));
-                    self.unsent = drop_front(unsent, count);
-                }
+                Gave::Bytes(count) => self.drop_front(count),
                 Gave::NotYet => {
                     return false;
                 }

@@ -1,0 +1,311 @@
+-- Steps of one connection.
+use Rattle.std.proofs.Common.{◌≡◌, ◌≢◌, ◌⊎◌, ℕ, zero, suc, ◌+◌, ◌<◌, ◌≤◌, Bool, true, false, List, [], ◌∷◌, ◌++◌, length, take, map, refl, sym, ap, subst, ◌∙◌, append_assoc, inl, inr, ⊎_elim, arith}
+use Rattle.std.proofs.lemmas.List.{append-nil, map-append}
+use Rattle.lsv_port.specs.Port.{Changes, LinkState, PortState, after_read, closed}
+use Rattle.lsv_port.specs.declared.port.Took.TheVariants as took
+use Rattle.lsv_session.specs.Transcript.{answers}
+use Rattle.lsv_session.specs.declared.connection.ConnId.{ConnId}
+use Rattle.lsv_session.specs.declared.job.Body.{Body}
+use Rattle.lsv_session.specs.declared.job.Job.{Job}
+use Rattle.lsv_session.specs.declared.reply.Reply.{Reply}
+use Rattle.lsv_worker.specs.Lanes.{job_of}
+use Rattle.lsv_worker.specs.Incoming.{Hears, Marks, Puts, SameWay, hears}
+use Rattle.lsv_worker.specs.Outgoing.{Alone, HasEarlyShut, HasShut, SameInput, Speaks, TalksOn, Writes}
+use Rattle.lsv_worker.specs.Links.{Fails, LetsEnd, LinkStands, LinkStep, MayEnd, WasRead, WasReadAtMost, reads_in, repeated}
+use Rattle.lsv_worker.specs.declared.incoming.Incoming.{Incoming}
+use Rattle.lsv_worker.specs.declared.outgoing.Outgoing.{Outgoing}
+use Rattle.lsv_worker.specs.declared.outgoing.Voice.TheVariants as voices
+use Rattle.lsv_worker.specs.declared.link.Link.{Link}
+use Rattle.lsv_worker.specs.declared.link.Phase.{Phase}
+use Rattle.lsv_worker.specs.declared.link.Phase.TheVariants.{Going, Stopping, Failed, Stopped}
+use Rattle.lsv_worker.proofs.Cutting.{marked}
+use Rattle.lsv_worker.proofs.Putting.{hears_ext}
+use Rattle.lsv_worker.proofs.Ports.{alone_change, alone_here, alone_then}
+
+-- the same of what was put, told otherwise
+pub stands_ext : (phase : Phase) (link : Link) (s : LinkState) (p q : ℕ → List Body) (replies : List Reply) → ((lane : ℕ) → p lane ≡ q lane) → LinkStands phase link s q replies → LinkStands phase link s p replies
+stands_ext phase link s p q replies same h = record {
+  marks = h.marks;
+  inward = hears_ext link.incoming s.input p q h.marks same h.inward;
+  outward = h.outward;
+  live = h.live;
+  owed = h.owed;
+  paid = h.paid;
+  broken = h.broken;
+  may_end = h.may_end;
+  told = h.told;
+  shut = h.shut;
+  silent = h.silent;
+  over = h.over;
+  closed = h.closed;
+  sent = h.sent;
+}
+
+-- one step behind another
+pub link_then : (phase : Phase) (a b c : Link) (s t u : PortState) (p q r : ℕ → List Job) → LinkStep phase a b s t p q → LinkStep phase b c t u q r → LinkStep phase a c s u p r
+link_then phase a b c s t u p q r x y = record {
+  number = y.number ∙ x.number;
+  conn = y.conn ∙ x.conn;
+  alone = alone_then a.number s t u x.alone (subst (λ (n : ℕ). Alone n t u) x.number y.alone);
+  added = λ m. x.added m ++ y.added m;
+  put = λ m. y.put m ∙ ap (λ (k : ConnId). q m ++ map (job_of k) (y.added m)) x.conn ∙ ap (λ (l : List Job). l ++ map (job_of a.conn) (y.added m)) (x.put m)
+      ∙ append_assoc (p m) (map (job_of a.conn) (x.added m)) (map (job_of a.conn) (y.added m)) ∙ ap (λ (l : List Job). p m ++ l) (sym (map-append (job_of a.conn) (x.added m) (y.added m)));
+  goes = λ past replies h.
+      let mid : LinkStands phase b (t.link b.number) (λ m. past m ++ x.added m) replies = subst (λ (n : ℕ). LinkStands phase b (t.link n) (λ m. past m ++ x.added m) replies) (sym x.number) (x.goes past replies h) in
+      let end : LinkStands phase c (u.link a.number) (λ m. (past m ++ x.added m) ++ y.added m) replies = subst (λ (n : ℕ). LinkStands phase c (u.link n) (λ m. (past m ++ x.added m) ++ y.added m) replies) x.number (y.goes (λ m. past m ++ x.added m) replies mid) in
+      stands_ext phase c (u.link a.number) (λ m. past m ++ (x.added m ++ y.added m)) (λ m. (past m ++ x.added m) ++ y.added m) replies (λ m. sym (append_assoc (past m) (x.added m) (y.added m))) end;
+}
+
+-- a step that puts nothing
+pub link_quiet : (phase : Phase) (old new : Link) (s t : PortState) (jobs : ℕ → List Job) → new.number ≡ old.number → new.conn ≡ old.conn → Alone old.number s t
+    → ((past : ℕ → List Body) (replies : List Reply) → LinkStands phase old (s.link old.number) past replies → LinkStands phase new (t.link old.number) past replies) → LinkStep phase old new s t jobs jobs
+link_quiet phase old new s t jobs number conn alone goes = record {
+  number = number;
+  conn = conn;
+  alone = alone;
+  added = λ m. [];
+  put = λ m. sym (append-nil (jobs m));
+  goes = λ past replies h. stands_ext phase new (t.link old.number) (λ m. past m ++ []) past replies (λ m. append-nil (past m)) (goes past replies h);
+}
+
+-- jobs are put
+pub link_puts : (phase : Phase) (old : Link) (inc : Incoming) (port : PortState) (p q : ℕ → List Job) → Puts old.conn old.incoming inc p q → LinkStep phase old (record old { incoming = inc }) port port p q
+link_puts phase old inc port p q puts = record {
+  number = refl;
+  conn = refl;
+  alone = alone_here old.number port;
+  added = puts.added;
+  put = puts.put;
+  goes = λ past replies h. record {
+    marks = h.marks;
+    inward = puts.goes (port.link old.number).input past h.marks h.inward;
+    outward = h.outward;
+    live = h.live;
+    owed = h.owed;
+    paid = h.paid;
+    broken = h.broken;
+    may_end = h.may_end;
+    told = h.told;
+    shut = h.shut;
+    silent = h.silent;
+    over = h.over;
+    closed = h.closed;
+    sent = h.sent;
+  };
+}
+
+-- no more bytes come, where its phase lets it end
+pub link_ends : (phase : Phase) (old : Link) (inc : Incoming) (port : PortState) (jobs : ℕ → List Job) → ((s : LinkState) → s.owed ≡ old.owed → LetsEnd phase s)
+    → ((read : List ℕ) (put : ℕ → List Body) (marks : Marks) → Hears old.incoming read put marks → Hears inc read put (record marks { over = true })) → LinkStep phase old (record old { incoming = inc }) port port jobs jobs
+link_ends phase old inc port jobs lets goes = link_quiet phase old (record old { incoming = inc }) port port jobs refl refl (alone_here old.number port) (λ past replies h. record {
+  marks = record h.marks { over = true };
+  inward = goes (port.link old.number).input past h.marks h.inward;
+  outward = h.outward;
+  live = h.live;
+  owed = h.owed;
+  paid = h.paid;
+  broken = h.broken;
+  may_end = λ e. inr (inr (lets (port.link old.number) h.owed));
+  told = h.told;
+  shut = h.shut;
+  silent = h.silent;
+  over = h.over;
+  closed = h.closed;
+  sent = h.sent;
+})
+
+-- why the reading stopped changes nothing else
+pub link_paused : (phase : Phase) (old new after : Link) (s t : PortState) (p q : ℕ → List Job) → after ≡ record new { pause = after.pause } → LinkStep phase old new s t p q → LinkStep phase old after s t p q
+link_paused phase old new after s t p q is step =
+    subst (λ (l : Link). LinkStep phase old l s t p q) (sym is) (record {
+      number = step.number;
+      conn = step.conn;
+      alone = step.alone;
+      added = step.added;
+      put = step.put;
+      goes = λ past replies h.
+          let k : LinkStands phase new (t.link old.number) (λ m. past m ++ step.added m) replies = step.goes past replies h in
+          record {
+            marks = k.marks;
+            inward = k.inward;
+            outward = k.outward;
+            live = k.live;
+            owed = k.owed;
+            paid = k.paid;
+            broken = k.broken;
+            may_end = k.may_end;
+            told = k.told;
+            shut = k.shut;
+            silent = k.silent;
+            over = k.over;
+            closed = k.closed;
+            sent = k.sent;
+          };
+    })
+
+-- ---- reading
+
+lets_same : (phase : Phase) (s t : LinkState) → t.owed ≡ s.owed → LetsEnd phase s → LetsEnd phase t
+lets_same Going s t e h = h
+lets_same Stopping s t e h = e ∙ h
+lets_same Failed s t e h = h
+lets_same Stopped s t e h = h
+
+lets_unowed : (phase : Phase) (s t : LinkState) → t.owed ≡ false → LetsEnd phase s → LetsEnd phase t
+lets_unowed Going s t e h = h
+lets_unowed Stopping s t e h = e
+lets_unowed Failed s t e h = h
+lets_unowed Stopped s t e h = h
+
+reads_lets : (phase : Phase) (s : LinkState) → reads_in phase ≡ true → LetsEnd phase s → s.owed ≡ false
+reads_lets Going s reads h = absurd h
+reads_lets Stopping s reads h = h
+reads_lets Failed s reads h = absurd cc
+reads_lets Stopped s reads h = absurd cc
+
+may_same : (phase : Phase) (s t : LinkState) → t.ended ≡ s.ended → t.failed ≡ s.failed → (LetsEnd phase s → LetsEnd phase t) → MayEnd phase s → MayEnd phase t
+may_same phase s t ended failed lets h = ⊎_elim (λ e. inl (ended ∙ e)) (λ k. inr (⊎_elim (λ f. inl (failed ∙ f)) (λ l. inr (lets l)) k)) h
+
+-- bytes came on a link that hears
+pub stands_heard : (phase : Phase) (old : Link) (inc : Incoming) (s : LinkState) (count : ℕ) (buf : List ℕ) (past : ℕ → List Body) (replies : List Reply)
+    → ((read : List ℕ) (put : ℕ → List Body) (marks : Marks) → Hears old.incoming read put marks → Hears inc (read ++ take count buf) put marks)
+    → LinkStands phase old s past replies → LinkStands phase (record old { incoming = inc }) (after_read (took.Bytes count) buf s) past replies
+stands_heard phase old inc s count buf past replies goes h = record {
+  marks = h.marks;
+  inward = goes s.input past h.marks h.inward;
+  outward = h.outward;
+  live = h.live;
+  owed = h.owed;
+  paid = h.paid;
+  broken = h.broken;
+  may_end = λ e. may_same phase s (after_read (took.Bytes count) buf s) refl refl (lets_same phase s (after_read (took.Bytes count) buf s) refl) (h.may_end e);
+  told = h.told;
+  shut = h.shut;
+  silent = h.silent;
+  over = h.over;
+  closed = h.closed;
+  sent = h.sent;
+}
+
+-- no bytes come on a link that doesn't hear
+pub deaf : (phase : Phase) (old : Link) (s : LinkState) (past : ℕ → List Body) (replies : List Reply) → reads_in phase ≡ true → old.live ≡ true → old.owed ≡ true → hears old.incoming.stage ≡ false → s.ended ≡ false → LinkStands phase old s past replies → ⊥
+deaf phase old s past replies reads live owed deaf going h =
+    ⊎_elim (λ e. let a : false ≡ true = sym going ∙ e in cc)
+    (λ k. ⊎_elim (λ f. let a : true ≡ false = sym live ∙ h.broken f in cc) (λ l. let a : true ≡ false = sym owed ∙ sym h.owed ∙ reads_lets phase s reads l in cc) k)
+    (h.may_end (h.inward.over deaf))
+
+pub stands_unowed : (phase : Phase) (old : Link) (s : LinkState) (buf : List ℕ) (past : ℕ → List Body) (replies : List Reply) → LinkStands phase old s past replies → LinkStands phase (record old { owed = false }) (after_read took.NotYet buf s) past replies
+stands_unowed phase old s buf past replies h = record {
+  marks = h.marks;
+  inward = h.inward;
+  outward = h.outward;
+  live = h.live;
+  owed = refl;
+  paid = λ e. refl;
+  broken = h.broken;
+  may_end = λ e. may_same phase s (after_read took.NotYet buf s) refl refl (lets_unowed phase s (after_read took.NotYet buf s) refl) (h.may_end e);
+  told = h.told;
+  shut = h.shut;
+  silent = h.silent;
+  over = h.over;
+  closed = h.closed;
+  sent = h.sent;
+}
+
+pub stands_ended : (phase : Phase) (old : Link) (inc : Incoming) (s : LinkState) (buf : List ℕ) (past : ℕ → List Body) (replies : List Reply)
+    → ((read : List ℕ) (put : ℕ → List Body) (marks : Marks) → Hears old.incoming read put marks → Hears inc read put (record marks { over = true }))
+    → LinkStands phase old s past replies → LinkStands phase (record old { owed = false; incoming = inc }) (after_read took.End buf s) past replies
+stands_ended phase old inc s buf past replies goes h = record {
+  marks = record h.marks { over = true };
+  inward = goes s.input past h.marks h.inward;
+  outward = h.outward;
+  live = h.live;
+  owed = refl;
+  paid = λ e. refl;
+  broken = h.broken;
+  may_end = λ e. inl refl;
+  told = h.told;
+  shut = h.shut;
+  silent = h.silent;
+  over = h.over;
+  closed = h.closed;
+  sent = h.sent;
+}
+
+-- a link that failed is closed
+pub stands_failed : (phase : Phase) (old mid new : Link) (s t : LinkState) (past : ℕ → List Body) (replies : List Reply) → mid.conn ≡ old.conn → mid.shut ≡ old.shut → mid.incoming ≡ old.incoming
+    → ((answers : List ℕ) → Speaks old.outgoing s.output answers → Speaks mid.outgoing t.output answers) → (mid.outgoing.voice ≡ voices.Over → old.outgoing.voice ≡ voices.Over) → Fails mid new
+    → t.input ≡ s.input → t.is_open ≡ false → t.failed ≡ true → t.owed ≡ mid.owed → (t.ended ≡ true → t.owed ≡ false) → LinkStands phase old s past replies → LinkStands phase new t past replies
+stands_failed phase old mid new s t past replies conn shut incoming speaks over fails input shutdown failed owed paid h =
+    let c : new.conn ≡ old.conn = fails.conn ∙ conn in
+    record {
+      marks = record h.marks { over = true };
+      inward = subst (λ (r : List ℕ). Hears new.incoming r past (record h.marks { over = true })) (sym input) (fails.incoming s.input past h.marks (subst (λ (i : Incoming). Hears i s.input past h.marks) (sym incoming) h.inward));
+      outward = fails.outgoing t.output (answers new.conn replies) (subst (λ (k : ConnId). Speaks mid.outgoing t.output (answers k replies)) (sym c) (speaks (answers old.conn replies) h.outward));
+      live = shutdown ∙ sym fails.live;
+      owed = owed ∙ sym fails.owed;
+      paid = paid;
+      broken = λ e. fails.live;
+      may_end = λ e. inr (inl failed);
+      told = λ e. subst (λ (k : ConnId). HasEarlyShut k replies) (sym c) (h.told e);
+      shut = λ e. subst (λ (k : ConnId). HasShut k replies) (sym c) (h.shut (sym (fails.shut ∙ shut) ∙ e));
+      silent = λ e. failed;
+      over = λ e. subst (λ (k : ConnId). TalksOn k replies ⊎ (phase ≡ Stopped)) (sym c) (h.over (over (fails.over e)));
+      closed = λ e. inl failed;
+      sent = λ e full. fails.unsent;
+    }
+
+-- ---- writing
+
+pub stands_wrote : (phase : Phase) (old : Link) (out : Outgoing) (live : Bool) (s t : LinkState) (past : ℕ → List Body) (replies : List Reply)
+    → t.input ≡ s.input → t.ended ≡ s.ended → t.owed ≡ s.owed → t.failed ≡ s.failed → t.is_open ≡ live
+    → ((answers : List ℕ) → Speaks old.outgoing s.output answers → Speaks out t.output answers) → (out.voice ≡ voices.Failed → old.outgoing.voice ≡ voices.Failed) → (out.voice ≡ voices.Over → old.outgoing.voice ≡ voices.Over)
+    → (old.live ≡ false → live ≡ false) → (live ≡ false → (t.failed ≡ true) ⊎ ((old.shut ≡ true) ⊎ (phase ≡ Stopped))) → (live ≡ false → t.full ≡ false → out.unsent ≡ [])
+    → LinkStands phase old s past replies → LinkStands phase (record old { outgoing = out; live = live }) t past replies
+stands_wrote phase old out live s t past replies input ended owed failed here speaks silent over still closed sent h = record {
+  marks = h.marks;
+  inward = subst (λ (r : List ℕ). Hears old.incoming r past h.marks) (sym input) h.inward;
+  outward = speaks (answers old.conn replies) h.outward;
+  live = here;
+  owed = owed ∙ h.owed;
+  paid = λ e. owed ∙ h.paid (sym ended ∙ e);
+  broken = λ e. still (h.broken (sym failed ∙ e));
+  may_end = λ e. may_same phase s t ended failed (lets_same phase s t owed) (h.may_end e);
+  told = h.told;
+  shut = h.shut;
+  silent = λ e. failed ∙ h.silent (silent e);
+  over = λ e. h.over (over e);
+  closed = closed;
+  sent = sent;
+}
+
+-- ---- counts of reads
+
+repeated_more : (k n : ℕ) → repeated (k + 1) n ≡ repeated k n ++ n ∷ []
+repeated_more zero n = let e : zero + 1 ≡ suc zero = omega arith in ap (λ (m : ℕ). repeated m n) e
+repeated_more (suc k) n = let e : suc k + 1 ≡ suc (k + 1) = omega arith in ap (λ (m : ℕ). repeated m n) e ∙ ap (λ (l : List ℕ). n ∷ l) (repeated_more k n)
+
+pub read_none : (s t : LinkState) → t.reads ≡ s.reads → WasRead 0 s t
+read_none s t e = e ∙ sym (append-nil s.reads)
+
+pub read_more : (k : ℕ) (s t u : LinkState) → WasRead k s t → WasRead 1 t u → WasRead (k + 1) s u
+read_more k s t u a b =
+    b ∙ ap (λ (l : List ℕ). l ++ repeated 1 65536) a ∙ append_assoc s.reads (repeated k 65536) (repeated 1 65536)
+    ∙ ap (λ (l : List ℕ). s.reads ++ l) (sym (repeated_more k 65536))
+
+repeated_add : (x k n : ℕ) → repeated x n ++ repeated k n ≡ repeated (x + k) n
+repeated_add zero k n = let e : k ≡ zero + k = omega arith in ap (λ (m : ℕ). repeated m n) e
+repeated_add (suc x) k n = let e : suc (x + k) ≡ suc x + k = omega arith in ap (λ (l : List ℕ). n ∷ l) (repeated_add x k n) ∙ ap (λ (m : ℕ). repeated m n) e
+
+pub most_none : (n : ℕ) (s t : LinkState) → t.reads ≡ s.reads → WasReadAtMost n s t
+most_none n s t e = record { times = 0; few = omega arith; were = read_none s t e }
+
+pub most_add : (m n : ℕ) (s t u : LinkState) → WasReadAtMost m s t → WasReadAtMost n t u → WasReadAtMost (m + n) s u
+most_add m n s t u a b = record {
+  times = a.times + b.times;
+  few = omega (arith, a.few, b.few);
+  were = b.were ∙ ap (λ (l : List ℕ). l ++ repeated b.times 65536) a.were ∙ append_assoc s.reads (repeated a.times 65536) (repeated b.times 65536) ∙ ap (λ (l : List ℕ). s.reads ++ l) (repeated_add a.times b.times 65536);
+}
+
+pub most_up : (m n : ℕ) (s t : LinkState) → m ≤ n → WasReadAtMost m s t → WasReadAtMost n s t
+most_up m n s t le a = record { times = a.times; few = omega (arith, a.few); were = a.were }
