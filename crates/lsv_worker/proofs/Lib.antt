@@ -2,4 +2,5 @@ pub mod Routes
 pub mod Cutting
 pub mod Putting
 pub mod Ports
+pub mod Speaking
 pub mod Linking

@@ -309,3 +309,54 @@ most_add m n s t u a b = record {
 
 pub most_up : (m n : ℕ) (s t : LinkState) → m ≤ n → WasReadAtMost m s t → WasReadAtMost n s t
 most_up m n s t le a = record { times = a.times; few = omega (arith, a.few); were = a.were }
+
+-- ---- one call of the port
+
+-- one call changes this link, and puts nothing
+pub link_change : (phase : Phase) (old new : Link) (now : LinkState) (s t : PortState) (jobs : ℕ → List Job) → new.number ≡ old.number → new.conn ≡ old.conn → Changes old.number now s t
+    → ((past : ℕ → List Body) (replies : List Reply) → LinkStands phase old (s.link old.number) past replies → LinkStands phase new now past replies) → LinkStep phase old new s t jobs jobs
+link_change phase old new now s t jobs number conn change goes =
+    link_quiet phase old new s t jobs number conn (alone_change old.number now s t change) (λ past replies h. subst (λ (x : LinkState). LinkStands phase new x past replies) (sym change.this) (goes past replies h))
+
+-- a read failed, and the link was closed
+pub link_read_failed : (phase : Phase) (old new : Link) (buf : List ℕ) (s t u : PortState) (jobs : ℕ → List Job) → Changes old.number (after_read took.Failed buf (s.link old.number)) s t → Changes old.number (closed (t.link old.number)) t u
+    → Fails (record old { owed = false }) new → LinkStep phase old new s u jobs jobs
+link_read_failed phase old new buf s t u jobs first second fails =
+    let is : u.link old.number ≡ closed (after_read took.Failed buf (s.link old.number)) = second.this ∙ ap closed first.this in
+    link_quiet phase old new s u jobs fails.number fails.conn (alone_then old.number s t u (alone_change old.number (after_read took.Failed buf (s.link old.number)) s t first) (alone_change old.number (closed (t.link old.number)) t u second))
+    (λ past replies h. stands_failed phase old (record old { owed = false }) new (s.link old.number) (u.link old.number) past replies refl refl refl
+    (λ a speaks. subst (λ (x : LinkState). Speaks old.outgoing x.output a) (sym is) speaks) (λ e. e) fails
+    (ap (λ (x : LinkState). x.input) is) (ap (λ (x : LinkState). x.is_open) is) (ap (λ (x : LinkState). x.failed) is) (ap (λ (x : LinkState). x.owed) is) (λ e. ap (λ (x : LinkState). x.owed) is) h)
+
+-- a write failed, and the link was closed
+pub link_write_failed : (phase : Phase) (old new : Link) (out : Outgoing) (s t u : PortState) (jobs : ℕ → List Job) → Writes old.number old.outgoing out s t → (t.link old.number).failed ≡ true → (out.voice ≡ voices.Over → old.outgoing.voice ≡ voices.Over)
+    → Changes old.number (closed (t.link old.number)) t u → Fails (record old { outgoing = out }) new → LinkStep phase old new s u jobs jobs
+link_write_failed phase old new out s t u jobs writes failed over change fails =
+    let is : u.link old.number ≡ closed (t.link old.number) = change.this in
+    link_quiet phase old new s u jobs fails.number fails.conn (alone_then old.number s t u writes.alone (alone_change old.number (closed (t.link old.number)) t u change))
+    (λ past replies h. stands_failed phase old (record old { outgoing = out }) new (s.link old.number) (u.link old.number) past replies refl refl refl
+    (λ a speaks. subst (λ (x : LinkState). Speaks out x.output a) (sym is) (writes.goes a speaks)) over fails
+    (ap (λ (x : LinkState). x.input) is ∙ writes.input.input) (ap (λ (x : LinkState). x.is_open) is) (ap (λ (x : LinkState). x.failed) is ∙ failed) (ap (λ (x : LinkState). x.owed) is ∙ writes.input.owed ∙ h.owed)
+    (λ e. ap (λ (x : LinkState). x.owed) is ∙ writes.input.owed ∙ h.paid (sym (ap (λ (x : LinkState). x.ended) is ∙ writes.input.ended) ∙ e)) h)
+
+-- what is unsent was written, as far as the link took it
+pub link_wrote : (phase : Phase) (old : Link) (out : Outgoing) (s t : PortState) (jobs : ℕ → List Job) → old.live ≡ true → Writes old.number old.outgoing out s t → (t.link old.number).failed ≡ (s.link old.number).failed → out.voice ≡ old.outgoing.voice
+    → LinkStep phase old (record old { outgoing = out }) s t jobs jobs
+link_wrote phase old out s t jobs live writes failed voice =
+    link_quiet phase old (record old { outgoing = out }) s t jobs refl refl writes.alone
+    (λ past replies h. stands_wrote phase old out old.live (s.link old.number) (t.link old.number) past replies writes.input.input writes.input.ended writes.input.owed failed (writes.input.is_open ∙ h.live) writes.goes
+    (λ e. sym voice ∙ e) (λ e. sym voice ∙ e) (λ e. e) (λ e. let no : true ≡ false = sym live ∙ e in absurd cc) (λ e. let no : true ≡ false = sym live ∙ e in absurd cc) h)
+
+-- the same of a link that was shut, which is closed
+pub link_wrote_last : (phase : Phase) (old : Link) (out : Outgoing) (s t u : PortState) (jobs : ℕ → List Job) → old.shut ≡ true → Writes old.number old.outgoing out s t → (t.link old.number).failed ≡ (s.link old.number).failed → out.voice ≡ old.outgoing.voice
+    → ((t.link old.number).full ≡ false → out.unsent ≡ []) → Changes old.number (closed (t.link old.number)) t u → LinkStep phase old (record old { outgoing = out; live = false }) s u jobs jobs
+link_wrote_last phase old out s t u jobs shut writes failed voice done change =
+    let is : u.link old.number ≡ closed (t.link old.number) = change.this in
+    link_quiet phase old (record old { outgoing = out; live = false }) s u jobs refl refl (alone_then old.number s t u writes.alone (alone_change old.number (closed (t.link old.number)) t u change))
+    (λ past replies h. stands_wrote phase old out false (s.link old.number) (u.link old.number) past replies (ap (λ (x : LinkState). x.input) is ∙ writes.input.input) (ap (λ (x : LinkState). x.ended) is ∙ writes.input.ended) (ap (λ (x : LinkState). x.owed) is ∙ writes.input.owed)
+    (ap (λ (x : LinkState). x.failed) is ∙ failed) (ap (λ (x : LinkState). x.is_open) is) (λ a speaks. subst (λ (x : LinkState). Speaks out x.output a) (sym is) (writes.goes a speaks))
+    (λ e. sym voice ∙ e) (λ e. sym voice ∙ e) (λ e. refl) (λ e. inr (inl shut)) (λ e full. done (sym (ap (λ (x : LinkState). x.full) is) ∙ full)) h)
+
+-- nothing is done
+pub link_same : (phase : Phase) (old : Link) (s : PortState) (jobs : ℕ → List Job) → LinkStep phase old old s s jobs jobs
+link_same phase old s jobs = link_quiet phase old old s s jobs refl refl (alone_here old.number s) (λ past replies h. h)

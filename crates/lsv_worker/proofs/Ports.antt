@@ -53,3 +53,15 @@ input_here s = record { is_open = refl; input = refl; ended = refl; owed = refl;
 
 pub input_then : (s t u : LinkState) → SameInput s t → SameInput t u → SameInput s u
 input_then s t u x y = record { is_open = y.is_open ∙ x.is_open; input = y.input ∙ x.input; ended = y.ended ∙ x.ended; owed = y.owed ∙ x.owed; reads = y.reads ∙ x.reads }
+
+-- a call after which the link failed no more than before
+pub blame_kept : (l : ℕ) (now : LinkState) (s t : PortState) (a b : PortLedger) → Changes l now s t → now.failed ≡ (s.link l).failed → HasBlame s a t b
+blame_kept l now s t a b change same = blame_one l s t a b change.others (λ e. inl (sym (ap (λ (x : LinkState). x.failed) change.this ∙ same) ∙ e))
+
+-- a call that failed
+pub blame_failed : (l : ℕ) (s u : PortState) (a b c : PortLedger) → Alone l s u → HasRisen (a.links l) (b.links l) → Continues b c → HasBlame s a u c
+blame_failed l s u a b c alone rose on = blame_one l s u a c alone.others (λ e. inr (risen_on (a.links l) (b.links l) (c.links l) rose (on.links l)))
+
+-- a call after which the link failed no more than before, as far as it alone changed
+pub blame_alone : (l : ℕ) (s t : PortState) (a b : PortLedger) → Alone l s t → (t.link l).failed ≡ (s.link l).failed → HasBlame s a t b
+blame_alone l s t a b alone same = blame_one l s t a b alone.others (λ e. inl (sym same ∙ e))

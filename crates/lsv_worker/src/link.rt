@@ -9,7 +9,7 @@ ghost use Rattle.lsv_session.specs.declared.job.Job.{Job};
 ghost use Rattle.lsv_session.specs.declared.reply.Reply.{Reply};
 ghost use Rattle.lsv_session.specs.declared.reply.ReplyBody.TheVariants as said;
 ghost use Rattle.lsv_worker.specs.Incoming.{WasFull};
-ghost use Rattle.lsv_worker.specs.Links.{Fails, HasBlame, LetsEnd, LinkStands, LinkStep, PauseIsFor, SameSides, Takes, WasRead, WasReadAtMost, is_done, reads_in};
+ghost use Rattle.lsv_worker.specs.Links.{Fails, HasBlame, LetsEnd, LinkStands, LinkStep, PauseIsFor, ReasonOf, SameSides, Takes, WasRead, WasReadAtMost, is_done, reads_in};
 
 use crate::outgoing::{Outgoing, Voice};
 use crate::{Inbox, Incoming, Stage, Why};
@@ -103,7 +103,6 @@ impl Link {
         ensures is_open { P.tells → self.new.live ≡ true → IsOpen (P.state port.new) self.old.number }
         ensures once { P.tells → self.new.owed ≡ true → WasRead 1 ((P.state port.old).link self.old.number) ((P.state port.new).link self.old.number) }
         ensures most { P.tells → WasReadAtMost 1 ((P.state port.old).link self.old.number) ((P.state port.new).link self.old.number) }
-        ensures unsent { self.new.live ≡ true → self.new.outgoing ≡ self.old.outgoing }
         ensures blame { P.tells → HasBlame (P.state port.old) (P.ledger port.old) (P.state port.new) (P.ledger port.new) }
         ensures continues { Continues (P.ledger port.old) (P.ledger port.new) }
     {
@@ -113,17 +112,21 @@ impl Link {
                     self.incoming.hear(&buffer[..count]);
                     return;
                 }
+                return;
             }
             Took::NotYet => {
                 self.owed = false;
+                return;
             }
             Took::End => {
                 self.owed = false;
                 self.incoming.end();
+                return;
             }
             Took::Failed => {
                 self.owed = false;
                 self.fail(port);
+                return;
             }
         }
     }
@@ -141,12 +144,8 @@ impl Link {
         requires is_open { P.tells → self.old.live ≡ true → IsOpen (P.state port.old) self.old.number }
         ensures step { P.tells → LinkStep phase self.old self.new (P.state port.old) (P.state port.new) (I.jobs inbox.old) (I.jobs inbox.new) }
         ensures calm { result ≡ Pause.Calm → self.new.live ≡ true → self.new.owed ≡ false }
-        ensures full { result ≡ Pause.Full → WasFull self.new.incoming.route (I.refused inbox.old) (I.refused inbox.new) }
-        ensures laden { result ≡ Pause.Laden → 65536 ≤ length self.new.outgoing.unsent }
-        ensures tired { P.tells → result ≡ Pause.Tired → WasRead 16 ((P.state port.old).link self.old.number) ((P.state port.new).link self.old.number) }
+        ensures reason { P.tells → ReasonOf result self.new ((P.state port.old).link self.old.number) ((P.state port.new).link self.old.number) (I.refused inbox.old) (I.refused inbox.new) }
         ensures most { P.tells → WasReadAtMost 16 ((P.state port.old).link self.old.number) ((P.state port.new).link self.old.number) }
-        ensures light { P.tells → phase ≡ Phase.Going → 65536 ≤ length self.old.outgoing.unsent → ((P.state port.new).link self.old.number).reads ≡ ((P.state port.old).link self.old.number).reads }
-        ensures unsent { self.new.live ≡ true → self.new.outgoing ≡ self.old.outgoing }
         ensures blame { P.tells → HasBlame (P.state port.old) (P.ledger port.old) (P.state port.new) (P.ledger port.new) }
         ensures continues { Continues (P.ledger port.old) (P.ledger port.new) }
         ensures counts { (m : ℕ) → I.refused inbox.old m ≤ I.refused inbox.new m }
@@ -157,25 +156,39 @@ impl Link {
             return Pause::Full;
         }
         'reads: for k in 0..MOST_READS {
-            if !self.live || !self.owed {
+            if !self.live {
+                return Pause::Calm;
+            }
+            if !self.owed {
                 return Pause::Calm;
             }
             if self.incoming.stage.is_starved() {
                 return Pause::Starved;
             }
-            if phase == Phase::Going && self.outgoing.unsent.as_slice().len() >= LADEN {
-                return Pause::Laden;
+            if phase == Phase::Going {
+                if self.is_laden() {
+                    return Pause::Laden;
+                }
             }
             self.read_once(port, buffer);
             if self.advance(inbox) {
                 return Pause::Full;
             }
         }
-        if self.live && self.owed {
-            Pause::Tired
-        } else {
-            Pause::Calm
+        if !self.live {
+            return Pause::Calm;
         }
+        if !self.owed {
+            return Pause::Calm;
+        }
+        Pause::Tired
+    }
+
+    /// Whether too much is unsent for it to be read.
+    fn is_laden(&self) -> bool
+        ensures { result ≡ true → 65536 ≤ length self.now.outgoing.unsent }
+    {
+        self.outgoing.unsent.as_slice().len() >= LADEN
     }
 
     /// No more bytes come: puts the rest of its jobs. True where its lane was full.
@@ -192,27 +205,37 @@ impl Link {
         self.advance(inbox)
     }
 
-    /// Writes what is unsent. A link that was shut is closed once nothing is, and after Stop or a fault of the port's turn
-    /// in any case.
+    /// Whether it is to be closed: it was shut, and nothing is unsent, or Stop or a fault of the port's turn came.
+    fn is_finished(&self, phase: Phase) -> bool
+        ensures { result ≡ true → self.now.shut ≡ true }
+    {
+        self.shut && (self.outgoing.unsent.as_slice().is_empty() || phase != Phase::Going)
+    }
+
+    /// Writes what is unsent, where it is open. A link that was shut is closed once nothing is, and after Stop or a fault of
+    /// the port's turn in any case.
     fn send<P: Port>(&mut self, port: &mut P, phase: Phase)
-        requires is_open { P.tells → IsOpen (P.state port.old) self.old.number }
-        requires live { self.old.live ≡ true }
+        requires is_open { P.tells → self.old.live ≡ true → IsOpen (P.state port.old) self.old.number }
         ensures step { P.tells → (jobs : ℕ → List Job) → LinkStep phase self.old self.new (P.state port.old) (P.state port.new) jobs jobs }
         ensures number { self.new.number ≡ self.old.number }
         ensures lanes { self.new.incoming.route.lanes ≡ self.old.incoming.route.lanes }
         ensures is_open { P.tells → self.new.live ≡ true → IsOpen (P.state port.new) self.old.number }
         ensures reads { P.tells → ((P.state port.new).link self.old.number).reads ≡ ((P.state port.old).link self.old.number).reads }
-        ensures written { P.tells → ((P.state port.new).link self.old.number).full ≡ false → self.new.outgoing.unsent ≡ [] }
+        ensures written { P.tells → self.new.live ≡ true → ((P.state port.new).link self.old.number).full ≡ false → self.new.outgoing.unsent ≡ [] }
         ensures blame { P.tells → HasBlame (P.state port.old) (P.ledger port.old) (P.state port.new) (P.ledger port.new) }
         ensures continues { Continues (P.ledger port.old) (P.ledger port.new) }
     {
+        if !self.live {
+            return;
+        }
         if self.outgoing.write(self.number, port) {
             self.fail(port);
             return;
         }
-        if self.shut && (self.outgoing.unsent.as_slice().is_empty() || phase != Phase::Going) {
+        if self.is_finished(phase) {
             port.close(self.number);
             self.live = false;
+            return;
         }
     }
 
@@ -230,30 +253,77 @@ impl Link {
         ensures calm { reads_in phase ≡ true → self.new.pause ≡ Pause.Calm → self.new.live ≡ true → self.new.owed ≡ false }
         ensures reason { P.tells → PauseIsFor self.new ((P.state port.old).link self.old.number) ((P.state port.new).link self.old.number) (I.refused inbox.old) (I.refused inbox.new) }
         ensures most { P.tells → WasReadAtMost 16 ((P.state port.old).link self.old.number) ((P.state port.new).link self.old.number) }
-        ensures light { P.tells → phase ≡ Phase.Going → 65536 ≤ length self.new.outgoing.unsent → ((P.state port.new).link self.old.number).reads ≡ ((P.state port.old).link self.old.number).reads }
-        ensures written { P.tells → self.new.live ≡ true → ((P.state port.new).link self.old.number).full ≡ false → self.new.outgoing.unsent ≡ [] }
         ensures blame { P.tells → HasBlame (P.state port.old) (P.ledger port.old) (P.state port.new) (P.ledger port.new) }
         ensures continues { Continues (P.ledger port.old) (P.ledger port.new) }
         ensures counts { (m : ℕ) → I.refused inbox.old m ≤ I.refused inbox.new m }
         ensures lanes { I.lanes inbox.new ≡ self.new.incoming.route.lanes }
         ensures same { I.is_same inbox.old inbox.new }
     {
-        if self.live {
-            self.send(port, phase);
-        }
+        self.send(port, phase);
+        self.hear_on(port, inbox, buffer, phase);
+    }
+
+    /// Reads on and puts jobs, as far as the phase lets it, and keeps why it stopped.
+    fn hear_on<P: Port, I: Inbox>(
+        &mut self,
+        port: &mut P,
+        inbox: &mut I,
+        buffer: &mut [u8; PIECE],
+        phase: Phase,
+    )
+        requires lanes { I.lanes inbox.old ≡ self.old.incoming.route.lanes }
+        requires is_open { P.tells → self.old.live ≡ true → IsOpen (P.state port.old) self.old.number }
+        ensures step { P.tells → LinkStep phase self.old self.new (P.state port.old) (P.state port.new) (I.jobs inbox.old) (I.jobs inbox.new) }
+        ensures calm { reads_in phase ≡ true → self.new.pause ≡ Pause.Calm → self.new.live ≡ true → self.new.owed ≡ false }
+        ensures reason { P.tells → PauseIsFor self.new ((P.state port.old).link self.old.number) ((P.state port.new).link self.old.number) (I.refused inbox.old) (I.refused inbox.new) }
+        ensures most { P.tells → WasReadAtMost 16 ((P.state port.old).link self.old.number) ((P.state port.new).link self.old.number) }
+        ensures blame { P.tells → HasBlame (P.state port.old) (P.ledger port.old) (P.state port.new) (P.ledger port.new) }
+        ensures continues { Continues (P.ledger port.old) (P.ledger port.new) }
+        ensures counts { (m : ℕ) → I.refused inbox.old m ≤ I.refused inbox.new m }
+        ensures lanes { I.lanes inbox.new ≡ self.new.incoming.route.lanes }
+        ensures same { I.is_same inbox.old inbox.new }
+    {
         match phase {
-            Phase::Going => self.pause = self.read_on(port, inbox, buffer, phase),
+            Phase::Going => {
+                self.pause = self.read_on(port, inbox, buffer, phase);
+                return;
+            }
             Phase::Stopping => {
                 self.pause = self.read_on(port, inbox, buffer, phase);
-                if !self.owed && self.finish(inbox) {
-                    self.pause = Pause::Full;
+                if self.owed {
+                    return;
                 }
+                self.finish_off(inbox, phase);
+                return;
             }
             Phase::Failed => {
-                self.pause = if self.finish(inbox) { Pause::Full } else { Pause::Calm };
+                self.finish_off(inbox, phase);
+                return;
             }
-            Phase::Stopped => self.pause = Pause::Calm,
+            Phase::Stopped => {
+                self.pause = Pause::Calm;
+                return;
+            }
         }
+    }
+
+    /// No more bytes come: puts the rest of its jobs, and keeps whether its lane was full.
+    fn finish_off<I: Inbox>(&mut self, inbox: &mut I, phase: Phase)
+        requires lanes { I.lanes inbox.old ≡ self.old.incoming.route.lanes }
+        requires lets { (s : LinkState) → s.owed ≡ self.old.owed → LetsEnd phase s }
+        ensures step { (port : PortState) → LinkStep phase self.old self.new port port (I.jobs inbox.old) (I.jobs inbox.new) }
+        ensures number { self.new.number ≡ self.old.number }
+        ensures owed { self.new.owed ≡ self.old.owed }
+        ensures reason { (before after : LinkState) (counts : ℕ → ℕ) → ((m : ℕ) → counts m ≤ I.refused inbox.old m) → PauseIsFor self.new before after counts (I.refused inbox.new) }
+        ensures counts { (m : ℕ) → I.refused inbox.old m ≤ I.refused inbox.new m }
+        ensures lanes { I.lanes inbox.new ≡ self.new.incoming.route.lanes }
+        ensures same { I.is_same inbox.old inbox.new }
+    {
+        if self.finish(inbox) {
+            self.pause = Pause::Full;
+            return;
+        }
+        self.pause = Pause::Calm;
     }
 
     /// Takes what is said to it. Where memory is wanting nothing more is put on it, and it is heard no more.

@@ -55,6 +55,8 @@ impl Outgoing {
         ensures unsent { self.new.unsent ≡ [] }
         ensures was { self.old.voice ≢ Voice.Speaking → self.new.voice ≡ self.old.voice }
         ensures is { self.old.voice ≡ Voice.Speaking → self.new.voice ≡ why }
+        ensures over { self.new.voice ≡ Voice.Over → (why ≡ Voice.Over) ⊎ (self.old.voice ≡ Voice.Over) }
+        ensures failed { self.new.voice ≡ Voice.Failed → (why ≡ Voice.Failed) ⊎ (self.old.voice ≡ Voice.Failed) }
     {
         self.unsent = Bytes::new(self.alloc);
         match self.voice {

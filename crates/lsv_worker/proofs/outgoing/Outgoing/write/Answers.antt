@@ -1,4 +1,4 @@
-use Rattle.std.proofs.Common.{◌≡◌, ◌≤◌, ℕ, length, true, false, refl, sym, ap, subst, ◌∙◌, rules, inl, inr}
+use Rattle.std.proofs.Common.{◌≡◌, ◌≤◌, ℕ, length, [], true, false, refl, sym, ap, subst, ◌∙◌, rules, inl, inr}
 use Rattle.lsv_port.specs.Ledger.{Continues, HasLinkCause}
 use Rattle.lsv_port.specs.Port.{Changes, IsOpen, LinkState, after_write}
 use Rattle.lsv_port.specs.declared.port.Gave.TheVariants as gave
@@ -9,7 +9,7 @@ use Rattle.lsv_worker.proofs.outgoing.Outgoing.write.Goals as goal
 pub writes-init : goal.writes-init
 writes-init g c = record {
   writes = λ told. writes_none c.args.link c.args.self.now (g.P.Port.state c.args.port.now);
-  here = c.requires;
+  here = c.requires.is_open;
   voice = refl;
   failed = λ told. refl;
   continues = continues_here (g.P.Port.ledger c.args.port.now);
@@ -30,7 +30,7 @@ writes-preserved g c =
 
 pub returns-in-NotYet-clause-writes : goal.returns-in-NotYet-clause-writes
 returns-in-NotYet-clause-writes g c = λ told.
-    writes_full c.args.link c.args.self.now c.writes.self (g.P.Port.state c.args.port.now) (g.P.Port.state c.writes.port) (g.P.Port.state c.write.new.self) _ (c.writes.invariant.writes told) (c.in-NotYet.ensures.change told)
+    writes_full c.args.link c.args.self.now c.writes.self (g.P.Port.state c.args.port.now) (g.P.Port.state c.writes.port) (g.P.Port.state c.write.new.self) [] (c.writes.invariant.writes told) (c.in-NotYet.ensures.change told)
 
 pub returns-in-NotYet-clause-cause : goal.returns-in-NotYet-clause-cause
 returns-in-NotYet-clause-cause g c = record {
@@ -40,4 +40,4 @@ returns-in-NotYet-clause-cause g c = record {
 
 pub returns-in-Failed-clause-writes : goal.returns-in-Failed-clause-writes
 returns-in-Failed-clause-writes g c = λ told.
-    writes_failed c.args.link c.args.self.now c.writes.self c.silence.new.self (g.P.Port.state c.args.port.now) (g.P.Port.state c.writes.port) (g.P.Port.state c.write.new.self) _ (c.writes.invariant.writes told) (c.in-Failed.ensures.change told) c.silence.ensures.goes
+    writes_failed c.args.link c.args.self.now c.writes.self c.silence.new.self (g.P.Port.state c.args.port.now) (g.P.Port.state c.writes.port) (g.P.Port.state c.write.new.self) [] (c.writes.invariant.writes told) (c.in-Failed.ensures.change told) c.silence.ensures.goes
