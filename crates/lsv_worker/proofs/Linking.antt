@@ -3,7 +3,15 @@ use Rattle.std.proofs.Common.{◌≡◌, ◌≢◌, ◌⊎◌, ℕ, zero, suc, �
 use Rattle.std.proofs.lemmas.List.{append-nil, map-append}
 use Rattle.lsv_port.specs.Port.{Changes, LinkState, PortState, after_read, closed}
 use Rattle.lsv_port.specs.declared.port.Took.TheVariants as took
-use Rattle.lsv_session.specs.Transcript.{answers}
+use Rattle.std.specs.Prelude.{if◌then◌else◌}
+use Rattle.lsv_msg.specs.Messages.{server_bytes}
+use Rattle.lsv_msg.specs.declared.messages.ServerMessage.{ServerMessage}
+use Rattle.lsv_wire.specs.Frame.{frame_of}
+use Rattle.lsv_session.specs.Connections.{same}
+use Rattle.lsv_session.specs.Transcript.{answers, frames_of, messages_in, said_to}
+use Rattle.lsv_session.specs.declared.reply.ReplyBody.{ReplyBody}
+use Rattle.lsv_session.specs.declared.reply.ReplyBody.TheVariants as said
+use Rattle.lsv_session.proofs.Replies.{answers-append}
 use Rattle.lsv_session.specs.declared.connection.ConnId.{ConnId}
 use Rattle.lsv_session.specs.declared.job.Body.{Body}
 use Rattle.lsv_session.specs.declared.job.Job.{Job}
@@ -19,7 +27,7 @@ use Rattle.lsv_worker.specs.declared.link.Link.{Link}
 use Rattle.lsv_worker.specs.declared.link.Phase.{Phase}
 use Rattle.lsv_worker.specs.declared.link.Phase.TheVariants.{Going, Stopping, Failed, Stopped}
 use Rattle.lsv_worker.proofs.Cutting.{marked}
-use Rattle.lsv_worker.proofs.Putting.{hears_ext}
+use Rattle.lsv_worker.proofs.Putting.{hears_ext, same_self}
 use Rattle.lsv_worker.proofs.Ports.{alone_change, alone_here, alone_then}
 
 -- the same of what was put, told otherwise
@@ -189,10 +197,10 @@ stands_heard phase old inc s count buf past replies goes h = record {
 
 -- no bytes come on a link that doesn't hear
 pub deaf : (phase : Phase) (old : Link) (s : LinkState) (past : ℕ → List Body) (replies : List Reply) → reads_in phase ≡ true → old.live ≡ true → old.owed ≡ true → hears old.incoming.stage ≡ false → s.ended ≡ false → LinkStands phase old s past replies → ⊥
-deaf phase old s past replies reads live owed deaf going h =
+deaf phase old s past replies reads live owed mute going h =
     ⊎_elim (λ e. let a : false ≡ true = sym going ∙ e in cc)
     (λ k. ⊎_elim (λ f. let a : true ≡ false = sym live ∙ h.broken f in cc) (λ l. let a : true ≡ false = sym owed ∙ sym h.owed ∙ reads_lets phase s reads l in cc) k)
-    (h.may_end (h.inward.over deaf))
+    (h.may_end (h.inward.over mute))
 
 pub stands_unowed : (phase : Phase) (old : Link) (s : LinkState) (buf : List ℕ) (past : ℕ → List Body) (replies : List Reply) → LinkStands phase old s past replies → LinkStands phase (record old { owed = false }) (after_read took.NotYet buf s) past replies
 stands_unowed phase old s buf past replies h = record {
@@ -250,7 +258,7 @@ stands_failed phase old mid new s t past replies conn shut incoming speaks over 
       told = λ e. subst (λ (k : ConnId). HasEarlyShut k replies) (sym c) (h.told e);
       shut = λ e. subst (λ (k : ConnId). HasShut k replies) (sym c) (h.shut (sym (fails.shut ∙ shut) ∙ e));
       silent = λ e. failed;
-      over = λ e. subst (λ (k : ConnId). TalksOn k replies ⊎ (phase ≡ Stopped)) (sym c) (h.over (over (fails.over e)));
+      over = λ e. inr fails.live;
       closed = λ e. inl failed;
       sent = λ e full. fails.unsent;
     }
@@ -274,7 +282,7 @@ stands_wrote phase old out live s t past replies input ended owed failed here sp
   told = h.told;
   shut = h.shut;
   silent = λ e. failed ∙ h.silent (silent e);
-  over = λ e. h.over (over e);
+  over = λ e. ⊎_elim (λ t. inl t) (λ l. inr (still l)) (h.over (over e));
   closed = closed;
   sent = sent;
 }
@@ -360,3 +368,121 @@ link_wrote_last phase old out s t u jobs shut writes failed voice done change =
 -- nothing is done
 pub link_same : (phase : Phase) (old : Link) (s : PortState) (jobs : ℕ → List Job) → LinkStep phase old old s s jobs jobs
 link_same phase old s jobs = link_quiet phase old old s s jobs refl refl (alone_here old.number s) (λ past replies h. h)
+
+-- ---- replies
+
+same_said : (c k : ConnId) → c ≡ k → same c k ≡ true
+same_said c k e = subst (λ (x : ConnId). same c x ≡ true) e (same_self c)
+
+said_one : (c : ConnId) (reply : Reply) (m : ServerMessage) → reply.conn ≡ c → reply.body ≡ said.Say m → said_to c (reply ∷ []) ≡ m ∷ []
+said_one c reply m conn body =
+    ap (λ (b : Bool). (if b then messages_in reply.body else []) ++ said_to c []) (same_said reply.conn c conn) ∙ ap (λ (b : ReplyBody). messages_in b ++ said_to c []) body
+
+shut_none : (c : ConnId) (reply : Reply) → reply.conn ≡ c → reply.body ≡ said.Shut → said_to c (reply ∷ []) ≡ []
+shut_none c reply conn body =
+    ap (λ (b : Bool). (if b then messages_in reply.body else []) ++ said_to c []) (same_said reply.conn c conn) ∙ ap (λ (b : ReplyBody). messages_in b ++ said_to c []) body
+
+pub answers_said : (c : ConnId) (replies : List Reply) (reply : Reply) (m : ServerMessage) → reply.conn ≡ c → reply.body ≡ said.Say m → answers c (replies ++ reply ∷ []) ≡ answers c replies ++ frame_of (server_bytes m)
+answers_said c replies reply m conn body =
+    answers-append c replies (reply ∷ []) ∙ ap (λ (l : List ServerMessage). answers c replies ++ frames_of l) (said_one c reply m conn body) ∙ ap (λ (l : List ℕ). answers c replies ++ l) (append-nil (frame_of (server_bytes m)))
+
+pub answers_shut : (c : ConnId) (replies : List Reply) (reply : Reply) → reply.conn ≡ c → reply.body ≡ said.Shut → answers c (replies ++ reply ∷ []) ≡ answers c replies
+answers_shut c replies reply conn body =
+    answers-append c replies (reply ∷ []) ∙ ap (λ (l : List ServerMessage). answers c replies ++ frames_of l) (shut_none c reply conn body) ∙ append-nil (answers c replies)
+
+pub shut_more : (c : ConnId) (replies more : List Reply) → HasShut c replies → HasShut c (replies ++ more)
+shut_more c [] more h = absurd h
+shut_more c (r ∷ replies) more h = ⊎_elim (λ i. inl i) (λ t. inr (shut_more c replies more t)) h
+
+pub early_more : (c : ConnId) (replies more : List Reply) → HasEarlyShut c replies → HasEarlyShut c (replies ++ more)
+early_more c [] more h = absurd h
+early_more c (r ∷ replies) more h = ⊎_elim (λ i. inl i) (λ t. inr (early_more c replies more t)) h
+
+pub shut_last : (c : ConnId) (replies : List Reply) (reply : Reply) → reply.conn ≡ c → reply.body ≡ said.Shut → HasShut c (replies ++ reply ∷ [])
+shut_last c [] reply conn body = inl (record { conn = same_said reply.conn c conn; shut = body })
+shut_last c (r ∷ replies) reply conn body = inr (shut_last c replies reply conn body)
+
+pub early_last : (c : ConnId) (replies : List Reply) (reply : Reply) → reply.conn ≡ c → reply.body ≡ said.Shut → reply.last ≡ false → HasEarlyShut c (replies ++ reply ∷ [])
+early_last c [] reply conn body last = inl (record { shut = record { conn = same_said reply.conn c conn; shut = body }; early = last })
+early_last c (r ∷ replies) reply conn body last = inr (early_last c replies reply conn body last)
+
+pub talks_more : (c : ConnId) (replies more : List Reply) → TalksOn c replies → TalksOn c (replies ++ more)
+talks_more c replies more h = record {
+  before = h.before;
+  reply = h.reply;
+  after = h.after ++ more;
+  whole = ap (λ (l : List Reply). l ++ more) h.whole ∙ append_assoc h.before (h.reply ∷ h.after) more;
+  shut = h.shut;
+  more = h.more;
+}
+
+pub talks_now : (c : ConnId) (replies : List Reply) (reply : Reply) → reply.conn ≡ c → HasShut c replies → TalksOn c (replies ++ reply ∷ [])
+talks_now c replies reply conn shut = record { before = replies; reply = reply; after = []; whole = refl; shut = shut; more = same_said reply.conn c conn }
+
+-- a reply was taken that says something
+pub stands_said : (phase : Phase) (old : Link) (inc : Incoming) (out : Outgoing) (s : LinkState) (past : ℕ → List Body) (replies : List Reply) (reply : Reply) (m : ServerMessage) → reply.conn ≡ old.conn → reply.body ≡ said.Say m → SameWay old.incoming inc
+    → (Speaks old.outgoing s.output (answers old.conn replies) → Speaks out s.output (answers old.conn replies ++ frame_of (server_bytes m)))
+    → (out.voice ≡ voices.Failed → old.outgoing.voice ≡ voices.Failed) → (out.voice ≡ voices.Over → (old.outgoing.voice ≡ voices.Over) ⊎ ((old.shut ≡ true) ⊎ (old.live ≡ false))) → (old.live ≡ false → out.unsent ≡ [])
+    → LinkStands phase old s past replies → LinkStands phase (record old { incoming = inc; outgoing = out }) s past (replies ++ reply ∷ [])
+stands_said phase old inc out s past replies reply m conn body way speaks silent over sent h = record {
+  marks = h.marks;
+  inward = way s.input past h.marks h.inward;
+  outward = subst (Speaks out s.output) (sym (answers_said old.conn replies reply m conn body)) (speaks h.outward);
+  live = h.live;
+  owed = h.owed;
+  paid = h.paid;
+  broken = h.broken;
+  may_end = h.may_end;
+  told = λ e. early_more old.conn replies (reply ∷ []) (h.told e);
+  shut = λ e. shut_more old.conn replies (reply ∷ []) (h.shut e);
+  silent = λ e. h.silent (silent e);
+  over = λ e. ⊎_elim (λ was. ⊎_elim (λ t. inl (talks_more old.conn replies (reply ∷ []) t)) (λ l. inr l) (h.over was)) (λ why. ⊎_elim (λ shut. inl (talks_now old.conn replies reply conn (h.shut shut))) (λ l. inr l) why) (over e);
+  closed = h.closed;
+  sent = λ e full. sent e;
+}
+
+-- a Shut was taken
+pub stands_shut : (phase : Phase) (old : Link) (inc : Incoming) (marks : Marks → Marks) (s : LinkState) (past : ℕ → List Body) (replies : List Reply) (reply : Reply) → reply.conn ≡ old.conn → reply.body ≡ said.Shut
+    → ((read : List ℕ) (put : ℕ → List Body) (m : Marks) → Hears old.incoming read put m → Hears inc read put (marks m)) → ((m : Marks) → (marks m).over ≡ m.over) → ((m : Marks) → (marks m).shut ≡ true → (m.shut ≡ true) ⊎ (reply.last ≡ false))
+    → LinkStands phase old s past replies → LinkStands phase (record old { incoming = inc; shut = true }) s past (replies ++ reply ∷ [])
+stands_shut phase old inc marks s past replies reply conn body way same_over shut h = record {
+  marks = marks h.marks;
+  inward = way s.input past h.marks h.inward;
+  outward = subst (Speaks old.outgoing s.output) (sym (answers_shut old.conn replies reply conn body)) h.outward;
+  live = h.live;
+  owed = h.owed;
+  paid = h.paid;
+  broken = h.broken;
+  may_end = λ e. h.may_end (sym (same_over h.marks) ∙ e);
+  told = λ e. ⊎_elim (λ was. early_more old.conn replies (reply ∷ []) (h.told was)) (λ last. early_last old.conn replies reply conn body last) (shut h.marks e);
+  shut = λ e. shut_last old.conn replies reply conn body;
+  silent = h.silent;
+  over = λ e. ⊎_elim (λ t. inl (talks_more old.conn replies (reply ∷ []) t)) (λ l. inr l) (h.over e);
+  closed = λ e. ⊎_elim (λ f. inl f) (λ k. inr (⊎_elim (λ was. inl refl) (λ p. inr p) k)) (h.closed e);
+  sent = h.sent;
+}
+
+-- a Shut that changes nothing
+pub stands_ignored : (phase : Phase) (old : Link) (s : LinkState) (past : ℕ → List Body) (replies : List Reply) (reply : Reply) → reply.conn ≡ old.conn → reply.body ≡ said.Shut
+    → LinkStands phase old s past replies → LinkStands phase old s past (replies ++ reply ∷ [])
+stands_ignored phase old s past replies reply conn body h = record {
+  marks = h.marks;
+  inward = h.inward;
+  outward = subst (Speaks old.outgoing s.output) (sym (answers_shut old.conn replies reply conn body)) h.outward;
+  live = h.live;
+  owed = h.owed;
+  paid = h.paid;
+  broken = h.broken;
+  may_end = h.may_end;
+  told = λ e. early_more old.conn replies (reply ∷ []) (h.told e);
+  shut = λ e. shut_more old.conn replies (reply ∷ []) (h.shut e);
+  silent = h.silent;
+  over = λ e. ⊎_elim (λ t. inl (talks_more old.conn replies (reply ∷ []) t)) (λ l. inr l) (h.over e);
+  closed = h.closed;
+  sent = h.sent;
+}
+
+-- what a step does that puts nothing is said of any past
+pub step_goes : (phase : Phase) (old new : Link) (s t : PortState) (jobs : ℕ → List Job) (past : ℕ → List Body) (replies : List Reply) (step : LinkStep phase old new s t jobs jobs) → LinkStands phase old (s.link old.number) past replies
+    → LinkStands phase new (t.link old.number) (λ m. past m ++ step.added m) replies
+step_goes phase old new s t jobs past replies step h = step.goes past replies h

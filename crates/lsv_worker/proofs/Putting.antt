@@ -1,10 +1,11 @@
 -- Jobs that are put to a lane.
 use Rattle.std.proofs.Common.{◌≡◌, ◌≢◌, ◌⊎◌, ℕ, ◌<◌, ◌==◌, Bool, true, false, Option, Some, None, List, [], ◌∷◌, ◌++◌, map, refl, sym, ap, subst, ◌∙◌, append_assoc, inl, inr, ⊎_elim, arith}
-use Rattle.std.specs.Prelude.{if◌then◌else◌}
+use Rattle.std.specs.Prelude.{if◌then◌else◌, ◌&&◌}
 use Rattle.std.specs.Option.{unwrap_or}
 use Rattle.std.proofs.lemmas.Bool.{cases_order}
 use Rattle.std.proofs.lemmas.Bool.Decides.{nat_tests}
 use Rattle.std.proofs.lemmas.List.{append-nil, map-append}
+use Rattle.lsv_session.specs.Connections.{same}
 use Rattle.lsv_session.specs.declared.connection.ConnId.{ConnId}
 use Rattle.lsv_session.specs.declared.job.Body.{Body}
 use Rattle.lsv_session.specs.declared.job.Body.TheVariants.{Msg, Bad, Gone}
@@ -27,6 +28,9 @@ own k = grind (arith, nat_tests)
 
 other : (k m : ℕ) → k ≢ m → (k == m) ≡ false
 other k m ne = grind (arith, nat_tests)
+
+pub same_self : (c : ConnId) → same c c ≡ true
+same_self c = ap (λ (b : Bool). b && (c.seq == c.seq)) (own c.worker) ∙ own c.seq
 
 pub hears_ext : (link : Incoming) (read : List ℕ) (p q : ℕ → List Body) (marks : Marks) → ((lane : ℕ) → p lane ≡ q lane) → Hears link read q marks → Hears link read p marks
 hears_ext link read p q marks same h = record {

@@ -43,7 +43,7 @@ pub record LinkStands (phase : Phase) (link : Link) (s : LinkState) (put : ℕ �
   pub told : marks.shut ≡ true → HasEarlyShut link.conn replies
   pub shut : link.shut ≡ true → HasShut link.conn replies
   pub silent : link.outgoing.voice ≡ voices.Failed → s.failed ≡ true
-  pub over : link.outgoing.voice ≡ voices.Over → TalksOn link.conn replies ⊎ (phase ≡ Stopped)
+  pub over : link.outgoing.voice ≡ voices.Over → TalksOn link.conn replies ⊎ (link.live ≡ false)
   pub closed : link.live ≡ false → (s.failed ≡ true) ⊎ ((link.shut ≡ true) ⊎ (phase ≡ Stopped))
   pub sent : link.live ≡ false → s.full ≡ false → link.outgoing.unsent ≡ []
 
@@ -104,6 +104,16 @@ pub record Fails (old new : Link) : Type 0 where
   pub outgoing : (output answers : List ℕ) → Speaks old.outgoing output answers → Speaks new.outgoing output answers
   pub unsent : new.outgoing.unsent ≡ []
   pub over : new.outgoing.voice ≡ voices.Over → old.outgoing.voice ≡ voices.Over
+
+-- a link that was shut is closed, or stays
+pub record Closes (old new : Link) (before after : PortState) : Type 0 where
+  pub number : new.number ≡ old.number
+  pub conn : new.conn ≡ old.conn
+  pub lanes : new.incoming.route.lanes ≡ old.incoming.route.lanes
+  pub alone : Alone old.number before after
+  pub open_before : (after.link old.number).is_open ≡ true → (before.link old.number).is_open ≡ true
+  pub owed : (after.link old.number).owed ≡ (before.link old.number).owed
+  pub goes : (phase : Phase) (past : ℕ → List Body) (replies : List Reply) → LinkStands phase old (before.link old.number) past replies → LinkStands phase new (after.link old.number) past replies
 
 -- what a reply does to its connection, whatever was put and taken before
 pub record Takes (reply : Reply) (old new : Link) (before after : PortState) : Type 0 where

@@ -1,6 +1,6 @@
 -- What a worker stands for: its connections, their links of the port, the jobs that it put and the replies that it took.
 use Rattle.std.specs.Prelude.{◌≡◌, ◌≢◌, ◌⊎◌, ℕ, ◌<◌, ◌≤◌, ◌&&◌, not, Bool, true, false, List, [], ◌∷◌, ◌++◌, length}
-use Rattle.std.specs.List.{All, Contains}
+use Rattle.std.specs.List.{Contains, filter}
 use Rattle.std.specs.Vec.{vec_capacity, vec_len}
 use Rattle.lsv_port.specs.Port.{LinkState, PortState, IsOpen, IsOwed}
 use Rattle.lsv_port.specs.declared.port.Ready.{Ready}
@@ -28,10 +28,22 @@ pub record Setting : Type 0 where
 abbrev pub setting : Worker → Setting
 setting w = record { number = w.number; lanes = w.lanes; next = w.next; phase = w.phase }
 
--- exactly the links whose reading stopped are held
-pub record AreHeld (links : List Link) (held : List ℕ) : Type 0 where
-  pub each : All (λ link. link.pause ≢ Calm → Contains held link.number) links
-  pub only : (l : ℕ) → Contains held l → (link : Link) × Contains links link × (link.number ≡ l) × (link.pause ≢ Calm)
+-- the links whose reading stopped are held
+abbrev pub AreHeld : List ℕ → List Link → Type 0
+AreHeld held [] = Unit {0}
+AreHeld held (link ∷ links) = (link.pause ≢ Calm → Contains held link.number) × AreHeld held links
+
+-- a link whose reading didn't stop is owed no read
+abbrev pub IsCalmed : Link → Type 0
+IsCalmed link = link.pause ≡ Calm → link.live ≡ true → link.owed ≡ false
+
+abbrev pub AreCalmed : List Link → Type 0
+AreCalmed [] = Unit {0}
+AreCalmed (link ∷ links) = IsCalmed link × AreCalmed links
+
+-- the connections of which more is to come
+abbrev pub undone : List Link → List Link
+undone links = filter (λ link. not (is_done link)) links
 
 -- each connection goes to one of so many lanes
 abbrev pub AreOfLanes : ℕ → List Link → Type 0
@@ -85,6 +97,20 @@ pub record Stands (set : Setting) (links : List Link) (port : PortState) (jobs :
   pub unused : (k : ℕ) → (IsMade set k → ⊥) → (lane : ℕ) → bodies_of (conn_at set k) (jobs lane) ≡ []
   pub unasked : (k : ℕ) → (IsMade set k → ⊥) → IsUnasked (conn_at set k) replies
   pub stop : set.phase ≡ Stopping → port.stopped ≡ true
+
+-- what calls for its connections put to each lane, whatever was put and taken before
+pub record Steps (set : Setting) (old new : List Link) (before after : PortState) (jobs_before jobs_after : ℕ → List Job) : Type 0 where
+  pub added : ℕ → List Job
+  pub put : (lane : ℕ) → jobs_after lane ≡ jobs_before lane ++ added lane
+  pub goes : (jobs : ℕ → List Job) (replies : List Reply) → Stands set old before jobs replies → Stands set new after (λ lane. jobs lane ++ added lane) replies
+
+-- the table of a worker in this phase matches its port
+pub record IsTable (phase : Phase) (links : List Link) (port : PortState) : Type 0 where
+  pub set : Setting
+  pub phase_is : set.phase ≡ phase
+  pub jobs : ℕ → List Job
+  pub replies : List Reply
+  pub stands : Stands set links port jobs replies
 
 -- A worker over its port, where these jobs were put to each lane and these replies taken.
 abbrev pub Represents : Worker → PortState → (ℕ → List Job) → List Reply → Type 0

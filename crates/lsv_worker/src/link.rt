@@ -9,7 +9,7 @@ ghost use Rattle.lsv_session.specs.declared.job.Job.{Job};
 ghost use Rattle.lsv_session.specs.declared.reply.Reply.{Reply};
 ghost use Rattle.lsv_session.specs.declared.reply.ReplyBody.TheVariants as said;
 ghost use Rattle.lsv_worker.specs.Incoming.{WasFull};
-ghost use Rattle.lsv_worker.specs.Links.{Fails, HasBlame, LetsEnd, LinkStands, LinkStep, PauseIsFor, ReasonOf, SameSides, Takes, WasRead, WasReadAtMost, is_done, reads_in};
+ghost use Rattle.lsv_worker.specs.Links.{Closes, Fails, HasBlame, LetsEnd, LinkStands, LinkStep, PauseIsFor, ReasonOf, SameSides, Takes, WasRead, WasReadAtMost, is_done, reads_in};
 
 use crate::outgoing::{Outgoing, Voice};
 use crate::{Inbox, Incoming, Stage, Why};
@@ -328,33 +328,57 @@ impl Link {
 
     /// Takes what is said to it. Where memory is wanting nothing more is put on it, and it is heard no more.
     fn say(&mut self, message: &ServerMessage)
-        ensures says { (reply : Reply) (port : PortState) → reply.conn ≡ self.old.conn → reply.body ≡ said.Say message.now → Takes reply self.old self.new port port }
+        ensures takes { (reply : Reply) (port : PortState) → reply.conn ≡ self.old.conn → reply.body ≡ said.Say message.now → Takes reply self.old self.new port port }
     {
         if self.shut {
             self.outgoing.silence(Voice::Over);
             return;
         }
-        if !self.outgoing.say(message) {
-            self.incoming.want();
+        if !self.live {
+            self.outgoing.silence(Voice::Over);
+            return;
         }
+        if self.outgoing.say(message) {
+            return;
+        }
+        self.incoming.want();
     }
 
     /// Takes a Shut. It is closed at once where nothing is unsent. One that its end asked for counts only behind its end.
     fn take_shut<P: Port>(&mut self, last: bool, port: &mut P)
         requires is_open { P.tells → self.old.live ≡ true → IsOpen (P.state port.old) self.old.number }
         ensures takes { P.tells → (reply : Reply) → reply.conn ≡ self.old.conn → reply.body ≡ said.Shut → reply.last ≡ last → Takes reply self.old self.new (P.state port.old) (P.state port.new) }
+        ensures blame { P.tells → HasBlame (P.state port.old) (P.ledger port.old) (P.state port.new) (P.ledger port.new) }
         ensures continues { Continues (P.ledger port.old) (P.ledger port.new) }
     {
-        if last && !self.incoming.stage.has_left() {
+        if last {
+            if !self.incoming.stage.has_left() {
+                return;
+            }
+            self.shut = true;
+            self.close_sent(port);
             return;
         }
         self.shut = true;
-        if !last {
-            self.incoming.shut();
+        self.incoming.shut();
+        self.close_sent(port);
+    }
+
+    /// A link that was shut is closed where nothing is unsent.
+    fn close_sent<P: Port>(&mut self, port: &mut P)
+        requires is_open { P.tells → self.old.live ≡ true → IsOpen (P.state port.old) self.old.number }
+        requires shut { self.old.shut ≡ true }
+        ensures closes { P.tells → Closes self.old self.new (P.state port.old) (P.state port.new) }
+        ensures blame { P.tells → HasBlame (P.state port.old) (P.ledger port.old) (P.state port.new) (P.ledger port.new) }
+        ensures continues { Continues (P.ledger port.old) (P.ledger port.new) }
+    {
+        if !self.live {
+            return;
         }
-        if self.live && self.outgoing.unsent.as_slice().is_empty() {
+        if self.outgoing.unsent.as_slice().is_empty() {
             port.close(self.number);
             self.live = false;
+            return;
         }
     }
 
@@ -363,11 +387,18 @@ impl Link {
         requires is_open { P.tells → self.old.live ≡ true → IsOpen (P.state port.old) self.old.number }
         requires conn { reply.now.conn ≡ self.old.conn }
         ensures takes { P.tells → Takes reply.now self.old self.new (P.state port.old) (P.state port.new) }
+        ensures blame { P.tells → HasBlame (P.state port.old) (P.ledger port.old) (P.state port.new) (P.ledger port.new) }
         ensures continues { Continues (P.ledger port.old) (P.ledger port.new) }
     {
         match &reply.body {
-            ReplyBody::Say(message) => self.say(message),
-            ReplyBody::Shut => self.take_shut(reply.last, port),
+            ReplyBody::Say(message) => {
+                self.say(message);
+                return;
+            }
+            ReplyBody::Shut => {
+                self.take_shut(reply.last, port);
+                return;
+            }
         }
     }
 

@@ -55,6 +55,7 @@ impl Outgoing {
         ensures unsent { self.new.unsent ≡ [] }
         ensures was { self.old.voice ≢ Voice.Speaking → self.new.voice ≡ self.old.voice }
         ensures is { self.old.voice ≡ Voice.Speaking → self.new.voice ≡ why }
+        ensures mute { self.new.voice ≢ Voice.Speaking }
         ensures over { self.new.voice ≡ Voice.Over → (why ≡ Voice.Over) ⊎ (self.old.voice ≡ Voice.Over) }
         ensures failed { self.new.voice ≡ Voice.Failed → (why ≡ Voice.Failed) ⊎ (self.old.voice ≡ Voice.Failed) }
     {

@@ -56,7 +56,7 @@ returns-then-advance-2-clause-continues g c = continues_then (g.P.Port.ledger c.
 pub returns-then-advance-2-clause-reason : goal.returns-then-advance-2-clause-reason
 returns-then-advance-2-clause-reason g c = λ told.
     let at = lane_or_home c.advance-in-reads.new.self.incoming.route in
-    risen_late (g.I.Inbox.refused c.args.inbox.now at) (g.I.Inbox.refused c.reads.inbox at) (g.I.Inbox.refused c.advance-in-reads.new.inbox at) (c.reads.invariant.counts at) (c.advance-in-reads.ensures.full c.if-advance-in-reads.true)
+    risen_late (g.I.Inbox.refused c.args.inbox.now at) (g.I.Inbox.refused c.reads.inbox at) (g.I.Inbox.refused c.advance-in-reads.new.inbox at) (c.reads.invariant.counts at) (c.advance-in-reads.ensures.full c.if-advance-2.true)
 
 pub returns-then-advance-2-clause-same : goal.returns-then-advance-2-clause-same
 returns-then-advance-2-clause-same g c = g.met.I.Inbox.same_through c.args.inbox.now c.reads.inbox c.advance-in-reads.new.inbox c.reads.invariant.same c.advance-in-reads.ensures.same
