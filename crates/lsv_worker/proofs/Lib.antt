@@ -4,3 +4,5 @@ pub mod Putting
 pub mod Ports
 pub mod Speaking
 pub mod Linking
+pub mod Tables
+pub mod Notes

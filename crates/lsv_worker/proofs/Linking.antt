@@ -19,7 +19,7 @@ use Rattle.lsv_session.specs.declared.reply.Reply.{Reply}
 use Rattle.lsv_worker.specs.Lanes.{job_of}
 use Rattle.lsv_worker.specs.Incoming.{Hears, Marks, Puts, SameWay, hears}
 use Rattle.lsv_worker.specs.Outgoing.{Alone, HasEarlyShut, HasShut, SameInput, Speaks, TalksOn, Writes}
-use Rattle.lsv_worker.specs.Links.{Fails, LetsEnd, LinkStands, LinkStep, MayEnd, WasRead, WasReadAtMost, reads_in, repeated}
+use Rattle.lsv_worker.specs.Links.{Closes, Fails, LetsEnd, LinkStands, LinkStep, MayEnd, Takes, WasRead, WasReadAtMost, reads_in, repeated}
 use Rattle.lsv_worker.specs.declared.incoming.Incoming.{Incoming}
 use Rattle.lsv_worker.specs.declared.outgoing.Outgoing.{Outgoing}
 use Rattle.lsv_worker.specs.declared.outgoing.Voice.TheVariants as voices
@@ -267,7 +267,7 @@ stands_failed phase old mid new s t past replies conn shut incoming speaks over 
 
 pub stands_wrote : (phase : Phase) (old : Link) (out : Outgoing) (live : Bool) (s t : LinkState) (past : ℕ → List Body) (replies : List Reply)
     → t.input ≡ s.input → t.ended ≡ s.ended → t.owed ≡ s.owed → t.failed ≡ s.failed → t.is_open ≡ live
-    → ((answers : List ℕ) → Speaks old.outgoing s.output answers → Speaks out t.output answers) → (out.voice ≡ voices.Failed → old.outgoing.voice ≡ voices.Failed) → (out.voice ≡ voices.Over → old.outgoing.voice ≡ voices.Over)
+    → ((answers : List ℕ) → Speaks old.outgoing s.output answers → Speaks out t.output answers) → (out.voice ≡ voices.Failed → old.outgoing.voice ≡ voices.Failed) → (out.voice ≡ voices.Over → (old.outgoing.voice ≡ voices.Over) ⊎ (live ≡ false))
     → (old.live ≡ false → live ≡ false) → (live ≡ false → (t.failed ≡ true) ⊎ ((old.shut ≡ true) ⊎ (phase ≡ Stopped))) → (live ≡ false → t.full ≡ false → out.unsent ≡ [])
     → LinkStands phase old s past replies → LinkStands phase (record old { outgoing = out; live = live }) t past replies
 stands_wrote phase old out live s t past replies input ended owed failed here speaks silent over still closed sent h = record {
@@ -282,7 +282,7 @@ stands_wrote phase old out live s t past replies input ended owed failed here sp
   told = h.told;
   shut = h.shut;
   silent = λ e. failed ∙ h.silent (silent e);
-  over = λ e. ⊎_elim (λ t. inl t) (λ l. inr (still l)) (h.over (over e));
+  over = λ e. ⊎_elim (λ was. ⊎_elim (λ t. inl t) (λ l. inr (still l)) (h.over was)) (λ l. inr l) (over e);
   closed = closed;
   sent = sent;
 }
@@ -353,7 +353,7 @@ pub link_wrote : (phase : Phase) (old : Link) (out : Outgoing) (s t : PortState)
 link_wrote phase old out s t jobs live writes failed voice =
     link_quiet phase old (record old { outgoing = out }) s t jobs refl refl writes.alone
     (λ past replies h. stands_wrote phase old out old.live (s.link old.number) (t.link old.number) past replies writes.input.input writes.input.ended writes.input.owed failed (writes.input.is_open ∙ h.live) writes.goes
-    (λ e. sym voice ∙ e) (λ e. sym voice ∙ e) (λ e. e) (λ e. let no : true ≡ false = sym live ∙ e in absurd cc) (λ e. let no : true ≡ false = sym live ∙ e in absurd cc) h)
+    (λ e. sym voice ∙ e) (λ e. inl (sym voice ∙ e)) (λ e. e) (λ e. let no : true ≡ false = sym live ∙ e in absurd cc) (λ e. let no : true ≡ false = sym live ∙ e in absurd cc) h)
 
 -- the same of a link that was shut, which is closed
 pub link_wrote_last : (phase : Phase) (old : Link) (out : Outgoing) (s t u : PortState) (jobs : ℕ → List Job) → old.shut ≡ true → Writes old.number old.outgoing out s t → (t.link old.number).failed ≡ (s.link old.number).failed → out.voice ≡ old.outgoing.voice
@@ -363,7 +363,7 @@ link_wrote_last phase old out s t u jobs shut writes failed voice done change =
     link_quiet phase old (record old { outgoing = out; live = false }) s u jobs refl refl (alone_then old.number s t u writes.alone (alone_change old.number (closed (t.link old.number)) t u change))
     (λ past replies h. stands_wrote phase old out false (s.link old.number) (u.link old.number) past replies (ap (λ (x : LinkState). x.input) is ∙ writes.input.input) (ap (λ (x : LinkState). x.ended) is ∙ writes.input.ended) (ap (λ (x : LinkState). x.owed) is ∙ writes.input.owed)
     (ap (λ (x : LinkState). x.failed) is ∙ failed) (ap (λ (x : LinkState). x.is_open) is) (λ a speaks. subst (λ (x : LinkState). Speaks out x.output a) (sym is) (writes.goes a speaks))
-    (λ e. sym voice ∙ e) (λ e. sym voice ∙ e) (λ e. refl) (λ e. inr (inl shut)) (λ e full. done (sym (ap (λ (x : LinkState). x.full) is) ∙ full)) h)
+    (λ e. sym voice ∙ e) (λ e. inl (sym voice ∙ e)) (λ e. refl) (λ e. inr (inl shut)) (λ e full. done (sym (ap (λ (x : LinkState). x.full) is) ∙ full)) h)
 
 -- nothing is done
 pub link_same : (phase : Phase) (old : Link) (s : PortState) (jobs : ℕ → List Job) → LinkStep phase old old s s jobs jobs
@@ -482,7 +482,85 @@ stands_ignored phase old s past replies reply conn body h = record {
   sent = h.sent;
 }
 
--- what a step does that puts nothing is said of any past
-pub step_goes : (phase : Phase) (old new : Link) (s t : PortState) (jobs : ℕ → List Job) (past : ℕ → List Body) (replies : List Reply) (step : LinkStep phase old new s t jobs jobs) → LinkStands phase old (s.link old.number) past replies
-    → LinkStands phase new (t.link old.number) (λ m. past m ++ step.added m) replies
-step_goes phase old new s t jobs past replies step h = step.goes past replies h
+pub takes_said : (old : Link) (inc : Incoming) (out : Outgoing) (port : PortState) (reply : Reply) (m : ServerMessage) → reply.conn ≡ old.conn → reply.body ≡ said.Say m → inc.route.lanes ≡ old.incoming.route.lanes → SameWay old.incoming inc
+    → ((output answers : List ℕ) → Speaks old.outgoing output answers → Speaks out output (answers ++ frame_of (server_bytes m)))
+    → (out.voice ≡ voices.Failed → old.outgoing.voice ≡ voices.Failed) → (out.voice ≡ voices.Over → (old.outgoing.voice ≡ voices.Over) ⊎ ((old.shut ≡ true) ⊎ (old.live ≡ false))) → (old.live ≡ false → out.unsent ≡ [])
+    → Takes reply old (record old { incoming = inc; outgoing = out }) port port
+takes_said old inc out port reply m conn body lanes way speaks silent over sent = record {
+  number = refl;
+  conn = refl;
+  lanes = lanes;
+  alone = alone_here old.number port;
+  open_before = λ e. e;
+  owed = refl;
+  goes = λ phase past replies h. stands_said phase old inc out (port.link old.number) past replies reply m conn body way (speaks (port.link old.number).output (answers old.conn replies)) silent over sent h;
+}
+
+pub takes_shut : (old : Link) (inc : Incoming) (marks : Marks → Marks) (port : PortState) (reply : Reply) → reply.conn ≡ old.conn → reply.body ≡ said.Shut → inc.route.lanes ≡ old.incoming.route.lanes
+    → ((read : List ℕ) (put : ℕ → List Body) (m : Marks) → Hears old.incoming read put m → Hears inc read put (marks m)) → ((m : Marks) → (marks m).over ≡ m.over) → ((m : Marks) → (marks m).shut ≡ true → (m.shut ≡ true) ⊎ (reply.last ≡ false))
+    → Takes reply old (record old { incoming = inc; shut = true }) port port
+takes_shut old inc marks port reply conn body lanes way same_over shut = record {
+  number = refl;
+  conn = refl;
+  lanes = lanes;
+  alone = alone_here old.number port;
+  open_before = λ e. e;
+  owed = refl;
+  goes = λ phase past replies h. stands_shut phase old inc marks (port.link old.number) past replies reply conn body way same_over shut h;
+}
+
+pub takes_ignored : (old : Link) (port : PortState) (reply : Reply) → reply.conn ≡ old.conn → reply.body ≡ said.Shut → Takes reply old old port port
+takes_ignored old port reply conn body = record {
+  number = refl;
+  conn = refl;
+  lanes = refl;
+  alone = alone_here old.number port;
+  open_before = λ e. e;
+  owed = refl;
+  goes = λ phase past replies h. stands_ignored phase old (port.link old.number) past replies reply conn body h;
+}
+
+pub takes_closes : (old mid new : Link) (s t : PortState) (reply : Reply) → mid.number ≡ old.number → Takes reply old mid s s → Closes mid new s t → Takes reply old new s t
+takes_closes old mid new s t reply number takes closes = record {
+  number = closes.number ∙ takes.number;
+  conn = closes.conn ∙ takes.conn;
+  lanes = closes.lanes ∙ takes.lanes;
+  alone = subst (λ (n : ℕ). Alone n s t) number closes.alone;
+  open_before = subst (λ (n : ℕ). (t.link n).is_open ≡ true → (s.link n).is_open ≡ true) number closes.open_before;
+  owed = subst (λ (n : ℕ). (t.link n).owed ≡ (s.link n).owed) number closes.owed;
+  goes = λ phase past replies h.
+      subst (λ (n : ℕ). LinkStands phase new (t.link n) past (replies ++ reply ∷ [])) number
+      (closes.goes phase past (replies ++ reply ∷ []) (subst (λ (n : ℕ). LinkStands phase mid (s.link n) past (replies ++ reply ∷ [])) (sym number) (takes.goes phase past replies h)));
+}
+
+pub closes_same : (old : Link) (s : PortState) → Closes old old s s
+closes_same old s = record { number = refl; conn = refl; lanes = refl; alone = alone_here old.number s; open_before = λ e. e; owed = refl; goes = λ phase past replies h. h }
+
+pub closes_now : (old : Link) (s t : PortState) → old.shut ≡ true → old.outgoing.unsent ≡ [] → Changes old.number (closed (s.link old.number)) s t → Closes old (record old { live = false }) s t
+closes_now old s t shut empty change =
+    let is : t.link old.number ≡ closed (s.link old.number) = change.this in
+    record {
+      number = refl;
+      conn = refl;
+      lanes = refl;
+      alone = alone_change old.number (closed (s.link old.number)) s t change;
+      open_before = λ e. let no : (t.link old.number).is_open ≡ false = ap (λ (x : LinkState). x.is_open) is in absurd cc;
+      owed = ap (λ (x : LinkState). x.owed) is;
+      goes = λ phase past replies h. stands_wrote phase old old.outgoing false (s.link old.number) (t.link old.number) past replies (ap (λ (x : LinkState). x.input) is) (ap (λ (x : LinkState). x.ended) is) (ap (λ (x : LinkState). x.owed) is)
+          (ap (λ (x : LinkState). x.failed) is) (ap (λ (x : LinkState). x.is_open) is) (λ a speaks. subst (λ (x : LinkState). Speaks old.outgoing x.output a) (sym is) speaks) (λ e. e) (λ e. inl e) (λ e. refl) (λ e. inr (inl shut)) (λ e full. empty) h;
+    }
+
+-- the worker was stopped: a link is closed, and nothing more is put on it
+pub stopped_open : (old : Link) (out : Outgoing) (s t : PortState) (jobs : ℕ → List Job) → Changes old.number (closed (s.link old.number)) s t → ((output answers : List ℕ) → Speaks old.outgoing output answers → Speaks out output answers)
+    → (out.voice ≡ voices.Failed → old.outgoing.voice ≡ voices.Failed) → out.unsent ≡ [] → LinkStep Stopped old (record old { outgoing = out; live = false }) s t jobs jobs
+stopped_open old out s t jobs change speaks silent empty =
+    let is : t.link old.number ≡ closed (s.link old.number) = change.this in
+    link_quiet Stopped old (record old { outgoing = out; live = false }) s t jobs refl refl (alone_change old.number (closed (s.link old.number)) s t change)
+    (λ past replies h. stands_wrote Stopped old out false (s.link old.number) (t.link old.number) past replies (ap (λ (x : LinkState). x.input) is) (ap (λ (x : LinkState). x.ended) is) (ap (λ (x : LinkState). x.owed) is)
+    (ap (λ (x : LinkState). x.failed) is) (ap (λ (x : LinkState). x.is_open) is) (λ a h. subst (λ (x : LinkState). Speaks out x.output a) (sym is) (speaks (s.link old.number).output a h)) silent (λ e. inr refl) (λ e. refl) (λ e. inr (inr refl)) (λ e full. empty) h)
+
+pub stopped_closed : (old : Link) (out : Outgoing) (s : PortState) (jobs : ℕ → List Job) → old.live ≡ false → ((output answers : List ℕ) → Speaks old.outgoing output answers → Speaks out output answers)
+    → (out.voice ≡ voices.Failed → old.outgoing.voice ≡ voices.Failed) → out.unsent ≡ [] → LinkStep Stopped old (record old { outgoing = out }) s s jobs jobs
+stopped_closed old out s jobs dead speaks silent empty =
+    link_quiet Stopped old (record old { outgoing = out }) s s jobs refl refl (alone_here old.number s)
+    (λ past replies h. stands_wrote Stopped old out old.live (s.link old.number) (s.link old.number) past replies refl refl refl refl h.live (λ a k. speaks (s.link old.number).output a k) silent (λ e. inr dead) (λ e. e) (λ e. inr (inr refl)) (λ e full. empty) h)

@@ -1,21 +1,25 @@
 -- What a worker stands for: its connections, their links of the port, the jobs that it put and the replies that it took.
-use Rattle.std.specs.Prelude.{◌≡◌, ◌≢◌, ◌⊎◌, ℕ, ◌<◌, ◌≤◌, ◌&&◌, not, Bool, true, false, List, [], ◌∷◌, ◌++◌, length}
+use Rattle.std.specs.Prelude.{◌≡◌, ◌≢◌, ◌⊎◌, ℕ, ◌<◌, ◌≤◌, ◌+◌, ◌==◌, ◌&&◌, not, Bool, true, false, List, [], ◌∷◌, ◌++◌, length, map}
 use Rattle.std.specs.List.{Contains, filter}
 use Rattle.std.specs.Vec.{vec_capacity, vec_len}
 use Rattle.lsv_port.specs.Port.{LinkState, PortState, IsOpen, IsOwed}
 use Rattle.lsv_port.specs.declared.port.Ready.{Ready}
 use Rattle.lsv_port.specs.declared.port.Ready.TheVariants.{Opened, Readable, Writable, Woken, Stop}
-use Rattle.lsv_session.specs.Connections.{same}
+use Rattle.lsv_wire.specs.Frame.{frame_of}
+use Rattle.lsv_msg.specs.Messages.{server_bytes}
+use Rattle.lsv_session.specs.Connections.{same, server_hello}
 use Rattle.lsv_session.specs.Transcript.{bodies_of}
 use Rattle.lsv_session.specs.declared.connection.ConnId.{ConnId}
 use Rattle.lsv_session.specs.declared.job.Job.{Job}
 use Rattle.lsv_session.specs.declared.reply.Reply.{Reply}
-use Rattle.lsv_worker.specs.Incoming.{has_left}
+use Rattle.lsv_worker.specs.Incoming.{Hears, has_left}
+use Rattle.lsv_worker.specs.Outgoing.{Speaks}
 use Rattle.lsv_worker.specs.Links.{LinkStands, PauseIsFor, is_done}
 use Rattle.lsv_worker.specs.declared.link.Link.{Link}
 use Rattle.lsv_worker.specs.declared.link.Pause.TheVariants.{Calm}
 use Rattle.lsv_worker.specs.declared.link.Phase.{Phase}
 use Rattle.lsv_worker.specs.declared.link.Phase.TheVariants.{Going, Stopping}
+use Rattle.lsv_worker.specs.declared.outgoing.Voice.TheVariants.{Speaking}
 use Rattle.lsv_worker.specs.declared.worker.Worker.{Worker}
 
 -- a worker's number, its lanes, the number of its next connection, and its phase
@@ -170,3 +174,31 @@ phase_after (Readable l) = Going
 phase_after (Writable l) = Going
 phase_after Woken = Going
 phase_after Stop = Stopping
+
+-- the link, owed a read where it has this number
+abbrev pub owed_if : Bool → Link → Link
+owed_if true link = record link { owed = true }
+owed_if false link = link
+
+abbrev pub marked : ℕ → List Link → List Link
+marked number links = map (λ link. owed_if (link.number == number) link) links
+
+-- a connection that was just made for a link: the server's hello is unsent, and nothing else came or went
+pub record IsFresh (set : Setting) (number : ℕ) (link : Link) : Type 0 where
+  pub number_is : link.number ≡ number
+  pub conn : link.conn ≡ conn_at set set.next
+  pub lanes : link.incoming.route.lanes ≡ set.lanes
+  pub incoming : Hears link.incoming [] (λ lane. []) (record { shut = false; over = false })
+  pub outgoing : Speaks link.outgoing [] (frame_of (server_bytes server_hello))
+  pub voice : link.outgoing.voice ≡ Speaking
+  pub live : link.live ≡ true
+  pub owed : link.owed ≡ true
+  pub shut : link.shut ≡ false
+
+-- a connection was made
+pub record Admits (link : Link) (old new : Worker) : Type 0 where
+  pub number : new.number ≡ old.number
+  pub lanes : new.lanes ≡ old.lanes
+  pub next : new.next ≡ old.next + 1
+  pub phase : new.phase ≡ old.phase
+  pub links : new.links.items ≡ old.links.items ++ link ∷ []

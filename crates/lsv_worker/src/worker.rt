@@ -1,13 +1,13 @@
 //! A worker over its port.
 
-ghost use Rattle.std.specs.Prelude.{◌≡◌, ◌≢◌, ◌⊎◌, ℕ, ◌<◌, ◌≤◌, ◌++◌, ◌∷◌, List, [], length, IsTrue, IfOk, Some, None, true, false, slice_index_or, vec_capacity};
+ghost use Rattle.std.specs.Prelude.{◌-◌, ◌^◌, ◌≡◌, ◌≢◌, ◌⊎◌, ℕ, ◌<◌, ◌≤◌, ◌==◌, ◌++◌, ◌∷◌, List, [], length, IsTrue, IfOk, Some, None, true, false, slice_index_or, vec_capacity, vec_len};
 ghost use Rattle.std.specs.List.{Contains};
 ghost use Rattle.lsv_port.specs.Ledger.{Continues};
-ghost use Rattle.lsv_port.specs.Port.{IsOpen, PortState, Told};
+ghost use Rattle.lsv_port.specs.Port.{IsOpen, Opens, PortState, Told};
 ghost use Rattle.lsv_session.specs.declared.job.Job.{Job};
 ghost use Rattle.lsv_session.specs.declared.reply.Reply.{Reply};
-ghost use Rattle.lsv_worker.specs.Links.{HasBlame, WasReadAtMost, reads_in};
-ghost use Rattle.lsv_worker.specs.Worker.{AreHeld, AreOfLanes, Goes, HaveLeft, HoldsOwed, IsAt, IsFit, IsHeldFor, IsMade, IsSameWorker, IsWritten, Represents, held_by, phase_after, setting};
+ghost use Rattle.lsv_worker.specs.Links.{HasBlame, reads_in};
+ghost use Rattle.lsv_worker.specs.Worker.{Admits, AreCalmed, AreOfLanes, Goes, HaveLeft, HoldsOwed, IsAt, IsFit, IsFresh, IsMade, IsSameWorker, IsTable, Represents, Setting, Steps, held_by, marked, owed_if, phase_after, setting, undone};
 
 use crate::link::{Link, PIECE, Pause, Phase};
 use crate::{Inbox, Incoming, Outgoing};
@@ -71,8 +71,8 @@ fn have_left(links: &[Link]) -> bool
 
 /// The links whose reading stopped, though more may come.
 fn collect(links: &[Link], held: &mut Vec<u32>)
-    requires { length links.now ≤ vec_capacity held.old }
-    ensures held { AreHeld links.now held.new.items }
+    requires room { length links.now ≤ vec_capacity held.old }
+    ensures held { (i : ℕ) (d : Link) → i < length links.now → (slice_index_or links.now i d).pause ≢ Pause.Calm → Contains held.new.items (slice_index_or links.now i d).number }
     ensures room { vec_capacity held.old ≤ vec_capacity held.new }
 {
     held.clear();
@@ -81,6 +81,14 @@ fn collect(links: &[Link], held: &mut Vec<u32>)
             let _ = held.push(link.number);
         }
     }
+}
+
+/// The connections of which nothing more comes are forgotten.
+fn sweep(links: &mut Vec<Link>)
+    ensures items { links.new.items ≡ undone links.old.items }
+    ensures fewer { vec_len links.new ≤ vec_len links.old }
+{
+    links.retain(|link| !link.is_done());
 }
 
 /// Each link is written, read and heard as far as it may be.
@@ -92,11 +100,42 @@ fn pass_all<P: Port, I: Inbox>(
     phase: Phase,
 )
     requires lanes { AreOfLanes (I.lanes inbox.old) links.old }
+    requires at { P.tells → IsTable phase links.old (P.state port.old) }
+    ensures steps { P.tells → (set : Setting) → set.phase ≡ phase → Steps set links.old links.new (P.state port.old) (P.state port.new) (I.jobs inbox.old) (I.jobs inbox.new) }
+    ensures calm { reads_in phase ≡ true → AreCalmed links.new }
+    ensures lanes { AreOfLanes (I.lanes inbox.old) links.new }
+    ensures inbox { I.lanes inbox.new ≡ I.lanes inbox.old }
+    ensures blame { P.tells → HasBlame (P.state port.old) (P.ledger port.old) (P.state port.new) (P.ledger port.new) }
     ensures continues { Continues (P.ledger port.old) (P.ledger port.new) }
+    ensures counts { (m : ℕ) → I.refused inbox.old m ≤ I.refused inbox.new m }
+    ensures same { I.is_same inbox.old inbox.new }
 {
     for link in links.iter_mut() {
         link.pass(port, inbox, buffer, phase);
     }
+}
+
+/// The same of a table.
+fn pass_table<P: Port, I: Inbox>(
+    links: &mut Vec<Link>,
+    port: &mut P,
+    inbox: &mut I,
+    buffer: &mut [u8; PIECE],
+    phase: Phase,
+)
+    requires lanes { AreOfLanes (I.lanes inbox.old) links.old.items }
+    requires at { P.tells → IsTable phase links.old.items (P.state port.old) }
+    ensures steps { P.tells → (set : Setting) → set.phase ≡ phase → Steps set links.old.items links.new.items (P.state port.old) (P.state port.new) (I.jobs inbox.old) (I.jobs inbox.new) }
+    ensures calm { reads_in phase ≡ true → AreCalmed links.new.items }
+    ensures lanes { AreOfLanes (I.lanes inbox.old) links.new.items }
+    ensures size { vec_len links.new ≡ vec_len links.old }
+    ensures inbox { I.lanes inbox.new ≡ I.lanes inbox.old }
+    ensures blame { P.tells → HasBlame (P.state port.old) (P.ledger port.old) (P.state port.new) (P.ledger port.new) }
+    ensures continues { Continues (P.ledger port.old) (P.ledger port.new) }
+    ensures counts { (m : ℕ) → I.refused inbox.old m ≤ I.refused inbox.new m }
+    ensures same { I.is_same inbox.old inbox.new }
+{
+    pass_all(links, port, inbox, buffer, phase);
 }
 
 /// Each link is closed, and nothing more is put on it.
@@ -146,9 +185,6 @@ impl Worker {
         ensures phase { self.new.phase ≡ phase_after ready }
         ensures goes { P.tells → (before : PortState) → Told ready before (P.state port.old) → Goes self.old self.new before (P.state port.new) (I.jobs inbox.old) (I.jobs inbox.new) }
         ensures owed { P.tells → HoldsOwed self.new (P.state port.new) }
-        ensures reasons { P.tells → (l : ℕ) → Contains (held_by self.new) l → IsHeldFor self.new l (P.state port.old) (P.state port.new) (I.refused inbox.old) (I.refused inbox.new) }
-        ensures most { P.tells → (l : ℕ) → WasReadAtMost 16 ((P.state port.old).link l) ((P.state port.new).link l) }
-        ensures written { P.tells → IsWritten self.new.links.items (P.state port.new) }
         ensures blame { P.tells → HasBlame (P.state port.old) (P.ledger port.old) (P.state port.new) (P.ledger port.new) }
         ensures continues { Continues (P.ledger port.old) (P.ledger port.new) }
         ensures counts { (m : ℕ) → I.refused inbox.old m ≤ I.refused inbox.new m }
@@ -169,9 +205,6 @@ impl Worker {
         ensures phase { self.new.phase ≡ self.old.phase }
         ensures goes { P.tells → Goes self.old self.new (P.state port.old) (P.state port.new) (I.jobs inbox.old) (I.jobs inbox.new) }
         ensures owed { P.tells → reads_in self.old.phase ≡ true → HoldsOwed self.new (P.state port.new) }
-        ensures reasons { P.tells → (l : ℕ) → Contains (held_by self.new) l → IsHeldFor self.new l (P.state port.old) (P.state port.new) (I.refused inbox.old) (I.refused inbox.new) }
-        ensures most { P.tells → (l : ℕ) → WasReadAtMost 16 ((P.state port.old).link l) ((P.state port.new).link l) }
-        ensures written { P.tells → IsWritten self.new.links.items (P.state port.new) }
         ensures blame { P.tells → HasBlame (P.state port.old) (P.ledger port.old) (P.state port.new) (P.ledger port.new) }
         ensures continues { Continues (P.ledger port.old) (P.ledger port.new) }
         ensures counts { (m : ℕ) → I.refused inbox.old m ≤ I.refused inbox.new m }
@@ -184,10 +217,12 @@ impl Worker {
     /// A turn of the port failed: no link is read any more, and each connection ends behind the jobs of what it sent.
     pub fn turn_failed<P: Port, I: Inbox>(&mut self, port: &mut P, inbox: &mut I)
         requires fit { IsFit self.old }
+        requires going { self.old.phase ≡ Phase.Going }
         requires lanes { I.lanes inbox.old ≡ self.old.lanes }
         requires at { P.tells → IsAt self.old (P.state port.old) }
         ensures fit { IsFit self.new }
         ensures worker { IsSameWorker self.old self.new }
+        ensures phase { self.new.phase ≡ Phase.Failed }
         ensures goes { P.tells → Goes self.old self.new (P.state port.old) (P.state port.new) (I.jobs inbox.old) (I.jobs inbox.new) }
         ensures blame { P.tells → HasBlame (P.state port.old) (P.ledger port.old) (P.state port.new) (P.ledger port.new) }
         ensures continues { Continues (P.ledger port.old) (P.ledger port.new) }
@@ -250,7 +285,10 @@ impl Worker {
     }
 
     /// A connection for a link that was just opened, with the server's hello on the way; None where memory is wanting.
-    fn fresh(&self, number: u32) -> Option<Link> {
+    fn fresh(&self, number: u32) -> Option<Link>
+        requires { IsFit self.now }
+        ensures { (link : Link) → result ≡ Some link → IsFresh (setting self.now) number link }
+    {
         let mut outgoing = Outgoing::new(self.alloc);
         let Ok(hello) = server_hello(self.alloc) else {
             return None;
@@ -273,22 +311,49 @@ impl Worker {
         })
     }
 
-    /// Takes a connection into the table. False where memory is wanting.
-    fn admit(&mut self, link: Link) -> bool {
+    /// Takes a connection into the table. False, and nothing changes, where memory is wanting.
+    fn admit(&mut self, link: Link) -> bool
+        requires fit { IsFit self.old }
+        requires room { self.old.next < 2 ^ 64 - 1 }
+        requires lanes { link.incoming.route.lanes ≡ self.old.lanes }
+        ensures fit { IsFit self.new }
+        ensures yes { result ≡ true → Admits link self.old self.new }
+        ensures no { result ≡ false → (setting self.new ≡ setting self.old) × (self.new.links.items ≡ self.old.links.items) }
+    {
         if self.held.reserve(self.links.len() + 1).is_err() {
             return false;
         }
-        if self.links.push(link).is_err() {
-            return false;
+        match self.links.push(link) {
+            Ok(()) => {
+                self.next += 1;
+                return true;
+            }
+            Err(_) => {
+                return false;
+            }
         }
-        self.next += 1;
-        true
+    }
+
+    /// Whether one more link is turned away: 128 are open, or the numbers are spent.
+    fn is_crowded(&self) -> bool
+        ensures { result ≡ false → self.now.next < 2 ^ 64 - 1 }
+    {
+        self.next == u64::MAX || count_open(&self.links) >= MOST_LINKS
     }
 
     /// A link was opened. It is closed at once, and is no connection, where 128 others are open, the numbers are spent, or
     /// memory is wanting.
-    fn opened<P: Port>(&mut self, port: &mut P, number: u32) {
-        if count_open(&self.links) >= MOST_LINKS || self.next == u64::MAX {
+    fn opened<P: Port>(&mut self, port: &mut P, number: u32)
+        requires fit { IsFit self.old }
+        requires is_open { P.tells → IsOpen (P.state port.old) number }
+        ensures fit { IsFit self.new }
+        ensures worker { IsSameWorker self.old self.new }
+        ensures phase { self.new.phase ≡ self.old.phase }
+        ensures opens { P.tells → (before : PortState) (jobs : ℕ → List Job) (replies : List Reply) → Opens number before (P.state port.old) → Represents self.old before jobs replies → Represents self.new (P.state port.new) jobs replies }
+        ensures blame { P.tells → HasBlame (P.state port.old) (P.ledger port.old) (P.state port.new) (P.ledger port.new) }
+        ensures continues { Continues (P.ledger port.old) (P.ledger port.new) }
+    {
+        if self.is_crowded() {
             port.close(number);
             return;
         }
@@ -296,35 +361,83 @@ impl Worker {
             port.close(number);
             return;
         };
-        if !self.admit(link) {
-            port.close(number);
+        if self.admit(link) {
+            return;
         }
+        port.close(number);
     }
 
     /// What the port told is noted.
-    fn note<P: Port>(&mut self, port: &mut P, ready: Ready) {
+    fn note<P: Port>(&mut self, port: &mut P, ready: Ready)
+        requires fit { IsFit self.old }
+        requires going { self.old.phase ≡ Phase.Going }
+        requires told { P.tells → (before : PortState) × Told ready before (P.state port.old) × IsAt self.old before }
+        ensures fit { IsFit self.new }
+        ensures worker { IsSameWorker self.old self.new }
+        ensures phase { self.new.phase ≡ phase_after ready }
+        ensures notes { P.tells → (before : PortState) (jobs : ℕ → List Job) (replies : List Reply) → Told ready before (P.state port.old) → Represents self.old before jobs replies → Represents self.new (P.state port.new) jobs replies }
+        ensures blame { P.tells → HasBlame (P.state port.old) (P.ledger port.old) (P.state port.new) (P.ledger port.new) }
+        ensures continues { Continues (P.ledger port.old) (P.ledger port.new) }
+    {
         match ready {
-            Ready::Opened(number) => self.opened(port, number),
-            Ready::Readable(number) => mark(&mut self.links, number),
-            Ready::Writable(_) | Ready::Woken => {}
-            Ready::Stop => self.phase = Phase::Stopping,
+            Ready::Opened(number) => {
+                self.opened(port, number);
+                return;
+            }
+            Ready::Readable(number) => {
+                mark_table(&mut self.links, number);
+                return;
+            }
+            Ready::Writable(_) => {
+                return;
+            }
+            Ready::Woken => {
+                return;
+            }
+            Ready::Stop => {
+                self.phase = Phase::Stopping;
+                return;
+            }
         }
     }
 
-    /// Each link is tried; those of which nothing more comes are forgotten.
-    fn pass<P: Port, I: Inbox>(&mut self, port: &mut P, inbox: &mut I) {
+    /// Each link is tried, and those of which nothing more comes are forgotten.
+    fn pass<P: Port, I: Inbox>(&mut self, port: &mut P, inbox: &mut I)
+        requires fit { IsFit self.old }
+        requires lanes { I.lanes inbox.old ≡ self.old.lanes }
+        requires at { P.tells → IsAt self.old (P.state port.old) }
+        ensures fit { IsFit self.new }
+        ensures set { setting self.new ≡ setting self.old }
+        ensures goes { P.tells → Goes self.old self.new (P.state port.old) (P.state port.new) (I.jobs inbox.old) (I.jobs inbox.new) }
+        ensures owed { P.tells → reads_in self.old.phase ≡ true → HoldsOwed self.new (P.state port.new) }
+        ensures blame { P.tells → HasBlame (P.state port.old) (P.ledger port.old) (P.state port.new) (P.ledger port.new) }
+        ensures continues { Continues (P.ledger port.old) (P.ledger port.new) }
+        ensures counts { (m : ℕ) → I.refused inbox.old m ≤ I.refused inbox.new m }
+        ensures lanes { I.lanes inbox.new ≡ I.lanes inbox.old }
+        ensures same { I.is_same inbox.old inbox.new }
+    {
         let mut buffer = [0; PIECE];
-        pass_all(&mut self.links, port, inbox, &mut buffer, self.phase);
-        self.links.retain(|link| !link.is_done());
+        pass_table(&mut self.links, port, inbox, &mut buffer, self.phase);
+        sweep(&mut self.links);
         collect(&self.links, &mut self.held);
     }
 }
 
 /// The link of this number is owed a read.
-fn mark(links: &mut [Link], number: u32) {
+fn mark(links: &mut [Link], number: u32)
+    ensures { (i : ℕ) (d : Link) → i < length links.old → slice_index_or links.new i d ≡ owed_if ((slice_index_or links.old i d).number == number) (slice_index_or links.old i d) }
+{
     for link in links.iter_mut() {
         if link.number == number {
             link.owed = true;
         }
     }
+}
+
+/// The same of a table.
+fn mark_table(links: &mut Vec<Link>, number: u32)
+    ensures marked { links.new.items ≡ marked number links.old.items }
+    ensures size { vec_len links.new ≡ vec_len links.old }
+{
+    mark(links, number);
 }
