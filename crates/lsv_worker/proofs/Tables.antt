@@ -1,9 +1,10 @@
 -- The table of a worker's connections.
-use Rattle.std.proofs.Common.{◌≡◌, ◌≢◌, ◌⊎◌, ℕ, zero, suc, ◌+◌, ◌<◌, ◌≤◌, ◌==◌, Bool, true, false, List, [], ◌∷◌, ◌++◌, length, map, get_or, set, get_or-set_same, get_or-set_other, refl, sym, ap, subst, ◌∙◌, append_assoc, inl, inr, ⊎_elim, arith}
+use Rattle.std.proofs.Common.{◌≡◌, ◌≢◌, ◌⊎◌, ℕ, zero, suc, ◌+◌, ◌<◌, ◌≤◌, ◌==◌, Bool, true, false, List, [], ◌∷◌, ◌++◌, length, take, drop, map, get_or, set, get_or-set_same, get_or-set_other, refl, sym, ap, subst, ◌∙◌, append_assoc, inl, inr, ⊎_elim, arith}
 use Rattle.std.specs.Prelude.{if◌then◌else◌, ◌&&◌, not}
 use Rattle.std.specs.List.{Contains}
 use Rattle.std.proofs.lemmas.Bool.Decides.{nat_tests}
-use Rattle.std.proofs.lemmas.List.{append-nil}
+use Rattle.std.proofs.lemmas.List.{append-nil, take_all}
+use Rattle.std.proofs.Math.ListN.{drop_of_length-le}
 use Rattle.lsv_port.specs.Port.{IsOpen, IsOwed, LinkState, PortState}
 use Rattle.lsv_session.specs.Connections.{same}
 use Rattle.lsv_session.specs.Transcript.{bodies_of}
@@ -15,7 +16,7 @@ use Rattle.lsv_session.proofs.Replies.{bodies_of-append}
 use Rattle.lsv_worker.specs.Lanes.{job_of}
 use Rattle.lsv_worker.specs.Outgoing.{Alone}
 use Rattle.lsv_worker.specs.Links.{LinkStands, LinkStep, is_done}
-use Rattle.lsv_worker.specs.Worker.{AreCalmed, AreHeld, AreLast, AreOfLanes, IsApart, IsCalmed, IsIn, IsMade, IsUnasked, Setting, Stands, Steps, conn_at, undone}
+use Rattle.lsv_worker.specs.Worker.{AreCalmed, AreHeld, AreLast, AreOfLanes, IsApart, IsCalmed, IsIn, IsMade, IsUnasked, IsUntouched, Setting, Stands, Steps, conn_at, undone}
 use Rattle.lsv_worker.specs.Incoming.{has_left}
 use Rattle.lsv_worker.specs.declared.link.Pause.TheVariants.{Calm}
 use Rattle.lsv_worker.specs.declared.link.Link.{Link}
@@ -134,6 +135,7 @@ stands_jobs s links port jobs others replies e h = record {
   linked = h.linked;
   unused = λ k not lane. ap (bodies_of (conn_at s k)) (e lane) ∙ h.unused k not lane;
   unasked = h.unasked;
+  away = h.away;
   stop = h.stop;
 }
 
@@ -185,6 +187,9 @@ stand_one s links i old new before after p q jobs replies within is step h =
           bodies_of-append (conn_at s k) (jobs lane) (map (job_of old.conn) (step.added lane)) ∙ ap (λ (l : List Body). l ++ bodies_of (conn_at s k) (map (job_of old.conn) (step.added lane))) (h.unused k not lane)
           ∙ bodies_other old.conn (conn_at s k) (step.added lane) (λ e. not (subst (IsMade s) e at.0));
       unasked = h.unasked;
+      away = λ l has none.
+          let ne : l ≢ old.number = λ e. none old.conn.seq at.0 (numbers old.conn.seq ∙ ap (λ (x : Link). x.number) at.1 ∙ sym e) in
+          subst IsUntouched (sym (step.alone.others l ne)) (h.away l (subst (λ (o : List ℕ). Contains o l) step.alone.opened has) (λ k made e. none k made (numbers k ∙ e)));
       stop = λ e. step.alone.stopped ∙ h.stop e;
     }
 
@@ -239,8 +244,8 @@ in_if true k x links h = inr h
 in_if false k x links h = h
 
 in_kept : (b : Bool) (k : ℕ) (x : Link) (links : List Link) → b ≡ true → x.conn.seq ≡ k → IsIn k (keep_if b x links)
-in_kept true k x links yes e = inl e
-in_kept false k x links yes e = absurd cc
+in_kept true k x links is e = inl e
+in_kept false k x links is e = absurd cc
 
 in_swept : (last : ℕ → Link) (s : Setting) (k : ℕ) (links : List Link) → AreLast last s links → is_done (last k) ≡ false → IsIn k links → IsIn k (undone links)
 in_swept last s k [] t undone_k h = absurd h
@@ -261,6 +266,7 @@ stands_swept s links port jobs replies h = record {
   linked = h.linked;
   unused = h.unused;
   unasked = h.unasked;
+  away = h.away;
   stop = h.stop;
 }
 
@@ -331,3 +337,13 @@ holds_owed s links port jobs replies held h calm are l owed =
 pub held_all : (links : List Link) (held : List ℕ) → ((i : ℕ) (d : Link) → i < length links → (get_or links i d).pause ≢ Calm → Contains held (get_or links i d).number) → AreHeld held links
 held_all [] held h = tt
 held_all (x ∷ links) held h = (h 0 x (omega arith), held_all links held (λ i d within. h (suc i) d (omega arith)))
+
+-- a whole Vec lent as a slice, and given back
+pub lent : {A : Type 0} (n : ℕ) (xs ys : List A) → n ≡ length ys → length xs ≡ length ys → take n (xs ++ drop (length xs) ys) ≡ xs
+lent {A} n xs ys en el =
+    ap (λ (l : List A). take n (xs ++ l)) (drop_of_length-le ys (omega arith)) ∙ ap (take n) (append-nil xs) ∙ take_all n xs (omega arith)
+
+pub same_default : {A : Type 0} (l : List A) (i : ℕ) (d e : A) → i < length l → get_or l i d ≡ get_or l i e
+same_default [] i d e h = absurd (omega arith)
+same_default (x ∷ l) zero d e h = refl
+same_default (x ∷ l) (suc i) d e h = same_default l i d e (omega arith)

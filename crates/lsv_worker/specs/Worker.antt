@@ -82,6 +82,11 @@ abbrev pub IsIn : ℕ → List Link → Type 0
 IsIn seq [] = ⊥
 IsIn seq (link ∷ links) = (link.conn.seq ≡ seq) ⊎ IsIn seq links
 
+-- nothing was read of a link, and nothing put on it
+pub record IsUntouched (s : LinkState) : Type 0 where
+  pub input : s.input ≡ []
+  pub output : s.output ≡ []
+
 -- no reply is to this connection
 abbrev pub IsUnasked : ConnId → List Reply → Type 0
 IsUnasked c [] = Unit {0}
@@ -100,6 +105,7 @@ pub record Stands (set : Setting) (links : List Link) (port : PortState) (jobs :
   pub linked : (l : ℕ) → IsOpen port l → (k : ℕ) × IsMade set k × ((last k).number ≡ l)
   pub unused : (k : ℕ) → (IsMade set k → ⊥) → (lane : ℕ) → bodies_of (conn_at set k) (jobs lane) ≡ []
   pub unasked : (k : ℕ) → (IsMade set k → ⊥) → IsUnasked (conn_at set k) replies
+  pub away : (l : ℕ) → Contains port.opened l → ((k : ℕ) → IsMade set k → (last k).number ≢ l) → IsUntouched (port.link l)
   pub stop : set.phase ≡ Stopping → port.stopped ≡ true
 
 -- what calls for its connections put to each lane, whatever was put and taken before
@@ -157,6 +163,7 @@ IsWritten (link ∷ links) port = (link.live ≡ true → (port.link link.number
 
 -- a worker has from 1 to 8 lanes, and room for the numbers of all its links
 pub record IsFit (w : Worker) : Type 0 where
+  pub first : 1 ≤ w.next
   pub some : 1 ≤ w.lanes
   pub few : w.lanes ≤ 8
   pub room : vec_len w.links ≤ vec_capacity w.held

@@ -35,4 +35,6 @@ pub trait Inbox {
     ghost same_here: { (i : Self) → is_same i i };
 
     ghost same_through: { (i j k : Self) → is_same i j → is_same j k → is_same i k };
+
+    ghost same_lanes: { (i j : Self) → is_same i j → lanes j ≡ lanes i };
 }

@@ -405,13 +405,18 @@ impl Link {
     /// It is closed, and nothing more is put on it.
     pub(crate) fn stop<P: Port>(&mut self, port: &mut P)
         requires is_open { P.tells → self.old.live ≡ true → IsOpen (P.state port.old) self.old.number }
+        ensures step { P.tells → (jobs : ℕ → List Job) → LinkStep Phase.Stopped self.old self.new (P.state port.old) (P.state port.new) jobs jobs }
+        ensures live { self.new.live ≡ false }
+        ensures lanes { self.new.incoming.route.lanes ≡ self.old.incoming.route.lanes }
+        ensures blame { P.tells → HasBlame (P.state port.old) (P.ledger port.old) (P.state port.new) (P.ledger port.new) }
         ensures continues { Continues (P.ledger port.old) (P.ledger port.new) }
     {
-        if self.live {
-            port.close(self.number);
-            self.live = false;
-        }
         self.outgoing.silence(Voice::Over);
+        if !self.live {
+            return;
+        }
+        port.close(self.number);
+        self.live = false;
     }
 
     /// Whether nothing more comes of it.
