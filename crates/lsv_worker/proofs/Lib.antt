@@ -6,3 +6,5 @@ pub mod Speaking
 pub mod Linking
 pub mod Tables
 pub mod Notes
+pub mod Going
+pub mod Taking

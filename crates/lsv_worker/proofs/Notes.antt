@@ -406,3 +406,18 @@ opens_closed s links l before mid after jobs replies opens close h =
     (λ m has. subst (λ (o : List ℕ). Contains o m) (sym opened) (Contains-append_left before.opened (l ∷ []) m has))
     (λ m ne has. opened_before before.opened l m ne (subst (λ (o : List ℕ). Contains o m) opened has))
     (close.stopped ∙ opens.stopped) h
+
+pub admitted_stands : (s t : Setting) (links now : List Link) (l : ℕ) (link : Link) (before after : PortState) (jobs : ℕ → List Job) (replies : List Reply) → t ≡ one_more s → now ≡ links ++ link ∷ [] → 1 ≤ s.next → IsFresh s l link → Opens l before after → Stands s links before jobs replies → Stands t now after jobs replies
+admitted_stands s t links now l link before after jobs replies set is first fresh opens h =
+    subst (λ (x : Setting). Stands x now after jobs replies) (sym set) (subst (λ (x : List Link). Stands (one_more s) x after jobs replies) (sym is) (opens_kept s links l link before after jobs replies first fresh opens h))
+
+pub refused_stands : (s t : Setting) (links now : List Link) (l : ℕ) (before mid after : PortState) (jobs : ℕ → List Job) (replies : List Reply) → t ≡ s → now ≡ links → Opens l before mid → Changes l (closed (mid.link l)) mid after → Stands s links before jobs replies → Stands t now after jobs replies
+refused_stands s t links now l before mid after jobs replies set is opens close h =
+    subst (λ (x : Setting). Stands x now after jobs replies) (sym set) (subst (λ (x : List Link). Stands s x after jobs replies) (sym is) (opens_closed s links l before mid after jobs replies opens close h))
+
+pub map_at : (f : Link → Link) (xs ys : List Link) → length ys ≡ length xs → ((i : ℕ) (d : Link) → i < length xs → get_or ys i d ≡ f (get_or xs i d)) → ys ≡ map f xs
+map_at f [] [] size h = refl
+map_at f [] (y ∷ ys) size h = absurd (omega (arith, size))
+map_at f (x ∷ xs) [] size h = absurd (omega (arith, size))
+map_at f (x ∷ xs) (y ∷ ys) size h =
+    ap (λ (v : Link). v ∷ ys) (h 0 x (omega arith)) ∙ ap (λ (l : List Link). f x ∷ l) (map_at f xs ys (omega (arith, size)) (λ i d within. h (suc i) d (omega arith)))

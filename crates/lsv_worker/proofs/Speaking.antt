@@ -101,3 +101,7 @@ writes_failed l old mid new s t u bytes w change silence = record {
   input = subst (SameInput (s.link l)) (sym change.this) (record { is_open = w.input.is_open; input = w.input.input; ended = w.input.ended; owed = w.input.owed; reads = w.input.reads });
   goes = λ answers h. subst (λ (x : LinkState). Speaks new x.output answers) (sym change.this) (silence (t.link l).output answers (w.goes answers h));
 }
+
+-- the first words on a link
+pub first_words : (old new : Outgoing) (words : List ℕ) → old.unsent ≡ [] → old.voice ≡ Speaking → ((output answers : List ℕ) → Speaks old output answers → Speaks new output (answers ++ words)) → Speaks new [] words
+first_words old new words empty speaks goes = goes [] [] (subst (λ (v : Voice). PutOf v old.unsent [] []) (sym speaks) empty)

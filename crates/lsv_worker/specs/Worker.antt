@@ -1,5 +1,5 @@
 -- What a worker stands for: its connections, their links of the port, the jobs that it put and the replies that it took.
-use Rattle.std.specs.Prelude.{◌≡◌, ◌≢◌, ◌⊎◌, ℕ, ◌<◌, ◌≤◌, ◌+◌, ◌==◌, ◌&&◌, not, Bool, true, false, List, [], ◌∷◌, ◌++◌, length, map}
+use Rattle.std.specs.Prelude.{◌≡◌, ◌≢◌, ◌⊎◌, ℕ, ◌<◌, ◌≤◌, ◌+◌, ◌==◌, ◌&&◌, not, Bool, true, false, List, [], ◌∷◌, ◌++◌, length, map, slice_index_or}
 use Rattle.std.specs.List.{Contains, filter}
 use Rattle.std.specs.Vec.{vec_capacity, vec_len}
 use Rattle.lsv_port.specs.Port.{LinkState, PortState, IsOpen, IsOwed}
@@ -171,8 +171,7 @@ pub record IsFit (w : Worker) : Type 0 where
 
 -- each connection has left and was shut
 abbrev pub HaveLeft : List Link → Type 0
-HaveLeft [] = Unit {0}
-HaveLeft (link ∷ links) = (link.shut ≡ true) × (has_left link.incoming.stage ≡ true) × HaveLeft links
+HaveLeft links = (i : ℕ) (d : Link) → i < length links → ((slice_index_or links i d).shut ≡ true) × (has_left (slice_index_or links i d).incoming.stage ≡ true)
 
 -- the phase after a readiness
 abbrev pub phase_after : Ready → Phase
@@ -204,8 +203,5 @@ pub record IsFresh (set : Setting) (number : ℕ) (link : Link) : Type 0 where
 
 -- a connection was made
 pub record Admits (link : Link) (old new : Worker) : Type 0 where
-  pub number : new.number ≡ old.number
-  pub lanes : new.lanes ≡ old.lanes
-  pub next : new.next ≡ old.next + 1
-  pub phase : new.phase ≡ old.phase
+  pub set : setting new ≡ record (setting old) { next = old.next + 1 }
   pub links : new.links.items ≡ old.links.items ++ link ∷ []

@@ -137,6 +137,7 @@ impl Incoming {
         requires { 0 < lanes }
         ensures hears { Hears result [] (λ lane. []) (record { shut = false; over = false }) }
         ensures stage { result.stage ≡ Stage.Hearing }
+        ensures lanes { result.route.lanes ≡ lanes }
     {
         Incoming {
             alloc,

@@ -385,8 +385,7 @@ impl Link {
     /// Takes a reply.
     pub(crate) fn take<P: Port>(&mut self, reply: &Reply, port: &mut P)
         requires is_open { P.tells → self.old.live ≡ true → IsOpen (P.state port.old) self.old.number }
-        requires conn { reply.now.conn ≡ self.old.conn }
-        ensures takes { P.tells → Takes reply.now self.old self.new (P.state port.old) (P.state port.new) }
+        ensures takes { P.tells → reply.now.conn ≡ self.old.conn → Takes reply.now self.old self.new (P.state port.old) (P.state port.new) }
         ensures blame { P.tells → HasBlame (P.state port.old) (P.ledger port.old) (P.state port.new) (P.ledger port.new) }
         ensures continues { Continues (P.ledger port.old) (P.ledger port.new) }
     {

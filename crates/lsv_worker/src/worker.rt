@@ -3,11 +3,11 @@
 ghost use Rattle.std.specs.Prelude.{◌-◌, ◌^◌, ◌≡◌, ◌≢◌, ◌⊎◌, ℕ, ◌<◌, ◌≤◌, ◌==◌, ◌++◌, ◌∷◌, List, [], length, IsTrue, IfOk, Some, None, true, false, slice_index_or, vec_capacity, vec_len};
 ghost use Rattle.std.specs.List.{Contains};
 ghost use Rattle.lsv_port.specs.Ledger.{Continues};
-ghost use Rattle.lsv_port.specs.Port.{IsOpen, Opens, PortState, Told};
+ghost use Rattle.lsv_port.specs.Port.{IsOpen, IsOwed, Opens, PortState, Told};
 ghost use Rattle.lsv_session.specs.declared.job.Job.{Job};
 ghost use Rattle.lsv_session.specs.declared.reply.Reply.{Reply};
 ghost use Rattle.lsv_worker.specs.Links.{HasBlame, reads_in};
-ghost use Rattle.lsv_worker.specs.Worker.{Admits, AreCalmed, AreOfLanes, Goes, HaveLeft, HoldsOwed, IsAt, IsFit, IsFresh, IsMade, IsSameWorker, IsTable, Represents, Setting, Steps, held_by, marked, owed_if, phase_after, setting, undone};
+ghost use Rattle.lsv_worker.specs.Worker.{Admits, AreCalmed, AreOfLanes, Goes, HaveLeft, HoldsOwed, IsAt, IsFit, IsFresh, IsMade, IsSameWorker, IsTable, Represents, Setting, Stands, Steps, conn_at, held_by, marked, owed_if, phase_after, setting, undone};
 
 use crate::link::{Link, PIECE, Pause, Phase};
 use crate::{Inbox, Incoming, Outgoing};
@@ -43,14 +43,14 @@ fn count_open(links: &[Link]) -> usize {
     count
 }
 
-/// Where the connection stands in the table, if it does.
-fn place_of(links: &[Link], conn: ConnId) -> Option<usize>
+/// Where the connection of this number stands in the table, if it does.
+fn place_of(links: &[Link], seq: u64) -> Option<usize>
     ensures found { (i : ℕ) → result ≡ Some i → i < length links.now }
-    ensures is { (i : ℕ) (d : Link) → result ≡ Some i → (slice_index_or links.now i d).conn ≡ conn }
-    ensures none { result ≡ None → (i : ℕ) (d : Link) → i < length links.now → (slice_index_or links.now i d).conn ≢ conn }
+    ensures is { (i : ℕ) (d : Link) → result ≡ Some i → (slice_index_or links.now i d).conn.seq ≡ seq }
+    ensures none { result ≡ None → (i : ℕ) (d : Link) → i < length links.now → (slice_index_or links.now i d).conn.seq ≢ seq }
 {
     for place in 0..links.len() {
-        if links[place].conn == conn {
+        if links[place].conn.seq == seq {
             return Some(place);
         }
     }
@@ -62,7 +62,10 @@ fn have_left(links: &[Link]) -> bool
     ensures { result ≡ true → HaveLeft links.now }
 {
     for link in links {
-        if !link.shut || !link.incoming.stage.has_left() {
+        if !link.shut {
+            return false;
+        }
+        if !link.incoming.stage.has_left() {
             return false;
         }
     }
@@ -138,13 +141,59 @@ fn pass_table<P: Port, I: Inbox>(
     pass_all(links, port, inbox, buffer, phase);
 }
 
+/// The connection at this place takes a reply.
+fn take_at<P: Port>(links: &mut [Link], place: usize, reply: &Reply, port: &mut P)
+    requires within { place < length links.old }
+    requires seq { (d : Link) → (slice_index_or links.old place d).conn.seq ≡ reply.now.conn.seq }
+    requires at { P.tells → (phase : Phase) × IsTable phase links.old (P.state port.old) }
+    ensures took { P.tells → (set : Setting) (jobs : ℕ → List Job) (replies : List Reply) → reply.now.conn ≡ conn_at set reply.now.conn.seq → Stands set links.old (P.state port.old) jobs replies → Stands set links.new (P.state port.new) jobs (replies ++ reply.now ∷ []) }
+    ensures lanes { (n : ℕ) → AreOfLanes n links.old → AreOfLanes n links.new }
+    ensures owed { P.tells → (l : ℕ) → IsOwed (P.state port.new) l → IsOwed (P.state port.old) l }
+    ensures blame { P.tells → HasBlame (P.state port.old) (P.ledger port.old) (P.state port.new) (P.ledger port.new) }
+    ensures continues { Continues (P.ledger port.old) (P.ledger port.new) }
+{
+    let link = &mut links[place];
+    link.take(reply, port);
+}
+
+/// The same in a table.
+fn take_in_table<P: Port>(links: &mut Vec<Link>, place: usize, reply: &Reply, port: &mut P)
+    requires within { place < length links.old.items }
+    requires seq { (d : Link) → (slice_index_or links.old.items place d).conn.seq ≡ reply.now.conn.seq }
+    requires at { P.tells → (phase : Phase) × IsTable phase links.old.items (P.state port.old) }
+    ensures took { P.tells → (set : Setting) (jobs : ℕ → List Job) (replies : List Reply) → reply.now.conn ≡ conn_at set reply.now.conn.seq → Stands set links.old.items (P.state port.old) jobs replies → Stands set links.new.items (P.state port.new) jobs (replies ++ reply.now ∷ []) }
+    ensures lanes { (n : ℕ) → AreOfLanes n links.old.items → AreOfLanes n links.new.items }
+    ensures size { vec_len links.new ≡ vec_len links.old }
+    ensures owed { P.tells → (l : ℕ) → IsOwed (P.state port.new) l → IsOwed (P.state port.old) l }
+    ensures blame { P.tells → HasBlame (P.state port.old) (P.ledger port.old) (P.state port.new) (P.ledger port.new) }
+    ensures continues { Continues (P.ledger port.old) (P.ledger port.new) }
+{
+    take_at(links, place, reply, port);
+}
+
 /// Each link is closed, and nothing more is put on it.
 fn close_all<P: Port>(links: &mut [Link], port: &mut P)
+    requires at { P.tells → IsTable Phase.Stopped links.old (P.state port.old) }
+    ensures steps { P.tells → (set : Setting) (jobs : ℕ → List Job) → set.phase ≡ Phase.Stopped → Steps set links.old links.new (P.state port.old) (P.state port.new) jobs jobs }
+    ensures lanes { (n : ℕ) → AreOfLanes n links.old → AreOfLanes n links.new }
+    ensures blame { P.tells → HasBlame (P.state port.old) (P.ledger port.old) (P.state port.new) (P.ledger port.new) }
     ensures continues { Continues (P.ledger port.old) (P.ledger port.new) }
 {
     for link in links.iter_mut() {
         link.stop(port);
     }
+}
+
+/// The same of a table.
+fn close_table<P: Port>(links: &mut Vec<Link>, port: &mut P)
+    requires at { P.tells → IsTable Phase.Stopped links.old.items (P.state port.old) }
+    ensures steps { P.tells → (set : Setting) (jobs : ℕ → List Job) → set.phase ≡ Phase.Stopped → Steps set links.old.items links.new.items (P.state port.old) (P.state port.new) jobs jobs }
+    ensures lanes { (n : ℕ) → AreOfLanes n links.old.items → AreOfLanes n links.new.items }
+    ensures size { vec_len links.new ≡ vec_len links.old }
+    ensures blame { P.tells → HasBlame (P.state port.old) (P.ledger port.old) (P.state port.new) (P.ledger port.new) }
+    ensures continues { Continues (P.ledger port.old) (P.ledger port.new) }
+{
+    close_all(links, port);
 }
 
 impl Worker {
@@ -172,6 +221,14 @@ impl Worker {
         ensures { result.now ≡ held_by self.now }
     {
         &self.held
+    }
+
+    /// Whether it has made a connection of this number.
+    pub fn has_made(&self, seq: u64) -> bool
+        ensures yes { result ≡ true → IsMade (setting self.now) seq }
+        ensures no { result ≡ false → IsMade (setting self.now) seq → ⊥ }
+    {
+        1 <= seq && seq < self.next
     }
 
     /// Does what the port told, and tries each link again: it writes what is unsent, reads what is owed, and puts the jobs.
@@ -249,11 +306,10 @@ impl Worker {
         ensures blame { P.tells → HasBlame (P.state port.old) (P.ledger port.old) (P.state port.new) (P.ledger port.new) }
         ensures continues { Continues (P.ledger port.old) (P.ledger port.new) }
     {
-        let Some(place) = place_of(&self.links, reply.conn) else {
+        let Some(place) = place_of(&self.links, reply.conn.seq) else {
             return;
         };
-        let link = &mut self.links[place];
-        link.take(&reply, port);
+        take_in_table(&mut self.links, place, &reply, port);
     }
 
     /// Whether nothing more is to come: Stop or a fault of the port's turn came, each connection has left, and each was shut;
@@ -276,12 +332,11 @@ impl Worker {
         ensures worker { IsSameWorker self.old self.new }
         ensures phase { self.new.phase ≡ Phase.Stopped }
         ensures goes { P.tells → (jobs : ℕ → List Job) → Goes self.old self.new (P.state port.old) (P.state port.new) jobs jobs }
-        ensures closed { P.tells → (l : ℕ) → IsOpen (P.state port.new) l → ⊥ }
         ensures blame { P.tells → HasBlame (P.state port.old) (P.ledger port.old) (P.state port.new) (P.ledger port.new) }
         ensures continues { Continues (P.ledger port.old) (P.ledger port.new) }
     {
         self.phase = Phase::Stopped;
-        close_all(&mut self.links, port);
+        close_table(&mut self.links, port);
     }
 
     /// A connection for a link that was just opened, with the server's hello on the way; None where memory is wanting.
