@@ -11,7 +11,7 @@ use Rattle.lsv_session.specs.declared.job.Fault.{Fault}
 use Rattle.lsv_session.specs.declared.job.Fault.TheVariants.{NoMem}
 use Rattle.lsv_session.proofs.Jobs.{cut_piece, cut_message, cut_rest, longer, one_list}
 use Rattle.lsv_worker.specs.Lanes.{Routed, Routing, is_hello}
-use Rattle.lsv_worker.specs.Incoming.{AreBodies, Begins, Heard, Hears, IsWhole, Marks, SameWay, cuts, drops, hears, kept, last_words, pending, ready, tail, was_shut}
+use Rattle.lsv_worker.specs.Incoming.{AreBodies, Begins, Heard, Hears, IsWhole, Marks, SameWay, cuts, drops, has_left, hears, kept, last_words, pending, ready, tail, was_shut}
 use Rattle.lsv_worker.specs.declared.incoming.Incoming.{Incoming}
 use Rattle.lsv_worker.specs.declared.incoming.Stage.{Stage}
 use Rattle.lsv_worker.specs.declared.incoming.Stage.TheVariants.{Hearing, Ending, Starving, Leaving, Left}
@@ -47,6 +47,13 @@ cut_unshut Starving e = absurd cc
 cut_unshut (Leaving why) e = absurd cc
 cut_unshut (Left why) e = absurd cc
 
+cut_stays : (stage : Stage) → cuts stage ≡ true → has_left stage ≡ false
+cut_stays Hearing e = refl
+cut_stays Ending e = refl
+cut_stays Starving e = absurd cc
+cut_stays (Leaving why) e = absurd cc
+cut_stays (Left why) e = absurd cc
+
 -- while messages are cut, what waits is all that is known to come
 bare : (link : Incoming) → cuts link.stage ≡ true → pending link ≡ ready link
 bare link cutting = ap (λ (t : List Body). ready link ++ t) (cut_tail link.stage cutting) ∙ append-nil (ready link)
@@ -64,6 +71,7 @@ cut_again link read put marks said cutting routed quiet has over = record {
   routed = subst (Routed link.route put said) (sym (bare link cutting)) routed;
   quiet = quiet;
   bodies = bodies_cut link.stage read link.rest (said ++ pending link) cutting (subst (λ (p : List Body). HasCut read (said ++ p) link.rest) (sym (bare link cutting)) has);
+  left = λ e. let no : has_left link.stage ≡ false = cut_stays link.stage cutting in absurd cc;
   shut = λ e. let no : was_shut link.stage ≡ false = cut_unshut link.stage cutting in absurd cc;
   over = over;
 }
@@ -82,6 +90,7 @@ starves link route none some cutting read put marks h =
       routed = routed;
       quiet = λ no. let some : route.lane ≡ Some lane.0 = lane.1 in absurd cc;
       bodies = record { heard = h.said ++ ready link; are = begins read link.rest (h.said ++ ready link) (cut_has link read put marks cutting h); whole = sym (append_assoc h.said (ready link) (Bad NoMem ∷ Gone ∷ [])) };
+      left = λ e. absurd cc;
       shut = λ e. absurd cc;
       over = λ e. absurd cc;
     }
@@ -98,6 +107,7 @@ leaves why link route read put marks now none some cutting last h are shut over 
       routed = routed;
       quiet = λ no. let some : route.lane ≡ Some lane.0 = lane.1 in absurd cc;
       bodies = record { heard = h.said ++ ready link; are = are; whole = sym (append_assoc h.said (ready link) (Gone ∷ [])) ∙ ap (λ (w : List Body). (h.said ++ ready link) ++ (w ++ Gone ∷ [])) (sym last) };
+      left = λ e. absurd cc;
       shut = shut;
       over = over;
     }
@@ -114,7 +124,7 @@ ends link route none some stage short read put marks h =
 
 -- the marks may say more
 pub marked : (link : Incoming) (read : List ℕ) (put : ℕ → List Body) (marks now : Marks) → (marks.shut ≡ true → now.shut ≡ true) → (marks.over ≡ true → now.over ≡ true) → Hears link read put marks → Hears link read put now
-marked link read put marks now shut over h = record { said = h.said; routed = h.routed; quiet = h.quiet; bodies = h.bodies; shut = λ e. shut (h.shut e); over = λ e. over (h.over e) }
+marked link read put marks now shut over h = record { said = h.said; routed = h.routed; quiet = h.quiet; bodies = h.bodies; left = h.left; shut = λ e. shut (h.shut e); over = λ e. over (h.over e) }
 
 -- no more bytes come
 pub closes : (link : Incoming) → link.stage ≡ Hearing → (read : List ℕ) (put : ℕ → List Body) (marks : Marks) → Hears link read put marks → Hears (record link { stage = Ending }) read put (record marks { over = true })
@@ -152,6 +162,7 @@ wants_at why link read put marks last begin stage h =
       routed = routed_swap link.route put h.said (ready link) routed;
       quiet = h.quiet;
       bodies = record { heard = h.said ++ ready link; are = subst (Begins read) same (begin all.heard all.are); whole = sym (append_assoc h.said (ready link) (Bad NoMem ∷ Gone ∷ [])) };
+      left = λ e. absurd cc;
       shut = λ e. absurd cc;
       over = λ e. absurd cc;
     }
@@ -197,6 +208,7 @@ drops_on link piece not hear read put marks h = record {
   routed = h.routed;
   quiet = h.quiet;
   bodies = bodies_drop link.stage read piece link.rest (h.said ++ pending link) not hear h.bodies;
+  left = h.left;
   shut = h.shut;
   over = h.over;
 }
@@ -232,6 +244,7 @@ refuses link mid fault empty cutting is routed read put marks h all =
         are = subst (AreAllJobs read) (append_assoc h.said (kept link.first) (Bad fault ∷ []) ∙ ap (λ (r : List Body). h.said ++ r) (sym is)) all;
         whole = sym (append_assoc h.said (ready mid) (Gone ∷ []));
       };
+      left = λ e. absurd cc;
       shut = λ e. absurd cc;
       over = λ e. absurd cc;
     }

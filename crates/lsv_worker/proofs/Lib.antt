@@ -8,3 +8,4 @@ pub mod Tables
 pub mod Notes
 pub mod Going
 pub mod Taking
+pub mod Tells

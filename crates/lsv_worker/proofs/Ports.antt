@@ -2,7 +2,7 @@
 use Rattle.std.proofs.Common.{◌≡◌, ◌≢◌, ◌⊎◌, ℕ, ◌<◌, ◌≤◌, ◌-◌, ◌^◌, Bool, true, false, List, [], ◌++◌, refl, sym, ap, subst, ◌∙◌, inl, inr, ⊎_elim, arith}
 use Rattle.lsv_words.specs.Causes.{HasRisen}
 use Rattle.lsv_port.specs.Ledger.{Continues, HasLinkCause, PortLedger}
-use Rattle.lsv_port.specs.Port.{Changes, LinkState, PortState}
+use Rattle.lsv_port.specs.Port.{Changes, IsOwed, LinkState, PortState, closed}
 use Rattle.lsv_worker.specs.Outgoing.{Alone, SameInput}
 use Rattle.lsv_worker.specs.Links.{HasBlame}
 use Rattle.lsv_worker.proofs.Putting.{same_or_not}
@@ -65,3 +65,11 @@ blame_failed l s u a b c alone rose on = blame_one l s u a c alone.others (λ e.
 -- a call after which the link failed no more than before, as far as it alone changed
 pub blame_alone : (l : ℕ) (s t : PortState) (a b : PortLedger) → Alone l s t → (t.link l).failed ≡ (s.link l).failed → HasBlame s a t b
 blame_alone l s t a b alone same = blame_one l s t a b alone.others (λ e. inl (sym same ∙ e))
+
+-- a link that is closed is owed nothing, and the others stay
+pub closed_owes : (l : ℕ) (s t : PortState) → Changes l (closed (s.link l)) s t → (m : ℕ) → IsOwed t m → IsOwed s m
+closed_owes l s t change m owed =
+    ⊎_elim
+    (λ e. let shut : (t.link l).is_open ≡ false = ap (λ (x : LinkState). x.is_open) change.this in let open_now : (t.link l).is_open ≡ true = subst (λ (n : ℕ). (t.link n).is_open ≡ true) e owed.is_open in absurd (let no : true ≡ false = sym open_now ∙ shut in cc))
+    (λ ne. record { is_open = subst (λ (x : LinkState). x.is_open ≡ true) (change.others m ne) owed.is_open; owed = subst (λ (x : LinkState). x.owed ≡ true) (change.others m ne) owed.owed })
+    (same_or_not m l)

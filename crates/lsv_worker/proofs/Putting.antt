@@ -12,7 +12,7 @@ use Rattle.lsv_session.specs.declared.job.Body.TheVariants.{Msg, Bad, Gone}
 use Rattle.lsv_session.specs.declared.job.Fault.TheVariants.{NoMem}
 use Rattle.lsv_session.specs.declared.job.Job.{Job}
 use Rattle.lsv_worker.specs.Lanes.{Routed, Routing, job_of, lane_of, lane_on, lane_or_home, share}
-use Rattle.lsv_worker.specs.Incoming.{AreBodies, Hears, Marks, Puts, SameWay, hears, kept, pending, ready, tail, was_shut}
+use Rattle.lsv_worker.specs.Incoming.{AreBodies, Hears, Marks, Puts, SameWay, has_left, hears, kept, pending, ready, tail, was_shut}
 use Rattle.lsv_worker.specs.declared.incoming.Incoming.{Incoming}
 use Rattle.lsv_worker.specs.declared.incoming.Stage.{Stage}
 use Rattle.lsv_worker.specs.declared.incoming.Stage.TheVariants.{Hearing, Ending, Starving, Leaving, Left}
@@ -38,6 +38,7 @@ hears_ext link read p q marks same h = record {
   routed = record { to_lane = λ lane. same lane ∙ h.routed.to_lane lane; undecided = h.routed.undecided; lane = h.routed.lane };
   quiet = h.quiet;
   bodies = h.bodies;
+  left = h.left;
   shut = h.shut;
   over = h.over;
 }
@@ -52,14 +53,15 @@ put_routed route past said coming x n e h = record {
 -- the first of the jobs that are to come is put
 pub put_one : (old new : Incoming) (x : Body) (n : ℕ) → pending old ≡ x ∷ pending new → new.route ≡ old.route
     → ((read : List ℕ) (b : List Body) → AreBodies old.stage read old.rest b → AreBodies new.stage read new.rest b)
-    → (was_shut new.stage ≡ true → was_shut old.stage ≡ true) → (hears new.stage ≡ false → hears old.stage ≡ false)
+    → ((has_left old.stage ≡ true → ready old ≡ []) → has_left new.stage ≡ true → ready new ≡ []) → (was_shut new.stage ≡ true → was_shut old.stage ≡ true) → (hears new.stage ≡ false → hears old.stage ≡ false)
     → (read : List ℕ) (past : ℕ → List Body) (marks : Marks) → old.route.lane ≡ Some n → Hears old read past marks → Hears new read (λ m. past m ++ share (Some n) m (x ∷ [])) marks
-put_one old new x n known route bodies shut over read past marks e h = record {
+put_one old new x n known route bodies left shut over read past marks e h = record {
   said = h.said ++ x ∷ [];
   routed = subst (λ (r : Routing). Routed r (λ m. past m ++ share (Some n) m (x ∷ [])) (h.said ++ x ∷ []) (pending new)) (sym route)
       (put_routed old.route past h.said (pending new) x n e (subst (Routed old.route past h.said) known h.routed));
   quiet = λ no. let none : old.route.lane ≡ None = ap (λ (r : Routing). r.lane) (sym route) ∙ no in absurd cc;
   bodies = bodies read ((h.said ++ x ∷ []) ++ pending new) (subst (AreBodies old.stage read old.rest) (ap (λ (p : List Body). h.said ++ p) known ∙ sym (append_assoc h.said (x ∷ []) (pending new))) h.bodies);
+  left = left h.left;
   shut = λ s. h.shut (shut s);
   over = λ o. h.over (over o);
 }
@@ -120,6 +122,14 @@ waiting_head link x none e =
 ready_none : (link : Incoming) → link.first ≡ None → link.waiting ≡ None → ready link ≡ []
 ready_none link none empty = ap (λ (f : Option Body). kept f ++ kept link.waiting) none ∙ ap kept empty
 
+first_waits : (link : Incoming) (x : Body) → link.first ≡ Some x → ready link ≡ [] → ⊥
+first_waits link x e none =
+    let some : x ∷ kept link.waiting ≡ [] = sym (ap (λ (f : Option Body). kept f ++ kept link.waiting) e) ∙ none in cc
+
+job_waits : (link : Incoming) (x : Body) → link.first ≡ None → link.waiting ≡ Some x → ready link ≡ [] → ⊥
+job_waits link x first e none =
+    let some : x ∷ [] ≡ [] = sym (ap (λ (f : Option Body). kept f ++ kept link.waiting) first ∙ ap kept e) ∙ none in cc
+
 -- the job that waits is one of a decided lane
 quiet_lane : (l : Option ℕ) (w : Option Body) (x : Body) → w ≡ Some x → (l ≡ None → w ≡ None) → (n : ℕ) × (l ≡ Some n)
 quiet_lane None w x e quiet = absurd (let none : w ≡ None = quiet refl in cc)
@@ -129,13 +139,13 @@ pub offers_first : (link : Incoming) (x : Body) → link.first ≡ Some x → li
     → Hears (record link { first = None }) read (λ m. past m ++ share (Some (lane_or_home link.route)) m (x ∷ [])) marks
 offers_first link x e decided read past marks h =
     let lane : (n : ℕ) × (link.route.lane ≡ Some n) = some_lane link.route.lane decided in
-    put_one link (record link { first = None }) x (lane_or_home link.route) (first_head link x e) refl (λ read b a. a) (λ s. s) (λ o. o) read past marks (lane_is link.route lane.0 lane.1) h
+    put_one link (record link { first = None }) x (lane_or_home link.route) (first_head link x e) refl (λ read b a. a) (λ was l. absurd (first_waits link x e (was l))) (λ s. s) (λ o. o) read past marks (lane_is link.route lane.0 lane.1) h
 
 pub offers : (link : Incoming) (x : Body) → link.waiting ≡ Some x → ((n : ℕ) → link.route.lane ≡ Some n → link.first ≡ None) → (read : List ℕ) (past : ℕ → List Body) (marks : Marks) → Hears link read past marks
     → Hears (record link { waiting = None }) read (λ m. past m ++ share (Some (lane_or_home link.route)) m (x ∷ [])) marks
 offers link x e first read past marks h =
     let lane : (n : ℕ) × (link.route.lane ≡ Some n) = quiet_lane link.route.lane link.waiting x e h.quiet in
-    put_one link (record link { waiting = None }) x (lane_or_home link.route) (waiting_head link x (first lane.0 lane.1) e) refl (λ read b a. a) (λ s. s) (λ o. o) read past marks (lane_is link.route lane.0 lane.1) h
+    put_one link (record link { waiting = None }) x (lane_or_home link.route) (waiting_head link x (first lane.0 lane.1) e) refl (λ read b a. a) (λ was l. absurd (job_waits link x (first lane.0 lane.1) e (was l))) (λ s. s) (λ o. o) read past marks (lane_is link.route lane.0 lane.1) h
 
 tail_head : (link : Incoming) (stage : Stage) (x : Body) → link.first ≡ None → link.waiting ≡ None → tail link.stage ≡ x ∷ tail stage → pending link ≡ x ∷ pending (record link { stage = stage })
 tail_head link stage x none empty e =
@@ -153,14 +163,14 @@ pub tells_starved : (link : Incoming) → link.stage ≡ Starving → link.waiti
 tells_starved link stage empty first read past marks h =
     let lane : (n : ℕ) × (link.route.lane ≡ Some n) = routed_decided link.route past h.said (ready link) (Bad NoMem) (Gone ∷ []) refl (subst (λ (s : Stage). Routed link.route past h.said (ready link ++ tail s)) stage h.routed) in
     put_one link (record link { stage = Leaving Starved }) (Bad NoMem) (lane_or_home link.route) (tail_head link (Leaving Starved) (Bad NoMem) (first lane.0 lane.1) empty (ap tail stage)) refl
-    (λ read b a. starved_bodies link.stage read link.rest b stage a) (λ s. absurd cc) (λ o. absurd cc) read past marks (lane_is link.route lane.0 lane.1) h
+    (λ read b a. starved_bodies link.stage read link.rest b stage a) (λ was l. absurd cc) (λ s. absurd cc) (λ o. absurd cc) read past marks (lane_is link.route lane.0 lane.1) h
 
 pub leaves_now : (link : Incoming) (why : Why) → link.stage ≡ Leaving why → link.waiting ≡ None → ((n : ℕ) → link.route.lane ≡ Some n → link.first ≡ None) → (read : List ℕ) (past : ℕ → List Body) (marks : Marks) → Hears link read past marks
     → Hears (record link { stage = Left why }) read (λ m. past m ++ share (Some (lane_or_home link.route)) m (Gone ∷ [])) marks
 leaves_now link why stage empty first read past marks h =
     let lane : (n : ℕ) × (link.route.lane ≡ Some n) = routed_decided link.route past h.said (ready link) Gone [] refl (subst (λ (s : Stage). Routed link.route past h.said (ready link ++ tail s)) stage h.routed) in
     put_one link (record link { stage = Left why }) Gone (lane_or_home link.route) (tail_head link (Left why) Gone (first lane.0 lane.1) empty (ap tail stage)) refl
-    (λ read b a. left_bodies link.stage why read link.rest b stage a) (λ s. ap was_shut stage ∙ s) (λ o. ap hears stage ∙ o) read past marks (lane_is link.route lane.0 lane.1) h
+    (λ read b a. left_bodies link.stage why read link.rest b stage a) (λ was l. ready_none link (first lane.0 lane.1) empty) (λ s. ap was_shut stage ∙ s) (λ o. ap hears stage ∙ o) read past marks (lane_is link.route lane.0 lane.1) h
 
 -- a job that was given back waits again
 pub first_back : (link : Incoming) (f : Option Body) → f ≡ link.first → SameWay link (record link { first = f })

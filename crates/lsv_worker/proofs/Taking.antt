@@ -161,3 +161,8 @@ stands_dropped s links port jobs replies reply to made none h =
 pub not_in : (k : ℕ) (links : List Link) → ((i : ℕ) (d : Link) → i < length links → (get_or links i d).conn.seq ≢ k) → IsIn k links → ⊥
 not_in k [] none h = h
 not_in k (x ∷ links) none h = ⊎_elim (λ e. none 0 x (omega arith) e) (λ r. not_in k links (λ i d within. none (suc i) d (omega arith)) r) h
+
+pub own_conn : (s : Setting) (links : List Link) (i : ℕ) (old : Link) (port : PortState) (jobs : ℕ → List Job) (replies : List Reply) → i < length links → old ≡ get_or links i old → Stands s links port jobs replies → old.conn ≡ conn_at s old.conn.seq
+own_conn s links i old port jobs replies within is h =
+    let at : IsMade s old.conn.seq × (h.last old.conn.seq ≡ old) = table_at h.last s links i old within is h.table in
+    sym (ap (λ (l : Link). l.conn) at.1) ∙ h.conn old.conn.seq at.0

@@ -133,6 +133,7 @@ pub record Hears (link : Incoming) (read : List ℕ) (put : ℕ → List Body) (
   pub routed : Routed link.route put said (pending link)
   pub quiet : link.route.lane ≡ None → link.waiting ≡ None
   pub bodies : AreBodies link.stage read link.rest (said ++ pending link)
+  pub left : has_left link.stage ≡ true → ready link ≡ []
   pub shut : was_shut link.stage ≡ true → marks.shut ≡ true
   pub over : hears link.stage ≡ false → marks.over ≡ true
 

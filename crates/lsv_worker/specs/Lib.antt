@@ -3,3 +3,4 @@ pub mod Incoming
 pub mod Outgoing
 pub mod Links
 pub mod Worker
+pub mod Tells

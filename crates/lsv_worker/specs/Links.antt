@@ -2,7 +2,7 @@
 use Rattle.std.specs.Prelude.{◌≡◌, ◌≢◌, ◌⊎◌, ℕ, zero, suc, ◌≤◌, ◌&&◌, not, Bool, true, false, List, [], ◌∷◌, ◌++◌, length, map}
 use Rattle.lsv_words.specs.Causes.{HasRisen}
 use Rattle.lsv_port.specs.Ledger.{PortLedger}
-use Rattle.lsv_port.specs.Port.{LinkState, PortState}
+use Rattle.lsv_port.specs.Port.{IsOwed, LinkState, PortState}
 use Rattle.lsv_session.specs.Transcript.{answers}
 use Rattle.lsv_session.specs.declared.connection.ConnId.{ConnId}
 use Rattle.lsv_session.specs.declared.job.Body.{Body}
@@ -104,6 +104,10 @@ pub record Fails (old new : Link) : Type 0 where
   pub outgoing : (output answers : List ℕ) → Speaks old.outgoing output answers → Speaks new.outgoing output answers
   pub unsent : new.outgoing.unsent ≡ []
   pub over : new.outgoing.voice ≡ voices.Over → old.outgoing.voice ≡ voices.Over
+
+-- no link is open and owed a read that wasn't so before
+abbrev pub OwesNoMore : PortState → PortState → Type 0
+OwesNoMore before after = (l : ℕ) → IsOwed after l → IsOwed before l
 
 -- a link that was shut is closed, or stays
 pub record Closes (old new : Link) (before after : PortState) : Type 0 where

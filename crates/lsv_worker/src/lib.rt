@@ -4,6 +4,7 @@
 
 mod inbox;
 mod incoming;
+mod laws;
 mod link;
 mod outgoing;
 mod route;
@@ -11,6 +12,7 @@ mod worker;
 
 pub use inbox::Inbox;
 pub use incoming::{Incoming, Stage, Why};
+pub use laws::connections_end;
 pub use link::{Link, Pause, Phase};
 pub use outgoing::{Outgoing, Voice};
 pub use route::Route;

@@ -9,7 +9,7 @@ ghost use Rattle.lsv_session.specs.declared.job.Job.{Job};
 ghost use Rattle.lsv_session.specs.declared.reply.Reply.{Reply};
 ghost use Rattle.lsv_session.specs.declared.reply.ReplyBody.TheVariants as said;
 ghost use Rattle.lsv_worker.specs.Incoming.{WasFull};
-ghost use Rattle.lsv_worker.specs.Links.{Closes, Fails, HasBlame, LetsEnd, LinkStands, LinkStep, PauseIsFor, ReasonOf, SameSides, Takes, WasRead, WasReadAtMost, is_done, reads_in};
+ghost use Rattle.lsv_worker.specs.Links.{Closes, Fails, HasBlame, LetsEnd, LinkStands, LinkStep, OwesNoMore, PauseIsFor, ReasonOf, SameSides, Takes, WasRead, WasReadAtMost, is_done, reads_in};
 
 use crate::outgoing::{Outgoing, Voice};
 use crate::{Inbox, Incoming, Stage, Why};
@@ -329,6 +329,7 @@ impl Link {
     /// Takes what is said to it. Where memory is wanting nothing more is put on it, and it is heard no more.
     fn say(&mut self, message: &ServerMessage)
         ensures takes { (reply : Reply) (port : PortState) → reply.conn ≡ self.old.conn → reply.body ≡ said.Say message.now → Takes reply self.old self.new port port }
+        ensures lanes { self.new.incoming.route.lanes ≡ self.old.incoming.route.lanes }
     {
         if self.shut {
             self.outgoing.silence(Voice::Over);
@@ -348,6 +349,8 @@ impl Link {
     fn take_shut<P: Port>(&mut self, last: bool, port: &mut P)
         requires is_open { P.tells → self.old.live ≡ true → IsOpen (P.state port.old) self.old.number }
         ensures takes { P.tells → (reply : Reply) → reply.conn ≡ self.old.conn → reply.body ≡ said.Shut → reply.last ≡ last → Takes reply self.old self.new (P.state port.old) (P.state port.new) }
+        ensures lanes { self.new.incoming.route.lanes ≡ self.old.incoming.route.lanes }
+        ensures owes { P.tells → OwesNoMore (P.state port.old) (P.state port.new) }
         ensures blame { P.tells → HasBlame (P.state port.old) (P.ledger port.old) (P.state port.new) (P.ledger port.new) }
         ensures continues { Continues (P.ledger port.old) (P.ledger port.new) }
     {
@@ -369,6 +372,8 @@ impl Link {
         requires is_open { P.tells → self.old.live ≡ true → IsOpen (P.state port.old) self.old.number }
         requires shut { self.old.shut ≡ true }
         ensures closes { P.tells → Closes self.old self.new (P.state port.old) (P.state port.new) }
+        ensures lanes { self.new.incoming.route.lanes ≡ self.old.incoming.route.lanes }
+        ensures owes { P.tells → OwesNoMore (P.state port.old) (P.state port.new) }
         ensures blame { P.tells → HasBlame (P.state port.old) (P.ledger port.old) (P.state port.new) (P.ledger port.new) }
         ensures continues { Continues (P.ledger port.old) (P.ledger port.new) }
     {
@@ -386,6 +391,8 @@ impl Link {
     pub(crate) fn take<P: Port>(&mut self, reply: &Reply, port: &mut P)
         requires is_open { P.tells → self.old.live ≡ true → IsOpen (P.state port.old) self.old.number }
         ensures takes { P.tells → reply.now.conn ≡ self.old.conn → Takes reply.now self.old self.new (P.state port.old) (P.state port.new) }
+        ensures lanes { self.new.incoming.route.lanes ≡ self.old.incoming.route.lanes }
+        ensures owes { P.tells → OwesNoMore (P.state port.old) (P.state port.new) }
         ensures blame { P.tells → HasBlame (P.state port.old) (P.ledger port.old) (P.state port.new) (P.ledger port.new) }
         ensures continues { Continues (P.ledger port.old) (P.ledger port.new) }
     {

@@ -3,10 +3,10 @@
 ghost use Rattle.std.specs.Prelude.{◌-◌, ◌^◌, ◌≡◌, ◌≢◌, ◌⊎◌, ℕ, ◌<◌, ◌≤◌, ◌==◌, ◌++◌, ◌∷◌, List, [], length, IsTrue, IfOk, Some, None, true, false, slice_index_or, vec_capacity, vec_len};
 ghost use Rattle.std.specs.List.{Contains};
 ghost use Rattle.lsv_port.specs.Ledger.{Continues};
-ghost use Rattle.lsv_port.specs.Port.{IsOpen, IsOwed, Opens, PortState, Told};
+ghost use Rattle.lsv_port.specs.Port.{IsOpen, Opens, PortState, Told};
 ghost use Rattle.lsv_session.specs.declared.job.Job.{Job};
 ghost use Rattle.lsv_session.specs.declared.reply.Reply.{Reply};
-ghost use Rattle.lsv_worker.specs.Links.{HasBlame, reads_in};
+ghost use Rattle.lsv_worker.specs.Links.{HasBlame, OwesNoMore, reads_in};
 ghost use Rattle.lsv_worker.specs.Worker.{Admits, AreCalmed, AreOfLanes, Goes, HaveLeft, HoldsOwed, IsAt, IsFit, IsFresh, IsMade, IsSameWorker, IsTable, Represents, Setting, Stands, Steps, conn_at, held_by, marked, owed_if, phase_after, setting, undone};
 
 use crate::link::{Link, PIECE, Pause, Phase};
@@ -148,7 +148,7 @@ fn take_at<P: Port>(links: &mut [Link], place: usize, reply: &Reply, port: &mut 
     requires at { P.tells → (phase : Phase) × IsTable phase links.old (P.state port.old) }
     ensures took { P.tells → (set : Setting) (jobs : ℕ → List Job) (replies : List Reply) → reply.now.conn ≡ conn_at set reply.now.conn.seq → Stands set links.old (P.state port.old) jobs replies → Stands set links.new (P.state port.new) jobs (replies ++ reply.now ∷ []) }
     ensures lanes { (n : ℕ) → AreOfLanes n links.old → AreOfLanes n links.new }
-    ensures owed { P.tells → (l : ℕ) → IsOwed (P.state port.new) l → IsOwed (P.state port.old) l }
+    ensures owes { P.tells → OwesNoMore (P.state port.old) (P.state port.new) }
     ensures blame { P.tells → HasBlame (P.state port.old) (P.ledger port.old) (P.state port.new) (P.ledger port.new) }
     ensures continues { Continues (P.ledger port.old) (P.ledger port.new) }
 {
@@ -164,7 +164,7 @@ fn take_in_table<P: Port>(links: &mut Vec<Link>, place: usize, reply: &Reply, po
     ensures took { P.tells → (set : Setting) (jobs : ℕ → List Job) (replies : List Reply) → reply.now.conn ≡ conn_at set reply.now.conn.seq → Stands set links.old.items (P.state port.old) jobs replies → Stands set links.new.items (P.state port.new) jobs (replies ++ reply.now ∷ []) }
     ensures lanes { (n : ℕ) → AreOfLanes n links.old.items → AreOfLanes n links.new.items }
     ensures size { vec_len links.new ≡ vec_len links.old }
-    ensures owed { P.tells → (l : ℕ) → IsOwed (P.state port.new) l → IsOwed (P.state port.old) l }
+    ensures owes { P.tells → OwesNoMore (P.state port.old) (P.state port.new) }
     ensures blame { P.tells → HasBlame (P.state port.old) (P.ledger port.old) (P.state port.new) (P.ledger port.new) }
     ensures continues { Continues (P.ledger port.old) (P.ledger port.new) }
 {
