@@ -9,3 +9,4 @@ pub mod Notes
 pub mod Going
 pub mod Taking
 pub mod Tells
+pub mod Beginning

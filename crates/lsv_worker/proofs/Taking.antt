@@ -26,15 +26,15 @@ use Rattle.lsv_worker.proofs.Speaking.{speaks_prefix}
 use Rattle.lsv_worker.proofs.Tables.{Fits, in_at, in_set, not_same, table_at, table_set, with_each, with_field, with_link, with_other, with_same}
 
 other_answers : (c : ConnId) (replies : List Reply) (reply : Reply) → same reply.conn c ≡ false → answers c (replies ++ reply ∷ []) ≡ answers c replies
-other_answers c replies reply no =
-    answers-append c replies (reply ∷ []) ∙ ap (λ (b : Bool). answers c replies ++ frames_of ((if b then messages_in reply.body else []) ++ [])) no ∙ append-nil (answers c replies)
+other_answers c replies reply differs =
+    answers-append c replies (reply ∷ []) ∙ ap (λ (b : Bool). answers c replies ++ frames_of ((if b then messages_in reply.body else []) ++ [])) differs ∙ append-nil (answers c replies)
 
 -- a reply to another connection
 other_reply : (s : Setting) (link : Link) (port : PortState) (jobs : ℕ → List Job) (replies : List Reply) (reply : Reply) → same reply.conn link.conn ≡ false → Fits s link port jobs replies → Fits s link port jobs (replies ++ reply ∷ [])
-other_reply s link port jobs replies reply no h = record {
+other_reply s link port jobs replies reply differs h = record {
   marks = h.marks;
   inward = h.inward;
-  outward = subst (Speaks link.outgoing (port.link link.number).output) (sym (other_answers link.conn replies reply no)) h.outward;
+  outward = subst (Speaks link.outgoing (port.link link.number).output) (sym (other_answers link.conn replies reply differs)) h.outward;
   live = h.live;
   owed = h.owed;
   paid = h.paid;
@@ -49,8 +49,8 @@ other_reply s link port jobs replies reply no h = record {
 }
 
 unasked_more : (c : ConnId) (replies : List Reply) (reply : Reply) → same reply.conn c ≡ false → IsUnasked c replies → IsUnasked c (replies ++ reply ∷ [])
-unasked_more c [] reply no u = (no, tt)
-unasked_more c (r ∷ replies) reply no u = (u.0, unasked_more c replies reply no u.1)
+unasked_more c [] reply differs u = (differs, tt)
+unasked_more c (r ∷ replies) reply differs u = (u.0, unasked_more c replies reply differs u.1)
 
 -- a connection of the table takes a reply
 pub stands_took : (s : Setting) (links : List Link) (i : ℕ) (old new : Link) (before after : PortState) (jobs : ℕ → List Job) (replies : List Reply) (reply : Reply) → i < length links → old ≡ get_or links i old → reply.conn ≡ old.conn

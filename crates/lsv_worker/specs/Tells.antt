@@ -1,5 +1,5 @@
 -- What comes of a connection that has ended, in the words of its bytes, jobs and replies.
-use Rattle.std.specs.Prelude.{◌≡◌, ◌×◌, ℕ, Some, List}
+use Rattle.std.specs.Prelude.{◌≡◌, ℕ, Some, List}
 use Rattle.std.specs.List.{Contains}
 use Rattle.lsv_words.specs.Pieces.{IsPrefix}
 use Rattle.lsv_port.specs.Port.{LinkState, PortState}

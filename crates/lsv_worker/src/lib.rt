@@ -12,7 +12,7 @@ mod worker;
 
 pub use inbox::Inbox;
 pub use incoming::{Incoming, Stage, Why};
-pub use laws::connections_end;
+pub use laws::{a_new_worker_stands, connections_end};
 pub use link::{Link, Pause, Phase};
 pub use outgoing::{Outgoing, Voice};
 pub use route::Route;
