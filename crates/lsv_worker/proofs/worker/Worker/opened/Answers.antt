@@ -21,3 +21,8 @@ pub returns-clause-opens : goal.returns-clause-opens
 returns-clause-opens g c = λ told before jobs replies opens h.
     let same = c.admit.ensures.no c.if-admit.false in
     refused_stands (setting c.args.self.now) (setting c.admit.new.self) c.args.self.now.links.items c.admit.new.self.links.items c.args.number before (g.P.Port.state c.args.port.now) (g.P.Port.state c.close-2.new.self) jobs replies same.0 same.1 opens (c.close-2.ensures.change told) h
+
+pub admit-requires-clause-lanes : goal.admit-requires-clause-lanes
+admit-requires-clause-lanes g c =
+    let fresh : IsFresh (setting c.args.self.now) c.args.number c.in-Some.link = c.fresh.ensures c.in-Some.link c.in-Some.is in
+    fresh.lanes
