@@ -10,3 +10,4 @@ pub mod Going
 pub mod Taking
 pub mod Tells
 pub mod Beginning
+pub mod Memories

@@ -178,8 +178,7 @@ apart_marked l seq (x ∷ links) a = (λ e. a.0 (sym (ap (λ (c : ConnId). c.seq
 table_marked : (l : ℕ) (last : ℕ → Link) (s : Setting) (links : List Link) → AreLast last s links → AreLast (λ k. flagged l (last k)) s (marked l links)
 table_marked l last s [] t = tt
 table_marked l last s (x ∷ links) t =
-    let seq : (flagged l x).conn.seq ≡ x.conn.seq = ap (λ (c : ConnId). c.seq) (flag_conn (x.number == l) x) in
-    (
+    let seq : (flagged l x).conn.seq ≡ x.conn.seq = ap (λ (c : ConnId). c.seq) (flag_conn (x.number == l) x) in (
       subst (IsMade s) (sym seq) t.0,
       ap (λ (k : ℕ). flagged l (last k)) seq ∙ ap (flagged l) t.1,
       subst (λ (k : ℕ). IsApart k (marked l links)) (sym seq) (apart_marked l x.conn.seq links t.2),
@@ -331,8 +330,7 @@ table_push : (last : ℕ → Link) (s : Setting) (links : List Link) (new : Link
 table_push last s [] new first seq t =
     (record { first = subst (λ (k : ℕ). 1 ≤ k) (sym seq) first; below = omega arith }, ap (λ (k : ℕ). with_link s.next new last k) seq ∙ with_same s.next new last, tt, tt)
 table_push last s (x ∷ links) new first seq t =
-    let low : x.conn.seq < s.next = t.0.below in
-    (
+    let low : x.conn.seq < s.next = t.0.below in (
       made_up s x.conn.seq t.0,
       with_other s.next x.conn.seq new last (λ e. omega arith) ∙ t.1,
       apart_push x.conn.seq links new (λ e. omega arith) t.2,
@@ -360,11 +358,11 @@ opens_kept s links l link before after jobs replies first fresh opens h =
     let number : (k : ℕ) → k ≢ s.next → (with_link s.next link h.last k).number ≡ (h.last k).number = λ k ne. ap (λ (x : Link). x.number) (with_other s.next k link h.last ne) in
     let newest : (k : ℕ) → k ≡ s.next → (with_link s.next link h.last k).number ≡ l = λ k e. ap (λ (x : ℕ). (with_link s.next link h.last x).number) e ∙ ap (λ (x : Link). x.number) (with_same s.next link h.last) ∙ fresh.number_is in
     let fits : Fits (one_more s) link after jobs replies =
-        subst (λ (n : ℕ). LinkStands s.phase link (after.link n) (λ lane. bodies_of link.conn (jobs lane)) replies) (sym fresh.number_is)
-        (subst (λ (x : LinkState). LinkStands s.phase link x (λ lane. bodies_of link.conn (jobs lane)) replies) (sym opens.this)
-        (fresh_fits s link (after.link l).beside (λ lane. bodies_of link.conn (jobs lane)) replies l fresh
-        (λ lane. ap (λ (c : ConnId). bodies_of c (jobs lane)) fresh.conn ∙ h.unused s.next none lane)
-        (subst (λ (c : ConnId). IsUnasked c replies) (sym fresh.conn) (h.unasked s.next none)))) in
+    subst (λ (n : ℕ). LinkStands s.phase link (after.link n) (λ lane. bodies_of link.conn (jobs lane)) replies) (sym fresh.number_is)
+    (subst (λ (x : LinkState). LinkStands s.phase link x (λ lane. bodies_of link.conn (jobs lane)) replies) (sym opens.this)
+    (fresh_fits s link (after.link l).beside (λ lane. bodies_of link.conn (jobs lane)) replies l fresh
+    (λ lane. ap (λ (c : ConnId). bodies_of c (jobs lane)) fresh.conn ∙ h.unused s.next none lane)
+    (subst (λ (c : ConnId). IsUnasked c replies) (sym fresh.conn) (h.unasked s.next none)))) in
     record {
       last = with_link s.next link h.last;
       table = table_push h.last s links link first seq h.table;

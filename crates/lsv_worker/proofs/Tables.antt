@@ -83,8 +83,7 @@ pub table_set : (last : ℕ → Link) (s : Setting) (links : List Link) (i : ℕ
 table_set last s [] i old new within is conn t = absurd (omega arith)
 table_set last s (x ∷ links) zero old new within is conn t =
     let seq : new.conn.seq ≡ old.conn.seq = ap (λ (c : ConnId). c.seq) conn in
-    let here : x.conn.seq ≡ old.conn.seq = ap (λ (l : Link). l.conn.seq) (sym is) in
-    (
+    let here : x.conn.seq ≡ old.conn.seq = ap (λ (l : Link). l.conn.seq) (sym is) in (
       subst (IsMade s) (here ∙ sym seq) t.0,
       ap (λ (k : ℕ). with_link old.conn.seq new last k) seq ∙ with_same old.conn.seq new last,
       subst (λ (k : ℕ). IsApart k links) (here ∙ sym seq) t.2,
@@ -92,8 +91,7 @@ table_set last s (x ∷ links) zero old new within is conn t =
     )
 table_set last s (x ∷ links) (suc i) old new within is conn t =
     let low : i < length links = omega arith in
-    let apart : old.conn.seq ≢ x.conn.seq = λ e. apart_at x.conn.seq links i old low t.2 (sym (ap (λ (l : Link). l.conn.seq) is) ∙ e) in
-    (
+    let apart : old.conn.seq ≢ x.conn.seq = λ e. apart_at x.conn.seq links i old low t.2 (sym (ap (λ (l : Link). l.conn.seq) is) ∙ e) in (
       t.0,
       with_other old.conn.seq x.conn.seq new last (λ e. apart (sym e)) ∙ t.1,
       apart_set x.conn.seq links i new (λ e. apart (sym (ap (λ (c : ConnId). c.seq) conn) ∙ e)) t.2,

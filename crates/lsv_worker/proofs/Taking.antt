@@ -61,9 +61,9 @@ stands_took s links i old new before after jobs replies reply within is to takes
     let conns : (k : ℕ) → (with_link old.conn.seq new h.last k).conn ≡ (h.last k).conn = λ k. with_field (λ l. l.conn) old.conn.seq k new h.last (takes.conn ∙ sym (ap (λ (l : Link). l.conn) at.1)) in
     let seq : reply.conn.seq ≡ old.conn.seq = ap (λ (c : ConnId). c.seq) to in
     let own : Fits s new after jobs (replies ++ reply ∷ []) =
-        subst (λ (n : ℕ). LinkStands s.phase new (after.link n) (λ lane. bodies_of new.conn (jobs lane)) (replies ++ reply ∷ [])) (sym takes.number)
-        (subst (λ (c : ConnId). LinkStands s.phase new (after.link old.number) (λ lane. bodies_of c (jobs lane)) (replies ++ reply ∷ [])) (sym takes.conn)
-        (takes.goes s.phase (λ lane. bodies_of old.conn (jobs lane)) replies (subst (λ (l : Link). Fits s l before jobs replies) at.1 (h.each old.conn.seq at.0)))) in
+    subst (λ (n : ℕ). LinkStands s.phase new (after.link n) (λ lane. bodies_of new.conn (jobs lane)) (replies ++ reply ∷ [])) (sym takes.number)
+    (subst (λ (c : ConnId). LinkStands s.phase new (after.link old.number) (λ lane. bodies_of c (jobs lane)) (replies ++ reply ∷ [])) (sym takes.conn)
+    (takes.goes s.phase (λ lane. bodies_of old.conn (jobs lane)) replies (subst (λ (l : Link). Fits s l before jobs replies) at.1 (h.each old.conn.seq at.0)))) in
     record {
       last = with_link old.conn.seq new h.last;
       table = table_set h.last s links i old new within is takes.conn h.table;

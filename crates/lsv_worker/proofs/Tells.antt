@@ -52,7 +52,7 @@ link_ends phase link s jobs replies shut left h =
     let why : (w : Why) × (link.incoming.stage ≡ Left w) = why_of link.incoming.stage left in
     let none : pending link.incoming ≡ [] = ap (λ (r : List Body). r ++ tail link.incoming.stage) (h.inward.left left) ∙ ap tail why.1 in
     let all : IsWhole why.0 s.input h.inward.said = subst (IsWhole why.0 s.input) (ap (λ (p : List Body). h.inward.said ++ p) none ∙ append-nil h.inward.said)
-        (subst (λ (g : Stage). AreBodies g s.input link.incoming.rest (h.inward.said ++ pending link.incoming)) why.1 h.inward.bodies) in
+    (subst (λ (g : Stage). AreBodies g s.input link.incoming.rest (h.inward.said ++ pending link.incoming)) why.1 h.inward.bodies) in
     let lane : (n : ℕ) × (link.incoming.route.lane ≡ Some n) = whole_routed link (λ m. bodies_of link.conn (jobs m)) h.inward.said all.heard (last_words why.0) all.whole (subst (Routed link.incoming.route (λ m. bodies_of link.conn (jobs m)) h.inward.said) none h.inward.routed) in
     record {
       why = why.0;
@@ -84,5 +84,5 @@ done_or_not false = inr refl
 pub each_ends : (s : Setting) (links : List Link) (port : PortState) (jobs : ℕ → List Job) (replies : List Reply) → HaveLeft links → (h : Stands s links port jobs replies) → (k : ℕ) → IsMade s k → Ends s.phase (conn_at s k) (port.link (h.last k).number) jobs replies
 each_ends s links port jobs replies left h k made =
     let is : ((h.last k).shut ≡ true) × (has_left (h.last k).incoming.stage ≡ true) =
-        ⊎_elim (λ done. done_left (h.last k).live (h.last k).shut (has_left (h.last k).incoming.stage) done) (λ undone. table_left h.last s k links h.table left (h.complete k made undone)) (done_or_not (is_done (h.last k))) in
+    ⊎_elim (λ done. done_left (h.last k).live (h.last k).shut (has_left (h.last k).incoming.stage) done) (λ undone. table_left h.last s k links h.table left (h.complete k made undone)) (done_or_not (is_done (h.last k))) in
     subst (λ (c : ConnId). Ends s.phase c (port.link (h.last k).number) jobs replies) (h.conn k made) (link_ends s.phase (h.last k) (port.link (h.last k).number) jobs replies is.0 is.1 (h.each k made))

@@ -4,3 +4,4 @@ pub mod Outgoing
 pub mod Links
 pub mod Worker
 pub mod Tells
+pub mod Memory

@@ -29,7 +29,7 @@ returns-clause-owed g c = λ told reads.
     let steps = c.pass_table.ensures.steps told (setting c.args.self.now) refl in
     let is : c.deref.result.now ≡ undone c.pass_table.new.links.items = c.deref.ensures.value ∙ c.sweep.ensures.items in
     let held : (i : ℕ) (d : Link) → i < length (undone c.pass_table.new.links.items) → (get_or (undone c.pass_table.new.links.items) i d).pause ≢ Calm → Contains c.collect.new.held.items (get_or (undone c.pass_table.new.links.items) i d).number =
-        subst (λ (l : List Link). (i : ℕ) (d : Link) → i < length l → (get_or l i d).pause ≢ Calm → Contains c.collect.new.held.items (get_or l i d).number) is c.collect.ensures.held in
+    subst (λ (l : List Link). (i : ℕ) (d : Link) → i < length l → (get_or l i d).pause ≢ Calm → Contains c.collect.new.held.items (get_or l i d).number) is c.collect.ensures.held in
     holds_owed (setting c.args.self.now) (undone c.pass_table.new.links.items) (g.P.Port.state c.pass_table.new.port) (λ lane. at.jobs lane ++ steps.added lane) at.replies c.collect.new.held.items
     (stands_swept (setting c.args.self.now) c.pass_table.new.links.items (g.P.Port.state c.pass_table.new.port) (λ lane. at.jobs lane ++ steps.added lane) at.replies (steps.goes at.jobs at.replies at.represents))
     (calm_swept c.pass_table.new.links.items (c.pass_table.ensures.calm reads)) (held_all (undone c.pass_table.new.links.items) c.collect.new.held.items held)

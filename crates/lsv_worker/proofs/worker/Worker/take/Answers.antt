@@ -20,7 +20,7 @@ returns-clause-takes g c = λ told jobs replies h.
 pub returns-in_default-clause-takes : goal.returns-in_default-clause-takes
 returns-in_default-clause-takes g c = λ told jobs replies h.
     let none : (i : ℕ) (d : Link) → i < length c.args.self.now.links.items → (get_or c.args.self.now.links.items i d).conn.seq ≢ c.args.reply.conn.seq =
-        subst (λ (l : List Link). (i : ℕ) (d : Link) → i < length l → (get_or l i d).conn.seq ≢ c.args.reply.conn.seq) c.deref.ensures.value (c.place_of.ensures.none (search rules)) in
+    subst (λ (l : List Link). (i : ℕ) (d : Link) → i < length l → (get_or l i d).conn.seq ≢ c.args.reply.conn.seq) c.deref.ensures.value (c.place_of.ensures.none (search rules)) in
     stands_dropped (setting c.args.self.now) c.args.self.now.links.items (g.P.Port.state c.args.port.now) jobs replies c.args.reply (ap (λ (w : ℕ). record { worker = w; seq = c.args.reply.conn.seq }) c.requires.worker) c.requires.made
     (not_in c.args.reply.conn.seq c.args.self.now.links.items none) h
 
