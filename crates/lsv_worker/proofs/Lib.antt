@@ -1,0 +1,13 @@
+pub mod Routes
+pub mod Cutting
+pub mod Putting
+pub mod Ports
+pub mod Speaking
+pub mod Linking
+pub mod Tables
+pub mod Notes
+pub mod Going
+pub mod Taking
+pub mod Tells
+pub mod Beginning
+pub mod Memories

@@ -1,0 +1,46 @@
+use Rattle.std.proofs.Common.{◌≡◌, ◌≤◌, ◌+◌, ◌<◌, ℕ, length, Some, rules, arith, sym, subst, ap, ◌∙◌}
+use Rattle.lsv_worker.specs.Lanes.{lane_or_home}
+use Rattle.lsv_worker.specs.Incoming.{Puts, WasFull, weight}
+use Rattle.lsv_worker.proofs.Putting.{puts_then}
+use Rattle.lsv_worker.proofs.Ports.{risen_late}
+use Rattle.lsv_worker.proofs.incoming.Incoming.step.Goals as goal
+
+pub offer-requires : goal.offer-requires
+offer-requires g c = record { lanes = c.offer_first.ensures.lanes; first = c.offer_first.ensures.emptied c.in_default.not-Full }
+
+pub returns-in-Full-offer-clause-puts : goal.returns-in-Full-offer-clause-puts
+returns-in-Full-offer-clause-puts g c =
+    puts_then c.args.conn c.args.self.now c.offer_first.new.self c.offer.new.self (g.I.Inbox.jobs c.args.inbox.now) (g.I.Inbox.jobs c.offer_first.new.inbox) (g.I.Inbox.jobs c.offer.new.inbox) c.offer_first.ensures.puts c.offer.ensures.puts
+
+pub returns-in-Full-offer-clause-same : goal.returns-in-Full-offer-clause-same
+returns-in-Full-offer-clause-same g c = g.met.I.Inbox.same_through c.args.inbox.now c.offer_first.new.inbox c.offer.new.inbox c.offer_first.ensures.same c.offer.ensures.same
+
+pub returns-in-Full-offer-clause-full : goal.returns-in-Full-offer-clause-full
+returns-in-Full-offer-clause-full g c = λ e.
+    let at = lane_or_home c.offer.new.self.route in
+    risen_late (g.I.Inbox.refused c.args.inbox.now at) (g.I.Inbox.refused c.offer_first.new.inbox at) (g.I.Inbox.refused c.offer.new.inbox at) (c.offer_first.ensures.counts at) (c.offer.ensures.full c.in-Full-offer.is)
+
+pub go_on-requires : goal.go_on-requires
+go_on-requires g c = record {
+  lanes = c.offer.ensures.lanes;
+  first = λ n e. c.offer.ensures.first ∙ c.offer_first.ensures.emptied c.in_default.not-Full n (subst (λ r. r.lane ≡ Some n) c.offer.ensures.route e);
+  empty = c.offer.ensures.emptied c.in_default-offer.not-Full;
+}
+
+pub returns-clause-puts : goal.returns-clause-puts
+returns-clause-puts g c =
+    puts_then c.args.conn c.args.self.now c.offer.new.self c.go_on.new.self (g.I.Inbox.jobs c.args.inbox.now) (g.I.Inbox.jobs c.offer.new.inbox) (g.I.Inbox.jobs c.go_on.new.inbox)
+    (puts_then c.args.conn c.args.self.now c.offer_first.new.self c.offer.new.self (g.I.Inbox.jobs c.args.inbox.now) (g.I.Inbox.jobs c.offer_first.new.inbox) (g.I.Inbox.jobs c.offer.new.inbox) c.offer_first.ensures.puts c.offer.ensures.puts) c.go_on.ensures.puts
+
+pub returns-clause-same : goal.returns-clause-same
+returns-clause-same g c = g.met.I.Inbox.same_through c.args.inbox.now c.offer.new.inbox c.go_on.new.inbox (g.met.I.Inbox.same_through c.args.inbox.now c.offer_first.new.inbox c.offer.new.inbox c.offer_first.ensures.same c.offer.ensures.same) c.go_on.ensures.same
+
+pub returns-clause-less : goal.returns-clause-less
+returns-clause-less g c = λ e.
+    let down = c.go_on.ensures.less e in
+    subst (λ k. length c.go_on.new.self.rest + weight c.go_on.new.self.stage < k) (ap (λ r. length r + weight c.offer.new.self.stage) (c.offer.ensures.rest ∙ c.offer_first.ensures.rest) ∙ ap (λ s. length c.args.self.now.rest + weight s) (c.offer.ensures.stage ∙ c.offer_first.ensures.stage)) down
+
+pub returns-clause-full : goal.returns-clause-full
+returns-clause-full g c = λ e.
+    let at = lane_or_home c.go_on.new.self.route in
+    risen_late (g.I.Inbox.refused c.args.inbox.now at) (g.I.Inbox.refused c.offer.new.inbox at) (g.I.Inbox.refused c.go_on.new.inbox at) (omega (arith, c.offer_first.ensures.counts at, c.offer.ensures.counts at)) (c.go_on.ensures.full e)

@@ -1,0 +1,87 @@
+use Rattle.std.proofs.Common.{◌≡◌, ◌≤◌, ◌+◌, ℕ, Bool, sym, subst, ◌∙◌, rules, arith, refl}
+use Rattle.lsv_port.specs.Port.{IsOpen}
+use Rattle.lsv_worker.specs.Lanes.{lane_or_home}
+use Rattle.lsv_worker.specs.Links.{WasRead, WasReadAtMost}
+use Rattle.lsv_worker.proofs.Linking.{link_then, most_add, most_none, most_up, read_more, read_none}
+use Rattle.lsv_worker.proofs.Ports.{blame_same, blame_then, continues_here, continues_then, risen_late}
+use Rattle.lsv_worker.proofs.link.Link.read_on.Goals as goal
+
+pub returns-then-advance-clause-step : goal.returns-then-advance-clause-step
+returns-then-advance-clause-step g c = λ told. c.advance.ensures.step c.args.phase (g.P.Port.state c.args.port.now)
+
+pub returns-then-advance-clause-most : goal.returns-then-advance-clause-most
+returns-then-advance-clause-most g c = λ told. most_none 16 ((g.P.Port.state c.args.port.now).link c.args.self.now.number) ((g.P.Port.state c.args.port.now).link c.args.self.now.number) refl
+
+pub returns-then-advance-clause-blame : goal.returns-then-advance-clause-blame
+returns-then-advance-clause-blame g c = λ told. blame_same (g.P.Port.state c.args.port.now) (g.P.Port.state c.args.port.now) (g.P.Port.ledger c.args.port.now) (g.P.Port.ledger c.args.port.now) (λ l. refl)
+
+pub returns-then-advance-clause-continues : goal.returns-then-advance-clause-continues
+returns-then-advance-clause-continues g c = continues_here (g.P.Port.ledger c.args.port.now)
+
+pub reads-init : goal.reads-init
+reads-init g c = record {
+  step = λ told. c.advance.ensures.step c.args.phase (g.P.Port.state c.args.port.now);
+  number = c.advance.ensures.sides.number;
+  here = λ told live. subst (IsOpen (g.P.Port.state c.args.port.now)) (sym c.advance.ensures.sides.number) (c.requires.is_open told (sym c.advance.ensures.sides.live ∙ live));
+  read = λ told owed. read_none ((g.P.Port.state c.args.port.now).link c.args.self.now.number) ((g.P.Port.state c.args.port.now).link c.args.self.now.number) refl;
+  most = λ told. most_none 0 ((g.P.Port.state c.args.port.now).link c.args.self.now.number) ((g.P.Port.state c.args.port.now).link c.args.self.now.number) refl;
+  blame = λ told. blame_same (g.P.Port.state c.args.port.now) (g.P.Port.state c.args.port.now) (g.P.Port.ledger c.args.port.now) (g.P.Port.ledger c.args.port.now) (λ l. refl);
+  continues = continues_here (g.P.Port.ledger c.args.port.now);
+  counts = c.advance.ensures.counts;
+  lanes = c.advance.ensures.lanes;
+  same = c.advance.ensures.same;
+}
+
+pub returns-then-advance-2-clause-step : goal.returns-then-advance-2-clause-step
+returns-then-advance-2-clause-step g c = λ told.
+    link_then c.args.phase c.args.self.now c.read_once.new.self c.advance-in-reads.new.self (g.P.Port.state c.args.port.now) (g.P.Port.state c.read_once.new.port) (g.P.Port.state c.read_once.new.port) (g.I.Inbox.jobs c.args.inbox.now) (g.I.Inbox.jobs c.reads.inbox) (g.I.Inbox.jobs c.advance-in-reads.new.inbox)
+    (link_then c.args.phase c.args.self.now c.reads.self c.read_once.new.self (g.P.Port.state c.args.port.now) (g.P.Port.state c.reads.port) (g.P.Port.state c.read_once.new.port) (g.I.Inbox.jobs c.args.inbox.now) (g.I.Inbox.jobs c.reads.inbox) (g.I.Inbox.jobs c.reads.inbox)
+    (c.reads.invariant.step told) (c.read_once.ensures.step told c.args.phase (g.I.Inbox.jobs c.reads.inbox) c.requires.phase))
+    (c.advance-in-reads.ensures.step c.args.phase (g.P.Port.state c.read_once.new.port))
+
+pub returns-then-advance-2-clause-most : goal.returns-then-advance-2-clause-most
+returns-then-advance-2-clause-most g c = λ told.
+    let n = c.args.self.now.number in
+    let one = subst (λ k. WasReadAtMost 1 ((g.P.Port.state c.reads.port).link k) ((g.P.Port.state c.read_once.new.port).link k)) c.reads.invariant.number (c.read_once.ensures.most told) in
+    most_up (c.reads.k + 1) 16 ((g.P.Port.state c.args.port.now).link n) ((g.P.Port.state c.read_once.new.port).link n) (omega arith)
+    (most_add c.reads.k 1 ((g.P.Port.state c.args.port.now).link n) ((g.P.Port.state c.reads.port).link n) ((g.P.Port.state c.read_once.new.port).link n) (c.reads.invariant.most told) one)
+
+pub returns-then-advance-2-clause-blame : goal.returns-then-advance-2-clause-blame
+returns-then-advance-2-clause-blame g c = λ told.
+    blame_then (g.P.Port.state c.args.port.now) (g.P.Port.state c.reads.port) (g.P.Port.state c.read_once.new.port) (g.P.Port.ledger c.args.port.now) (g.P.Port.ledger c.reads.port) (g.P.Port.ledger c.read_once.new.port) c.reads.invariant.continues c.read_once.ensures.continues (c.reads.invariant.blame told) (c.read_once.ensures.blame told)
+
+pub returns-then-advance-2-clause-continues : goal.returns-then-advance-2-clause-continues
+returns-then-advance-2-clause-continues g c = continues_then (g.P.Port.ledger c.args.port.now) (g.P.Port.ledger c.reads.port) (g.P.Port.ledger c.read_once.new.port) c.reads.invariant.continues c.read_once.ensures.continues
+
+pub returns-then-advance-2-clause-reason : goal.returns-then-advance-2-clause-reason
+returns-then-advance-2-clause-reason g c = λ told.
+    let at = lane_or_home c.advance-in-reads.new.self.incoming.route in
+    risen_late (g.I.Inbox.refused c.args.inbox.now at) (g.I.Inbox.refused c.reads.inbox at) (g.I.Inbox.refused c.advance-in-reads.new.inbox at) (c.reads.invariant.counts at) (c.advance-in-reads.ensures.full c.if-advance-2.true)
+
+pub returns-then-advance-2-clause-same : goal.returns-then-advance-2-clause-same
+returns-then-advance-2-clause-same g c = g.met.I.Inbox.same_through c.args.inbox.now c.reads.inbox c.advance-in-reads.new.inbox c.reads.invariant.same c.advance-in-reads.ensures.same
+
+pub reads-preserved : goal.reads-preserved
+reads-preserved g c =
+    let n = c.args.self.now.number in
+    let number = c.read_once.ensures.number ∙ c.reads.invariant.number in
+    record {
+      step = λ told.
+          link_then c.args.phase c.args.self.now c.read_once.new.self c.advance-in-reads.new.self (g.P.Port.state c.args.port.now) (g.P.Port.state c.read_once.new.port) (g.P.Port.state c.read_once.new.port) (g.I.Inbox.jobs c.args.inbox.now) (g.I.Inbox.jobs c.reads.inbox) (g.I.Inbox.jobs c.advance-in-reads.new.inbox)
+          (link_then c.args.phase c.args.self.now c.reads.self c.read_once.new.self (g.P.Port.state c.args.port.now) (g.P.Port.state c.reads.port) (g.P.Port.state c.read_once.new.port) (g.I.Inbox.jobs c.args.inbox.now) (g.I.Inbox.jobs c.reads.inbox) (g.I.Inbox.jobs c.reads.inbox)
+          (c.reads.invariant.step told) (c.read_once.ensures.step told c.args.phase (g.I.Inbox.jobs c.reads.inbox) c.requires.phase))
+          (c.advance-in-reads.ensures.step c.args.phase (g.P.Port.state c.read_once.new.port));
+      number = c.advance-in-reads.ensures.sides.number ∙ number;
+      here = λ told live. subst (IsOpen (g.P.Port.state c.read_once.new.port)) (sym (c.advance-in-reads.ensures.sides.number ∙ c.read_once.ensures.number)) (c.read_once.ensures.is_open told (sym c.advance-in-reads.ensures.sides.live ∙ live));
+      read = λ told owed.
+          read_more c.reads.k ((g.P.Port.state c.args.port.now).link n) ((g.P.Port.state c.reads.port).link n) ((g.P.Port.state c.read_once.new.port).link n) (c.reads.invariant.read told (search rules))
+          (subst (λ k. WasRead 1 ((g.P.Port.state c.reads.port).link k) ((g.P.Port.state c.read_once.new.port).link k)) c.reads.invariant.number (c.read_once.ensures.once told (sym c.advance-in-reads.ensures.sides.owed ∙ owed)));
+      most = λ told.
+          most_add c.reads.k 1 ((g.P.Port.state c.args.port.now).link n) ((g.P.Port.state c.reads.port).link n) ((g.P.Port.state c.read_once.new.port).link n) (c.reads.invariant.most told)
+          (subst (λ k. WasReadAtMost 1 ((g.P.Port.state c.reads.port).link k) ((g.P.Port.state c.read_once.new.port).link k)) c.reads.invariant.number (c.read_once.ensures.most told));
+      blame = λ told. blame_then (g.P.Port.state c.args.port.now) (g.P.Port.state c.reads.port) (g.P.Port.state c.read_once.new.port) (g.P.Port.ledger c.args.port.now) (g.P.Port.ledger c.reads.port) (g.P.Port.ledger c.read_once.new.port) c.reads.invariant.continues c.read_once.ensures.continues (c.reads.invariant.blame told) (c.read_once.ensures.blame told);
+      continues = continues_then (g.P.Port.ledger c.args.port.now) (g.P.Port.ledger c.reads.port) (g.P.Port.ledger c.read_once.new.port) c.reads.invariant.continues c.read_once.ensures.continues;
+      counts = λ m. omega (arith, c.reads.invariant.counts m, c.advance-in-reads.ensures.counts m);
+      lanes = c.advance-in-reads.ensures.lanes;
+      same = g.met.I.Inbox.same_through c.args.inbox.now c.reads.inbox c.advance-in-reads.new.inbox c.reads.invariant.same c.advance-in-reads.ensures.same;
+    }

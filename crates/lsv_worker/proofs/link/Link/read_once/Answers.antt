@@ -1,0 +1,65 @@
+use Rattle.std.proofs.Common.{◌≡◌, ℕ, true, false, sym, ◌∙◌, refl, ap, inl, inr, subst, rules}
+use Rattle.lsv_port.specs.Port.{LinkState, after_read, closed}
+use Rattle.lsv_port.specs.declared.port.Took.TheVariants as took
+use Rattle.lsv_worker.specs.Incoming.{hears}
+use Rattle.lsv_worker.specs.declared.link.Link.{Link}
+use Rattle.lsv_worker.proofs.Linking.{deaf, link_change, link_read_failed, stands_ended, stands_heard, stands_unowed}
+use Rattle.lsv_worker.proofs.Ports.{alone_change, alone_then, blame_failed, blame_kept, continues_then}
+use Rattle.lsv_worker.proofs.link.Link.read_once.Goals as goal
+
+pub returns-then-is_hearing-clause-step : goal.returns-then-is_hearing-clause-step
+returns-then-is_hearing-clause-step g c = λ told phase jobs reads.
+    let s = (g.P.Port.state c.args.port.now).link c.args.self.now.number in
+    link_change phase c.args.self.now (record c.args.self.now { incoming = c.hear.new.self }) (after_read (took.Bytes c.in-Bytes.count) c.read.new.buf s) (g.P.Port.state c.args.port.now) (g.P.Port.state c.read.new.self) jobs refl refl (c.in-Bytes.ensures.change told)
+    (λ past replies h. stands_heard phase c.args.self.now c.hear.new.self s c.in-Bytes.count c.read.new.buf past replies c.hear.ensures.goes h)
+
+pub returns-in-Bytes-clause-step : goal.returns-in-Bytes-clause-step
+returns-in-Bytes-clause-step g c = λ told phase jobs reads.
+    let s = (g.P.Port.state c.args.port.now).link c.args.self.now.number in
+    let not : hears c.args.self.now.incoming.stage ≡ false = search rules in
+    link_change phase c.args.self.now c.args.self.now (after_read (took.Bytes c.in-Bytes.count) c.read.new.buf s) (g.P.Port.state c.args.port.now) (g.P.Port.state c.read.new.self) jobs refl refl (c.in-Bytes.ensures.change told)
+    (λ past replies h. absurd (deaf phase c.args.self.now s past replies reads c.requires.live c.requires.owed not (c.in-Bytes.ensures.not_after_end told) h))
+
+pub returns-in-NotYet-clause-step : goal.returns-in-NotYet-clause-step
+returns-in-NotYet-clause-step g c = λ told phase jobs reads.
+    let s = (g.P.Port.state c.args.port.now).link c.args.self.now.number in
+    link_change phase c.args.self.now (record c.args.self.now { owed = false }) (after_read took.NotYet c.read.new.buf s) (g.P.Port.state c.args.port.now) (g.P.Port.state c.read.new.self) jobs refl refl (c.in-NotYet.ensures.change told)
+    (λ past replies h. stands_unowed phase c.args.self.now s c.read.new.buf past replies h)
+
+pub returns-in-End-clause-step : goal.returns-in-End-clause-step
+returns-in-End-clause-step g c = λ told phase jobs reads.
+    let s = (g.P.Port.state c.args.port.now).link c.args.self.now.number in
+    link_change phase c.args.self.now (record c.args.self.now { owed = false; incoming = c.end.new.self }) (after_read took.End c.read.new.buf s) (g.P.Port.state c.args.port.now) (g.P.Port.state c.read.new.self) jobs refl refl (c.in-End.ensures.change told)
+    (λ past replies h. stands_ended phase c.args.self.now c.end.new.self s c.read.new.buf past replies c.end.ensures.goes h)
+
+pub returns-in-Failed-clause-step : goal.returns-in-Failed-clause-step
+returns-in-Failed-clause-step g c = λ told phase jobs reads.
+    link_read_failed phase c.args.self.now c.fail.new.self c.read.new.buf (g.P.Port.state c.args.port.now) (g.P.Port.state c.read.new.self) (g.P.Port.state c.fail.new.port) jobs (c.in-Failed.ensures.change told) (c.fail.ensures.change told) c.fail.ensures.is
+
+pub returns-then-is_hearing-clause-blame : goal.returns-then-is_hearing-clause-blame
+returns-then-is_hearing-clause-blame g c = λ told.
+    blame_kept c.args.self.now.number (after_read (took.Bytes c.in-Bytes.count) c.read.new.buf ((g.P.Port.state c.args.port.now).link c.args.self.now.number)) (g.P.Port.state c.args.port.now) (g.P.Port.state c.read.new.self) (g.P.Port.ledger c.args.port.now) (g.P.Port.ledger c.read.new.self) (c.in-Bytes.ensures.change told) refl
+
+pub returns-in-Bytes-clause-blame : goal.returns-in-Bytes-clause-blame
+returns-in-Bytes-clause-blame g c = λ told.
+    blame_kept c.args.self.now.number (after_read (took.Bytes c.in-Bytes.count) c.read.new.buf ((g.P.Port.state c.args.port.now).link c.args.self.now.number)) (g.P.Port.state c.args.port.now) (g.P.Port.state c.read.new.self) (g.P.Port.ledger c.args.port.now) (g.P.Port.ledger c.read.new.self) (c.in-Bytes.ensures.change told) refl
+
+pub returns-in-NotYet-clause-blame : goal.returns-in-NotYet-clause-blame
+returns-in-NotYet-clause-blame g c = λ told.
+    blame_kept c.args.self.now.number (after_read took.NotYet c.read.new.buf ((g.P.Port.state c.args.port.now).link c.args.self.now.number)) (g.P.Port.state c.args.port.now) (g.P.Port.state c.read.new.self) (g.P.Port.ledger c.args.port.now) (g.P.Port.ledger c.read.new.self) (c.in-NotYet.ensures.change told) refl
+
+pub returns-in-End-clause-blame : goal.returns-in-End-clause-blame
+returns-in-End-clause-blame g c = λ told.
+    blame_kept c.args.self.now.number (after_read took.End c.read.new.buf ((g.P.Port.state c.args.port.now).link c.args.self.now.number)) (g.P.Port.state c.args.port.now) (g.P.Port.state c.read.new.self) (g.P.Port.ledger c.args.port.now) (g.P.Port.ledger c.read.new.self) (c.in-End.ensures.change told) refl
+
+pub returns-in-Failed-clause-blame : goal.returns-in-Failed-clause-blame
+returns-in-Failed-clause-blame g c = λ told.
+    let l = c.args.self.now.number in
+    blame_failed l (g.P.Port.state c.args.port.now) (g.P.Port.state c.fail.new.port) (g.P.Port.ledger c.args.port.now) (g.P.Port.ledger c.read.new.self) (g.P.Port.ledger c.fail.new.port)
+    (alone_then l (g.P.Port.state c.args.port.now) (g.P.Port.state c.read.new.self) (g.P.Port.state c.fail.new.port)
+    (alone_change l (after_read took.Failed c.read.new.buf ((g.P.Port.state c.args.port.now).link l)) (g.P.Port.state c.args.port.now) (g.P.Port.state c.read.new.self) (c.in-Failed.ensures.change told))
+    (alone_change l (closed ((g.P.Port.state c.read.new.self).link l)) (g.P.Port.state c.read.new.self) (g.P.Port.state c.fail.new.port) (c.fail.ensures.change told)))
+    (c.read.ensures.cause.risen c.in-Failed.is) c.fail.ensures.continues
+
+pub returns-in-Failed-clause-continues : goal.returns-in-Failed-clause-continues
+returns-in-Failed-clause-continues g c = continues_then (g.P.Port.ledger c.args.port.now) (g.P.Port.ledger c.read.new.self) (g.P.Port.ledger c.fail.new.port) c.read.ensures.cause.continues c.fail.ensures.continues

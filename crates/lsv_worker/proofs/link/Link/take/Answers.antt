@@ -1,0 +1,13 @@
+use Rattle.std.proofs.Common.{◌≡◌, sym, subst, ◌∙◌, refl, rules}
+use Rattle.lsv_session.specs.declared.reply.ReplyBody.TheVariants as said
+use Rattle.lsv_worker.proofs.link.Link.take.Goals as goal
+
+pub returns-in-Say-clause-takes : goal.returns-in-Say-clause-takes
+returns-in-Say-clause-takes g c = λ told conn.
+    let body : c.args.reply.now.body ≡ said.Say c.in-Say.message = search rules in
+    c.say.ensures.takes c.args.reply.now (g.P.Port.state c.args.port.now) conn body
+
+pub returns-in-Shut-clause-takes : goal.returns-in-Shut-clause-takes
+returns-in-Shut-clause-takes g c = λ told conn.
+    let body : c.args.reply.now.body ≡ said.Shut = search rules in
+    c.take_shut.ensures.takes told c.args.reply.now conn body refl

@@ -1,0 +1,20 @@
+use Rattle.std.proofs.Common.{◌≡◌, true, false, refl, sym, ◌∙◌, inl, inr, rules}
+use Rattle.lsv_worker.specs.declared.link.Link.{Link}
+use Rattle.lsv_worker.proofs.Linking.{takes_closes, takes_ignored, takes_shut}
+use Rattle.lsv_worker.proofs.link.Link.take_shut.Goals as goal
+
+pub returns-then-not-has_left-clause-takes : goal.returns-then-not-has_left-clause-takes
+returns-then-not-has_left-clause-takes g c = λ told reply conn body last. takes_ignored c.args.self.now (g.P.Port.state c.args.port.now) reply conn body
+
+pub returns-then-last-clause-takes : goal.returns-then-last-clause-takes
+returns-then-last-clause-takes g c = λ told reply conn body last.
+    let mid : Link = record c.args.self.now { shut = true } in
+    takes_closes c.args.self.now mid c.close_sent.new.self (g.P.Port.state c.args.port.now) (g.P.Port.state c.close_sent.new.port) reply refl
+    (takes_shut c.args.self.now c.args.self.now.incoming (λ m. m) (g.P.Port.state c.args.port.now) reply conn body refl (λ read put marks h. h) (λ m. refl) (λ m e. inl e)) (c.close_sent.ensures.closes told)
+
+pub returns-clause-takes : goal.returns-clause-takes
+returns-clause-takes g c = λ told reply conn body last.
+    let mid : Link = record c.args.self.now { shut = true; incoming = c.shut.new.self } in
+    let early : reply.last ≡ false = last ∙ c.if-last.false in
+    takes_closes c.args.self.now mid c.close_sent-2.new.self (g.P.Port.state c.args.port.now) (g.P.Port.state c.close_sent-2.new.port) reply refl
+    (takes_shut c.args.self.now c.shut.new.self (λ m. record m { shut = true }) (g.P.Port.state c.args.port.now) reply conn body c.shut.ensures.lanes c.shut.ensures.goes (λ m. refl) (λ m e. inr early)) (c.close_sent-2.ensures.closes told)

@@ -1,0 +1,47 @@
+use Rattle.std.proofs.Common.{◌≡◌, true, ℕ, List, sym, ap, subst, ◌∙◌, refl, rules}
+use Rattle.lsv_port.specs.Port.{LinkState, Opens, TellsReadable, TellsStop, TellsWritable, Told, IsSame}
+use Rattle.lsv_port.specs.declared.port.Ready.{Ready}
+use Rattle.lsv_worker.specs.Worker.{AreOfLanes, Stands, setting}
+use Rattle.lsv_worker.specs.declared.link.Link.{Link}
+use Rattle.lsv_worker.proofs.Notes.{lanes_marked, readable_stands, stop_stands, woken_stands, writable_stands}
+use Rattle.lsv_worker.proofs.worker.Worker.note.Goals as goal
+
+pub opened-requires : goal.opened-requires
+opened-requires g c = record {
+  fit = c.requires.fit;
+  is_open = λ told.
+      let b = c.requires.told told in
+      let opens : Opens c.in-Opened.number b.0 (g.P.Port.state c.args.port.now) = subst (λ (r : Ready). Told r b.0 (g.P.Port.state c.args.port.now)) c.in-Opened.is b.1 in
+      ap (λ (x : LinkState). x.is_open) opens.this;
+}
+
+pub returns-in-Opened-clause-notes : goal.returns-in-Opened-clause-notes
+returns-in-Opened-clause-notes g c = λ told before jobs replies is h.
+    c.opened.ensures.opens told before jobs replies (subst (λ (r : Ready). Told r before (g.P.Port.state c.args.port.now)) c.in-Opened.is is) h
+
+pub returns-in-Readable-clause-notes : goal.returns-in-Readable-clause-notes
+returns-in-Readable-clause-notes g c = λ told before jobs replies is h.
+    let tells : TellsReadable c.in-Readable.number before (g.P.Port.state c.args.port.now) = subst (λ (r : Ready). Told r before (g.P.Port.state c.args.port.now)) c.in-Readable.is is in
+    subst (λ (l : List Link). Stands (setting c.args.self.now) l (g.P.Port.state c.args.port.now) jobs replies) (sym c.mark_table.ensures.marked)
+    (readable_stands (setting c.args.self.now) c.args.self.now.links.items c.in-Readable.number before (g.P.Port.state c.args.port.now) jobs replies c.requires.going tells h)
+
+pub returns-in-Readable-clause-fit : goal.returns-in-Readable-clause-fit
+returns-in-Readable-clause-fit g c = record {
+  first = c.requires.fit.first;
+  some = c.requires.fit.some;
+  few = c.requires.fit.few;
+  room = search rules;
+  lanes = subst (AreOfLanes c.args.self.now.lanes) (sym c.mark_table.ensures.marked) (lanes_marked c.args.self.now.lanes c.in-Readable.number c.args.self.now.links.items c.requires.fit.lanes);
+}
+
+pub returns-in-Writable-clause-notes : goal.returns-in-Writable-clause-notes
+returns-in-Writable-clause-notes g c = λ told before jobs replies is h.
+    writable_stands (setting c.args.self.now) c.args.self.now.links.items c.in-Writable.field-0 before (g.P.Port.state c.args.port.now) jobs replies (subst (λ (r : Ready). Told r before (g.P.Port.state c.args.port.now)) c.in-Writable.is is) h
+
+pub returns-in-Woken-clause-notes : goal.returns-in-Woken-clause-notes
+returns-in-Woken-clause-notes g c = λ told before jobs replies is h.
+    woken_stands (setting c.args.self.now) c.args.self.now.links.items before (g.P.Port.state c.args.port.now) jobs replies (subst (λ (r : Ready). Told r before (g.P.Port.state c.args.port.now)) c.in-Woken.is is) h
+
+pub returns-in-Stop-clause-notes : goal.returns-in-Stop-clause-notes
+returns-in-Stop-clause-notes g c = λ told before jobs replies is h.
+    stop_stands (setting c.args.self.now) c.args.self.now.links.items before (g.P.Port.state c.args.port.now) jobs replies c.requires.going (subst (λ (r : Ready). Told r before (g.P.Port.state c.args.port.now)) c.in-Stop.is is) h

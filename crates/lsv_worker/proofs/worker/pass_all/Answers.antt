@@ -1,0 +1,54 @@
+use Rattle.std.proofs.Common.{◌≡◌, ◌≤◌, ◌<◌, ℕ, List, true, false, length, arith, ◌++◌, sym, ap, subst, ◌∙◌, refl, rules}
+use Rattle.lsv_port.specs.Port.{IsOpen}
+use Rattle.lsv_worker.specs.Links.{LinkStep}
+use Rattle.lsv_worker.specs.Worker.{IsCalmed, IsTable, Setting, Stands}
+use Rattle.lsv_worker.specs.declared.link.Link.{Link}
+use Rattle.lsv_worker.specs.declared.link.Phase.{Phase}
+use Rattle.lsv_worker.proofs.Ports.{blame_same, blame_then, continues_here, continues_then}
+use Rattle.lsv_worker.proofs.Tables.{below_set, calm_all, lanes_at, lanes_set, open_at, steps_none, steps_one}
+use Rattle.lsv_worker.proofs.worker.pass_all.Goals as goal
+
+pub loop-link-init : goal.loop-link-init
+loop-link-init g c = record {
+  steps = λ told set is. steps_none set c.args.links.now (g.P.Port.state c.args.port.now) (g.I.Inbox.jobs c.args.inbox.now);
+  calm = λ reads i d within. absurd (omega arith);
+  lanes = c.requires.lanes;
+  inbox = refl;
+  blame = λ told. blame_same (g.P.Port.state c.args.port.now) (g.P.Port.state c.args.port.now) (g.P.Port.ledger c.args.port.now) (g.P.Port.ledger c.args.port.now) (λ l. refl);
+  continues = continues_here (g.P.Port.ledger c.args.port.now);
+  counts = λ m. omega arith;
+  same = g.met.I.Inbox.same_here c.args.inbox.now;
+}
+
+pub pass-requires : goal.pass-requires
+pass-requires g c =
+    let here : c.loop-link.link-index < length c.loop-link.links = omega arith in
+    record {
+      lanes = c.loop-link.invariant.inbox ∙ sym (lanes_at (g.I.Inbox.lanes c.args.inbox.now) c.loop-link.links c.loop-link.link-index c.link-item.result here c.link-item.is c.loop-link.invariant.lanes) ∙ ap (λ (l : Link). l.incoming.route.lanes) c.link-item.is;
+      is_open = λ told live.
+          let at : IsTable c.args.phase c.args.links.now (g.P.Port.state c.args.port.now) = c.requires.at told in
+          let steps = c.loop-link.invariant.steps told at.set at.phase_is in
+          subst (λ (l : Link). IsOpen (g.P.Port.state c.loop-link.port) l.number) c.link-item.is (open_at at.set c.loop-link.links (g.P.Port.state c.loop-link.port) (λ lane. at.jobs lane ++ steps.added lane) at.replies c.loop-link.link-index c.link-item.result here c.link-item.is (steps.goes at.jobs at.replies at.stands) (ap (λ (l : Link). l.live) c.link-item.is ∙ live));
+    }
+
+pub loop-link-preserved : goal.loop-link-preserved
+loop-link-preserved g c =
+    let here : c.loop-link.link-index < length c.loop-link.links = omega arith in
+    let same = g.met.I.Inbox.same_through c.args.inbox.now c.loop-link.inbox c.pass.new.inbox c.loop-link.invariant.same c.pass.ensures.same in
+    let inbox = g.met.I.Inbox.same_lanes c.args.inbox.now c.pass.new.inbox same in
+    record {
+      steps = λ told set is. steps_one set c.args.links.now c.loop-link.links c.loop-link.link-index c.link-item.result c.pass.new.self (g.P.Port.state c.args.port.now) (g.P.Port.state c.loop-link.port) (g.P.Port.state c.pass.new.port) (g.I.Inbox.jobs c.args.inbox.now) (g.I.Inbox.jobs c.loop-link.inbox) (g.I.Inbox.jobs c.pass.new.inbox) here c.link-item.is
+          (c.loop-link.invariant.steps told set is)
+          (subst (λ (p : Phase). LinkStep p c.link-item.result c.pass.new.self (g.P.Port.state c.loop-link.port) (g.P.Port.state c.pass.new.port) (g.I.Inbox.jobs c.loop-link.inbox) (g.I.Inbox.jobs c.pass.new.inbox)) (sym is) (subst (λ (l : Link). LinkStep c.args.phase l c.pass.new.self (g.P.Port.state c.loop-link.port) (g.P.Port.state c.pass.new.port) (g.I.Inbox.jobs c.loop-link.inbox) (g.I.Inbox.jobs c.pass.new.inbox)) (sym c.link-item.is) (c.pass.ensures.step told)));
+      calm = λ reads. below_set IsCalmed c.loop-link.links c.loop-link.link-index c.pass.new.self here (c.pass.ensures.calm reads) (c.loop-link.invariant.calm reads);
+      lanes = lanes_set (g.I.Inbox.lanes c.args.inbox.now) c.loop-link.links c.loop-link.link-index c.pass.new.self
+          (sym c.pass.ensures.lanes ∙ inbox) c.loop-link.invariant.lanes;
+      inbox = inbox;
+      blame = λ told. blame_then (g.P.Port.state c.args.port.now) (g.P.Port.state c.loop-link.port) (g.P.Port.state c.pass.new.port) (g.P.Port.ledger c.args.port.now) (g.P.Port.ledger c.loop-link.port) (g.P.Port.ledger c.pass.new.port) c.loop-link.invariant.continues c.pass.ensures.continues (c.loop-link.invariant.blame told) (c.pass.ensures.blame told);
+      continues = continues_then (g.P.Port.ledger c.args.port.now) (g.P.Port.ledger c.loop-link.port) (g.P.Port.ledger c.pass.new.port) c.loop-link.invariant.continues c.pass.ensures.continues;
+      counts = λ m. omega (arith, c.loop-link.invariant.counts m, c.pass.ensures.counts m);
+      same = same;
+    }
+
+pub returns-clause-calm : goal.returns-clause-calm
+returns-clause-calm g c = λ reads. calm_all _ (λ i d within. c.loop-link.invariant.calm reads i d (omega arith))

@@ -1,0 +1,18 @@
+use Rattle.std.proofs.Common.{◌≡◌, ◌<◌, ◌≤◌, ℕ, true, get_or}
+use Rattle.lsv_port.specs.Ledger.{Continues}
+use Rattle.lsv_worker.specs.Links.{HasBlame, reads_in}
+use Rattle.lsv_worker.specs.Worker.{AreOfLanes, IsCalmed, Setting, Steps}
+use Rattle.lsv_worker.specs.declared.link.Link.{Link}
+use Rattle.lsv_worker.proofs.worker.pass_all.Given as goal
+
+abbrev pub invariant-loop-link : goal.invariant-loop-link
+invariant-loop-link g l = record {
+  steps : g.P.Port.tells → (set : Setting) → set.phase ≡ l.phase → Steps set l.initial.links l.links (g.P.Port.state l.initial.port) (g.P.Port.state l.port) (g.I.Inbox.jobs l.initial.inbox) (g.I.Inbox.jobs l.inbox);
+  calm : reads_in l.phase ≡ true → (i : ℕ) (d : Link) → i < l.link-index → IsCalmed (get_or l.links i d);
+  lanes : AreOfLanes (g.I.Inbox.lanes l.initial.inbox) l.links;
+  inbox : g.I.Inbox.lanes l.inbox ≡ g.I.Inbox.lanes l.initial.inbox;
+  blame : g.P.Port.tells → HasBlame (g.P.Port.state l.initial.port) (g.P.Port.ledger l.initial.port) (g.P.Port.state l.port) (g.P.Port.ledger l.port);
+  continues : Continues (g.P.Port.ledger l.initial.port) (g.P.Port.ledger l.port);
+  counts : (m : ℕ) → g.I.Inbox.refused l.initial.inbox m ≤ g.I.Inbox.refused l.inbox m;
+  same : g.I.Inbox.is_same l.initial.inbox l.inbox;
+}

@@ -1,0 +1,26 @@
+use Rattle.std.proofs.Common.{◌≡◌, ◌<◌, ℕ, List, true, length, get_or, refl, sym, ap, subst, ◌∙◌}
+use Rattle.lsv_session.specs.declared.connection.ConnId.{ConnId}
+use Rattle.lsv_worker.specs.Worker.{conn_at}
+use Rattle.lsv_worker.specs.declared.link.Link.{Link}
+use Rattle.lsv_worker.proofs.Tables.{lanes_at, lanes_set, open_at, same_default}
+use Rattle.lsv_worker.proofs.Taking.{own_conn, stands_took}
+use Rattle.lsv_worker.proofs.worker.take_at.Goals as goal
+
+pub take-requires : goal.take-requires
+take-requires g c =
+    let old : Link = get_or c.args.links.now c.args.place c.index-links-place.result in
+    let is : old ≡ get_or c.args.links.now c.args.place old = same_default c.args.links.now c.args.place c.index-links-place.result old c.requires.within in
+    record { is_open = λ told live. let b = c.requires.at told in open_at b.1.set c.args.links.now (g.P.Port.state c.args.port.now) b.1.jobs b.1.replies c.args.place old c.requires.within is b.1.stands live }
+
+pub returns-clause-took : goal.returns-clause-took
+returns-clause-took g c = λ told set jobs replies to h.
+    let old : Link = get_or c.args.links.now c.args.place c.index-links-place.result in
+    let is : old ≡ get_or c.args.links.now c.args.place old = same_default c.args.links.now c.args.place c.index-links-place.result old c.requires.within in
+    let own : c.args.reply.now.conn ≡ old.conn = to ∙ ap (conn_at set) (sym (c.requires.seq c.index-links-place.result)) ∙ sym (own_conn set c.args.links.now c.args.place old (g.P.Port.state c.args.port.now) jobs replies c.requires.within is h) in
+    stands_took set c.args.links.now c.args.place old c.take.new.self (g.P.Port.state c.args.port.now) (g.P.Port.state c.take.new.port) jobs replies c.args.reply.now c.requires.within is own (c.take.ensures.takes told own) h
+
+pub returns-clause-lanes : goal.returns-clause-lanes
+returns-clause-lanes g c = λ n h.
+    let old : Link = get_or c.args.links.now c.args.place c.index-links-place.result in
+    let is : old ≡ get_or c.args.links.now c.args.place old = same_default c.args.links.now c.args.place c.index-links-place.result old c.requires.within in
+    lanes_set n c.args.links.now c.args.place c.take.new.self (c.take.ensures.lanes ∙ lanes_at n c.args.links.now c.args.place old c.requires.within is h) h

@@ -1,0 +1,146 @@
+-- What one connection stands for: its link of the port, its jobs, its replies.
+use Rattle.std.specs.Prelude.{◌≡◌, ◌≢◌, ◌⊎◌, ℕ, zero, suc, ◌≤◌, ◌&&◌, not, Bool, true, false, List, [], ◌∷◌, ◌++◌, length, map}
+use Rattle.lsv_words.specs.Causes.{HasRisen}
+use Rattle.lsv_port.specs.Ledger.{PortLedger}
+use Rattle.lsv_port.specs.Port.{IsOwed, LinkState, PortState}
+use Rattle.lsv_session.specs.Transcript.{answers}
+use Rattle.lsv_session.specs.declared.connection.ConnId.{ConnId}
+use Rattle.lsv_session.specs.declared.job.Body.{Body}
+use Rattle.lsv_session.specs.declared.job.Job.{Job}
+use Rattle.lsv_session.specs.declared.reply.Reply.{Reply}
+use Rattle.lsv_worker.specs.Lanes.{job_of}
+use Rattle.lsv_worker.specs.Incoming.{Hears, Marks, SameWay, WasFull, has_left}
+use Rattle.lsv_worker.specs.Outgoing.{Alone, HasEarlyShut, HasShut, Speaks, TalksOn}
+use Rattle.lsv_worker.specs.declared.outgoing.Voice.TheVariants as voices
+use Rattle.lsv_worker.specs.declared.link.Link.{Link}
+use Rattle.lsv_worker.specs.declared.link.Pause.{Pause}
+use Rattle.lsv_worker.specs.declared.link.Pause.TheVariants as pauses
+use Rattle.lsv_worker.specs.declared.link.Phase.{Phase}
+use Rattle.lsv_worker.specs.declared.link.Phase.TheVariants.{Going, Stopping, Failed, Stopped}
+
+-- the phase of a worker lets a link that stands so end
+abbrev pub LetsEnd : Phase → LinkState → Type 0
+LetsEnd Going s = ⊥
+LetsEnd Stopping s = s.owed ≡ false
+LetsEnd Failed s = Unit {0}
+LetsEnd Stopped s = Unit {0}
+
+-- why no more bytes come: the input ended, the link failed, Stop came and it is owed no more, or the port failed
+abbrev pub MayEnd : Phase → LinkState → Type 0
+MayEnd phase s = (s.ended ≡ true) ⊎ ((s.failed ≡ true) ⊎ LetsEnd phase s)
+
+-- A connection in this phase of its worker, over its link of the port, of which so much was put to each lane and these
+-- replies were taken.
+pub record LinkStands (phase : Phase) (link : Link) (s : LinkState) (put : ℕ → List Body) (replies : List Reply) : Type 0 where
+  pub marks : Marks
+  pub inward : Hears link.incoming s.input put marks
+  pub outward : Speaks link.outgoing s.output (answers link.conn replies)
+  pub live : s.is_open ≡ link.live
+  pub owed : s.owed ≡ link.owed
+  pub paid : s.ended ≡ true → s.owed ≡ false
+  pub broken : s.failed ≡ true → link.live ≡ false
+  pub may_end : marks.over ≡ true → MayEnd phase s
+  pub told : marks.shut ≡ true → HasEarlyShut link.conn replies
+  pub shut : link.shut ≡ true → HasShut link.conn replies
+  pub silent : link.outgoing.voice ≡ voices.Failed → s.failed ≡ true
+  pub over : link.outgoing.voice ≡ voices.Over → TalksOn link.conn replies ⊎ (link.live ≡ false)
+  pub closed : link.live ≡ false → (s.failed ≡ true) ⊎ ((link.shut ≡ true) ⊎ (phase ≡ Stopped))
+  pub sent : link.live ≡ false → s.full ≡ false → link.outgoing.unsent ≡ []
+
+-- what a call does for one connection, whatever was put and taken before
+pub record LinkStep (phase : Phase) (old new : Link) (before after : PortState) (jobs_before jobs_after : ℕ → List Job) : Type 0 where
+  pub number : new.number ≡ old.number
+  pub conn : new.conn ≡ old.conn
+  pub alone : Alone old.number before after
+  pub added : ℕ → List Body
+  pub put : (lane : ℕ) → jobs_after lane ≡ jobs_before lane ++ map (job_of old.conn) (added lane)
+  pub goes : (past : ℕ → List Body) (replies : List Reply) → LinkStands phase old (before.link old.number) past replies
+      → LinkStands phase new (after.link old.number) (λ lane. past lane ++ added lane) replies
+
+-- a worker in this phase reads its links
+abbrev pub reads_in : Phase → Bool
+reads_in Going = true
+reads_in Stopping = true
+reads_in Failed = false
+reads_in Stopped = false
+
+-- so many times this number
+abbrev pub repeated : ℕ → ℕ → List ℕ
+repeated zero n = []
+repeated (suc k) n = n ∷ repeated k n
+
+-- a link was read k times, each time into a buffer of 65,536 bytes
+abbrev pub WasRead : ℕ → LinkState → LinkState → Type 0
+WasRead k old new = new.reads ≡ old.reads ++ repeated k 65536
+
+-- a link was read at most so many times
+pub record WasReadAtMost (most : ℕ) (old new : LinkState) : Type 0 where
+  pub times : ℕ
+  pub few : times ≤ most
+  pub were : WasRead times old new
+
+-- nothing more comes of a connection: its link is closed, its Gone was put, and its Shut was taken
+abbrev pub is_done : Link → Bool
+is_done link = not link.live && (link.shut && has_left link.incoming.stage)
+
+-- nothing changed but on the way in
+pub record SameSides (old new : Link) : Type 0 where
+  pub number : new.number ≡ old.number
+  pub conn : new.conn ≡ old.conn
+  pub live : new.live ≡ old.live
+  pub owed : new.owed ≡ old.owed
+  pub shut : new.shut ≡ old.shut
+  pub outgoing : new.outgoing ≡ old.outgoing
+
+-- a link of no more use: it is closed, nothing more is put on it, and no more bytes come
+pub record Fails (old new : Link) : Type 0 where
+  pub number : new.number ≡ old.number
+  pub conn : new.conn ≡ old.conn
+  pub live : new.live ≡ false
+  pub owed : new.owed ≡ old.owed
+  pub shut : new.shut ≡ old.shut
+  pub lanes : new.incoming.route.lanes ≡ old.incoming.route.lanes
+  pub incoming : (read : List ℕ) (put : ℕ → List Body) (marks : Marks) → Hears old.incoming read put marks → Hears new.incoming read put (record marks { over = true })
+  pub outgoing : (output answers : List ℕ) → Speaks old.outgoing output answers → Speaks new.outgoing output answers
+  pub unsent : new.outgoing.unsent ≡ []
+  pub over : new.outgoing.voice ≡ voices.Over → old.outgoing.voice ≡ voices.Over
+
+-- no link is open and owed a read that wasn't so before
+abbrev pub OwesNoMore : PortState → PortState → Type 0
+OwesNoMore before after = (l : ℕ) → IsOwed after l → IsOwed before l
+
+-- a link that was shut is closed, or stays
+pub record Closes (old new : Link) (before after : PortState) : Type 0 where
+  pub number : new.number ≡ old.number
+  pub conn : new.conn ≡ old.conn
+  pub lanes : new.incoming.route.lanes ≡ old.incoming.route.lanes
+  pub alone : Alone old.number before after
+  pub open_before : (after.link old.number).is_open ≡ true → (before.link old.number).is_open ≡ true
+  pub owed : (after.link old.number).owed ≡ (before.link old.number).owed
+  pub goes : (phase : Phase) (past : ℕ → List Body) (replies : List Reply) → LinkStands phase old (before.link old.number) past replies → LinkStands phase new (after.link old.number) past replies
+
+-- what a reply does to its connection, whatever was put and taken before
+pub record Takes (reply : Reply) (old new : Link) (before after : PortState) : Type 0 where
+  pub number : new.number ≡ old.number
+  pub conn : new.conn ≡ old.conn
+  pub lanes : new.incoming.route.lanes ≡ old.incoming.route.lanes
+  pub alone : Alone old.number before after
+  pub open_before : (after.link old.number).is_open ≡ true → (before.link old.number).is_open ≡ true
+  pub owed : (after.link old.number).owed ≡ (before.link old.number).owed
+  pub goes : (phase : Phase) (past : ℕ → List Body) (replies : List Reply) → LinkStands phase old (before.link old.number) past replies
+      → LinkStands phase new (after.link old.number) past (replies ++ reply ∷ [])
+
+-- why a link is held: its lane was full, 65,536 bytes to it are unsent, it was read 16 times, or memory was wanting
+abbrev pub ReasonOf : Pause → Link → LinkState → LinkState → (ℕ → ℕ) → (ℕ → ℕ) → Type 0
+ReasonOf pauses.Calm link before after refused_before refused_after = Unit {0}
+ReasonOf pauses.Full link before after refused_before refused_after = WasFull link.incoming.route refused_before refused_after
+ReasonOf pauses.Laden link before after refused_before refused_after = 65536 ≤ length link.outgoing.unsent
+ReasonOf pauses.Tired link before after refused_before refused_after = WasRead 16 before after
+ReasonOf pauses.Starved link before after refused_before refused_after = Unit {0}
+
+abbrev pub PauseIsFor : Link → LinkState → LinkState → (ℕ → ℕ) → (ℕ → ℕ) → Type 0
+PauseIsFor link before after refused_before refused_after = ReasonOf link.pause link before after refused_before refused_after
+
+-- a link that failed had failed before, or its count rose
+abbrev pub HasBlame : PortState → PortLedger → PortState → PortLedger → Type 0
+HasBlame before ledger_before after ledger_after = (l : ℕ) → (after.link l).failed ≡ true → ((before.link l).failed ≡ true) ⊎ HasRisen (ledger_before.links l) (ledger_after.links l)

@@ -1,0 +1,42 @@
+-- What comes of a connection that has ended, in the words of its bytes, jobs and replies.
+use Rattle.std.specs.Prelude.{◌≡◌, ℕ, Some, List}
+use Rattle.std.specs.List.{Contains}
+use Rattle.lsv_words.specs.Pieces.{IsPrefix}
+use Rattle.lsv_port.specs.Port.{LinkState, PortState}
+use Rattle.lsv_session.specs.Transcript.{answers, bodies_of}
+use Rattle.lsv_session.specs.declared.connection.ConnId.{ConnId}
+use Rattle.lsv_session.specs.declared.job.Body.{Body}
+use Rattle.lsv_session.specs.declared.job.Job.{Job}
+use Rattle.lsv_session.specs.declared.reply.Reply.{Reply}
+use Rattle.lsv_worker.specs.Incoming.{IsWhole}
+use Rattle.lsv_worker.specs.Lanes.{share}
+use Rattle.lsv_worker.specs.Links.{MayEnd}
+use Rattle.lsv_worker.specs.Outgoing.{HasEarlyShut, HasShut}
+use Rattle.lsv_worker.specs.Worker.{IsMade, Represents, conn_at, setting}
+use Rattle.lsv_worker.specs.declared.incoming.Why.{Why}
+use Rattle.lsv_worker.specs.declared.incoming.Why.TheVariants.{Ended, Refused, Shut, Starved}
+use Rattle.lsv_worker.specs.declared.link.Phase.{Phase}
+use Rattle.lsv_worker.specs.declared.worker.Worker.{Worker}
+
+-- what has caused the end: no more bytes come, or a keeper shut the connection by itself; a job that tells of a fault stands before it else
+abbrev pub IsCauseOf : Why → Phase → ConnId → LinkState → List Reply → Type 0
+IsCauseOf Ended phase c s replies = MayEnd phase s
+IsCauseOf Refused phase c s replies = Unit {0}
+IsCauseOf Shut phase c s replies = HasEarlyShut c replies
+IsCauseOf Starved phase c s replies = Unit {0}
+
+-- All that was put for a connection that has left, each job to its one lane, by what was read of its link; and what is put
+-- on its link is a prefix of its answers.
+pub record Ends (phase : Phase) (c : ConnId) (s : LinkState) (jobs : ℕ → List Job) (replies : List Reply) : Type 0 where
+  pub why : Why
+  pub said : List Body
+  pub whole : IsWhole why s.input said
+  pub cause : IsCauseOf why phase c s replies
+  pub lane : ℕ
+  pub put : (m : ℕ) → bodies_of c (jobs m) ≡ share (Some lane) m said
+  pub output : IsPrefix s.output (answers c replies)
+  pub shut : HasShut c replies
+
+-- each connection that a worker made is one of a link that was opened, and has ended so
+abbrev pub EachEnds : Worker → PortState → (ℕ → List Job) → List Reply → Type 0
+EachEnds w port jobs replies = (k : ℕ) → IsMade (setting w) k → (l : ℕ) × Contains port.opened l × Ends w.phase (conn_at (setting w) k) (port.link l) jobs replies

@@ -1,0 +1,207 @@
+-- What a worker stands for: its connections, their links of the port, the jobs that it put and the replies that it took.
+use Rattle.std.specs.Prelude.{◌≡◌, ◌≢◌, ◌⊎◌, ℕ, ◌<◌, ◌≤◌, ◌+◌, ◌==◌, ◌&&◌, not, Bool, true, false, List, [], ◌∷◌, ◌++◌, length, map, slice_index_or}
+use Rattle.std.specs.List.{Contains, filter}
+use Rattle.std.specs.Vec.{vec_capacity, vec_len}
+use Rattle.lsv_port.specs.Port.{LinkState, PortState, IsOpen, IsOwed}
+use Rattle.lsv_port.specs.declared.port.Ready.{Ready}
+use Rattle.lsv_port.specs.declared.port.Ready.TheVariants.{Opened, Readable, Writable, Woken, Stop}
+use Rattle.lsv_wire.specs.Frame.{frame_of}
+use Rattle.lsv_msg.specs.Messages.{server_bytes}
+use Rattle.lsv_session.specs.Connections.{same, server_hello}
+use Rattle.lsv_session.specs.Transcript.{bodies_of}
+use Rattle.lsv_session.specs.declared.connection.ConnId.{ConnId}
+use Rattle.lsv_session.specs.declared.job.Job.{Job}
+use Rattle.lsv_session.specs.declared.reply.Reply.{Reply}
+use Rattle.lsv_worker.specs.Incoming.{Hears, has_left}
+use Rattle.lsv_worker.specs.Outgoing.{Speaks}
+use Rattle.lsv_worker.specs.Links.{LinkStands, PauseIsFor, is_done}
+use Rattle.lsv_worker.specs.declared.link.Link.{Link}
+use Rattle.lsv_worker.specs.declared.link.Pause.TheVariants.{Calm}
+use Rattle.lsv_worker.specs.declared.link.Phase.{Phase}
+use Rattle.lsv_worker.specs.declared.link.Phase.TheVariants.{Going, Stopping}
+use Rattle.lsv_worker.specs.declared.outgoing.Voice.TheVariants.{Speaking}
+use Rattle.lsv_worker.specs.declared.worker.Worker.{Worker}
+
+-- a worker's number, its lanes, the number of its next connection, and its phase
+pub record Setting : Type 0 where
+  pub number : ℕ
+  pub lanes : ℕ
+  pub next : ℕ
+  pub phase : Phase
+
+abbrev pub setting : Worker → Setting
+setting w = record { number = w.number; lanes = w.lanes; next = w.next; phase = w.phase }
+
+-- the links whose reading stopped are held
+abbrev pub AreHeld : List ℕ → List Link → Type 0
+AreHeld held [] = Unit {0}
+AreHeld held (link ∷ links) = (link.pause ≢ Calm → Contains held link.number) × AreHeld held links
+
+-- a link whose reading didn't stop is owed no read
+abbrev pub IsCalmed : Link → Type 0
+IsCalmed link = link.pause ≡ Calm → link.live ≡ true → link.owed ≡ false
+
+abbrev pub AreCalmed : List Link → Type 0
+AreCalmed [] = Unit {0}
+AreCalmed (link ∷ links) = IsCalmed link × AreCalmed links
+
+-- the connections of which more is to come
+abbrev pub undone : List Link → List Link
+undone links = filter (λ link. not (is_done link)) links
+
+-- each connection goes to one of so many lanes
+abbrev pub AreOfLanes : ℕ → List Link → Type 0
+AreOfLanes lanes [] = Unit {0}
+AreOfLanes lanes (link ∷ links) = (link.incoming.route.lanes ≡ lanes) × AreOfLanes lanes links
+
+-- the links that a worker stopped reading
+abbrev pub held_by : Worker → List ℕ
+held_by w = w.held.items
+
+-- a worker's connection of this number
+abbrev pub conn_at : Setting → ℕ → ConnId
+conn_at set seq = record { worker = set.number; seq = seq }
+
+-- the worker has made a connection of this number
+pub record IsMade (set : Setting) (seq : ℕ) : Type 0 where
+  pub first : 1 ≤ seq
+  pub below : seq < set.next
+
+-- no connection in a table has this number
+abbrev pub IsApart : ℕ → List Link → Type 0
+IsApart seq [] = Unit {0}
+IsApart seq (link ∷ links) = (link.conn.seq ≢ seq) × IsApart seq links
+
+-- the connections in a table are as they were last, and stand there once
+abbrev pub AreLast : (ℕ → Link) → Setting → List Link → Type 0
+AreLast last set [] = Unit {0}
+AreLast last set (link ∷ links) = IsMade set link.conn.seq × (last link.conn.seq ≡ link) × IsApart link.conn.seq links × AreLast last set links
+
+-- a connection of this number stands in a table
+abbrev pub IsIn : ℕ → List Link → Type 0
+IsIn seq [] = ⊥
+IsIn seq (link ∷ links) = (link.conn.seq ≡ seq) ⊎ IsIn seq links
+
+-- nothing was read of a link, and nothing put on it
+pub record IsUntouched (s : LinkState) : Type 0 where
+  pub input : s.input ≡ []
+  pub output : s.output ≡ []
+
+-- no reply is to this connection
+abbrev pub IsUnasked : ConnId → List Reply → Type 0
+IsUnasked c [] = Unit {0}
+IsUnasked c (reply ∷ replies) = (same reply.conn c ≡ false) × IsUnasked c replies
+
+-- The connections that were made so far stand for all jobs that were put to each lane and all replies that were taken:
+-- as each was last, those that are done too. The table has all that aren't done.
+pub record Stands (set : Setting) (links : List Link) (port : PortState) (jobs : ℕ → List Job) (replies : List Reply) : Type 0 where
+  pub last : ℕ → Link
+  pub table : AreLast last set links
+  pub complete : (k : ℕ) → IsMade set k → is_done (last k) ≡ false → IsIn k links
+  pub conn : (k : ℕ) → IsMade set k → (last k).conn ≡ conn_at set k
+  pub each : (k : ℕ) → IsMade set k → LinkStands set.phase (last k) (port.link (last k).number) (λ lane. bodies_of (last k).conn (jobs lane)) replies
+  pub apart : (j k : ℕ) → IsMade set j → IsMade set k → j ≢ k → (last j).number ≢ (last k).number
+  pub known : (k : ℕ) → IsMade set k → Contains port.opened (last k).number
+  pub linked : (l : ℕ) → IsOpen port l → (k : ℕ) × IsMade set k × ((last k).number ≡ l)
+  pub unused : (k : ℕ) → (IsMade set k → ⊥) → (lane : ℕ) → bodies_of (conn_at set k) (jobs lane) ≡ []
+  pub unasked : (k : ℕ) → (IsMade set k → ⊥) → IsUnasked (conn_at set k) replies
+  pub away : (l : ℕ) → Contains port.opened l → ((k : ℕ) → IsMade set k → (last k).number ≢ l) → IsUntouched (port.link l)
+  pub stop : set.phase ≡ Stopping → port.stopped ≡ true
+
+-- what calls for its connections put to each lane, whatever was put and taken before
+pub record Steps (set : Setting) (old new : List Link) (before after : PortState) (jobs_before jobs_after : ℕ → List Job) : Type 0 where
+  pub added : ℕ → List Job
+  pub put : (lane : ℕ) → jobs_after lane ≡ jobs_before lane ++ added lane
+  pub goes : (jobs : ℕ → List Job) (replies : List Reply) → Stands set old before jobs replies → Stands set new after (λ lane. jobs lane ++ added lane) replies
+
+-- the table of a worker in this phase matches its port
+pub record IsTable (phase : Phase) (links : List Link) (port : PortState) : Type 0 where
+  pub set : Setting
+  pub phase_is : set.phase ≡ phase
+  pub jobs : ℕ → List Job
+  pub replies : List Reply
+  pub stands : Stands set links port jobs replies
+
+-- A worker over its port, where these jobs were put to each lane and these replies taken.
+abbrev pub Represents : Worker → PortState → (ℕ → List Job) → List Reply → Type 0
+Represents w port jobs replies = Stands (setting w) w.links.items port jobs replies
+
+-- a worker matches its port
+pub record IsAt (w : Worker) (port : PortState) : Type 0 where
+  pub jobs : ℕ → List Job
+  pub replies : List Reply
+  pub represents : Represents w port jobs replies
+
+-- what a call puts to each lane, whatever was put and taken before
+pub record Goes (old new : Worker) (before after : PortState) (jobs_before jobs_after : ℕ → List Job) : Type 0 where
+  pub added : ℕ → List Job
+  pub put : (lane : ℕ) → jobs_after lane ≡ jobs_before lane ++ added lane
+  pub goes : (jobs : ℕ → List Job) (replies : List Reply) → Represents old before jobs replies → Represents new after (λ lane. jobs lane ++ added lane) replies
+
+-- the worker is the same one, and forgot no connection
+pub record IsSameWorker (old new : Worker) : Type 0 where
+  pub number : new.number ≡ old.number
+  pub lanes : new.lanes ≡ old.lanes
+  pub next : old.next ≤ new.next
+
+-- each link that is open and owed a read is held
+abbrev pub HoldsOwed : Worker → PortState → Type 0
+HoldsOwed w port = (l : ℕ) → IsOwed port l → Contains (held_by w) l
+
+-- a link is held for one of these reasons
+pub record IsHeldFor (w : Worker) (l : ℕ) (before after : PortState) (refused_before refused_after : ℕ → ℕ) : Type 0 where
+  pub link : Link
+  pub is : Contains w.links.items link
+  pub number : link.number ≡ l
+  pub paused : link.pause ≢ Calm
+  pub reason : PauseIsFor link (before.link l) (after.link l) refused_before refused_after
+
+-- all that was taken is written, of each open link that isn't full
+abbrev pub IsWritten : List Link → PortState → Type 0
+IsWritten [] port = Unit {0}
+IsWritten (link ∷ links) port = (link.live ≡ true → (port.link link.number).full ≡ false → link.outgoing.unsent ≡ []) × IsWritten links port
+
+-- a worker has from 1 to 8 lanes, and room for the numbers of all its links
+pub record IsFit (w : Worker) : Type 0 where
+  pub first : 1 ≤ w.next
+  pub some : 1 ≤ w.lanes
+  pub few : w.lanes ≤ 8
+  pub room : vec_len w.links ≤ vec_capacity w.held
+  pub lanes : AreOfLanes w.lanes w.links.items
+
+-- each connection has left and was shut
+abbrev pub HaveLeft : List Link → Type 0
+HaveLeft links = (i : ℕ) (d : Link) → i < length links → ((slice_index_or links i d).shut ≡ true) × (has_left (slice_index_or links i d).incoming.stage ≡ true)
+
+-- the phase after a readiness
+abbrev pub phase_after : Ready → Phase
+phase_after (Opened l) = Going
+phase_after (Readable l) = Going
+phase_after (Writable l) = Going
+phase_after Woken = Going
+phase_after Stop = Stopping
+
+-- the link, owed a read where it has this number
+abbrev pub owed_if : Bool → Link → Link
+owed_if true link = record link { owed = true }
+owed_if false link = link
+
+abbrev pub marked : ℕ → List Link → List Link
+marked number links = map (λ link. owed_if (link.number == number) link) links
+
+-- a connection that was just made for a link: the server's hello is unsent, and nothing else came or went
+pub record IsFresh (set : Setting) (number : ℕ) (link : Link) : Type 0 where
+  pub number_is : link.number ≡ number
+  pub conn : link.conn ≡ conn_at set set.next
+  pub lanes : link.incoming.route.lanes ≡ set.lanes
+  pub incoming : Hears link.incoming [] (λ lane. []) (record { shut = false; over = false })
+  pub outgoing : Speaks link.outgoing [] (frame_of (server_bytes server_hello))
+  pub voice : link.outgoing.voice ≡ Speaking
+  pub live : link.live ≡ true
+  pub owed : link.owed ≡ true
+  pub shut : link.shut ≡ false
+
+-- a connection was made
+pub record Admits (link : Link) (old new : Worker) : Type 0 where
+  pub set : setting new ≡ record (setting old) { next = old.next + 1 }
+  pub links : new.links.items ≡ old.links.items ++ link ∷ []

@@ -1,0 +1,528 @@
+//! From the bytes of a link to its jobs.
+
+ghost use Rattle.std.specs.Prelude.{◌≡◌, ◌≢◌, ℕ, ◌+◌, ◌<◌, ◌≤◌, ◌++◌, ◌∷◌, List, [], length, Some, None, IsTrue, IfSome, true, false};
+ghost use Rattle.lsv_wire.specs.Frame.{IsPartial};
+ghost use Rattle.lsv_msg.specs.declared.fault.MsgFault.TheVariants as message_faults;
+ghost use Rattle.lsv_session.specs.Transcript.{AreAllJobs};
+ghost use Rattle.lsv_session.specs.declared.job.Body.{Body};
+ghost use Rattle.lsv_session.specs.declared.job.Body.TheVariants as bodies;
+ghost use Rattle.lsv_session.specs.declared.job.Fault.TheVariants as faults;
+ghost use Rattle.lsv_worker.specs.Incoming.{Hears, Marks, Puts, SameWay, WasFull, cuts, drops, has_left, hears, kept, weight};
+ghost use Rattle.lsv_worker.specs.Lanes.{Routed, lane_by};
+
+use crate::Inbox;
+use crate::route::{Route, is_hello};
+use lsv_msg::{MsgFault, decode_client};
+use lsv_session::{Body, ConnId, Fault, Job};
+use lsv_wire::Framer;
+use std::alloc::Global;
+
+/// Why a connection ends: no more bytes come; its bytes were no message; a keeper shut it; memory was wanting.
+#[derive(Clone, Copy, Debug, PartialEq, Eq)]
+pub enum Why {
+    Ended,
+    Refused,
+    Shut,
+    Starved,
+}
+
+/// How far a connection is.
+#[derive(Clone, Copy, Debug, PartialEq, Eq)]
+pub enum Stage {
+    /// Bytes may come.
+    Hearing,
+    /// None come any more.
+    Ending,
+    /// Memory was wanting: a job says so, and then its end.
+    Starving,
+    /// Its end is the next job.
+    Leaving(Why),
+    /// Its end was put.
+    Left(Why),
+}
+
+/// What a try to put jobs came to: there may be more, the lane is full, or there is nothing to put now.
+#[derive(Clone, Copy, Debug, PartialEq, Eq)]
+pub(crate) enum Tried {
+    More,
+    Full,
+    Idle,
+}
+
+/// The way from the bytes of a link to its jobs: the bytes that are no job yet, a first hello that waits until the lane is
+/// decided, and a job that waits for room.
+#[derive(Debug, Drop)]
+pub struct Incoming {
+    pub(crate) alloc: Global,
+    pub(crate) rest: Framer,
+    pub(crate) first: Option<Body>,
+    pub(crate) waiting: Option<Body>,
+    pub(crate) route: Route,
+    pub(crate) stage: Stage,
+}
+
+fn is_dropping(why: Why) -> bool
+    ensures { result ≡ drops why }
+{
+    match why {
+        Why::Ended => false,
+        Why::Refused => true,
+        Why::Shut => true,
+        Why::Starved => true,
+    }
+}
+
+impl Stage {
+    /// Whether messages are still cut.
+    pub(crate) fn is_cutting(self) -> bool
+        ensures { result ≡ cuts self }
+    {
+        match self {
+            Stage::Hearing => true,
+            Stage::Ending => true,
+            Stage::Starving => false,
+            Stage::Leaving(_) => false,
+            Stage::Left(_) => false,
+        }
+    }
+
+    /// Whether more bytes may come.
+    pub(crate) fn is_hearing(self) -> bool
+        ensures { result ≡ hears self }
+    {
+        match self {
+            Stage::Hearing => true,
+            Stage::Ending => false,
+            Stage::Starving => true,
+            Stage::Leaving(why) => is_dropping(why),
+            Stage::Left(why) => is_dropping(why),
+        }
+    }
+
+    /// Whether memory was wanting for it.
+    pub(crate) fn is_starved(self) -> bool {
+        match self {
+            Stage::Starving | Stage::Leaving(Why::Starved) | Stage::Left(Why::Starved) => true,
+            _ => false,
+        }
+    }
+
+    /// Whether its end was put.
+    pub(crate) fn has_left(self) -> bool
+        ensures { result ≡ has_left self }
+    {
+        match self {
+            Stage::Hearing => false,
+            Stage::Ending => false,
+            Stage::Starving => false,
+            Stage::Leaving(_) => false,
+            Stage::Left(_) => true,
+        }
+    }
+}
+
+/// Why the bytes of a frame are no message; None where memory was wanting.
+fn malformed(fault: MsgFault) -> Option<Fault>
+    ensures is { IfSome result (λ why. why ≡ faults.Malformed fault) }
+    ensures known { (why : _) → result ≡ Some why → fault ≢ message_faults.NoMem }
+{
+    match fault {
+        MsgFault::NoMem => None,
+        fault => Some(Fault::Malformed(fault)),
+    }
+}
+
+impl Incoming {
+    pub(crate) fn new(alloc: Global, lanes: u32, seq: u64) -> Self
+        requires { 0 < lanes }
+        ensures hears { Hears result [] (λ lane. []) (record { shut = false; over = false }) }
+        ensures stage { result.stage ≡ Stage.Hearing }
+        ensures lanes { result.route.lanes ≡ lanes }
+    {
+        Incoming {
+            alloc,
+            rest: Framer::new(alloc),
+            first: None,
+            waiting: None,
+            route: Route::new(lanes, seq),
+            stage: Stage::Hearing,
+        }
+    }
+
+    /// Memory was wanting while messages are cut.
+    fn starve(&mut self)
+        requires { cuts self.old.stage ≡ true }
+        ensures goes { SameWay self.old self.new }
+        ensures stage { self.new.stage ≡ Stage.Starving }
+        ensures rest { self.new.rest ≡ self.old.rest }
+        ensures lanes { self.new.route.lanes ≡ self.old.route.lanes }
+    {
+        self.route.settle();
+        self.stage = Stage::Starving;
+    }
+
+    /// The next job was cut: a first hello is held back, and any other waits for room, and decides the lane where none is
+    /// decided yet.
+    fn receive(&mut self, body: Body)
+        requires empty { self.old.waiting ≡ None }
+        ensures rest { self.new.rest ≡ self.old.rest }
+        ensures stage { self.new.stage ≡ self.old.stage }
+        ensures ready { kept self.new.first ++ kept self.new.waiting ≡ kept self.old.first ++ body ∷ [] }
+        ensures quiet { self.new.route.lane ≡ None → self.new.waiting ≡ None }
+        ensures routed { (put : ℕ → List Body) (said : List Body) → Routed self.old.route put said (kept self.old.first) → Routed self.new.route put said (kept self.old.first ++ body ∷ []) }
+        ensures lanes { self.new.route.lanes ≡ self.old.route.lanes }
+    {
+        if self.route.is_decided() {
+            self.waiting = Some(body);
+            return;
+        }
+        if let Some(_) = &self.first {
+            self.wait_deciding(body);
+            return;
+        }
+        if is_hello(&body) {
+            self.first = Some(body);
+            return;
+        }
+        self.wait_deciding(body);
+    }
+
+    /// A job waits for room, and decides the lane.
+    fn wait_deciding(&mut self, body: Body)
+        ensures same { self.new ≡ record self.old { waiting = Some body; route = self.new.route } }
+        ensures route { self.new.route ≡ record self.old.route { lane = Some (lane_by self.old.route.lanes self.old.route.home body) } }
+    {
+        self.route.decide(&body);
+        self.waiting = Some(body);
+    }
+
+    /// A message was refused: that is its last job before its end.
+    fn refuse(&mut self, fault: Fault)
+        requires empty { self.old.waiting ≡ None }
+        requires cutting { cuts self.old.stage ≡ true }
+        ensures rest { self.new.rest ≡ self.old.rest }
+        ensures stage { self.new.stage ≡ Stage.Leaving Why.Refused }
+        ensures goes { (read : List ℕ) (put : ℕ → List Body) (marks : Marks) (h : Hears self.old read put marks)
+            → AreAllJobs read ((h.said ++ kept self.old.first) ++ bodies.Bad fault ∷ []) → Hears self.new read put marks }
+        ensures lanes { self.new.route.lanes ≡ self.old.route.lanes }
+    {
+        self.receive(Body::Bad(fault));
+        self.stage = Stage::Leaving(Why::Refused);
+    }
+
+    /// Memory was wanting for this connection elsewhere: a job says so before its end, unless that or the end was put.
+    pub(crate) fn want(&mut self)
+        ensures goes { SameWay self.old self.new }
+        ensures lanes { self.new.route.lanes ≡ self.old.route.lanes }
+    {
+        match self.stage {
+            Stage::Hearing | Stage::Ending => self.starve(),
+            Stage::Leaving(Why::Ended) => self.stage = Stage::Starving,
+            Stage::Leaving(Why::Refused) => {
+                if self.waiting.is_some() {
+                    self.stage = Stage::Starving;
+                }
+            }
+            _ => {}
+        }
+    }
+
+    /// A Shut was taken that isn't the last: nothing more is cut, and its end comes behind what waits.
+    pub(crate) fn shut(&mut self)
+        ensures goes { (read : List ℕ) (put : ℕ → List Body) (marks : Marks) → Hears self.old read put marks → Hears self.new read put (record marks { shut = true }) }
+        ensures lanes { self.new.route.lanes ≡ self.old.route.lanes }
+    {
+        if self.stage.is_cutting() {
+            self.route.settle();
+            self.stage = Stage::Leaving(Why::Shut);
+        }
+    }
+
+    /// No more bytes come.
+    pub(crate) fn end(&mut self)
+        ensures goes { (read : List ℕ) (put : ℕ → List Body) (marks : Marks) → Hears self.old read put marks → Hears self.new read put (record marks { over = true }) }
+        ensures lanes { self.new.route.lanes ≡ self.old.route.lanes }
+    {
+        if let Stage::Hearing = self.stage {
+            self.stage = Stage::Ending;
+        }
+    }
+
+    /// These bytes came.
+    pub(crate) fn hear(&mut self, piece: &[u8])
+        requires { hears self.old.stage ≡ true }
+        ensures goes { (read : List ℕ) (put : ℕ → List Body) (marks : Marks) → Hears self.old read put marks → Hears self.new (read ++ piece.now) put marks }
+        ensures lanes { self.new.route.lanes ≡ self.old.route.lanes }
+    {
+        if self.stage.is_cutting() {
+            match self.rest.feed(piece) {
+                Ok(()) => {
+                    return;
+                }
+                Err(_) => {
+                    self.starve();
+                    return;
+                }
+            }
+        }
+    }
+
+    /// Puts a first hello that was held back, once the lane is decided.
+    fn offer_first<I: Inbox>(&mut self, conn: ConnId, inbox: &mut I) -> Tried
+        requires lanes { I.lanes inbox.old ≡ self.old.route.lanes }
+        ensures puts { Puts conn self.old self.new (I.jobs inbox.old) (I.jobs inbox.new) }
+        ensures stage { self.new.stage ≡ self.old.stage }
+        ensures rest { self.new.rest ≡ self.old.rest }
+        ensures emptied { result ≢ Tried.Full → (n : ℕ) → self.new.route.lane ≡ Some n → self.new.first ≡ None }
+        ensures counts { (m : ℕ) → I.refused inbox.old m ≤ I.refused inbox.new m }
+        ensures lanes { I.lanes inbox.new ≡ self.new.route.lanes }
+        ensures same { I.is_same inbox.old inbox.new }
+        ensures full { result ≡ Tried.Full → WasFull self.new.route (I.refused inbox.old) (I.refused inbox.new) }
+    {
+        if self.route.is_decided() {
+            return self.put_first(conn, inbox);
+        }
+        Tried::More
+    }
+
+    /// Puts the first hello, where the lane is decided.
+    #[tactic(auto, using(crate::proofs::Putting::puts_none, crate::proofs::Putting::first_back))]
+    fn put_first<I: Inbox>(&mut self, conn: ConnId, inbox: &mut I) -> Tried
+        requires lanes { I.lanes inbox.old ≡ self.old.route.lanes }
+        requires decided { self.old.route.lane ≢ None }
+        ensures puts { Puts conn self.old self.new (I.jobs inbox.old) (I.jobs inbox.new) }
+        ensures stage { self.new.stage ≡ self.old.stage }
+        ensures rest { self.new.rest ≡ self.old.rest }
+        ensures emptied { result ≢ Tried.Full → self.new.first ≡ None }
+        ensures counts { (m : ℕ) → I.refused inbox.old m ≤ I.refused inbox.new m }
+        ensures lanes { I.lanes inbox.new ≡ self.new.route.lanes }
+        ensures same { I.is_same inbox.old inbox.new }
+        ensures full { result ≡ Tried.Full → WasFull self.new.route (I.refused inbox.old) (I.refused inbox.new) }
+    {
+        let Some(body) = self.first.take() else {
+            return Tried::More;
+        };
+        match inbox.put(self.route.lane(), Job { conn, body }) {
+            Ok(()) => Tried::More,
+            Err((job, _)) => {
+                self.first = Some(job.body);
+                Tried::Full
+            }
+        }
+    }
+
+    /// Puts the job that waits for room.
+    #[tactic(auto, using(crate::proofs::Putting::puts_none, crate::proofs::Putting::waiting_back))]
+    fn offer<I: Inbox>(&mut self, conn: ConnId, inbox: &mut I) -> Tried
+        requires lanes { I.lanes inbox.old ≡ self.old.route.lanes }
+        requires first { (n : ℕ) → self.old.route.lane ≡ Some n → self.old.first ≡ None }
+        ensures puts { Puts conn self.old self.new (I.jobs inbox.old) (I.jobs inbox.new) }
+        ensures stage { self.new.stage ≡ self.old.stage }
+        ensures rest { self.new.rest ≡ self.old.rest }
+        ensures first { self.new.first ≡ self.old.first }
+        ensures route { self.new.route ≡ self.old.route }
+        ensures emptied { result ≢ Tried.Full → self.new.waiting ≡ None }
+        ensures counts { (m : ℕ) → I.refused inbox.old m ≤ I.refused inbox.new m }
+        ensures lanes { I.lanes inbox.new ≡ self.new.route.lanes }
+        ensures same { I.is_same inbox.old inbox.new }
+        ensures full { result ≡ Tried.Full → WasFull self.new.route (I.refused inbox.old) (I.refused inbox.new) }
+    {
+        let Some(body) = self.waiting.take() else {
+            return Tried::More;
+        };
+        match inbox.put(self.route.lane(), Job { conn, body }) {
+            Ok(()) => Tried::More,
+            Err((job, _)) => {
+                self.waiting = Some(job.body);
+                Tried::Full
+            }
+        }
+    }
+
+    /// Cuts the next job, where none waits.
+    fn cut(&mut self) -> Tried
+        requires empty { self.old.waiting ≡ None }
+        requires cutting { cuts self.old.stage ≡ true }
+        ensures goes { SameWay self.old self.new }
+        ensures less { result ≡ Tried.More → length self.new.rest + weight self.new.stage < length self.old.rest + weight self.old.stage }
+        ensures full { result ≢ Tried.Full }
+        ensures lanes { self.new.route.lanes ≡ self.old.route.lanes }
+    {
+        match self.rest.peek() {
+            Ok(None) => {
+                return self.cut_nothing();
+            }
+            Ok(Some(message)) => {
+                let length = message.len();
+                match decode_client(self.alloc, message) {
+                    Ok(message) => {
+                        self.rest.consume(length);
+                        self.receive(Body::Msg(message));
+                        return Tried::More;
+                    }
+                    Err(fault) => {
+                        return self.cut_no_message(fault);
+                    }
+                }
+            }
+            Err(stated) => {
+                self.refuse(Fault::TooLarge(stated));
+                return Tried::More;
+            }
+        }
+    }
+
+    /// Less than a frame is left: where no more bytes come, its end is next.
+    fn cut_nothing(&mut self) -> Tried
+        requires cutting { cuts self.old.stage ≡ true }
+        requires partial { IsPartial self.old.rest }
+        ensures goes { SameWay self.old self.new }
+        ensures less { result ≡ Tried.More → length self.new.rest + weight self.new.stage < length self.old.rest + weight self.old.stage }
+        ensures full { result ≢ Tried.Full }
+        ensures lanes { self.new.route.lanes ≡ self.old.route.lanes }
+    {
+        if let Stage::Ending = self.stage {
+            self.route.settle();
+            self.stage = Stage::Leaving(Why::Ended);
+            return Tried::More;
+        }
+        Tried::Idle
+    }
+
+    /// The next frame is no message, or there is no memory to read it.
+    fn cut_no_message(&mut self, fault: MsgFault) -> Tried
+        requires empty { self.old.waiting ≡ None }
+        requires cutting { cuts self.old.stage ≡ true }
+        ensures goes { (read : List ℕ) (put : ℕ → List Body) (marks : Marks) (h : Hears self.old read put marks)
+            → (fault ≢ message_faults.NoMem → AreAllJobs read ((h.said ++ kept self.old.first) ++ bodies.Bad (faults.Malformed fault) ∷ [])) → Hears self.new read put marks }
+        ensures less { length self.new.rest + weight self.new.stage < length self.old.rest + weight self.old.stage }
+        ensures full { result ≢ Tried.Full }
+        ensures lanes { self.new.route.lanes ≡ self.old.route.lanes }
+    {
+        match malformed(fault) {
+            Some(fault) => {
+                self.refuse(fault);
+                return Tried::More;
+            }
+            None => {
+                self.starve();
+                return Tried::More;
+            }
+        }
+    }
+
+    /// Says that memory was wanting, where nothing waits.
+    #[tactic(auto, using(crate::proofs::Putting::puts_none))]
+    fn tell_starved<I: Inbox>(&mut self, conn: ConnId, inbox: &mut I) -> Tried
+        requires lanes { I.lanes inbox.old ≡ self.old.route.lanes }
+        requires first { (n : ℕ) → self.old.route.lane ≡ Some n → self.old.first ≡ None }
+        requires empty { self.old.waiting ≡ None }
+        requires stage { self.old.stage ≡ Stage.Starving }
+        ensures puts { Puts conn self.old self.new (I.jobs inbox.old) (I.jobs inbox.new) }
+        ensures rest { self.new.rest ≡ self.old.rest }
+        ensures stage { result ≡ Tried.More → self.new.stage ≡ Stage.Leaving Why.Starved }
+        ensures counts { (m : ℕ) → I.refused inbox.old m ≤ I.refused inbox.new m }
+        ensures lanes { I.lanes inbox.new ≡ self.new.route.lanes }
+        ensures same { I.is_same inbox.old inbox.new }
+        ensures full { result ≡ Tried.Full → WasFull self.new.route (I.refused inbox.old) (I.refused inbox.new) }
+    {
+        let body = Body::Bad(Fault::NoMem);
+        match inbox.put(self.route.lane(), Job { conn, body }) {
+            Ok(()) => {
+                self.stage = Stage::Leaving(Why::Starved);
+                return Tried::More;
+            }
+            Err(_) => {
+                return Tried::Full;
+            }
+        }
+    }
+
+    /// Puts its end, where nothing waits.
+    #[tactic(auto, using(crate::proofs::Putting::puts_none))]
+    fn leave<I: Inbox>(&mut self, why: Why, conn: ConnId, inbox: &mut I) -> Tried
+        requires lanes { I.lanes inbox.old ≡ self.old.route.lanes }
+        requires first { (n : ℕ) → self.old.route.lane ≡ Some n → self.old.first ≡ None }
+        requires empty { self.old.waiting ≡ None }
+        requires stage { self.old.stage ≡ Stage.Leaving why }
+        ensures puts { Puts conn self.old self.new (I.jobs inbox.old) (I.jobs inbox.new) }
+        ensures rest { self.new.rest ≡ self.old.rest }
+        ensures stage { result ≡ Tried.More → self.new.stage ≡ Stage.Left why }
+        ensures counts { (m : ℕ) → I.refused inbox.old m ≤ I.refused inbox.new m }
+        ensures lanes { I.lanes inbox.new ≡ self.new.route.lanes }
+        ensures same { I.is_same inbox.old inbox.new }
+        ensures full { result ≡ Tried.Full → WasFull self.new.route (I.refused inbox.old) (I.refused inbox.new) }
+    {
+        let body = Body::Gone;
+        match inbox.put(self.route.lane(), Job { conn, body }) {
+            Ok(()) => {
+                self.stage = Stage::Left(why);
+                return Tried::More;
+            }
+            Err(_) => {
+                return Tried::Full;
+            }
+        }
+    }
+
+    /// Puts or cuts the next job, where what was cut before is put.
+    fn go_on<I: Inbox>(&mut self, conn: ConnId, inbox: &mut I) -> Tried
+        requires lanes { I.lanes inbox.old ≡ self.old.route.lanes }
+        requires first { (n : ℕ) → self.old.route.lane ≡ Some n → self.old.first ≡ None }
+        requires empty { self.old.waiting ≡ None }
+        ensures puts { Puts conn self.old self.new (I.jobs inbox.old) (I.jobs inbox.new) }
+        ensures less { result ≡ Tried.More → length self.new.rest + weight self.new.stage < length self.old.rest + weight self.old.stage }
+        ensures counts { (m : ℕ) → I.refused inbox.old m ≤ I.refused inbox.new m }
+        ensures lanes { I.lanes inbox.new ≡ self.new.route.lanes }
+        ensures same { I.is_same inbox.old inbox.new }
+        ensures full { result ≡ Tried.Full → WasFull self.new.route (I.refused inbox.old) (I.refused inbox.new) }
+    {
+        match self.stage {
+            Stage::Hearing | Stage::Ending => self.cut(),
+            Stage::Starving => self.tell_starved(conn, inbox),
+            Stage::Leaving(why) => self.leave(why, conn, inbox),
+            Stage::Left(_) => Tried::Idle,
+        }
+    }
+
+    /// One try to put the next job.
+    fn step<I: Inbox>(&mut self, conn: ConnId, inbox: &mut I) -> Tried
+        requires lanes { I.lanes inbox.old ≡ self.old.route.lanes }
+        ensures puts { Puts conn self.old self.new (I.jobs inbox.old) (I.jobs inbox.new) }
+        ensures less { result ≡ Tried.More → length self.new.rest + weight self.new.stage < length self.old.rest + weight self.old.stage }
+        ensures counts { (m : ℕ) → I.refused inbox.old m ≤ I.refused inbox.new m }
+        ensures lanes { I.lanes inbox.new ≡ self.new.route.lanes }
+        ensures same { I.is_same inbox.old inbox.new }
+        ensures full { result ≡ Tried.Full → WasFull self.new.route (I.refused inbox.old) (I.refused inbox.new) }
+    {
+        if let Tried::Full = self.offer_first(conn, inbox) {
+            return Tried::Full;
+        }
+        if let Tried::Full = self.offer(conn, inbox) {
+            return Tried::Full;
+        }
+        self.go_on(conn, inbox)
+    }
+
+    /// Puts the jobs of what came, as far as the lane has room. True where it was full.
+    pub(crate) fn advance<I: Inbox>(&mut self, conn: ConnId, inbox: &mut I) -> bool
+        requires lanes { I.lanes inbox.old ≡ self.old.route.lanes }
+        ensures puts { Puts conn self.old self.new (I.jobs inbox.old) (I.jobs inbox.new) }
+        ensures counts { (m : ℕ) → I.refused inbox.old m ≤ I.refused inbox.new m }
+        ensures lanes { I.lanes inbox.new ≡ self.new.route.lanes }
+        ensures same { I.is_same inbox.old inbox.new }
+        ensures full { IsTrue result → WasFull self.new.route (I.refused inbox.old) (I.refused inbox.new) }
+    {
+        'tries: loop {
+            match self.step(conn, inbox) {
+                Tried::More => {}
+                Tried::Full => {
+                    return true;
+                }
+                Tried::Idle => {
+                    return false;
+                }
+            }
+        }
+    }
+}

@@ -1,0 +1,21 @@
+//! Laws of the definitions that the contracts cite. They do nothing when they run.
+
+ghost use Rattle.std.specs.Prelude.{◌≡◌, ℕ, List, []};
+ghost use Rattle.lsv_port.specs.Port.{IsOpen, PortState};
+ghost use Rattle.lsv_session.specs.declared.job.Job.{Job};
+ghost use Rattle.lsv_session.specs.declared.reply.Reply.{Reply};
+ghost use Rattle.lsv_worker.specs.Tells.{EachEnds};
+ghost use Rattle.lsv_worker.specs.Worker.{HaveLeft, Represents, setting};
+ghost use Rattle.lsv_worker.specs.declared.link.Phase.TheVariants as phases;
+ghost use Rattle.lsv_worker.specs.declared.worker.Worker.{Worker};
+
+/// Where each connection has left and was shut, of each all of its jobs were put, to its one lane, or the first of them where
+/// a keeper shut it or memory was wanting, and one Gone; and what was put on its link is a prefix of its answers.
+pub fn connections_end()
+    ensures { (worker : Worker) (port : PortState) (jobs : ℕ → List Job) (replies : List Reply) → Represents worker port jobs replies → HaveLeft worker.links.items → EachEnds worker port jobs replies }
+{}
+
+/// A worker that has made no connections stands for no jobs and no replies, over a port whose links were not opened yet.
+pub fn a_new_worker_stands()
+    ensures { (worker : Worker) (port : PortState) → (setting worker).next ≡ 1 → worker.links.items ≡ [] → (setting worker).phase ≡ phases.Going → port.opened ≡ [] → ((l : ℕ) → IsOpen port l → ⊥) → Represents worker port (λ lane. []) [] }
+{}

@@ -1,0 +1,498 @@
+//! A worker over its port.
+
+ghost use Rattle.std.specs.Prelude.{◌-◌, ◌^◌, ◌≡◌, ◌≢◌, ◌⊎◌, ℕ, ◌<◌, ◌≤◌, ◌==◌, ◌++◌, ◌∷◌, List, [], length, IsTrue, IfOk, Some, None, true, false, slice_index_or, vec_capacity, vec_len};
+ghost use Rattle.std.specs.List.{Contains};
+ghost use Rattle.lsv_port.specs.Ledger.{Continues};
+ghost use Rattle.lsv_port.specs.Port.{IsOpen, Opens, PortState, Told};
+ghost use Rattle.lsv_session.specs.declared.job.Job.{Job};
+ghost use Rattle.lsv_session.specs.declared.reply.Reply.{Reply};
+ghost use Rattle.lsv_worker.specs.Links.{HasBlame, OwesNoMore, reads_in};
+ghost use Rattle.lsv_worker.specs.Worker.{Admits, AreCalmed, AreOfLanes, Goes, HaveLeft, HoldsOwed, IsAt, IsFit, IsFresh, IsMade, IsSameWorker, IsTable, Represents, Setting, Stands, Steps, conn_at, held_by, marked, owed_if, phase_after, setting, undone};
+
+use crate::link::{Link, PIECE, Pause, Phase};
+use crate::{Inbox, Incoming, Outgoing};
+use lsv_base::NoMem;
+use lsv_port::{Port, Ready};
+use lsv_session::{ConnId, Reply, server_hello};
+use std::alloc::Global;
+
+/// How many links may be open at once.
+const MOST_LINKS: usize = 128;
+
+/// The connections of one port. It reads their links, cuts the bytes into jobs and puts these into an inbox; and it takes
+/// the keepers' replies and writes them. Connections are numbered from 1 on, in the order in which their links were opened.
+#[derive(Debug, Drop)]
+pub struct Worker {
+    alloc: Global,
+    number: u32,
+    lanes: u32,
+    next: u64,
+    phase: Phase,
+    links: Vec<Link>,
+    held: Vec<u32>,
+}
+
+/// Whether a link was opened and is not closed.
+fn count_open(links: &[Link]) -> usize {
+    let mut count = 0;
+    for link in links {
+        if link.live {
+            count += 1;
+        }
+    }
+    count
+}
+
+/// Where the connection of this number stands in the table, if it does.
+fn place_of(links: &[Link], seq: u64) -> Option<usize>
+    ensures found { (i : ℕ) → result ≡ Some i → i < length links.now }
+    ensures is { (i : ℕ) (d : Link) → result ≡ Some i → (slice_index_or links.now i d).conn.seq ≡ seq }
+    ensures none { result ≡ None → (i : ℕ) (d : Link) → i < length links.now → (slice_index_or links.now i d).conn.seq ≢ seq }
+{
+    for place in 0..links.len() {
+        if links[place].conn.seq == seq {
+            return Some(place);
+        }
+    }
+    None
+}
+
+/// Whether each connection has left and was shut.
+fn have_left(links: &[Link]) -> bool
+    ensures { result ≡ true → HaveLeft links.now }
+{
+    for link in links {
+        if !link.shut {
+            return false;
+        }
+        if !link.incoming.stage.has_left() {
+            return false;
+        }
+    }
+    true
+}
+
+/// The links whose reading stopped, though more may come.
+fn collect(links: &[Link], held: &mut Vec<u32>)
+    requires room { length links.now ≤ vec_capacity held.old }
+    ensures held { (i : ℕ) (d : Link) → i < length links.now → (slice_index_or links.now i d).pause ≢ Pause.Calm → Contains held.new.items (slice_index_or links.now i d).number }
+    ensures room { vec_capacity held.old ≤ vec_capacity held.new }
+{
+    held.clear();
+    for link in links {
+        if link.pause != Pause::Calm {
+            let _ = held.push(link.number);
+        }
+    }
+}
+
+/// The connections of which nothing more comes are forgotten.
+fn sweep(links: &mut Vec<Link>)
+    ensures items { links.new.items ≡ undone links.old.items }
+    ensures fewer { vec_len links.new ≤ vec_len links.old }
+{
+    links.retain(|link| !link.is_done());
+}
+
+/// Each link is written, read and heard as far as it may be.
+fn pass_all<P: Port, I: Inbox>(
+    links: &mut [Link],
+    port: &mut P,
+    inbox: &mut I,
+    buffer: &mut [u8; PIECE],
+    phase: Phase,
+)
+    requires lanes { AreOfLanes (I.lanes inbox.old) links.old }
+    requires at { P.tells → IsTable phase links.old (P.state port.old) }
+    ensures steps { P.tells → (set : Setting) → set.phase ≡ phase → Steps set links.old links.new (P.state port.old) (P.state port.new) (I.jobs inbox.old) (I.jobs inbox.new) }
+    ensures calm { reads_in phase ≡ true → AreCalmed links.new }
+    ensures lanes { AreOfLanes (I.lanes inbox.old) links.new }
+    ensures inbox { I.lanes inbox.new ≡ I.lanes inbox.old }
+    ensures blame { P.tells → HasBlame (P.state port.old) (P.ledger port.old) (P.state port.new) (P.ledger port.new) }
+    ensures continues { Continues (P.ledger port.old) (P.ledger port.new) }
+    ensures counts { (m : ℕ) → I.refused inbox.old m ≤ I.refused inbox.new m }
+    ensures same { I.is_same inbox.old inbox.new }
+{
+    for link in links.iter_mut() {
+        link.pass(port, inbox, buffer, phase);
+    }
+}
+
+/// The same of a table.
+fn pass_table<P: Port, I: Inbox>(
+    links: &mut Vec<Link>,
+    port: &mut P,
+    inbox: &mut I,
+    buffer: &mut [u8; PIECE],
+    phase: Phase,
+)
+    requires lanes { AreOfLanes (I.lanes inbox.old) links.old.items }
+    requires at { P.tells → IsTable phase links.old.items (P.state port.old) }
+    ensures steps { P.tells → (set : Setting) → set.phase ≡ phase → Steps set links.old.items links.new.items (P.state port.old) (P.state port.new) (I.jobs inbox.old) (I.jobs inbox.new) }
+    ensures calm { reads_in phase ≡ true → AreCalmed links.new.items }
+    ensures lanes { AreOfLanes (I.lanes inbox.old) links.new.items }
+    ensures size { vec_len links.new ≡ vec_len links.old }
+    ensures inbox { I.lanes inbox.new ≡ I.lanes inbox.old }
+    ensures blame { P.tells → HasBlame (P.state port.old) (P.ledger port.old) (P.state port.new) (P.ledger port.new) }
+    ensures continues { Continues (P.ledger port.old) (P.ledger port.new) }
+    ensures counts { (m : ℕ) → I.refused inbox.old m ≤ I.refused inbox.new m }
+    ensures same { I.is_same inbox.old inbox.new }
+{
+    pass_all(links, port, inbox, buffer, phase);
+}
+
+/// The connection at this place takes a reply.
+fn take_at<P: Port>(links: &mut [Link], place: usize, reply: &Reply, port: &mut P)
+    requires within { place < length links.old }
+    requires seq { (d : Link) → (slice_index_or links.old place d).conn.seq ≡ reply.now.conn.seq }
+    requires at { P.tells → (phase : Phase) × IsTable phase links.old (P.state port.old) }
+    ensures took { P.tells → (set : Setting) (jobs : ℕ → List Job) (replies : List Reply) → reply.now.conn ≡ conn_at set reply.now.conn.seq → Stands set links.old (P.state port.old) jobs replies → Stands set links.new (P.state port.new) jobs (replies ++ reply.now ∷ []) }
+    ensures lanes { (n : ℕ) → AreOfLanes n links.old → AreOfLanes n links.new }
+    ensures owes { P.tells → OwesNoMore (P.state port.old) (P.state port.new) }
+    ensures blame { P.tells → HasBlame (P.state port.old) (P.ledger port.old) (P.state port.new) (P.ledger port.new) }
+    ensures continues { Continues (P.ledger port.old) (P.ledger port.new) }
+{
+    let link = &mut links[place];
+    link.take(reply, port);
+}
+
+/// The same in a table.
+fn take_in_table<P: Port>(links: &mut Vec<Link>, place: usize, reply: &Reply, port: &mut P)
+    requires within { place < length links.old.items }
+    requires seq { (d : Link) → (slice_index_or links.old.items place d).conn.seq ≡ reply.now.conn.seq }
+    requires at { P.tells → (phase : Phase) × IsTable phase links.old.items (P.state port.old) }
+    ensures took { P.tells → (set : Setting) (jobs : ℕ → List Job) (replies : List Reply) → reply.now.conn ≡ conn_at set reply.now.conn.seq → Stands set links.old.items (P.state port.old) jobs replies → Stands set links.new.items (P.state port.new) jobs (replies ++ reply.now ∷ []) }
+    ensures lanes { (n : ℕ) → AreOfLanes n links.old.items → AreOfLanes n links.new.items }
+    ensures size { vec_len links.new ≡ vec_len links.old }
+    ensures owes { P.tells → OwesNoMore (P.state port.old) (P.state port.new) }
+    ensures blame { P.tells → HasBlame (P.state port.old) (P.ledger port.old) (P.state port.new) (P.ledger port.new) }
+    ensures continues { Continues (P.ledger port.old) (P.ledger port.new) }
+{
+    take_at(links, place, reply, port);
+}
+
+/// Each link is closed, and nothing more is put on it.
+fn close_all<P: Port>(links: &mut [Link], port: &mut P)
+    requires at { P.tells → IsTable Phase.Stopped links.old (P.state port.old) }
+    ensures steps { P.tells → (set : Setting) (jobs : ℕ → List Job) → set.phase ≡ Phase.Stopped → Steps set links.old links.new (P.state port.old) (P.state port.new) jobs jobs }
+    ensures lanes { (n : ℕ) → AreOfLanes n links.old → AreOfLanes n links.new }
+    ensures blame { P.tells → HasBlame (P.state port.old) (P.ledger port.old) (P.state port.new) (P.ledger port.new) }
+    ensures continues { Continues (P.ledger port.old) (P.ledger port.new) }
+{
+    for link in links.iter_mut() {
+        link.stop(port);
+    }
+}
+
+/// The same of a table.
+fn close_table<P: Port>(links: &mut Vec<Link>, port: &mut P)
+    requires at { P.tells → IsTable Phase.Stopped links.old.items (P.state port.old) }
+    ensures steps { P.tells → (set : Setting) (jobs : ℕ → List Job) → set.phase ≡ Phase.Stopped → Steps set links.old.items links.new.items (P.state port.old) (P.state port.new) jobs jobs }
+    ensures lanes { (n : ℕ) → AreOfLanes n links.old.items → AreOfLanes n links.new.items }
+    ensures size { vec_len links.new ≡ vec_len links.old }
+    ensures blame { P.tells → HasBlame (P.state port.old) (P.ledger port.old) (P.state port.new) (P.ledger port.new) }
+    ensures continues { Continues (P.ledger port.old) (P.ledger port.new) }
+{
+    close_all(links, port);
+}
+
+impl Worker {
+    /// A worker with no connections: its number, and how many lanes there are.
+    pub fn new(alloc: Global, number: u32, lanes: u32) -> Result<Self, NoMem>
+        requires lanes { (1 ≤ lanes) × (lanes ≤ 8) }
+        ensures fit { IfOk result IsFit }
+        ensures set { IfOk result (λ w. setting w ≡ record { number = number; lanes = lanes; next = 1; phase = Phase.Going }) }
+        ensures links { IfOk result (λ w. w.links.items ≡ []) }
+        ensures held { IfOk result (λ w. held_by w ≡ []) }
+    {
+        Ok(Worker {
+            alloc,
+            number,
+            lanes,
+            next: 1,
+            phase: Phase::Going,
+            links: Vec::new(alloc),
+            held: Vec::with_capacity(alloc, MOST_LINKS)?,
+        })
+    }
+
+    /// The links that it stopped reading in the last `on` or `push_out`: the next turn of its port is handed these.
+    pub fn held(&self) -> &[u32]
+        ensures { result.now ≡ held_by self.now }
+    {
+        &self.held
+    }
+
+    /// Whether it has made a connection of this number.
+    pub fn has_made(&self, seq: u64) -> bool
+        ensures yes { result ≡ true → IsMade (setting self.now) seq }
+        ensures no { result ≡ false → IsMade (setting self.now) seq → ⊥ }
+    {
+        1 <= seq && seq < self.next
+    }
+
+    /// Does what the port told, and tries each link again: it writes what is unsent, reads what is owed, and puts the jobs.
+    pub fn on<P: Port, I: Inbox>(&mut self, port: &mut P, ready: Ready, inbox: &mut I)
+        requires fit { IsFit self.old }
+        requires going { self.old.phase ≡ Phase.Going }
+        requires lanes { I.lanes inbox.old ≡ self.old.lanes }
+        requires at { P.tells → (before : PortState) × Told ready before (P.state port.old) × IsAt self.old before }
+        ensures fit { IsFit self.new }
+        ensures worker { IsSameWorker self.old self.new }
+        ensures phase { self.new.phase ≡ phase_after ready }
+        ensures goes { P.tells → (before : PortState) → Told ready before (P.state port.old) → Goes self.old self.new before (P.state port.new) (I.jobs inbox.old) (I.jobs inbox.new) }
+        ensures owed { P.tells → HoldsOwed self.new (P.state port.new) }
+        ensures blame { P.tells → HasBlame (P.state port.old) (P.ledger port.old) (P.state port.new) (P.ledger port.new) }
+        ensures continues { Continues (P.ledger port.old) (P.ledger port.new) }
+        ensures counts { (m : ℕ) → I.refused inbox.old m ≤ I.refused inbox.new m }
+        ensures lanes { I.lanes inbox.new ≡ I.lanes inbox.old }
+        ensures same { I.is_same inbox.old inbox.new }
+    {
+        self.note(port, ready);
+        self.pass(port, inbox);
+    }
+
+    /// Tries each link again, as `on` does.
+    pub fn push_out<P: Port, I: Inbox>(&mut self, port: &mut P, inbox: &mut I)
+        requires fit { IsFit self.old }
+        requires lanes { I.lanes inbox.old ≡ self.old.lanes }
+        requires at { P.tells → IsAt self.old (P.state port.old) }
+        ensures fit { IsFit self.new }
+        ensures worker { IsSameWorker self.old self.new }
+        ensures phase { self.new.phase ≡ self.old.phase }
+        ensures goes { P.tells → Goes self.old self.new (P.state port.old) (P.state port.new) (I.jobs inbox.old) (I.jobs inbox.new) }
+        ensures owed { P.tells → reads_in self.old.phase ≡ true → HoldsOwed self.new (P.state port.new) }
+        ensures blame { P.tells → HasBlame (P.state port.old) (P.ledger port.old) (P.state port.new) (P.ledger port.new) }
+        ensures continues { Continues (P.ledger port.old) (P.ledger port.new) }
+        ensures counts { (m : ℕ) → I.refused inbox.old m ≤ I.refused inbox.new m }
+        ensures lanes { I.lanes inbox.new ≡ I.lanes inbox.old }
+        ensures same { I.is_same inbox.old inbox.new }
+    {
+        self.pass(port, inbox);
+    }
+
+    /// A turn of the port failed: no link is read any more, and each connection ends behind the jobs of what it sent.
+    pub fn turn_failed<P: Port, I: Inbox>(&mut self, port: &mut P, inbox: &mut I)
+        requires fit { IsFit self.old }
+        requires going { self.old.phase ≡ Phase.Going }
+        requires lanes { I.lanes inbox.old ≡ self.old.lanes }
+        requires at { P.tells → IsAt self.old (P.state port.old) }
+        ensures fit { IsFit self.new }
+        ensures worker { IsSameWorker self.old self.new }
+        ensures phase { self.new.phase ≡ Phase.Failed }
+        ensures goes { P.tells → Goes self.old self.new (P.state port.old) (P.state port.new) (I.jobs inbox.old) (I.jobs inbox.new) }
+        ensures blame { P.tells → HasBlame (P.state port.old) (P.ledger port.old) (P.state port.new) (P.ledger port.new) }
+        ensures continues { Continues (P.ledger port.old) (P.ledger port.new) }
+        ensures counts { (m : ℕ) → I.refused inbox.old m ≤ I.refused inbox.new m }
+        ensures lanes { I.lanes inbox.new ≡ I.lanes inbox.old }
+        ensures same { I.is_same inbox.old inbox.new }
+    {
+        self.phase = Phase::Failed;
+        self.pass(port, inbox);
+    }
+
+    /// Takes a reply to a connection that it made. What is said is sent by the next `on` or `push_out`. A connection that is
+    /// shut is closed once nothing is unsent.
+    pub fn take<P: Port>(&mut self, reply: Reply, port: &mut P)
+        requires fit { IsFit self.old }
+        requires worker { reply.conn.worker ≡ self.old.number }
+        requires made { IsMade (setting self.old) reply.conn.seq }
+        requires at { P.tells → IsAt self.old (P.state port.old) }
+        ensures fit { IsFit self.new }
+        ensures set { setting self.new ≡ setting self.old }
+        ensures held { held_by self.new ≡ held_by self.old }
+        ensures takes { P.tells → (jobs : ℕ → List Job) (replies : List Reply) → Represents self.old (P.state port.old) jobs replies → Represents self.new (P.state port.new) jobs (replies ++ reply ∷ []) }
+        ensures owed { P.tells → HoldsOwed self.old (P.state port.old) → HoldsOwed self.new (P.state port.new) }
+        ensures blame { P.tells → HasBlame (P.state port.old) (P.ledger port.old) (P.state port.new) (P.ledger port.new) }
+        ensures continues { Continues (P.ledger port.old) (P.ledger port.new) }
+    {
+        let Some(place) = place_of(&self.links, reply.conn.seq) else {
+            return;
+        };
+        take_in_table(&mut self.links, place, &reply, port);
+    }
+
+    /// Whether nothing more is to come: Stop or a fault of the port's turn came, each connection has left, and each was shut;
+    /// or it was stopped.
+    pub fn ended(&self) -> bool
+        ensures yes { result ≡ true → (self.now.phase ≡ Phase.Stopped) ⊎ ((self.now.phase ≢ Phase.Going) × HaveLeft self.now.links.items) }
+    {
+        match self.phase {
+            Phase::Going => false,
+            Phase::Stopping | Phase::Failed => have_left(&self.links),
+            Phase::Stopped => true,
+        }
+    }
+
+    /// Closes every link. No job is put any more, and nothing more is sent.
+    pub fn stop<P: Port>(&mut self, port: &mut P)
+        requires fit { IsFit self.old }
+        requires at { P.tells → IsAt self.old (P.state port.old) }
+        ensures fit { IsFit self.new }
+        ensures worker { IsSameWorker self.old self.new }
+        ensures phase { self.new.phase ≡ Phase.Stopped }
+        ensures goes { P.tells → (jobs : ℕ → List Job) → Goes self.old self.new (P.state port.old) (P.state port.new) jobs jobs }
+        ensures blame { P.tells → HasBlame (P.state port.old) (P.ledger port.old) (P.state port.new) (P.ledger port.new) }
+        ensures continues { Continues (P.ledger port.old) (P.ledger port.new) }
+    {
+        self.phase = Phase::Stopped;
+        close_table(&mut self.links, port);
+    }
+
+    /// A connection for a link that was just opened, with the server's hello on the way; None where memory is wanting.
+    fn fresh(&self, number: u32) -> Option<Link>
+        requires { IsFit self.now }
+        ensures { (link : Link) → result ≡ Some link → IsFresh (setting self.now) number link }
+    {
+        let mut outgoing = Outgoing::new(self.alloc);
+        let Ok(hello) = server_hello(self.alloc) else {
+            return None;
+        };
+        if !outgoing.say(&hello) {
+            return None;
+        }
+        Some(Link {
+            number,
+            conn: ConnId {
+                worker: self.number,
+                seq: self.next,
+            },
+            incoming: Incoming::new(self.alloc, self.lanes, self.next),
+            outgoing,
+            live: true,
+            owed: true,
+            shut: false,
+            pause: Pause::Calm,
+        })
+    }
+
+    /// Takes a connection into the table. False, and nothing changes, where memory is wanting.
+    fn admit(&mut self, link: Link) -> bool
+        requires fit { IsFit self.old }
+        requires room { self.old.next < 2 ^ 64 - 1 }
+        requires lanes { link.incoming.route.lanes ≡ self.old.lanes }
+        ensures fit { IsFit self.new }
+        ensures yes { result ≡ true → Admits link self.old self.new }
+        ensures no { result ≡ false → (setting self.new ≡ setting self.old) × (self.new.links.items ≡ self.old.links.items) }
+    {
+        if self.held.reserve(self.links.len() + 1).is_err() {
+            return false;
+        }
+        match self.links.push(link) {
+            Ok(()) => {
+                self.next += 1;
+                return true;
+            }
+            Err(_) => {
+                return false;
+            }
+        }
+    }
+
+    /// Whether one more link is turned away: 128 are open, or the numbers are spent.
+    fn is_crowded(&self) -> bool
+        ensures { result ≡ false → self.now.next < 2 ^ 64 - 1 }
+    {
+        self.next == u64::MAX || count_open(&self.links) >= MOST_LINKS
+    }
+
+    /// A link was opened. It is closed at once, and is no connection, where 128 others are open, the numbers are spent, or
+    /// memory is wanting.
+    fn opened<P: Port>(&mut self, port: &mut P, number: u32)
+        requires fit { IsFit self.old }
+        requires is_open { P.tells → IsOpen (P.state port.old) number }
+        ensures fit { IsFit self.new }
+        ensures worker { IsSameWorker self.old self.new }
+        ensures phase { self.new.phase ≡ self.old.phase }
+        ensures opens { P.tells → (before : PortState) (jobs : ℕ → List Job) (replies : List Reply) → Opens number before (P.state port.old) → Represents self.old before jobs replies → Represents self.new (P.state port.new) jobs replies }
+        ensures blame { P.tells → HasBlame (P.state port.old) (P.ledger port.old) (P.state port.new) (P.ledger port.new) }
+        ensures continues { Continues (P.ledger port.old) (P.ledger port.new) }
+    {
+        if self.is_crowded() {
+            port.close(number);
+            return;
+        }
+        let Some(link) = self.fresh(number) else {
+            port.close(number);
+            return;
+        };
+        if self.admit(link) {
+            return;
+        }
+        port.close(number);
+    }
+
+    /// What the port told is noted.
+    fn note<P: Port>(&mut self, port: &mut P, ready: Ready)
+        requires fit { IsFit self.old }
+        requires going { self.old.phase ≡ Phase.Going }
+        requires told { P.tells → (before : PortState) × Told ready before (P.state port.old) × IsAt self.old before }
+        ensures fit { IsFit self.new }
+        ensures worker { IsSameWorker self.old self.new }
+        ensures phase { self.new.phase ≡ phase_after ready }
+        ensures notes { P.tells → (before : PortState) (jobs : ℕ → List Job) (replies : List Reply) → Told ready before (P.state port.old) → Represents self.old before jobs replies → Represents self.new (P.state port.new) jobs replies }
+        ensures blame { P.tells → HasBlame (P.state port.old) (P.ledger port.old) (P.state port.new) (P.ledger port.new) }
+        ensures continues { Continues (P.ledger port.old) (P.ledger port.new) }
+    {
+        match ready {
+            Ready::Opened(number) => {
+                self.opened(port, number);
+                return;
+            }
+            Ready::Readable(number) => {
+                mark_table(&mut self.links, number);
+                return;
+            }
+            Ready::Writable(_) => {
+                return;
+            }
+            Ready::Woken => {
+                return;
+            }
+            Ready::Stop => {
+                self.phase = Phase::Stopping;
+                return;
+            }
+        }
+    }
+
+    /// Each link is tried, and those of which nothing more comes are forgotten.
+    fn pass<P: Port, I: Inbox>(&mut self, port: &mut P, inbox: &mut I)
+        requires fit { IsFit self.old }
+        requires lanes { I.lanes inbox.old ≡ self.old.lanes }
+        requires at { P.tells → IsAt self.old (P.state port.old) }
+        ensures fit { IsFit self.new }
+        ensures set { setting self.new ≡ setting self.old }
+        ensures goes { P.tells → Goes self.old self.new (P.state port.old) (P.state port.new) (I.jobs inbox.old) (I.jobs inbox.new) }
+        ensures owed { P.tells → reads_in self.old.phase ≡ true → HoldsOwed self.new (P.state port.new) }
+        ensures blame { P.tells → HasBlame (P.state port.old) (P.ledger port.old) (P.state port.new) (P.ledger port.new) }
+        ensures continues { Continues (P.ledger port.old) (P.ledger port.new) }
+        ensures counts { (m : ℕ) → I.refused inbox.old m ≤ I.refused inbox.new m }
+        ensures lanes { I.lanes inbox.new ≡ I.lanes inbox.old }
+        ensures same { I.is_same inbox.old inbox.new }
+    {
+        let mut buffer = [0; PIECE];
+        pass_table(&mut self.links, port, inbox, &mut buffer, self.phase);
+        sweep(&mut self.links);
+        collect(&self.links, &mut self.held);
+    }
+}
+
+/// The link of this number is owed a read.
+fn mark(links: &mut [Link], number: u32)
+    ensures { (i : ℕ) (d : Link) → i < length links.old → slice_index_or links.new i d ≡ owed_if ((slice_index_or links.old i d).number == number) (slice_index_or links.old i d) }
+{
+    for link in links.iter_mut() {
+        if link.number == number {
+            link.owed = true;
+        }
+    }
+}
+
+/// The same of a table.
+fn mark_table(links: &mut Vec<Link>, number: u32)
+    ensures marked { links.new.items ≡ marked number links.old.items }
+    ensures size { vec_len links.new ≡ vec_len links.old }
+{
+    mark(links, number);
+}
