@@ -191,7 +191,10 @@ pub fn view(rt: &HostRuntime, store: &mut Store, words: &str) -> Result<()> {
     let cuts = body.extra;
     match view.exit(store)? {
         Some(exit) => {
-            println!(rt; "{count} records to {elapsed}, {cuts} cuts, exit {}", exit.value)?
+            println!(rt;
+                "{count} records to {elapsed}, {cuts} cuts, exit {}",
+                exit.value
+            )?
         }
         None => println!(rt; "{count} records to {elapsed}, {cuts} cuts, no exit")?,
     }

@@ -49,8 +49,7 @@ impl<D: Disk + Drop> Noting<D> {
     }
 
     /// The longest buffers since this was asked for last.
-    pub fn take_longest(&mut self) -> Longest
-    {
+    pub fn take_longest(&mut self) -> Longest {
         let longest = self.longest;
         self.longest = NONE;
         longest
