@@ -1,0 +1,8 @@
+//! The port that a server's connections come through: links that are opened, read, written and closed, told by edges.
+#![tactic(auto)]
+
+mod port;
+mod step;
+
+pub use port::{Gave, Port, PortFault, Ready, Took};
+pub use step::Step;

@@ -1,0 +1,22 @@
+use lsv_base::Bytes;
+
+/// What happens next at a port whose links are fixed beforehand.
+#[derive(Debug, Drop)]
+pub enum Step {
+    /// A link of this number is opened. A number that was opened before, or above 1,000,000, is passed over.
+    Open(u32),
+    /// Bytes arrive on a link. After its Last none do.
+    Give(u32, Bytes),
+    /// A link takes so many bytes more. Until its first Room it takes all.
+    Room(u32, u32),
+    /// A link's input ends behind the bytes that have arrived.
+    Last(u32),
+    /// A link's next read or write fails.
+    Break(u32),
+    /// The turn fails.
+    BreakTurn,
+    /// Nothing happens.
+    Wake,
+    /// The server is to end.
+    Stop,
+}
