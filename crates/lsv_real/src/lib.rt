@@ -1,4 +1,4 @@
-//! The trusted edge: the real disk, text files, standard input and standard output. They tell no content, and count their faults.
+//! The trusted edge: the real disk, text files, the port of sockets, standard input and standard output. They tell no content, and count their faults.
 #![tactic(auto)]
 
 mod call;
@@ -9,8 +9,10 @@ mod foreign;
 mod handle;
 mod limit;
 mod path;
+mod port;
 mod read_only;
 mod span;
+mod standard;
 mod store;
 mod streams;
 mod texts;
@@ -18,7 +20,9 @@ mod unsynced;
 
 pub use clock::WallClock;
 pub use disk::FileDisk;
+pub use port::MioPort;
 pub use read_only::ReadOnlyDisk;
+pub use standard::open_standard;
 pub use streams::{StdScreen, StdSink, StdSource};
 pub use texts::FileTexts;
 pub use unsynced::{SyncedFile, Unsynced};

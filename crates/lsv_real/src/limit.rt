@@ -1,10 +1,27 @@
-// How large the system lets a file of this process become.
+// How large the system lets a file of this process become, and how many descriptors it lets it have.
 use libc::types::rlimit;
 use std::io;
 use std::io::ErrorKind;
 
 /// What `getrlimit` is asked.
 const RLIMIT_FSIZE: i32 = 1;
+
+const RLIMIT_NOFILE: i32 = 7;
+
+/// The limit as it is set now. A system that answers none has none.
+fn limit_of(resource: i32) -> u64 {
+    let mut limit = rlimit {
+        rlim_cur: u64::MAX,
+        rlim_max: u64::MAX,
+    };
+    let _ = libc::getrlimit(resource, &mut limit);
+    limit.rlim_cur
+}
+
+/// How many descriptors this process may have open.
+pub fn most_descriptors() -> u64 {
+    limit_of(RLIMIT_NOFILE)
+}
 
 /// The most bytes that this process may give a file. The system kills a process that writes past it, and the kit has no
 /// call to ignore that signal.
@@ -14,15 +31,10 @@ pub struct SizeLimit {
 }
 
 impl SizeLimit {
-    /// The limit as it is set now. A system that answers none has none.
+    /// The limit as it is set now.
     pub fn now() -> Self {
-        let mut limit = rlimit {
-            rlim_cur: u64::MAX,
-            rlim_max: u64::MAX,
-        };
-        let _ = libc::getrlimit(RLIMIT_FSIZE, &mut limit);
         SizeLimit {
-            most: limit.rlim_cur,
+            most: limit_of(RLIMIT_FSIZE),
         }
     }
 

@@ -14,4 +14,6 @@ mod disk;
 #[cfg(test)]
 mod journal;
 #[cfg(test)]
+mod port;
+#[cfg(test)]
 mod real;

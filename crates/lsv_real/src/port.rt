@@ -1,0 +1,232 @@
+// The port of the operating system, over epoll(7). It tells no content, and counts its faults.
+ghost use Rattle.std.specs.Prelude.{◌≡◌, ◌≤◌, IfOk, OnErr};
+ghost use Rattle.lsv_words.specs.Causes.{HasRisen};
+ghost use Rattle.lsv_real.specs.UntoldPort.{untold_port, ledger_of};
+
+mod accepted;
+mod address;
+mod door;
+mod wakes;
+
+use accepted::Accepted;
+use door::Door;
+use lsv_port::{Gave, Port, PortFault, Ready, Took};
+use std::alloc::{AllocError, Global};
+use std::collections::HashMap;
+use std::io;
+use std::io::ErrorKind;
+use std::net::{Net, SocketAddr};
+use std::sync::Arc;
+use wakes::Wakes;
+
+/// The port of the operating system. All ports of a program share one listening socket, at which the first that
+/// listens begins. A turn that has nothing to tell answers `Woken` after at most 50 ms. A connection that can't be
+/// taken for want of memory or of descriptors waits, or is closed at once and is no link.
+#[derive(Drop)]
+pub struct MioPort<N: Net + Drop> {
+    rt: HostRuntime,
+    net: N,
+    /// Whose faults they are, on standard error.
+    program: &'static str,
+    door: Arc<Door, Global>,
+    wakes: Option<Wakes>,
+    links: HashMap<u32, Accepted>,
+    /// The number of the link that was opened last.
+    last: u32,
+    /// A turn tells Stop once so many links of all ports were closed.
+    stop_after: Option<u32>,
+    faults: Faults,
+}
+
+/// How often a port failed as a whole, and how often its links did.
+#[derive(Clone, Copy)]
+struct Faults {
+    turns: u64,
+    links: u64,
+}
+
+impl<N: Net + Drop> MioPort<N> {
+    /// A port that doesn't listen yet. Its faults are told on standard error, a line each, under the program's name.
+    pub fn new(rt: HostRuntime, net: N, program: &'static str) -> Result<Self, AllocError>
+        ensures { IfOk result (λ p. ⟦<MioPort<N> as Port>⟧.ledger p ≡ ledger_of 0 0) }
+    {
+        let door = Arc::new(rt.alloc(), Door::new())?;
+        Ok(MioPort::at(rt, net, program, door))
+    }
+
+    /// A port that shares the listening socket of this one.
+    pub fn beside(&self, net: N) -> Result<Self, AllocError> {
+        let door = Arc::try_clone(&self.door)?;
+        Ok(MioPort::at(self.rt, net, self.program, door))
+    }
+
+    fn at(rt: HostRuntime, net: N, program: &'static str, door: Arc<Door, Global>) -> Self
+        ensures turns { result.faults.turns ≡ 0 }
+        ensures links { result.faults.links ≡ 0 }
+    {
+        MioPort {
+            rt,
+            net,
+            program,
+            door,
+            wakes: None,
+            links: HashMap::new(rt.alloc()),
+            last: 0,
+            stop_after: None,
+            faults: Faults { turns: 0, links: 0 },
+        }
+    }
+}
+
+impl<N: Net + Drop> MioPort<N> {
+    /// Begins to listen, where it doesn't yet.
+    fn start(&mut self, address: &str) -> io::Result<()>
+        ensures { self.new.faults ≡ self.old.faults }
+    {
+        let listener = self.door.listener(&self.net, address)?;
+        self.wakes = Some(Wakes::new(self.rt.alloc(), &self.net, listener)?);
+        Ok(())
+    }
+
+    /// What the next turn tells.
+    fn next(&mut self, held: &[u32]) -> io::Result<Ready>
+        ensures { self.new.faults ≡ self.old.faults }
+    {
+        if self.is_over() {
+            return Ok(Ready::Stop);
+        }
+        if let Some(ready) = self.at_once(held) {
+            return Ok(ready);
+        }
+        let Some(wakes) = &mut self.wakes else {
+            return Err(ErrorKind::NotConnected.into());
+        };
+        wakes.wait(!held.is_empty())?;
+        Ok(self.at_once(held).unwrap_or(Ready::Woken))
+    }
+
+    /// So many links were closed that Stop is told.
+    fn is_over(&self) -> bool {
+        match self.stop_after {
+            Some(count) => self.door.closed() >= u64::from(count),
+            None => false,
+        }
+    }
+
+    /// What is told without a wait: what the last one gave, and then one connection.
+    fn at_once(&mut self, held: &[u32]) -> Option<Ready>
+        ensures { self.new.faults ≡ self.old.faults }
+    {
+        let told = self.wakes.as_mut()?.next(&mut self.links, held);
+        match told {
+            Some(_) => told,
+            None => self.open(),
+        }
+    }
+
+    /// Takes a connection, where one waits and there are descriptors for it.
+    fn open(&mut self) -> Option<Ready>
+        ensures { self.new.faults ≡ self.old.faults }
+    {
+        let wakes = self.wakes.as_mut()?;
+        let mut stream = wakes.accept(self.door.has_room())?;
+        let link = self.last.checked_add(1)?;
+        // What is put is small, and is not to wait for an answer of the peer.
+        let _ = stream.set_nodelay(true);
+        wakes.add(&mut stream, link).ok()?;
+        self.links.insert(link, Accepted::new(stream)).ok()?;
+        self.last = link;
+        self.door.count_opened();
+        Some(Ready::Opened(link))
+    }
+}
+
+impl<N: Net + Drop> MioPort<N> {
+    /// The address at which it listens, as the system chose it where the port number is 0.
+    pub fn local_addr(&self) -> io::Result<SocketAddr> {
+        match &self.wakes {
+            Some(wakes) => wakes.local_addr(),
+            None => Err(ErrorKind::NotConnected.into()),
+        }
+    }
+
+    /// A failure of the port as a whole is counted, and told.
+    fn checked<T: Drop>(&mut self, what: &str, answer: io::Result<T>) -> Result<T, PortFault>
+        ensures ok { IfOk result (λ t. answer ≡ Ok t) }
+        ensures turns { self.old.faults.turns ≤ self.new.faults.turns }
+        ensures links { self.new.faults.links ≡ self.old.faults.links }
+        ensures cause { OnErr result (HasRisen self.old.faults.turns self.new.faults.turns) }
+    {
+        match answer {
+            Ok(t) => Ok(t),
+            Err(e) => {
+                let program = self.program;
+                let _ = eprintln!(self.rt; "{program}: {what}: {e}");
+                self.faults.turns = self.faults.turns.saturating_add(1);
+                Err(PortFault)
+            }
+        }
+    }
+
+    /// Bytes went over a link.
+    fn note_moved(&mut self)
+        ensures { self.new.faults ≡ self.old.faults }
+    {
+        if let Some(wakes) = &mut self.wakes {
+            wakes.note_moved();
+        }
+    }
+}
+
+impl<N: Net + Drop> Port for MioPort<N> {
+    ghost tells = { ⊥ };
+
+    ghost state = { λ _. untold_port };
+
+    ghost ledger = { λ p. ledger_of p.faults.turns p.faults.links };
+
+    ghost open_was_opened = { λ told. absurd told };
+
+    fn listen(&mut self, address: &str, stop_after: Option<u32>) -> Result<(), PortFault> {
+        self.stop_after = stop_after;
+        let answer = self.start(address);
+        self.checked(address, answer)
+    }
+
+    fn turn(&mut self, held: &[u32]) -> Result<Ready, PortFault> {
+        let answer = self.next(held);
+        self.checked("the port", answer)
+    }
+
+    fn read(&mut self, link: u32, buf: &mut [u8]) -> Took {
+        let took = match self.links.get_mut(&link) {
+            Some(accepted) => accepted.read(buf),
+            None => Took::Failed,
+        };
+        match took {
+            Took::Failed => self.faults.links = self.faults.links.saturating_add(1),
+            Took::Bytes(_) => self.note_moved(),
+            Took::NotYet | Took::End => {}
+        }
+        took
+    }
+
+    fn write(&mut self, link: u32, bytes: &[u8]) -> Gave {
+        let gave = match self.links.get_mut(&link) {
+            Some(accepted) => accepted.write(bytes),
+            None => Gave::Failed,
+        };
+        match gave {
+            Gave::Failed => self.faults.links = self.faults.links.saturating_add(1),
+            Gave::Bytes(_) => self.note_moved(),
+            Gave::NotYet => {}
+        }
+        gave
+    }
+
+    fn close(&mut self, link: u32) {
+        if self.links.remove(&link).is_some() {
+            self.door.count_closed();
+        }
+    }
+}

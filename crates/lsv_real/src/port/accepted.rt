@@ -1,0 +1,78 @@
+// A link that a port accepted.
+ghost use Rattle.std.specs.Prelude.{◌≡◌, length};
+ghost use Rattle.lsv_port.specs.Port.{TakesWithin, GivesWithin};
+
+use lsv_port::{Gave, Took};
+use mio::net::TcpStream;
+use std::io::{ErrorKind, Read, Write};
+
+/// After so many signals in a row a read or a write is a fault.
+const MOST_INTERRUPTS: u32 = 1024;
+
+/// An open link.
+#[derive(Drop)]
+pub struct Accepted {
+    stream: TcpStream,
+    /// A read gave the end of its input.
+    has_ended: bool,
+    /// A write was put off, and no turn told since that the link takes bytes again.
+    is_full: bool,
+}
+
+impl Accepted {
+    pub fn new(stream: TcpStream) -> Self {
+        Accepted {
+            stream,
+            has_ended: false,
+            is_full: false,
+        }
+    }
+
+    /// Whether a turn may tell that it is readable.
+    pub fn may_read(&self) -> bool {
+        !self.has_ended
+    }
+
+    /// Whether it was full. From now on it isn't.
+    pub fn was_full(&mut self) -> bool {
+        let was_full = self.is_full;
+        self.is_full = false;
+        was_full
+    }
+
+    pub fn read(&mut self, buf: &mut [u8]) -> Took
+        ensures { TakesWithin result (length buf.old) }
+    {
+        for _ in 0..MOST_INTERRUPTS {
+            match self.stream.read(buf) {
+                Ok(0) => {
+                    self.has_ended = true;
+                    return Took::End;
+                }
+                Ok(n) => return Took::Bytes(n),
+                Err(e) if e.kind() == ErrorKind::WouldBlock => return Took::NotYet,
+                Err(e) if e.kind() == ErrorKind::Interrupted => {}
+                Err(_) => return Took::Failed,
+            }
+        }
+        Took::Failed
+    }
+
+    pub fn write(&mut self, bytes: &[u8]) -> Gave
+        ensures { GivesWithin result (length bytes.now) }
+    {
+        for _ in 0..MOST_INTERRUPTS {
+            match self.stream.write(bytes) {
+                Ok(0) => return Gave::Failed,
+                Ok(n) => return Gave::Bytes(n),
+                Err(e) if e.kind() == ErrorKind::WouldBlock => {
+                    self.is_full = true;
+                    return Gave::NotYet;
+                }
+                Err(e) if e.kind() == ErrorKind::Interrupted => {}
+                Err(_) => return Gave::Failed,
+            }
+        }
+        Gave::Failed
+    }
+}

@@ -1,0 +1,64 @@
+// What the ports of a program share.
+use super::address::listen_at;
+use crate::limit::most_descriptors;
+use std::io;
+use std::net::{Net, TcpListener};
+use std::sync::OnceLock;
+use std::sync::atomic::{AtomicU64, Ordering};
+
+/// So many descriptors stay for the store's files and for what else is open.
+const KEPT_DESCRIPTORS: u64 = 576;
+
+/// The listening socket of the ports of a program, and how many of their links were opened and closed.
+#[derive(Drop)]
+pub struct Door {
+    listener: OnceLock<TcpListener>,
+    opened: AtomicU64,
+    closed: AtomicU64,
+    /// So many links are open at most.
+    most: u64,
+}
+
+impl Door {
+    /// A door at which nobody listens yet.
+    pub fn new() -> Self {
+        Door {
+            listener: OnceLock::new(),
+            opened: AtomicU64::new(0),
+            closed: AtomicU64::new(0),
+            most: most_descriptors().saturating_sub(KEPT_DESCRIPTORS).max(1),
+        }
+    }
+
+    /// The listening socket, which the first port that listens makes at its address, as a handle of the caller's own.
+    pub fn listener<N: Net>(&self, net: &N, address: &str) -> io::Result<TcpListener> {
+        if let Some(listener) = self.listener.get() {
+            return listener.try_clone();
+        }
+        let listener = TcpListener::from(listen_at(net, address)?);
+        let own = listener.try_clone()?;
+        let _ = self.listener.try_set(listener);
+        Ok(own)
+    }
+
+    /// How many links of all ports were closed.
+    pub fn closed(&self) -> u64 {
+        self.closed.load(Ordering::SeqCst)
+    }
+
+    /// Whether the descriptors of this process suffice for one link more.
+    pub fn has_room(&self) -> bool {
+        let opened = self.opened.load(Ordering::SeqCst);
+        opened.saturating_sub(self.closed()) < self.most
+    }
+
+    /// One link more was opened.
+    pub fn count_opened(&self) {
+        let _ = self.opened.fetch_add(1, Ordering::SeqCst);
+    }
+
+    /// One link more was closed.
+    pub fn count_closed(&self) {
+        let _ = self.closed.fetch_add(1, Ordering::SeqCst);
+    }
+}

@@ -1,0 +1,175 @@
+// What a port that listens waits for, and what of the last wait it hasn't told yet.
+use super::accepted::Accepted;
+use lsv_port::Ready;
+use mio::event::Event;
+use mio::net::{TcpListener, TcpStream};
+use mio::{Events, Interest, Poll, Token};
+use std::alloc::Global;
+use std::collections::HashMap;
+use std::io;
+use std::io::ErrorKind;
+use std::net::{self, Net, SocketAddr};
+use std::time::Duration;
+
+/// The listening socket's name among those that are waited for. No link has its number.
+const LISTENER: Token = Token(usize::MAX);
+
+/// One wait gives so many events at most.
+const MOST_EVENTS: usize = 256;
+
+/// A wait without anything to tell ends after so many milliseconds.
+const LONGEST: u64 = 50;
+
+/// And after so many where links are held, and no bytes went over one since the last wait.
+const SHORT: u64 = 1;
+
+/// Which connections wait to be taken.
+#[derive(Clone, Copy, PartialEq, Eq)]
+enum Queue {
+    Empty,
+    /// One may wait.
+    Waiting,
+    /// One was taken since the last wait: more are taken after the next one, so that links have their turn.
+    Taken,
+    /// One could not be taken: it is tried again after the next wait.
+    Stuck,
+}
+
+/// What a port that listens waits for.
+#[derive(Drop)]
+pub struct Wakes {
+    poll: Poll,
+    listener: TcpListener,
+    queue: Queue,
+    events: Events,
+    /// What is told next: of an event first that its link may be read, then that it may be written.
+    next: usize,
+    /// Bytes went over a link since the last wait.
+    has_moved: bool,
+}
+
+impl Wakes {
+    /// Waits for connections at a socket.
+    pub fn new<N: Net>(alloc: Global, net: &N, listener: net::TcpListener) -> io::Result<Self> {
+        listener.set_nonblocking(true)?;
+        let mut listener = TcpListener::from_std(listener);
+        let poll = Poll::new(net)?;
+        poll.registry()
+            .register(&mut listener, LISTENER, Interest::READABLE)?;
+        Ok(Wakes {
+            poll,
+            listener,
+            queue: Queue::Empty,
+            events: Events::with_capacity(alloc, MOST_EVENTS)?,
+            next: 0,
+            has_moved: false,
+        })
+    }
+
+    /// Bytes went over a link, so that one that is held may go on.
+    pub fn note_moved(&mut self) {
+        self.has_moved = true;
+    }
+
+    /// What is told next of what the last wait gave.
+    pub fn next(&mut self, links: &mut HashMap<u32, Accepted>, held: &[u32]) -> Option<Ready> {
+        for place in self.next..self.events.iter().len().saturating_mul(2) {
+            self.next = place.saturating_add(1);
+            let event = self.events.iter().nth(place / 2)?;
+            let ready = if place % 2 == 0 {
+                readable(event, links, held)
+            } else {
+                writable(event, links)
+            };
+            if ready.is_some() {
+                return ready;
+            }
+        }
+        None
+    }
+
+    /// A connection, where one waits and none was taken since the last wait. Without room it waits on.
+    pub fn accept(&mut self, has_room: bool) -> Option<TcpStream> {
+        if self.queue != Queue::Waiting {
+            return None;
+        }
+        if !has_room {
+            self.queue = Queue::Stuck;
+            return None;
+        }
+        match self.listener.accept() {
+            Ok((stream, _)) => {
+                self.queue = Queue::Taken;
+                Some(stream)
+            }
+            Err(e) if e.kind() == ErrorKind::WouldBlock => {
+                self.queue = Queue::Empty;
+                None
+            }
+            Err(_) => {
+                self.queue = Queue::Stuck;
+                None
+            }
+        }
+    }
+
+    /// The address of the listening socket.
+    pub fn local_addr(&self) -> io::Result<SocketAddr> {
+        self.listener.local_addr()
+    }
+
+    /// Waits for a link too, under its number.
+    pub fn add(&self, stream: &mut TcpStream, link: u32) -> io::Result<()> {
+        let both = Interest::READABLE | Interest::WRITABLE;
+        self.poll
+            .registry()
+            .register(stream, Token(link as usize), both)
+    }
+
+    /// Waits until there is something to tell, or a while: less where links are held.
+    pub fn wait(&mut self, holds: bool) -> io::Result<()> {
+        let most = Duration::from_millis(self.most(holds));
+        self.has_moved = false;
+        self.next = 0;
+        self.poll.poll(&mut self.events, Some(most))?;
+        if self.queue != Queue::Empty || self.events.iter().any(|e| e.token() == LISTENER) {
+            self.queue = Queue::Waiting;
+        }
+        Ok(())
+    }
+
+    /// How many milliseconds the next wait takes at most.
+    fn most(&self, holds: bool) -> u64 {
+        match self.queue {
+            Queue::Taken => 0,
+            _ if holds && self.has_moved => 0,
+            _ if holds => SHORT,
+            _ => LONGEST,
+        }
+    }
+}
+
+/// The link of an event. None where it is the listening socket's.
+fn link_of(event: &Event) -> Option<u32> {
+    u32::try_from(event.token().0).ok()
+}
+
+/// Tells that an open link may have bytes, or that a read of it would fail. One that is held is tried in any case.
+fn readable(event: &Event, links: &HashMap<u32, Accepted>, held: &[u32]) -> Option<Ready> {
+    let link = link_of(event)?;
+    let told = event.is_readable() || event.is_read_closed() || event.is_error();
+    let wants = links.get(&link)?.may_read() && !held.contains(&link);
+    (told && wants).then_some(Ready::Readable(link))
+}
+
+/// Tells that an open link that was full may take bytes, or that a write to it would fail.
+fn writable(event: &Event, links: &mut HashMap<u32, Accepted>) -> Option<Ready> {
+    let link = link_of(event)?;
+    if !(event.is_writable() || event.is_write_closed() || event.is_error()) {
+        return None;
+    }
+    links
+        .get_mut(&link)?
+        .was_full()
+        .then_some(Ready::Writable(link))
+}
