@@ -9,7 +9,7 @@ use crate::told::ToldTexts;
 use lsv_base::{Bytes, List};
 use lsv_hook::Formatter;
 use lsv_mask::{Prompt, TextSearch};
-use lsv_real::{FileDisk, FileTexts, StdSink, StdSource, WallClock};
+use lsv_real::{FileDisk, FileTexts, StdSink, StdSource, WallClock, open_standard};
 use lsv_serve::{Kept, Outside, Status, logsrvd};
 use std::alloc::Global;
 use std::env;
@@ -81,6 +81,8 @@ fn tell(rt: &HostRuntime, status: Status) {
 }
 
 fn main(rt: HostRuntime) -> ExitCode {
+    // Without /dev/null the standard descriptors stay as they are.
+    let _ = open_standard(&rt);
     let status = run(rt);
     tell(&rt, status);
     ExitCode::from(status.number())
