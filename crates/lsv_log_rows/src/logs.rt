@@ -16,6 +16,7 @@ use std::alloc::Global;
 #[derive(Drop)]
 pub struct Opened {
     entries: Vec<Entry>,
+    number: Option<LogNo>,
     log: Option<IoLog>,
     numbers: Option<Numbers>,
 }
@@ -63,6 +64,7 @@ impl Opened {
     pub fn new(alloc: Global) -> Self {
         Opened {
             entries: Vec::new(alloc),
+            number: None,
             log: None,
             numbers: None,
         }
@@ -86,16 +88,18 @@ impl Opened {
         let at = point_of(at)?;
         let entries = std::mem::replace(&mut self.entries, Vec::new(alloc));
         let log = IoLog::create(alloc, store, number, &head(at, entries))?;
+        self.number = Some(number);
         self.log = Some(log);
         Ok(())
     }
 
     /// Opens a log.
     pub fn open(&mut self, rt: &HostRuntime, store: &mut Store, words: &str) -> Result<()> {
-        let opened = IoLog::open(rt.alloc(), store, number_of(words)?);
-        match opened {
+        let number = number_of(words)?;
+        match IoLog::open(rt.alloc(), store, number) {
             Ok(log) => {
                 let point = log.elapsed();
+                self.number = Some(number);
                 self.log = Some(log);
                 answer(rt, Ok(point))
             }
@@ -129,12 +133,15 @@ impl Opened {
         answer(rt, flushed)
     }
 
-    /// Cuts the log at a point.
+    /// Opens the log anew, so that nothing is staged, and cuts it at a point. What the opening read isn't noted.
     pub fn cut(&mut self, rt: &HostRuntime, store: &mut Store, words: &str) -> Result<()> {
         let point = point_of(words)?;
-        let log = self.log()?;
+        let number = self.number.ok_or(anyhow!("an open log"))?;
+        let mut log = IoLog::open(rt.alloc(), store, number)?;
+        let _ = store.take_longest();
         let cut = log.cut_at(store, point);
         let elapsed = log.elapsed();
+        self.log = Some(log);
         answer(rt, cut.map(|_| elapsed))
     }
 
