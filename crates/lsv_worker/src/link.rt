@@ -436,9 +436,6 @@ impl Link {
     pub(crate) fn is_done(&self) -> bool
         ensures { result ≡ is_done self.now }
     {
-        !self.live
-            && self.shut
-            && self.incoming.stage.has_left()
-            && self.outgoing.has_kept_up()
+        !self.live && self.shut && self.incoming.stage.has_left() && self.outgoing.has_kept_up()
     }
 }
