@@ -1,6 +1,8 @@
 -- Steps of one connection.
 use Rattle.std.proofs.Common.{◌≡◌, ◌≢◌, ◌⊎◌, ℕ, zero, suc, ◌+◌, ◌<◌, ◌≤◌, Bool, true, false, List, [], ◌∷◌, ◌++◌, length, take, map, refl, sym, ap, subst, ◌∙◌, append_assoc, inl, inr, ⊎_elim, arith}
+use Rattle.std.specs.List.{All}
 use Rattle.std.proofs.lemmas.List.{append-nil, map-append}
+use Rattle.std.proofs.lemmas.List.Elements.{All-append, All-take}
 use Rattle.lsv_port.specs.Port.{Changes, LinkState, PortState, after_read, closed}
 use Rattle.lsv_port.specs.declared.port.Took.TheVariants as took
 use Rattle.std.specs.Prelude.{if◌then◌else◌}
@@ -36,6 +38,7 @@ stands_ext phase link s p q replies same h = record {
   marks = h.marks;
   inward = hears_ext link.incoming s.input p q h.marks same h.inward;
   outward = h.outward;
+  small = h.small;
   live = h.live;
   owed = h.owed;
   paid = h.paid;
@@ -88,6 +91,7 @@ link_puts phase old inc port p q puts = record {
     marks = h.marks;
     inward = puts.goes (port.link old.number).input past h.marks h.inward;
     outward = h.outward;
+    small = h.small;
     live = h.live;
     owed = h.owed;
     paid = h.paid;
@@ -109,6 +113,7 @@ link_ends phase old inc port jobs lets goes = link_quiet phase old (record old {
   marks = record h.marks { over = true };
   inward = goes (port.link old.number).input past h.marks h.inward;
   outward = h.outward;
+  small = h.small;
   live = h.live;
   owed = h.owed;
   paid = h.paid;
@@ -137,6 +142,7 @@ link_paused phase old new after s t p q is step =
             marks = k.marks;
             inward = k.inward;
             outward = k.outward;
+            small = k.small;
             live = k.live;
             owed = k.owed;
             paid = k.paid;
@@ -177,11 +183,12 @@ may_same phase s t ended failed lets h = ⊎_elim (λ e. inl (ended ∙ e)) (λ 
 -- bytes came on a link that hears
 pub stands_heard : (phase : Phase) (old : Link) (inc : Incoming) (s : LinkState) (count : ℕ) (buf : List ℕ) (past : ℕ → List Body) (replies : List Reply)
     → ((read : List ℕ) (put : ℕ → List Body) (marks : Marks) → Hears old.incoming read put marks → Hears inc (read ++ take count buf) put marks)
-    → LinkStands phase old s past replies → LinkStands phase (record old { incoming = inc }) (after_read (took.Bytes count) buf s) past replies
-stands_heard phase old inc s count buf past replies goes h = record {
+    → All (λ b. b < 256) buf → LinkStands phase old s past replies → LinkStands phase (record old { incoming = inc }) (after_read (took.Bytes count) buf s) past replies
+stands_heard phase old inc s count buf past replies goes small h = record {
   marks = h.marks;
   inward = goes s.input past h.marks h.inward;
   outward = h.outward;
+  small = All-append (λ b. b < 256) s.input (take count buf) h.small (All-take (λ b. b < 256) count buf small);
   live = h.live;
   owed = h.owed;
   paid = h.paid;
@@ -207,6 +214,7 @@ stands_unowed phase old s buf past replies h = record {
   marks = h.marks;
   inward = h.inward;
   outward = h.outward;
+  small = h.small;
   live = h.live;
   owed = refl;
   paid = λ e. refl;
@@ -227,6 +235,7 @@ stands_ended phase old inc s buf past replies goes h = record {
   marks = record h.marks { over = true };
   inward = goes s.input past h.marks h.inward;
   outward = h.outward;
+  small = h.small;
   live = h.live;
   owed = refl;
   paid = λ e. refl;
@@ -250,6 +259,7 @@ stands_failed phase old mid new s t past replies conn shut incoming speaks over 
       marks = record h.marks { over = true };
       inward = subst (λ (r : List ℕ). Hears new.incoming r past (record h.marks { over = true })) (sym input) (fails.incoming s.input past h.marks (subst (λ (i : Incoming). Hears i s.input past h.marks) (sym incoming) h.inward));
       outward = fails.outgoing t.output (answers new.conn replies) (subst (λ (k : ConnId). Speaks mid.outgoing t.output (answers k replies)) (sym c) (speaks (answers old.conn replies) h.outward));
+      small = subst (All (λ b. b < 256)) (sym input) h.small;
       live = shutdown ∙ sym fails.live;
       owed = owed ∙ sym fails.owed;
       paid = paid;
@@ -258,7 +268,7 @@ stands_failed phase old mid new s t past replies conn shut incoming speaks over 
       told = λ e. subst (λ (k : ConnId). HasEarlyShut k replies) (sym c) (h.told e);
       shut = λ e. subst (λ (k : ConnId). HasShut k replies) (sym c) (h.shut (sym (fails.shut ∙ shut) ∙ e));
       silent = λ e. failed;
-      over = λ e. inr fails.live;
+      over = λ e. inr (inl failed);
       closed = λ e. inl failed;
       sent = λ e full. fails.unsent;
     }
@@ -267,13 +277,14 @@ stands_failed phase old mid new s t past replies conn shut incoming speaks over 
 
 pub stands_wrote : (phase : Phase) (old : Link) (out : Outgoing) (live : Bool) (s t : LinkState) (past : ℕ → List Body) (replies : List Reply)
     → t.input ≡ s.input → t.ended ≡ s.ended → t.owed ≡ s.owed → t.failed ≡ s.failed → t.is_open ≡ live
-    → ((answers : List ℕ) → Speaks old.outgoing s.output answers → Speaks out t.output answers) → (out.voice ≡ voices.Failed → old.outgoing.voice ≡ voices.Failed) → (out.voice ≡ voices.Over → (old.outgoing.voice ≡ voices.Over) ⊎ (live ≡ false))
+    → ((answers : List ℕ) → Speaks old.outgoing s.output answers → Speaks out t.output answers) → (out.voice ≡ voices.Failed → old.outgoing.voice ≡ voices.Failed) → (out.voice ≡ voices.Over → (old.outgoing.voice ≡ voices.Over) ⊎ (phase ≡ Stopped))
     → (old.live ≡ false → live ≡ false) → (live ≡ false → (t.failed ≡ true) ⊎ ((old.shut ≡ true) ⊎ (phase ≡ Stopped))) → (live ≡ false → t.full ≡ false → out.unsent ≡ [])
     → LinkStands phase old s past replies → LinkStands phase (record old { outgoing = out; live = live }) t past replies
 stands_wrote phase old out live s t past replies input ended owed failed here speaks silent over still closed sent h = record {
   marks = h.marks;
   inward = subst (λ (r : List ℕ). Hears old.incoming r past h.marks) (sym input) h.inward;
   outward = speaks (answers old.conn replies) h.outward;
+  small = subst (All (λ b. b < 256)) (sym input) h.small;
   live = here;
   owed = owed ∙ h.owed;
   paid = λ e. owed ∙ h.paid (sym ended ∙ e);
@@ -282,7 +293,7 @@ stands_wrote phase old out live s t past replies input ended owed failed here sp
   told = h.told;
   shut = h.shut;
   silent = λ e. failed ∙ h.silent (silent e);
-  over = λ e. ⊎_elim (λ was. ⊎_elim (λ t. inl t) (λ l. inr (still l)) (h.over was)) (λ l. inr l) (over e);
+  over = λ e. ⊎_elim (λ was. ⊎_elim (λ t. inl t) (λ l. inr (⊎_elim (λ f. inl (failed ∙ f)) (λ p. inr p) l)) (h.over was)) (λ p. inr (inr p)) (over e);
   closed = closed;
   sent = sent;
 }
@@ -428,6 +439,7 @@ stands_said phase old inc out s past replies reply m conn body way speaks silent
   marks = h.marks;
   inward = way s.input past h.marks h.inward;
   outward = subst (Speaks out s.output) (sym (answers_said old.conn replies reply m conn body)) (speaks h.outward);
+  small = h.small;
   live = h.live;
   owed = h.owed;
   paid = h.paid;
@@ -436,7 +448,9 @@ stands_said phase old inc out s past replies reply m conn body way speaks silent
   told = λ e. early_more old.conn replies (reply ∷ []) (h.told e);
   shut = λ e. shut_more old.conn replies (reply ∷ []) (h.shut e);
   silent = λ e. h.silent (silent e);
-  over = λ e. ⊎_elim (λ was. ⊎_elim (λ t. inl (talks_more old.conn replies (reply ∷ []) t)) (λ l. inr l) (h.over was)) (λ why. ⊎_elim (λ shut. inl (talks_now old.conn replies reply conn (h.shut shut))) (λ l. inr l) why) (over e);
+  over = λ e. ⊎_elim (λ was. ⊎_elim (λ t. inl (talks_more old.conn replies (reply ∷ []) t)) (λ l. inr l) (h.over was))
+      (λ why. ⊎_elim (λ shut. inl (talks_now old.conn replies reply conn (h.shut shut)))
+      (λ l. ⊎_elim (λ f. inr (inl f)) (λ k. ⊎_elim (λ shut. inl (talks_now old.conn replies reply conn (h.shut shut))) (λ p. inr (inr p)) k) (h.closed l)) why) (over e);
   closed = h.closed;
   sent = λ e full. sent e;
 }
@@ -449,6 +463,7 @@ stands_shut phase old inc marks s past replies reply conn body way same_over shu
   marks = marks h.marks;
   inward = way s.input past h.marks h.inward;
   outward = subst (Speaks old.outgoing s.output) (sym (answers_shut old.conn replies reply conn body)) h.outward;
+  small = h.small;
   live = h.live;
   owed = h.owed;
   paid = h.paid;
@@ -469,6 +484,7 @@ stands_ignored phase old s past replies reply conn body h = record {
   marks = h.marks;
   inward = h.inward;
   outward = subst (Speaks old.outgoing s.output) (sym (answers_shut old.conn replies reply conn body)) h.outward;
+  small = h.small;
   live = h.live;
   owed = h.owed;
   paid = h.paid;
@@ -563,4 +579,4 @@ pub stopped_closed : (old : Link) (out : Outgoing) (s : PortState) (jobs : ℕ �
     → (out.voice ≡ voices.Failed → old.outgoing.voice ≡ voices.Failed) → out.unsent ≡ [] → LinkStep Stopped old (record old { outgoing = out }) s s jobs jobs
 stopped_closed old out s jobs dead speaks silent empty =
     link_quiet Stopped old (record old { outgoing = out }) s s jobs refl refl (alone_here old.number s)
-    (λ past replies h. stands_wrote Stopped old out old.live (s.link old.number) (s.link old.number) past replies refl refl refl refl h.live (λ a k. speaks (s.link old.number).output a k) silent (λ e. inr dead) (λ e. e) (λ e. inr (inr refl)) (λ e full. empty) h)
+    (λ past replies h. stands_wrote Stopped old out old.live (s.link old.number) (s.link old.number) past replies refl refl refl refl h.live (λ a k. speaks (s.link old.number).output a k) silent (λ e. inr refl) (λ e. e) (λ e. inr (inr refl)) (λ e full. empty) h)

@@ -67,6 +67,7 @@ phase_on p q link s past replies going h = record {
   marks = h.marks;
   inward = h.inward;
   outward = h.outward;
+  small = h.small;
   live = h.live;
   owed = h.owed;
   paid = h.paid;
@@ -75,7 +76,7 @@ phase_on p q link s past replies going h = record {
   told = h.told;
   shut = h.shut;
   silent = h.silent;
-  over = h.over;
+  over = λ e. ⊎_elim (λ t. inl t) (λ l. inr (⊎_elim (λ f. inl f) (λ no. let a : Going ≡ Stopped = sym going ∙ no in absurd cc) l)) (h.over e);
   closed = λ e. ⊎_elim (λ f. inl f) (λ k. inr (⊎_elim (λ u. inl u) (λ no. let a : Going ≡ Stopped = sym going ∙ no in absurd cc) k)) (h.closed e);
   sent = h.sent;
 }
@@ -86,6 +87,7 @@ phase_stopped p link s past replies h = record {
   marks = h.marks;
   inward = h.inward;
   outward = h.outward;
+  small = h.small;
   live = h.live;
   owed = h.owed;
   paid = h.paid;
@@ -94,7 +96,7 @@ phase_stopped p link s past replies h = record {
   told = h.told;
   shut = h.shut;
   silent = h.silent;
-  over = h.over;
+  over = λ e. ⊎_elim (λ t. inl t) (λ l. inr (inr refl)) (h.over e);
   closed = λ e. inr (inr refl);
   sent = h.sent;
 }
@@ -123,6 +125,7 @@ unfull phase link s past replies here h = record {
   marks = h.marks;
   inward = h.inward;
   outward = h.outward;
+  small = h.small;
   live = h.live;
   owed = h.owed;
   paid = h.paid;
@@ -210,6 +213,7 @@ owed_now phase link s past replies going here on h = record {
   marks = h.marks;
   inward = h.inward;
   outward = h.outward;
+  small = h.small;
   live = h.live;
   owed = refl;
   paid = λ e. let no : false ≡ true = sym on ∙ e in absurd cc;
@@ -300,6 +304,7 @@ fresh_fits s link beside put replies l fresh quiet unasked = record {
   marks = record { shut = false; over = false };
   inward = hears_ext link.incoming [] put (λ lane. []) (record { shut = false; over = false }) quiet fresh.incoming;
   outward = subst (Speaks link.outgoing []) (sym (unasked_answers link.conn replies unasked)) fresh.outgoing;
+  small = λ i d low. absurd (omega arith);
   live = sym fresh.live;
   owed = sym fresh.owed;
   paid = λ e. absurd cc;

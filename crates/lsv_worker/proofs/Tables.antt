@@ -14,7 +14,7 @@ use Rattle.lsv_session.specs.declared.job.Job.{Job}
 use Rattle.lsv_session.specs.declared.reply.Reply.{Reply}
 use Rattle.lsv_session.proofs.Replies.{bodies_of-append}
 use Rattle.lsv_worker.specs.Lanes.{job_of}
-use Rattle.lsv_worker.specs.Outgoing.{Alone}
+use Rattle.lsv_worker.specs.Outgoing.{Alone, kept_up}
 use Rattle.lsv_worker.specs.Links.{LinkStands, LinkStep, is_done}
 use Rattle.lsv_worker.specs.Worker.{AreCalmed, AreHeld, AreLast, AreOfLanes, IsApart, IsCalmed, IsIn, IsMade, IsUnasked, IsUntouched, Setting, Stands, Steps, conn_at, undone}
 use Rattle.lsv_worker.specs.Incoming.{has_left}
@@ -311,7 +311,7 @@ below_set P links i new here at under j d within =
 -- ---- links that are held
 
 live_undone : (l : Link) → l.live ≡ true → is_done l ≡ false
-live_undone l live = ap (λ (b : Bool). not b && (l.shut && has_left l.incoming.stage)) live
+live_undone l live = ap (λ (b : Bool). (not b && (l.shut && has_left l.incoming.stage)) && kept_up l.outgoing.voice) live
 
 calm_held : (last : ℕ → Link) (s : Setting) (k : ℕ) (links : List Link) (held : List ℕ) → AreLast last s links → AreCalmed links → AreHeld held links → IsIn k links → (last k).live ≡ true → (last k).owed ≡ true → Contains held (last k).number
 calm_held last s k [] held t calm h within live owed = absurd within

@@ -14,7 +14,7 @@ use Rattle.lsv_session.specs.declared.job.Job.{Job}
 use Rattle.lsv_session.specs.declared.reply.Reply.{Reply}
 use Rattle.lsv_session.proofs.Replies.{answers-append}
 use Rattle.lsv_worker.specs.Incoming.{has_left}
-use Rattle.lsv_worker.specs.Outgoing.{HasShut, IsShutOf, Speaks, TalksOn}
+use Rattle.lsv_worker.specs.Outgoing.{HasShut, IsShutOf, Speaks, TalksOn, kept_up}
 use Rattle.lsv_worker.specs.Links.{LinkStands, Takes, is_done}
 use Rattle.lsv_worker.specs.Worker.{AreLast, IsApart, IsIn, IsMade, IsUnasked, IsUntouched, Setting, Stands, conn_at}
 use Rattle.lsv_worker.specs.declared.link.Link.{Link}
@@ -35,6 +35,7 @@ other_reply s link port jobs replies reply differs h = record {
   marks = h.marks;
   inward = h.inward;
   outward = subst (Speaks link.outgoing (port.link link.number).output) (sym (other_answers link.conn replies reply differs)) h.outward;
+  small = h.small;
   live = h.live;
   owed = h.owed;
   paid = h.paid;
@@ -93,24 +94,29 @@ stands_took s links i old new before after jobs replies reply within is to takes
 
 -- ---- a connection that is done takes nothing any more
 
-done_live : (live shut left : Bool) → (not live && (shut && left)) ≡ true → (live ≡ false) × (shut ≡ true)
-done_live true shut left e = absurd cc
-done_live false true left e = (refl, refl)
-done_live false false left e = absurd cc
+done_live : (live shut left kept : Bool) → ((not live && (shut && left)) && kept) ≡ true → (live ≡ false) × (shut ≡ true)
+done_live true shut left kept e = absurd cc
+done_live false true left kept e = (refl, refl)
+done_live false false left kept e = absurd cc
 
 more_prefix : (output words more : List ℕ) → IsPrefix output words → IsPrefix output (words ++ more)
 more_prefix output words more h = (h.0 ++ more, ap (λ (l : List ℕ). l ++ more) h.1 ∙ append_assoc output h.0 more)
+
+still_done : (b kept : Bool) → (b && kept) ≡ true → (b && true) ≡ true
+still_done true kept e = refl
+still_done false kept e = absurd cc
 
 abbrev mute : Link → Link
 mute link = record link { outgoing = record link.outgoing { unsent = []; voice = voices.Over } }
 
 mute_fits : (s : Setting) (link : Link) (port : PortState) (jobs : ℕ → List Job) (replies : List Reply) (reply : Reply) → reply.conn ≡ link.conn → is_done link ≡ true → Fits s link port jobs replies → Fits s (mute link) port jobs (replies ++ reply ∷ [])
 mute_fits s link port jobs replies reply to done h =
-    let is = done_live link.live link.shut (has_left link.incoming.stage) done in
+    let is = done_live link.live link.shut (has_left link.incoming.stage) (kept_up link.outgoing.voice) done in
     record {
       marks = h.marks;
       inward = h.inward;
       outward = (refl, subst (IsPrefix (port.link link.number).output) (sym (answers-append link.conn replies (reply ∷ []))) (more_prefix (port.link link.number).output (answers link.conn replies) (frames_of (said_to link.conn (reply ∷ []))) (speaks_prefix link.outgoing (port.link link.number).output (answers link.conn replies) h.outward)));
+      small = h.small;
       live = h.live;
       owed = h.owed;
       paid = h.paid;
@@ -145,7 +151,7 @@ stands_dropped s links port jobs replies reply to made none h =
       last = with_link k0 (mute (h.last k0)) h.last;
       table = not_in_other k0 (mute (h.last k0)) h.last s links none h.table;
       complete = λ k m. with_each (λ l. is_done l ≡ false → IsIn k links) k0 k (mute (h.last k0)) h.last
-          (λ e undone. absurd (let no : true ≡ false = sym done ∙ undone in cc)) (λ ne undone. h.complete k m undone);
+          (λ e undone. absurd (let no : true ≡ false = sym (still_done (not (h.last k0).live && ((h.last k0).shut && has_left (h.last k0).incoming.stage)) (kept_up (h.last k0).outgoing.voice) done) ∙ undone in cc)) (λ ne undone. h.complete k m undone);
       conn = λ k m. conns k ∙ h.conn k m;
       each = λ k m. with_each (λ l. Fits s l port jobs (replies ++ reply ∷ [])) k0 k (mute (h.last k0)) h.last (λ e. own)
           (λ ne. other_reply s (h.last k) port jobs replies reply (not_same reply.conn (h.last k).conn (λ e. ne (sym (e ∙ ap (λ (c : ConnId). c.seq) (h.conn k m))))) (h.each k m));

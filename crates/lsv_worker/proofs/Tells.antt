@@ -12,7 +12,7 @@ use Rattle.lsv_session.specs.declared.reply.Reply.{Reply}
 use Rattle.lsv_worker.specs.Incoming.{AreBodies, Hears, IsWhole, Marks, has_left, hears, last_words, pending, ready, tail, was_shut}
 use Rattle.lsv_worker.specs.Lanes.{Routed, lane_on, share}
 use Rattle.lsv_worker.specs.Links.{LinkStands, MayEnd, is_done}
-use Rattle.lsv_worker.specs.Outgoing.{HasEarlyShut}
+use Rattle.lsv_worker.specs.Outgoing.{HasEarlyShut, kept_up}
 use Rattle.lsv_worker.specs.Tells.{Ends, IsCauseOf}
 use Rattle.lsv_worker.specs.Worker.{AreLast, HaveLeft, IsIn, IsMade, Setting, Stands, conn_at}
 use Rattle.lsv_worker.specs.declared.incoming.Stage.{Stage}
@@ -65,11 +65,11 @@ link_ends phase link s jobs replies shut left h =
       shut = h.shut shut;
     }
 
-done_left : (live shut left : Bool) → (not live && (shut && left)) ≡ true → (shut ≡ true) × (left ≡ true)
-done_left true shut left e = absurd cc
-done_left false true true e = (refl, refl)
-done_left false true false e = absurd cc
-done_left false false left e = absurd cc
+done_left : (live shut left kept : Bool) → ((not live && (shut && left)) && kept) ≡ true → (shut ≡ true) × (left ≡ true)
+done_left true shut left kept e = absurd cc
+done_left false true true kept e = (refl, refl)
+done_left false true false kept e = absurd cc
+done_left false false left kept e = absurd cc
 
 table_left : (last : ℕ → Link) (s : Setting) (k : ℕ) (links : List Link) → AreLast last s links → ((i : ℕ) (d : Link) → i < length links → ((get_or links i d).shut ≡ true) × (has_left (get_or links i d).incoming.stage ≡ true)) → IsIn k links → ((last k).shut ≡ true) × (has_left (last k).incoming.stage ≡ true)
 table_left last s k [] t h within = absurd within
@@ -84,5 +84,5 @@ done_or_not false = inr refl
 pub each_ends : (s : Setting) (links : List Link) (port : PortState) (jobs : ℕ → List Job) (replies : List Reply) → HaveLeft links → (h : Stands s links port jobs replies) → (k : ℕ) → IsMade s k → Ends s.phase (conn_at s k) (port.link (h.last k).number) jobs replies
 each_ends s links port jobs replies left h k made =
     let is : ((h.last k).shut ≡ true) × (has_left (h.last k).incoming.stage ≡ true) =
-    ⊎_elim (λ done. done_left (h.last k).live (h.last k).shut (has_left (h.last k).incoming.stage) done) (λ undone. table_left h.last s k links h.table left (h.complete k made undone)) (done_or_not (is_done (h.last k))) in
+    ⊎_elim (λ done. done_left (h.last k).live (h.last k).shut (has_left (h.last k).incoming.stage) (kept_up (h.last k).outgoing.voice) done) (λ undone. table_left h.last s k links h.table left (h.complete k made undone)) (done_or_not (is_done (h.last k))) in
     subst (λ (c : ConnId). Ends s.phase c (port.link (h.last k).number) jobs replies) (h.conn k made) (link_ends s.phase (h.last k) (port.link (h.last k).number) jobs replies is.0 is.1 (h.each k made))

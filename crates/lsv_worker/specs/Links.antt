@@ -1,5 +1,6 @@
 -- What one connection stands for: its link of the port, its jobs, its replies.
-use Rattle.std.specs.Prelude.{◌≡◌, ◌≢◌, ◌⊎◌, ℕ, zero, suc, ◌≤◌, ◌&&◌, not, Bool, true, false, List, [], ◌∷◌, ◌++◌, length, map}
+use Rattle.std.specs.Prelude.{◌≡◌, ◌≢◌, ◌⊎◌, ℕ, zero, suc, ◌<◌, ◌≤◌, ◌&&◌, not, Bool, true, false, List, [], ◌∷◌, ◌++◌, length, map}
+use Rattle.std.specs.List.{All}
 use Rattle.lsv_words.specs.Causes.{HasRisen}
 use Rattle.lsv_port.specs.Ledger.{PortLedger}
 use Rattle.lsv_port.specs.Port.{IsOwed, LinkState, PortState}
@@ -10,7 +11,7 @@ use Rattle.lsv_session.specs.declared.job.Job.{Job}
 use Rattle.lsv_session.specs.declared.reply.Reply.{Reply}
 use Rattle.lsv_worker.specs.Lanes.{job_of}
 use Rattle.lsv_worker.specs.Incoming.{Hears, Marks, SameWay, WasFull, has_left}
-use Rattle.lsv_worker.specs.Outgoing.{Alone, HasEarlyShut, HasShut, Speaks, TalksOn}
+use Rattle.lsv_worker.specs.Outgoing.{Alone, HasEarlyShut, HasShut, Speaks, TalksOn, kept_up}
 use Rattle.lsv_worker.specs.declared.outgoing.Voice.TheVariants as voices
 use Rattle.lsv_worker.specs.declared.link.Link.{Link}
 use Rattle.lsv_worker.specs.declared.link.Pause.{Pause}
@@ -35,6 +36,7 @@ pub record LinkStands (phase : Phase) (link : Link) (s : LinkState) (put : ℕ �
   pub marks : Marks
   pub inward : Hears link.incoming s.input put marks
   pub outward : Speaks link.outgoing s.output (answers link.conn replies)
+  pub small : All (λ b. b < 256) s.input
   pub live : s.is_open ≡ link.live
   pub owed : s.owed ≡ link.owed
   pub paid : s.ended ≡ true → s.owed ≡ false
@@ -43,7 +45,7 @@ pub record LinkStands (phase : Phase) (link : Link) (s : LinkState) (put : ℕ �
   pub told : marks.shut ≡ true → HasEarlyShut link.conn replies
   pub shut : link.shut ≡ true → HasShut link.conn replies
   pub silent : link.outgoing.voice ≡ voices.Failed → s.failed ≡ true
-  pub over : link.outgoing.voice ≡ voices.Over → TalksOn link.conn replies ⊎ (link.live ≡ false)
+  pub over : link.outgoing.voice ≡ voices.Over → TalksOn link.conn replies ⊎ ((s.failed ≡ true) ⊎ (phase ≡ Stopped))
   pub closed : link.live ≡ false → (s.failed ≡ true) ⊎ ((link.shut ≡ true) ⊎ (phase ≡ Stopped))
   pub sent : link.live ≡ false → s.full ≡ false → link.outgoing.unsent ≡ []
 
@@ -79,9 +81,10 @@ pub record WasReadAtMost (most : ℕ) (old new : LinkState) : Type 0 where
   pub few : times ≤ most
   pub were : WasRead times old new
 
--- nothing more comes of a connection: its link is closed, its Gone was put, and its Shut was taken
+-- nothing more comes of a connection: its link is closed, its Gone was put, its Shut was taken, and no reply to it was lost
+-- since memory was wanting
 abbrev pub is_done : Link → Bool
-is_done link = not link.live && (link.shut && has_left link.incoming.stage)
+is_done link = (not link.live && (link.shut && has_left link.incoming.stage)) && kept_up link.outgoing.voice
 
 -- nothing changed but on the way in
 pub record SameSides (old new : Link) : Type 0 where

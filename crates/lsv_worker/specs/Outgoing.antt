@@ -21,6 +21,13 @@ PutOf Over unsent output answers = (unsent ≡ []) × IsPrefix output answers
 abbrev pub Speaks : Outgoing → List ℕ → List ℕ → Type 0
 Speaks link output answers = PutOf link.voice link.unsent output answers
 
+-- no reply was lost since memory was wanting
+abbrev pub kept_up : Voice → Bool
+kept_up Speaking = true
+kept_up Failed = true
+kept_up Starved = false
+kept_up Over = true
+
 -- a reply that shuts this connection
 pub record IsShutOf (c : ConnId) (reply : Reply) : Type 0 where
   pub conn : same reply.conn c ≡ true

@@ -1,6 +1,7 @@
 //! One connection: a link of the port, in both directions.
 
 ghost use Rattle.std.specs.Prelude.{◌≡◌, ◌≢◌, ◌⊎◌, ℕ, ◌+◌, ◌<◌, ◌≤◌, List, [], ◌∷◌, ◌++◌, length, IsTrue, true, false};
+ghost use Rattle.std.specs.List.{All};
 ghost use Rattle.lsv_words.specs.Causes.{HasRisen};
 ghost use Rattle.lsv_port.specs.Ledger.{Continues, HasLinkCause};
 ghost use Rattle.lsv_port.specs.Port.{Changes, IsOpen, LinkState, PortState, closed};
@@ -39,6 +40,11 @@ pub enum Pause {
     Tired,
     Starved,
 }
+
+/// Bytes are below 256. It does nothing when it runs.
+fn are_bytes(bytes: &[u8])
+    ensures { All (λ b. b < 256) bytes.now }
+{}
 
 /// A connection: its link of the port, and its two ways.
 #[derive(Debug, Drop)]
@@ -109,6 +115,7 @@ impl Link {
         match port.read(self.number, buffer) {
             Took::Bytes(count) => {
                 if self.incoming.stage.is_hearing() {
+                    are_bytes(buffer);
                     self.incoming.hear(&buffer[..count]);
                     return;
                 }
@@ -425,10 +432,10 @@ impl Link {
         self.live = false;
     }
 
-    /// Whether nothing more comes of it.
+    /// Whether nothing more comes of it. A connection that lost a reply for want of memory is kept.
     pub(crate) fn is_done(&self) -> bool
         ensures { result ≡ is_done self.now }
     {
-        !self.live && self.shut && self.incoming.stage.has_left()
+        !self.live && self.shut && self.incoming.stage.has_left() && self.outgoing.has_kept_up()
     }
 }

@@ -1,9 +1,9 @@
 //! An inbox in memory, of one lane.
 
-ghost use Rattle.std.specs.Prelude.{◌≡◌, ℕ, ◌<◌, ◌≤◌, ◌==◌, List, [], ◌∷◌, ◌++◌, length, IfOk, refl};
+ghost use Rattle.std.specs.Prelude.{◌≡◌, ℕ, ◌<◌, ◌≤◌, ◌==◌, List, [], ◌∷◌, ◌++◌, length, IfOk, false, refl};
 ghost use Rattle.lsv_words.specs.Causes.{HasRisen};
 ghost use Rattle.lsv_session.specs.declared.job.Job.{Job};
-ghost use Rattle.lsv_worker.specs.Memory.{count_in, jobs_in, waiting};
+ghost use Rattle.lsv_worker.specs.Memory.{KeepsOrder, count_in, jobs_in, order_here, order_through, waiting};
 
 use crate::Inbox;
 use crate::size::job_size;
@@ -18,10 +18,11 @@ const MOST_JOBS: usize = 256;
 /// The most bytes of decoded messages that wait, above the first job.
 const MOST_BYTES: u64 = 67_108_864;
 
-/// An inbox in memory, of one lane. It is full where 256 jobs wait, or where those behind the first would hold more than
+/// An inbox in memory, of one lane and of one worker: a job of another is refused. It is full where 256 jobs wait, or where those behind the first would hold more than
 /// 64 MiB, as `job_size` has it.
 #[derive(Debug, Drop)]
 pub struct MemInbox {
+    pub(crate) worker: u32,
     pub(crate) jobs: Vec<Job>,
     pub(crate) bytes: u64,
     pub(crate) refused: u64,
@@ -29,10 +30,12 @@ pub struct MemInbox {
 
 impl MemInbox {
     /// No job waits.
-    pub fn new(alloc: Global) -> Result<Self, NoMem>
-        ensures { IfOk result (λ inbox. waiting inbox ≡ []) }
+    pub fn new(alloc: Global, worker: u32) -> Result<Self, NoMem>
+        ensures empty { IfOk result (λ inbox. waiting inbox ≡ []) }
+        ensures worker { IfOk result (λ inbox. inbox.worker ≡ worker) }
     {
         Ok(MemInbox {
+            worker,
             jobs: Vec::with_capacity(alloc, MOST_JOBS)?,
             bytes: 0,
             refused: 0,
@@ -51,13 +54,16 @@ impl MemInbox {
         ensures taken { jobs.new.items ≡ waiting self.old }
         ensures empty { waiting self.new ≡ [] }
         ensures refused { self.new.refused ≡ self.old.refused }
+        ensures worker { self.new.worker ≡ self.old.worker }
     {
         mem::swap(&mut self.jobs, jobs);
         self.bytes = 0;
     }
 
     /// Whether a job of this size has no room.
-    fn is_full(&self, size: u64) -> bool {
+    fn is_full(&self, size: u64) -> bool
+        ensures { result ≡ false → length (waiting self.now) < 256 }
+    {
         if self.jobs.len() >= MOST_JOBS {
             return true;
         }
@@ -67,6 +73,7 @@ impl MemInbox {
     /// A put was refused.
     fn refuse(&mut self)
         ensures jobs { waiting self.new ≡ waiting self.old }
+        ensures worker { self.new.worker ≡ self.old.worker }
         ensures counts { self.old.refused ≤ self.new.refused }
         ensures cause { HasRisen self.old.refused self.new.refused }
     {
@@ -83,10 +90,14 @@ impl Inbox for MemInbox {
 
     ghost refused = { λ inbox lane. count_in lane inbox.refused };
 
-    ghost is_same = { λ i j. Unit {0} };
+    ghost is_same = { λ i j. KeepsOrder i j };
 
-    #[tactic(auto, using(crate::proofs::Memories::lane_put, crate::proofs::Memories::lane_others, crate::proofs::Memories::lane_same, crate::proofs::Memories::lane_counts, crate::proofs::Memories::lane_risen))]
+    #[tactic(auto, using(crate::proofs::Memories::lane_put, crate::proofs::Memories::lane_others, crate::proofs::Memories::lane_same, crate::proofs::Memories::lane_counts, crate::proofs::Memories::lane_risen, crate::proofs::Memories::order_same, crate::proofs::Memories::order_put))]
     fn put(&mut self, _lane: u32, job: Job) -> Result<(), (Job, Full)> {
+        if job.conn.worker != self.worker {
+            self.refuse();
+            return Err((job, Full));
+        }
         let size = job_size(&job);
         if self.is_full(size) {
             self.refuse();
@@ -107,9 +118,9 @@ impl Inbox for MemInbox {
         }
     }
 
-    ghost same_here = { λ i. tt };
+    ghost same_here = { order_here };
 
-    ghost same_through = { λ i j k a b. tt };
+    ghost same_through = { order_through };
 
     ghost same_lanes = { λ i j a. refl };
 }

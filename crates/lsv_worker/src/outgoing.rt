@@ -5,7 +5,7 @@ ghost use Rattle.lsv_port.specs.Ledger.{Continues, HasLinkCause};
 ghost use Rattle.lsv_port.specs.Port.{IsOpen};
 ghost use Rattle.lsv_msg.specs.Messages.{server_bytes};
 ghost use Rattle.lsv_wire.specs.Frame.{frame_of};
-ghost use Rattle.lsv_worker.specs.Outgoing.{Speaks, Writes};
+ghost use Rattle.lsv_worker.specs.Outgoing.{Speaks, Writes, kept_up};
 
 use lsv_base::Bytes;
 use lsv_msg::{ServerMessage, put_server};
@@ -45,6 +45,18 @@ impl Outgoing {
             alloc,
             unsent: Bytes::new(alloc),
             voice: Voice::Speaking,
+        }
+    }
+
+    /// Whether no reply was lost since memory was wanting.
+    pub(crate) fn has_kept_up(&self) -> bool
+        ensures { result ≡ kept_up self.now.voice }
+    {
+        match self.voice {
+            Voice::Speaking => true,
+            Voice::Failed => true,
+            Voice::Starved => false,
+            Voice::Over => true,
         }
     }
 

@@ -312,6 +312,13 @@ impl Worker {
         take_in_table(&mut self.links, place, &reply, port);
     }
 
+    /// Whether no connection is kept: each that it made has left, was shut and is closed, and lost no reply for want of memory.
+    pub fn is_empty(&self) -> bool
+        ensures { result ≡ true → self.now.links.items ≡ [] }
+    {
+        self.links.is_empty()
+    }
+
     /// Whether nothing more is to come: Stop or a fault of the port's turn came, each connection has left, and each was shut;
     /// or it was stopped.
     pub fn ended(&self) -> bool

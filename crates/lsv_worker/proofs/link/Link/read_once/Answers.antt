@@ -11,7 +11,7 @@ pub returns-then-is_hearing-clause-step : goal.returns-then-is_hearing-clause-st
 returns-then-is_hearing-clause-step g c = λ told phase jobs reads.
     let s = (g.P.Port.state c.args.port.now).link c.args.self.now.number in
     link_change phase c.args.self.now (record c.args.self.now { incoming = c.hear.new.self }) (after_read (took.Bytes c.in-Bytes.count) c.read.new.buf s) (g.P.Port.state c.args.port.now) (g.P.Port.state c.read.new.self) jobs refl refl (c.in-Bytes.ensures.change told)
-    (λ past replies h. stands_heard phase c.args.self.now c.hear.new.self s c.in-Bytes.count c.read.new.buf past replies c.hear.ensures.goes h)
+    (λ past replies h. stands_heard phase c.args.self.now c.hear.new.self s c.in-Bytes.count c.read.new.buf past replies c.hear.ensures.goes c.are_bytes.ensures h)
 
 pub returns-in-Bytes-clause-step : goal.returns-in-Bytes-clause-step
 returns-in-Bytes-clause-step g c = λ told phase jobs reads.
