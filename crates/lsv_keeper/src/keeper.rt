@@ -1,6 +1,7 @@
 ghost use Rattle.std.specs.Prelude.{◌≡◌};
 ghost use Rattle.lsv_keeper.specs.Views.{view_of};
 ghost use Rattle.lsv_keeper.specs.Value.{sessions_of};
+ghost use Rattle.lsv_seq.specs.Value.{last_of};
 
 use crate::logs::OpenLogs;
 use lsv_base::{Bytes, List, LogNo};
@@ -36,5 +37,12 @@ impl<F: LineWriter, H: Search> Keeper<F, H> {
         ensures { result ≡ (sessions_of (view_of self.now)).owner number }
     {
         self.table.owner(number)
+    }
+
+    /// The last log number that was drawn, 0 where none was.
+    pub fn last_number(&self) -> u32
+        ensures { result ≡ last_of (view_of self.now).numbers }
+    {
+        self.numbers.last()
     }
 }

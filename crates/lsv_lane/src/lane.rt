@@ -4,6 +4,7 @@ ghost use Rattle.std.specs.Prelude.{◌≡◌, ◌<◌, ◌≤◌, ◌++◌, [],
 ghost use Rattle.lsv_disk.specs.declared.file.Owner.{Owner};
 ghost use Rattle.lsv_keeper.specs.Opening.{IsStoreFault};
 ghost use Rattle.lsv_keeper.specs.Views.{view_of};
+ghost use Rattle.lsv_seq.specs.Value.{last_of};
 ghost use Rattle.lsv_turns.specs.Turns.{LaneTurn, all_taped};
 ghost use Rattle.lsv_lane.specs.InnerLane.{Begun, IsMade};
 ghost use Rattle.lsv_lane.specs.Store.{AreTimed, IsFresh, KeepsStore, OwnerFailed, lane_settings};
@@ -93,6 +94,13 @@ impl<D: Disk, C: Clock, G: Tape, F: LineWriter + Drop, H: Search + Drop> StoreLa
             Ok(keeper) => Ok(StoreLane { keeper, bay }),
             Err(fault) => Err(Unopened { bay, fault }),
         }
+    }
+
+    /// The last log number that was drawn, 0 where none was.
+    pub fn last_number(&self) -> u32
+        ensures { result ≡ last_of (view_of self.now.keeper).numbers }
+    {
+        self.keeper.last_number()
     }
 
     /// Gives back what the lane worked with, behind its turns.

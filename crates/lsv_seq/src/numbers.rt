@@ -128,6 +128,13 @@ impl Numbers {
         })
     }
 
+    /// The last number that was drawn, 0 where none was. One that a failed draw was writing isn't counted.
+    pub fn last(&self) -> u32
+        ensures { result ≡ last_of self.now }
+    {
+        self.kept.last
+    }
+
     /// The number after the last one, synced before the answer: no crash leaves it undrawn, and none is drawn twice.
     /// `Spent`, with the last number, exactly where the next one would have more than six digits. `Disk` only where a
     /// device call on a file of the numbers failed; the next draw opens them again, and may pass a number over. `Changed`
