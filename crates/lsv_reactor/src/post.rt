@@ -1,11 +1,22 @@
-ghost use Rattle.std.specs.Prelude.{◌≡◌, ◌≤◌, ◌∷◌, [], ◌++◌, ℕ, List, true, length};
+ghost use Rattle.std.specs.Prelude.{◌≡◌, ◌≤◌, ◌∷◌, [], ◌++◌, ℕ, List, Some, true, length};
 ghost use Rattle.lsv_session.specs.declared.job.Job.{Job};
 ghost use Rattle.lsv_session.specs.declared.reply.Reply.{Reply};
-ghost use Rattle.lsv_reactor.specs.Links.{ServesPort};
+ghost use Rattle.lsv_reactor.specs.Links.{PortFailed, ServesPort};
 ghost use Rattle.lsv_reactor.specs.Turns.{AreOf, most_jobs};
 ghost use Rattle.lsv_turns.specs.Turns.{AreAsked};
 
 use lsv_session::{Job, Reply};
+
+/// How a post came to its end.
+#[derive(Clone, Copy, Debug, PartialEq, Eq)]
+pub enum PostEnd {
+    /// Its port told Stop, and all its connections have gone and were shut.
+    Stopped,
+    /// The same, but that its port couldn't listen, or a turn of it failed.
+    Failed,
+    /// It was stopped, or lost a reply for want of memory: what became of its links isn't told.
+    Lost,
+}
 
 /// What serves the links of one port: it turns what comes on them into jobs, and replies into what is put on them.
 pub trait Post {
@@ -30,6 +41,13 @@ pub trait Post {
 
     /// From this start on, these are the jobs that it gave, and the replies that it took.
     ghost made_by: { Start → Self → List Job → List Reply → Type 0 };
+
+    /// Begins to take links at this address, a host and a port number. With a number in `stop_after` its port tells Stop once
+    /// so many links were opened and closed. Where the port can't listen, that is a failure of it, which `wait` acts on.
+    fn open(&mut self, address: &str, stop_after: Option<u32>)
+        requires begun { (start : Start) × (gave : List Job) × (took : List Reply) × made_by start self.old gave took }
+        ensures made { (start : Start) (gave : List Job) (took : List Reply) → made_by start self.old gave took → made_by start self.new gave took }
+        ensures number { number self.new ≡ number self.old };
 
     /// Waits until its port tells something, or a while, and does what that asks for.
     fn wait(&mut self, jobs: &mut Vec<Job>)
@@ -56,11 +74,15 @@ pub trait Post {
         ensures made { (start : Start) (gave : List Job) (took : List Reply) → made_by start self.old gave took → made_by start self.new gave (took ++ reply ∷ []) }
         ensures number { number self.new ≡ number self.old };
 
-    /// Whether nothing more is to come: its port told Stop, or failed, and all its connections have gone and were shut.
-    fn is_over(&self) -> bool
-        ensures { tells → result ≡ true → (start : Start) (gave : List Job) (took : List Reply) → made_by start self.now gave took →
-            ServesPort (AreAsked gave took) (number self.now) gave took (begun start) (view self.now) };
+    /// Whether it came to its end, and how: nothing more is to come of it then.
+    fn end(&self) -> Option<PostEnd>
+        ensures stopped { tells → result ≡ Some PostEnd.Stopped → (start : Start) (gave : List Job) (took : List Reply) → made_by start self.now gave took →
+            ServesPort (AreAsked gave took) (number self.now) gave took (begun start) (view self.now) × ((view self.now).state.stopped ≡ true) }
+        ensures failed { tells → result ≡ Some PostEnd.Failed → (start : Start) (gave : List Job) (took : List Reply) → made_by start self.now gave took →
+            ServesPort (AreAsked gave took) (number self.now) gave took (begun start) (view self.now) }
+        ensures cause { result ≡ Some PostEnd.Failed → (start : Start) (gave : List Job) (took : List Reply) → made_by start self.now gave took → PortFailed (begun start) (view self.now) };
 
     /// Closes all its links. No job comes of it any more.
-    fn stop(&mut self);
+    fn stop(&mut self)
+        requires begun { (start : Start) × (gave : List Job) × (took : List Reply) × made_by start self.old gave took };
 }
