@@ -1,6 +1,5 @@
 -- What a connection brought, told without why it ended.
 use Rattle.std.proofs.Common.{◌≡◌, ◌≢◌, ℕ, zero, suc, ◌+◌, ◌<◌, ◌≤◌, ◌||◌, Bool, true, false, List, [], ◌∷◌, ◌++◌, length, refl, sym, ap, subst, ◌∙◌, append_assoc, inl, inr, ⊎_elim, arith}
-use Rattle.std.specs.Prelude.{◌×◌}
 use Rattle.std.specs.List.{All}
 use Rattle.std.proofs.lemmas.List.{append-nil, length-append}
 use Rattle.lsv_wire.specs.Frame.{IsPartial}
@@ -160,14 +159,14 @@ brings why read shut bodies some h was =
       jobs = of.jobs;
       of_input = of.of_input;
       first = of.first;
-      whole = λ open none. of.whole (unshut why shut was open) none;
+      whole = λ unshut none. of.whole (not_shut why shut was unshut) none;
     }
   where
-    unshut : (why : Why) (shut : Bool) → (is_shut why ≡ true → shut ≡ true) → shut ≡ false → is_shut why ≡ false
-    unshut Ended shut was open = refl
-    unshut Refused shut was open = refl
-    unshut Shut shut was open = absurd (let yes = was refl in cc)
-    unshut Starved shut was open = refl
+    not_shut : (why : Why) (shut : Bool) → (is_shut why ≡ true → shut ≡ true) → shut ≡ false → is_shut why ≡ false
+    not_shut Ended shut was e = refl
+    not_shut Refused shut was e = refl
+    not_shut Shut shut was e = absurd (let yes = was refl in cc)
+    not_shut Starved shut was e = refl
 
 -- and its end is the last of it
 pub ends_whole : (why : Why) (read : List ℕ) (bodies : List Body) → (jobs : List Body) × AreJobs read jobs → IsWhole why read bodies → EndsWithGone bodies

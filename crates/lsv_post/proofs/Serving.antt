@@ -1,6 +1,6 @@
 -- What a post that ended did with the links of its port.
 use Rattle.std.proofs.Common.{◌≡◌, ◌≢◌, ◌⊎◌, ℕ, zero, suc, ◌+◌, ◌<◌, ◌≤◌, ◌==◌, ◌&&◌, if◌then◌else◌, Bool, true, false, Option, Some, None, List, [], ◌∷◌, ◌++◌, length, refl, sym, ap, subst, ◌∙◌, inl, inr, ⊎_elim, arith}
-use Rattle.std.specs.Prelude.{◌×◌, not, slice_index_or}
+use Rattle.std.specs.Prelude.{not, slice_index_or}
 use Rattle.std.specs.List.{All, Contains}
 use Rattle.std.proofs.lemmas.Bool.{cases_lt}
 use Rattle.std.proofs.lemmas.Bool.Decides.{nat_tests}
@@ -38,12 +38,12 @@ use Rattle.lsv_post.proofs.Seats.{SeatOf, SeatOf.taken, SeatOf.free, seat_below,
 -- ---- Bits
 
 true_or : (b : Bool) → (b ≡ false → ⊥) → b ≡ true
-true_or true no = refl
-true_or false no = absurd (no refl)
+true_or true not_so = refl
+true_or false not_so = absurd (not_so refl)
 
 false_or : (b : Bool) → (b ≡ true → ⊥) → b ≡ false
-false_or true no = absurd (no refl)
-false_or false no = refl
+false_or true not_so = absurd (not_so refl)
+false_or false not_so = refl
 
 done_says : (live shut left kept : Bool) → ((not live && (shut && left)) && kept) ≡ true → (live ≡ false) × (kept ≡ true)
 done_says true shut left kept e = absurd (cc)
@@ -197,10 +197,10 @@ module _ (always : (bytes : List ℕ) → All (λ b. b < 256) bytes → (jobs : 
   serves_link : (k : ℕ) → IsMade set k → ServesLink (AreAsked jobs replies) (conn_of set.number k) (h.stands.last k).number jobs replies start now
   serves_link k m = record { brings = brought k m; cause = caused k m; paid = paid k m; puts = put k m }
 
-  serves_at : (l : ℕ) (o : Option ℕ) → SeatOf (λ k. (h.stands.last k).number) l set.next o → Contains now.state.opened l → IsServed (AreAsked jobs replies) set.number l o jobs replies start now
-  serves_at l (Some k) (taken k first below is) has =
+  serves_at : (l : ℕ) {o : Option ℕ} → SeatOf (λ k. (h.stands.last k).number) l set.next o → Contains now.state.opened l → IsServed (AreAsked jobs replies) set.number l o jobs replies start now
+  serves_at l (taken k first below is) has =
       subst (λ (n : ℕ). ServesLink (AreAsked jobs replies) (conn_of set.number k) n jobs replies start now) is (serves_link k (record { first = first; below = below }))
-  serves_at l None (free none) has = let u = h.stands.away l has (λ k m. none k m.first m.below) in record { unread = u.input; unwritten = u.output }
+  serves_at l (free none) has = let u = h.stands.away l has (λ k m. none k m.first m.below) in record { unread = u.input; unwritten = u.output }
 
   closed : (l : ℕ) → (now.state.link l).is_open ≡ false
   closed l =
@@ -236,7 +236,7 @@ module _ (always : (bytes : List ℕ) → All (λ b. b < 256) bytes → (jobs : 
       apart = λ l m k e f. seats_apart (λ j. (h.stands.last j).number) set.next l m k e f;
     };
     closed = closed;
-    served = λ l has. serves_at l (seat_below (λ k. (h.stands.last k).number) l set.next) (seat_of (λ k. (h.stands.last k).number) l set.next) has;
+    served = λ l has. serves_at l (seat_of (λ k. (h.stands.last k).number) l set.next) has;
     known = known;
     over = over;
   }

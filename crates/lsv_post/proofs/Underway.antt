@@ -1,6 +1,5 @@
 -- What calls of a post do to what it stands for.
 use Rattle.std.proofs.Common.{◌≡◌, ◌≢◌, ◌⊎◌, ℕ, zero, suc, ◌<◌, ◌≤◌, ◌-◌, ◌^◌, Bool, true, false, List, [], ◌∷◌, ◌++◌, length, refl, sym, ap, subst, ◌∙◌, append_assoc, inl, inr, ⊎_elim, arith}
-use Rattle.std.specs.Prelude.{◌×◌}
 use Rattle.std.proofs.Math.Path.{fun_ext}
 use Rattle.std.proofs.lemmas.Bool.{cases_eq}
 use Rattle.std.proofs.lemmas.List.{append-nil}
@@ -89,7 +88,7 @@ pub one_then : (a b : Worker) (i j : MemInbox) → AreOne a i → IsFit b → Is
 one_then a b i j one fit same keeps = record {
   fit = fit;
   lanes = same.lanes ∙ one.lanes;
-  worker = keeps.worker ∙ one.worker ∙ sym same.number;
+  number = keeps.worker ∙ one.number ∙ sym same.number;
   orderly = keeps.orderly one.orderly;
 }
 
@@ -97,7 +96,7 @@ pub one_emptied : (a : Worker) (i j : MemInbox) → AreOne a i → waiting j ≡
 one_emptied a i j one none same = record {
   fit = one.fit;
   lanes = one.lanes;
-  worker = same ∙ one.worker;
+  number = same ∙ one.number;
   orderly = record { own = rw none tt; few = rw none (omega arith) };
 }
 

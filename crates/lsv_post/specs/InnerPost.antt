@@ -1,5 +1,5 @@
 -- For proofs of a post: what it stands for between two calls, and within one.
-use Rattle.std.specs.Prelude.{◌≡◌, ◌⊎◌, ◌×◌, ◌++◌, ℕ, Bool, true, false, Option, Some, None, List, []}
+use Rattle.std.specs.Prelude.{◌≡◌, ◌⊎◌, ◌++◌, ℕ, Bool, true, false, Option, Some, None, List, []}
 use Rattle.lsv_port.specs.Ledger.{Continues, PortLedger}
 use Rattle.lsv_port.specs.Port.{PortState}
 use Rattle.lsv_port.specs.declared.port.Ready.{Ready}
@@ -53,7 +53,7 @@ IsOn Failed phase failed = ((phase ≡ phases.Failed) ⊎ (phase ≡ phases.Stop
 pub record AreOne (worker : Worker) (inbox : MemInbox) : Type 0 where
   pub fit : IsFit worker
   pub lanes : (setting worker).lanes ≡ 1
-  pub worker : inbox.worker ≡ (setting worker).number
+  pub number : inbox.worker ≡ (setting worker).number
   pub orderly : IsOrderly inbox
 
 -- the port went on from this start, its links' failures are counted since, and it had opened none

@@ -12,7 +12,7 @@ use crate::course::Course;
 use lsv_base::NoMem;
 use lsv_port::Port;
 use lsv_reactor::{Post, PostEnd};
-use lsv_session::{Job, Reply};
+use lsv_session::{Job, Reply, one_stream_has_one_list_of_jobs};
 use lsv_worker::{MemInbox, Worker};
 use std::alloc::Global;
 
@@ -157,6 +157,7 @@ impl<P: Port> Post for WorkerPost<P> {
     }
 
     fn end(&self) -> Option<PostEnd> {
+        one_stream_has_one_list_of_jobs();
         if !self.worker.ended() {
             return None;
         }
