@@ -1,14 +1,12 @@
 -- What a connection brought, told without why it ended.
-use Rattle.std.proofs.Common.{◌≡◌, ◌≢◌, ℕ, zero, suc, ◌+◌, ◌<◌, ◌≤◌, ◌||◌, Bool, true, false, List, [], ◌∷◌, ◌++◌, length, refl, sym, ap, subst, ◌∙◌, append_assoc, inl, inr, ⊎_elim, arith}
-use Rattle.std.specs.List.{All}
+use Rattle.std.proofs.Common.{◌≡◌, ◌≢◌, ℕ, zero, suc, ◌+◌, ◌<◌, ◌||◌, Bool, true, false, List, [], ◌∷◌, ◌++◌, length, refl, sym, ap, subst, ◌∙◌, append_assoc, inl, inr, ⊎_elim, arith}
 use Rattle.std.proofs.lemmas.List.{append-nil, length-append}
 use Rattle.lsv_wire.specs.Frame.{IsPartial}
 use Rattle.lsv_wire.specs.declared.framing.TheConstants.{FRAME_LIMIT}
 use Rattle.lsv_session.specs.Transcript.{AreAllJobs, AreFirst, AreJobs, HasCut}
 use Rattle.lsv_session.specs.Transcript.AreJobs.{Rest, Message, NoMessage, TooLong}
 use Rattle.lsv_session.specs.declared.job.Body.{Body}
-use Rattle.lsv_session.specs.declared.job.Body.TheVariants.{Msg, Bad, Gone}
-use Rattle.lsv_session.specs.declared.job.Fault.TheVariants as faults
+use Rattle.lsv_session.specs.declared.job.Body.TheVariants.{Msg, Gone}
 use Rattle.lsv_session.proofs.Jobs.{cut_message, cut_nothing}
 use Rattle.lsv_turns.specs.Turns.{EndsWithGone}
 use Rattle.lsv_reactor.specs.Links.{AtMostStarved, Brings, is_bad, was_bad}

@@ -1,14 +1,13 @@
 -- What each call of a post leaves of it.
-use Rattle.std.proofs.Common.{◌≡◌, ◌⊎◌, ℕ, zero, suc, ◌<◌, ◌≤◌, Bool, true, false, List, [], ◌∷◌, ◌++◌, refl, sym, ap, subst, ◌∙◌, inl, inr, ⊎_elim, arith}
+use Rattle.std.proofs.Common.{◌≡◌, ℕ, zero, suc, true, false, List, [], ◌∷◌, ◌++◌, refl, sym, ap, subst, ◌∙◌, inr, arith}
 use Rattle.std.proofs.Math.Path.{fun_ext}
-use Rattle.lsv_words.specs.Causes.{HasRisen}
-use Rattle.lsv_port.specs.Ledger.{Continues, HasTurnCause, PortLedger}
-use Rattle.lsv_port.specs.Port.{IsOpen, IsSame, PortState}
+use Rattle.lsv_port.specs.Ledger.{Continues, PortLedger}
+use Rattle.lsv_port.specs.Port.{IsSame, PortState}
 use Rattle.lsv_port.proofs.LedgerLemmas.{continues_same}
 use Rattle.lsv_reactor.specs.Links.{PortFailed, PortView}
 use Rattle.lsv_session.specs.declared.job.Job.{Job}
 use Rattle.lsv_session.specs.declared.reply.Reply.{Reply}
-use Rattle.lsv_worker.specs.Links.{HasBlame}
+use Rattle.lsv_worker.specs.Links.{HasBlame, reads_in}
 use Rattle.lsv_worker.specs.Memory.{IsOrderly, KeepsOrder, jobs_in, waiting}
 use Rattle.lsv_worker.specs.Worker.{Goes, HoldsOwed, IsAt, IsFit, IsSameWorker, Represents, Setting, setting}
 use Rattle.lsv_worker.specs.declared.link.Phase.{Phase}
@@ -21,9 +20,9 @@ use Rattle.lsv_post.specs.Ports.{IsUnopened, view_by}
 use Rattle.lsv_post.specs.declared.course.Course.{Course}
 use Rattle.lsv_post.specs.declared.course.Course.TheVariants.{Going, Failing, Stopping, Failed}
 use Rattle.lsv_post.specs.declared.post.WorkerPost.{WorkerPost}
-use Rattle.lsv_post.proofs.Underway.{failed_now, goes_then, kept_lost, kept_one, kept_same, on_then, one_emptied, one_then, same_blame, stands_given, stands_same, stands_then}
+use Rattle.lsv_post.proofs.Underway.{failed_on, goes_then, kept_one, kept_same, on_then, one_emptied, one_then, same_blame, stands_given, stands_same, stands_then}
 
-fault_on : (course : Course) (p : Phase) (F G : Type 0) → G → IsOn course p F → IsOn (after_fault course) p G
+pub fault_on : (course : Course) (p : Phase) (F G : Type 0) → G → IsOn course p F → IsOn (after_fault course) p G
 fault_on Going p F G g h = (h, g)
 fault_on Failing p F G g h = (h.0, g)
 fault_on Stopping p F G g h = (inr h, g)
@@ -87,6 +86,20 @@ module _ {P : Type 0} (tells : Type 0) (state : P → PortState) (ledger : P →
     stands = λ told. stands_then old.worker new.worker (state old.port) (state new.port) gave (waiting old.inbox) (waiting new.inbox) u.kept (goes told) (holds told) (u.stands told);
   }
 
+  -- its worker tried its links again
+  pub tried : (start : PortView) (old new : WorkerPost P) (gave : List Job) (took : List Reply) → IsFit new.worker → IsSameWorker old.worker new.worker → KeepsOrder old.inbox new.inbox
+      → Continues (ledger old.port) (ledger new.port) → (tells → HasBlame (state old.port) (ledger old.port) (state new.port) (ledger new.port)) → (new.lost ≡ false → old.lost ≡ false)
+      → new.course ≡ old.course → (setting new.worker).phase ≡ (setting old.worker).phase
+      → (tells → Goes old.worker new.worker (state old.port) (state new.port) (λ lane. jobs_in lane (waiting old.inbox)) (λ lane. jobs_in lane (waiting new.inbox)))
+      → (tells → reads_in (setting old.worker).phase ≡ true → HoldsOwed new.worker (state new.port))
+      → IsUnderWay tells state ledger start old gave took → IsUnderWay tells state ledger start new gave took
+  tried start old new gave took fit same keeps on blame lost course phase goes holds u =
+      stepped start old new gave took fit same keeps on blame lost
+      (λ is. rw course
+      (on_then old.course (setting old.worker).phase (setting new.worker).phase (PortFailed start (view_by state ledger old.port)) (PortFailed start (view_by state ledger new.port)) phase
+      (failed_on start (view_by state ledger old.port) (view_by state ledger new.port) on) is))
+      goes (λ told going. holds told (ap reads_in (sym phase ∙ going))) u
+
   -- nothing changed but what is known of the port's failures
   pub port_only : (start : PortView) (old new : WorkerPost P) (gave : List Job) (took : List Reply) → new.worker ≡ old.worker → new.inbox ≡ old.inbox → new.lost ≡ old.lost
       → Continues (ledger old.port) (ledger new.port) → (tells → IsSame (state old.port) (state new.port))
@@ -101,9 +114,36 @@ module _ {P : Type 0} (tells : Type 0) (state : P → PortState) (ledger : P →
     stands = λ told. rw (worker, inbox) (stands_same old.worker (state old.port) (state new.port) (gave ++ waiting old.inbox) u.kept (same told) (u.stands told));
   }
 
-  -- the port failed as a whole
-  pub faulted : (start : PortView) (old : WorkerPost P) (port : P) (gave : List Job) (took : List Reply) → HasTurnCause (true ≡ true) (ledger old.port) (ledger port) → IsUnderWay tells state ledger start old gave took → PortFailed start (view_by state ledger port)
-  faulted start old port gave took cause u = failed_now start (view_by state ledger old.port) (view_by state ledger port) u.goes_on.continues (cause.risen refl)
+  -- a reply was taken by its connection
+  pub replied : (start : PortView) (old new : WorkerPost P) (reply : Reply) (gave : List Job) (took : List Reply) → IsFit new.worker → setting new.worker ≡ setting old.worker → new.inbox ≡ old.inbox → new.course ≡ old.course → new.lost ≡ old.lost
+      → Continues (ledger old.port) (ledger new.port) → (tells → HasBlame (state old.port) (ledger old.port) (state new.port) (ledger new.port))
+      → (tells → (jobs : ℕ → List Job) (replies : List Reply) → Represents old.worker (state old.port) jobs replies → Represents new.worker (state new.port) jobs (replies ++ reply ∷ []))
+      → (tells → HoldsOwed old.worker (state old.port) → HoldsOwed new.worker (state new.port))
+      → IsMade tells state ledger start old gave took → IsMade tells state ledger start new gave (took ++ reply ∷ [])
+  replied start old new reply gave took fit set inbox course lost on blame takes holds m = record {
+    way = record {
+      one = record {
+        fit = fit;
+        lanes = ap (λ (s : Setting). s.lanes) set ∙ m.way.one.lanes;
+        number = ap (λ (i : MemInbox). i.worker) inbox ∙ m.way.one.number ∙ sym (ap (λ (s : Setting). s.number) set);
+        orderly = subst IsOrderly (sym inbox) m.way.one.orderly;
+      };
+      course =
+          rw course
+          (on_then old.course (setting old.worker).phase (setting new.worker).phase (PortFailed start (view_by state ledger old.port)) (PortFailed start (view_by state ledger new.port)) (ap (λ (s : Setting). s.phase) set)
+          (failed_on start (view_by state ledger old.port) (view_by state ledger new.port) on) m.way.course);
+      goes_on = goes_then tells start (view_by state ledger old.port) (view_by state ledger new.port) m.way.goes_on on blame;
+      kept = m.way.kept ++ reply ∷ [];
+      are_kept = rw lost (kept_one old.lost took m.way.kept reply m.way.are_kept);
+      stands = λ told. record {
+        represents =
+            subst (λ (i : MemInbox). Represents new.worker (state new.port) (λ lane. jobs_in lane (gave ++ waiting i)) (m.way.kept ++ reply ∷ [])) (sym inbox)
+            (takes told (λ lane. jobs_in lane (gave ++ waiting old.inbox)) m.way.kept (m.way.stands told).represents);
+        holds = λ going. holds told ((m.way.stands told).holds (sym (ap (λ (s : Setting). s.phase) set) ∙ going));
+      };
+    };
+    given = ap waiting inbox ∙ m.given;
+  }
 
   -- its jobs were handed out
   pub handed : (start : PortView) (old new : WorkerPost P) (given : List Job) (gave : List Job) (took : List Reply) → new.worker ≡ old.worker → new.port ≡ old.port → new.course ≡ old.course → new.lost ≡ old.lost

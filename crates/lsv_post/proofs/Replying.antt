@@ -1,15 +1,14 @@
 -- What replies say of one connection.
-use Rattle.std.proofs.Common.{◌≡◌, ◌≢◌, ◌||◌, ◌&&◌, Bool, true, false, List, [], ◌∷◌, ◌++◌, refl, sym, ap, subst, ◌∙◌, append_assoc, ⊎_elim}
+use Rattle.std.proofs.Common.{◌≡◌, ◌||◌, ◌&&◌, Bool, true, false, List, [], ◌∷◌, ◌++◌, refl, sym, ap, ◌∙◌, append_assoc, ⊎_elim}
 use Rattle.std.specs.Prelude.{not}
 use Rattle.lsv_session.specs.Connections.{same}
 use Rattle.lsv_session.specs.Transcript.{bodies_of}
 use Rattle.lsv_session.specs.declared.connection.ConnId.{ConnId}
 use Rattle.lsv_session.specs.declared.job.Job.{Job}
 use Rattle.lsv_session.specs.declared.reply.Reply.{Reply}
-use Rattle.lsv_session.specs.declared.reply.ReplyBody.{ReplyBody}
-use Rattle.lsv_session.specs.declared.reply.ReplyBody.TheVariants.{Say, Shut}
+use Rattle.lsv_session.specs.declared.reply.ReplyBody.TheVariants.{Shut}
 use Rattle.lsv_turns.specs.Turns.{AreAsked, EndsWithGone, NoneFor, is_shut, shuts}
-use Rattle.lsv_worker.specs.Outgoing.{HasEarlyShut, HasShut, IsEarlyShutOf, TalksOn}
+use Rattle.lsv_worker.specs.Outgoing.{HasEarlyShut, HasShut, TalksOn}
 
 shut_test : (a b c : Bool) → a ≡ true → b ≡ true → c ≡ false → ((a && b) && not c) ≡ true
 shut_test true true false x y z = refl

@@ -1,5 +1,5 @@
 -- What a post that ended did with the links of its port.
-use Rattle.std.proofs.Common.{◌≡◌, ◌≢◌, ◌⊎◌, ℕ, zero, suc, ◌+◌, ◌<◌, ◌≤◌, ◌==◌, ◌&&◌, if◌then◌else◌, Bool, true, false, Option, Some, None, List, [], ◌∷◌, ◌++◌, length, refl, sym, ap, subst, ◌∙◌, inl, inr, ⊎_elim, arith}
+use Rattle.std.proofs.Common.{◌≡◌, ◌⊎◌, ℕ, zero, suc, ◌<◌, ◌==◌, ◌&&◌, if◌then◌else◌, Bool, true, false, Option, Some, List, [], ◌∷◌, ◌++◌, refl, sym, ap, subst, ◌∙◌, inl, inr, ⊎_elim, arith}
 use Rattle.std.specs.Prelude.{not, slice_index_or}
 use Rattle.std.specs.List.{All, Contains}
 use Rattle.std.proofs.lemmas.Bool.{cases_lt}
@@ -19,7 +19,7 @@ use Rattle.lsv_turns.specs.Turns.{AreAsked, EndsWithGone, shuts}
 use Rattle.lsv_reactor.specs.Links.{Brings, HasEndCause, IsLetOff, IsServed, LinkFailed, PortFailed, PortView, Puts, ServesLink, ServesPort, conn_of, was_bad}
 use Rattle.lsv_worker.specs.Incoming.{IsWhole, has_left, is_shut, last_words}
 use Rattle.lsv_worker.specs.Lanes.{share}
-use Rattle.lsv_worker.specs.Links.{LetsEnd, LinkStands, MayEnd, is_done}
+use Rattle.lsv_worker.specs.Links.{LetsEnd, MayEnd, is_done}
 use Rattle.lsv_worker.specs.Memory.{jobs_in}
 use Rattle.lsv_worker.specs.Outgoing.{PutOf, Speaks, TalksOn, kept_up}
 use Rattle.lsv_worker.specs.Tells.{Ends, IsCauseOf}
@@ -206,11 +206,11 @@ module _ (always : (bytes : List ℕ) → All (λ b. b < 256) bytes → (jobs : 
   closed l =
       false_or (now.state.link l).is_open
       (λ e.
-          let k = h.stands.linked l e in
-          let live : (now.state.link (h.stands.last k.0).number).is_open ≡ false = (h.stands.each k.0 k.1).live ∙ (done k.0 k.1).0 in
-          let shut : (now.state.link l).is_open ≡ false = subst (λ (n : ℕ). (now.state.link n).is_open ≡ false) k.2 live in
-          let no : true ≡ false = sym e ∙ shut in
-          cc)
+      let k = h.stands.linked l e in
+      let live : (now.state.link (h.stands.last k.0).number).is_open ≡ false = (h.stands.each k.0 k.1).live ∙ (done k.0 k.1).0 in
+      let shut : (now.state.link l).is_open ≡ false = subst (λ (n : ℕ). (now.state.link n).is_open ≡ false) k.2 live in
+      let no : true ≡ false = sym e ∙ shut in
+      cc)
 
   made_or : (k : ℕ) → IsMade set k ⊎ (IsMade set k → ⊥)
   made_or k =
@@ -222,9 +222,11 @@ module _ (always : (bytes : List ℕ) → All (λ b. b < 256) bytes → (jobs : 
       let k = job.conn.seq in
       let conn : same job.conn (conn_at set k) ≡ true = subst (λ (w : ℕ). same job.conn (record { worker = w; seq = k }) ≡ true) own (same_conn job.conn) in
       ⊎_elim
-      (λ m.
-          ((h.stands.last k).number, h.stands.known k m,
-          seat_is (λ j. (h.stands.last j).number) set.next k (λ i j first below first' below' ne. h.stands.apart i j (record { first = first; below = below }) (record { first = first'; below = below' }) ne) m.first m.below))
+      (λ m. (
+        (h.stands.last k).number,
+        h.stands.known k m,
+        seat_is (λ j. (h.stands.last j).number) set.next k (λ i j first below first' below' ne. h.stands.apart i j (record { first = first; below = below }) (record { first = first'; below = below' }) ne) m.first m.below,
+      ))
       (λ not. absurd (some_bodies (conn_at set k) jobs job has conn (h.stands.unused k not 0))) (made_or k)
 
   pub serves_port : ServesPort (AreAsked jobs replies) set.number jobs replies start now

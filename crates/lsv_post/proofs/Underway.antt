@@ -1,8 +1,9 @@
 -- What calls of a post do to what it stands for.
-use Rattle.std.proofs.Common.{◌≡◌, ◌≢◌, ◌⊎◌, ℕ, zero, suc, ◌<◌, ◌≤◌, ◌-◌, ◌^◌, Bool, true, false, List, [], ◌∷◌, ◌++◌, length, refl, sym, ap, subst, ◌∙◌, append_assoc, inl, inr, ⊎_elim, arith}
+use Rattle.std.proofs.Common.{◌≡◌, ℕ, zero, suc, ◌<◌, ◌≤◌, ◌-◌, ◌^◌, Bool, true, false, List, [], ◌∷◌, ◌++◌, length, sym, ap, subst, ◌∙◌, append_assoc, inl, inr, ⊎_elim, arith}
 use Rattle.std.proofs.Math.Path.{fun_ext}
 use Rattle.std.proofs.lemmas.Bool.{cases_eq}
 use Rattle.std.proofs.lemmas.List.{append-nil}
+use Rattle.std.specs.List.{AllByRecursion}
 use Rattle.lsv_words.specs.Causes.{HasRisen}
 use Rattle.lsv_port.specs.Ledger.{Continues, PortLedger}
 use Rattle.lsv_port.specs.Port.{Changes, IsSame, LinkState, PortState, Told}
@@ -14,7 +15,7 @@ use Rattle.lsv_session.specs.declared.job.Job.{Job}
 use Rattle.lsv_session.specs.declared.reply.Reply.{Reply}
 use Rattle.lsv_worker.specs.Links.{HasBlame}
 use Rattle.lsv_worker.specs.Memory.{KeepsOrder, jobs_in, waiting}
-use Rattle.lsv_worker.specs.Worker.{Goes, HoldsOwed, IsFit, IsSameWorker, Represents, setting}
+use Rattle.lsv_worker.specs.Worker.{Goes, HoldsOwed, IsFit, IsSameWorker, Represents, phase_after, setting}
 use Rattle.lsv_worker.specs.declared.link.Phase.{Phase}
 use Rattle.lsv_worker.specs.declared.link.Phase.TheVariants as phases
 use Rattle.lsv_worker.specs.declared.memory.MemInbox.{MemInbox}
@@ -58,6 +59,12 @@ told_blame is old new a b t l e = inl (told_failed is old new t l e)
 pub same_blame : (old new : PortState) (a b : PortLedger) → IsSame old new → HasBlame old a new b
 same_blame old new a b s l e = inl (ap (λ (x : LinkState). x.failed) (sym (s.links l)) ∙ e)
 
+-- what is blamed over two calls
+pub blame_then : (s t u : PortState) (a b c : PortLedger) → Continues a b → Continues b c → HasBlame s a t b → HasBlame t b u c → HasBlame s a u c
+blame_then s t u a b c x y f g l e =
+    ⊎_elim (λ was. ⊎_elim (λ before. inl before) (λ rose. inr (risen_on (a.links l) (b.links l) (c.links l) rose (y.links l))) (f l was))
+    (λ rose. inr (risen_late (a.links l) (b.links l) (c.links l) (x.links l) rose)) (g l e)
+
 -- a port that went on goes on
 pub goes_then : (tells : Type 0) (start old new : PortView) → GoesOn tells start old → Continues old.ledger new.ledger → (tells → HasBlame old.state old.ledger new.state new.ledger) → GoesOn tells start new
 goes_then tells start old new g on blame = record {
@@ -82,6 +89,25 @@ on_then Failing p q F G e f h = (e ∙ h.0, f h.1)
 on_then Stopping p q F G e f h = e ∙ h
 on_then Failed p q F G e f h = (⊎_elim (λ a. inl (e ∙ a)) (λ b. inr (e ∙ b)) h.0, f h.1)
 
+-- behind a turn that told this
+pub turned_on : (is : Ready) (p : Phase) (F : Type 0) → p ≡ phase_after is → IsOn (after_ready is) p F
+turned_on (ready.Opened l) p F e = e
+turned_on (ready.Readable l) p F e = e
+turned_on (ready.Writable l) p F e = e
+turned_on ready.Woken p F e = e
+turned_on ready.Stop p F e = e
+
+-- its worker learned that the port failed
+pub failed_course : (course : Course) (p q : Phase) (F G : Type 0) → course ≡ Failing → q ≡ phases.Failed → (F → G) → IsOn course p F → IsOn Failed q G
+failed_course course p q F G failing e f on = let was : IsOn Failing p F = subst (λ (c : Course). IsOn c p F) failing on in (inl e, f was.1)
+
+-- the phase of a worker whose post goes on
+pub going_phase : (course : Course) (p : Phase) (F : Type 0) → course ≡ Going → IsOn course p F → p ≡ phases.Going
+going_phase course p F going on = subst (λ (c : Course). IsOn c p F) going on
+
+pub failing_phase : (course : Course) (p : Phase) (F : Type 0) → course ≡ Failing → IsOn course p F → p ≡ phases.Going
+failing_phase course p F failing on = let was : IsOn Failing p F = subst (λ (c : Course). IsOn c p F) failing on in was.0
+
 -- ---- The worker and its inbox
 
 pub one_then : (a b : Worker) (i j : MemInbox) → AreOne a i → IsFit b → IsSameWorker a b → KeepsOrder i j → AreOne b j
@@ -99,6 +125,15 @@ one_emptied a i j one none same = record {
   number = same ∙ one.number;
   orderly = record { own = rw none tt; few = rw none (omega arith) };
 }
+
+-- each job that waits is of the worker, and there are few
+pub own_waiting : (a : Worker) (i : MemInbox) (number : ℕ) (given : List Job) → AreOne a i → (setting a).number ≡ number → given ≡ waiting i → AllByRecursion (λ job. job.conn.worker ≡ number) given
+own_waiting a i number given one is e =
+    subst (λ (js : List Job). AllByRecursion (λ job. job.conn.worker ≡ number) js) (sym e)
+    (subst (λ (n : ℕ). AllByRecursion (λ job. job.conn.worker ≡ n) (waiting i)) (one.number ∙ is) one.orderly.own)
+
+pub few_waiting : (a : Worker) (i : MemInbox) (given : List Job) → AreOne a i → given ≡ waiting i → length given ≤ 256
+few_waiting a i given one e = subst (λ (js : List Job). length js ≤ 256) (sym e) one.orderly.few
 
 lane_more : (lane : ℕ) (gave was is added : List Job) → jobs_in lane is ≡ jobs_in lane was ++ added → jobs_in lane (gave ++ was) ++ added ≡ jobs_in lane (gave ++ is)
 lane_more zero gave was is added e = append_assoc gave was added ∙ ap (λ (l : List Job). gave ++ l) (sym e)

@@ -97,7 +97,9 @@ impl<P: Port> WorkerPost<P> {
         let had_ended = self.worker.ended();
         self.worker.push_out(&mut self.port, &mut self.inbox);
         self.unsent = false;
-        self.lost = self.lost || (had_ended && !self.worker.is_empty());
+        if had_ended && !self.worker.is_empty() {
+            self.lost = true;
+        }
     }
 
     /// Does what comes next. Where replies wait to be written, it writes them, and doesn't wait for its port.

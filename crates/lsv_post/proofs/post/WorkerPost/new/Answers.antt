@@ -1,11 +1,6 @@
-use Rattle.std.proofs.Common.{rules, ◌≡◌, ◌++◌, ◌∷◌, [], ℕ, List, IfOk, ◌+◌, ◌-◌, ◌*◌, ◌<◌, ◌≤◌, length, ◌/◌, ◌%◌, Bool, true, false, nat_eq, nat_lt, slice_index_or, slice_set, bit_and, bit_or, Fits, w8, w32, w64, Bor, MutBor}
-use Rattle.lsv_session.specs.declared.job.Job.{Job}
-use Rattle.lsv_session.specs.declared.reply.Reply.{Reply}
-use Rattle.lsv_reactor.specs.Links.{PortView}
-use Rattle.lsv_worker.specs.Worker.{setting}
-use Rattle.lsv_post.specs.Ports.{IsUnopened, view_by}
-use Rattle.lsv_post.specs.InnerPost.{IsMade, IsUnderWay}
+use Rattle.std.proofs.Common.{refl}
+use Rattle.lsv_post.proofs.Calls.{begins}
 use Rattle.lsv_post.proofs.post.WorkerPost.new.Goals as goal
 
 pub returns-clause-made : goal.returns-clause-made
-returns-clause-made g c = ?
+returns-clause-made g c = begins g.P.Port.tells g.P.Port.state g.P.Port.ledger _ c.args.number c.in_ok-new.ensures.fit c.in_ok-new.ensures.set c.in_ok-new.ensures.links c.in_ok-new-2.ensures.empty c.in_ok-new-2.ensures.worker refl c.requires.idle

@@ -1,11 +1,11 @@
-use Rattle.std.proofs.Common.{rules, ◌≡◌, ◌++◌, ◌∷◌, [], ℕ, List, IfOk, ◌+◌, ◌-◌, ◌*◌, ◌<◌, ◌≤◌, length, ◌/◌, ◌%◌, Bool, true, false, nat_eq, nat_lt, slice_index_or, slice_set, bit_and, bit_or, Fits, w8, w32, w64, Bor, MutBor}
-use Rattle.lsv_session.specs.declared.job.Job.{Job}
-use Rattle.lsv_session.specs.declared.reply.Reply.{Reply}
-use Rattle.lsv_reactor.specs.Links.{PortView}
-use Rattle.lsv_worker.specs.Worker.{setting}
-use Rattle.lsv_post.specs.Ports.{IsUnopened, view_by}
-use Rattle.lsv_post.specs.InnerPost.{IsMade, IsUnderWay}
+use Rattle.std.proofs.Common.{refl}
+use Rattle.lsv_post.proofs.Calls.{tried}
 use Rattle.lsv_post.proofs.post.WorkerPost.try_links.Goals as goal
 
-pub returns-clause-way : goal.returns-clause-way
-returns-clause-way g c = ?
+pub returns-then-not-is_empty-clause-way : goal.returns-then-not-is_empty-clause-way
+returns-then-not-is_empty-clause-way g c = λ start gave took u.
+    tried g.P.Port.tells g.P.Port.state g.P.Port.ledger start c.args.self.now _ gave took c.push_out.ensures.fit c.push_out.ensures.worker c.push_out.ensures.same c.push_out.ensures.continues c.push_out.ensures.blame (λ e. absurd (cc)) refl c.push_out.ensures.phase c.push_out.ensures.goes c.push_out.ensures.owed u
+
+pub returns-else-had_ended-clause-way : goal.returns-else-had_ended-clause-way
+returns-else-had_ended-clause-way g c = λ start gave took u.
+    tried g.P.Port.tells g.P.Port.state g.P.Port.ledger start c.args.self.now _ gave took c.push_out.ensures.fit c.push_out.ensures.worker c.push_out.ensures.same c.push_out.ensures.continues c.push_out.ensures.blame (λ e. e) refl c.push_out.ensures.phase c.push_out.ensures.goes c.push_out.ensures.owed u

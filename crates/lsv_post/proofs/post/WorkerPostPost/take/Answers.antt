@@ -1,11 +1,7 @@
-use Rattle.std.proofs.Common.{rules, ◌≡◌, ◌++◌, ◌∷◌, [], ℕ, List, IfOk, ◌+◌, ◌-◌, ◌*◌, ◌<◌, ◌≤◌, length, ◌/◌, ◌%◌, Bool, true, false, nat_eq, nat_lt, slice_index_or, slice_set, bit_and, bit_or, Fits, w8, w32, w64, Bor, MutBor}
-use Rattle.lsv_session.specs.declared.job.Job.{Job}
-use Rattle.lsv_session.specs.declared.reply.Reply.{Reply}
-use Rattle.lsv_reactor.specs.Links.{PortView}
-use Rattle.lsv_worker.specs.Worker.{setting}
-use Rattle.lsv_post.specs.Ports.{IsUnopened, view_by}
-use Rattle.lsv_post.specs.InnerPost.{IsMade, IsUnderWay}
+use Rattle.std.proofs.Common.{refl}
+use Rattle.lsv_post.proofs.Calls.{replied}
 use Rattle.lsv_post.proofs.post.WorkerPostPost.take.Goals as goal
 
 pub returns-clause-made : goal.returns-clause-made
-returns-clause-made g c = ?
+returns-clause-made g c = λ start gave took m.
+    replied g.P.Port.tells g.P.Port.state g.P.Port.ledger start c.args.self.now _ c.args.reply gave took c.take.ensures.fit c.take.ensures.set refl refl refl c.take.ensures.continues c.take.ensures.blame c.take.ensures.takes c.take.ensures.owed m
