@@ -4,7 +4,8 @@ ghost use Rattle.std.specs.Prelude.{◌≡◌, ◌++◌, ◌∷◌, [], ℕ, Lis
 ghost use Rattle.lsv_session.specs.declared.job.Job.{Job};
 ghost use Rattle.lsv_session.specs.declared.reply.Reply.{Reply};
 ghost use Rattle.lsv_reactor.specs.Links.{PortView};
-ghost use Rattle.lsv_worker.specs.Worker.{setting};
+ghost use Rattle.std.specs.List.{Contains};
+ghost use Rattle.lsv_worker.specs.Worker.{held_by, setting};
 ghost use Rattle.lsv_post.specs.Ports.{IsUnopened, view_by};
 ghost use Rattle.lsv_post.specs.InnerPost.{IsMade, IsUnderWay};
 
@@ -30,6 +31,21 @@ pub struct WorkerPost<P> {
     unsent: bool,
     /// A reply was lost: memory was wanting for it, or it was to no connection.
     lost: bool,
+}
+
+/// No link has this number.
+const NO_LINK: &[u32] = &[0];
+
+/// The links that a port is handed as held: those that its worker holds. Where none is and replies are unsent it is handed one
+/// that isn't there, so that it doesn't wait.
+fn held(worker: &Worker, unsent: bool) -> &[u32]
+    ensures { (l : ℕ) → Contains (held_by worker.now) l → Contains result.now l }
+{
+    let held = worker.held();
+    if held.is_empty() && unsent {
+        return NO_LINK;
+    }
+    held
 }
 
 impl<P: Port + Drop> WorkerPost<P> {
@@ -65,9 +81,10 @@ impl<P: Port> WorkerPost<P> {
         ensures way { (start : PortView) (gave : List Job) (took : List Reply) → IsUnderWay P.tells P.state P.ledger start self.old gave took → IsUnderWay P.tells P.state P.ledger start self.new gave took }
         ensures number { (setting self.new.worker).number ≡ (setting self.old.worker).number }
     {
-        match self.port.turn(self.worker.held()) {
+        match self.port.turn(held(&self.worker, self.unsent)) {
             Ok(ready) => {
                 self.course = Course::after(ready);
+                self.unsent = false;
                 self.worker.on(&mut self.port, ready, &mut self.inbox);
             }
             Err(_) => {
@@ -102,16 +119,12 @@ impl<P: Port> WorkerPost<P> {
         }
     }
 
-    /// Does what comes next. Where replies wait to be written, it writes them, and doesn't wait for its port.
+    /// Does what comes next.
     fn go_on(&mut self)
         requires begun { (start : PortView) × (gave : List Job) × (took : List Reply) × IsUnderWay P.tells P.state P.ledger start self.old gave took }
         ensures way { (start : PortView) (gave : List Job) (took : List Reply) → IsUnderWay P.tells P.state P.ledger start self.old gave took → IsUnderWay P.tells P.state P.ledger start self.new gave took }
         ensures number { (setting self.new.worker).number ≡ (setting self.old.worker).number }
     {
-        if self.unsent {
-            self.try_links();
-            return;
-        }
         match self.course {
             Course::Going => self.turn(),
             Course::Failing => self.fail(),
