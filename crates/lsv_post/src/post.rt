@@ -9,7 +9,7 @@ ghost use Rattle.lsv_worker.specs.Worker.{held_by, setting};
 ghost use Rattle.lsv_post.specs.Ports.{IsUnopened, view_by};
 ghost use Rattle.lsv_post.specs.InnerPost.{IsMade, IsUnderWay};
 
-use crate::course::Course;
+use crate::mode::Mode;
 use lsv_base::NoMem;
 use lsv_port::Port;
 use lsv_reactor::{Post, PostEnd};
@@ -26,7 +26,7 @@ pub struct WorkerPost<P> {
     worker: Worker,
     inbox: MemInbox,
     port: P,
-    course: Course,
+    mode: Mode,
     /// Replies were taken and not yet written.
     unsent: bool,
     /// A reply was lost: memory was wanting for it, or it was to no connection.
@@ -59,7 +59,7 @@ impl<P: Port + Drop> WorkerPost<P> {
             worker: Worker::new(alloc, number, LANES)?,
             inbox: MemInbox::new(alloc, number)?,
             port,
-            course: Course::Going,
+            mode: Mode::Going,
             unsent: false,
             lost: false,
         })
@@ -77,18 +77,18 @@ impl<P: Port> WorkerPost<P> {
     /// Lets its port turn, and does what it tells. A turn that fails is for the worker to learn at the next `wait`.
     fn turn(&mut self)
         requires begun { (start : PortView) × (gave : List Job) × (took : List Reply) × IsUnderWay P.tells P.state P.ledger start self.old gave took }
-        requires going { self.old.course ≡ Course.Going }
+        requires going { self.old.mode ≡ Mode.Going }
         ensures way { (start : PortView) (gave : List Job) (took : List Reply) → IsUnderWay P.tells P.state P.ledger start self.old gave took → IsUnderWay P.tells P.state P.ledger start self.new gave took }
         ensures number { (setting self.new.worker).number ≡ (setting self.old.worker).number }
     {
         match self.port.turn(held(&self.worker, self.unsent)) {
             Ok(ready) => {
-                self.course = Course::after(ready);
                 self.unsent = false;
+                self.mode = Mode::after(ready);
                 self.worker.on(&mut self.port, ready, &mut self.inbox);
             }
             Err(_) => {
-                self.course = Course::Failing;
+                self.mode = Mode::Failing;
             }
         }
     }
@@ -96,11 +96,11 @@ impl<P: Port> WorkerPost<P> {
     /// Its worker learns that the port failed: no link is read any more.
     fn fail(&mut self)
         requires begun { (start : PortView) × (gave : List Job) × (took : List Reply) × IsUnderWay P.tells P.state P.ledger start self.old gave took }
-        requires failing { self.old.course ≡ Course.Failing }
+        requires failing { self.old.mode ≡ Mode.Failing }
         ensures way { (start : PortView) (gave : List Job) (took : List Reply) → IsUnderWay P.tells P.state P.ledger start self.old gave took → IsUnderWay P.tells P.state P.ledger start self.new gave took }
         ensures number { (setting self.new.worker).number ≡ (setting self.old.worker).number }
     {
-        self.course = Course::Failed;
+        self.mode = Mode::Failed;
         self.worker.turn_failed(&mut self.port, &mut self.inbox);
     }
 
@@ -125,10 +125,10 @@ impl<P: Port> WorkerPost<P> {
         ensures way { (start : PortView) (gave : List Job) (took : List Reply) → IsUnderWay P.tells P.state P.ledger start self.old gave took → IsUnderWay P.tells P.state P.ledger start self.new gave took }
         ensures number { (setting self.new.worker).number ≡ (setting self.old.worker).number }
     {
-        match self.course {
-            Course::Going => self.turn(),
-            Course::Failing => self.fail(),
-            Course::Stopping | Course::Failed => self.try_links(),
+        match self.mode {
+            Mode::Going => self.turn(),
+            Mode::Failing => self.fail(),
+            Mode::Stopping | Mode::Failed => self.try_links(),
         }
     }
 }
@@ -146,10 +146,12 @@ impl<P: Port> Post for WorkerPost<P> {
 
     ghost made_by = { λ start post gave took. IsMade P.tells P.state P.ledger start post gave took };
 
-    fn open(&mut self, address: &str, stop_after: Option<u32>) {
-        if self.port.listen(address, stop_after).is_err() {
-            self.course = self.course.deafened();
+    fn open(&mut self, address: &str, stop_after: Option<u32>) -> bool {
+        let listens = self.port.listen(address, stop_after).is_ok();
+        if !listens {
+            self.mode = self.mode.deafened();
         }
+        listens
     }
 
     fn wait(&mut self, jobs: &mut Vec<Job>) {
@@ -182,7 +184,7 @@ impl<P: Port> Post for WorkerPost<P> {
         if !self.worker.is_empty() {
             return None;
         }
-        self.course.end()
+        self.mode.end()
     }
 
     fn stop(&mut self) {
