@@ -1,0 +1,6 @@
+//! A law of runs with many connections: a legal conversation is served, whatever others send.
+#![tactic(auto)]
+
+mod laws;
+
+pub use laws::a_legal_conversation_is_served_among_others;
