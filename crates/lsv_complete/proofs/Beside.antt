@@ -1,5 +1,5 @@
 -- What a job may change where no device failed: the last number drawn, which logs wait, and no log but its connection's own, the one that it makes, and one that it goes on with.
-use Rattle.std.proofs.Common.{◌≡◌, ◌≢◌, ◌+◌, ℕ, List, [], ◌∷◌, refl, sym, ◌∙◌, ap, subst, inl, inr, arith, Option, Some, None, ◌⊎◌}
+use Rattle.std.proofs.Common.{◌≡◌, ◌≢◌, ◌+◌, ℕ, List, [], ◌∷◌, length, refl, sym, ◌∙◌, ap, subst, inl, inr, arith, Option, Some, None, ◌⊎◌}
 use Rattle.std.specs.Prelude.{◌==◌, ◌||◌, ◌&&◌, not, nat_lt, Bool, true, false, if◌then◌else◌, is_some, Result, Ok, Err}
 use Rattle.lsv_base.specs.declared.time.TimeSpec.{TimeSpec}
 use Rattle.lsv_disk.specs.declared.file.Owner.{Owner}
@@ -217,10 +217,12 @@ module _ (n : ℕ) (j : ConnId) (i : ℕ) (m : Machine) where
     where
       go : (a : Bool) → is_running s ≡ a → (b : Bool) → accept.expect_iobufs ≡ b → Moves accept.expect_iobufs (work j s (request.Accept accept) i m).machine
       go true e b f = rw e (still accept.expect_iobufs)
-      go false e true f = let h = opened_moves accept.expect_iobufs (head_text accept.head) f in
-          subst (λ (d : Done). Moves accept.expect_iobufs d.machine) (sym (rw (e, f) refl)) h
-      go false e false f = let h = stays accept.expect_iobufs (with_state j (Running None) m) refl refl refl refl refl in
-          subst (λ (d : Done). Moves accept.expect_iobufs d.machine) (sym (rw (e, f) refl)) h
+      go false e true f =
+          let is : work j s (request.Accept accept) i m ≡ opened j (head_text accept.head) i m = rw (e, f) refl in
+          subst (λ (d : Done). Moves accept.expect_iobufs d.machine) (sym is) (opened_moves accept.expect_iobufs (head_text accept.head) f)
+      go false e false f =
+          let is : work j s (request.Accept accept) i m ≡ silently (with_state j (Running None) m) = rw (e, f) refl in
+          subst (λ (d : Done). Moves accept.expect_iobufs d.machine) (sym is) (stays accept.expect_iobufs (with_state j (Running None) m) refl refl refl refl refl)
   work_moves s at (request.Reject report) = either_moves false (is_running s) (silently m) (ends j (say j Shut ∷ []) m) (still false) (leaves_moves false Dead m refl (still false))
   work_moves s at (request.Alert report) = either_moves false (is_running s) (silently m) (silently (with_state j Alerted m)) (still false) (stays false (with_state j Alerted m) refl refl refl refl refl)
   work_moves s at (request.Restart restart) = restarted_moves false restart.log restart.point
@@ -249,8 +251,11 @@ module _ (n : ℕ) (j : ConnId) (i : ℕ) (m : Machine) where
       go true e b f = rw e (nothing_before accept.expect_iobufs)
       go false e true f =
           let h : Before accept.expect_iobufs (makes i (head_text accept.head) m) = record { moves = set_moves accept.expect_iobufs (There (empty_log (head_text accept.head)) 0) f; state = refl } in
-          subst (λ (x : Machine). Before accept.expect_iobufs x) (sym (rw (e, f) refl)) h
-      go false e false f = subst (λ (x : Machine). Before accept.expect_iobufs x) (sym (rw (e, f) refl)) (nothing_before accept.expect_iobufs)
+          let is : (if opens s (request.Accept accept) then makes i (head_text accept.head) m else m) ≡ makes i (head_text accept.head) m = rw (e, f) refl in
+          subst (λ (x : Machine). Before accept.expect_iobufs x) (sym is) h
+      go false e false f =
+          let is : (if opens s (request.Accept accept) then makes i (head_text accept.head) m else m) ≡ m = rw (e, f) refl in
+          subst (λ (x : Machine). Before accept.expect_iobufs x) (sym is) (nothing_before accept.expect_iobufs)
 
   before_moves : (s : ConnState) → m.states j ≡ s → (what : Request) → Before (asks_new (Ok what)) (before_line s what i m)
   before_moves s at request.Hello = nothing_before false
