@@ -1,3 +1,4 @@
 pub mod Waiting
-pub mod Beside
 pub mod Asked
+pub mod Beside
+pub mod Numbers
