@@ -2,3 +2,5 @@ pub mod Waiting
 pub mod Asked
 pub mod Beside
 pub mod Numbers
+pub mod Alone
+pub mod Twins
