@@ -123,10 +123,11 @@ module _ (n : ℕ) (k : ConnId) where
     dies : d.machine.states k ≡ Dead → d'.machine.states k ≡ Dead → Unfinished (d'.machine.logs n) → d'.machine.waiting ≡ [] → Outcome s what d d'
     ends_it : is_exit (Ok what) ≡ true → d.machine.states k ≡ Dead → d'.machine.states k ≡ Dead → d'.machine.logs n ≡ d.machine.logs n → Complete (d.machine.logs n) → d.machine.owner n ≡ None → d'.machine.waiting ≡ [] → Outcome s what d d'
 
-  -- what a job does in both
+  -- what the work of a job does in both, which leaves no line of its own
   pub record Twin (s : ConnState) (what : Request) (d d' : Done) : Type 0 where
     pub answers : d'.answers ≡ d.answers
-    pub line : d'.line ≡ d.line
+    pub none : d.line ≡ []
+    pub none' : d'.line ≡ []
     pub outcome : Outcome s what d d'
 
   module _ (s : ConnState) (m m' : Machine) (pair : Pair s m m') where
@@ -146,7 +147,8 @@ module _ (n : ℕ) (k : ConnId) where
     refused_twin : (what : Request) (why : Refusal) (mid mid' : Machine) → mid'.states ≡ m'.states → mid'.logs ≡ m'.logs → mid'.waiting ≡ m'.waiting → Twin s what (refused k why mid) (refused k why mid')
     refused_twin what why mid mid' states logs waiting = record {
       answers = refl;
-      line = refl;
+      none = refl;
+      none' = refl;
       outcome = dies (its_state k Dead (let_go (log_of (mid.states k)) mid)) (its_state k Dead (let_go (log_of (mid'.states k)) mid'))
           (subst (λ (f : ℕ → LogState). Unfinished (f n)) (sym logs) pair.unfinished)
           (ap (λ (f : ConnId → ConnState). without_log (log_of (f k)) mid'.waiting) states ∙ (ap (λ (xs : List ℕ). without_log (log_of (m'.states k)) xs) waiting ∙ gone_waiting));
@@ -156,7 +158,8 @@ module _ (n : ℕ) (k : ConnId) where
     still_twin : (what : Request) → is_exit (Ok what) ≡ false → goes_to n s what ≡ s → Twin s what (silently m) (silently m')
     still_twin what not_exit there = record {
       answers = refl;
-      line = refl;
+      none = refl;
+      none' = refl;
       outcome = goes_on not_exit refl (pair.state ∙ sym there) pair.mirrors pair.unfinished (λ off. pair.calm (ap is_running (sym there) ∙ off));
     }
 
@@ -164,7 +167,8 @@ module _ (n : ℕ) (k : ConnId) where
     state_twin : (what : Request) (t : ConnState) → is_running s ≡ false → is_exit (Ok what) ≡ false → goes_to n s what ≡ t → Twin s what (silently (with_state k t m)) (silently (with_state k t m'))
     state_twin what t off not_exit there = record {
       answers = refl;
-      line = refl;
+      none = refl;
+      none' = refl;
       outcome = goes_on not_exit refl (its_state k t m ∙ sym there) (state_mirrors t m m' pair.mirrors) pair.unfinished (λ h. pair.calm off);
     }
 
@@ -195,7 +199,8 @@ module _ (n : ℕ) (k : ConnId) where
         go false e false f = rw (e, f) (refused_twin (request.Accept accept) refusals.LogFull (draws n m) (draws n m') refl refl refl)
         go false e true f = rw (e, f) (record {
           answers = refl;
-          line = refl;
+          none = refl;
+          none' = refl;
           outcome = goes_on refl refl (its_state k (Running (Some n)) (with_owner n (Some k) (makes n (head_text accept.head) m)) ∙ sym there) both
               (subst Unfinished (sym (its_log n (There (empty_log (head_text accept.head)) 0) (draws n m'))) refl)
               (λ h. let g : is_running (goes_to n s (request.Accept accept)) ≡ true = ap is_running there in clash (is_running (goes_to n s (request.Accept accept))) g h);
@@ -227,7 +232,8 @@ module _ (n : ℕ) (k : ConnId) where
           go false e = rw e (refused_twin (request.Record r) refusals.LogFull m m' refl refl refl)
           go true e = rw e (record {
             answers = refl;
-            line = refl;
+            none = refl;
+            none' = refl;
             outcome = goes_on refl refl pair.state both
                 (subst Unfinished (sym (its_log n (There (with_record (covered m'.texts stored.records r) stored) promised) m')) no_exit)
                 (λ h. let g : is_running s ≡ true = ap is_running on in clash (is_running s) g h);
@@ -249,7 +255,8 @@ module _ (n : ℕ) (k : ConnId) where
               let its : is_log (log_of (m.states k)) n ≡ true = ap (λ (x : ConnState). is_log (log_of x) n) (pair.state ∙ on) ∙ its_log_is n in
               rw e (record {
                 answers = refl;
-                line = refl;
+                none = refl;
+                none' = refl;
                 outcome = ends_it is_it (its_state k Dead (let_go (log_of (mid.states k)) mid)) (its_state k Dead (let_go (log_of (mid'.states k)) mid'))
                     (its_log n (There (with_exit exit stored) (length stored.records)) m' ∙ sym (its_log n (There (with_exit exit stored) (length stored.records)) m))
                     (subst Complete (sym (its_log n (There (with_exit exit stored) (length stored.records)) m)) refl)
@@ -315,10 +322,12 @@ module _ (n : ℕ) (k : ConnId) where
 
     -- ---- With its event line
 
-    -- a twin with its line: it has the one that the table says, unless it was refused
+    -- what a job does in both, with its line: the one that the table says, unless it was refused
     pub record Lined (what : Request) (line : List ℕ) (d d' : Done) : Type 0 where
-      pub twin : Twin s what d d'
+      pub answers : d'.answers ≡ d.answers
+      pub line_same : d'.line ≡ d.line
       pub line_is : is_refused d.answers ≡ false → d.line ≡ line
+      pub outcome : Outcome s what d d'
 
     line_outcome : (what : Request) (line line' : List ℕ) (d d' : Done) → Outcome s what d d'
         → Outcome s what (record { answers = d.answers; line = line; machine = adds_line k line d.machine }) (record { answers = d'.answers; line = line'; machine = adds_line k line' d'.machine })
@@ -326,22 +335,26 @@ module _ (n : ℕ) (k : ConnId) where
     line_outcome what line line' d d' (dies a b c e) = dies a b c e
     line_outcome what line line' d d' (ends_it a b c e f g h) = ends_it a b c e f g h
 
-    pub lined_twin : (set : Settings) (now : TimeSpec) (what : Request) (i i' : ℕ) (d d' : Done) → d.line ≡ [] → Twin s what d d' → line_in set now k s what i' ≡ line_in set now k s what i
+    pub lined_twin : (set : Settings) (now : TimeSpec) (what : Request) (i i' : ℕ) (d d' : Done) → Twin s what d d' → line_in set now k s what i' ≡ line_in set now k s what i
         → (has_line set what ≡ true → (line_fits (line_in set now k s what i) m ≡ true) × (line_fits (line_in set now k s what i') m' ≡ true))
         → Lined what (if has_line set what then line_in set now k s what i else []) (lined set now k s what i m d) (lined set now k s what i' m' d')
-    lined_twin set now what i i' d d' empty twin alike fits = go (has_line set what) refl (is_refused d.answers) refl
+    lined_twin set now what i i' d d' twin alike fits = go (has_line set what) refl (is_refused d.answers) refl
       where
         refused' : (b : Bool) → is_refused d.answers ≡ b → is_refused d'.answers ≡ b
         refused' b e = ap is_refused twin.answers ∙ e
 
         go : (a : Bool) → has_line set what ≡ a → (b : Bool) → is_refused d.answers ≡ b
             → Lined what (if has_line set what then line_in set now k s what i else []) (lined set now k s what i m d) (lined set now k s what i' m' d')
-        go false e b f = rw e (record { twin = twin; line_is = λ h. empty })
-        go true e true f = let f' = refused' true f in rw (e, f, f') (record { twin = twin; line_is = λ h. clash (is_refused d.answers) f h })
+        go false e b f = rw e (record { answers = twin.answers; line_same = twin.none' ∙ sym twin.none; line_is = λ h. twin.none; outcome = twin.outcome })
+        go true e true f =
+            let f' = refused' true f in
+            rw (e, f, f') (record { answers = twin.answers; line_same = twin.none' ∙ sym twin.none; line_is = λ h. clash (is_refused d.answers) f h; outcome = twin.outcome })
         go true e false f =
             let f' = refused' false f in
             let (p, q) = fits e in
             rw (e, f, f', p, q) (record {
-              twin = record { answers = twin.answers; line = alike; outcome = line_outcome what (line_in set now k s what i) (line_in set now k s what i') d d' twin.outcome };
+              answers = twin.answers;
+              line_same = alike;
               line_is = λ h. refl;
+              outcome = line_outcome what (line_in set now k s what i) (line_in set now k s what i') d d' twin.outcome;
             })
