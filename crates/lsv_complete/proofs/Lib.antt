@@ -4,3 +4,5 @@ pub mod Beside
 pub mod Numbers
 pub mod Alone
 pub mod Twins
+pub mod Tails
+pub mod Behind
