@@ -26,7 +26,7 @@ use Rattle.lsv_complete.proofs.Twins.{Complete}
 module _ (set : Settings) (n : ℕ) (k : ConnId) where
   -- ---- A complete log stays as it is
 
-  last_rises : (m mid : Machine) (act : Act) (step : Step set m act mid) → act.failed ≡ [] → Steady set m → m.last ≤ mid.last
+  pub last_rises : (m mid : Machine) (act : Act) (step : Step set m act mid) → act.failed ≡ [] → Steady set m → m.last ≤ mid.last
   last_rises m mid act step none s = elim (step_moves set 0 m mid act none s.drawn step).drawn [
     | inl x ↦ let e = x.0 in omega arith
     | inr x ↦ let e = x.1 in let above = next_above set m s.sound in omega arith
@@ -96,7 +96,7 @@ module _ (set : Settings) (n : ℕ) (k : ConnId) where
   dropped_is m conn (body.Bad fault) e = refl
   dropped_is m conn body.Gone e = absurd (cc)
 
-  gone_is : (b : Body) → is_gone b ≡ true → b ≡ body.Gone
+  pub gone_is : (b : Body) → is_gone b ≡ true → b ≡ body.Gone
   gone_is (body.Msg message) e = absurd (cc)
   gone_is (body.Bad fault) e = absurd (cc)
   gone_is body.Gone e = refl

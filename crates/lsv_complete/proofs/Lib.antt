@@ -6,3 +6,5 @@ pub mod Alone
 pub mod Twins
 pub mod Tails
 pub mod Behind
+pub mod Living
+pub mod Served

@@ -36,14 +36,14 @@ Complete Absent = ⊥
 Complete Damaged = ⊥
 Complete (There stored promised) = is_some stored.exit ≡ true
 
-not_running_log : (s : ConnState) → is_running s ≡ false → log_of s ≡ None
+pub not_running_log : (s : ConnState) → is_running s ≡ false → log_of s ≡ None
 not_running_log Fresh e = refl
 not_running_log Greeted e = refl
 not_running_log Alerted e = refl
 not_running_log (Running log) e = absurd (cc)
 not_running_log Dead e = refl
 
-clash : {A : Type 0} (b : Bool) → b ≡ true → b ≡ false → A
+pub clash : {A : Type 0} (b : Bool) → b ≡ true → b ≡ false → A
 clash {A} b p q = absurd (cc)
 
 its_log : (n : ℕ) (x : LogState) (m : Machine) → (with_log n x m).logs n ≡ x
