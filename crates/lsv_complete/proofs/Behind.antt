@@ -39,9 +39,9 @@ module _ (set : Settings) (n : ℕ) (k : ConnId) where
       let moves = step_moves set n m mid act calm.0 s.drawn step in
       let above = next_above set m s.sound in
       let same_log = moves.untouched
-          (λ writes. let h : m.owner n ≡ Some act.job.conn = s.sound.owned act.job.conn n writes in let g : None ≡ Some act.job.conn = sym free ∙ h in cc)
-          (λ nobody stored promised at. let h : Complete (There stored promised) = subst Complete at done in h)
-          (λ p q. let up = above in omega arith) in
+      (λ writes. let h : m.owner n ≡ Some act.job.conn = s.sound.owned act.job.conn n writes in let g : None ≡ Some act.job.conn = sym free ∙ h in cc)
+      (λ nobody stored promised at. let h : Complete (There stored promised) = subst Complete at done in h)
+      (λ p q. let up = above in omega arith) in
       let rises = last_rises m mid act step calm.0 s in
       let rest = stays_complete history mid end run calm.2 (step_steady set m mid act calm.0 s step) (omega arith) (same_log.owner ∙ free) (subst Complete (sym same_log.log) done) in
       (rest.0 ∙ same_log.log, rest.1, ((λ ne. (same_log.log, same_log.owner)), rest.2))

@@ -219,9 +219,9 @@ module _ (set : Settings) (n : ℕ) (k : ConnId) (later : List Body) (lane : IsO
     beside_now : (mid.logs n ≡ m.logs n) × (mid.owner n ≡ m.owner n) × (among n mid.waiting ≡ among n m.waiting)
     beside_now =
         let above : is_running s ≡ false → m.last < n = λ off.
-            let up = above_now history mid end run calm steady_mid (next_mid off).0 in
-            let rises = last_rises set n k m mid act step none steady in
-            omega arith in
+        let up = above_now history mid end run calm steady_mid (next_mid off).0 in
+        let rises = last_rises set n k m mid act step none steady in
+        omega arith in
         let g = guard s m steady live.pair.state live.pair.place above in
         let moves = step_moves set n m mid act none steady.drawn step in
         let u = moves.untouched (g.not_others act.job.conn ne) g.guarded (not_drawn live.pair.place) in
