@@ -10,13 +10,13 @@ use Rattle.lsv_session.specs.declared.job.Body.TheVariants as body
 use Rattle.lsv_machine.specs.Answers.{Answer}
 use Rattle.lsv_machine.specs.Failures.{Act, Plainly, Step}
 use Rattle.lsv_machine.specs.History.{is_gone}
-use Rattle.lsv_machine.specs.Machine.{LogState, LogState.There, Machine, Settings, is_dead, log_of, same}
+use Rattle.lsv_machine.specs.Machine.{LogState, LogState.Absent, LogState.Damaged, LogState.There, Machine, Settings, is_dead, log_of, same}
 use Rattle.lsv_machine.specs.Silence.{EndsWithGone, NoJobs, NothingTo}
 use Rattle.lsv_machine.specs.Turns.{EndOfTurn, Happened, Happened.Did, Happened.Tailed, Happened.Begins, Run, Tail, with_lines}
 use Rattle.lsv_machine.specs.Work.{Done, dropped, next_number, plain, silently}
 use Rattle.lsv_machine.proofs.Choices.{SameOr.alike, SameOr.apart, same_or}
 use Rattle.lsv_machine.proofs.StepLooks.{step_seen}
-use Rattle.lsv_complete.specs.Among.{IsLeftAlone, IsUndisturbed, answers_to, speaks}
+use Rattle.lsv_complete.specs.Among.{IsHeld, IsHeld.Over, IsLeftAlone, IsUndisturbed, answers_to, speaks}
 use Rattle.lsv_complete.proofs.Alone.{Hears, own, own_tail, to_others}
 use Rattle.lsv_complete.proofs.Beside.{step_moves}
 use Rattle.lsv_complete.proofs.Numbers.{Steady, next_above, next_may, step_steady, tail_keeps, tail_steady}
@@ -32,9 +32,14 @@ module _ (set : Settings) (n : ℕ) (k : ConnId) where
     | inr x ↦ let e = x.1 in let above = next_above set m s.sound in omega arith
   ]
 
+  over_now : (m : Machine) (log : LogState) → m.logs n ≡ log → Complete log → m.owner n ≡ None → IsHeld k n m
+  over_now m Absent at done free = absurd done
+  over_now m Damaged at done free = absurd done
+  over_now m (There stored promised) at done free = Over stored promised at done free
+
   pub stays_complete : (history : List Happened) (m end : Machine) (run : Run set m history end) → IsUndisturbed k history → Steady set m → n ≤ m.last → m.owner n ≡ None → Complete (m.logs n)
       → (end.logs n ≡ m.logs n) × (end.owner n ≡ None) × IsLeftAlone k n set m history end run
-  stays_complete [] m end run calm s below free done = (ap (λ (x : Machine). x.logs n) run, ap (λ (x : Machine). x.owner n) run ∙ free, tt)
+  stays_complete [] m end run calm s below free done = (ap (λ (x : Machine). x.logs n) run, ap (λ (x : Machine). x.owner n) run ∙ free, over_now m (m.logs n) refl done free)
   stays_complete (Did act ∷ history) m end (mid, step, run) calm s below free done =
       let moves = step_moves set n m mid act calm.0 s.drawn step in
       let above = next_above set m s.sound in
@@ -44,13 +49,13 @@ module _ (set : Settings) (n : ℕ) (k : ConnId) where
       (λ p q. let up = above in omega arith) in
       let rises = last_rises m mid act step calm.0 s in
       let rest = stays_complete history mid end run calm.2 (step_steady set m mid act calm.0 s step) (omega arith) (same_log.owner ∙ free) (subst Complete (sym same_log.log) done) in
-      (rest.0 ∙ same_log.log, rest.1, ((λ ne. (same_log.log, same_log.owner)), rest.2))
+      (rest.0 ∙ same_log.log, rest.1, (over_now m (m.logs n) refl done free, (λ ne. (same_log.log, same_log.owner)), rest.2))
   stays_complete (Tailed tail ∷ history) m end (mid, ended, run) calm s below free done =
       let keeps = tail_keeps set m mid tail calm.0 ended in
       let log = unowned_tail set n m mid tail calm.0 free ended in
       let last = keeps.last in
       let rest = stays_complete history mid end run calm.1 (tail_steady set m mid tail calm.0 s ended) (omega arith) (ap (λ (f : ℕ → Option ConnId). f n) keeps.owner ∙ free) (subst Complete (sym log) done) in
-      (rest.0 ∙ log, rest.1, rest.2)
+      (rest.0 ∙ log, rest.1, (over_now m (m.logs n) refl done free, rest.2))
   stays_complete (Begins texts ∷ history) m end run calm s below free done = absurd run
 
   -- ---- A dead connection alone

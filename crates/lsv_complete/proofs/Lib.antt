@@ -8,3 +8,4 @@ pub mod Tails
 pub mod Behind
 pub mod Living
 pub mod Served
+pub mod Refusing

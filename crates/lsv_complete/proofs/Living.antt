@@ -25,7 +25,7 @@ use Rattle.lsv_machine.proofs.Choices.{SameOr.alike, SameOr.apart, same_or}
 use Rattle.lsv_machine.proofs.OutcomeLemmas.{number_is, plainly_or}
 use Rattle.lsv_machine.proofs.Silent.{others_none, silence}
 use Rattle.lsv_machine.proofs.StepLooks.{step_seen}
-use Rattle.lsv_complete.specs.Among.{IsLeftAlone, IsUndisturbed, NeverGone, answers_to, asks_new, lines_beside, speaks}
+use Rattle.lsv_complete.specs.Among.{IsHeld, IsHeld.NotYet, IsHeld.Written, IsLeftAlone, IsUndisturbed, NeverGone, answers_to, asks_new, lines_before, sends, speaks}
 use Rattle.lsv_complete.proofs.Alone.{Hears, own, own_lines, own_tail, spoken, to_itself, to_others}
 use Rattle.lsv_complete.proofs.Asked.{asked_does, asked_in}
 use Rattle.lsv_complete.proofs.Behind.{After, gone_is, goes_after, last_rises, stays_complete}
@@ -124,8 +124,8 @@ module _ (set : Settings) (n : ℕ) (k : ConnId) (later : List Body) (lane : IsO
   pub record Live (s : ConnState) (m m' : Machine) (history : List Happened) (end : Machine) (run : Run set m history end) : Type 0 where
     pub pair : Pair n k s m m'
     pub legal : IsLegal n s (spoken k history ++ later)
-    -- the machine without the others had the lines of all others from the start
-    pub level : length m'.lines + length m'.fresh ≡ length m.lines + length m.fresh + length (lines_beside k history)
+    -- the machine without the others had their lines from the start
+    pub level : sends k history ≡ true → length m'.lines + length m'.fresh ≡ length m.lines + length m.fresh + length (lines_before k history)
     pub room : length m'.lines + length m'.fresh + length (own_lines k set n s history) ≤ 2 ^ 40
     -- before its log is asked for: the number that it will get, and gets without the others
     pub next : is_running s ≡ false → (next_number set (opens_at set k history m end run) ≡ n) × (next_number set m' ≡ n)
@@ -171,6 +171,10 @@ module _ (set : Settings) (n : ℕ) (k : ConnId) (later : List Body) (lane : IsO
         writes = λ i e. let h : Some i ≡ Some n = sym (sound.owns i k e) ∙ log in cc;
         owned = inr own_it;
       }
+
+  held : (s : ConnState) (m : Machine) → Steady set m → m.states k ≡ s → Place n k s → (is_running s ≡ false → m.last < n) → IsHeld k n m
+  held s m steady state (outside off alive) above = let none = steady.sound.none_above n lane (above off) in NotYet none.0 none.1
+  held s m steady state (inside on) above = Written (steady.sound.owned k n (ap log_of (state ∙ on)))
 
   -- a log that is written isn't above the last number
   below : (s : ConnState) (m : Machine) → Steady set m → m.states k ≡ s → s ≡ Running (Some n) → n ≤ m.last
@@ -241,9 +245,6 @@ module _ (set : Settings) (n : ℕ) (k : ConnId) (later : List Body) (lane : IsO
         let leaves = (step_seen set m act mid step).leaves_alone in
         let state = leaves.others k (λ p. ne (sym p)) in
         let (log, owner, waits) = beside_now in
-        let line_length = length-append act.line (lines_beside k history) in
-        let beside : length (lines_beside k (Did act ∷ history)) ≡ length (act.line ++ lines_beside k history) = rw e refl in
-        let level = live.level in
         let lines = ap length leaves.lines in
         let fresh = ap length leaves.fresh ∙ length-append m.fresh act.line in
         record {
@@ -262,7 +263,12 @@ module _ (set : Settings) (n : ℕ) (k : ConnId) (later : List Body) (lane : IsO
             there = log_there s mid steady_mid (state ∙ pair.state);
           };
           legal = let h = live.legal in rw off_now at h;
-          level = omega arith;
+          level = λ more.
+              let more_now : sends k (Did act ∷ history) ≡ true = rw off_now more in
+              let before : length (lines_before k (Did act ∷ history)) ≡ length (act.line ++ lines_before k history) = rw (more, e) refl in
+              let parts = length-append act.line (lines_before k history) in
+              let level = live.level more_now in
+              omega arith;
           room = let h = live.room in rw off_now at h;
           next = next_mid;
           draws' = live.draws';
@@ -279,7 +285,7 @@ module _ (set : Settings) (n : ℕ) (k : ConnId) (later : List Body) (lane : IsO
         go : Close mid end r.end' history run → Close m end r.end' (Did act ∷ history) (mid, step, run)
         go (open_still t legal) = open_still t legal
         go (early open_log) = early open_log
-        go (over log free alone) = over log free ((λ p. (beside_now.0, beside_now.1)), alone)
+        go (over log free alone) = over log free (held s m steady live.pair.state live.pair.place (live_above s m m' end (Did act ∷ history) (mid, step, run) (none, (λ p. absurd (ne p)), calm) steady live), (λ p. (beside_now.0, beside_now.1)), alone)
 
   -- ---- A job of its own
 
@@ -298,8 +304,14 @@ module _ (set : Settings) (n : ℕ) (k : ConnId) (later : List Body) (lane : IsO
     room_now : length m'.lines + length m'.fresh + length (line_for set act.now k s (request_in act.job.body) n ++ own_lines k set n (behind n s (request_in act.job.body)) history) ≤ 2 ^ 40
     room_now = let h = live.room in rw on_now at h
 
-    level_now : length m'.lines + length m'.fresh ≡ length m.lines + length m.fresh + length (lines_beside k history)
-    level_now = let h = live.level in rw e at h
+    level_here : length m'.lines + length m'.fresh ≡ length m.lines + length m.fresh + length (lines_before k (Did act ∷ history))
+    level_here = live.level (rw on_now refl)
+
+    level_now : sends k history ≡ true → length m'.lines + length m'.fresh ≡ length m.lines + length m.fresh + length (lines_before k history)
+    level_now more =
+        let before : length (lines_before k (Did act ∷ history)) ≡ length (lines_before k history) = rw (more, e) refl in
+        let level = level_here in
+        omega arith
 
     plainly : Plainly set m act mid
     plainly = elim (plainly_or set m mid act step none) [ inl p ↦ p | inr wants ↦ absurd (ample wants) ]
@@ -350,7 +362,7 @@ module _ (set : Settings) (n : ℕ) (k : ConnId) (later : List Body) (lane : IsO
           let b = ap length (line_at' ∙ sym line) in
           let parts = length-append (line_for set act.now k s (request_in act.job.body) n) (own_lines k set n (behind n s (request_in act.job.body)) history) in
           let room = room_now in
-          let level = level_now in (
+          let level = level_here in (
             at_most (length m.lines + length m.fresh + length (line_in set act.now k s asked plainly.number)) (2 ^ 40) (omega arith),
             at_most (length m'.lines + length m'.fresh + length (line_in set act.now k s asked (next_number set m'))) (2 ^ 40) (omega arith),
           )
@@ -402,7 +414,6 @@ module _ (set : Settings) (n : ℕ) (k : ConnId) (later : List Body) (lane : IsO
           let there : behind n s (request_in act.job.body) ≡ goes_to n s asked = ap (behind n s) is in
           let ahead = ap (λ (t : ConnState). length (own_lines k set n t history)) there in
           let room = room_now in
-          let level = level_now in
           record {
             pair = record {
               state = state;
@@ -413,7 +424,7 @@ module _ (set : Settings) (n : ℕ) (k : ConnId) (later : List Body) (lane : IsO
               there = log_there (goes_to n s asked) mid steady_on state;
             };
             legal = legal;
-            level = omega arith;
+            level = λ more. let level = level_now more in omega arith;
             room = omega arith;
             next = λ off.
                 let (was_off, asks_none) = off_before n s asked not_exit place off in
@@ -442,7 +453,7 @@ module _ (set : Settings) (n : ℕ) (k : ConnId) (later : List Body) (lane : IsO
           go : Close mid end r.end' history run → Close m end r.end' (Did act ∷ history) (mid, step, run)
           go (open_still t legal) = open_still t legal
           go (early open_log) = early open_log
-          go (over log free alone) = over log free ((λ ne. absurd (ne its)), alone)
+          go (over log free alone) = over log free (held s m steady live.pair.state live.pair.place (live_above s m m' end (Did act ∷ history) (mid, step, run) (none, (λ p w. ample (subst (λ (j : ConnId). WantsMemory j act.answers) (sym its) w)), calm) steady live), (λ ne. absurd (ne its)), alone)
 
       -- where it is over
       ran_after : mid.states k ≡ Dead → new'.states k ≡ Dead → new'.waiting ≡ [] → ((end' : Machine) → end'.logs n ≡ new'.logs n → Close mid end end' history run) → Ran mid new' end history run
@@ -519,7 +530,6 @@ module _ (set : Settings) (n : ℕ) (k : ConnId) (later : List Body) (lane : IsO
         let fresh : length mid.fresh ≡ 0 = ap length t.fresh in
         let lines' = ap length t.lines' ∙ length-append m'.lines m'.fresh in
         let fresh' : length t.new'.fresh ≡ 0 = ap length t.fresh' in
-        let level = live.level in
         let room = live.room in
         record {
           pair = record {
@@ -531,7 +541,7 @@ module _ (set : Settings) (n : ℕ) (k : ConnId) (later : List Body) (lane : IsO
             there = log_there s mid steady_then state;
           };
           legal = live.legal;
-          level = omega arith;
+          level = λ more. let level = live.level more in omega arith;
           room = omega arith;
           next = λ off. let h = live.next off in (h.0, same_next set m' t.new' t.last' ∙ h.1);
           draws' = t.draws' ∙ live.draws';
@@ -548,7 +558,7 @@ module _ (set : Settings) (n : ℕ) (k : ConnId) (later : List Body) (lane : IsO
         go : Close mid end r.end' history run → Close m end r.end' (Tailed tail ∷ history) (mid, ended, run)
         go (open_still t legal) = open_still t legal
         go (early open_log) = early open_log
-        go (over log free alone) = over log free alone
+        go (over log free alone) = over log free (held s m steady live.pair.state live.pair.place (live_above s m m' end (Tailed tail ∷ history) (mid, ended, run) (none, calm) steady live), alone)
 
   pub live_goes : (history : List Happened) (s : ConnState) (m m' end : Machine) (run : Run set m history end) → IsUndisturbed k history → Steady set m → EndsWithGone k history → (later ≡ []) ⊎ NeverGone k history
       → Live s m m' history end run → Ran m m' end history run

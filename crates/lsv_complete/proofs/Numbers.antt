@@ -5,7 +5,6 @@ use Rattle.lsv_disk.specs.declared.file.Owner.{Owner}
 use Rattle.lsv_disk.specs.declared.file.Owner.TheVariants.{Log, Events}
 use Rattle.lsv_session.specs.declared.connection.ConnId.{ConnId}
 use Rattle.lsv_machine.specs.Answers.{Answer}
-use Rattle.lsv_machine.specs.Counts.{one_if}
 use Rattle.lsv_machine.specs.Failures.{Act, MayDraw, Step}
 use Rattle.lsv_machine.specs.History.{request_in}
 use Rattle.lsv_machine.specs.Machine.{IsOfLane, Machine, Settings, same}
@@ -16,7 +15,7 @@ use Rattle.lsv_machine.proofs.Changing.{drawn_is}
 use Rattle.lsv_machine.proofs.Choices.{EqOr.equal, EqOr.unequal, eq_or}
 use Rattle.lsv_machine.proofs.Silent.{step_sound, tail_sound}
 use Rattle.lsv_machine.proofs.StepLooks.{none_among}
-use Rattle.lsv_complete.specs.Among.{IsUndisturbed, MayGet, asked_beside, asks_new}
+use Rattle.lsv_complete.specs.Among.{IsUndisturbed, MayGet, asked_before, asks_new}
 use Rattle.lsv_complete.proofs.Beside.{Moves, step_moves}
 use Rattle.lsv_complete.proofs.Waiting.{Rising}
 
@@ -143,8 +142,8 @@ module _ (set : Settings) (k : ConnId) where
   }
 
   -- where no number was drawn
-  opening_same : (m mid : Machine) (more asked : ℕ) (at : Machine) → mid.last ≡ m.last → Opening mid asked at → Opening m (more + asked) at
-  opening_same m mid more asked at is o =
+  opening_same : (m mid : Machine) (asked more : ℕ) (at : Machine) → asked ≤ more → mid.last ≡ m.last → Opening mid asked at → Opening m more at
+  opening_same m mid asked more at le is o =
       let number = o.number in
       let few = number.few in
       let next = same_next set m mid is in
@@ -174,27 +173,23 @@ module _ (set : Settings) (k : ConnId) where
       regroup : (a l p : ℕ) → (a + l) + p * l ≡ a + (p + 1) * l
       regroup a l p = grind arith
 
-  pub opening : (history : List Happened) (m end : Machine) (run : Run set m history end) → IsUndisturbed k history → Steady set m → Opening m (asked_beside k history) (opens_at history m end run)
+  pub opening : (history : List Happened) (m end : Machine) (run : Run set m history end) → IsUndisturbed k history → Steady set m → Opening m (asked_before k history) (opens_at history m end run)
   opening [] m end run calm s = opening_now m 0 s.sound
   opening (Did act ∷ history) m end (mid, step, run) calm s =
       go (same act.job.conn k) refl (asks_new (request_in act.job.body)) refl (step_moves set 0 m mid act calm.0 s.drawn step).drawn (opening history mid end run calm.2 (step_steady set m mid act calm.0 s step))
     where
       go : (a : Bool) → same act.job.conn k ≡ a → (b : Bool) → asks_new (request_in act.job.body) ≡ b
           → ((mid.last ≡ m.last) × (mid.failed_draws ≡ m.failed_draws)) ⊎ ((asks_new (request_in act.job.body) ≡ true) × (mid.last ≡ next_number set m) × (mid.failed_draws ≡ 0))
-          → Opening mid (asked_beside k history) (opens_at history mid end run)
-          → Opening m (one_if (not (same act.job.conn k) && asks_new (request_in act.job.body)) + asked_beside k history) (if same act.job.conn k && asks_new (request_in act.job.body) then m else opens_at history mid end run)
-      go true e true f drawn rest = rw (e, f) (opening_now m (0 + asked_beside k history) s.sound)
-      go true e false f (inl x) rest = rw (e, f) (opening_same m mid 0 (asked_beside k history) (opens_at history mid end run) x.0 rest)
+          → Opening mid (asked_before k history) (opens_at history mid end run)
+          → Opening m (asked_before k (Did act ∷ history)) (if same act.job.conn k && asks_new (request_in act.job.body) then m else opens_at history mid end run)
+      go true e true f drawn rest = rw (e, f) (opening_now m 0 s.sound)
+      go true e false f (inl x) rest = rw (e, f) (opening_same m mid (asked_before k history) (asked_before k history) (opens_at history mid end run) (omega arith) x.0 rest)
       go true e false f (inr x) rest = absurd (let h : true ≡ false = sym x.0 ∙ f in cc)
-      go false e true f (inl x) rest = rw (e, f) (opening_same m mid 1 (asked_beside k history) (opens_at history mid end run) x.0 rest)
-      go false e true f (inr x) rest = rw (e, f) (opening_drawn m mid (asked_beside k history) (opens_at history mid end run) s.sound x.1 rest)
-      go false e false f (inl x) rest = rw (e, f) (opening_same m mid 0 (asked_beside k history) (opens_at history mid end run) x.0 rest)
+      go false e true f (inl x) rest = rw (e, f) (opening_same m mid (asked_before k history) (1 + asked_before k history) (opens_at history mid end run) (omega arith) x.0 rest)
+      go false e true f (inr x) rest = rw (e, f) (opening_drawn m mid (asked_before k history) (opens_at history mid end run) s.sound x.1 rest)
+      go false e false f (inl x) rest = rw (e, f) (opening_same m mid (asked_before k history) (asked_before k history) (opens_at history mid end run) (omega arith) x.0 rest)
       go false e false f (inr x) rest = absurd (let h : true ≡ false = sym x.0 ∙ f in cc)
   opening (Tailed tail ∷ history) m end (mid, ended, run) calm s =
-      let rest = opening history mid end run calm.1 (tail_steady set m mid tail calm.0 s ended) in
-      let o = opening_same m mid 0 (asked_beside k history) (opens_at history mid end run) (tail_keeps set m mid tail calm.0 ended).last rest in
-      subst (λ (x : ℕ). Opening m x (opens_at history mid end run)) (zero_plus (asked_beside k history)) o
-    where
-      zero_plus : (x : ℕ) → 0 + x ≡ x
-      zero_plus x = omega arith
+      opening_same m mid (asked_before k history) (asked_before k history) (opens_at history mid end run) (omega arith) (tail_keeps set m mid tail calm.0 ended).last
+      (opening history mid end run calm.1 (tail_steady set m mid tail calm.0 s ended))
   opening (Begins texts ∷ history) m end run calm s = absurd run

@@ -17,7 +17,7 @@ use Rattle.lsv_machine.specs.Turns.{Happened, Happened.Did, Happened.Tailed, Hap
 use Rattle.lsv_machine.specs.Work.{next_number}
 use Rattle.lsv_machine.proofs.LegalTurns.{legal_served, none_is_shut}
 use Rattle.lsv_machine.proofs.RunLaws.{starts_sound}
-use Rattle.lsv_complete.specs.Among.{FitsAmong, IsServedAmong, IsUndisturbed, NeverGone, answers_to, asked_beside, bodies_of, came_of, lines_beside}
+use Rattle.lsv_complete.specs.Among.{FitsAmong, IsServedAmong, IsUndisturbed, NeverGone, answers_to, asked_before, bodies_of, came_of, lines_before}
 use Rattle.lsv_complete.proofs.Alone.{heard, lines_turns, own, own_at_moments, own_lines, own_sent, own_turn, own_turns, spoken, spoken_turns}
 use Rattle.lsv_complete.proofs.Asked.{legal_anyhow}
 use Rattle.lsv_complete.proofs.Living.{Close, Close.early, Close.open_still, Close.over, Live, Ran, live_goes}
@@ -38,7 +38,7 @@ module _ (set : Settings) (texts : List (List ℕ)) (k : ConnId) (start end : Ma
   abbrev n : ℕ
   n = next_number set at
 
-  opens : Opening set k start (asked_beside k (all_turns turns)) at
+  opens : Opening set k start (asked_before k (all_turns turns)) at
   opens = opening set k (all_turns turns) start end run calm steady
 
   lane : IsOfLane set.lane set.lanes n
@@ -47,7 +47,7 @@ module _ (set : Settings) (texts : List (List ℕ)) (k : ConnId) (start end : Ma
   above : start.last < n
   above = let later_on = opens.later in let up = next_above set at opens.sound in omega arith
 
-  limits : Fits set k n Fresh (start.lines ++ lines_beside k (all_turns turns)) (came_of k turns) (bodies_of k turns ++ later)
+  limits : Fits set k n Fresh (start.lines ++ lines_before k (all_turns turns)) (came_of k turns) (bodies_of k turns ++ later)
   limits = fits n opens.number
 
   -- a machine for the connection alone: the next number is the one that it gets, and the lines of all others are there
@@ -60,7 +60,7 @@ module _ (set : Settings) (texts : List (List ℕ)) (k : ConnId) (start end : Ma
     last = at.last;
     failed_draws = 0;
     waiting = [];
-    lines = start.lines ++ lines_beside k (all_turns turns);
+    lines = start.lines ++ lines_before k (all_turns turns);
     fresh = [];
     noting = [];
   }
@@ -86,7 +86,7 @@ module _ (set : Settings) (texts : List (List ℕ)) (k : ConnId) (start end : Ma
   live : Live set n k later lane Fresh start alone (all_turns turns) end run
   live =
       let none = steady.sound.none_above n lane above in
-      let beside = length-append start.lines (lines_beside k (all_turns turns)) in
+      let beside = length-append start.lines (lines_before k (all_turns turns)) in
       let fresh : length start.fresh ≡ 0 = ap length starts.no_line in
       let events = limits.events in
       let own_length = ap length (lines_turns k set n Fresh turns moments) in
@@ -106,7 +106,7 @@ module _ (set : Settings) (texts : List (List ℕ)) (k : ConnId) (start end : Ma
           there = λ e. absurd (cc);
         };
         legal = subst (λ (bs : List Body). IsLegal n Fresh (bs ++ later)) (sym (spoken_turns k turns)) legal_now;
-        level = omega arith;
+        level = λ more. omega arith;
         room = omega arith;
         next = λ off. (refl, refl);
         draws' = refl;
@@ -137,7 +137,7 @@ module _ (set : Settings) (texts : List (List ℕ)) (k : ConnId) (start end : Ma
       own_served : IsServed k n texts (came_of k turns) (map (own_turn k) turns) ran.end'
       own_served = legal_served set texts k alone ran.end' (came_of k turns) (map (own_turn k) turns) alone_starts own_run (own_at_moments k turns moments) (own_sent k turns calm)
           (subst (λ (bs : List Body). IsLegal n Fresh bs) bodies_are legal_now)
-          (subst (λ (bs : List Body). Fits set k n Fresh (start.lines ++ lines_beside k (all_turns turns)) (came_of k turns) bs) bodies_are limits)
+          (subst (λ (bs : List Body). Fits set k n Fresh (start.lines ++ lines_before k (all_turns turns)) (came_of k turns) bs) bodies_are limits)
 
       go : Close set n k later lane start end ran.end' (all_turns turns) run → IsServedAmong set k n texts turns start end run
       go (open_still s rest) = absurd (let h : IsLegal n s [] = subst (λ (bs : List Body). IsLegal n s bs) none rest in h)
