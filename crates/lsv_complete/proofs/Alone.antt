@@ -1,11 +1,9 @@
 -- What one connection does in a run with others, as turns of its own: its jobs, and what it is told.
-use Rattle.std.proofs.Common.{◌≡◌, ◌≢◌, ℕ, List, [], ◌∷◌, ◌++◌, map, refl, sym, ◌∙◌, ap, subst, append_assoc}
-use Rattle.std.specs.Prelude.{◌&&◌, not, Bool, true, false, if◌then◌else◌, All, Result}
+use Rattle.std.proofs.Common.{◌≡◌, ℕ, List, [], ◌∷◌, ◌++◌, map, refl, sym, ◌∙◌, ap, subst, append_assoc}
+use Rattle.std.specs.Prelude.{◌&&◌, not, Bool, true, false, if◌then◌else◌, All}
 use Rattle.std.specs.List.{flat_map}
 use Rattle.std.proofs.lemmas.List.Elements.{All-cons, All-head, All-tail}
 use Rattle.lsv_base.specs.declared.time.TimeSpec.{TimeSpec}
-use Rattle.lsv_request.specs.declared.refusal.Refusal.{Refusal}
-use Rattle.lsv_request.specs.declared.request.Request.{Request}
 use Rattle.lsv_session.specs.declared.connection.ConnId.{ConnId}
 use Rattle.lsv_session.specs.declared.connection.ConnState.{ConnState}
 use Rattle.lsv_session.specs.declared.job.Body.{Body}
@@ -13,8 +11,8 @@ use Rattle.lsv_session.specs.declared.job.Job.{Job}
 use Rattle.lsv_machine.specs.Answers.{Answer}
 use Rattle.lsv_machine.specs.Failures.{Act, WantsMemory}
 use Rattle.lsv_machine.specs.History.{is_gone, request_in}
-use Rattle.lsv_machine.specs.Legal.{AreSent, AreUndisturbed, Came, all_answers, all_lines, behind, behind_all, line_for, lines_in}
-use Rattle.lsv_machine.specs.Machine.{Machine, Settings, same}
+use Rattle.lsv_machine.specs.Legal.{AreSent, AreUndisturbed, all_answers, all_lines, behind, behind_all, line_for, lines_in}
+use Rattle.lsv_machine.specs.Machine.{Settings, same}
 use Rattle.lsv_machine.specs.Recovery.{AtTheirMoments, Turn, all_turns}
 use Rattle.lsv_machine.specs.Silence.{AllTo, NoneTo}
 use Rattle.lsv_machine.specs.Turns.{Happened, Happened.Did, Happened.Tailed, Happened.Begins, Tail, all_acted}

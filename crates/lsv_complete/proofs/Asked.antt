@@ -1,6 +1,6 @@
 -- What a message asks, whatever the state: what is judged is what was asked, and a legal conversation is one whatever the number of its log.
-use Rattle.std.proofs.Common.{◌≡◌, ℕ, List, [], ◌∷◌, ◌++◌, refl, sym, ◌∙◌, ap, subst, inl, inr, Option, Some, None, ◌⊎◌}
-use Rattle.std.specs.Prelude.{◌||◌, ◌&&◌, not, Bool, true, false, if◌then◌else◌, Result, Ok, Err}
+use Rattle.std.proofs.Common.{◌≡◌, ℕ, List, [], ◌∷◌, refl, sym, ◌∙◌, ap, inl, inr, Some}
+use Rattle.std.specs.Prelude.{◌||◌, Bool, true, false, if◌then◌else◌, Result, Ok, Err}
 use Rattle.lsv_base.specs.declared.time.TimeSpec.{TimeSpec}
 use Rattle.lsv_msg.specs.declared.messages.ClientMessage.{ClientMessage}
 use Rattle.lsv_msg.specs.declared.messages.ClientMessage.TheVariants as client
@@ -11,11 +11,11 @@ use Rattle.lsv_request.specs.declared.request.Request.{Request}
 use Rattle.lsv_request.specs.declared.request.Request.TheVariants as request
 use Rattle.lsv_session.specs.declared.connection.ConnId.{ConnId}
 use Rattle.lsv_session.specs.declared.connection.ConnState.{ConnState}
-use Rattle.lsv_session.specs.declared.connection.ConnState.TheVariants.{Fresh, Greeted, Alerted, Running, Dead}
+use Rattle.lsv_session.specs.declared.connection.ConnState.TheVariants.{Greeted, Alerted, Running, Dead}
 use Rattle.lsv_session.specs.declared.job.Body.{Body}
 use Rattle.lsv_session.specs.declared.job.Body.TheVariants as body
 use Rattle.lsv_machine.specs.Failures.{AsksFor}
-use Rattle.lsv_machine.specs.History.{is_exit, is_gone, request_in}
+use Rattle.lsv_machine.specs.History.{is_gone, request_in}
 use Rattle.lsv_machine.specs.Judgement.{allows, judged, with_keys}
 use Rattle.lsv_machine.specs.Legal.{IsLegal, goes_to, has_place}
 use Rattle.lsv_machine.specs.Machine.{Machine, Settings, is_dead, is_running}

@@ -1,23 +1,21 @@
 -- Behind the exit: nothing comes of the connection any more, and its log stays as it is.
-use Rattle.std.proofs.Common.{◌≡◌, ◌≢◌, ◌≤◌, ◌<◌, ℕ, List, [], ◌∷◌, refl, sym, ◌∙◌, ap, subst, inl, inr, arith, Option, Some, None, ◌⊎◌}
-use Rattle.std.specs.Prelude.{◌&&◌, not, Bool, true, false, if◌then◌else◌, is_some}
-use Rattle.lsv_record.specs.Points.{Stored}
+use Rattle.std.proofs.Common.{◌≡◌, ◌≢◌, ◌≤◌, ℕ, List, [], ◌∷◌, refl, sym, ◌∙◌, ap, subst, inl, inr, arith, Option, Some, None, ◌⊎◌}
+use Rattle.std.specs.Prelude.{◌&&◌, not, Bool, true, false}
 use Rattle.lsv_session.specs.declared.connection.ConnId.{ConnId}
 use Rattle.lsv_session.specs.declared.connection.ConnState.{ConnState}
 use Rattle.lsv_session.specs.declared.connection.ConnState.TheVariants.{Dead}
 use Rattle.lsv_session.specs.declared.job.Body.{Body}
 use Rattle.lsv_session.specs.declared.job.Body.TheVariants as body
-use Rattle.lsv_machine.specs.Answers.{Answer}
 use Rattle.lsv_machine.specs.Failures.{Act, Plainly, Step}
 use Rattle.lsv_machine.specs.History.{is_gone}
-use Rattle.lsv_machine.specs.Machine.{LogState, LogState.Absent, LogState.Damaged, LogState.There, Machine, Settings, is_dead, log_of, same}
+use Rattle.lsv_machine.specs.Machine.{LogState, LogState.Absent, LogState.Damaged, LogState.There, Machine, Settings, is_dead, same}
 use Rattle.lsv_machine.specs.Silence.{EndsWithGone, NoJobs, NothingTo}
-use Rattle.lsv_machine.specs.Turns.{EndOfTurn, Happened, Happened.Did, Happened.Tailed, Happened.Begins, Run, Tail, with_lines}
+use Rattle.lsv_machine.specs.Turns.{Happened, Happened.Did, Happened.Tailed, Happened.Begins, Run, with_lines}
 use Rattle.lsv_machine.specs.Work.{Done, dropped, next_number, plain, silently}
 use Rattle.lsv_machine.proofs.Choices.{SameOr.alike, SameOr.apart, same_or}
 use Rattle.lsv_machine.proofs.StepLooks.{step_seen}
 use Rattle.lsv_complete.specs.Among.{IsHeld, IsHeld.Over, IsLeftAlone, IsUndisturbed, answers_to, speaks}
-use Rattle.lsv_complete.proofs.Alone.{Hears, own, own_tail, to_others}
+use Rattle.lsv_complete.proofs.Alone.{Hears, own, to_others}
 use Rattle.lsv_complete.proofs.Beside.{step_moves}
 use Rattle.lsv_complete.proofs.Numbers.{Steady, next_above, next_may, step_steady, tail_keeps, tail_steady}
 use Rattle.lsv_complete.proofs.Tails.{calm_tail, unowned_tail}

@@ -1,8 +1,7 @@
 -- What a job may change where no device failed: the last number drawn, which logs wait, and no log but its connection's own, the one that it makes, and one that it goes on with.
-use Rattle.std.proofs.Common.{◌≡◌, ◌≢◌, ◌+◌, ℕ, List, [], ◌∷◌, length, refl, sym, ◌∙◌, ap, subst, inl, inr, arith, Option, Some, None, ◌⊎◌}
-use Rattle.std.specs.Prelude.{◌==◌, ◌||◌, ◌&&◌, not, nat_lt, Bool, true, false, if◌then◌else◌, is_some, Result, Ok, Err}
+use Rattle.std.proofs.Common.{◌≡◌, ℕ, List, [], ◌∷◌, length, refl, sym, ◌∙◌, ap, subst, inl, inr, Option, Some, None, ◌⊎◌}
+use Rattle.std.specs.Prelude.{◌||◌, ◌&&◌, not, nat_lt, Bool, true, false, if◌then◌else◌, is_some, Result, Ok, Err}
 use Rattle.lsv_base.specs.declared.time.TimeSpec.{TimeSpec}
-use Rattle.lsv_disk.specs.declared.file.Owner.{Owner}
 use Rattle.lsv_disk.specs.declared.file.Owner.TheVariants.{Log, Numbers}
 use Rattle.lsv_info.specs.Layout.{head_text, exit_text}
 use Rattle.lsv_mask.specs.Masking.{covered}
@@ -21,12 +20,11 @@ use Rattle.lsv_session.specs.declared.connection.ConnState.{ConnState}
 use Rattle.lsv_session.specs.declared.connection.ConnState.TheVariants.{Fresh, Greeted, Alerted, Running, Dead}
 use Rattle.lsv_session.specs.declared.job.Body.{Body}
 use Rattle.lsv_session.specs.declared.job.Body.TheVariants as body
-use Rattle.lsv_session.specs.declared.job.Job.{Job}
-use Rattle.lsv_machine.specs.Answers.{is_refused, say, Saying.CommitPoint, Saying.LogId, Saying.Shut}
-use Rattle.lsv_machine.specs.Failures.{Act, Breaks, BreaksOff, BrokenOff, Closes, Deviates, FailsCut, FailsToDraw, IsRefused, IsSet, LeavesLog, LosesLog, Makes, MayDraw, MeetsFault, Plainly, Step, WantsMemory, exit_in}
+use Rattle.lsv_machine.specs.Answers.{is_refused, say, Saying.CommitPoint, Saying.Shut}
+use Rattle.lsv_machine.specs.Failures.{Act, Breaks, BreaksOff, BrokenOff, FailsCut, IsRefused, LeavesLog, LosesLog, Makes, MeetsFault, Plainly, Step, WantsMemory, exit_in}
 use Rattle.lsv_machine.specs.History.{request_in}
 use Rattle.lsv_machine.specs.Judgement.{fault_refusal, judged}
-use Rattle.lsv_machine.specs.Machine.{LogState, LogState.Absent, LogState.Damaged, LogState.There, Machine, Settings, is_dead, is_log, is_running, leaves, log_of, with_log, with_owner, with_state, without_conn}
+use Rattle.lsv_machine.specs.Machine.{LogState, LogState.Absent, LogState.Damaged, LogState.There, Machine, Settings, is_dead, is_running, leaves, log_of, with_log, with_owner, with_state, without_conn}
 use Rattle.lsv_machine.specs.Work.{Done, adds_line, alive, answered, before_line, can_cut, cut_to, draws, dropped, empty_log, ends, exited, finished, fits_file, has_line, last_number, line_fits, line_in, lined, makes, next_number, opened, opens, plain, recorded, refused, restarted, restarted_at, resumed, sets_exit, silently, taken, takes, waits, with_exit, with_record, work}
 use Rattle.lsv_machine.proofs.Choices.{EqOr.equal, EqOr.unequal, eq_or}
 use Rattle.lsv_machine.proofs.OutcomeLemmas.{number_is}

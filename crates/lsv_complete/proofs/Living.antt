@@ -1,6 +1,6 @@
 -- A legal conversation that goes on among others: job by job and turn by turn its connection alone does the same.
-use Rattle.std.proofs.Common.{◌≡◌, ◌≢◌, ◌≤◌, ◌<◌, ◌+◌, ◌^◌, ℕ, List, [], ◌∷◌, ◌++◌, length, refl, sym, ◌∙◌, ap, subst, inl, inr, arith, Option, Some, None, ◌⊎◌, length-append}
-use Rattle.std.specs.Prelude.{◌==◌, ◌||◌, ◌&&◌, not, nat_le, nat_lt, Bool, true, false, if◌then◌else◌, Result, Ok, Err}
+use Rattle.std.proofs.Common.{◌≡◌, ◌≢◌, ◌≤◌, ◌<◌, ◌+◌, ◌^◌, ℕ, List, [], ◌∷◌, ◌++◌, length, refl, sym, ◌∙◌, ap, subst, inl, inr, arith, Some, None, ◌⊎◌, length-append}
+use Rattle.std.specs.Prelude.{◌&&◌, not, nat_le, nat_lt, Bool, true, false, if◌then◌else◌, Result, Ok}
 use Rattle.std.proofs.lemmas.Bool.Decides.{nat_tests}
 use Rattle.lsv_base.specs.declared.time.TimeSpec.{TimeSpec}
 use Rattle.lsv_record.specs.Points.{Stored}
@@ -9,26 +9,26 @@ use Rattle.lsv_request.specs.declared.request.Request.{Request}
 use Rattle.lsv_request.specs.declared.request.Request.TheVariants as request
 use Rattle.lsv_session.specs.declared.connection.ConnId.{ConnId}
 use Rattle.lsv_session.specs.declared.connection.ConnState.{ConnState}
-use Rattle.lsv_session.specs.declared.connection.ConnState.TheVariants.{Fresh, Greeted, Alerted, Running, Dead}
+use Rattle.lsv_session.specs.declared.connection.ConnState.TheVariants.{Alerted, Running, Dead}
 use Rattle.lsv_session.specs.declared.job.Body.{Body}
 use Rattle.lsv_session.specs.declared.job.Body.TheVariants as body
 use Rattle.lsv_session.specs.declared.job.Job.{Job}
-use Rattle.lsv_machine.specs.Answers.{Answer, is_refused}
+use Rattle.lsv_machine.specs.Answers.{is_refused}
 use Rattle.lsv_machine.specs.Failures.{Act, AsksFor, Plainly, Step, WantsMemory}
 use Rattle.lsv_machine.specs.History.{is_exit, is_gone, request_in}
 use Rattle.lsv_machine.specs.Legal.{IsLegal, behind, goes_to, has_place, line_for}
-use Rattle.lsv_machine.specs.Machine.{IsOfLane, LogState, LogState.Absent, LogState.There, Machine, Settings, is_dead, is_running, log_of, same}
-use Rattle.lsv_machine.specs.Silence.{AllTo, EndsWithGone, NoJobs, NothingTo}
+use Rattle.lsv_machine.specs.Machine.{IsOfLane, LogState.Absent, LogState.There, Machine, Settings, is_dead, is_running, log_of, same}
+use Rattle.lsv_machine.specs.Silence.{AllTo, EndsWithGone, NoJobs}
 use Rattle.lsv_machine.specs.Turns.{EndOfTurn, Happened, Happened.Did, Happened.Tailed, Happened.Begins, Run, Tail}
 use Rattle.lsv_machine.specs.Work.{Done, has_line, line_fits, line_in, lined, next_number, opens, plain, work}
 use Rattle.lsv_machine.proofs.Choices.{SameOr.alike, SameOr.apart, same_or}
 use Rattle.lsv_machine.proofs.OutcomeLemmas.{number_is, plainly_or}
 use Rattle.lsv_machine.proofs.Silent.{others_none, silence}
 use Rattle.lsv_machine.proofs.StepLooks.{step_seen}
-use Rattle.lsv_complete.specs.Among.{IsHeld, IsHeld.NotYet, IsHeld.Written, IsLeftAlone, IsUndisturbed, NeverGone, answers_to, asks_new, lines_before, sends, speaks}
-use Rattle.lsv_complete.proofs.Alone.{Hears, own, own_lines, own_tail, spoken, to_itself, to_others}
+use Rattle.lsv_complete.specs.Among.{IsHeld, IsHeld.NotYet, IsHeld.Written, IsLeftAlone, IsUndisturbed, NeverGone, asks_new, lines_before, sends, speaks}
+use Rattle.lsv_complete.proofs.Alone.{Hears, own, own_lines, spoken, to_itself, to_others}
 use Rattle.lsv_complete.proofs.Asked.{asked_does, asked_in}
-use Rattle.lsv_complete.proofs.Behind.{After, gone_is, goes_after, last_rises, stays_complete}
+use Rattle.lsv_complete.proofs.Behind.{gone_is, goes_after, last_rises, stays_complete}
 use Rattle.lsv_complete.proofs.Beside.{Guarded, step_moves}
 use Rattle.lsv_complete.proofs.Numbers.{Steady, next_above, next_may, opening, opens_at, same_next, step_steady, tail_keeps, tail_steady}
 use Rattle.lsv_complete.proofs.Tails.{Ended, WritesOnly, tail_ended}

@@ -1,6 +1,6 @@
 -- The number that a connection's log gets in a run: at the moment at which it asks for it, the lane's next one.
-use Rattle.std.proofs.Common.{◌≡◌, ◌≢◌, ◌≤◌, ◌<◌, ◌+◌, ◌*◌, ℕ, List, [], ◌∷◌, refl, sym, ◌∙◌, ap, subst, inl, inr, arith, Option, Some, None, ◌⊎◌}
-use Rattle.std.specs.Prelude.{◌==◌, ◌&&◌, not, Bool, true, false, if◌then◌else◌, Result, Ok}
+use Rattle.std.proofs.Common.{◌≡◌, ◌≤◌, ◌<◌, ◌+◌, ◌*◌, ℕ, List, [], ◌∷◌, refl, sym, ◌∙◌, ap, subst, inl, inr, arith, ◌⊎◌}
+use Rattle.std.specs.Prelude.{◌==◌, ◌&&◌, Bool, true, false, if◌then◌else◌}
 use Rattle.lsv_disk.specs.declared.file.Owner.{Owner}
 use Rattle.lsv_disk.specs.declared.file.Owner.TheVariants.{Log, Events}
 use Rattle.lsv_session.specs.declared.connection.ConnId.{ConnId}
@@ -16,7 +16,7 @@ use Rattle.lsv_machine.proofs.Choices.{EqOr.equal, EqOr.unequal, eq_or}
 use Rattle.lsv_machine.proofs.Silent.{step_sound, tail_sound}
 use Rattle.lsv_machine.proofs.StepLooks.{none_among}
 use Rattle.lsv_complete.specs.Among.{IsUndisturbed, MayGet, asked_before, asks_new}
-use Rattle.lsv_complete.proofs.Beside.{Moves, step_moves}
+use Rattle.lsv_complete.proofs.Beside.{step_moves}
 use Rattle.lsv_complete.proofs.Waiting.{Rising}
 
 -- ---- The next number

@@ -1,24 +1,22 @@
 -- A legal conversation is served among others, since what its connection does alone is.
-use Rattle.std.proofs.Common.{◌≡◌, ◌≢◌, ◌≤◌, ◌<◌, ◌+◌, ◌^◌, ℕ, List, [], ◌∷◌, ◌++◌, length, map, refl, sym, ◌∙◌, ap, subst, inl, inr, arith, Option, Some, None, ◌⊎◌, append-nil, length-append}
-use Rattle.std.specs.Prelude.{Bool, true, false}
-use Rattle.std.specs.List.{flat_map, list_any}
-use Rattle.lsv_record.specs.Points.{Stored}
+use Rattle.std.proofs.Common.{◌≡◌, ◌<◌, ℕ, List, [], ◌∷◌, ◌++◌, length, map, refl, sym, ◌∙◌, ap, subst, inl, inr, arith, None, ◌⊎◌, append-nil, length-append}
+use Rattle.std.specs.Prelude.{false}
+use Rattle.std.specs.List.{list_any}
 use Rattle.lsv_session.specs.declared.connection.ConnId.{ConnId}
-use Rattle.lsv_session.specs.declared.connection.ConnState.TheVariants.{Fresh, Running}
+use Rattle.lsv_session.specs.declared.connection.ConnState.TheVariants.{Fresh}
 use Rattle.lsv_session.specs.declared.job.Body.{Body}
-use Rattle.lsv_session.specs.declared.job.Body.TheVariants as body
 use Rattle.lsv_machine.specs.Answers.{Answer}
 use Rattle.lsv_machine.specs.Legal.{Fits, IsLegal, IsServed, all_answers, is_shut, records_in, whole_log}
-use Rattle.lsv_machine.specs.Machine.{IsOfLane, LogState, LogState.Absent, LogState.There, Machine, Settings}
+use Rattle.lsv_machine.specs.Machine.{IsOfLane, LogState.Absent, LogState.There, Machine, Settings}
 use Rattle.lsv_machine.specs.Recovery.{AtTheirMoments, Turn, all_turns}
-use Rattle.lsv_machine.specs.Silence.{EndsWithGone, NoJobs}
+use Rattle.lsv_machine.specs.Silence.{EndsWithGone}
 use Rattle.lsv_machine.specs.Starts.{StartsAs}
 use Rattle.lsv_machine.specs.Turns.{Happened, Happened.Did, Happened.Tailed, Happened.Begins, Run}
 use Rattle.lsv_machine.specs.Work.{next_number}
 use Rattle.lsv_machine.proofs.LegalTurns.{legal_served, none_is_shut}
 use Rattle.lsv_machine.proofs.RunLaws.{starts_sound}
 use Rattle.lsv_complete.specs.Among.{FitsAmong, IsServedAmong, IsUndisturbed, NeverGone, answers_to, asked_before, bodies_of, came_of, lines_before}
-use Rattle.lsv_complete.proofs.Alone.{heard, lines_turns, own, own_at_moments, own_lines, own_sent, own_turn, own_turns, spoken, spoken_turns}
+use Rattle.lsv_complete.proofs.Alone.{heard, lines_turns, own_at_moments, own_sent, own_turn, own_turns, spoken_turns}
 use Rattle.lsv_complete.proofs.Asked.{legal_anyhow}
 use Rattle.lsv_complete.proofs.Living.{Close, Close.early, Close.open_still, Close.over, Live, Ran, live_goes}
 use Rattle.lsv_complete.proofs.Numbers.{Opening, Steady, next_above, next_of_lane, opening, opens_at}

@@ -1,6 +1,6 @@
 -- Ends of turns in which nothing failed: what they tell one connection, and the same of the connection alone.
 use Rattle.std.proofs.Common.{◌≡◌, ◌≢◌, ℕ, List, [], ◌∷◌, ◌++◌, refl, sym, ◌∙◌, ap, subst, inl, inr, Option, Some, None, ◌⊎◌, append-nil}
-use Rattle.std.specs.Prelude.{◌==◌, ◌||◌, Bool, true, false, if◌then◌else◌}
+use Rattle.std.specs.Prelude.{◌==◌, ◌||◌, Bool, true, false}
 use Rattle.lsv_disk.specs.declared.file.Owner.{Owner}
 use Rattle.lsv_disk.specs.declared.file.Owner.TheVariants.{Log, Events}
 use Rattle.lsv_record.specs.Points.{Stored}
@@ -14,7 +14,7 @@ use Rattle.lsv_machine.proofs.Choices.{EqOr.equal, EqOr.unequal, SameOr.alike, S
 use Rattle.lsv_machine.proofs.StepLooks.{none_among}
 use Rattle.lsv_complete.specs.Among.{answers_to}
 use Rattle.lsv_complete.proofs.Alone.{own_tail, to_append}
-use Rattle.lsv_complete.proofs.Numbers.{flushes_keep, tail_keeps}
+use Rattle.lsv_complete.proofs.Numbers.{tail_keeps}
 use Rattle.lsv_complete.proofs.Twins.{Mirrors, Unfinished}
 use Rattle.lsv_complete.proofs.Waiting.{AllAbove, Rising, above_none, among, only}
 

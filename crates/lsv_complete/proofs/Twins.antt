@@ -1,11 +1,10 @@
 -- One job of a legal conversation in two machines that agree on its connection and its log: the same comes of it in both.
-use Rattle.std.proofs.Common.{◌≡◌, ◌≢◌, ℕ, List, [], ◌∷◌, ◌++◌, length, refl, sym, ◌∙◌, ap, subst, Option, Some, None}
-use Rattle.std.specs.Prelude.{◌==◌, ◌||◌, ◌&&◌, not, nat_lt, Bool, true, false, if◌then◌else◌, is_some, Result, Ok, Err}
+use Rattle.std.proofs.Common.{◌≡◌, ℕ, List, [], ◌∷◌, length, refl, sym, ◌∙◌, ap, subst, Option, Some, None}
+use Rattle.std.specs.Prelude.{◌||◌, not, nat_lt, Bool, true, false, if◌then◌else◌, is_some, Ok}
 use Rattle.lsv_base.specs.declared.time.TimeSpec.{TimeSpec}
 use Rattle.lsv_info.specs.Layout.{head_text, exit_text}
 use Rattle.lsv_mask.specs.Masking.{covered}
 use Rattle.lsv_record.specs.Points.{Stored}
-use Rattle.lsv_record.specs.Records.{elapsed}
 use Rattle.lsv_record.specs.declared.records.Record.{Record}
 use Rattle.lsv_request.specs.declared.refusal.Refusal.{Refusal}
 use Rattle.lsv_request.specs.declared.refusal.Refusal.TheVariants as refusals
@@ -15,14 +14,14 @@ use Rattle.lsv_request.specs.declared.request.Request.TheVariants as request
 use Rattle.lsv_session.specs.declared.connection.ConnId.{ConnId}
 use Rattle.lsv_session.specs.declared.connection.ConnState.{ConnState}
 use Rattle.lsv_session.specs.declared.connection.ConnState.TheVariants.{Fresh, Greeted, Alerted, Running, Dead}
-use Rattle.lsv_machine.specs.Answers.{Saying.CommitPoint, Saying.LogId, Saying.Shut, is_refused, refusal, say}
+use Rattle.lsv_machine.specs.Answers.{is_refused}
 use Rattle.lsv_machine.specs.History.{is_exit}
 use Rattle.lsv_machine.specs.Legal.{goes_to, has_place}
-use Rattle.lsv_machine.specs.Machine.{LogState, LogState.Absent, LogState.Damaged, LogState.There, Machine, Settings, insert_once, is_dead, is_log, is_running, leaves, let_go, log_of, with_log, with_owner, with_state, without, without_log}
-use Rattle.lsv_machine.specs.Work.{Done, adds_line, draws, empty_log, ends, exited, finished, fits_file, has_line, last_number, line_fits, line_in, lined, makes, opened, opens, recorded, refused, silently, taken, takes, waits, with_exit, with_record, work}
+use Rattle.lsv_machine.specs.Machine.{LogState, LogState.Absent, LogState.Damaged, LogState.There, Machine, Settings, insert_once, is_dead, is_log, is_running, let_go, log_of, with_log, with_owner, with_state, without, without_log}
+use Rattle.lsv_machine.specs.Work.{Done, adds_line, draws, empty_log, exited, finished, fits_file, has_line, last_number, line_fits, line_in, lined, makes, opened, opens, recorded, refused, silently, taken, takes, waits, with_exit, with_record, work}
 use Rattle.lsv_machine.proofs.Choices.{EqOr.equal, EqOr.unequal, eq_or}
 use Rattle.lsv_machine.proofs.Shapes.{its_state}
-use Rattle.lsv_complete.proofs.Waiting.{among, insert_itself, its_log_is, only, without_itself}
+use Rattle.lsv_complete.proofs.Waiting.{among, insert_itself, its_log_is, only}
 
 -- a log that has no exit, or isn't there
 abbrev pub Unfinished : LogState → Type 0
