@@ -159,7 +159,6 @@ module _ (set : Settings) (n : ℕ) (k : ConnId) where
   goes_after (Tailed tail ∷ history) m end m' (mid, ended, run) calm s over nothing dead' empty =
       let none = to_others k tail.answers nothing.0 in
       let keeps = tail_keeps set m mid tail calm.0 ended in
-      let next : Machine = record (with_lines true m') { waiting = [] } in
       let a = goes_after history mid end (record (with_lines true m') { waiting = [] }) run calm.1 (tail_steady set m mid tail calm.0 s ended) (tail_over keeps.states over) nothing.1 dead' refl in
       record {
         end' = a.end';

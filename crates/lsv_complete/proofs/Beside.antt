@@ -303,9 +303,6 @@ module _ (set : Settings) (n : ℕ) (m new : Machine) (act : Act) (none : act.fa
   abbrev MovesTo : Machine → Type 0
   MovesTo x = Moves n act.job.conn (next_number set m) m (asks_new (request_in act.job.body)) x
 
-  abbrev Conn : ConnId
-  Conn = act.job.conn
-
   plainly_moves : Plainly set m act new → MovesTo new
   plainly_moves p =
       let i : p.number ≡ next_number set m = number_is set m p.number drawn p.drawn in

@@ -316,12 +316,6 @@ module _ (set : Settings) (n : ℕ) (k : ConnId) (later : List Body) (lane : IsO
     plainly : Plainly set m act mid
     plainly = elim (plainly_or set m mid act step none) [ inl p ↦ p | inr wants ↦ absurd (ample wants) ]
 
-    number : ℕ
-    number = plainly.number
-
-    alone_number : ℕ
-    alone_number = next_number set m'
-
     module _ (asked : Request) (asks : AsksFor s act.job.body asked) (place : has_place s asked ≡ true) where
       is : request_in act.job.body ≡ Ok asked
       is = asked_in s act.job.body asked asks
@@ -368,9 +362,6 @@ module _ (set : Settings) (n : ℕ) (k : ConnId) (later : List Body) (lane : IsO
           )
 
       -- what is done with the others, and without them
-      done : Done
-      done = lined set act.now k s asked plainly.number m (work k s asked plainly.number m)
-
       both : Lined n k s m m' live.pair asked (if has_line set asked then line_in set act.now k s asked plainly.number else [])
           (lined set act.now k s asked plainly.number m (work k s asked plainly.number m)) (lined set act.now k s asked (next_number set m') m' (work k s asked (next_number set m') m'))
       both = lined_twin n k s m m' live.pair set act.now asked plainly.number (next_number set m') (work k s asked plainly.number m) (work k s asked (next_number set m') m')
@@ -483,7 +474,6 @@ module _ (set : Settings) (n : ℕ) (k : ConnId) (later : List Body) (lane : IsO
               let runs = exit_runs s asked is_it place in
               let low = low_before live.pair.place runs in
               let rises = last_rises set n k m mid act step none steady in
-              let now : (y : Machine) → y.logs n ≡ y.logs n = λ y. refl in
               let kept = stays_complete set n k history mid end run calm steady_on (omega arith) (ap (λ (y : Machine). y.owner n) mid_is ∙ free) (subst (λ (y : Machine). Complete (y.logs n)) (sym mid_is) complete) in
               ran_after (ap (λ (y : Machine). y.states k) mid_is ∙ dead) (ap (λ (y : Machine). y.states k) new_is ∙ dead') (ap (λ (y : Machine). y.waiting) new_is ∙ empty)
               (λ end' same_log. over (kept.0 ∙ (ap (λ (y : Machine). y.logs n) mid_is ∙ (sym log ∙ (sym (ap (λ (y : Machine). y.logs n) new_is) ∙ sym same_log)))) kept.1 kept.2)

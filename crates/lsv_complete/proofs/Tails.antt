@@ -8,7 +8,7 @@ use Rattle.lsv_record.specs.Records.{elapsed}
 use Rattle.lsv_session.specs.declared.connection.ConnId.{ConnId}
 use Rattle.lsv_session.specs.declared.connection.ConnState.{ConnState}
 use Rattle.lsv_machine.specs.Answers.{Answer, Saying.CommitPoint, say}
-use Rattle.lsv_machine.specs.Machine.{LogState, LogState.There, Machine, Settings, with_log}
+use Rattle.lsv_machine.specs.Machine.{LogState.There, Machine, Settings, with_log}
 use Rattle.lsv_machine.specs.Turns.{Commits, EndOfTurn, FlushesLines, FlushesLog, FlushesLogs, Tail, raised, with_lines}
 use Rattle.lsv_machine.proofs.Choices.{EqOr.equal, EqOr.unequal, SameOr.alike, SameOr.apart, eq_or, same_or, same_refl}
 use Rattle.lsv_machine.proofs.StepLooks.{none_among}
@@ -190,9 +190,6 @@ module _ (n : ℕ) (k : ConnId) where
           log_now : new.logs n ≡ t.last.logs n
           log_now = ap (λ (x : Machine). x.logs n) t.now
 
-          mid' : Machine
-          mid' = with_lines true m'
-
           go : Flushed (among n t.mid.waiting) t.of_logs t.mid t.last → Ended m m' new tail
           go (untold w quiet log) =
               let calm : m'.waiting ≡ [] = mirrors.waits ∙ (ap (λ (xs : List ℕ). only n (among n xs)) (sym waiting_is) ∙ ap (only n) w) in
@@ -204,9 +201,6 @@ module _ (n : ℕ) (k : ConnId) where
               let writer_is : writer ≡ k = its_writer o_m owned in
               let own_m : m.owner n ≡ Some k = o_m ∙ ap Some writer_is in
               let waits' : m'.waiting ≡ n ∷ [] = mirrors.waits ∙ (ap (λ (xs : List ℕ). only n (among n xs)) (sym waiting_is) ∙ ap (only n) w) in
-              let log_new : LogState = There stored (raised promised stored.records (elapsed stored.records)) in
-              let last' : Machine = with_log n (There stored (raised promised stored.records (elapsed stored.records))) (with_lines true m') in
-              let own_says : List Answer = say k (CommitPoint (elapsed stored.records)) ∷ [] in
               let says : answers_to k tail.answers ≡ say k (CommitPoint (elapsed stored.records)) ∷ [] =
               heard ∙ (point ∙ (ap (λ (j : ConnId). answers_to k (say j (CommitPoint (elapsed stored.records)) ∷ [])) writer_is ∙ (let it = same_refl k in rw it refl))) in
               let one : Commits [] n (say k (CommitPoint (elapsed stored.records)) ∷ []) (with_lines true m') (with_log n (There stored (raised promised stored.records (elapsed stored.records))) (with_lines true m')) = record {

@@ -175,17 +175,8 @@ module _ (n : ℕ) (k : ConnId) where
     opened_twin : (accept : Accept) → is_running s ≡ false → Twin s (request.Accept accept) (opened k (head_text accept.head) n m) (opened k (head_text accept.head) n m')
     opened_twin accept off = go (nat_lt last_number n) refl (fits_file (head_text accept.head)) refl
       where
-        what : Request
-        what = request.Accept accept
-
-        head : List ℕ
-        head = head_text accept.head
-
         there : goes_to n s (request.Accept accept) ≡ Running (Some n)
         there = rw off refl
-
-        made : Machine → Machine
-        made x = with_state k (Running (Some n)) (with_owner n (Some k) (makes n (head_text accept.head) x))
 
         both : Mirrors (with_state k (Running (Some n)) (with_owner n (Some k) (makes n (head_text accept.head) m))) (with_state k (Running (Some n)) (with_owner n (Some k) (makes n (head_text accept.head) m')))
         both = state_mirrors (Running (Some n)) (with_owner n (Some k) (makes n (head_text accept.head) m)) (with_owner n (Some k) (makes n (head_text accept.head) m'))
@@ -242,13 +233,9 @@ module _ (n : ℕ) (k : ConnId) where
       finished_twin : (what : Request) (exit : List ℕ) → is_exit (Ok what) ≡ true → Twin s what (finished k n exit (There stored promised) m) (finished k n exit (There stored promised) m')
       finished_twin what exit is_it = go (fits_file exit) refl
         where
-          log : LogState
-          log = There (with_exit exit stored) (length stored.records)
-
           go : (b : Bool) → fits_file exit ≡ b → Twin s what (finished k n exit (There stored promised) m) (finished k n exit (There stored promised) m')
           go false e = rw e (refused_twin what refusals.LogFull m m' refl refl refl)
           go true e =
-              let set_log : LogState = There (with_exit exit stored) (length stored.records) in
               let mid : Machine = with_log n (There (with_exit exit stored) (length stored.records)) m in
               let mid' : Machine = with_log n (There (with_exit exit stored) (length stored.records)) m' in
               let its : is_log (log_of (m.states k)) n ≡ true = ap (λ (x : ConnState). is_log (log_of x) n) (pair.state ∙ on) ∙ its_log_is n in
@@ -311,7 +298,6 @@ module _ (n : ℕ) (k : ConnId) where
         go (outside off alive) = clash (is_running s) place off
         go (inside on) =
             let (stored, promised, at) = pair.there on in
-            let text : List ℕ = exit_text exit in
             let at_m : exited k (log_of s) (exit_text exit) m ≡ finished k n (exit_text exit) (There stored promised) m =
             ap (λ (x : ConnState). exited k (log_of x) (exit_text exit) m) on ∙ ap (λ (x : LogState). finished k n (exit_text exit) x m) at in
             let at_m' : exited k (log_of s) (exit_text exit) m' ≡ finished k n (exit_text exit) (There stored promised) m' =
