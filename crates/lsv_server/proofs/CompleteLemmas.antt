@@ -1,5 +1,5 @@
 -- A legal conversation over a link of a server is served, where nothing is in its way.
-use Rattle.std.proofs.Common.{◌≡◌, ◌≢◌, ◌≤◌, ◌<◌, ◌+◌, ◌-◌, ◌^◌, ◌⊎◌, ℕ, List, [], ◌∷◌, ◌++◌, map, refl, sym, ◌∙◌, ap, subst, inl, inr, arith, Option, Some, None, append-nil}
+use Rattle.std.proofs.Common.{◌≡◌, ◌≤◌, ◌<◌, ◌+◌, ◌-◌, ◌^◌, ℕ, List, [], ◌∷◌, ◌++◌, map, refl, sym, ◌∙◌, ap, subst, inl, inr, arith, Option, Some, None, append-nil}
 use Rattle.std.specs.Prelude.{◌||◌, Bool, true, false, nat_lt, Contains}
 use Rattle.std.proofs.lemmas.Bool.Decides.{nat_tests}
 use Rattle.std.proofs.lemmas.List.Elements.{Contains-append_left, Contains-append_right, Contains-push}
@@ -17,31 +17,30 @@ use Rattle.lsv_seq.specs.Drawn.{entry_at}
 use Rattle.lsv_seq.specs.declared.entry.Entry.{Entry}
 use Rattle.lsv_wire.specs.Frame.{frame_of}
 use Rattle.lsv_session.specs.Connections.{server_hello}
-use Rattle.lsv_session.specs.Transcript.{AreFirst, AreJobs, answers, bodies_of, frames_of}
+use Rattle.lsv_session.specs.Transcript.{AreFirst, answers, bodies_of, frames_of}
 use Rattle.lsv_session.specs.declared.connection.ConnId.{ConnId}
 use Rattle.lsv_session.specs.declared.connection.ConnState.TheVariants.{Fresh}
 use Rattle.lsv_session.specs.declared.job.Body.{Body}
 use Rattle.lsv_session.specs.declared.job.Body.TheVariants as body
 use Rattle.lsv_session.specs.declared.job.Fault.TheVariants as fault
 use Rattle.lsv_session.proofs.Jobs.{one_list}
-use Rattle.lsv_machine.specs.Answers.{Saying}
 use Rattle.lsv_machine.specs.Counts.{Counts, IsCounted, all_parts, failed_in, failures, faults_among, is_among, one_if, same_owner}
 use Rattle.lsv_machine.specs.Failures.{Act}
 use Rattle.lsv_machine.specs.Legal.{IsLegal, all_answers, told_of, whole_log}
 use Rattle.lsv_machine.specs.Machine.{LogState, Machine, Settings}
-use Rattle.lsv_machine.specs.Recovery.{Story, Turn, all_turns}
+use Rattle.lsv_machine.specs.Recovery.{Turn, all_turns}
 use Rattle.lsv_machine.specs.Silence.{EndsWithGone}
 use Rattle.lsv_machine.specs.Starts.{ReadsAs}
-use Rattle.lsv_machine.specs.Turns.{Happened, Happened.Did, Happened.Tailed, Tail, all_acted}
+use Rattle.lsv_machine.specs.Turns.{Happened, Happened.Tailed, all_acted}
 use Rattle.lsv_complete.specs.Among as among
 use Rattle.lsv_complete.specs.Among.{FitsAmong, IsServedAmong, IsUndisturbed, came_of}
 use Rattle.lsv_complete.proofs.Served.{served_among}
 use Rattle.lsv_keeper.specs.Reading.{IsDrawn}
 use Rattle.lsv_turns.specs.Turns.{LaneTurn, jobs_in, replies_in, shuts}
-use Rattle.lsv_lane.specs.Store.{AreTurns, Conforms, KeepsStore}
+use Rattle.lsv_lane.specs.Store.{Conforms, KeepsStore}
 use Rattle.lsv_reactor.specs.Links.{AtMostStarved, Brings, LinkFailed, PortView, Puts, ServesLink, ServesPort, conn_of}
 use Rattle.lsv_reactor.specs.Links as links
-use Rattle.lsv_server.specs.Complete.{AllAmple, AreAmple, Completes, IsServedBy, IsUnhindered, answers_of, came_by, messages_of}
+use Rattle.lsv_server.specs.Complete.{AllAmple, AreAmple, Completes, IsServedBy, IsUnhindered, answers_of, came_by}
 use Rattle.lsv_server.proofs.Leaving.{isnt_shut_early, unshut_replies}
 use Rattle.lsv_server.proofs.Sent.{NoGone, ends_with_gone, first_no_gone, jobs_no_gone, replies_are, said_all, spoken, spoken_all, told_same, turns_sent}
 
@@ -135,8 +134,8 @@ not_starved : (heard starved bodies : List Body) → AtMostStarved starved → b
 not_starved heard starved bodies (inl none) is ample = none
 not_starved heard starved bodies (inr one) is ample =
     let here : Contains (starved ++ body.Gone ∷ []) (body.Bad fault.NoMem) =
-        subst (λ (bs : List Body). Contains (bs ++ body.Gone ∷ []) (body.Bad fault.NoMem)) (sym one)
-        (Contains-append_left (body.Bad fault.NoMem ∷ []) (body.Gone ∷ []) (body.Bad fault.NoMem) (Contains-push [] (body.Bad fault.NoMem))) in
+    subst (λ (bs : List Body). Contains (bs ++ body.Gone ∷ []) (body.Bad fault.NoMem)) (sym one)
+    (Contains-append_left (body.Bad fault.NoMem ∷ []) (body.Gone ∷ []) (body.Bad fault.NoMem) (Contains-push [] (body.Bad fault.NoMem))) in
     absurd (ample (subst (λ (bs : List Body). Contains bs (body.Bad fault.NoMem)) (sym is) (Contains-append_right heard (starved ++ body.Gone ∷ []) (body.Bad fault.NoMem) here)))
 
 module _ (disk_tells : Type 0) (set : Settings) (texts : List (List ℕ)) (found left : DiskView) (lane : List LaneTurn) (keeps : KeepsStore (Unit {0}) set texts (record { found = found; left = left }) lane)
@@ -180,7 +179,7 @@ module _ (disk_tells : Type 0) (set : Settings) (texts : List (List ℕ)) (found
   part_unshut later is some =
       let all : bodies ≡ among.bodies_of k turns ++ later = is ∙ ap (λ (bs : List Body). bs ++ later) (sym sent_is) in
       let unshut = isnt_shut_early set texts k start conforms.end turns later u.number conforms.ran.starts conforms.ran.run conforms.ran.moments calm ends
-          (subst (λ (bs : List Body). IsLegal u.number Fresh bs) all u.legal) some (subst (λ (bs : List Body). FitsAmong set k start turns bs) all u.fits) in
+      (subst (λ (bs : List Body). IsLegal u.number Fresh bs) all u.legal) some (subst (λ (bs : List Body). FitsAmong set k start turns bs) all u.fits) in
       ap (shuts k) (replies_are k lane turns keeps.are) ∙ unshut_replies k (all_answers turns) unshut
 
   all_heard : brings.heard ≡ bodies

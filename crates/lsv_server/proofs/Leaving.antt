@@ -10,22 +10,22 @@ use Rattle.lsv_session.specs.declared.connection.ConnState.{ConnState}
 use Rattle.lsv_session.specs.declared.connection.ConnState.TheVariants.{Fresh}
 use Rattle.lsv_session.specs.declared.job.Body.{Body}
 use Rattle.lsv_session.specs.declared.job.Body.TheVariants as body
-use Rattle.lsv_machine.specs.Answers.{Answer, Saying, Saying.CommitPoint, Saying.Error, Saying.LogId, Saying.Shut, body_of, farewell, reply_of}
+use Rattle.lsv_machine.specs.Answers.{Answer, Saying, Saying.CommitPoint, Saying.Error, Saying.LogId, Saying.Shut, body_of, reply_of}
 use Rattle.lsv_machine.specs.Failures.{Act, Plainly, Step, WantsMemory}
-use Rattle.lsv_machine.specs.History.{is_gone, request_in}
-use Rattle.lsv_machine.specs.Legal.{Fits, IsLegal, all_answers, all_lines, behind_all, is_shut, lines_in}
+use Rattle.lsv_machine.specs.History.{request_in}
+use Rattle.lsv_machine.specs.Legal.{IsLegal, all_answers, all_lines, behind_all, is_shut, lines_in}
 use Rattle.lsv_machine.specs.Machine.{Machine, Settings, is_dead, same}
 use Rattle.lsv_machine.specs.Recovery.{AtTheirMoments, Turn, all_turns}
 use Rattle.lsv_machine.specs.Silence.{EndsWithGone, NoJobs, NoneTo, NothingTo}
 use Rattle.lsv_machine.specs.Starts.{StartsAs}
 use Rattle.lsv_machine.specs.Stands.{Sound}
-use Rattle.lsv_machine.specs.Turns.{Happened, Happened.Begins, Happened.Did, Happened.Tailed, Run, Tail, all_acted, turn_of}
+use Rattle.lsv_machine.specs.Turns.{Happened, Happened.Begins, Happened.Did, Happened.Tailed, Run, all_acted, turn_of}
 use Rattle.lsv_machine.specs.Work.{plain}
-use Rattle.lsv_machine.proofs.Choices.{SameOr, SameOr.alike, SameOr.apart, same_or}
+use Rattle.lsv_machine.proofs.Choices.{SameOr.alike, SameOr.apart, same_or}
 use Rattle.lsv_machine.proofs.OutcomeLemmas.{plainly_or}
 use Rattle.lsv_machine.proofs.RunLaws.{run_append, starts_sound}
 use Rattle.lsv_machine.proofs.Silent.{none_append, silence, step_sound}
-use Rattle.lsv_complete.specs.Among.{FitsAmong, IsUndisturbed, MayGet, NeverGone, answers_to, asked_before, asks_new, bodies_of, came_of, lines_before, sends, sent_in, speaks}
+use Rattle.lsv_complete.specs.Among.{FitsAmong, IsUndisturbed, NeverGone, answers_to, asked_before, asks_new, bodies_of, came_of, lines_before, sends, sent_in, speaks}
 use Rattle.lsv_complete.proofs.Served.{isnt_shut_among}
 use Rattle.lsv_lane.proofs.Farewells.{IsUnknown, gone_unknown}
 use Rattle.lsv_turns.specs.Turns as lane_turns

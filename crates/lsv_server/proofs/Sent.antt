@@ -1,5 +1,5 @@
 -- What a connection sends, as the turns of a lane tell it and as those of the machine do; and what it is told.
-use Rattle.std.proofs.Common.{◌≡◌, ◌≢◌, ◌+◌, ℕ, List, [], ◌∷◌, ◌++◌, map, refl, sym, ◌∙◌, ap, subst, append_assoc}
+use Rattle.std.proofs.Common.{◌≡◌, ℕ, List, [], ◌∷◌, ◌++◌, map, refl, sym, ◌∙◌, ap, subst}
 use Rattle.std.specs.Prelude.{◌&&◌, ◌||◌, not, Bool, true, false, if◌then◌else◌}
 use Rattle.std.specs.List.{flat_map, list_any}
 use Rattle.std.proofs.lemmas.List.{map-append}
@@ -17,7 +17,6 @@ use Rattle.lsv_machine.specs.Answers.{Answer, Saying, Saying.CommitPoint, Saying
 use Rattle.lsv_machine.specs.Failures.{Act}
 use Rattle.lsv_machine.specs.History.{is_gone, request_in}
 use Rattle.lsv_machine.specs.Legal.{all_answers, is_committed, points, record_in, records_in, told_of}
-use Rattle.lsv_machine.specs.Machine.{same}
 use Rattle.lsv_machine.specs.Recovery.{Turn, all_turns}
 use Rattle.lsv_machine.specs.Silence.{EndsWithGone, NoJobs}
 use Rattle.lsv_machine.specs.Turns.{Happened, Happened.Begins, Happened.Did, Happened.Tailed, Tail, turn_of}

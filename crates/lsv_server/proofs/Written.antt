@@ -18,10 +18,10 @@ use Rattle.lsv_session.specs.declared.job.Body.TheVariants as body
 use Rattle.lsv_machine.specs.Answers.{Answer, CommitPoint, is_refused, say}
 use Rattle.lsv_machine.specs.Failures.{Act, Breaks, BreaksOff, BrokenOff, LeavesLog, Step}
 use Rattle.lsv_machine.specs.Judgement.{judged}
-use Rattle.lsv_machine.specs.Machine.{LogState, LogState.Absent, LogState.Damaged, LogState.There, Machine, Settings, insert_once, is_dead, is_log, is_running, leaves, log_of, with_log, with_owner, with_state, without, without_conn, without_log}
+use Rattle.lsv_machine.specs.Machine.{LogState, LogState.Absent, LogState.Damaged, LogState.There, Machine, Settings, insert_once, is_dead, is_log, is_running, leaves, log_of, with_log, without, without_conn, without_log}
 use Rattle.lsv_machine.specs.Stands.{Sound}
 use Rattle.lsv_machine.specs.Turns.{EndOfTurn, FlushesLogs, Happened, Happened.Begins, Happened.Did, Happened.Tailed, Run, Tail, raised, with_lines}
-use Rattle.lsv_machine.specs.Work.{Done, adds_line, alive, answered, before_line, can_cut, draws, dropped, exited, finished, fits_file, has_line, last_number, line_fits, line_in, lined, makes, opened, opens, plain, recorded, restarted, restarted_at, resumed, sets_exit, taken, takes, with_exit, work}
+use Rattle.lsv_machine.specs.Work.{Done, alive, answered, before_line, can_cut, draws, dropped, exited, finished, fits_file, has_line, last_number, line_fits, line_in, lined, opened, opens, plain, recorded, restarted, restarted_at, resumed, sets_exit, taken, takes, with_exit, work}
 use Rattle.lsv_machine.proofs.Choices.{EqOr, EqOr.equal, EqOr.unequal, eq_or}
 use Rattle.lsv_machine.proofs.Silent.{step_sound, tail_sound}
 use Rattle.lsv_machine.proofs.StepLooks.{none_among}
