@@ -154,7 +154,7 @@ module _ (disk_tells : Type 0) (set : Settings) (texts : List (List ℕ)) (found
   brings = served.brings
 
   unstarved : brings.starved ≡ []
-  unstarved = not_starved brings.heard brings.starved (bodies_of k (jobs_in lane)) brings.at_most brings.are u.heard
+  unstarved = not_starved brings.heard brings.starved (bodies_of k (jobs_in lane)) brings.at_most brings.are u.had_memory
 
   jobs_are : brings.jobs ≡ bodies
   jobs_are = one_list brings.of_input u.sent

@@ -39,7 +39,7 @@ abbrev pub AllAmple : ConnId → List Turn → Type 0
 AllAmple k [] = Unit {0}
 AllAmple k (turn ∷ turns) = AreAmple k turn.acts × AllAmple k turns
 
--- nothing was in the way of a connection over which a legal conversation came. input: all bytes that were read of its link. start: the machine at the start of the run. bodies: the conversation
+-- nothing was in the way of a connection over which a legal conversation came. input: all bytes that were read of its link. start: the machine at the start of the run. story: the turns as the machine did them. bodies: the conversation
 pub record IsUnhindered (set : Settings) (found left : DiskView) (k : ConnId) (input : List ℕ) (turns : List LaneTurn) (start : Machine) (story : Story) (bodies : List Body) : Type 0 where
   -- all that was read is the conversation, and it opens a log. number: stands for the log's in the states of the conversation; it is legal with any, if with one
   pub sent : AreJobs input bodies
@@ -50,7 +50,7 @@ pub record IsUnhindered (set : Settings) (found left : DiskView) (k : ConnId) (i
   -- no call of the disk failed
   pub no_call_failed : (file : FileId) → HasRisen (found.faults file) (left.faults file) → ⊥
   -- memory was ample for this connection, where its bytes were cut into jobs and where these were done
-  pub heard : Contains (bodies_of k (jobs_in turns)) (Bad fault.NoMem) → ⊥
+  pub had_memory : Contains (bodies_of k (jobs_in turns)) (Bad fault.NoMem) → ⊥
   pub ample : AllAmple k story.turns
 
 -- ---- What comes of it
