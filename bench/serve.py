@@ -198,8 +198,14 @@ def commits(side, folder, connections, seconds):
     links = [client.connect(place.port) for _ in range(connections)]
     poll, count = selectors.DefaultSelector(), 0
     for link in links:
-        link.send(client.hello(), client.accept(5 * SECOND, INFO), record)
+        link.send(client.hello(), client.accept(5 * SECOND, INFO))
         poll.register(link.link, selectors.EVENT_READ, link)
+    # the making of the logs isn't measured
+    for link in links:
+        while link.read()[0] != "log_id":
+            pass
+    for link in links:
+        link.send(record)
     begin = time.monotonic()
     while time.monotonic() < begin + seconds:
         for key, _ in poll.select(1):
