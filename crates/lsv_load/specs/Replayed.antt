@@ -1,15 +1,7 @@
--- The logs of a load as the disk replays them, and why one isn't replayed.
-use Rattle.std.specs.Prelude.{◌≡◌, ℕ, List, [], ◌∷◌, Some}
-use Rattle.std.specs.List.{Contains}
-use Rattle.lsv_disk.specs.Files.{file_of}
-use Rattle.lsv_disk.specs.View.{DiskView, Image}
-use Rattle.lsv_disk.specs.declared.file.Part.TheVariants.{Slots}
-use Rattle.lsv_iolog.specs.Recovered.{Replays, owner_of}
-use Rattle.lsv_iolog.specs.declared.fault.LogFault.{LogFault}
-use Rattle.lsv_iolog.specs.declared.fault.LogFault.TheVariants as logs
-use Rattle.lsv_keeper.specs.declared.fault.StoreFault.{StoreFault}
-use Rattle.lsv_keeper.specs.declared.fault.StoreFault.TheVariants.{Damaged, Device, LanesDiffer, NoMem}
-use Rattle.lsv_lane.specs.Store.{OwnerFailed}
+-- The logs of a load as the disk replays them.
+use Rattle.std.specs.Prelude.{ℕ, List, [], ◌∷◌, Some}
+use Rattle.lsv_disk.specs.View.{Image}
+use Rattle.lsv_iolog.specs.Recovered.{Replays}
 use Rattle.lsv_record.specs.Points.{Stored}
 
 -- an image of the disk replays the logs of these numbers as these, in order
@@ -22,22 +14,3 @@ AreReplayed image (n ∷ numbers) (log ∷ stored) = Replays image n (Some log) 
 -- it has no log of this number
 abbrev pub HasNoLog : Image → ℕ → Type 0
 HasNoLog image n = (log : Stored) → Replays image n (Some log) → ⊥
-
--- the fault of a log that isn't replayed, as one of its store: an absent log lacks its journal
-abbrev pub fault_of : ℕ → LogFault → StoreFault
-fault_of n logs.Absent = Damaged (file_of (owner_of n) Slots)
-fault_of n (logs.Damaged part) = Damaged (file_of (owner_of n) part)
-fault_of n logs.Disk = Device (owner_of n)
-fault_of n logs.NoMem = NoMem
-fault_of n logs.Complete = NoMem
-fault_of n (logs.NoPoint point) = NoMem
-fault_of n logs.Broken = NoMem
-fault_of n (logs.Full part) = NoMem
-fault_of n (logs.TooLong point) = NoMem
-
--- why the logs of these numbers aren't replayed: a call on a file of one failed, or this is a file of one that the disk has no log of
-abbrev pub HasReplayCause : (disk_tells : Type 0) (numbers : List ℕ) (old new : DiskView) → StoreFault → Type 0
-HasReplayCause disk_tells numbers old new (Device o) = (n : ℕ) × Contains numbers n × (o ≡ owner_of n) × OwnerFailed o old new
-HasReplayCause disk_tells numbers old new (Damaged file) = (n : ℕ) × Contains numbers n × (file.owner ≡ owner_of n) × (disk_tells → HasNoLog new.reads n)
-HasReplayCause disk_tells numbers old new (LanesDiffer kept asked) = ⊥
-HasReplayCause disk_tells numbers old new NoMem = Unit {0}

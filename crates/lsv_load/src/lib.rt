@@ -2,6 +2,7 @@
 //! summed up.
 #![tactic(auto)]
 
+mod logs;
 mod numbering;
 mod replay;
 mod run;

@@ -1,0 +1,4 @@
+mod Adding
+mod Holding
+mod Summing
+mod Running
