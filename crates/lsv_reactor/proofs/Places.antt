@@ -24,7 +24,7 @@ of_worker w (x ∷ jobs) job all c = elim (Contains-append_cases (x ∷ []) jobs
 set_here : {A : Type 0} (xs : List A) (i : ℕ) (v x : A) → slice_get (set xs i v) i ≡ Some x → i < length xs → x ≡ v
 set_here xs i v x e less = sym (get_or_from_slice_get (set xs i v) i x v e) ∙ get_or-set_same xs i v v less
 
-set_there : {A : Type 0} (xs : List A) (i j : ℕ) (v x : A) → j ≢ i → slice_get (set xs i v) j ≡ Some x → slice_get xs j ≡ Some x
+pub set_there : {A : Type 0} (xs : List A) (i j : ℕ) (v x : A) → j ≢ i → slice_get (set xs i v) j ≡ Some x → slice_get xs j ≡ Some x
 set_there xs i j v x ne e =
     let less : j < length (set xs i v) = slice_get_within (set xs i v) j x e in
     let less' : j < length xs = omega (arith, length-set xs i v) in

@@ -1,3 +1,4 @@
 pub mod Turns
 pub mod Links
+pub mod Served
 pub mod InnerLoop

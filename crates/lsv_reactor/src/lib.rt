@@ -7,5 +7,5 @@ mod post;
 mod rounds;
 mod visit;
 
-pub use post::Post;
-pub use rounds::serve;
+pub use post::{Post, PostEnd};
+pub use rounds::{PortsEnd, serve};

@@ -43,8 +43,8 @@ pub trait Post {
     ghost made_by: { Start → Self → List Job → List Reply → Type 0 };
 
     /// Begins to take links at this address, a host and a port number. With a number in `stop_after` its port tells Stop once
-    /// so many links were opened and closed. Where the port can't listen, that is a failure of it, which `wait` acts on.
-    fn open(&mut self, address: &str, stop_after: Option<u32>)
+    /// so many links were opened and closed. False where the port can't listen: that is a failure of it, which `wait` acts on.
+    fn open(&mut self, address: &str, stop_after: Option<u32>) -> bool
         requires begun { (start : Start) × (gave : List Job) × (took : List Reply) × made_by start self.old gave took }
         ensures made { (start : Start) (gave : List Job) (took : List Reply) → made_by start self.old gave took → made_by start self.new gave took }
         ensures number { number self.new ≡ number self.old };

@@ -1,31 +1,73 @@
 //! The loop.
 
-ghost use Rattle.std.specs.Prelude.{◌≡◌, ◌<◌, [], ℕ, List, true, Some, length, slice_get, OnOk, OnErr};
-ghost use Rattle.std.specs.List.{Contains};
+ghost use Rattle.std.specs.Prelude.{◌≡◌, ◌≢◌, ◌<◌, ◌++◌, false, [], ℕ, List, Some, length, slice_get, IfOk, OnOk, OnErr};
 ghost use Rattle.lsv_session.specs.declared.job.Job.{Job};
 ghost use Rattle.lsv_session.specs.declared.reply.Reply.{Reply};
-ghost use Rattle.lsv_reactor.specs.InnerLoop.{ArePosts, IsLane};
-ghost use Rattle.lsv_reactor.specs.Links.{ServesPort};
+ghost use Rattle.lsv_reactor.specs.InnerLoop.{AreMade, AreOver, ArePosts, IsLane, worse};
+ghost use Rattle.lsv_reactor.specs.Served.{ServesAll};
 ghost use Rattle.lsv_reactor.specs.Turns.{AreSized};
-ghost use Rattle.lsv_turns.specs.Turns.{AreAsked, LaneTurn, jobs_in, replies_in};
+ghost use Rattle.lsv_turns.specs.Turns.{LaneTurn, jobs_in, replies_in};
 
-use crate::Post;
 use crate::visit::visit;
+use crate::{Post, PostEnd};
 use lsv_base::NoMem;
 use lsv_turns::Lane;
 use std::alloc::Global;
 
-/// Whether nothing more is to come of any post.
-fn are_over<T: Post>(posts: &[T]) -> bool
-    ensures { T.tells → result ≡ true → (starts : ℕ → T.Start) (i : ℕ) (post : T) (gave : List Job) (took : List Reply) → slice_get posts.now i ≡ Some post → T.made_by (starts i) post gave took →
-        ServesPort (AreAsked gave took) (T.number post) gave took (T.begun (starts i)) (T.view post) }
+/// How the ports of a server ended: nothing more is to come of any.
+#[derive(Clone, Copy, Debug, PartialEq, Eq)]
+pub enum PortsEnd {
+    /// Each told Stop.
+    Stopped,
+    /// One couldn't listen, or a turn of it failed; each of the others told Stop, or failed too.
+    Failed,
+}
+
+/// How far the posts are together.
+enum Progress {
+    /// More is to come of one.
+    Going,
+    Ended(PortsEnd),
+    /// One lost a reply.
+    Lost,
+}
+
+/// How ports ended, of which one more ended so.
+fn worse(end: PortsEnd, its: PostEnd) -> PortsEnd
+    ensures { result ≡ worse end its }
 {
-    for post in posts {
-        if !post.is_over() {
-            return false;
-        }
+    match its {
+        PostEnd::Failed => PortsEnd::Failed,
+        PostEnd::Stopped | PostEnd::Lost => end,
     }
-    true
+}
+
+/// Whether a post lost a reply.
+fn is_lost(its: PostEnd) -> bool
+    ensures { result ≡ false → its ≢ PostEnd.Lost }
+{
+    match its {
+        PostEnd::Lost => true,
+        PostEnd::Stopped | PostEnd::Failed => false,
+    }
+}
+
+/// How far these posts are.
+fn how_far<T: Post>(posts: &[T]) -> Progress
+    ensures { (end : PortsEnd) → result ≡ Progress.Ended end → (starts : ℕ → T.Start) (gave : ℕ → List Job) (took : ℕ → List Reply) → AreMade T.made_by starts posts.now gave took →
+        AreOver T.tells T.number T.begun T.view starts posts.now gave took (length posts.now) end }
+{
+    let mut end = PortsEnd::Stopped;
+    for post in posts {
+        let Some(its) = post.end() else {
+            return Progress::Going;
+        };
+        if is_lost(its) {
+            return Progress::Lost;
+        }
+        end = worse(end, its);
+    }
+    Progress::Ended(end)
 }
 
 /// Visits each post.
@@ -34,7 +76,7 @@ fn visit_all<T: Post, L: Lane>(alloc: Global, posts: &mut [T], lane: &mut L) -> 
     ensures ok { OnOk result ((starts : ℕ → T.Start) (start : L.Start) (turns : List LaneTurn) → ArePosts T.number T.made_by starts posts.old (jobs_in turns) (replies_in turns) → IsLane L.tells L.made_by start lane.old turns →
         (more : List LaneTurn) × ArePosts T.number T.made_by starts posts.new (jobs_in more) (replies_in more) × IsLane L.tells L.made_by start lane.new more) }
     ensures err { OnErr result ((starts : ℕ → T.Start) (start : L.Start) (turns : List LaneTurn) → ArePosts T.number T.made_by starts posts.old (jobs_in turns) (replies_in turns) → IsLane L.tells L.made_by start lane.old turns →
-        (more : List LaneTurn) × IsLane L.tells L.made_by start lane.new more) }
+        (more : List LaneTurn) × (waiting : List Job) × ArePosts T.number T.made_by starts posts.new (jobs_in more ++ waiting) (replies_in more) × IsLane L.tells L.made_by start lane.new more) }
 {
     'visits: for place in 0..posts.len() {
         let Ok(()) = visit(alloc, posts, place, lane) else {
@@ -45,50 +87,54 @@ fn visit_all<T: Post, L: Lane>(alloc: Global, posts: &mut [T], lane: &mut L) -> 
 }
 
 /// Closes all links of all posts.
-fn stop_all<T: Post>(posts: &mut [T]) {
-    for post in posts.iter_mut() {
-        post.stop();
+fn stop_all<T: Post>(posts: &mut [T])
+    requires begun { (starts : ℕ → T.Start) × (jobs : List Job) × (took : List Reply) × ArePosts T.number T.made_by starts posts.old jobs took }
+{
+    'stops: for place in 0..posts.len() {
+        posts[place].stop();
     }
 }
 
-/// Visits the posts until nothing more is to come of any.
-fn run<T: Post, L: Lane>(alloc: Global, posts: &mut [T], lane: &mut L) -> Result<(), NoMem>
+/// Visits the posts until nothing more is to come of any. Out of memory all links are closed.
+fn run<T: Post, L: Lane>(alloc: Global, posts: &mut [T], lane: &mut L) -> Result<PortsEnd, NoMem>
     requires begun { (starts : ℕ → T.Start) × (start : L.Start) × (turns : List LaneTurn) × ArePosts T.number T.made_by starts posts.old (jobs_in turns) (replies_in turns) × IsLane L.tells L.made_by start lane.old turns }
-    ensures ok { OnOk result ((starts : ℕ → T.Start) (start : L.Start) (turns : List LaneTurn) → ArePosts T.number T.made_by starts posts.old (jobs_in turns) (replies_in turns) → IsLane L.tells L.made_by start lane.old turns →
-        (more : List LaneTurn) × IsLane L.tells L.made_by start lane.new more
-        × ((job : Job) → Contains (jobs_in more) job → job.conn.worker < length posts.new)
-        × (T.tells → (i : ℕ) (post : T) → slice_get posts.new i ≡ Some post → ServesPort L.tells i (jobs_in more) (replies_in more) (T.begun (starts i)) (T.view post))) }
+    ensures ok { IfOk result (λ end. (starts : ℕ → T.Start) (start : L.Start) (turns : List LaneTurn) → ArePosts T.number T.made_by starts posts.old (jobs_in turns) (replies_in turns) → IsLane L.tells L.made_by start lane.old turns →
+        (more : List LaneTurn) × IsLane L.tells L.made_by start lane.new more × ServesAll T.tells L.tells T.begun T.view starts posts.new more end) }
     ensures err { OnErr result ((starts : ℕ → T.Start) (start : L.Start) (turns : List LaneTurn) → ArePosts T.number T.made_by starts posts.old (jobs_in turns) (replies_in turns) → IsLane L.tells L.made_by start lane.old turns →
         (more : List LaneTurn) × IsLane L.tells L.made_by start lane.new more) }
 {
     'rounds: for _ in 0..u64::MAX {
-        if are_over(posts) {
-            return Ok(());
+        match how_far(posts) {
+            Progress::Ended(end) => {
+                return Ok(end);
+            }
+            Progress::Lost => {
+                stop_all(posts);
+                return Err(NoMem);
+            }
+            Progress::Going => {}
         }
         let Ok(()) = visit_all(alloc, posts, lane) else {
+            stop_all(posts);
             return Err(NoMem);
         };
     }
+    stop_all(posts);
     Err(NoMem)
 }
 
 /// Serves what comes at these posts, each numbered by its place, by turns of the lane, until nothing more is to come of any.
 /// Out of memory all links are closed.
-pub fn serve<T: Post, L: Lane>(alloc: Global, posts: &mut [T], lane: &mut L) -> Result<(), NoMem>
+pub fn serve<T: Post, L: Lane>(alloc: Global, posts: &mut [T], lane: &mut L) -> Result<PortsEnd, NoMem>
     requires numbered { (i : ℕ) (post : T) → slice_get posts.old i ≡ Some post → T.number post ≡ i }
     requires posts { (starts : ℕ → T.Start) × ((i : ℕ) (post : T) → slice_get posts.old i ≡ Some post → T.made_by (starts i) post [] []) }
     requires lane { (start : L.Start) × L.made_by start lane.old [] }
-    ensures ok { OnOk result ((starts : ℕ → T.Start) (start : L.Start) → ((i : ℕ) (post : T) → slice_get posts.old i ≡ Some post → T.made_by (starts i) post [] []) → L.made_by start lane.old [] →
-        (turns : List LaneTurn) × L.made_by start lane.new turns × AreSized turns
-        × ((job : Job) → Contains (jobs_in turns) job → job.conn.worker < length posts.new)
-        × (T.tells → (i : ℕ) (post : T) → slice_get posts.new i ≡ Some post → ServesPort L.tells i (jobs_in turns) (replies_in turns) (T.begun (starts i)) (T.view post))) }
+    ensures ok { IfOk result (λ end. (starts : ℕ → T.Start) (start : L.Start) → ((i : ℕ) (post : T) → slice_get posts.old i ≡ Some post → T.made_by (starts i) post [] []) → L.made_by start lane.old [] →
+        (turns : List LaneTurn) × L.made_by start lane.new turns × AreSized turns × ServesAll T.tells L.tells T.begun T.view starts posts.new turns end) }
     ensures err { OnErr result ((start : L.Start) → L.made_by start lane.old [] → (turns : List LaneTurn) × L.made_by start lane.new turns × AreSized turns) }
 {
     match run(alloc, posts, lane) {
-        Ok(()) => Ok(()),
-        Err(NoMem) => {
-            stop_all(posts);
-            Err(NoMem)
-        }
+        Ok(end) => Ok(end),
+        Err(NoMem) => Err(NoMem),
     }
 }

@@ -29,6 +29,7 @@ fn turn<T: Post, L: Lane>(
     ensures ok { OnOk result ((starts : ℕ → T.Start) (start : L.Start) (turns : List LaneTurn) → ArePosts T.number T.made_by starts posts.old (jobs_in turns ++ jobs.items) (replies_in turns) → IsLane L.tells L.made_by start lane.old turns →
         (more : List LaneTurn) × ArePosts T.number T.made_by starts posts.new (jobs_in more) (replies_in more) × IsLane L.tells L.made_by start lane.new more) }
     ensures err { OnErr result ((start : L.Start) (turns : List LaneTurn) → IsLane L.tells L.made_by start lane.old turns → IsLane L.tells L.made_by start lane.new turns) }
+    ensures lost { OnErr result (posts.new ≡ posts.old) }
 {
     if jobs.is_empty() {
         return Ok(());
@@ -80,6 +81,7 @@ fn pass<T: Post, L: Lane>(
     ensures ok { IfOk result (λ others. (starts : ℕ → T.Start) (start : L.Start) (turns : List LaneTurn) → ArePosts T.number T.made_by starts posts.old (jobs_in turns ++ jobs.items) (replies_in turns) → IsLane L.tells L.made_by start lane.old turns →
         (more : List LaneTurn) × ArePosts T.number T.made_by starts posts.new (jobs_in more ++ others.items) (replies_in more) × IsLane L.tells L.made_by start lane.new more) }
     ensures err { OnErr result ((start : L.Start) (turns : List LaneTurn) → IsLane L.tells L.made_by start lane.old turns → IsLane L.tells L.made_by start lane.new turns) }
+    ensures lost { OnErr result (posts.new ≡ posts.old) }
 {
     let Ok(()) = turn(alloc, posts, lane, jobs) else {
         return Err(NoMem);
@@ -99,7 +101,7 @@ pub(crate) fn visit<T: Post, L: Lane>(
     ensures ok { OnOk result ((starts : ℕ → T.Start) (start : L.Start) (turns : List LaneTurn) → ArePosts T.number T.made_by starts posts.old (jobs_in turns) (replies_in turns) → IsLane L.tells L.made_by start lane.old turns →
         (more : List LaneTurn) × ArePosts T.number T.made_by starts posts.new (jobs_in more) (replies_in more) × IsLane L.tells L.made_by start lane.new more) }
     ensures err { OnErr result ((starts : ℕ → T.Start) (start : L.Start) (turns : List LaneTurn) → ArePosts T.number T.made_by starts posts.old (jobs_in turns) (replies_in turns) → IsLane L.tells L.made_by start lane.old turns →
-        (more : List LaneTurn) × IsLane L.tells L.made_by start lane.new more) }
+        (more : List LaneTurn) × (waiting : List Job) × ArePosts T.number T.made_by starts posts.new (jobs_in more ++ waiting) (replies_in more) × IsLane L.tells L.made_by start lane.new more) }
 {
     let mut jobs = wait_at(alloc, posts, place);
     'passes: for _ in 0..PASSES {

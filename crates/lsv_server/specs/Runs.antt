@@ -1,29 +1,26 @@
 -- A run of a server over the store of one lane: one list of turns is what came, what was replied, and what the store went through.
-use Rattle.std.specs.Prelude.{◌≡◌, ◌≢◌, ◌<◌, ◌++◌, ℕ, List, [], Some, length, slice_get}
-use Rattle.std.specs.List.{Contains}
+use Rattle.std.specs.Prelude.{◌≡◌, ◌≢◌, ◌++◌, ℕ, List, []}
 use Rattle.lsv_disk.specs.View.{DiskView}
 use Rattle.lsv_disk.specs.declared.file.Owner.{Owner}
-use Rattle.lsv_session.specs.declared.job.Job.{Job}
 use Rattle.lsv_machine.specs.Machine.{Settings}
 use Rattle.lsv_keeper.specs.Opening.{IsStoreFault}
 use Rattle.lsv_keeper.specs.declared.fault.StoreFault.{StoreFault}
 use Rattle.lsv_keeper.specs.declared.fault.StoreFault.TheVariants as faults
-use Rattle.lsv_turns.specs.Turns.{LaneTurn, TapeTurn, all_taped, jobs_in, replies_in}
+use Rattle.lsv_turns.specs.Turns.{LaneTurn, TapeTurn, all_taped}
 use Rattle.lsv_lane.specs.Store.{AreTimed, KeepsStore, OwnerFailed}
-use Rattle.lsv_reactor.specs.Links.{PortView, ServesPort}
 use Rattle.lsv_reactor.specs.Turns.{AreSized}
 use Rattle.lsv_server.specs.declared.run.End.{End}
 use Rattle.lsv_server.specs.declared.run.End.TheVariants.{Over, Store, NoMem}
 
 -- the store was opened; out of memory it was where a turn was made
 abbrev pub IsUp : End → List LaneTurn → Type 0
-IsUp Over turns = Unit {0}
+IsUp (Over ports) turns = Unit {0}
 IsUp (Store fault) turns = ⊥
 IsUp NoMem turns = turns ≢ []
 
 -- no turn is made where the store isn't opened
 abbrev pub HasTurns : End → List LaneTurn → Type 0
-HasTurns Over turns = Unit {0}
+HasTurns (Over ports) turns = Unit {0}
 HasTurns (Store fault) turns = turns ≡ []
 HasTurns NoMem turns = Unit {0}
 
@@ -36,11 +33,6 @@ pub record RunsStore (disk_tells tape_tells : Type 0) (set : Settings) (texts : 
   pub keeps : disk_tells → KeepsStore (IsUp end turns) set texts (record { found = found; left = left }) turns
   pub places : disk_tells → left.places ≡ found.places
 
--- the links of all ports were served by these turns, each by the worker of its port's place; and no job is of another worker
-pub record ServesAll {T S : Type 0} (lane_tells : Type 0) (begun : S → PortView) (view : T → PortView) (starts : ℕ → S) (posts : List T) (turns : List LaneTurn) : Type 0 where
-  pub each : (i : ℕ) (post : T) → slice_get posts i ≡ Some post → ServesPort lane_tells i (jobs_in turns) (replies_in turns) (begun (starts i)) (view post)
-  pub within : (job : Job) → Contains (jobs_in turns) job → job.conn.worker < length posts
-
 -- why the store wasn't opened: a call on a file of its owner failed; or its number file or its event log are so
 pub record HasStoreCause (disk_tells : Type 0) (found left : DiskView) (fault : StoreFault) : Type 0 where
   pub is : disk_tells → IsStoreFault 0 1 found.reads fault
@@ -48,7 +40,7 @@ pub record HasStoreCause (disk_tells : Type 0) (found left : DiskView) (fault : 
 
 -- why a run ended so
 abbrev pub HasEndCause : (disk_tells : Type 0) → (found left : DiskView) → End → Type 0
-HasEndCause disk_tells found left Over = Unit {0}
+HasEndCause disk_tells found left (Over ports) = Unit {0}
 HasEndCause disk_tells found left (Store fault) = HasStoreCause disk_tells found left fault
 HasEndCause disk_tells found left NoMem = Unit {0}
 

@@ -1,19 +1,22 @@
-//! A run: the store is opened, what comes is served, and the store is given back.
+//! A run: the store is opened, the ports begin to listen, what comes is served, and the store is given back.
 
 ghost use Rattle.std.specs.Prelude.{◌≡◌, [], ℕ, List, Some, slice_get};
 ghost use Rattle.lsv_turns.specs.Turns.{LaneTurn};
 ghost use Rattle.lsv_lane.specs.InnerLane.{Begun};
 ghost use Rattle.lsv_lane.specs.Store.{IsFresh, lane_settings};
 ghost use Rattle.lsv_keeper.specs.declared.fault.StoreFault.{StoreFault};
-ghost use Rattle.lsv_server.specs.Runs.{HasEndCause, RunsStore, ServesAll, unopened};
+ghost use Rattle.lsv_reactor.specs.Served.{ServesAll};
+ghost use Rattle.lsv_reactor.specs.declared.rounds.PortsEnd.{PortsEnd};
+ghost use Rattle.lsv_server.specs.Runs.{HasEndCause, RunsStore, unopened};
 
-use lsv_base::{Bytes, Clock, List, NoMem};
+use crate::{Notices, Plan, Site};
+use lsv_base::{Clock, NoMem};
 use lsv_disk::Disk;
-use lsv_hook::{Formatter, LineWriter};
+use lsv_hook::LineWriter;
 use lsv_keeper::StoreFault;
 use lsv_lane::{Bay, StoreLane};
-use lsv_mask::{Prompt, Search};
-use lsv_reactor::{Post, serve};
+use lsv_mask::Search;
+use lsv_reactor::{PortsEnd, Post, serve};
 use lsv_turns::{Lane, Tape};
 use std::alloc::Global;
 
@@ -21,7 +24,7 @@ use std::alloc::Global;
 #[derive(Clone, Copy, Debug, PartialEq, Eq)]
 pub enum End {
     /// Nothing more was to come of any post.
-    Over,
+    Over(PortsEnd),
     /// The store couldn't be opened.
     Store(StoreFault),
     /// Out of memory.
@@ -38,6 +41,21 @@ fn unopened(fault: StoreFault) -> End
     }
 }
 
+/// Each post begins to take links. False where one can't.
+fn open_all<T: Post>(posts: &mut [T], site: &Site<'_>) -> bool
+    requires posts { (starts : ℕ → T.Start) × ((i : ℕ) (post : T) → slice_get posts.old i ≡ Some post → T.made_by (starts i) post [] []) }
+    ensures numbered { ((i : ℕ) (post : T) → slice_get posts.old i ≡ Some post → T.number post ≡ i) → (i : ℕ) (post : T) → slice_get posts.new i ≡ Some post → T.number post ≡ i }
+    ensures made { (starts : ℕ → T.Start) → ((i : ℕ) (post : T) → slice_get posts.old i ≡ Some post → T.made_by (starts i) post [] []) → (i : ℕ) (post : T) → slice_get posts.new i ≡ Some post → T.made_by (starts i) post [] [] }
+{
+    let mut listens = true;
+    'posts: for place in 0..posts.len() {
+        if !posts[place].open(site.address, site.stop_after) {
+            listens = false;
+        }
+    }
+    listens
+}
+
 /// Serves what comes at these posts by turns of an open lane, and gives back what the lane worked with.
 fn serve_lane<T: Post, D: Disk, C: Clock, G: Tape, F: LineWriter + Drop, H: Search + Drop>(
     alloc: Global,
@@ -49,38 +67,57 @@ fn serve_lane<T: Post, D: Disk, C: Clock, G: Tape, F: LineWriter + Drop, H: Sear
     requires lane { (start : Begun D G) × ⟦<StoreLane<D, C, G, F, H> as Lane>⟧.made_by start lane [] }
     ensures runs { (starts : ℕ → T.Start) (start : Begun D G) → ((i : ℕ) (post : T) → slice_get posts.old i ≡ Some post → T.made_by (starts i) post [] []) → ⟦<StoreLane<D, C, G, F, H> as Lane>⟧.made_by start lane [] →
         (turns : List LaneTurn) × RunsStore D.tells G.tells start.set start.texts (D.view start.disk) (D.view result.0.disk) (G.turns start.tape) (G.turns result.0.tape) result.1 turns
-        × (T.tells → result.1 ≡ End.Over → ServesAll D.tells T.begun T.view starts posts.new turns) }
+        × ((end : PortsEnd) → result.1 ≡ End.Over end → ServesAll T.tells D.tells T.begun T.view starts posts.new turns end) }
     ensures opened { (fault : StoreFault) → result.1 ≡ End.Store fault → ⊥ }
 {
     let mut lane = lane;
     match serve(alloc, posts, &mut lane) {
-        Ok(()) => (lane.into_bay(), End::Over),
+        Ok(end) => (lane.into_bay(), End::Over(end)),
         Err(NoMem) => (lane.into_bay(), End::NoMem),
     }
 }
 
 /// Serves what comes at these posts, each numbered by its place, over the store of one lane, until nothing more is to come
-/// of any. Nothing else changes the store meanwhile. What the lane worked with is given back, with how the run ended.
-pub fn serve_store<T: Post, D: Disk, C: Clock, G: Tape, F: LineWriter + Drop, H: Search + Drop>(
+/// of any. They begin to listen when the store is open. Nothing else changes the store meanwhile. What the lane worked with is
+/// given back, with how the run ended.
+pub fn serve_store<
+    T: Post,
+    D: Disk,
+    C: Clock,
+    G: Tape,
+    F: LineWriter + Drop,
+    H: Search + Drop,
+    N: Notices,
+>(
     alloc: Global,
     posts: &mut [T],
     bay: Bay<D, C, G>,
-    formatter: Formatter<F>,
-    log_exit: bool,
-    texts: List<Bytes>,
-    prompt: Prompt<H>,
+    plan: Plan<F, H>,
+    site: &Site<'_>,
+    notices: &mut N,
 ) -> (Bay<D, C, G>, End)
     requires fresh { D.tells → IsFresh 0 1 (D.view bay.disk) }
     requires numbered { (i : ℕ) (post : T) → slice_get posts.old i ≡ Some post → T.number post ≡ i }
     requires posts { (starts : ℕ → T.Start) × ((i : ℕ) (post : T) → slice_get posts.old i ≡ Some post → T.made_by (starts i) post [] []) }
     ensures runs { (starts : ℕ → T.Start) → ((i : ℕ) (post : T) → slice_get posts.old i ≡ Some post → T.made_by (starts i) post [] []) →
-        (turns : List LaneTurn) × RunsStore D.tells G.tells (lane_settings 0 1 formatter.kind log_exit) texts (D.view bay.disk) (D.view result.0.disk) (G.turns bay.tape) (G.turns result.0.tape) result.1 turns
-        × (T.tells → result.1 ≡ End.Over → ServesAll D.tells T.begun T.view starts posts.new turns) }
+        (turns : List LaneTurn) × RunsStore D.tells G.tells (lane_settings 0 1 plan.formatter.kind plan.log_exit) plan.texts (D.view bay.disk) (D.view result.0.disk) (G.turns bay.tape) (G.turns result.0.tape) result.1 turns
+        × ((end : PortsEnd) → result.1 ≡ End.Over end → ServesAll T.tells D.tells T.begun T.view starts posts.new turns end) }
     ensures cause { HasEndCause D.tells (D.view bay.disk) (D.view result.0.disk) result.1 }
     ensures unserved { (fault : StoreFault) → result.1 ≡ End.Store fault → (posts.new ≡ posts.old) × (result.0.clock ≡ bay.clock) × (result.0.tape ≡ bay.tape) }
 {
+    let Plan {
+        formatter,
+        log_exit,
+        texts,
+        prompt,
+    } = plan;
     match StoreLane::open(alloc, bay, 0, 1, formatter, log_exit, texts, prompt) {
-        Ok(lane) => serve_lane(alloc, posts, lane),
+        Ok(lane) => {
+            if open_all(posts, site) {
+                notices.serving(site, lane.last_number());
+            }
+            serve_lane(alloc, posts, lane)
+        }
         Err(failed) => {
             let end = unopened(failed.fault);
             (failed.bay, end)

@@ -11,7 +11,7 @@ run-requires g c =
 pub returns-in-Ok-clause-ok : goal.returns-in-Ok-clause-ok
 returns-in-Ok-clause-ok g c = λ starts start made lane.
     let r = c.in-Ok.ensures.ok starts start [] (posts_begin g.T.Post.number g.T.Post.made_by starts c.args.posts.now c.requires.numbered made) (lane_begins g.L.Lane.tells g.L.Lane.made_by start c.args.lane.now lane) in
-    (r.0, r.1.made, r.1.sized, r.2, r.3)
+    (r.0, r.1.made, r.1.sized, r.2)
 
 pub returns-in-Err-clause-err : goal.returns-in-Err-clause-err
 returns-in-Err-clause-err g c = λ start lane.

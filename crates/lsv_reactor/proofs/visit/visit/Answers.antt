@@ -1,6 +1,7 @@
 use Rattle.lsv_turns.specs.Turns.{jobs_in, replies_in}
 use Rattle.lsv_reactor.proofs.TurnLemmas.{posts_none}
-use Rattle.std.proofs.Common.{vec_len}
+use Rattle.std.proofs.Common.{List, ◌++◌, sym, subst, vec_len}
+use Rattle.lsv_reactor.specs.InnerLoop.{ArePosts}
 use Rattle.lsv_reactor.proofs.Own.{no_jobs}
 use Rattle.lsv_reactor.proofs.visit.visit.Goals as goal
 
@@ -21,7 +22,7 @@ passes-preserved g c = record { few = c.in-Ok.ensures.few; goes = λ starts star
 pub returns-in-Err-clause-err : goal.returns-in-Err-clause-err
 returns-in-Err-clause-err g c = λ starts start turns posts lane.
     let r = c.passes.invariant.goes starts start turns posts lane in
-    (r.0, c.in-Err.ensures.err start r.0 r.2)
+    (r.0, c.passes.jobs.items, subst (λ (l : List g.row.T.Denot). ArePosts g.T.Post.number g.T.Post.made_by starts l (jobs_in r.0 ++ c.passes.jobs.items) (replies_in r.0)) (sym c.in-Err.ensures.lost) r.1, c.in-Err.ensures.err start r.0 r.2)
 
 pub turn-requires-clause-begun : goal.turn-requires-clause-begun
 turn-requires-clause-begun g c = let b = c.requires.begun in let r = c.passes.invariant.goes b.0 b.1 b.2 b.3 b.4 in (b.0, b.1, r.0, r.1, r.2)
@@ -29,7 +30,7 @@ turn-requires-clause-begun g c = let b = c.requires.begun in let r = c.passes.in
 pub returns-in_default-clause-err : goal.returns-in_default-clause-err
 returns-in_default-clause-err g c = λ starts start turns posts lane.
     let r = c.passes.invariant.goes starts start turns posts lane in
-    (r.0, c.in_default.ensures.err start r.0 r.2)
+    (r.0, c.passes.jobs.items, subst (λ (l : List g.row.T.Denot). ArePosts g.T.Post.number g.T.Post.made_by starts l (jobs_in r.0 ++ c.passes.jobs.items) (replies_in r.0)) (sym c.in_default.ensures.lost) r.1, c.in_default.ensures.err start r.0 r.2)
 
 pub returns-clause-ok : goal.returns-clause-ok
 returns-clause-ok g c = λ starts start turns posts lane.
