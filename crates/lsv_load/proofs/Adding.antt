@@ -69,7 +69,7 @@ laid_same start log old now number body reads =
 
 -- a way in which a log may be played
 any_way : Options
-any_way = record { streams = true ∷ true ∷ true ∷ true ∷ true ∷ []; longest = None; speed = 1000000000; suspended = true }
+any_way = record { streams = true ∷ true ∷ true ∷ true ∷ true ∷ []; longest = None; speed = 1000000000; suspended = true; runs = omega arith }
 
 module _ (tells : Type 0) (start log : ViewState) (old now : DiskView) (before sums : Totals) (is : IsAdding tells start log old now before sums) (told : tells) (fresh : IsBehind start [] old) where
   so_far : (rs : List Record) × IsBehind log rs now × ((logs : List Stored) → before ≡ totals_of logs → sums ≡ totals_with logs rs)

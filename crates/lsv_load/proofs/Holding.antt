@@ -1,6 +1,7 @@
 -- A log that was read to its end is one that the disk replays.
 use Rattle.std.proofs.Common.{◌≡◌, ◌≢◌, ◌∙◌, ◌⊎◌, inl, inr, ◌<◌, ◌≤◌, ◌^◌, ◌==◌, ℕ, zero, suc, Bool, List, [], ◌∷◌, length, take, drop, cond, Option, Some, None, refl, sym, ap, subst, arith}
 use Rattle.std.specs.Prelude.{true, false, is_some}
+use Rattle.std.proofs.lemmas.Bool.Decides.{nat_tests}
 use Rattle.std.proofs.lemmas.List.{take-append-drop}
 use Rattle.lsv_disk.specs.declared.file.Part.{Part}
 use Rattle.lsv_disk.specs.declared.file.Part.TheVariants.{Head as HeadPart, Exit, Timing}
@@ -32,12 +33,15 @@ is_three (suc (suc zero)) = inr (λ e. cc)
 is_three (suc (suc (suc zero))) = inl refl
 is_three (suc (suc (suc (suc k)))) = inr (λ e. let no_ : ⊥ = omega (arith, e) in no_)
 
+true_or_false : (b : Bool) → (b ≡ true) ⊎ (b ≡ false)
+true_or_false true = inl refl
+true_or_false false = inr refl
+
+same_number : (m n : ℕ) → (m == n) ≡ true → m ≡ n
+same_number m n e = grind (arith, nat_tests)
+
 not_three : (k : ℕ) → k ≢ 3 → (k == 3) ≡ false
-not_three zero ne = refl
-not_three (suc zero) ne = refl
-not_three (suc (suc zero)) ne = refl
-not_three (suc (suc (suc zero))) ne = absurd (ne refl)
-not_three (suc (suc (suc (suc k)))) ne = refl
+not_three k ne = elim (true_or_false (k == 3)) [ inl three ↦ absurd (ne (same_number k 3 three)) | inr other ↦ other ]
 
 no_bytes : (xs : List ℕ) → length xs ≡ 0 → xs ≡ []
 no_bytes [] none = refl

@@ -1,4 +1,5 @@
 mod Adding
 mod Holding
+mod Opened
 mod Summing
 mod Running

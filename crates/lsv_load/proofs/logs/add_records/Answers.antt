@@ -49,7 +49,7 @@ returns-in_default-clause-reads g c told =
 
 pub returns-in_default-clause-cause : goal.returns-in_default-clause-cause
 returns-in_default-clause-cause g c =
-    own_cause c.args.log.now.number c.records.log.number _ _ (g.D.Disk.view c.args.disk.now) (g.D.Disk.view c.records.disk) (g.D.Disk.view c.next.new.disk) c.records.invariant.number c.records.invariant.disk c.in_ok-record.ensures.cause (λ is. absurd is)
+    own_cause c.args.log.now.number c.records.log.number _ _ (g.D.Disk.view c.args.disk.now) (g.D.Disk.view c.records.disk) (g.D.Disk.view c.next.new.disk) c.records.invariant.number c.records.invariant.disk c.in_ok-record.ensures.cause (λ is. absurd (let no_ : ⊥ = cc in no_))
 
 pub returns-clause-reads : goal.returns-clause-reads
 returns-clause-reads g c told = c.records.invariant.reads told
