@@ -1,5 +1,5 @@
 -- The logs of a load are summed up one by one.
-use Rattle.std.proofs.Common.{◌≡◌, ◌++◌, ◌≤◌, ℕ, List, [], ◌∷◌, Some, refl, sym, subst, arith}
+use Rattle.std.proofs.Common.{◌≡◌, ◌++◌, ◌≤◌, ℕ, List, [], ◌∷◌, Some, Result, Ok, Err, OnOk, refl, sym, subst, arith}
 use Rattle.std.specs.List.{Contains}
 use Rattle.lsv_words.specs.Causes.{HasRisen}
 use Rattle.lsv_disk.specs.declared.file.FileId.{FileId}
@@ -45,6 +45,11 @@ summing_goes_on tells numbers n old now later sums more is reads disk added = re
       );
 }
 
+-- what holds where there is no error
+pub ok_holds : {T : Type 0} (r : Result T LogFault) (P : Type 0) → ((e : LogFault) → r ≡ Err e → ⊥) → OnOk r P → P
+ok_holds (Ok x) P none is = is
+ok_holds (Err e) P none is = absurd (none e refl)
+
 -- why a log of these isn't replayed
 pub replay_fails : (tells : Type 0) (numbers : List ℕ) (n : ℕ) (old now later : DiskView) (e : LogFault) → Contains numbers n → IsOpenFault e → ((f : FileId) → old.faults f ≤ now.faults f) → (tells → OnlyReads now later) → (tells → IsUnread now.reads n e)
     → (e ≡ logs.Disk → (f : FileId) × IsOfLog n f × HasRisen (now.faults f) (later.faults f)) → HasReplayCause tells numbers old later (fault_of n e)
@@ -53,7 +58,7 @@ replay_fails tells numbers n old now later logs.Absent one_of is mono reads unre
 replay_fails tells numbers n old now later (logs.Damaged part) one_of is mono reads unread risen =
     (n, one_of, refl, λ told. subst (λ (image : Image). HasNoLog image n) (sym (same_image now later (reads told))) (unread told))
 replay_fails tells numbers n old now later logs.Disk one_of is mono reads unread risen =
-    let one = risen refl in (n, one_of, refl, one.0, one.1, λ small. let m = mono one.0 in let r = one.2 small in omega (arith, m, r))
+    let one = risen refl in (n, one_of, refl, (one.0, one.1, λ small. let m = mono one.0 in let r = one.2 small in omega (arith, m, r)))
 replay_fails tells numbers n old now later logs.NoMem one_of is mono reads unread risen = tt
 replay_fails tells numbers n old now later logs.Complete one_of is mono reads unread risen = absurd is
 replay_fails tells numbers n old now later (logs.NoPoint point) one_of is mono reads unread risen = absurd is
