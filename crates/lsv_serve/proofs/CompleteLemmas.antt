@@ -44,12 +44,13 @@ use Rattle.lsv_keeper.specs.declared.fault.StoreFault.{StoreFault}
 use Rattle.lsv_keeper.specs.declared.fault.StoreFault.TheVariants as faults
 use Rattle.lsv_serve.specs.Causes.{HasConfCause, HasProgramCause, HasStatusCause}
 use Rattle.lsv_serve.specs.Complete.{AllAmple, AreAmple, Completes, IsServedBy, IsUnhindered, answers_of, came_in, messages_of}
-use Rattle.lsv_serve.specs.Once.{AreTurns, Conforms, IsTurn, RunsOnce, outside_of, once_settings}
-use Rattle.lsv_serve.specs.Tape as tape
-use Rattle.lsv_serve.specs.Tape.{Leaves, Tape, TapeTurn, TurnsOf, bodies_in, jobs_of, once_conn, replies_in, shuts, turns_in, was_shut}
+use Rattle.lsv_lane.specs.Store.{AreTurns, Conforms, IsTurn}
+use Rattle.lsv_serve.specs.Once.{RunsOnce, outside_of, once_settings}
+use Rattle.lsv_turns.specs.Turns as tape
+use Rattle.lsv_serve.specs.Tape.{Leaves, Tape, TapeTurn, TurnsOf, bodies_in, jobs_of, once_conn, replies_in, shuts, turn_of, turns_in, was_shut}
 use Rattle.lsv_serve.specs.World.{World}
 use Rattle.lsv_serve.specs.declared.status.Status.{Status}
-use Rattle.lsv_serve.specs.declared.status.Status.TheVariants.{Served, Usage, Conf, Store, ReadFault, WriteFault, NoMem}
+use Rattle.lsv_serve.specs.declared.status.Status.TheVariants.{Served, Usage, Conf, Store, ReadFault, WriteFault, PortFault, NoMem}
 
 -- ---- Counts that didn't rise
 
@@ -114,7 +115,7 @@ sound_acts : (acts : List Act) (tail : Tail) (g : List Happened) → AllSound ((
 sound_acts [] tail g (none, rest) ample = (tt, none, rest)
 sound_acts (act ∷ acts) tail g (none, rest) (has, ample) = let (calm, sound, on) = sound_acts acts tail g rest ample in ((none, has, calm), sound, on)
 
-are_sent : (turns : List TapeTurn) (did : List Turn) → AreTurns turns did → AllSound (all_turns did) → AllAmple did → AreSent once_conn (came_in turns) did
+are_sent : (turns : List TapeTurn) (did : List Turn) → AreTurns (map turn_of turns) did → AllSound (all_turns did) → AllAmple did → AreSent once_conn (came_in turns) did
 are_sent [] [] are sound ample = tt
 are_sent [] (d ∷ did) are sound ample = are
 are_sent (t ∷ turns) [] are sound ample = are
@@ -127,10 +128,10 @@ record Parts (one two : List TapeTurn) (did : List Turn) : Type 0 where
   first : List Turn
   second : List Turn
   are : did ≡ first ++ second
-  of_one : AreTurns one first
-  of_two : AreTurns two second
+  of_one : AreTurns (map turn_of one) first
+  of_two : AreTurns (map turn_of two) second
 
-parts_of : (one two : List TapeTurn) (did : List Turn) → AreTurns (one ++ two) did → Parts one two did
+parts_of : (one two : List TapeTurn) (did : List Turn) → AreTurns (map turn_of (one ++ two)) did → Parts one two did
 parts_of [] two did are = record { first = []; second = did; are = refl; of_one = tt; of_two = are }
 parts_of (t ∷ one) two [] are = absurd are
 parts_of (t ∷ one) two (d ∷ did) (is, are) =
@@ -163,7 +164,7 @@ sound_first (x ∷ g) h (none, s) = (none, sound_first g h s)
 
 -- ---- What was said
 
-replies_are : (turns : List TapeTurn) (did : List Turn) → AreTurns turns did → replies_in turns ≡ map reply_of (all_answers did)
+replies_are : (turns : List TapeTurn) (did : List Turn) → AreTurns (map turn_of turns) did → replies_in turns ≡ map reply_of (all_answers did)
 replies_are [] [] are = refl
 replies_are [] (d ∷ did) are = absurd are
 replies_are (t ∷ turns) [] are = absurd are
@@ -257,21 +258,21 @@ module _ (kind : Kind) (log_exit : Bool) (texts : List (List ℕ)) (old new : Wo
       go false t = rw t (omega arith)
 
   module _ (from_source : old.source_tells) (to_sink : old.sink_tells) (told : old.disk_tells) (runs : RunsOnce set texts old new Served) (last : ℕ) (lines : List ℕ) (bodies : List Body)
-      (u : IsUnhindered set old new Served runs.tape (runs.keeps told).story last lines bodies) where
+      (u : IsUnhindered set old new Served runs.tape (runs.keeps told).store.story last lines bodies) where
     abbrev reads : List TapeTurn
     reads = runs.tape.reads
 
     abbrev story : Story
-    story = (runs.keeps told).story
+    story = (runs.keeps told).store.story
 
-    conforms : Conforms set texts (outside_of old new) runs.tape story
-    conforms = (runs.keeps told).conforms tt
+    conforms : Conforms set texts (outside_of old new) story
+    conforms = (runs.keeps told).store.conforms tt
 
     abbrev start : Machine
     start = conforms.ran.start
 
     parts : Parts reads runs.tape.leaving story.turns
-    parts = parts_of reads runs.tape.leaving story.turns (runs.keeps told).turns
+    parts = parts_of reads runs.tape.leaving story.turns (runs.keeps told).store.are
 
     apart : all_turns story.turns ≡ all_turns parts.first ++ all_turns parts.second
     apart = ap all_turns parts.are ∙ all_turns_append parts.first parts.second
@@ -354,7 +355,7 @@ module _ (kind : Kind) (log_exit : Bool) (texts : List (List ℕ)) (old new : Wo
       none_leaves = subst (λ (b : Bool). Leaves b runs.tape.leaving) shut_now runs.reads.ends
 
       none_behind : parts.second ≡ []
-      none_behind = nothing parts.second (subst (λ (ts : List TapeTurn). AreTurns ts parts.second) none_leaves parts.of_two)
+      none_behind = nothing parts.second (subst (λ (ts : List TapeTurn). AreTurns (map turn_of ts) parts.second) none_leaves parts.of_two)
         where
           nothing : (ds : List Turn) → AreTurns [] ds → ds ≡ []
           nothing [] are = refl
@@ -403,12 +404,13 @@ module _ (kind : Kind) (log_exit : Bool) (texts : List (List ℕ)) (old new : Wo
     where
       opened : old.disk_tells → (f : StoreFault) → HasStatusCause old new (Store f) → ((file : FileId) → HasRisen (old.disk.faults file) (new.disk.faults file) → ⊥)
           → ((file : FileId) → IsStoreFault 0 1 old.disk.reads (faults.Damaged file) → ⊥) → ((kept asked : ℕ) → IsStoreFault 0 1 old.disk.reads (faults.LanesDiffer kept asked) → ⊥) → ⊥
-      opened told (faults.Device o) ((file, own, risen), is) calm whole lanes = calm file risen
-      opened told (faults.Damaged file) is calm whole lanes = whole file (is told)
-      opened told (faults.LanesDiffer kept asked) is calm whole lanes = lanes kept asked (is told)
-      opened told faults.NoMem is calm whole lanes = is
+      opened told (faults.Device o) c calm whole lanes = let f = c.failed o refl in calm f.0 f.2
+      opened told (faults.Damaged file) c calm whole lanes = whole file (c.is told)
+      opened told (faults.LanesDiffer kept asked) c calm whole lanes = lanes kept asked (c.is told)
+      opened told faults.NoMem c calm whole lanes = c.memory refl
   completes ReadFault not_usage cause = λ src snk told runs last lines bodies u. absurd (u.no_read_failed cause)
   completes WriteFault not_usage cause = λ src snk told runs last lines bodies u. absurd (u.no_write_failed cause)
+  completes PortFault not_usage cause = absurd cause
   completes NoMem not_usage cause = λ src snk told runs last lines bodies u. absurd (u.had_memory refl)
 
 -- the same of a run of the program whose settings are read
@@ -424,4 +426,5 @@ completes_set lines faults faults' kind log_exit texts old new (Conf line) not_u
 completes_set lines faults faults' kind log_exit texts old new (Store fault) not_usage calm cause none = completes kind log_exit texts old new (Store fault) not_usage cause.1
 completes_set lines faults faults' kind log_exit texts old new ReadFault not_usage calm cause none = completes kind log_exit texts old new ReadFault not_usage cause.1
 completes_set lines faults faults' kind log_exit texts old new WriteFault not_usage calm cause none = completes kind log_exit texts old new WriteFault not_usage cause.1
+completes_set lines faults faults' kind log_exit texts old new PortFault not_usage calm cause none = absurd cause
 completes_set lines faults faults' kind log_exit texts old new NoMem not_usage calm cause none = completes kind log_exit texts old new NoMem not_usage tt

@@ -1,5 +1,5 @@
 -- The end of a run.
-use Rattle.std.proofs.Common.{◌≡◌, ◌⊎◌, inl, inr, ◌++◌, ◌∷◌, [], List, ℕ, Bool, false, Option, None, refl, sym, ap, subst, ◌∙◌, append-nil}
+use Rattle.std.proofs.Common.{◌≡◌, ◌⊎◌, inl, inr, ◌++◌, ◌∷◌, [], List, map, ℕ, Bool, false, Option, None, refl, sym, ap, subst, ◌∙◌, append-nil}
 use Rattle.std.specs.Prelude.{IsSome}
 use Rattle.std.specs.List.{AllByRecursion}
 use Rattle.lsv_base.specs.Time.{nanos_of}
@@ -16,11 +16,12 @@ use Rattle.lsv_keeper.specs.Tails.{TurnGives}
 use Rattle.lsv_keeper.specs.Value.{IsResting, KeeperView}
 use Rattle.lsv_serve.specs.declared.server.End.TheVariants as ends
 use Rattle.lsv_serve.specs.declared.status.Status.{Status}
-use Rattle.lsv_serve.specs.declared.status.Status.TheVariants.{Served, Usage, Conf, Store, ReadFault, WriteFault, NoMem}
+use Rattle.lsv_serve.specs.declared.status.Status.TheVariants.{Served, Usage, Conf, Store, ReadFault, WriteFault, PortFault, NoMem}
 use Rattle.lsv_serve.specs.Causes.{HasStatusCause}
 use Rattle.lsv_serve.specs.InnerRun.{Ended, MayEnd, Serves, Standing, TurnDone}
-use Rattle.lsv_serve.specs.Once.{AreTurns, Conforms, KeepsStore}
-use Rattle.lsv_serve.specs.Tape.{EndsFor, IsGone, Leaves, PutsFor, PutsPart, Tape, TapeTurn, jobs_of, once_conn, replies_in, turns_in, was_shut}
+use Rattle.lsv_lane.specs.Store.{AreTurns, Conforms}
+use Rattle.lsv_serve.specs.Once.{KeepsOnce}
+use Rattle.lsv_serve.specs.Tape.{EndsFor, IsGone, Leaves, PutsFor, PutsPart, Tape, TapeTurn, jobs_of, once_conn, replies_in, turn_of, turns_in, was_shut}
 use Rattle.lsv_serve.specs.World.{World}
 use Rattle.lsv_serve.proofs.ReadLemmas.{with_disk}
 use Rattle.lsv_serve.proofs.SilenceLemmas.{gone_silent}
@@ -31,26 +32,27 @@ use Rattle.lsv_serve.proofs.TurnLemmas.{standing_turn}
 free_reads : (v : KeeperView) (disk : DiskView) (m : Machine) (n : ℕ) → m.owner n ≡ None → LogIs v disk m n (m.owner n) → Free v disk m n
 free_reads v disk m n e is = subst (λ (o : Option ConnId). LogIs v disk m n o) e is
 
--- what the machine did, where the tape says no more than the turns
-pub conforms : (set : Settings) (texts : List (List ℕ)) (found now : DiskView) (v : KeeperView) (turns : List TapeTurn) (tape : Tape) → (s : Standing set texts found now v turns) → said_to once_conn (replies_in tape.leaving) ≡ []
-    → Conforms set texts (record { found = found; left = now }) tape s.story
-conforms set texts found now v turns tape s silent = record {
+-- what the machine did in these turns
+pub conforms : (set : Settings) (texts : List (List ℕ)) (found now : DiskView) (v : KeeperView) (turns : List TapeTurn) → (s : Standing set texts found now v turns) → Conforms set texts (record { found = found; left = now }) s.story
+conforms set texts found now v turns s = record {
   end = s.machine;
   ran = s.so_far.ran;
   one_writer = λ n before run rest e. one_writer set n before run rest texts s.so_far.ran.start s.machine s.so_far.ran.starts (subst (λ (h : List Happened). Run set s.so_far.ran.start h s.machine) e s.so_far.ran.run);
-  silent = silent;
   logs = λ n e. (free_reads v now s.machine n e (s.represents.logs n)).reads;
   lines = s.so_far.lines;
 }
 
--- what a run did with the store
+-- what a run did with the store, where the tape says no more than the turns
 pub keeps : (set : Settings) (texts : List (List ℕ)) (found now : DiskView) (v : KeeperView) (turns : List TapeTurn) (status : Status) (tape : Tape) → turns ≡ turns_in tape → said_to once_conn (replies_in tape.leaving) ≡ []
-    → Standing set texts found now v turns → KeepsStore set texts (record { found = found; left = now }) status tape
+    → Standing set texts found now v turns → KeepsOnce set texts (record { found = found; left = now }) status tape
 keeps set texts found now v turns status tape same silent s = record {
-  story = s.story;
-  turns = subst (λ (ts : List TapeTurn). AreTurns ts s.story.turns) same s.same;
-  conforms = λ opened. conforms set texts found now v turns tape s silent;
-  recovers = s.so_far.recovers;
+  store = record {
+    story = s.story;
+    are = subst (λ (ts : List TapeTurn). AreTurns (map turn_of ts) s.story.turns) same s.same;
+    conforms = λ opened. conforms set texts found now v turns s;
+    recovers = s.so_far.recovers;
+  };
+  silent = λ opened. silent;
 }
 
 -- ---- Where the connection makes no further turn
@@ -63,6 +65,7 @@ ends_last Served reads may = subst (λ (b : Bool). Leaves b []) (sym may) refl
 ends_last WriteFault reads may = subst (λ (b : Bool). Leaves b []) (sym may) refl
 ends_last NoMem reads may = refl
 ends_last ReadFault reads may = absurd may
+ends_last PortFault reads may = absurd may
 ends_last Usage reads may = absurd may
 ends_last (Conf line) reads may = absurd may
 ends_last (Store fault) reads may = absurd may

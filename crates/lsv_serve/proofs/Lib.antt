@@ -7,5 +7,7 @@ pub mod SilenceLemmas
 pub mod EndLemmas
 pub mod StartLemmas
 pub mod ProgramLemmas
+pub mod OnceLemmas
+pub mod ServeLemmas
 pub mod TextLemmas
 mod CompleteLemmas

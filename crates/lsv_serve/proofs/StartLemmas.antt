@@ -1,9 +1,10 @@
 -- The start of a run: the places that the disk is given, a store that isn't opened, and words that ask for nothing.
-use Rattle.std.proofs.Common.{◌≡◌, ◌≤◌, ◌⊎◌, inl, inr, [], List, ℕ, Bool, Ok, refl, sym, subst, append-nil, arith}
+use Rattle.std.proofs.Common.{◌≡◌, ◌≤◌, ◌⊎◌, inl, inr, [], List, map, ℕ, Bool, Ok, refl, sym, subst, append-nil, arith}
 use Rattle.lsv_words.specs.Causes.{HasRisen}
 use Rattle.lsv_disk.specs.Throughout.{Jointly}
 use Rattle.lsv_disk.specs.View.{DiskView, Image, IsCrashImage, IsLeftAlone, IsUntouched}
 use Rattle.lsv_disk.specs.declared.file.FileId.{FileId}
+use Rattle.lsv_disk.specs.declared.file.Owner.{Owner}
 use Rattle.lsv_disk.proofs.Composition.{started}
 use Rattle.lsv_machine.specs.Counts.{Counts}
 use Rattle.lsv_machine.specs.Disks.{AsBefore, IsOfStore, LinesAsBefore, NumbersFit, Past, SameLines, SameLog}
@@ -21,12 +22,15 @@ use Rattle.lsv_keeper.specs.Reading.{reading_of}
 use Rattle.lsv_keeper.specs.Value.{KeeperView}
 use Rattle.lsv_keeper.specs.declared.fault.StoreFault.{StoreFault}
 use Rattle.lsv_keeper.specs.declared.fault.StoreFault.TheVariants as faults
+use Rattle.lsv_turns.specs.Turns.{LaneTurn}
+use Rattle.lsv_lane.specs.Store.{IsFresh, KeepsStore, OwnerFailed}
+use Rattle.lsv_server.specs.Runs.{HasStoreCause}
 use Rattle.lsv_serve.specs.declared.status.Status.{Status}
-use Rattle.lsv_serve.specs.declared.status.Status.TheVariants.{Served, Usage, Conf, Store, ReadFault, WriteFault, NoMem}
-use Rattle.lsv_serve.specs.Causes.{HasStatusCause, HasStoreCause, OwnerFailed}
+use Rattle.lsv_serve.specs.declared.status.Status.TheVariants.{Served, Usage, Conf, Store, ReadFault, WriteFault, PortFault, NoMem}
+use Rattle.lsv_serve.specs.Causes.{HasStatusCause}
 use Rattle.lsv_serve.specs.InnerRun.{Begun, store_status}
-use Rattle.lsv_serve.specs.Once.{IsFresh, IsOpened, KeepsStore, RunsOnce, once_settings}
-use Rattle.lsv_serve.specs.Tape.{EndsFor, PutsFor, Tape}
+use Rattle.lsv_serve.specs.Once.{IsOpened, RunsOnce, once_settings}
+use Rattle.lsv_serve.specs.Tape.{EndsFor, PutsFor, Tape, turn_of, turns_in}
 use Rattle.lsv_serve.specs.World.{World}
 use Rattle.lsv_serve.proofs.ReadLemmas.{hello, with_disk}
 use Rattle.lsv_serve.proofs.TurnLemmas.{set_to, standing_open}
@@ -46,7 +50,7 @@ module _ (before after : DiskView) (u : IsUntouched before after) where
     none_above = λ a b last n is it. fit.none_above a b last n (possible_before a is) (possible_before b it);
   }
 
-  pub fresh_after : IsFresh before → IsFresh after
+  pub fresh_after : IsFresh 0 1 before → IsFresh 0 1 after
   fresh_after fresh last e = fits_after (reading_of 0 1) 0 1 (fresh last (subst (λ (reads : Image). judged 0 1 (entry_at 0 reads) ≡ Ok last) reads_same e))
 
   good_after : (r : Reading) (g : List Happened) (n : ℕ) → Good r g before.reads n → Good r g after.reads n
@@ -83,18 +87,30 @@ module _ (before after : DiskView) (u : IsUntouched before after) where
           counts = counts_before _ left ran.counts;
         }
 
-    keeps_before : (set : Settings) (texts : List (List ℕ)) (left : DiskView) (status : Status) (tape : Tape) → KeepsStore set texts (record { found = after; left = left }) status tape
-        → KeepsStore set texts (record { found = before; left = left }) status tape
-    keeps_before set texts left status tape k = record {
+    pub keeps_before : (opened : Type 0) (set : Settings) (texts : List (List ℕ)) (left : DiskView) (turns : List LaneTurn) → KeepsStore opened set texts (record { found = after; left = left }) turns
+        → KeepsStore opened set texts (record { found = before; left = left }) turns
+    keeps_before opened set texts left turns k = record {
       story = k.story;
-      turns = k.turns;
-      conforms = λ opened.
-          let c = k.conforms opened in
-          record { end = c.end; ran = ran_before set texts left c.end k.story c.ran; one_writer = c.one_writer; silent = c.silent; logs = c.logs; lines = c.lines };
+      are = k.are;
+      conforms = λ up. let c = k.conforms up in record { end = c.end; ran = ran_before set texts left c.end k.story c.ran; one_writer = c.one_writer; logs = c.logs; lines = c.lines };
       recovers = recovers_before (reading_of set.lane set.lanes) set.lane set.lanes texts left k.story k.recovers;
     }
 
 -- what is said of a run from the disk with its places, is said of it from the disk before
+module _ (tells : Type 0) (found after : DiskView) (alone : IsLeftAlone tells found after) where
+  failed_before : (new : DiskView) (o : Owner) → OwnerFailed o after new → OwnerFailed o found new
+  failed_before new o (file, own, risen) = (file, own, subst (λ (n : ℕ). HasRisen n (new.faults file)) (alone.faults file) risen)
+
+  fault_before : (fault : StoreFault) → (tells → IsStoreFault 0 1 after.reads fault) → tells → IsStoreFault 0 1 found.reads fault
+  fault_before fault f told = subst (λ (reads : Image). IsStoreFault 0 1 reads fault) (reads_same found after (alone.untouched told)) (f told)
+
+  pub store_cause_before : (new : DiskView) (fault : StoreFault) → HasStoreCause tells after new fault → HasStoreCause tells found new fault
+  store_cause_before new fault c = record { memory = c.memory; is = fault_before fault c.is; failed = λ o e. failed_before new o (c.failed o e) }
+
+  pub store_before : (opened : Type 0) (set : Settings) (texts : List (List ℕ)) (left : DiskView) (turns : List LaneTurn) → tells → KeepsStore opened set texts (record { found = after; left = left }) turns
+      → KeepsStore opened set texts (record { found = found; left = left }) turns
+  store_before opened set texts left turns told k = keeps_before found after (alone.untouched told) alone.faults opened set texts left turns k
+
 module _ (old : World) (after : DiskView) (alone : IsLeftAlone old.disk_tells old.disk after) where
   pub runs_before : (set : Settings) (texts : List (List ℕ)) (new : World) (status : Status) → RunsOnce set texts (with_disk old after) new status → RunsOnce set texts old new status
   runs_before set texts new status r = record {
@@ -113,28 +129,19 @@ module _ (old : World) (after : DiskView) (alone : IsLeftAlone old.disk_tells ol
       ended = r.reads.ended;
     };
     puts = r.puts;
-    keeps = λ told. keeps_before old.disk after (alone.untouched told) alone.faults set texts new.disk status r.tape (r.keeps told);
+    keeps = λ told.
+        let k = r.keeps told in
+        record { store = store_before old.disk_tells old.disk after alone (IsOpened status r.tape) set texts new.disk (map turn_of (turns_in r.tape)) told k.store; silent = k.silent };
   }
-
-  failed_before : (new : DiskView) (o : _) → OwnerFailed o after new → OwnerFailed o old.disk new
-  failed_before new o (file, own, risen) = (file, own, subst (λ (n : ℕ). HasRisen n (new.faults file)) (alone.faults file) risen)
-
-  fault_before : (fault : StoreFault) → (old.disk_tells → IsStoreFault 0 1 after.reads fault) → old.disk_tells → IsStoreFault 0 1 old.disk.reads fault
-  fault_before fault f told = subst (λ (reads : Image). IsStoreFault 0 1 reads fault) (reads_same old.disk after (alone.untouched told)) (f told)
-
-  store_cause_before : (new : World) (fault : StoreFault) → HasStoreCause (with_disk old after) new fault → HasStoreCause old new fault
-  store_cause_before new (faults.Device o) c = (failed_before new.disk o c.0, fault_before (faults.Device o) c.1)
-  store_cause_before new (faults.Damaged file) c = fault_before (faults.Damaged file) c
-  store_cause_before new (faults.LanesDiffer kept asked) c = fault_before (faults.LanesDiffer kept asked) c
-  store_cause_before new faults.NoMem c = c
 
   pub cause_before : (new : World) (status : Status) → HasStatusCause (with_disk old after) new status → HasStatusCause old new status
   cause_before new Served c = c
   cause_before new Usage c = c
   cause_before new (Conf line) c = c
-  cause_before new (Store fault) c = store_cause_before new fault c
+  cause_before new (Store fault) c = store_cause_before old.disk_tells old.disk after alone new.disk fault c
   cause_before new ReadFault c = c
   cause_before new WriteFault c = c
+  cause_before new PortFault c = c
   cause_before new NoMem c = c
 
 -- ---- A run without turns
@@ -163,10 +170,13 @@ runs_nothing set texts old disk status n opens = record {
   };
   puts = λ told. ([], sym (append-nil old.put), puts n);
   keeps = λ told. record {
-    story = record { opened = disk.moment; turns = [] };
-    turns = tt;
-    conforms = λ opened. absurd (unopened n opened);
-    recovers = only_opened (reading_of set.lane set.lanes) set.lane set.lanes texts old.disk disk (opens told);
+    store = record {
+      story = record { opened = disk.moment; turns = [] };
+      are = tt;
+      conforms = λ opened. absurd (unopened n opened);
+      recovers = only_opened (reading_of set.lane set.lanes) set.lane set.lanes texts old.disk disk (opens told);
+    };
+    silent = λ opened. absurd (unopened n opened);
   };
 }
   where
@@ -206,9 +216,9 @@ store_nothing faults.NoMem = inr (inr (inl refl))
 -- the cause of a store that isn't opened
 pub store_cause : (old : World) (disk : DiskView) (fault : StoreFault) → (old.disk_tells → IsStoreFault 0 1 old.disk.reads fault) → ((o : _) → fault ≡ faults.Device o → OwnerFailed o old.disk disk)
     → HasStatusCause old (with_disk old disk) (store_status fault)
-store_cause old disk (faults.Device o) is failed = (failed o refl, is)
-store_cause old disk (faults.Damaged file) is failed = is
-store_cause old disk (faults.LanesDiffer kept asked) is failed = is
+store_cause old disk (faults.Device o) is failed = record { memory = λ e. cc; is = is; failed = failed }
+store_cause old disk (faults.Damaged file) is failed = record { memory = λ e. cc; is = is; failed = failed }
+store_cause old disk (faults.LanesDiffer kept asked) is failed = record { memory = λ e. cc; is = is; failed = failed }
 store_cause old disk faults.NoMem is failed = tt
 
 -- ---- Nothing was done
@@ -248,7 +258,7 @@ module _ (disk : DiskView) (only_now : (image : Image) → disk.crash_images_at 
 
 -- ---- A store that was opened
 
-pub begun : (kind : Kind) (log_exit : Bool) (texts : List (List ℕ)) (old : World) (disk : DiskView) (v : KeeperView) → IsSetTo 0 1 kind log_exit texts v → (old.disk_tells → IsFresh old.disk)
+pub begun : (kind : Kind) (log_exit : Bool) (texts : List (List ℕ)) (old : World) (disk : DiskView) (v : KeeperView) → IsSetTo 0 1 kind log_exit texts v → (old.disk_tells → IsFresh 0 1 old.disk)
     → (old.disk_tells → (last : ℕ) × (judged 0 1 (entry_at 0 old.disk.reads) ≡ Ok last)) → (old.disk_tells → NumbersFit (reading_of 0 1) 0 1 (IsCrashImage old.disk) → OpensAs 0 1 texts old.disk disk v)
     → Begun (once_settings kind log_exit) texts old (with_disk old disk) v
 begun kind log_exit texts old disk v is fresh read opens = record {
@@ -261,12 +271,16 @@ begun kind log_exit texts old disk v is fresh read opens = record {
   standing = λ told. let r = read told in let fit = fresh told r.0 r.1 in standing_open kind log_exit texts old.disk disk v is fit (opens told fit);
 }
 
--- the numbers fit at the end of a run
+-- the numbers fit at the end of a run that kept the store
+pub fit_kept : (opened : Type 0) (set : Settings) (texts : List (List ℕ)) (found left : DiskView) (turns : List LaneTurn) → KeepsStore opened set texts (record { found = found; left = left }) turns
+    → ((image : Image) → IsCrashImage left image → left.crash_images_at left.moment image)
+    → NumbersFit (reading_of set.lane set.lanes) set.lane set.lanes (IsCrashImage found) → NumbersFit (reading_of set.lane set.lanes) set.lane set.lanes (IsCrashImage left)
+fit_kept opened set texts found left turns k is_now fit =
+    let spans = k.recovers.spans in
+    let later : found.moment ≤ left.moment = let a = spans.first in let b = spans.within [] k.story.turns refl in omega arith in
+    let at = k.recovers.numbers fit left.moment later (omega arith) in
+    record { told = λ image is. at.told image (is_now image is); none_above = λ a b last n is it. at.none_above a b last n (is_now a is) (is_now b it) }
+
 pub fit_now : (set : Settings) (texts : List (List ℕ)) (old new : World) (status : Status) → RunsOnce set texts old new status → ((image : Image) → IsCrashImage new.disk image → new.disk.crash_images_at new.disk.moment image)
     → old.disk_tells → NumbersFit (reading_of set.lane set.lanes) set.lane set.lanes (IsCrashImage old.disk) → NumbersFit (reading_of set.lane set.lanes) set.lane set.lanes (IsCrashImage new.disk)
-fit_now set texts old new status r is_now told fit =
-    let k = r.keeps told in
-    let spans = k.recovers.spans in
-    let later : old.disk.moment ≤ new.disk.moment = let a = spans.first in let b = spans.within [] k.story.turns refl in omega arith in
-    let at = k.recovers.numbers fit new.disk.moment later (omega arith) in
-    record { told = λ image is. at.told image (is_now image is); none_above = λ a b last n is it. at.none_above a b last n (is_now a is) (is_now b it) }
+fit_now set texts old new status r is_now told fit = fit_kept (IsOpened status r.tape) set texts old.disk new.disk (map turn_of (turns_in r.tape)) (r.keeps told).store is_now fit

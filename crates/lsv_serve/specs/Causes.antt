@@ -4,34 +4,20 @@ use Rattle.lsv_words.specs.Causes.{HasRisen}
 use Rattle.lsv_conf.specs.Lines.{Placed, first_refused}
 use Rattle.lsv_conf.specs.Settings.{told}
 use Rattle.lsv_disk.specs.View.{DiskView}
-use Rattle.lsv_disk.specs.declared.file.FileId.{FileId}
-use Rattle.lsv_disk.specs.declared.file.Owner.{Owner}
-use Rattle.lsv_keeper.specs.Opening.{IsStoreFault}
-use Rattle.lsv_keeper.specs.declared.fault.StoreFault.{StoreFault}
-use Rattle.lsv_keeper.specs.declared.fault.StoreFault.TheVariants as faults
+use Rattle.lsv_server.specs.Runs.{HasStoreCause}
 use Rattle.lsv_serve.specs.declared.status.Status.{Status}
-use Rattle.lsv_serve.specs.declared.status.Status.TheVariants.{Served, Usage, Conf, Store, ReadFault, WriteFault, NoMem}
+use Rattle.lsv_serve.specs.declared.status.Status.TheVariants.{Served, Usage, Conf, Store, ReadFault, WriteFault, PortFault, NoMem}
 use Rattle.lsv_serve.specs.World.{World}
-
--- a device call on a file of the owner failed
-abbrev pub OwnerFailed : Owner → (old new : DiskView) → Type 0
-OwnerFailed o old new = (file : FileId) × (file.owner ≡ o) × HasRisen (old.faults file) (new.faults file)
-
--- why a store isn't opened: a call on a file of its owner failed; or its number file or its event log are so
-abbrev pub HasStoreCause : World → World → StoreFault → Type 0
-HasStoreCause old new (faults.Device o) = OwnerFailed o old.disk new.disk × (old.disk_tells → IsStoreFault 0 1 old.disk.reads (faults.Device o))
-HasStoreCause old new (faults.Damaged file) = old.disk_tells → IsStoreFault 0 1 old.disk.reads (faults.Damaged file)
-HasStoreCause old new (faults.LanesDiffer kept asked) = old.disk_tells → IsStoreFault 0 1 old.disk.reads (faults.LanesDiffer kept asked)
-HasStoreCause old new faults.NoMem = ⊥
 
 -- why a connection's run ended so: a read failed, or a write, or the store wasn't opened
 abbrev pub HasStatusCause : World → World → Status → Type 0
 HasStatusCause old new Served = Unit {0}
 HasStatusCause old new Usage = Unit {0}
 HasStatusCause old new (Conf line) = ⊥
-HasStatusCause old new (Store fault) = HasStoreCause old new fault
+HasStatusCause old new (Store fault) = HasStoreCause old.disk_tells old.disk new.disk fault
 HasStatusCause old new ReadFault = HasRisen old.read_faults new.read_faults
 HasStatusCause old new WriteFault = HasRisen old.write_faults new.write_faults
+HasStatusCause old new PortFault = ⊥
 HasStatusCause old new NoMem = Unit {0}
 
 -- why settings weren't read: with 0 the reading of their file failed, with another number this line is the first that is refused
@@ -46,6 +32,7 @@ HasProgramCause lines faults faults' old new (Conf line) = HasConfCause lines fa
 HasProgramCause lines faults faults' old new (Store fault) = (first_refused lines ≡ None) × HasStatusCause old new (Store fault)
 HasProgramCause lines faults faults' old new ReadFault = (first_refused lines ≡ None) × HasStatusCause old new ReadFault
 HasProgramCause lines faults faults' old new WriteFault = (first_refused lines ≡ None) × HasStatusCause old new WriteFault
+HasProgramCause lines faults faults' old new PortFault = ⊥
 HasProgramCause lines faults faults' old new NoMem = Unit {0}
 
 -- the places of the store that the disk was given are this folder of logs and this event log; or out of memory it has none
@@ -60,4 +47,5 @@ HasPlacesAt logs events old new (Conf line) = new.places ≡ old.places
 HasPlacesAt logs events old new (Store fault) = HasPlaces logs events new
 HasPlacesAt logs events old new ReadFault = HasPlaces logs events new
 HasPlacesAt logs events old new WriteFault = HasPlaces logs events new
+HasPlacesAt logs events old new PortFault = HasPlaces logs events new
 HasPlacesAt logs events old new NoMem = HasPlaces logs events new ⊎ (new.places ≡ old.places)

@@ -1,7 +1,9 @@
 -- Which conversations a run of `once` serves, and how: a legal one that opens a log, where nothing is in the way.
-use Rattle.std.specs.Prelude.{◌≡◌, ◌≢◌, ◌<◌, ◌+◌, ◌-◌, ◌^◌, ◌++◌, ℕ, Bool, List, [], ◌∷◌, map, Some}
+use Rattle.std.specs.Prelude.{◌≡◌, ◌≢◌, ◌<◌, ◌+◌, ◌-◌, ◌^◌, ◌++◌, ℕ, Bool, List, [], ◌∷◌, map, Option, Some, None}
 use Rattle.std.specs.List.{flat_map}
 use Rattle.lsv_words.specs.Causes.{HasRisen}
+use Rattle.lsv_conf.specs.Lines.{first_refused}
+use Rattle.lsv_disk.specs.View.{IsCrashImage}
 use Rattle.lsv_disk.specs.declared.file.FileId.{FileId}
 use Rattle.lsv_event.specs.declared.event.Kind.{Kind}
 use Rattle.lsv_eventlog.specs.Recovered.{HoldsLines}
@@ -11,14 +13,17 @@ use Rattle.lsv_session.specs.Transcript.{AreJobs, answers, frames_of, messages_i
 use Rattle.lsv_session.specs.declared.connection.ConnState.TheVariants.{Fresh}
 use Rattle.lsv_session.specs.declared.job.Body.{Body}
 use Rattle.lsv_machine.specs.Answers.{Saying, body_of}
+use Rattle.lsv_machine.specs.Disks.{NumbersFit}
 use Rattle.lsv_machine.specs.Failures.{Act, WantsMemory}
 use Rattle.lsv_machine.specs.Legal.{Came, Fits, IsLegal, told_of, whole_log}
 use Rattle.lsv_machine.specs.Machine.{Settings}
 use Rattle.lsv_machine.specs.Recovery.{Story, Turn}
 use Rattle.lsv_keeper.specs.Opening.{IsStoreFault}
-use Rattle.lsv_keeper.specs.Reading.{IsDrawn}
+use Rattle.lsv_keeper.specs.Reading.{IsDrawn, reading_of}
 use Rattle.lsv_keeper.specs.declared.fault.StoreFault.TheVariants as faults
+use Rattle.lsv_serve.specs.Causes.{HasPlacesAt, HasProgramCause}
 use Rattle.lsv_serve.specs.Once.{RunsOnce, once_settings}
+use Rattle.lsv_serve.specs.Program.{lines_in, machine_of, prompts_of, set_by}
 use Rattle.lsv_serve.specs.Tape.{Tape, TapeTurn, once_conn}
 use Rattle.lsv_serve.specs.World.{World}
 use Rattle.lsv_serve.specs.declared.status.Status.{Status}
@@ -77,4 +82,13 @@ pub record IsServedBy (texts : List (List ℕ)) (old new : World) (status : Stat
 abbrev pub Completes : Kind → (log_exit : Bool) → (texts : List (List ℕ)) → (old new : World) → Status → Type 0
 Completes kind log_exit texts old new status =
     old.source_tells → old.sink_tells → (told : old.disk_tells) → (runs : RunsOnce (once_settings kind log_exit) texts old new status) → (last : ℕ) (lines : List ℕ) (bodies : List Body)
-    → IsUnhindered (once_settings kind log_exit) old new status runs.tape (runs.keeps told).story last lines bodies → IsServedBy texts old new status runs.tape last bodies
+    → IsUnhindered (once_settings kind log_exit) old new status runs.tape (runs.keeps told).store.story last lines bodies → IsServedBy texts old new status runs.tape last bodies
+
+-- a run of `once` with the settings file as it was found
+pub record OnceAs (found : Option (List ℕ)) (faults faults' : ℕ) (old new : World) (status : Status) : Type 0 where
+  pub runs : RunsOnce (machine_of (set_by found)) (prompts_of (set_by found)) old new status
+  pub cause : HasProgramCause (lines_in found) faults faults' old new status
+  pub complete : (HasRisen faults faults' → ⊥) → first_refused (lines_in found) ≡ None → Completes (set_by found).format (set_by found).log_exit (prompts_of (set_by found)) old new status
+  pub places : old.disk_tells → HasPlacesAt (set_by found).iolog_dir (set_by found).path old.disk new.disk status
+  -- the numbers fit the images of the disk again, as the next run asks
+  pub fresh_again : old.disk_tells → NumbersFit (reading_of 0 1) 0 1 (IsCrashImage old.disk) → NumbersFit (reading_of 0 1) 0 1 (IsCrashImage new.disk)

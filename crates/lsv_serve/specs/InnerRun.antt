@@ -1,5 +1,5 @@
 -- For proofs of a run under way: what its reads have made so far.
-use Rattle.std.specs.Prelude.{◌≡◌, ◌≤◌, ◌<◌, ◌-◌, ◌^◌, ◌⊎◌, ◌++◌, ℕ, Bool, true, false, List, [], ◌∷◌, length, IsSome}
+use Rattle.std.specs.Prelude.{◌≡◌, ◌≤◌, ◌<◌, ◌-◌, ◌^◌, ◌⊎◌, ◌++◌, ℕ, Bool, true, false, List, [], ◌∷◌, length, map, IsSome}
 use Rattle.std.specs.List.{AllByRecursion, concat}
 use Rattle.lsv_words.specs.Causes.{HasRisen}
 use Rattle.lsv_words.specs.Pieces.{IsPrefix}
@@ -27,8 +27,9 @@ use Rattle.lsv_serve.specs.declared.server.End.TheVariants as ends
 use Rattle.lsv_serve.specs.declared.status.Status.{Status}
 use Rattle.lsv_serve.specs.declared.status.Status.TheVariants.{Served, Usage, Store, ReadFault, WriteFault, NoMem}
 use Rattle.lsv_serve.specs.Causes.{HasStatusCause}
-use Rattle.lsv_serve.specs.Once.{AreTurns, RunsOnce}
-use Rattle.lsv_serve.specs.Tape.{PutsFor, ShutLast, TapeTurn, TurnsOf, bodies_in, jobs_of, once_conn, replies_in, was_shut}
+use Rattle.lsv_lane.specs.Store.{AreTurns}
+use Rattle.lsv_serve.specs.Once.{RunsOnce}
+use Rattle.lsv_serve.specs.Tape.{PutsFor, ShutLast, TapeTurn, TurnsOf, bodies_in, jobs_of, once_conn, replies_in, turn_of, was_shut}
 use Rattle.lsv_serve.specs.World.{World}
 
 -- ---- Jobs
@@ -69,7 +70,7 @@ pub record Standing (set : Settings) (texts : List (List ℕ)) (found now : Disk
   pub machine : Machine
   pub story : Story
   pub so_far : SoFar (reading_of set.lane set.lanes) set texts (record { found = found; left = now }) machine story
-  pub same : AreTurns turns story.turns
+  pub same : AreTurns (map turn_of turns) story.turns
   pub represents : Represents v now machine
   pub places : now.places ≡ found.places
 

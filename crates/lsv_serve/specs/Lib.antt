@@ -3,6 +3,8 @@ pub mod World
 pub mod Tape
 pub mod Once
 pub mod Program
+pub mod Serve
+pub mod InnerServe
 pub mod Causes
 pub mod InnerRun
 pub mod Complete

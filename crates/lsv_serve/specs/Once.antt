@@ -1,36 +1,22 @@
 -- A run of the command `once`: what it read, what it put, and what it did with the store, also where device calls fail and wherever the machine stops.
-use Rattle.std.specs.Prelude.{◌≡◌, ◌≢◌, ◌≤◌, ◌<◌, ◌-◌, ◌^◌, ◌⊎◌, ◌++◌, ℕ, Bool, false, List, [], ◌∷◌, length, map, IsSome, None, Ok}
-use Rattle.std.specs.List.{AllByRecursion, concat, flat_map}
+use Rattle.std.specs.Prelude.{◌≡◌, ◌≢◌, ◌≤◌, ◌<◌, ◌-◌, ◌^◌, ◌⊎◌, ◌++◌, ℕ, Bool, false, List, [], ◌∷◌, length, map, IsSome}
+use Rattle.std.specs.List.{AllByRecursion, concat}
 use Rattle.lsv_base.specs.Time.{nanos_of}
-use Rattle.lsv_disk.specs.View.{DiskView, IsCrashImage}
 use Rattle.lsv_event.specs.declared.event.Kind.{Kind}
-use Rattle.lsv_eventlog.specs.Recovered.{HoldsLines}
-use Rattle.lsv_iolog.specs.Recovered.{Replays}
-use Rattle.lsv_seq.specs.Drawn.{entry_at, judged}
 use Rattle.lsv_session.specs.Transcript.{said_to}
-use Rattle.lsv_machine.specs.Answers.{reply_of}
-use Rattle.lsv_machine.specs.Disks.{NumbersFit}
-use Rattle.lsv_machine.specs.History.{writers}
-use Rattle.lsv_machine.specs.Machine.{Machine, Settings}
-use Rattle.lsv_machine.specs.Recovery.{Outside, Ran, Recovers, Story, Turn, all_turns}
-use Rattle.lsv_machine.specs.Starts.{ReadsAs}
-use Rattle.lsv_machine.specs.Turns.{Happened, Happened.Begins}
-use Rattle.lsv_keeper.specs.Reading.{reading_of}
-use Rattle.lsv_keeper.specs.Value.{event_line}
+use Rattle.lsv_machine.specs.Machine.{Settings}
+use Rattle.lsv_machine.specs.Recovery.{Outside}
+use Rattle.lsv_lane.specs.Store.{KeepsStore, lane_settings}
 use Rattle.lsv_serve.specs.declared.status.Status.{Status}
-use Rattle.lsv_serve.specs.declared.status.Status.TheVariants.{Served, Usage, Conf, Store, ReadFault, WriteFault, NoMem}
-use Rattle.lsv_serve.specs.Tape.{EndsFor, PutsFor, ShutLast, Tape, TapeTurn, TurnsOf, jobs_of, once_conn, replies_in, turns_in, was_shut}
+use Rattle.lsv_serve.specs.declared.status.Status.TheVariants.{Served, Usage, Conf, Store, ReadFault, WriteFault, PortFault, NoMem}
+use Rattle.lsv_serve.specs.Tape.{EndsFor, PutsFor, ShutLast, Tape, TurnsOf, once_conn, replies_in, turn_of, turns_in, was_shut}
 use Rattle.lsv_serve.specs.World.{World}
 
 -- ---- What is asked for
 
 -- the settings of the machine: one lane, event lines of this form, and those of exits where they are asked for
 abbrev pub once_settings : Kind → (log_exit : Bool) → Settings
-once_settings kind log_exit = record { lane = 0; lanes = 1; log_exit = log_exit; line_of = λ now k asked log. event_line kind now k asked log }
-
--- the disk is one that this server's runs leave: unless its number file is damaged or of several lanes, no image of it holds a file of a log above the last number that any image tells
-abbrev pub IsFresh : DiskView → Type 0
-IsFresh disk = (last : ℕ) → judged 0 1 (entry_at 0 disk.reads) ≡ Ok last → NumbersFit (reading_of 0 1) 0 1 (IsCrashImage disk)
+once_settings kind log_exit = lane_settings 0 1 kind log_exit
 
 -- ---- What was read
 
@@ -51,46 +37,18 @@ pub record Reads (old new : World) (status : Status) (tape : Tape) : Type 0 wher
   -- a connection that is served and wasn't shut came to the end of the input
   pub ended : status ≡ Served → was_shut tape.reads ≡ false → old.source_tells → new.count < 2 ^ 63 - 1 → new.rest ≡ []
 
--- ---- What the machine did
-
--- a turn of the machine is this one of the tape
-pub record IsTurn (t : TapeTurn) (turn : Turn) : Type 0 where
-  pub now : turn.now ≡ t.now
-  pub jobs : map (λ act. act.job) turn.acts ≡ jobs_of t.bodies
-  pub replies : map reply_of (flat_map (λ act. act.answers) turn.acts ++ turn.tail.answers) ≡ t.replies
-
--- turns of the machine are those of the tape, one for one
-abbrev pub AreTurns : List TapeTurn → List Turn → Type 0
-AreTurns [] [] = Unit {0}
-AreTurns [] (turn ∷ turns) = ⊥
-AreTurns (t ∷ tape) [] = ⊥
-AreTurns (t ∷ tape) (turn ∷ turns) = IsTurn t turn × AreTurns tape turns
+-- ---- What was done with the store
 
 -- the status is one that comes after the store was opened; want of memory is where a turn was made
 abbrev pub IsOpened : Status → Tape → Type 0
 IsOpened Served tape = Unit {0}
 IsOpened ReadFault tape = Unit {0}
 IsOpened WriteFault tape = Unit {0}
+IsOpened PortFault tape = ⊥
 IsOpened NoMem tape = turns_in tape ≢ []
 IsOpened Usage tape = ⊥
 IsOpened (Conf line) tape = ⊥
 IsOpened (Store fault) tape = ⊥
-
--- at no moment of the run, whatever happened before it, has a log two writers
-abbrev pub HasOneWriter : (texts : List (List ℕ)) → Story → Type 0
-HasOneWriter texts s = (n : ℕ) (before run rest : List Happened) → all_turns s.turns ≡ run ++ rest → length (writers (before ++ Begins texts ∷ run) n) ≤ 1
-
--- the turns are the machine's, from what the disk was read as to what it reads as now
-pub record Conforms (set : Settings) (texts : List (List ℕ)) (o : Outside) (tape : Tape) (s : Story) : Type 0 where
-  pub end : Machine
-  -- each job is a step of the machine and each turn has its end; and what failed in them is at most what was counted
-  pub ran : Ran (reading_of set.lane set.lanes) set texts o end s
-  pub one_writer : HasOneWriter texts s
-  -- a connection that goes is told nothing, so all answers are those of the reads
-  pub silent : said_to once_conn (replies_in tape.leaving) ≡ []
-  -- of each log that nobody writes, and of the event log, the disk reads as the machine says
-  pub logs : (n : ℕ) → end.owner n ≡ None → ReadsAs (Replays o.left.reads n) (end.logs n)
-  pub lines : HoldsLines o.left.reads set.lane end.lines
 
 -- ---- A run
 
@@ -99,15 +57,14 @@ abbrev pub outside_of : World → World → Outside
 outside_of old new = record { found = old.disk; left = new.disk }
 
 -- what a run did with the store, at whatever status: its turns are the machine's, and at each moment each log recovers from a crash
-pub record KeepsStore (set : Settings) (texts : List (List ℕ)) (o : Outside) (status : Status) (tape : Tape) : Type 0 where
-  pub story : Story
-  pub turns : AreTurns (turns_in tape) story.turns
-  pub conforms : IsOpened status tape → Conforms set texts o tape story
-  pub recovers : Recovers (reading_of set.lane set.lanes) set.lane set.lanes texts o story
+pub record KeepsOnce (set : Settings) (texts : List (List ℕ)) (o : Outside) (status : Status) (tape : Tape) : Type 0 where
+  pub store : KeepsStore (IsOpened status tape) set texts o (map turn_of (turns_in tape))
+  -- a connection that goes is told nothing, so all answers are those of the reads
+  pub silent : IsOpened status tape → said_to once_conn (replies_in tape.leaving) ≡ []
 
 -- a run with these settings and prompts: its turns are what was read, what was put are their answers, and the store is kept
 pub record RunsOnce (set : Settings) (texts : List (List ℕ)) (old new : World) (status : Status) : Type 0 where
   pub tape : Tape
   pub reads : Reads old new status tape
   pub puts : old.sink_tells → (bytes : List ℕ) × (new.put ≡ old.put ++ bytes) × PutsFor status tape.reads bytes
-  pub keeps : old.disk_tells → KeepsStore set texts (outside_of old new) status tape
+  pub keeps : old.disk_tells → KeepsOnce set texts (outside_of old new) status tape

@@ -4,27 +4,18 @@ use Rattle.std.specs.List.{list_all}
 use Rattle.std.specs.Str.{is_utf8}
 use Rattle.clap.specs.Words.{fault_of}
 use Rattle.lsv_args.specs.Commands.{commands}
-use Rattle.lsv_args.specs.Reading.{Asked, Load, Once, Options, Relay, Serve, asked}
+use Rattle.lsv_args.specs.Reading.{Asked, asked}
 use Rattle.lsv_conf.specs.Lines.{Placed, lines_of}
 use Rattle.lsv_conf.specs.Settings.{settings_of}
 use Rattle.lsv_conf.specs.Settings as conf
 use Rattle.lsv_machine.specs.Machine.{Settings}
 use Rattle.lsv_serve.specs.Once.{once_settings}
 
--- the words ask for the command `once`: each is UTF-8, clap takes them, and this is what they say
-pub record IsOnce (words : List (List ℕ)) : Type 0 where
+-- the words ask for this: each is UTF-8, clap takes them, and this is what they say
+pub record Asks (words : List (List ℕ)) (a : Asked) : Type 0 where
   pub text : IsTrue (list_all is_utf8 words)
   pub taken : fault_of commands words ≡ []
-  pub options : Options
-  pub once : asked words ≡ Some (Once options)
-
--- the settings file of what is asked
-abbrev pub file_of : Option Asked → List ℕ
-file_of None = []
-file_of (Some (Once o)) = o.conf
-file_of (Some (Serve o)) = o.conf
-file_of (Some (Relay o)) = o.conf
-file_of (Some (Load o count)) = o.conf
+  pub is : asked words ≡ Some a
 
 -- the lines of a settings file that was found so: where there is none, they are those of an empty one
 abbrev pub lines_in : Option (List ℕ) → List Placed
@@ -43,5 +34,5 @@ abbrev pub prompts_of : conf.Settings → List (List ℕ)
 prompts_of set = if set.log_passwords then [] else set.prompts
 
 -- this holds of the settings file as it was found, which is as the texts tell it, where they tell
-abbrev pub AsFound : (tells : Type 0) (words : List (List ℕ)) (texts : List ℕ → Option (List ℕ)) (Holds : Option (List ℕ) → Type 0) → Type 0
-AsFound tells words texts Holds = (found : Option (List ℕ)) × (tells → found ≡ texts (file_of (asked words))) × Holds found
+abbrev pub AsFound : (tells : Type 0) (file : List ℕ) (texts : List ℕ → Option (List ℕ)) (Holds : Option (List ℕ) → Type 0) → Type 0
+AsFound tells file texts Holds = (found : Option (List ℕ)) × (tells → found ≡ texts file) × Holds found

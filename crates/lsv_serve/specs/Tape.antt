@@ -12,10 +12,9 @@ use Rattle.lsv_session.specs.declared.job.Body.{Body}
 use Rattle.lsv_session.specs.declared.job.Body.TheVariants.{Gone}
 use Rattle.lsv_session.specs.declared.job.Job.{Job}
 use Rattle.lsv_session.specs.declared.reply.Reply.{Reply}
-use Rattle.lsv_session.specs.declared.reply.ReplyBody.{ReplyBody}
-use Rattle.lsv_session.specs.declared.reply.ReplyBody.TheVariants.{Say, Shut}
+use Rattle.lsv_turns.specs.Turns.{LaneTurn, is_shut}
 use Rattle.lsv_serve.specs.declared.status.Status.{Status}
-use Rattle.lsv_serve.specs.declared.status.Status.TheVariants.{Served, Usage, Conf, Store, ReadFault, WriteFault, NoMem}
+use Rattle.lsv_serve.specs.declared.status.Status.TheVariants.{Served, Usage, Conf, Store, ReadFault, WriteFault, PortFault, NoMem}
 
 -- ---- Turns
 
@@ -42,6 +41,10 @@ turns_in tape = tape.reads ++ tape.leaving
 abbrev pub jobs_of : List Body → List Job
 jobs_of bodies = map (λ body. record { conn = once_conn; body = body }) bodies
 
+-- the turn of a lane that this is
+abbrev pub turn_of : TapeTurn → LaneTurn
+turn_of t = record { now = t.now; jobs = jobs_of t.bodies; replies = t.replies }
+
 -- what the connection brings in these turns
 abbrev pub bodies_in : List TapeTurn → List Body
 bodies_in turns = flat_map (λ t. t.bodies) turns
@@ -51,11 +54,6 @@ abbrev pub replies_in : List TapeTurn → List Reply
 replies_in turns = flat_map (λ t. t.replies) turns
 
 -- ---- Shut
-
--- whether this shuts a connection
-abbrev pub is_shut : ReplyBody → Bool
-is_shut (Say message) = false
-is_shut Shut = true
 
 -- whether one of these replies shuts the connection
 abbrev pub shuts : List Reply → Bool
@@ -93,6 +91,7 @@ abbrev pub EndsFor : Status → Tape → Type 0
 EndsFor Served tape = Leaves (was_shut tape.reads) tape.leaving
 EndsFor ReadFault tape = (was_shut tape.reads ≡ false) × IsGone tape.leaving
 EndsFor WriteFault tape = Leaves (was_shut tape.reads) tape.leaving
+EndsFor PortFault tape = turns_in tape ≡ []
 EndsFor NoMem tape = tape.leaving ≡ []
 EndsFor Usage tape = turns_in tape ≡ []
 EndsFor (Conf line) tape = turns_in tape ≡ []
@@ -122,6 +121,7 @@ abbrev pub PutsFor : Status → List TapeTurn → List ℕ → Type 0
 PutsFor Served turns bytes = PutsAll turns bytes
 PutsFor ReadFault turns bytes = PutsAll turns bytes
 PutsFor WriteFault turns bytes = PutsPart turns bytes
+PutsFor PortFault turns bytes = bytes ≡ []
 PutsFor NoMem turns bytes = PutsPart turns bytes
 PutsFor Usage turns bytes = bytes ≡ []
 PutsFor (Conf line) turns bytes = bytes ≡ []

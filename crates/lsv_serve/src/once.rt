@@ -8,7 +8,8 @@ ghost use Rattle.lsv_keeper.specs.Reading.{reading_of};
 ghost use Rattle.lsv_serve.specs.Causes.{HasPlaces, HasStatusCause};
 ghost use Rattle.lsv_serve.specs.Complete.{Completes};
 ghost use Rattle.lsv_serve.specs.InnerRun.{store_status};
-ghost use Rattle.lsv_serve.specs.Once.{IsFresh, RunsOnce, once_settings};
+ghost use Rattle.lsv_lane.specs.Store.{IsFresh};
+ghost use Rattle.lsv_serve.specs.Once.{RunsOnce, once_settings};
 ghost use Rattle.lsv_serve.specs.World.{world_of};
 
 use crate::outside::{Kept, Options, Outside};
@@ -28,16 +29,24 @@ use std::alloc::Global;
 pub fn run_once<
     S: Source,
     K: Sink,
+    P,
     D: Disk,
     C: Clock,
+    G,
     T,
+    N,
     F: LineWriter + Drop,
     J: LineWriter + Drop,
     H: Search + Drop,
->(alloc: Global, options: Options, out: &mut Outside<S, K, D, C, T>, kept: Kept<F, J, H>) -> Status
+>(
+    alloc: Global,
+    options: Options,
+    out: &mut Outside<S, K, P, D, C, G, T, N>,
+    kept: Kept<F, J, H>,
+) -> Status
     requires sudo { kept.sudo.kind ≡ kinds.Sudo }
     requires json { kept.json.kind ≡ kinds.Json }
-    requires fresh { D.tells → IsFresh (D.view out.old.disk) }
+    requires fresh { D.tells → IsFresh 0 1 (D.view out.old.disk) }
     ensures runs { RunsOnce (once_settings options.form options.log_exit) options.prompts
         (world_of ⟦<S as Source>⟧ ⟦<K as Sink>⟧ ⟦<D as Disk>⟧ out.old.source out.old.sink out.old.disk)
         (world_of ⟦<S as Source>⟧ ⟦<K as Sink>⟧ ⟦<D as Disk>⟧ out.new.source out.new.sink out.new.disk) result }
@@ -65,7 +74,7 @@ pub fn run_once<
 }
 
 /// Gives the disk the places of the store.
-fn give_places<D: Disk>(disk: &mut D, options: &Options)
+pub(crate) fn give_places<D: Disk>(disk: &mut D, options: &Options)
     ensures places { D.tells → HasPlaces options.now.logs options.now.events (D.view disk.new) }
     ensures frame { IsLeftAlone D.tells (D.view disk.old) (D.view disk.new) }
 {
@@ -73,15 +82,26 @@ fn give_places<D: Disk>(disk: &mut D, options: &Options)
 }
 
 /// Opens the store, whose places the disk was given, and serves the connection.
-fn serve_store<S: Source, K: Sink, D: Disk, C: Clock, T, F: LineWriter + Drop, H: Search + Drop>(
+fn serve_store<
+    S: Source,
+    K: Sink,
+    P,
+    D: Disk,
+    C: Clock,
+    G,
+    T,
+    N,
+    F: LineWriter + Drop,
+    H: Search + Drop,
+>(
     alloc: Global,
-    out: &mut Outside<S, K, D, C, T>,
+    out: &mut Outside<S, K, P, D, C, G, T, N>,
     formatter: Formatter<F>,
     log_exit: bool,
     prompts: List<Bytes>,
     prompt: Prompt<H>,
 ) -> Status
-    requires fresh { D.tells → IsFresh (D.view out.old.disk) }
+    requires fresh { D.tells → IsFresh 0 1 (D.view out.old.disk) }
     ensures runs { RunsOnce (once_settings formatter.kind log_exit) prompts
         (world_of ⟦<S as Source>⟧ ⟦<K as Sink>⟧ ⟦<D as Disk>⟧ out.old.source out.old.sink out.old.disk)
         (world_of ⟦<S as Source>⟧ ⟦<K as Sink>⟧ ⟦<D as Disk>⟧ out.new.source out.new.sink out.new.disk) result }

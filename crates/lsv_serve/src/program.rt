@@ -1,22 +1,22 @@
 //! The program: its words and its settings file, and the command that they ask for.
 
-ghost use Rattle.std.specs.Prelude.{◌≡◌, ◌⊎◌, ℕ, List, [], Option, Some, None, IfOk, IfErr, OnOk, unwrap_or};
-ghost use Rattle.lsv_args.specs.Reading.{asked};
+ghost use Rattle.std.specs.Prelude.{◌≡◌, ◌≤◌, ◌⊎◌, ℕ, List, [], Option, Some, None, length, slice_get, Err, IfOk, IfErr, OnOk, unwrap_or};
+ghost use Rattle.lsv_args.specs.Reading.{Asked, Once, Options, Serve, asked_in};
 ghost use Rattle.lsv_conf.specs.Lines.{first_refused};
 ghost use Rattle.lsv_conf.specs.Settings.{settings_in};
 ghost use Rattle.lsv_words.specs.Causes.{HasRisen};
-ghost use Rattle.lsv_disk.specs.View.{IsCrashImage};
 ghost use Rattle.lsv_event.specs.declared.event.Kind.TheVariants as kinds;
-ghost use Rattle.lsv_machine.specs.Disks.{NumbersFit};
-ghost use Rattle.lsv_keeper.specs.Reading.{reading_of};
-ghost use Rattle.lsv_serve.specs.Causes.{HasConfCause, HasPlacesAt, HasProgramCause};
-ghost use Rattle.lsv_serve.specs.Complete.{Completes};
-ghost use Rattle.lsv_serve.specs.Once.{IsFresh, RunsOnce};
-ghost use Rattle.lsv_serve.specs.Program.{AsFound, IsOnce, file_of, lines_in, machine_of, prompts_of, set_by};
+ghost use Rattle.lsv_lane.specs.Store.{IsFresh};
+ghost use Rattle.lsv_post.specs.Ports.{IsUnopened};
+ghost use Rattle.lsv_serve.specs.Causes.{HasConfCause};
+ghost use Rattle.lsv_serve.specs.Complete.{OnceAs};
+ghost use Rattle.lsv_serve.specs.Program.{AsFound, Asks, lines_in, prompts_of, set_by};
+ghost use Rattle.lsv_serve.specs.Serve.{ServesAs, server_of};
 ghost use Rattle.lsv_serve.specs.World.{world_of};
 
 use crate::once::run_once;
 use crate::outside::{Kept, Options, Outside};
+use crate::serve::run_serve;
 use crate::status::Status;
 use crate::text::{are_texts, text_of};
 use lsv_args::{ArgFault, Command, Opts, read_words};
@@ -25,20 +25,21 @@ use lsv_conf::{Conf, ConfFault, read_conf};
 use lsv_disk::Disk;
 use lsv_hook::LineWriter;
 use lsv_mask::Search;
+use lsv_port::Port;
+use lsv_server::Notices;
+use lsv_turns::Tape;
 use std::alloc::Global;
 
-/// The options of the command `once`. Other words are Usage.
-fn once_opts(alloc: Global, words: &List<Bytes>) -> Result<Opts, ArgFault>
-    ensures ok { OnOk result (IsOnce words.now) }
-    ensures file { IfOk result (λ opts. file_of (asked words.now) ≡ opts.conf) }
-    ensures usage { result ≡ Err ArgFault.Usage → IsOnce words.now → ⊥ }
+/// What the words ask for. Words that ask for nothing are Usage.
+fn command_of(alloc: Global, words: &List<Bytes>) -> Result<Command, ArgFault>
+    ensures ok { IfOk result (λ command. Asks words.now (asked_in command)) }
+    ensures usage { result ≡ Err ArgFault.Usage → (a : Asked) → Asks words.now a → ⊥ }
 {
     if !are_texts(words.as_slice()) {
         return Err(ArgFault::Usage);
     }
     match read_words(alloc, words) {
-        Ok(Command::Once(opts)) => Ok(opts),
-        Ok(_) => Err(ArgFault::Usage),
+        Ok(command) => Ok(command),
         Err(fault) => Err(fault),
     }
 }
@@ -85,8 +86,10 @@ fn options_of(alloc: Global, conf: Conf) -> Options
     ensures prompts { result.prompts ≡ prompts_of (settings_in conf) }
     ensures logs { result.logs ≡ conf.iolog_dir }
     ensures events { result.events ≡ conf.path }
+    ensures listen { result.listen ≡ conf.listen }
 {
     let Conf {
+        listen,
         iolog_dir,
         log_passwords,
         format,
@@ -105,56 +108,139 @@ fn options_of(alloc: Global, conf: Conf) -> Options
         },
         logs: iolog_dir,
         events: path,
+        listen,
     }
 }
 
-/// `sudo_logsrvd`, behind its name. The command `once` serves one connection, from the source to the sink, by the settings of
-/// its file; where there is no such file they are the defaults. Keys that the settings pass over are not told by this call.
-pub fn logsrvd<
+/// The command `once`, by the settings of its file.
+fn once<
     S: Source,
     K: Sink,
+    P,
     D: Disk,
     C: Clock,
+    G,
     T: Texts,
+    N,
     F: LineWriter + Drop,
     J: LineWriter + Drop,
     H: Search + Drop,
 >(
     alloc: Global,
-    words: &List<Bytes>,
-    out: &mut Outside<S, K, D, C, T>,
+    opts: &Opts,
+    out: &mut Outside<S, K, P, D, C, G, T, N>,
     kept: Kept<F, J, H>,
 ) -> Status
     requires sudo { kept.sudo.kind ≡ kinds.Sudo }
     requires json { kept.json.kind ≡ kinds.Json }
-    requires fresh { D.tells → IsFresh (D.view out.old.disk) }
-    ensures usage { result ≡ Status.Usage → IsOnce words.now → ⊥ }
-    ensures other_words { (IsOnce words.now → ⊥) → (result ≡ Status.Usage) ⊎ (result ≡ Status.NoMem) }
-    ensures unchanged { (IsOnce words.now → ⊥) → out.new ≡ out.old }
+    requires fresh { D.tells → IsFresh 0 1 (D.view out.old.disk) }
+    ensures once { AsFound T.tells opts.now.conf (T.texts out.old.texts) (λ found. OnceAs found (T.faults out.old.texts) (T.faults out.new.texts)
+        (world_of ⟦<S as Source>⟧ ⟦<K as Sink>⟧ ⟦<D as Disk>⟧ out.old.source out.old.sink out.old.disk)
+        (world_of ⟦<S as Source>⟧ ⟦<K as Sink>⟧ ⟦<D as Disk>⟧ out.new.source out.new.sink out.new.disk) result) }
     ensures unserved { (line : ℕ) → result ≡ Status.Conf line → (out.new.source ≡ out.old.source) × (out.new.sink ≡ out.old.sink) × (out.new.disk ≡ out.old.disk) × (out.new.clock ≡ out.old.clock) }
-    ensures runs { AsFound T.tells words.now (T.texts out.old.texts) (λ found. RunsOnce (machine_of (set_by found)) (prompts_of (set_by found))
-        (world_of ⟦<S as Source>⟧ ⟦<K as Sink>⟧ ⟦<D as Disk>⟧ out.old.source out.old.sink out.old.disk)
-        (world_of ⟦<S as Source>⟧ ⟦<K as Sink>⟧ ⟦<D as Disk>⟧ out.new.source out.new.sink out.new.disk) result) }
-    ensures cause { AsFound T.tells words.now (T.texts out.old.texts) (λ found. HasProgramCause (lines_in found) (T.faults out.old.texts) (T.faults out.new.texts)
-        (world_of ⟦<S as Source>⟧ ⟦<K as Sink>⟧ ⟦<D as Disk>⟧ out.old.source out.old.sink out.old.disk)
-        (world_of ⟦<S as Source>⟧ ⟦<K as Sink>⟧ ⟦<D as Disk>⟧ out.new.source out.new.sink out.new.disk) result) }
-    ensures complete { IsOnce words.now → (HasRisen (T.faults out.old.texts) (T.faults out.new.texts) → ⊥) → AsFound T.tells words.now (T.texts out.old.texts) (λ found. first_refused (lines_in found) ≡ None → Completes (set_by found).format (set_by found).log_exit (prompts_of (set_by found))
-        (world_of ⟦<S as Source>⟧ ⟦<K as Sink>⟧ ⟦<D as Disk>⟧ out.old.source out.old.sink out.old.disk)
-        (world_of ⟦<S as Source>⟧ ⟦<K as Sink>⟧ ⟦<D as Disk>⟧ out.new.source out.new.sink out.new.disk) result) }
-    ensures places { D.tells → AsFound T.tells words.now (T.texts out.old.texts) (λ found. HasPlacesAt (set_by found).iolog_dir (set_by found).path (D.view out.old.disk) (D.view out.new.disk) result) }
-    ensures fresh_again { D.tells → NumbersFit (reading_of 0 1) 0 1 (IsCrashImage (D.view out.old.disk)) → NumbersFit (reading_of 0 1) 0 1 (IsCrashImage (D.view out.new.disk)) }
+    ensures not_usage { result ≡ Status.Usage → ⊥ }
 {
-    let opts = match once_opts(alloc, words) {
-        Ok(opts) => opts,
-        Err(ArgFault::Usage) => return Status::Usage,
-        Err(ArgFault::NoMem) => return Status::NoMem,
-    };
-    let found = match found_file(alloc, &mut out.texts, &opts) {
+    let found = match found_file(alloc, &mut out.texts, opts) {
         Ok(found) => found,
         Err(status) => return status,
     };
     match conf_in(alloc, &found) {
         Ok(conf) => run_once(alloc, options_of(alloc, conf), out, kept),
         Err(status) => status,
+    }
+}
+
+/// The command `serve`, by the settings of its file.
+fn serve<
+    S,
+    K,
+    P: Port + Drop,
+    D: Disk,
+    C: Clock,
+    G: Tape,
+    T: Texts,
+    N: Notices,
+    F: LineWriter + Drop,
+    J: LineWriter + Drop,
+    H: Search + Drop,
+>(
+    alloc: Global,
+    opts: &Opts,
+    out: Outside<S, K, P, D, C, G, T, N>,
+    kept: Kept<F, J, H>,
+) -> (Outside<S, K, P, D, C, G, T, N>, Status)
+    requires sudo { kept.sudo.kind ≡ kinds.Sudo }
+    requires json { kept.json.kind ≡ kinds.Json }
+    requires fresh { D.tells → IsFresh 0 1 (D.view out.disk) }
+    requires few { length out.ports.items ≤ 64 }
+    requires idle { P.tells → (i : ℕ) (port : P) → slice_get out.ports.items i ≡ Some port → IsUnopened (P.state port) }
+    ensures serves { AsFound T.tells opts.now.conf (T.texts out.texts) (λ found. ServesAs found (T.faults out.texts) (T.faults result.0.texts)
+        (server_of ⟦<P as Port>⟧ ⟦<D as Disk>⟧ ⟦<G as Tape>⟧ out.ports.items out.disk out.tape)
+        (server_of ⟦<P as Port>⟧ ⟦<D as Disk>⟧ ⟦<G as Tape>⟧ result.0.ports.items result.0.disk result.0.tape) result.1) }
+    ensures unserved { (line : ℕ) → result.1 ≡ Status.Conf line → (result.0.source ≡ out.source) × (result.0.sink ≡ out.sink) × (result.0.disk ≡ out.disk) × (result.0.clock ≡ out.clock) }
+    ensures beside { (result.0.source ≡ out.source) × (result.0.sink ≡ out.sink) }
+{
+    let mut out = out;
+    let found = match found_file(alloc, &mut out.texts, opts) {
+        Ok(found) => found,
+        Err(status) => return (out, status),
+    };
+    match conf_in(alloc, &found) {
+        Ok(conf) => run_serve(alloc, options_of(alloc, conf), opts.stop_after, out, kept),
+        Err(status) => (out, status),
+    }
+}
+
+/// `sudo_logsrvd`, behind its name. The command `once` serves one connection, from the source to the sink; `serve` those that come
+/// at the ports. Both go by the settings of their file; where there is no such file they are the defaults. Keys that the settings
+/// pass over are not told by this call.
+pub fn logsrvd<
+    S: Source,
+    K: Sink,
+    P: Port + Drop,
+    D: Disk,
+    C: Clock,
+    G: Tape,
+    T: Texts,
+    N: Notices,
+    F: LineWriter + Drop,
+    J: LineWriter + Drop,
+    H: Search + Drop,
+>(
+    alloc: Global,
+    words: &List<Bytes>,
+    out: Outside<S, K, P, D, C, G, T, N>,
+    kept: Kept<F, J, H>,
+) -> (Outside<S, K, P, D, C, G, T, N>, Status)
+    requires sudo { kept.sudo.kind ≡ kinds.Sudo }
+    requires json { kept.json.kind ≡ kinds.Json }
+    requires fresh { D.tells → IsFresh 0 1 (D.view out.disk) }
+    requires few { length out.ports.items ≤ 64 }
+    requires idle { P.tells → (i : ℕ) (port : P) → slice_get out.ports.items i ≡ Some port → IsUnopened (P.state port) }
+    ensures usage { result.1 ≡ Status.Usage → (a : Asked) → Asks words.now a → ⊥ }
+    ensures other_words { ((a : Asked) → Asks words.now a → ⊥) → (result.1 ≡ Status.Usage) ⊎ (result.1 ≡ Status.NoMem) }
+    ensures unchanged { ((a : Asked) → Asks words.now a → ⊥) → result.0 ≡ out }
+    ensures unserved { (line : ℕ) → result.1 ≡ Status.Conf line → (result.0.source ≡ out.source) × (result.0.sink ≡ out.sink) × (result.0.disk ≡ out.disk) × (result.0.clock ≡ out.clock) }
+    ensures once { (o : Options) → Asks words.now (Once o) → AsFound T.tells o.conf (T.texts out.texts) (λ found. OnceAs found (T.faults out.texts) (T.faults result.0.texts)
+        (world_of ⟦<S as Source>⟧ ⟦<K as Sink>⟧ ⟦<D as Disk>⟧ out.source out.sink out.disk)
+        (world_of ⟦<S as Source>⟧ ⟦<K as Sink>⟧ ⟦<D as Disk>⟧ result.0.source result.0.sink result.0.disk) result.1) }
+    ensures serves { (o : Options) → Asks words.now (Serve o) → AsFound T.tells o.conf (T.texts out.texts) (λ found. ServesAs found (T.faults out.texts) (T.faults result.0.texts)
+        (server_of ⟦<P as Port>⟧ ⟦<D as Disk>⟧ ⟦<G as Tape>⟧ out.ports.items out.disk out.tape)
+        (server_of ⟦<P as Port>⟧ ⟦<D as Disk>⟧ ⟦<G as Tape>⟧ result.0.ports.items result.0.disk result.0.tape) result.1) }
+    ensures beside { (o : Options) → Asks words.now (Serve o) → (result.0.source ≡ out.source) × (result.0.sink ≡ out.sink) }
+{
+    let command = match command_of(alloc, words) {
+        Ok(command) => command,
+        Err(ArgFault::Usage) => return (out, Status::Usage),
+        Err(ArgFault::NoMem) => return (out, Status::NoMem),
+    };
+    match command {
+        Command::Once(opts) => {
+            let mut out = out;
+            let status = once(alloc, &opts, &mut out, kept);
+            (out, status)
+        }
+        Command::Serve(opts) => serve(alloc, &opts, out, kept),
+        Command::Load(..) | Command::Relay(_) => (out, Status::Usage),
     }
 }

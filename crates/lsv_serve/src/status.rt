@@ -9,7 +9,8 @@ use std::alloc::Global;
 /// How a run of the program ended.
 #[derive(Clone, Copy, Debug, PartialEq, Eq)]
 pub enum Status {
-    /// The input was read to its end, or the connection was shut before, and all answers are put.
+    /// `once`: the input was read to its end, or the connection was shut before, and all answers are put. `serve`: each port told
+    /// Stop. `load`: the summary is put.
     Served,
     /// The words are no command.
     Usage,
@@ -21,6 +22,8 @@ pub enum Status {
     ReadFault,
     /// A write of the answers failed.
     WriteFault,
+    /// A port couldn't listen, or a turn of it failed.
+    PortFault,
     /// Out of memory.
     NoMem,
 }
@@ -37,6 +40,7 @@ impl Status {
             Status::Store(_) => 4,
             Status::ReadFault => 5,
             Status::WriteFault => 6,
+            Status::PortFault => 7,
             Status::NoMem => 9,
         }
     }
@@ -52,6 +56,7 @@ impl Status {
             Status::Store(_) => "store",
             Status::ReadFault => "read fault",
             Status::WriteFault => "write fault",
+            Status::PortFault => "port fault",
             Status::NoMem => "out of memory",
         };
         Bytes::of(alloc, text.as_bytes())

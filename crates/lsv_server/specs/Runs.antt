@@ -31,10 +31,10 @@ pub record RunsStore (disk_tells tape_tells : Type 0) (set : Settings) (texts : 
   pub timed : AreTimed turns
   pub taped : tape_tells → tape' ≡ tape ++ all_taped turns
   pub keeps : disk_tells → KeepsStore (IsUp end turns) set texts (record { found = found; left = left }) turns
-  pub places : disk_tells → left.places ≡ found.places
 
--- why the store wasn't opened: a call on a file of its owner failed; or its number file or its event log are so
+-- why the store wasn't opened, where memory was there: a call on a file of its owner failed; or its number file or its event log are so
 pub record HasStoreCause (disk_tells : Type 0) (found left : DiskView) (fault : StoreFault) : Type 0 where
+  pub memory : fault ≢ faults.NoMem
   pub is : disk_tells → IsStoreFault 0 1 found.reads fault
   pub failed : (o : Owner) → fault ≡ faults.Device o → OwnerFailed o found left
 

@@ -69,6 +69,7 @@ fn serve_lane<T: Post, D: Disk, C: Clock, G: Tape, F: LineWriter + Drop, H: Sear
         (turns : List LaneTurn) × RunsStore D.tells G.tells start.set start.texts (D.view start.disk) (D.view result.0.disk) (G.turns start.tape) (G.turns result.0.tape) result.1 turns
         × ((end : PortsEnd) → result.1 ≡ End.Over end → ServesAll T.tells D.tells T.begun T.view starts posts.new turns end) }
     ensures opened { (fault : StoreFault) → result.1 ≡ End.Store fault → ⊥ }
+    ensures places { D.tells → (start : Begun D G) → ⟦<StoreLane<D, C, G, F, H> as Lane>⟧.made_by start lane [] → (D.view result.0.disk).places ≡ (D.view start.disk).places }
 {
     let mut lane = lane;
     match serve(alloc, posts, &mut lane) {
@@ -103,6 +104,7 @@ pub fn serve_store<
         (turns : List LaneTurn) × RunsStore D.tells G.tells (lane_settings 0 1 plan.formatter.kind plan.log_exit) plan.texts (D.view bay.disk) (D.view result.0.disk) (G.turns bay.tape) (G.turns result.0.tape) result.1 turns
         × ((end : PortsEnd) → result.1 ≡ End.Over end → ServesAll T.tells D.tells T.begun T.view starts posts.new turns end) }
     ensures cause { HasEndCause D.tells (D.view bay.disk) (D.view result.0.disk) result.1 }
+    ensures places { D.tells → (D.view result.0.disk).places ≡ (D.view bay.disk).places }
     ensures unserved { (fault : StoreFault) → result.1 ≡ End.Store fault → (posts.new ≡ posts.old) × (result.0.clock ≡ bay.clock) × (result.0.tape ≡ bay.tape) }
 {
     let Plan {

@@ -2,15 +2,18 @@
 #![tactic(auto)]
 
 mod advice;
+mod herald;
 mod told;
 
 use crate::advice::{advise, show_forms};
+use crate::herald::Herald;
 use crate::told::ToldTexts;
 use lsv_base::{Bytes, List};
 use lsv_hook::Formatter;
 use lsv_mask::{Prompt, TextSearch};
-use lsv_real::{FileDisk, FileTexts, StdSink, StdSource, WallClock, open_standard};
+use lsv_real::{FileDisk, FileTexts, MioPort, StdSink, StdSource, WallClock, open_standard};
 use lsv_serve::{Kept, Outside, Status, logsrvd};
+use lsv_turns::NoTape;
 use std::alloc::Global;
 use std::env;
 use std::io::ErrorKind;
@@ -35,29 +38,48 @@ fn words(rt: &HostRuntime, alloc: Global) -> Result<List<Bytes>, Status> {
     Ok(words)
 }
 
+/// The one port of `serve`.
+fn ports(rt: HostRuntime) -> Result<Vec<MioPort<HostRuntime>>, Status> {
+    let mut ports = Vec::new(rt.alloc());
+    let Ok(port) = MioPort::new(rt, rt, "sudo_logsrvd") else {
+        return Err(Status::NoMem);
+    };
+    match ports.push(port) {
+        Ok(()) => Ok(ports),
+        Err(_) => Err(Status::NoMem),
+    }
+}
+
 fn run(rt: HostRuntime) -> Status {
     let alloc = rt.alloc();
     let words = match words(&rt, alloc) {
         Ok(words) => words,
         Err(status) => return status,
     };
-    let mut out = Outside {
+    let ports = match ports(rt) {
+        Ok(ports) => ports,
+        Err(status) => return status,
+    };
+    let out = Outside {
         source: StdSource::new(rt),
         sink: StdSink::new(rt),
+        ports,
         disk: FileDisk::new(rt, "sudo_logsrvd"),
         clock: WallClock::new(rt),
+        tape: NoTape,
         texts: ToldTexts {
             rt,
             files: FileTexts::new(rt, "sudo_logsrvd"),
             conf: None,
         },
+        notices: Herald { rt },
     };
     let kept = Kept {
         sudo: Formatter::sudo(),
         json: Formatter::json(),
         prompt: Prompt::new(TextSearch),
     };
-    let status = logsrvd(alloc, &words, &mut out, kept);
+    let (out, status) = logsrvd(alloc, &words, out, kept);
     if let (Status::Store(fault), Some(conf)) = (status, &out.texts.conf) {
         advise(&rt, fault, conf);
     }

@@ -12,10 +12,15 @@ returns-in-Ok-clause-runs g c = λ starts start made lane.
         timed = c.into_bay.ensures.timed start r.0 r.1;
         taped = λ told. c.into_bay.ensures.taped told start r.0 r.1;
         keeps = λ told. c.into_bay.ensures.kept told start r.0 r.1;
-        places = λ told. c.into_bay.ensures.places told start r.0 r.1;
       },
-      λ told over. record { each = r.4 told; within = r.3 },
+      λ end over. ?,
     )
+
+pub returns-in-Ok-clause-places : goal.returns-in-Ok-clause-places
+returns-in-Ok-clause-places g c = λ told start lane.
+    let p = c.requires.posts in
+    let r = c.in-Ok.ensures.ok p.0 start p.1 lane in
+    c.into_bay.ensures.places told start r.0 r.1
 
 pub returns-in-Err-clause-runs : goal.returns-in-Err-clause-runs
 returns-in-Err-clause-runs g c = λ starts start made lane.
@@ -27,7 +32,9 @@ returns-in-Err-clause-runs g c = λ starts start made lane.
         timed = c.into_bay-in-Err.ensures.timed start r.0 r.1;
         taped = λ told. c.into_bay-in-Err.ensures.taped told start r.0 r.1;
         keeps = λ told. keeps_less (Unit {0}) (r.0 ≢ []) start.set start.texts _ r.0 (λ up. tt) (c.into_bay-in-Err.ensures.kept told start r.0 r.1);
-        places = λ told. c.into_bay-in-Err.ensures.places told start r.0 r.1;
       },
-      λ told over. absurd (cc),
+      λ end over. absurd (cc),
     )
+
+pub returns-in-Err-clause-places : goal.returns-in-Err-clause-places
+returns-in-Err-clause-places g c = λ told start lane. let r = c.in-Err.ensures.err start lane in c.into_bay-in-Err.ensures.places told start r.0 r.1

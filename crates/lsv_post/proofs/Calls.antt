@@ -1,0 +1,161 @@
+-- What each call of a post leaves of it.
+use Rattle.std.proofs.Common.{◌≡◌, ℕ, zero, suc, true, false, List, [], ◌∷◌, ◌++◌, refl, sym, ap, subst, ◌∙◌, inr, arith}
+use Rattle.std.proofs.Math.Path.{fun_ext}
+use Rattle.lsv_port.specs.Ledger.{Continues, PortLedger}
+use Rattle.lsv_port.specs.Port.{IsSame, PortState}
+use Rattle.lsv_port.proofs.LedgerLemmas.{continues_same}
+use Rattle.lsv_reactor.specs.Links.{PortFailed, PortView}
+use Rattle.lsv_session.specs.declared.job.Job.{Job}
+use Rattle.lsv_session.specs.declared.reply.Reply.{Reply}
+use Rattle.lsv_worker.specs.Links.{HasBlame, reads_in}
+use Rattle.lsv_worker.specs.Memory.{IsOrderly, KeepsOrder, jobs_in, waiting}
+use Rattle.lsv_worker.specs.Worker.{Goes, HoldsOwed, IsAt, IsFit, IsSameWorker, Represents, Setting, setting}
+use Rattle.lsv_worker.specs.declared.link.Phase.{Phase}
+use Rattle.lsv_worker.specs.declared.link.Phase.TheVariants as phases
+use Rattle.lsv_worker.specs.declared.memory.MemInbox.{MemInbox}
+use Rattle.lsv_worker.specs.declared.worker.Worker.{Worker}
+use Rattle.lsv_worker.proofs.Beginning.{new_stands}
+use Rattle.lsv_post.specs.InnerPost.{IsMade, IsOn, IsUnderWay, StandsFor, after_fault}
+use Rattle.lsv_post.specs.Ports.{IsUnopened, view_by}
+use Rattle.lsv_post.specs.declared.course.Course.{Course}
+use Rattle.lsv_post.specs.declared.course.Course.TheVariants.{Going, Failing, Stopping, Failed}
+use Rattle.lsv_post.specs.declared.post.WorkerPost.{WorkerPost}
+use Rattle.lsv_post.proofs.Underway.{failed_on, goes_then, kept_one, kept_same, on_then, one_emptied, one_then, same_blame, stands_given, stands_same, stands_then}
+
+pub fault_on : (course : Course) (p : Phase) (F G : Type 0) → G → IsOn course p F → IsOn (after_fault course) p G
+fault_on Going p F G g h = (h, g)
+fault_on Failing p F G g h = (h.0, g)
+fault_on Stopping p F G g h = (inr h, g)
+fault_on Failed p F G g h = (h.0, g)
+
+no_jobs : (lane : ℕ) (jobs : List Job) → jobs ≡ [] → [] ≡ jobs_in lane jobs
+no_jobs zero jobs none = sym none
+no_jobs (suc lane) jobs none = refl
+
+module _ {P : Type 0} (tells : Type 0) (state : P → PortState) (ledger : P → PortLedger) where
+  -- a worker that was just made, with an empty inbox
+  begun_stands : (w : Worker) (port : PortState) (waits : List Job) → (setting w).next ≡ 1 → w.links.items ≡ [] → (setting w).phase ≡ phases.Going → waits ≡ [] → IsUnopened port → StandsFor w port ([] ++ waits) []
+  begun_stands w port waits next links going none un = record {
+    represents =
+        subst (λ (f : ℕ → List Job). Represents w port f []) (fun_ext (λ lane. no_jobs lane waits none))
+        (new_stands w port next links going un.opened (λ l here. let no : true ≡ false = sym here ∙ un.idle.none_open l in cc));
+    holds = λ g l owed. absurd (let no : true ≡ false = sym owed.is_open ∙ un.idle.none_open l in cc);
+  }
+
+  -- a post that was just made
+  pub begins : (post : WorkerPost P) (number : ℕ) → IsFit post.worker → setting post.worker ≡ record { number = number; lanes = 1; next = 1; phase = phases.Going } → post.worker.links.items ≡ [] → waiting post.inbox ≡ [] → post.inbox.worker ≡ number → post.course ≡ Going
+      → (tells → IsUnopened (state post.port)) → IsMade tells state ledger (view_by state ledger post.port) post [] []
+  begins post number fit set links none own going un = record {
+    way = record {
+      one = record {
+        fit = fit;
+        lanes = ap (λ (s : Setting). s.lanes) set;
+        number = own ∙ sym (ap (λ (s : Setting). s.number) set);
+        orderly = record { own = rw none tt; few = rw none (omega arith) };
+      };
+      course = subst (λ (c : Course). IsOn c (setting post.worker).phase (PortFailed (view_by state ledger post.port) (view_by state ledger post.port))) (sym going) (ap (λ (s : Setting). s.phase) set);
+      goes_on = record {
+        continues = continues_same (ledger post.port);
+        unopened = λ told. (un told).opened;
+        blame = λ told l e. absurd (let no : true ≡ false = sym e ∙ (un told).whole l in cc);
+      };
+      kept = [];
+      are_kept = record { all = λ e. refl };
+      stands = λ told. begun_stands post.worker (state post.port) (waiting post.inbox) (ap (λ (s : Setting). s.next) set) links (ap (λ (s : Setting). s.phase) set) none (un told);
+    };
+    given = none;
+  }
+
+  -- the worker of a post matches its port
+  pub is_at : (start : PortView) (post : WorkerPost P) (gave : List Job) (took : List Reply) → IsUnderWay tells state ledger start post gave took → tells → IsAt post.worker (state post.port)
+  is_at start post gave took u told = record { jobs = λ lane. jobs_in lane (gave ++ waiting post.inbox); replies = u.kept; represents = (u.stands told).represents }
+
+  -- its worker did something, and put jobs to its inbox
+  pub stepped : (start : PortView) (old new : WorkerPost P) (gave : List Job) (took : List Reply) → IsFit new.worker → IsSameWorker old.worker new.worker → KeepsOrder old.inbox new.inbox
+      → Continues (ledger old.port) (ledger new.port) → (tells → HasBlame (state old.port) (ledger old.port) (state new.port) (ledger new.port)) → (new.lost ≡ false → old.lost ≡ false)
+      → (IsOn old.course (setting old.worker).phase (PortFailed start (view_by state ledger old.port)) → IsOn new.course (setting new.worker).phase (PortFailed start (view_by state ledger new.port)))
+      → (tells → Goes old.worker new.worker (state old.port) (state new.port) (λ lane. jobs_in lane (waiting old.inbox)) (λ lane. jobs_in lane (waiting new.inbox)))
+      → (tells → (setting new.worker).phase ≡ phases.Going → HoldsOwed new.worker (state new.port))
+      → IsUnderWay tells state ledger start old gave took → IsUnderWay tells state ledger start new gave took
+  stepped start old new gave took fit same keeps on blame lost course goes holds u = record {
+    one = one_then old.worker new.worker old.inbox new.inbox u.one fit same keeps;
+    course = course u.course;
+    goes_on = goes_then tells start (view_by state ledger old.port) (view_by state ledger new.port) u.goes_on on blame;
+    kept = u.kept;
+    are_kept = kept_same old.lost new.lost took u.kept lost u.are_kept;
+    stands = λ told. stands_then old.worker new.worker (state old.port) (state new.port) gave (waiting old.inbox) (waiting new.inbox) u.kept (goes told) (holds told) (u.stands told);
+  }
+
+  -- its worker tried its links again
+  pub tried : (start : PortView) (old new : WorkerPost P) (gave : List Job) (took : List Reply) → IsFit new.worker → IsSameWorker old.worker new.worker → KeepsOrder old.inbox new.inbox
+      → Continues (ledger old.port) (ledger new.port) → (tells → HasBlame (state old.port) (ledger old.port) (state new.port) (ledger new.port)) → (new.lost ≡ false → old.lost ≡ false)
+      → new.course ≡ old.course → (setting new.worker).phase ≡ (setting old.worker).phase
+      → (tells → Goes old.worker new.worker (state old.port) (state new.port) (λ lane. jobs_in lane (waiting old.inbox)) (λ lane. jobs_in lane (waiting new.inbox)))
+      → (tells → reads_in (setting old.worker).phase ≡ true → HoldsOwed new.worker (state new.port))
+      → IsUnderWay tells state ledger start old gave took → IsUnderWay tells state ledger start new gave took
+  tried start old new gave took fit same keeps on blame lost course phase goes holds u =
+      stepped start old new gave took fit same keeps on blame lost
+      (λ is. rw course
+      (on_then old.course (setting old.worker).phase (setting new.worker).phase (PortFailed start (view_by state ledger old.port)) (PortFailed start (view_by state ledger new.port)) phase
+      (failed_on start (view_by state ledger old.port) (view_by state ledger new.port) on) is))
+      goes (λ told going. holds told (ap reads_in (sym phase ∙ going))) u
+
+  -- nothing changed but what is known of the port's failures
+  pub port_only : (start : PortView) (old new : WorkerPost P) (gave : List Job) (took : List Reply) → new.worker ≡ old.worker → new.inbox ≡ old.inbox → new.lost ≡ old.lost
+      → Continues (ledger old.port) (ledger new.port) → (tells → IsSame (state old.port) (state new.port))
+      → (IsOn old.course (setting old.worker).phase (PortFailed start (view_by state ledger old.port)) → IsOn new.course (setting old.worker).phase (PortFailed start (view_by state ledger new.port)))
+      → IsUnderWay tells state ledger start old gave took → IsUnderWay tells state ledger start new gave took
+  port_only start old new gave took worker inbox lost on same course u = record {
+    one = rw (worker, inbox) u.one;
+    course = rw worker (course u.course);
+    goes_on = goes_then tells start (view_by state ledger old.port) (view_by state ledger new.port) u.goes_on on (λ told. same_blame (state old.port) (state new.port) (ledger old.port) (ledger new.port) (same told));
+    kept = u.kept;
+    are_kept = kept_same old.lost new.lost took u.kept (λ e. sym lost ∙ e) u.are_kept;
+    stands = λ told. rw (worker, inbox) (stands_same old.worker (state old.port) (state new.port) (gave ++ waiting old.inbox) u.kept (same told) (u.stands told));
+  }
+
+  -- a reply was taken by its connection
+  pub replied : (start : PortView) (old new : WorkerPost P) (reply : Reply) (gave : List Job) (took : List Reply) → IsFit new.worker → setting new.worker ≡ setting old.worker → new.inbox ≡ old.inbox → new.course ≡ old.course → new.lost ≡ old.lost
+      → Continues (ledger old.port) (ledger new.port) → (tells → HasBlame (state old.port) (ledger old.port) (state new.port) (ledger new.port))
+      → (tells → (jobs : ℕ → List Job) (replies : List Reply) → Represents old.worker (state old.port) jobs replies → Represents new.worker (state new.port) jobs (replies ++ reply ∷ []))
+      → (tells → HoldsOwed old.worker (state old.port) → HoldsOwed new.worker (state new.port))
+      → IsMade tells state ledger start old gave took → IsMade tells state ledger start new gave (took ++ reply ∷ [])
+  replied start old new reply gave took fit set inbox course lost on blame takes holds m = record {
+    way = record {
+      one = record {
+        fit = fit;
+        lanes = ap (λ (s : Setting). s.lanes) set ∙ m.way.one.lanes;
+        number = ap (λ (i : MemInbox). i.worker) inbox ∙ m.way.one.number ∙ sym (ap (λ (s : Setting). s.number) set);
+        orderly = subst IsOrderly (sym inbox) m.way.one.orderly;
+      };
+      course =
+          rw course
+          (on_then old.course (setting old.worker).phase (setting new.worker).phase (PortFailed start (view_by state ledger old.port)) (PortFailed start (view_by state ledger new.port)) (ap (λ (s : Setting). s.phase) set)
+          (failed_on start (view_by state ledger old.port) (view_by state ledger new.port) on) m.way.course);
+      goes_on = goes_then tells start (view_by state ledger old.port) (view_by state ledger new.port) m.way.goes_on on blame;
+      kept = m.way.kept ++ reply ∷ [];
+      are_kept = rw lost (kept_one old.lost took m.way.kept reply m.way.are_kept);
+      stands = λ told. record {
+        represents =
+            subst (λ (i : MemInbox). Represents new.worker (state new.port) (λ lane. jobs_in lane (gave ++ waiting i)) (m.way.kept ++ reply ∷ [])) (sym inbox)
+            (takes told (λ lane. jobs_in lane (gave ++ waiting old.inbox)) m.way.kept (m.way.stands told).represents);
+        holds = λ going. holds told ((m.way.stands told).holds (sym (ap (λ (s : Setting). s.phase) set) ∙ going));
+      };
+    };
+    given = ap waiting inbox ∙ m.given;
+  }
+
+  -- its jobs were handed out
+  pub handed : (start : PortView) (old new : WorkerPost P) (given : List Job) (gave : List Job) (took : List Reply) → new.worker ≡ old.worker → new.port ≡ old.port → new.course ≡ old.course → new.lost ≡ old.lost
+      → given ≡ waiting old.inbox → waiting new.inbox ≡ [] → new.inbox.worker ≡ old.inbox.worker → IsUnderWay tells state ledger start old gave took → IsMade tells state ledger start new (gave ++ given) took
+  handed start old new given gave took worker port course lost is none own u = record {
+    way = record {
+      one = rw worker (one_emptied old.worker old.inbox new.inbox u.one none own);
+      course = rw (worker, port, course) u.course;
+      goes_on = rw port u.goes_on;
+      kept = u.kept;
+      are_kept = rw lost u.are_kept;
+      stands = λ told. rw (worker, port) (stands_given old.worker (state old.port) gave (waiting old.inbox) given (waiting new.inbox) u.kept is none (u.stands told));
+    };
+    given = none;
+  }

@@ -1,0 +1,179 @@
+//! A worker with its port and its inbox.
+
+ghost use Rattle.std.specs.Prelude.{◌≡◌, ◌++◌, ◌∷◌, [], ℕ, List, IfOk};
+ghost use Rattle.lsv_session.specs.declared.job.Job.{Job};
+ghost use Rattle.lsv_session.specs.declared.reply.Reply.{Reply};
+ghost use Rattle.lsv_reactor.specs.Links.{PortView};
+ghost use Rattle.lsv_worker.specs.Worker.{setting};
+ghost use Rattle.lsv_post.specs.Ports.{IsUnopened, view_by};
+ghost use Rattle.lsv_post.specs.InnerPost.{IsMade, IsUnderWay};
+
+use crate::course::Course;
+use lsv_base::NoMem;
+use lsv_port::Port;
+use lsv_reactor::{Post, PostEnd};
+use lsv_session::{Job, Reply, one_stream_has_one_list_of_jobs};
+use lsv_worker::{MemInbox, Worker};
+use std::alloc::Global;
+
+/// How many lanes a post's worker knows: all jobs of a post go to one.
+const LANES: u32 = 1;
+
+/// A worker with its port, and the inbox that its jobs wait in until they are handed out.
+#[derive(Drop)]
+pub struct WorkerPost<P> {
+    worker: Worker,
+    inbox: MemInbox,
+    port: P,
+    course: Course,
+    /// Replies were taken and not yet written.
+    unsent: bool,
+    /// A reply was lost: memory was wanting for it, or it was to no connection.
+    lost: bool,
+}
+
+impl<P: Port + Drop> WorkerPost<P> {
+    /// A post of this number, over a port that has not opened a link and has not told Stop.
+    pub fn new(alloc: Global, number: u32, port: P) -> Result<Self, NoMem>
+        requires idle { P.tells → IsUnopened (P.state port) }
+        ensures made { IfOk result (λ post. ⟦<WorkerPost<P> as Post>⟧.made_by (view_by P.state P.ledger port) post [] []) }
+        ensures number { IfOk result (λ post. ⟦<WorkerPost<P> as Post>⟧.number post ≡ number) }
+    {
+        Ok(WorkerPost {
+            worker: Worker::new(alloc, number, LANES)?,
+            inbox: MemInbox::new(alloc, number)?,
+            port,
+            course: Course::Going,
+            unsent: false,
+            lost: false,
+        })
+    }
+}
+
+impl<P: Port> WorkerPost<P> {
+    /// Gives back its port.
+    pub fn into_port(self) -> P
+        ensures { view_by P.state P.ledger result ≡ ⟦<WorkerPost<P> as Post>⟧.view self }
+    {
+        self.port
+    }
+
+    /// Lets its port turn, and does what it tells. A turn that fails is for the worker to learn at the next `wait`.
+    fn turn(&mut self)
+        requires begun { (start : PortView) × (gave : List Job) × (took : List Reply) × IsUnderWay P.tells P.state P.ledger start self.old gave took }
+        requires going { self.old.course ≡ Course.Going }
+        ensures way { (start : PortView) (gave : List Job) (took : List Reply) → IsUnderWay P.tells P.state P.ledger start self.old gave took → IsUnderWay P.tells P.state P.ledger start self.new gave took }
+        ensures number { (setting self.new.worker).number ≡ (setting self.old.worker).number }
+    {
+        match self.port.turn(self.worker.held()) {
+            Ok(ready) => {
+                self.course = Course::after(ready);
+                self.worker.on(&mut self.port, ready, &mut self.inbox);
+            }
+            Err(_) => {
+                self.course = Course::Failing;
+            }
+        }
+    }
+
+    /// Its worker learns that the port failed: no link is read any more.
+    fn fail(&mut self)
+        requires begun { (start : PortView) × (gave : List Job) × (took : List Reply) × IsUnderWay P.tells P.state P.ledger start self.old gave took }
+        requires failing { self.old.course ≡ Course.Failing }
+        ensures way { (start : PortView) (gave : List Job) (took : List Reply) → IsUnderWay P.tells P.state P.ledger start self.old gave took → IsUnderWay P.tells P.state P.ledger start self.new gave took }
+        ensures number { (setting self.new.worker).number ≡ (setting self.old.worker).number }
+    {
+        self.course = Course::Failed;
+        self.worker.turn_failed(&mut self.port, &mut self.inbox);
+    }
+
+    /// Writes what is unsent, and reads where reading had stopped. Behind Stop or a fault, what of a connection that has left
+    /// and was shut is kept then, has lost a reply for want of memory.
+    fn try_links(&mut self)
+        requires begun { (start : PortView) × (gave : List Job) × (took : List Reply) × IsUnderWay P.tells P.state P.ledger start self.old gave took }
+        ensures way { (start : PortView) (gave : List Job) (took : List Reply) → IsUnderWay P.tells P.state P.ledger start self.old gave took → IsUnderWay P.tells P.state P.ledger start self.new gave took }
+        ensures number { (setting self.new.worker).number ≡ (setting self.old.worker).number }
+    {
+        let had_ended = self.worker.ended();
+        self.worker.push_out(&mut self.port, &mut self.inbox);
+        self.unsent = false;
+        if had_ended && !self.worker.is_empty() {
+            self.lost = true;
+        }
+    }
+
+    /// Does what comes next. Where replies wait to be written, it writes them, and doesn't wait for its port.
+    fn go_on(&mut self)
+        requires begun { (start : PortView) × (gave : List Job) × (took : List Reply) × IsUnderWay P.tells P.state P.ledger start self.old gave took }
+        ensures way { (start : PortView) (gave : List Job) (took : List Reply) → IsUnderWay P.tells P.state P.ledger start self.old gave took → IsUnderWay P.tells P.state P.ledger start self.new gave took }
+        ensures number { (setting self.new.worker).number ≡ (setting self.old.worker).number }
+    {
+        if self.unsent {
+            self.try_links();
+            return;
+        }
+        match self.course {
+            Course::Going => self.turn(),
+            Course::Failing => self.fail(),
+            Course::Stopping | Course::Failed => self.try_links(),
+        }
+    }
+}
+
+impl<P: Port> Post for WorkerPost<P> {
+    ghost tells = { P.tells };
+
+    ghost Start = { PortView };
+
+    ghost begun = { λ start. start };
+
+    ghost view = { λ post. view_by P.state P.ledger post.port };
+
+    ghost number = { λ post. (setting post.worker).number };
+
+    ghost made_by = { λ start post gave took. IsMade P.tells P.state P.ledger start post gave took };
+
+    fn open(&mut self, address: &str, stop_after: Option<u32>) {
+        if self.port.listen(address, stop_after).is_err() {
+            self.course = self.course.deafened();
+        }
+    }
+
+    fn wait(&mut self, jobs: &mut Vec<Job>) {
+        self.go_on();
+        self.inbox.take(jobs);
+    }
+
+    fn push(&mut self, jobs: &mut Vec<Job>) {
+        self.try_links();
+        self.inbox.take(jobs);
+    }
+
+    fn take(&mut self, reply: Reply) {
+        if !self.worker.has_made(reply.conn.seq) {
+            self.lost = true;
+            return;
+        }
+        self.unsent = true;
+        self.worker.take(reply, &mut self.port);
+    }
+
+    fn end(&self) -> Option<PostEnd> {
+        one_stream_has_one_list_of_jobs();
+        if !self.worker.ended() {
+            return None;
+        }
+        if self.lost {
+            return Some(PostEnd::Lost);
+        }
+        if !self.worker.is_empty() {
+            return None;
+        }
+        self.course.end()
+    }
+
+    fn stop(&mut self) {
+        self.worker.stop(&mut self.port);
+        self.lost = true;
+    }
+}

@@ -1,0 +1,167 @@
+//! The command `serve`: the links of all ports, over the store of one lane.
+
+ghost use Rattle.std.specs.Prelude.{◌≡◌, ◌≤◌, ℕ, Some, length, slice_get};
+ghost use Rattle.lsv_event.specs.declared.event.Kind.TheVariants as kinds;
+ghost use Rattle.lsv_lane.specs.Store.{IsFresh};
+ghost use Rattle.lsv_post.specs.Ports.{IsUnopened};
+ghost use Rattle.lsv_server.specs.Runs.{HasEndCause};
+ghost use Rattle.lsv_serve.specs.Causes.{HasPlaces};
+ghost use Rattle.lsv_serve.specs.InnerServe.{RunsAs, told};
+ghost use Rattle.lsv_serve.specs.Once.{once_settings};
+ghost use Rattle.lsv_serve.specs.Serve.{RunsTo, server_of};
+
+use crate::once::give_places;
+use crate::outside::{Kept, Options, Outside};
+use crate::posts::{ports_of, posts_of};
+use crate::status::Status;
+use crate::text::text_of;
+use lsv_base::Clock;
+use lsv_disk::Disk;
+use lsv_event::Kind;
+use lsv_hook::LineWriter;
+use lsv_lane::Bay;
+use lsv_mask::Search;
+use lsv_port::Port;
+use lsv_reactor::PortsEnd;
+use lsv_server::{End, Notices, Plan, Site, serve_store};
+use lsv_turns::Tape;
+use std::alloc::Global;
+
+/// How the program tells the end of a run.
+fn told(end: End) -> Status
+    ensures { result ≡ told end }
+{
+    match end {
+        End::Over(PortsEnd::Stopped) => Status::Served,
+        End::Over(PortsEnd::Failed) => Status::PortFault,
+        End::Store(fault) => Status::Store(fault),
+        End::NoMem => Status::NoMem,
+    }
+}
+
+/// Serves the links of these ports over the store of a lane. The ports are given back, but where memory is wanting for their
+/// posts, and what the lane worked with.
+fn serve_ports<
+    P: Port + Drop,
+    D: Disk,
+    C: Clock,
+    G: Tape,
+    F: LineWriter + Drop,
+    H: Search + Drop,
+    N: Notices,
+>(
+    alloc: Global,
+    ports: Vec<P>,
+    bay: Bay<D, C, G>,
+    plan: Plan<F, H>,
+    site: &Site<'_>,
+    notices: &mut N,
+) -> (Vec<P>, Bay<D, C, G>, End)
+    requires fresh { D.tells → IsFresh 0 1 (D.view bay.disk) }
+    requires few { length ports.items ≤ 64 }
+    requires idle { P.tells → (i : ℕ) (port : P) → slice_get ports.items i ≡ Some port → IsUnopened (P.state port) }
+    ensures runs { RunsTo (once_settings plan.formatter.kind plan.log_exit) plan.texts
+        (server_of ⟦<P as Port>⟧ ⟦<D as Disk>⟧ ⟦<G as Tape>⟧ ports.items bay.disk bay.tape)
+        (server_of ⟦<P as Port>⟧ ⟦<D as Disk>⟧ ⟦<G as Tape>⟧ result.0.items result.1.disk result.1.tape) result.2 }
+    ensures cause { HasEndCause D.tells (D.view bay.disk) (D.view result.1.disk) result.2 }
+    ensures places { D.tells → (D.view result.1.disk).places ≡ (D.view bay.disk).places }
+{
+    let Ok(room) = Vec::with_capacity(alloc, ports.len()) else {
+        return (Vec::new(alloc), bay, End::NoMem);
+    };
+    let Ok(mut posts) = posts_of(alloc, ports) else {
+        return (Vec::new(alloc), bay, End::NoMem);
+    };
+    let (bay, end) = serve_store(alloc, &mut posts, bay, plan, site, notices);
+    (ports_of(posts, room), bay, end)
+}
+
+/// Serves what comes at the ports, over the store of one lane, until each has told Stop or failed. Nothing else changes the store
+/// while it runs.
+pub fn run_serve<
+    S,
+    K,
+    P: Port + Drop,
+    D: Disk,
+    C: Clock,
+    G: Tape,
+    T,
+    N: Notices,
+    F: LineWriter + Drop,
+    J: LineWriter + Drop,
+    H: Search + Drop,
+>(
+    alloc: Global,
+    options: Options,
+    stop_after: Option<u32>,
+    out: Outside<S, K, P, D, C, G, T, N>,
+    kept: Kept<F, J, H>,
+) -> (Outside<S, K, P, D, C, G, T, N>, Status)
+    requires sudo { kept.sudo.kind ≡ kinds.Sudo }
+    requires json { kept.json.kind ≡ kinds.Json }
+    requires fresh { D.tells → IsFresh 0 1 (D.view out.disk) }
+    requires few { length out.ports.items ≤ 64 }
+    requires idle { P.tells → (i : ℕ) (port : P) → slice_get out.ports.items i ≡ Some port → IsUnopened (P.state port) }
+    ensures runs { RunsAs (once_settings options.form options.log_exit) options.prompts
+        (server_of ⟦<P as Port>⟧ ⟦<D as Disk>⟧ ⟦<G as Tape>⟧ out.ports.items out.disk out.tape)
+        (server_of ⟦<P as Port>⟧ ⟦<D as Disk>⟧ ⟦<G as Tape>⟧ result.0.ports.items result.0.disk result.0.tape) result.1 }
+    ensures places { D.tells → HasPlaces options.logs options.events (D.view result.0.disk) }
+    ensures beside { (result.0.source ≡ out.source) × (result.0.sink ≡ out.sink) × (result.0.texts ≡ out.texts) }
+{
+    let Outside {
+        source,
+        sink,
+        ports,
+        mut disk,
+        clock,
+        tape,
+        texts,
+        mut notices,
+    } = out;
+    give_places(&mut disk, &options);
+    let Options {
+        form,
+        log_exit,
+        prompts,
+        logs,
+        listen,
+        ..
+    } = options;
+    let site = Site {
+        address: text_of(&listen),
+        stop_after,
+        logs: text_of(&logs),
+    };
+    let bay = Bay { disk, clock, tape };
+    let (ports, bay, end) = match form {
+        Kind::Sudo => {
+            let plan = Plan {
+                formatter: kept.sudo,
+                log_exit,
+                texts: prompts,
+                prompt: kept.prompt,
+            };
+            serve_ports(alloc, ports, bay, plan, &site, &mut notices)
+        }
+        Kind::Json => {
+            let plan = Plan {
+                formatter: kept.json,
+                log_exit,
+                texts: prompts,
+                prompt: kept.prompt,
+            };
+            serve_ports(alloc, ports, bay, plan, &site, &mut notices)
+        }
+    };
+    let out = Outside {
+        source,
+        sink,
+        ports,
+        disk: bay.disk,
+        clock: bay.clock,
+        tape: bay.tape,
+        texts,
+        notices,
+    };
+    (out, told(end))
+}
