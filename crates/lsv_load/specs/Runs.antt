@@ -8,6 +8,7 @@ use Rattle.lsv_keeper.specs.declared.fault.StoreFault.TheVariants as faults
 use Rattle.lsv_machine.specs.Machine.{Settings}
 use Rattle.lsv_port.specs.Memory.Value.{PortValue, TellsScript, port_ledger, port_state}
 use Rattle.lsv_reactor.specs.Links.{PortView, ServesPort}
+use Rattle.lsv_reactor.specs.declared.rounds.PortsEnd.TheVariants.{Stopped}
 use Rattle.lsv_record.specs.Points.{Stored}
 use Rattle.lsv_server.specs.Runs.{HasStoreCause, RunsStore}
 use Rattle.lsv_server.specs.declared.run.End.{End}
@@ -65,7 +66,7 @@ pub record IsNotOpened (disk_tells : Type 0) (found served : DiskView) (up : End
 
 -- all conversations were served, and then the logs were summed up of which the turns told, or one of them wasn't replayed
 pub record IsServed (disk_tells : Type 0) (count : ℕ) (turns : List LaneTurn) (served left : DiskView) (up : End) (end : LoadEnd) : Type 0 where
-  pub is : up ≡ ends.Over
+  pub is : up ≡ ends.Over Stopped
   pub load : ServesLoad disk_tells count turns
   pub sum : IsSumOf disk_tells (numbers_told (replies_in turns)) served left end
 
@@ -82,4 +83,5 @@ pub record RunsLoad {D : Type 0} (disk_tells tape_tells : Type 0) (view : D → 
   pub up : End
   pub store : RunsStore disk_tells tape_tells set texts (view found) (view served) tape tape' up turns
   pub read : disk_tells → OnlyReads (view served) (view left)
+  pub places : disk_tells → (view left).places ≡ (view found).places
   pub ends : EndsLoad disk_tells count turns (view found) (view served) (view left) up end

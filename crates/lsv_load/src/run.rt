@@ -15,16 +15,17 @@ ghost use Rattle.lsv_load.specs.Runs.{IsSumOf, RunsLoad, ServesLoad, ended_by};
 use crate::numbering::Numbering;
 use crate::replay::sum_up;
 use crate::script::load_script;
-use lsv_base::{Bytes, Clock, List, LogNo, NoMem};
+use lsv_base::{Bytes, Clock, LogNo, NoMem};
 use lsv_disk::Disk;
 use lsv_gen::summary;
-use lsv_hook::{Formatter, LineWriter};
+use lsv_hook::LineWriter;
 use lsv_keeper::StoreFault;
 use lsv_lane::{Bay, StoreLane};
-use lsv_mask::{Prompt, Search};
+use lsv_mask::Search;
 use lsv_port::MemPort;
 use lsv_post::WorkerPost;
 use lsv_reactor::{PortsEnd, serve};
+use lsv_server::Plan;
 use lsv_turns::{Lane, Tape};
 use std::alloc::Global;
 
@@ -80,10 +81,11 @@ fn serve_lane<D: Disk, C: Clock, G: Tape, F: LineWriter + Drop, H: Search + Drop
     requires last { count ≤ 10000 }
     requires lane { (start : Begun D G) × ⟦<StoreLane<D, C, G, F, H> as Lane>⟧.made_by start lane [] }
     ensures ok { IfOk result.1 (λ numbers. (start : Begun D G) → ⟦<StoreLane<D, C, G, F, H> as Lane>⟧.made_by start lane [] →
-        (turns : List LaneTurn) × RunsStore D.tells G.tells start.set start.texts (D.view start.disk) (D.view result.0.disk) (G.turns start.tape) (G.turns result.0.tape) ends.Over turns
+        (turns : List LaneTurn) × RunsStore D.tells G.tells start.set start.texts (D.view start.disk) (D.view result.0.disk) (G.turns start.tape) (G.turns result.0.tape) (ends.Over PortsEnd.Stopped) turns
         × ServesLoad D.tells count turns × (numbers.items ≡ numbers_told (replies_in turns))) }
     ensures err { OnErr result.1 ((start : Begun D G) → ⟦<StoreLane<D, C, G, F, H> as Lane>⟧.made_by start lane [] →
         (turns : List LaneTurn) × RunsStore D.tells G.tells start.set start.texts (D.view start.disk) (D.view result.0.disk) (G.turns start.tape) (G.turns result.0.tape) ends.NoMem turns) }
+    ensures places { D.tells → (start : Begun D G) → ⟦<StoreLane<D, C, G, F, H> as Lane>⟧.made_by start lane [] → (D.view result.0.disk).places ≡ (D.view start.disk).places }
 {
     let mut lane = Numbering::new(alloc, lane);
     let served = serve_conversations(alloc, count, &mut lane);
@@ -112,6 +114,28 @@ fn sum_logs<D: Disk>(alloc: Global, disk: &mut D, numbers: &[LogNo]) -> LoadEnd
     }
 }
 
+/// Serves the conversations of a load by turns of an open lane, and sums up the logs of which the turns told.
+fn load_lane<D: Disk, C: Clock, G: Tape, F: LineWriter + Drop, H: Search + Drop>(
+    alloc: Global,
+    count: u32,
+    lane: StoreLane<D, C, G, F, H>,
+) -> (Bay<D, C, G>, LoadEnd)
+    requires last { count ≤ 10000 }
+    requires lane { (start : Begun D G) × ⟦<StoreLane<D, C, G, F, H> as Lane>⟧.made_by start lane [] }
+    ensures { (start : Begun D G) → ⟦<StoreLane<D, C, G, F, H> as Lane>⟧.made_by start lane [] →
+        RunsLoad D.tells G.tells D.view start.set start.texts count start.disk result.0.disk (G.turns start.tape) (G.turns result.0.tape) result.1 }
+{
+    let (bay, numbers) = serve_lane(alloc, count, lane);
+    let mut bay = bay;
+    match numbers {
+        Ok(numbers) => {
+            let end = sum_logs(alloc, &mut bay.disk, &numbers);
+            (bay, end)
+        }
+        Err(NoMem) => (bay, LoadEnd::NoMem),
+    }
+}
+
 /// Serves the generated conversations from 1 to `count` over the store of one lane, and sums up the logs that it told them
 /// of, as they are replayed then. Nothing else changes the store meanwhile. What the lane worked with is given back, with how
 /// the load ended.
@@ -119,28 +143,24 @@ pub fn run_load<D: Disk, C: Clock, G: Tape, F: LineWriter + Drop, H: Search + Dr
     alloc: Global,
     count: u32,
     bay: Bay<D, C, G>,
-    formatter: Formatter<F>,
-    log_exit: bool,
-    texts: List<Bytes>,
-    prompt: Prompt<H>,
+    plan: Plan<F, H>,
 ) -> (Bay<D, C, G>, LoadEnd)
     requires first { 1 ≤ count }
     requires last { count ≤ 10000 }
     requires fresh { D.tells → IsFresh 0 1 (D.view bay.disk) }
-    ensures { RunsLoad D.tells G.tells D.view (lane_settings 0 1 formatter.kind log_exit) texts count bay.disk result.0.disk (G.turns bay.tape) (G.turns result.0.tape) result.1 }
+    ensures { RunsLoad D.tells G.tells D.view (lane_settings 0 1 plan.formatter.kind plan.log_exit) plan.texts count bay.disk result.0.disk (G.turns bay.tape) (G.turns result.0.tape) result.1 }
 {
-    let lane = match StoreLane::open(alloc, bay, 0, 1, formatter, log_exit, texts, prompt) {
-        Ok(lane) => lane,
+    let Plan {
+        formatter,
+        log_exit,
+        texts,
+        prompt,
+    } = plan;
+    match StoreLane::open(alloc, bay, 0, 1, formatter, log_exit, texts, prompt) {
+        Ok(lane) => load_lane(alloc, count, lane),
         Err(failed) => {
-            return (failed.bay, ended_by(failed.fault));
+            let end = ended_by(failed.fault);
+            (failed.bay, end)
         }
-    };
-    let (mut bay, numbers) = serve_lane(alloc, count, lane);
-    match numbers {
-        Ok(numbers) => {
-            let end = sum_logs(alloc, &mut bay.disk, &numbers);
-            (bay, end)
-        }
-        Err(NoMem) => (bay, LoadEnd::NoMem),
     }
 }

@@ -5,11 +5,12 @@ ghost use Rattle.std.specs.Prelude.{◌≤◌};
 use anyhow::{Result, anyhow};
 use lsv_base::{Clock, List, TimeSpec};
 use lsv_hook::Formatter;
-use lsv_hostile_disk::{Hostile, Plan};
+use lsv_hostile_disk::{Hostile, Plan as Fate};
 use lsv_lane::Bay;
 use lsv_load::{LoadEnd, run_load};
 use lsv_mask::{Prompt, TextSearch};
 use lsv_seq::Numbers;
+use lsv_server::Plan;
 use lsv_turns::NoTape;
 use std::alloc::Global;
 
@@ -34,8 +35,8 @@ pub struct Store {
 
 impl Store {
     /// An empty store, whose disk this befalls.
-    pub fn new(alloc: Global, plan: Plan) -> Result<Self> {
-        let disk = Hostile::new(alloc, plan).map_err(|_| anyhow!("out of memory"))?;
+    pub fn new(alloc: Global, fate: Fate) -> Result<Self> {
+        let disk = Hostile::new(alloc, fate).map_err(|_| anyhow!("out of memory"))?;
         Ok(Store {
             bay: Bay {
                 disk,
@@ -51,15 +52,13 @@ impl Store {
         requires last { count ≤ 10000 }
     {
         let texts = List::new(alloc);
-        let (bay, end) = run_load(
-            alloc,
-            count,
-            self.bay,
-            Formatter::sudo(),
-            false,
+        let plan = Plan {
+            formatter: Formatter::sudo(),
+            log_exit: false,
             texts,
-            Prompt::new(TextSearch),
-        );
+            prompt: Prompt::new(TextSearch),
+        };
+        let (bay, end) = run_load(alloc, count, self.bay, plan);
         (Store { bay }, end)
     }
 
