@@ -133,10 +133,12 @@ impl<P: Port> Post for WorkerPost<P> {
 
     ghost made_by = { λ start post gave took. IsMade P.tells P.state P.ledger start post gave took };
 
-    fn open(&mut self, address: &str, stop_after: Option<u32>) {
-        if self.port.listen(address, stop_after).is_err() {
+    fn open(&mut self, address: &str, stop_after: Option<u32>) -> bool {
+        let listens = self.port.listen(address, stop_after).is_ok();
+        if !listens {
             self.course = self.course.deafened();
         }
+        listens
     }
 
     fn wait(&mut self, jobs: &mut Vec<Job>) {

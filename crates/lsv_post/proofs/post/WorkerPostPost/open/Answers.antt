@@ -8,17 +8,17 @@ use Rattle.lsv_post.proofs.Calls.{fault_on, port_only}
 use Rattle.lsv_post.proofs.Underway.{failed_now, failed_on, on_then}
 use Rattle.lsv_post.proofs.post.WorkerPostPost.open.Goals as goal
 
-pub returns-then-is_err-clause-made : goal.returns-then-is_err-clause-made
-returns-then-is_err-clause-made g c = λ start gave took m. record {
+pub returns-then-not-listens-clause-made : goal.returns-then-not-listens-clause-made
+returns-then-not-listens-clause-made g c = λ start gave took m. record {
   way = port_only g.P.Port.tells g.P.Port.state g.P.Port.ledger start c.args.self.now _ gave took refl refl refl c.listen.ensures.cause.continues c.listen.ensures.same
       (λ on. subst (λ (course : Course). IsOn course (setting c.args.self.now.worker).phase (PortFailed start (view_by g.P.Port.state g.P.Port.ledger c.listen.new.self))) (sym c.deafened-self.ensures)
       (fault_on c.args.self.now.course (setting c.args.self.now.worker).phase (PortFailed start (view_by g.P.Port.state g.P.Port.ledger c.args.self.now.port)) (PortFailed start (view_by g.P.Port.state g.P.Port.ledger c.listen.new.self))
-      (failed_now start (view_by g.P.Port.state g.P.Port.ledger c.args.self.now.port) (view_by g.P.Port.state g.P.Port.ledger c.listen.new.self) m.way.goes_on.continues (c.listen.ensures.cause.risen (sym c.if-is_err.ensures.value))) on)) m.way;
+      (failed_now start (view_by g.P.Port.state g.P.Port.ledger c.args.self.now.port) (view_by g.P.Port.state g.P.Port.ledger c.listen.new.self) m.way.goes_on.continues (c.listen.ensures.cause.risen c.if-not-listens.ensures.negation)) on)) m.way;
   given = m.given;
 }
 
-pub returns-else-is_err-clause-made : goal.returns-else-is_err-clause-made
-returns-else-is_err-clause-made g c = λ start gave took m. record {
+pub returns-else-not-listens-clause-made : goal.returns-else-not-listens-clause-made
+returns-else-not-listens-clause-made g c = λ start gave took m. record {
   way = port_only g.P.Port.tells g.P.Port.state g.P.Port.ledger start c.args.self.now _ gave took refl refl refl c.listen.ensures.cause.continues c.listen.ensures.same
       (λ on. on_then c.args.self.now.course (setting c.args.self.now.worker).phase (setting c.args.self.now.worker).phase (PortFailed start (view_by g.P.Port.state g.P.Port.ledger c.args.self.now.port)) (PortFailed start (view_by g.P.Port.state g.P.Port.ledger c.listen.new.self)) refl
       (failed_on start (view_by g.P.Port.state g.P.Port.ledger c.args.self.now.port) (view_by g.P.Port.state g.P.Port.ledger c.listen.new.self) c.listen.ensures.cause.continues) on) m.way;
