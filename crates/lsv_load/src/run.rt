@@ -28,6 +28,7 @@ use lsv_reactor::{PortsEnd, serve};
 use lsv_server::Plan;
 use lsv_turns::{Lane, Tape};
 use std::alloc::Global;
+use std::slice;
 
 /// How a load ended.
 #[derive(Debug, Drop)]
@@ -58,11 +59,10 @@ fn serve_conversations<L: Lane>(alloc: Global, count: u32, lane: &mut L) -> Resu
     ensures err { OnErr result ((start : L.Start) → L.made_by start lane.old [] → (turns : List LaneTurn) × L.made_by start lane.new turns × AreSized turns) }
 {
     let port = MemPort::new(alloc, load_script(alloc, count)?);
-    let mut posts = [WorkerPost::new(alloc, 0, port)?];
-    let Ok(PortsEnd::Stopped) = serve(alloc, &mut posts, lane) else {
+    let mut post = WorkerPost::new(alloc, 0, port)?;
+    let Ok(PortsEnd::Stopped) = serve(alloc, slice::from_mut(&mut post), lane) else {
         return Err(NoMem);
     };
-    let [post] = posts;
     let port = post.into_port();
     if port.refused() > 0 {
         return Err(NoMem);
