@@ -34,14 +34,18 @@ pub record IsNew (count : ℕ) (port : PortValue) : Type 0 where
   pub going : (port_state port).stopped ≡ false
   pub unrefused : port.refused ≡ 0
 
--- the conversations were served by these turns: all links that the script opens, by worker 0, until the port told Stop; and the port wanted no memory
+-- all links of a port were served by these turns, by worker 0, and it told Stop
+pub record ServesOne (lane_tells : Type 0) (turns : List LaneTurn) (old new : PortView) : Type 0 where
+  pub served : ServesPort lane_tells 0 (jobs_in turns) (replies_in turns) old new
+  pub stopped : new.state.stopped ≡ true
+
+-- the conversations were served by these turns, from a port of their own: it told what the script says, all of it, and wanted no memory
 pub record ServesLoad (lane_tells : Type 0) (count : ℕ) (turns : List LaneTurn) : Type 0 where
   pub old : PortValue
   pub new : PortValue
   pub begun : IsNew count old
-  pub served : ServesPort lane_tells 0 (jobs_in turns) (replies_in turns) (view_of old) (view_of new)
+  pub served : ServesOne lane_tells turns (view_of old) (view_of new)
   pub script : TellsScript (load_script count) (port_state new)
-  pub stopped : (port_state new).stopped ≡ true
   pub unrefused : new.refused ≡ 0
 
 -- ---- The run

@@ -1,6 +1,7 @@
 //! A load: its conversations are served over a store, and then the logs that they left are summed up.
 
 ghost use Rattle.std.specs.Prelude.{◌≡◌, ◌≤◌, [], List, IfOk, IfErr, OnOk, OnErr};
+ghost use Rattle.std.specs.Mem.{FitsInMemory};
 ghost use Rattle.lsv_disk.specs.Throughout.{OnlyReads};
 ghost use Rattle.lsv_keeper.specs.declared.fault.StoreFault.{StoreFault};
 ghost use Rattle.lsv_lane.specs.InnerLane.{Begun};
@@ -10,7 +11,7 @@ ghost use Rattle.lsv_server.specs.Runs.{RunsStore};
 ghost use Rattle.lsv_server.specs.declared.run.End.TheVariants as ends;
 ghost use Rattle.lsv_turns.specs.Turns.{LaneTurn, replies_in};
 ghost use Rattle.lsv_load.specs.Numbers.{numbers_told};
-ghost use Rattle.lsv_load.specs.Runs.{IsSumOf, RunsLoad, ServesLoad, ended_by};
+ghost use Rattle.lsv_load.specs.Runs.{IsSumOf, RunsLoad, ServesLoad, ServesOne, ended_by};
 
 use crate::numbering::Numbering;
 use crate::replay::sum_up;
@@ -24,7 +25,7 @@ use lsv_lane::{Bay, StoreLane};
 use lsv_mask::Search;
 use lsv_port::MemPort;
 use lsv_post::WorkerPost;
-use lsv_reactor::{PortsEnd, serve};
+use lsv_reactor::{PortsEnd, Post, serve};
 use lsv_server::Plan;
 use lsv_turns::{Lane, Tape};
 use std::alloc::Global;
@@ -51,6 +52,23 @@ fn ended_by(fault: StoreFault) -> LoadEnd
     }
 }
 
+/// Serves what comes at a post, whose port fails for want of memory alone, by turns of a lane that has made none.
+fn serve_one<T: Post, L: Lane>(alloc: Global, post: &mut T, lane: &mut L) -> Result<(), NoMem>
+    requires fits { FitsInMemory T.row }
+    requires number { T.number post.old ≡ 0 }
+    requires post { (begun : T.Start) × T.made_by begun post.old [] [] }
+    requires lane { (start : L.Start) × L.made_by start lane.old [] }
+    ensures ok { OnOk result ((begun : T.Start) (start : L.Start) → T.made_by begun post.old [] [] → L.made_by start lane.old [] →
+        (turns : List LaneTurn) × L.made_by start lane.new turns × AreSized turns × (T.tells → ServesOne L.tells turns (T.begun begun) (T.view post.new))) }
+    ensures err { OnErr result ((start : L.Start) → L.made_by start lane.old [] → (turns : List LaneTurn) × L.made_by start lane.new turns × AreSized turns) }
+{
+    match serve(alloc, slice::from_mut(post), lane) {
+        Ok(PortsEnd::Stopped) => Ok(()),
+        Ok(PortsEnd::Failed) => Err(NoMem),
+        Err(NoMem) => Err(NoMem),
+    }
+}
+
 /// Serves the conversations of a load by turns of a lane that has made none.
 fn serve_conversations<L: Lane>(alloc: Global, count: u32, lane: &mut L) -> Result<(), NoMem>
     requires last { count ≤ 10000 }
@@ -60,7 +78,7 @@ fn serve_conversations<L: Lane>(alloc: Global, count: u32, lane: &mut L) -> Resu
 {
     let port = MemPort::new(alloc, load_script(alloc, count)?);
     let mut post = WorkerPost::new(alloc, 0, port)?;
-    let Ok(PortsEnd::Stopped) = serve(alloc, slice::from_mut(&mut post), lane) else {
+    let Ok(()) = serve_one(alloc, &mut post, lane) else {
         return Err(NoMem);
     };
     let port = post.into_port();
