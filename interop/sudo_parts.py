@@ -129,9 +129,9 @@ def resume(trial, folder):
     (first,) = trial.told(1)
     if first.exit or not 0 < len(first.records) < len(steady()):
         raise Differs(f"{len(first.records)} records before the cut, exit {first.exit}")
-    # sudo's own server tells no commit point in so short a time
+    # sudo's own server tells no commit point in so short a time, and `serve` none to a client that has left in the same turn
     stored = trial.store.cut_off(first)
-    end = sum(record[0] for record in stored) if trial.kind == "sudo" else first.points[-1]
+    end = first.points[-1] if first.points else sum(record[0] for record in stored)
     point = f"{end // SECOND},{end % SECOND}"
     trial.sendlog("-i", first.log_ids[0], "-r", point, folder)
     (told,) = trial.told(1)

@@ -1,7 +1,8 @@
-pub mod Seats
-pub mod Bringing
-pub mod Replying
-pub mod Serving
-pub mod Underway
-pub mod Calls
-pub mod Ending
+pub mod BoolLemmas
+pub mod SeatLemmas
+pub mod BodyLemmas
+pub mod ReplyLemmas
+pub mod LinkLemmas
+pub mod StepLemmas
+pub mod CallLemmas
+pub mod EndLemmas

@@ -16,38 +16,38 @@ use Rattle.lsv_worker.specs.declared.link.Phase.TheVariants as phases
 use Rattle.lsv_worker.specs.declared.memory.MemInbox.{MemInbox}
 use Rattle.lsv_worker.specs.declared.worker.Worker.{Worker}
 use Rattle.lsv_post.specs.Ports.{view_by}
-use Rattle.lsv_post.specs.declared.course.Course.{Course}
-use Rattle.lsv_post.specs.declared.course.Course.TheVariants.{Going, Failing, Stopping, Failed}
+use Rattle.lsv_post.specs.declared.mode.Mode.{Mode}
+use Rattle.lsv_post.specs.declared.mode.Mode.TheVariants.{Going, Failing, Stopping, Failed}
 use Rattle.lsv_post.specs.declared.post.WorkerPost.{WorkerPost}
 
--- the course behind a turn that told this
-abbrev pub after_ready : Ready → Course
+-- the mode behind a turn that told this
+abbrev pub after_ready : Ready → Mode
 after_ready (ready.Opened l) = Going
 after_ready (ready.Readable l) = Going
 after_ready (ready.Writable l) = Going
 after_ready ready.Woken = Going
 after_ready ready.Stop = Stopping
 
--- the course of a post whose port couldn't listen
-abbrev pub after_fault : Course → Course
+-- the mode of a post whose port couldn't listen
+abbrev pub after_fault : Mode → Mode
 after_fault Going = Failing
 after_fault Failing = Failing
 after_fault Stopping = Failed
 after_fault Failed = Failed
 
--- how a post ends on a course
-abbrev pub ended_by : Course → Option PostEnd
+-- how a post ends in a mode
+abbrev pub ended_by : Mode → Option PostEnd
 ended_by Going = None
 ended_by Failing = None
 ended_by Stopping = Some ends.Stopped
 ended_by Failed = Some ends.Failed
 
--- a post on this course has a worker in this phase, and its port failed where the course says so
-abbrev pub IsOn : Course → Phase → Type 0 → Type 0
-IsOn Going phase failed = phase ≡ phases.Going
-IsOn Failing phase failed = (phase ≡ phases.Going) × failed
-IsOn Stopping phase failed = phase ≡ phases.Stopping
-IsOn Failed phase failed = ((phase ≡ phases.Failed) ⊎ (phase ≡ phases.Stopping)) × failed
+-- a post in this mode has a worker in this phase, and its port failed where the mode says so
+abbrev pub IsInMode : Mode → Phase → Type 0 → Type 0
+IsInMode Going phase failed = phase ≡ phases.Going
+IsInMode Failing phase failed = (phase ≡ phases.Going) × failed
+IsInMode Stopping phase failed = phase ≡ phases.Stopping
+IsInMode Failed phase failed = ((phase ≡ phases.Failed) ⊎ (phase ≡ phases.Stopping)) × failed
 
 -- the worker and the inbox are those of one post
 pub record AreOne (worker : Worker) (inbox : MemInbox) : Type 0 where
@@ -74,7 +74,7 @@ pub record AreKept (lost : Bool) (took kept : List Reply) : Type 0 where
 -- A post within a call: from this start on it gave these jobs, and those that wait in its inbox are still to be given; and it took these replies.
 pub record IsUnderWay {P : Type 0} (tells : Type 0) (state : P → PortState) (ledger : P → PortLedger) (start : PortView) (post : WorkerPost P) (gave : List Job) (took : List Reply) : Type 0 where
   pub one : AreOne post.worker post.inbox
-  pub course : IsOn post.course (setting post.worker).phase (PortFailed start (view_by state ledger post.port))
+  pub mode : IsInMode post.mode (setting post.worker).phase (PortFailed start (view_by state ledger post.port))
   pub goes_on : GoesOn tells start (view_by state ledger post.port)
   pub kept : List Reply
   pub are_kept : AreKept post.lost took kept

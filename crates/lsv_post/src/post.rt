@@ -4,11 +4,12 @@ ghost use Rattle.std.specs.Prelude.{◌≡◌, ◌++◌, ◌∷◌, [], ℕ, Lis
 ghost use Rattle.lsv_session.specs.declared.job.Job.{Job};
 ghost use Rattle.lsv_session.specs.declared.reply.Reply.{Reply};
 ghost use Rattle.lsv_reactor.specs.Links.{PortView};
-ghost use Rattle.lsv_worker.specs.Worker.{setting};
+ghost use Rattle.std.specs.List.{Contains};
+ghost use Rattle.lsv_worker.specs.Worker.{held_by, setting};
 ghost use Rattle.lsv_post.specs.Ports.{IsUnopened, view_by};
 ghost use Rattle.lsv_post.specs.InnerPost.{IsMade, IsUnderWay};
 
-use crate::course::Course;
+use crate::mode::Mode;
 use lsv_base::NoMem;
 use lsv_port::Port;
 use lsv_reactor::{Post, PostEnd};
@@ -25,11 +26,26 @@ pub struct WorkerPost<P> {
     worker: Worker,
     inbox: MemInbox,
     port: P,
-    course: Course,
+    mode: Mode,
     /// Replies were taken and not yet written.
     unsent: bool,
     /// A reply was lost: memory was wanting for it, or it was to no connection.
     lost: bool,
+}
+
+/// No link has this number.
+const NO_LINK: &[u32] = &[0];
+
+/// The links that a port is handed as held: those that its worker holds. Where none is and replies are unsent it is handed one
+/// that isn't there, so that it doesn't wait.
+fn held(worker: &Worker, unsent: bool) -> &[u32]
+    ensures { (l : ℕ) → Contains (held_by worker.now) l → Contains result.now l }
+{
+    let held = worker.held();
+    if held.is_empty() && unsent {
+        return NO_LINK;
+    }
+    held
 }
 
 impl<P: Port + Drop> WorkerPost<P> {
@@ -43,7 +59,7 @@ impl<P: Port + Drop> WorkerPost<P> {
             worker: Worker::new(alloc, number, LANES)?,
             inbox: MemInbox::new(alloc, number)?,
             port,
-            course: Course::Going,
+            mode: Mode::Going,
             unsent: false,
             lost: false,
         })
@@ -61,17 +77,18 @@ impl<P: Port> WorkerPost<P> {
     /// Lets its port turn, and does what it tells. A turn that fails is for the worker to learn at the next `wait`.
     fn turn(&mut self)
         requires begun { (start : PortView) × (gave : List Job) × (took : List Reply) × IsUnderWay P.tells P.state P.ledger start self.old gave took }
-        requires going { self.old.course ≡ Course.Going }
+        requires going { self.old.mode ≡ Mode.Going }
         ensures way { (start : PortView) (gave : List Job) (took : List Reply) → IsUnderWay P.tells P.state P.ledger start self.old gave took → IsUnderWay P.tells P.state P.ledger start self.new gave took }
         ensures number { (setting self.new.worker).number ≡ (setting self.old.worker).number }
     {
-        match self.port.turn(self.worker.held()) {
+        match self.port.turn(held(&self.worker, self.unsent)) {
             Ok(ready) => {
-                self.course = Course::after(ready);
+                self.unsent = false;
+                self.mode = Mode::after(ready);
                 self.worker.on(&mut self.port, ready, &mut self.inbox);
             }
             Err(_) => {
-                self.course = Course::Failing;
+                self.mode = Mode::Failing;
             }
         }
     }
@@ -79,11 +96,11 @@ impl<P: Port> WorkerPost<P> {
     /// Its worker learns that the port failed: no link is read any more.
     fn fail(&mut self)
         requires begun { (start : PortView) × (gave : List Job) × (took : List Reply) × IsUnderWay P.tells P.state P.ledger start self.old gave took }
-        requires failing { self.old.course ≡ Course.Failing }
+        requires failing { self.old.mode ≡ Mode.Failing }
         ensures way { (start : PortView) (gave : List Job) (took : List Reply) → IsUnderWay P.tells P.state P.ledger start self.old gave took → IsUnderWay P.tells P.state P.ledger start self.new gave took }
         ensures number { (setting self.new.worker).number ≡ (setting self.old.worker).number }
     {
-        self.course = Course::Failed;
+        self.mode = Mode::Failed;
         self.worker.turn_failed(&mut self.port, &mut self.inbox);
     }
 
@@ -102,20 +119,16 @@ impl<P: Port> WorkerPost<P> {
         }
     }
 
-    /// Does what comes next. Where replies wait to be written, it writes them, and doesn't wait for its port.
+    /// Does what comes next.
     fn go_on(&mut self)
         requires begun { (start : PortView) × (gave : List Job) × (took : List Reply) × IsUnderWay P.tells P.state P.ledger start self.old gave took }
         ensures way { (start : PortView) (gave : List Job) (took : List Reply) → IsUnderWay P.tells P.state P.ledger start self.old gave took → IsUnderWay P.tells P.state P.ledger start self.new gave took }
         ensures number { (setting self.new.worker).number ≡ (setting self.old.worker).number }
     {
-        if self.unsent {
-            self.try_links();
-            return;
-        }
-        match self.course {
-            Course::Going => self.turn(),
-            Course::Failing => self.fail(),
-            Course::Stopping | Course::Failed => self.try_links(),
+        match self.mode {
+            Mode::Going => self.turn(),
+            Mode::Failing => self.fail(),
+            Mode::Stopping | Mode::Failed => self.try_links(),
         }
     }
 }
@@ -136,7 +149,7 @@ impl<P: Port> Post for WorkerPost<P> {
     fn open(&mut self, address: &str, stop_after: Option<u32>) -> bool {
         let listens = self.port.listen(address, stop_after).is_ok();
         if !listens {
-            self.course = self.course.deafened();
+            self.mode = self.mode.deafened();
         }
         listens
     }
@@ -171,7 +184,7 @@ impl<P: Port> Post for WorkerPost<P> {
         if !self.worker.is_empty() {
             return None;
         }
-        self.course.end()
+        self.mode.end()
     }
 
     fn stop(&mut self) {

@@ -1,5 +1,5 @@
 use Rattle.std.proofs.Common.{refl}
-use Rattle.lsv_post.proofs.Calls.{begins}
+use Rattle.lsv_post.proofs.CallLemmas.{begins}
 use Rattle.lsv_post.proofs.post.WorkerPost.new.Goals as goal
 
 pub returns-clause-made : goal.returns-clause-made

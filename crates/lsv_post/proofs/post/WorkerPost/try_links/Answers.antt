@@ -1,5 +1,5 @@
 use Rattle.std.proofs.Common.{refl}
-use Rattle.lsv_post.proofs.Calls.{tried}
+use Rattle.lsv_post.proofs.CallLemmas.{tried}
 use Rattle.lsv_post.proofs.post.WorkerPost.try_links.Goals as goal
 
 pub returns-then-not-is_empty-clause-way : goal.returns-then-not-is_empty-clause-way

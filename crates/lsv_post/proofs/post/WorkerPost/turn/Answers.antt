@@ -2,11 +2,11 @@ use Rattle.std.proofs.Common.{refl, sym, subst}
 use Rattle.lsv_port.proofs.LedgerLemmas.{continues_then}
 use Rattle.lsv_reactor.specs.Links.{PortFailed}
 use Rattle.lsv_worker.specs.Worker.{setting}
-use Rattle.lsv_post.specs.InnerPost.{IsOn}
+use Rattle.lsv_post.specs.InnerPost.{IsInMode}
 use Rattle.lsv_post.specs.Ports.{view_by}
-use Rattle.lsv_post.specs.declared.course.Course.{Course}
-use Rattle.lsv_post.proofs.Calls.{port_only, stepped}
-use Rattle.lsv_post.proofs.Underway.{blame_then, failed_now, going_phase, told_blame, turned_on}
+use Rattle.lsv_post.specs.declared.mode.Mode.{Mode}
+use Rattle.lsv_post.proofs.CallLemmas.{port_only, stepped}
+use Rattle.lsv_post.proofs.StepLemmas.{blame_then, failed_now, going_phase, told_blame, mode_turned}
 use Rattle.lsv_post.proofs.post.WorkerPost.turn.Goals as goal
 
 pub returns-in-Ok-clause-way : goal.returns-in-Ok-clause-way
@@ -17,10 +17,10 @@ returns-in-Ok-clause-way g c = λ start gave took u.
     c.in-Ok.ensures.cause.continues c.on.ensures.continues
     (told_blame c.in-Ok.ready (g.P.Port.state c.args.self.now.port) (g.P.Port.state c.turn.new.self) (g.P.Port.ledger c.args.self.now.port) (g.P.Port.ledger c.turn.new.self) (c.in-Ok.ensures.told told)) (c.on.ensures.blame told))
     (λ e. e)
-    (λ on. subst (λ (course : Course). IsOn course (setting c.on.new.self).phase (PortFailed start (view_by g.P.Port.state g.P.Port.ledger c.on.new.port))) (sym c.after-self.ensures) (turned_on c.in-Ok.ready (setting c.on.new.self).phase (PortFailed start (view_by g.P.Port.state g.P.Port.ledger c.on.new.port)) c.on.ensures.phase))
+    (λ on. subst (λ (mode : Mode). IsInMode mode (setting c.on.new.self).phase (PortFailed start (view_by g.P.Port.state g.P.Port.ledger c.on.new.port))) (sym c.after-self.ensures) (mode_turned c.in-Ok.ready (setting c.on.new.self).phase (PortFailed start (view_by g.P.Port.state g.P.Port.ledger c.on.new.port)) c.on.ensures.phase))
     (λ told. c.on.ensures.goes told (g.P.Port.state c.args.self.now.port) (c.in-Ok.ensures.told told)) (λ told going. c.on.ensures.owed told) u
 
 pub returns-in-Err-clause-way : goal.returns-in-Err-clause-way
 returns-in-Err-clause-way g c = λ start gave took u.
     port_only g.P.Port.tells g.P.Port.state g.P.Port.ledger start c.args.self.now _ gave took refl refl refl c.in-Err.ensures.cause.continues c.in-Err.ensures.failed
-    (λ on. (going_phase c.args.self.now.course (setting c.args.self.now.worker).phase (PortFailed start (view_by g.P.Port.state g.P.Port.ledger c.args.self.now.port)) c.requires.going on, failed_now start (view_by g.P.Port.state g.P.Port.ledger c.args.self.now.port) (view_by g.P.Port.state g.P.Port.ledger c.turn.new.self) u.goes_on.continues (c.in-Err.ensures.cause.risen refl))) u
+    (λ on. (going_phase c.args.self.now.mode (setting c.args.self.now.worker).phase (PortFailed start (view_by g.P.Port.state g.P.Port.ledger c.args.self.now.port)) c.requires.going on, failed_now start (view_by g.P.Port.state g.P.Port.ledger c.args.self.now.port) (view_by g.P.Port.state g.P.Port.ledger c.turn.new.self) u.goes_on.continues (c.in-Err.ensures.cause.risen refl))) u

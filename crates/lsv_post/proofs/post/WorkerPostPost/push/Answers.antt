@@ -1,6 +1,6 @@
 use Rattle.std.proofs.Common.{refl}
-use Rattle.lsv_post.proofs.Calls.{handed}
-use Rattle.lsv_post.proofs.Underway.{few_waiting, own_waiting}
+use Rattle.lsv_post.proofs.CallLemmas.{handed}
+use Rattle.lsv_post.proofs.StepLemmas.{few_waiting, own_waiting}
 use Rattle.lsv_post.proofs.post.WorkerPostPost.push.Goals as goal
 
 pub returns-clause-made : goal.returns-clause-made

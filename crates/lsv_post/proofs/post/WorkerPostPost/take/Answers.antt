@@ -1,5 +1,5 @@
 use Rattle.std.proofs.Common.{refl}
-use Rattle.lsv_post.proofs.Calls.{replied}
+use Rattle.lsv_post.proofs.CallLemmas.{replied}
 use Rattle.lsv_post.proofs.post.WorkerPostPost.take.Goals as goal
 
 pub returns-clause-made : goal.returns-clause-made

@@ -1,5 +1,5 @@
 -- What replies say of one connection.
-use Rattle.std.proofs.Common.{◌≡◌, ◌||◌, ◌&&◌, Bool, true, false, List, [], ◌∷◌, ◌++◌, refl, sym, ap, ◌∙◌, append_assoc, ⊎_elim}
+use Rattle.std.proofs.Common.{◌≡◌, ◌&&◌, Bool, true, false, List, [], ◌∷◌, ◌++◌, refl, sym, ap, ◌∙◌, append_assoc, ⊎_elim}
 use Rattle.std.specs.Prelude.{not}
 use Rattle.lsv_session.specs.Connections.{same}
 use Rattle.lsv_session.specs.Transcript.{bodies_of}
@@ -9,20 +9,13 @@ use Rattle.lsv_session.specs.declared.reply.Reply.{Reply}
 use Rattle.lsv_session.specs.declared.reply.ReplyBody.TheVariants.{Shut}
 use Rattle.lsv_turns.specs.Turns.{AreAsked, EndsWithGone, NoneFor, is_shut, shuts}
 use Rattle.lsv_worker.specs.Outgoing.{HasEarlyShut, HasShut, TalksOn}
+use Rattle.lsv_post.proofs.BoolLemmas.{or_here, or_later}
 
 shut_test : (a b c : Bool) → a ≡ true → b ≡ true → c ≡ false → ((a && b) && not c) ≡ true
 shut_test true true false x y z = refl
 shut_test true true true x y z = absurd (cc)
 shut_test true false c x y z = absurd (cc)
 shut_test false b c x y z = absurd (cc)
-
-or_here : (b c : Bool) → b ≡ true → (b || c) ≡ true
-or_here true c e = refl
-or_here false c e = absurd (cc)
-
-or_later : (b c : Bool) → c ≡ true → (b || c) ≡ true
-or_later true c e = refl
-or_later false c e = e
 
 -- a connection that a keeper shut by itself was shut
 pub early_shuts : (k : ConnId) (replies : List Reply) → HasEarlyShut k replies → shuts k replies ≡ true

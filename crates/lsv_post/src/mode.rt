@@ -8,7 +8,7 @@ use lsv_reactor::PostEnd;
 
 /// What a post does next.
 #[derive(Clone, Copy, Debug, PartialEq, Eq)]
-pub(crate) enum Course {
+pub(crate) enum Mode {
     /// It lets its port turn.
     Going,
     /// Its port couldn't listen, or a turn of it failed: its worker is still to learn it.
@@ -19,37 +19,37 @@ pub(crate) enum Course {
     Failed,
 }
 
-impl Course {
-    /// The course of a post that goes on, behind a turn that told this.
-    pub(crate) fn after(ready: Ready) -> Course
+impl Mode {
+    /// The mode of a post that goes on, behind a turn that told this.
+    pub(crate) fn after(ready: Ready) -> Mode
         ensures { result ≡ after_ready ready }
     {
         match ready {
             Ready::Opened(_) | Ready::Readable(_) | Ready::Writable(_) | Ready::Woken => {
-                Course::Going
+                Mode::Going
             }
-            Ready::Stop => Course::Stopping,
+            Ready::Stop => Mode::Stopping,
         }
     }
 
-    /// The course of a post whose port couldn't listen.
-    pub(crate) fn deafened(self) -> Course
+    /// The mode of a post whose port couldn't listen.
+    pub(crate) fn deafened(self) -> Mode
         ensures { result ≡ after_fault self }
     {
         match self {
-            Course::Going | Course::Failing => Course::Failing,
-            Course::Stopping | Course::Failed => Course::Failed,
+            Mode::Going | Mode::Failing => Mode::Failing,
+            Mode::Stopping | Mode::Failed => Mode::Failed,
         }
     }
 
-    /// How a post ends on this course, None where it goes on.
+    /// How a post ends in this mode, None where it goes on.
     pub(crate) fn end(self) -> Option<PostEnd>
         ensures { result ≡ ended_by self }
     {
         match self {
-            Course::Going | Course::Failing => None,
-            Course::Stopping => Some(PostEnd::Stopped),
-            Course::Failed => Some(PostEnd::Failed),
+            Mode::Going | Mode::Failing => None,
+            Mode::Stopping => Some(PostEnd::Stopped),
+            Mode::Failed => Some(PostEnd::Failed),
         }
     }
 }

@@ -1,5 +1,5 @@
 -- What a connection brought, told without why it ended.
-use Rattle.std.proofs.Common.{◌≡◌, ◌≢◌, ℕ, zero, suc, ◌+◌, ◌<◌, ◌||◌, Bool, true, false, List, [], ◌∷◌, ◌++◌, length, refl, sym, ap, subst, ◌∙◌, append_assoc, inl, inr, ⊎_elim, arith}
+use Rattle.std.proofs.Common.{◌≡◌, ◌≢◌, ℕ, zero, suc, ◌+◌, ◌<◌, Bool, true, false, List, [], ◌∷◌, ◌++◌, length, refl, sym, ap, subst, ◌∙◌, append_assoc, inl, inr, ⊎_elim, arith}
 use Rattle.std.proofs.lemmas.List.{append-nil, length-append}
 use Rattle.lsv_wire.specs.Frame.{IsPartial}
 use Rattle.lsv_wire.specs.declared.framing.TheConstants.{FRAME_LIMIT}
@@ -13,6 +13,7 @@ use Rattle.lsv_reactor.specs.Links.{AtMostStarved, Brings, is_bad, was_bad}
 use Rattle.lsv_worker.specs.Incoming.{Heard, IsWhole, is_shut, last_words}
 use Rattle.lsv_worker.specs.declared.incoming.Why.{Why}
 use Rattle.lsv_worker.specs.declared.incoming.Why.TheVariants.{Ended, Refused, Shut, Starved}
+use Rattle.lsv_post.proofs.BoolLemmas.{or_front, or_later, true_or}
 
 -- ---- The end is the last of a connection's jobs
 
@@ -89,21 +90,9 @@ goes_bad read heard all ok =
     let began = up.cut.began more.0 heard (all more.0) in
     not_partial up.rest more.0 more.1 (only_partial began.2 (none_later heard began.0 began.1))
 
-true_or : (b : Bool) → (b ≡ false → ⊥) → b ≡ true
-true_or true not = refl
-true_or false not = absurd (not refl)
-
 -- jobs that are all, however the bytes go on, end with a fault
 pub all_bad : (read heard : _) → AreAllJobs read heard → was_bad heard ≡ true
 all_bad read heard all = true_or (was_bad heard) (goes_bad read heard all)
-
-or_front : (b c d : Bool) → (c ≡ true → d ≡ true) → (b || c) ≡ true → (b || d) ≡ true
-or_front true c d on e = refl
-or_front false c d on e = on e
-
-or_behind : (b c : Bool) → c ≡ true → (b || c) ≡ true
-or_behind true c e = refl
-or_behind false c e = e
 
 pub bad_front : (xs ys : List Body) → was_bad xs ≡ true → was_bad (xs ++ ys) ≡ true
 bad_front [] ys e = absurd (cc)
@@ -111,7 +100,7 @@ bad_front (x ∷ xs) ys e = or_front (is_bad x) (was_bad xs) (was_bad (xs ++ ys)
 
 pub bad_behind : (xs ys : List Body) → was_bad ys ≡ true → was_bad (xs ++ ys) ≡ true
 bad_behind [] ys e = e
-bad_behind (x ∷ xs) ys e = or_behind (is_bad x) (was_bad (xs ++ ys)) (bad_behind xs ys e)
+bad_behind (x ∷ xs) ys e = or_later (is_bad x) (was_bad (xs ++ ys)) (bad_behind xs ys e)
 
 -- ---- The jobs of the bytes
 

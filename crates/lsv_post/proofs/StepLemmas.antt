@@ -20,9 +20,9 @@ use Rattle.lsv_worker.specs.declared.link.Phase.{Phase}
 use Rattle.lsv_worker.specs.declared.link.Phase.TheVariants as phases
 use Rattle.lsv_worker.specs.declared.memory.MemInbox.{MemInbox}
 use Rattle.lsv_worker.specs.declared.worker.Worker.{Worker}
-use Rattle.lsv_post.specs.InnerPost.{AreKept, AreOne, GoesOn, IsOn, StandsFor, after_ready}
-use Rattle.lsv_post.specs.declared.course.Course.{Course}
-use Rattle.lsv_post.specs.declared.course.Course.TheVariants.{Going, Failing, Stopping, Failed}
+use Rattle.lsv_post.specs.InnerPost.{AreKept, AreOne, GoesOn, IsInMode, StandsFor, after_ready}
+use Rattle.lsv_post.specs.declared.mode.Mode.{Mode}
+use Rattle.lsv_post.specs.declared.mode.Mode.TheVariants.{Going, Failing, Stopping, Failed}
 
 -- ---- Counts
 
@@ -81,32 +81,32 @@ failed_on start old new on f = risen_on start.ledger.turns old.ledger.turns new.
 pub failed_now : (start old new : PortView) → Continues start.ledger old.ledger → HasRisen old.ledger.turns new.ledger.turns → PortFailed start new
 failed_now start old new on rose = risen_late start.ledger.turns old.ledger.turns new.ledger.turns on.turns rose
 
--- ---- The course
+-- ---- The mode
 
-pub on_then : (course : Course) (p q : Phase) (F G : Type 0) → q ≡ p → (F → G) → IsOn course p F → IsOn course q G
-on_then Going p q F G e f h = e ∙ h
-on_then Failing p q F G e f h = (e ∙ h.0, f h.1)
-on_then Stopping p q F G e f h = e ∙ h
-on_then Failed p q F G e f h = (⊎_elim (λ a. inl (e ∙ a)) (λ b. inr (e ∙ b)) h.0, f h.1)
+pub mode_then : (mode : Mode) (p q : Phase) (F G : Type 0) → q ≡ p → (F → G) → IsInMode mode p F → IsInMode mode q G
+mode_then Going p q F G e f h = e ∙ h
+mode_then Failing p q F G e f h = (e ∙ h.0, f h.1)
+mode_then Stopping p q F G e f h = e ∙ h
+mode_then Failed p q F G e f h = (⊎_elim (λ a. inl (e ∙ a)) (λ b. inr (e ∙ b)) h.0, f h.1)
 
 -- behind a turn that told this
-pub turned_on : (is : Ready) (p : Phase) (F : Type 0) → p ≡ phase_after is → IsOn (after_ready is) p F
-turned_on (ready.Opened l) p F e = e
-turned_on (ready.Readable l) p F e = e
-turned_on (ready.Writable l) p F e = e
-turned_on ready.Woken p F e = e
-turned_on ready.Stop p F e = e
+pub mode_turned : (is : Ready) (p : Phase) (F : Type 0) → p ≡ phase_after is → IsInMode (after_ready is) p F
+mode_turned (ready.Opened l) p F e = e
+mode_turned (ready.Readable l) p F e = e
+mode_turned (ready.Writable l) p F e = e
+mode_turned ready.Woken p F e = e
+mode_turned ready.Stop p F e = e
 
 -- its worker learned that the port failed
-pub failed_course : (course : Course) (p q : Phase) (F G : Type 0) → course ≡ Failing → q ≡ phases.Failed → (F → G) → IsOn course p F → IsOn Failed q G
-failed_course course p q F G failing e f on = let was : IsOn Failing p F = subst (λ (c : Course). IsOn c p F) failing on in (inl e, f was.1)
+pub failed_mode : (mode : Mode) (p q : Phase) (F G : Type 0) → mode ≡ Failing → q ≡ phases.Failed → (F → G) → IsInMode mode p F → IsInMode Failed q G
+failed_mode mode p q F G failing e f on = let was : IsInMode Failing p F = subst (λ (c : Mode). IsInMode c p F) failing on in (inl e, f was.1)
 
 -- the phase of a worker whose post goes on
-pub going_phase : (course : Course) (p : Phase) (F : Type 0) → course ≡ Going → IsOn course p F → p ≡ phases.Going
-going_phase course p F going on = subst (λ (c : Course). IsOn c p F) going on
+pub going_phase : (mode : Mode) (p : Phase) (F : Type 0) → mode ≡ Going → IsInMode mode p F → p ≡ phases.Going
+going_phase mode p F going on = subst (λ (c : Mode). IsInMode c p F) going on
 
-pub failing_phase : (course : Course) (p : Phase) (F : Type 0) → course ≡ Failing → IsOn course p F → p ≡ phases.Going
-failing_phase course p F failing on = let was : IsOn Failing p F = subst (λ (c : Course). IsOn c p F) failing on in was.0
+pub failing_phase : (mode : Mode) (p : Phase) (F : Type 0) → mode ≡ Failing → IsInMode mode p F → p ≡ phases.Going
+failing_phase mode p F failing on = let was : IsInMode Failing p F = subst (λ (c : Mode). IsInMode c p F) failing on in was.0
 
 -- ---- The worker and its inbox
 

@@ -15,18 +15,18 @@ use Rattle.lsv_worker.specs.declared.link.Phase.TheVariants as phases
 use Rattle.lsv_worker.specs.declared.memory.MemInbox.{MemInbox}
 use Rattle.lsv_worker.specs.declared.worker.Worker.{Worker}
 use Rattle.lsv_worker.proofs.Beginning.{new_stands}
-use Rattle.lsv_post.specs.InnerPost.{IsMade, IsOn, IsUnderWay, StandsFor, after_fault}
+use Rattle.lsv_post.specs.InnerPost.{IsMade, IsInMode, IsUnderWay, StandsFor, after_fault}
 use Rattle.lsv_post.specs.Ports.{IsUnopened, view_by}
-use Rattle.lsv_post.specs.declared.course.Course.{Course}
-use Rattle.lsv_post.specs.declared.course.Course.TheVariants.{Going, Failing, Stopping, Failed}
+use Rattle.lsv_post.specs.declared.mode.Mode.{Mode}
+use Rattle.lsv_post.specs.declared.mode.Mode.TheVariants.{Going, Failing, Stopping, Failed}
 use Rattle.lsv_post.specs.declared.post.WorkerPost.{WorkerPost}
-use Rattle.lsv_post.proofs.Underway.{failed_on, goes_then, kept_one, kept_same, on_then, one_emptied, one_then, same_blame, stands_given, stands_same, stands_then}
+use Rattle.lsv_post.proofs.StepLemmas.{failed_on, goes_then, kept_one, kept_same, mode_then, one_emptied, one_then, same_blame, stands_given, stands_same, stands_then}
 
-pub fault_on : (course : Course) (p : Phase) (F G : Type 0) → G → IsOn course p F → IsOn (after_fault course) p G
-fault_on Going p F G g h = (h, g)
-fault_on Failing p F G g h = (h.0, g)
-fault_on Stopping p F G g h = (inr h, g)
-fault_on Failed p F G g h = (h.0, g)
+pub mode_faulted : (mode : Mode) (p : Phase) (F G : Type 0) → G → IsInMode mode p F → IsInMode (after_fault mode) p G
+mode_faulted Going p F G g h = (h, g)
+mode_faulted Failing p F G g h = (h.0, g)
+mode_faulted Stopping p F G g h = (inr h, g)
+mode_faulted Failed p F G g h = (h.0, g)
 
 no_jobs : (lane : ℕ) (jobs : List Job) → jobs ≡ [] → [] ≡ jobs_in lane jobs
 no_jobs zero jobs none = sym none
@@ -43,7 +43,7 @@ module _ {P : Type 0} (tells : Type 0) (state : P → PortState) (ledger : P →
   }
 
   -- a post that was just made
-  pub begins : (post : WorkerPost P) (number : ℕ) → IsFit post.worker → setting post.worker ≡ record { number = number; lanes = 1; next = 1; phase = phases.Going } → post.worker.links.items ≡ [] → waiting post.inbox ≡ [] → post.inbox.worker ≡ number → post.course ≡ Going
+  pub begins : (post : WorkerPost P) (number : ℕ) → IsFit post.worker → setting post.worker ≡ record { number = number; lanes = 1; next = 1; phase = phases.Going } → post.worker.links.items ≡ [] → waiting post.inbox ≡ [] → post.inbox.worker ≡ number → post.mode ≡ Going
       → (tells → IsUnopened (state post.port)) → IsMade tells state ledger (view_by state ledger post.port) post [] []
   begins post number fit set links none own going un = record {
     way = record {
@@ -53,7 +53,7 @@ module _ {P : Type 0} (tells : Type 0) (state : P → PortState) (ledger : P →
         number = own ∙ sym (ap (λ (s : Setting). s.number) set);
         orderly = record { own = rw none tt; few = rw none (omega arith) };
       };
-      course = subst (λ (c : Course). IsOn c (setting post.worker).phase (PortFailed (view_by state ledger post.port) (view_by state ledger post.port))) (sym going) (ap (λ (s : Setting). s.phase) set);
+      mode = subst (λ (c : Mode). IsInMode c (setting post.worker).phase (PortFailed (view_by state ledger post.port) (view_by state ledger post.port))) (sym going) (ap (λ (s : Setting). s.phase) set);
       goes_on = record {
         continues = continues_same (ledger post.port);
         unopened = λ told. (un told).opened;
@@ -73,13 +73,13 @@ module _ {P : Type 0} (tells : Type 0) (state : P → PortState) (ledger : P →
   -- its worker did something, and put jobs to its inbox
   pub stepped : (start : PortView) (old new : WorkerPost P) (gave : List Job) (took : List Reply) → IsFit new.worker → IsSameWorker old.worker new.worker → KeepsOrder old.inbox new.inbox
       → Continues (ledger old.port) (ledger new.port) → (tells → HasBlame (state old.port) (ledger old.port) (state new.port) (ledger new.port)) → (new.lost ≡ false → old.lost ≡ false)
-      → (IsOn old.course (setting old.worker).phase (PortFailed start (view_by state ledger old.port)) → IsOn new.course (setting new.worker).phase (PortFailed start (view_by state ledger new.port)))
+      → (IsInMode old.mode (setting old.worker).phase (PortFailed start (view_by state ledger old.port)) → IsInMode new.mode (setting new.worker).phase (PortFailed start (view_by state ledger new.port)))
       → (tells → Goes old.worker new.worker (state old.port) (state new.port) (λ lane. jobs_in lane (waiting old.inbox)) (λ lane. jobs_in lane (waiting new.inbox)))
       → (tells → (setting new.worker).phase ≡ phases.Going → HoldsOwed new.worker (state new.port))
       → IsUnderWay tells state ledger start old gave took → IsUnderWay tells state ledger start new gave took
-  stepped start old new gave took fit same keeps on blame lost course goes holds u = record {
+  stepped start old new gave took fit same keeps on blame lost mode goes holds u = record {
     one = one_then old.worker new.worker old.inbox new.inbox u.one fit same keeps;
-    course = course u.course;
+    mode = mode u.mode;
     goes_on = goes_then tells start (view_by state ledger old.port) (view_by state ledger new.port) u.goes_on on blame;
     kept = u.kept;
     are_kept = kept_same old.lost new.lost took u.kept lost u.are_kept;
@@ -89,25 +89,25 @@ module _ {P : Type 0} (tells : Type 0) (state : P → PortState) (ledger : P →
   -- its worker tried its links again
   pub tried : (start : PortView) (old new : WorkerPost P) (gave : List Job) (took : List Reply) → IsFit new.worker → IsSameWorker old.worker new.worker → KeepsOrder old.inbox new.inbox
       → Continues (ledger old.port) (ledger new.port) → (tells → HasBlame (state old.port) (ledger old.port) (state new.port) (ledger new.port)) → (new.lost ≡ false → old.lost ≡ false)
-      → new.course ≡ old.course → (setting new.worker).phase ≡ (setting old.worker).phase
+      → new.mode ≡ old.mode → (setting new.worker).phase ≡ (setting old.worker).phase
       → (tells → Goes old.worker new.worker (state old.port) (state new.port) (λ lane. jobs_in lane (waiting old.inbox)) (λ lane. jobs_in lane (waiting new.inbox)))
       → (tells → reads_in (setting old.worker).phase ≡ true → HoldsOwed new.worker (state new.port))
       → IsUnderWay tells state ledger start old gave took → IsUnderWay tells state ledger start new gave took
-  tried start old new gave took fit same keeps on blame lost course phase goes holds u =
+  tried start old new gave took fit same keeps on blame lost mode phase goes holds u =
       stepped start old new gave took fit same keeps on blame lost
-      (λ is. rw course
-      (on_then old.course (setting old.worker).phase (setting new.worker).phase (PortFailed start (view_by state ledger old.port)) (PortFailed start (view_by state ledger new.port)) phase
+      (λ is. rw mode
+      (mode_then old.mode (setting old.worker).phase (setting new.worker).phase (PortFailed start (view_by state ledger old.port)) (PortFailed start (view_by state ledger new.port)) phase
       (failed_on start (view_by state ledger old.port) (view_by state ledger new.port) on) is))
       goes (λ told going. holds told (ap reads_in (sym phase ∙ going))) u
 
   -- nothing changed but what is known of the port's failures
   pub port_only : (start : PortView) (old new : WorkerPost P) (gave : List Job) (took : List Reply) → new.worker ≡ old.worker → new.inbox ≡ old.inbox → new.lost ≡ old.lost
       → Continues (ledger old.port) (ledger new.port) → (tells → IsSame (state old.port) (state new.port))
-      → (IsOn old.course (setting old.worker).phase (PortFailed start (view_by state ledger old.port)) → IsOn new.course (setting old.worker).phase (PortFailed start (view_by state ledger new.port)))
+      → (IsInMode old.mode (setting old.worker).phase (PortFailed start (view_by state ledger old.port)) → IsInMode new.mode (setting old.worker).phase (PortFailed start (view_by state ledger new.port)))
       → IsUnderWay tells state ledger start old gave took → IsUnderWay tells state ledger start new gave took
-  port_only start old new gave took worker inbox lost on same course u = record {
+  port_only start old new gave took worker inbox lost on same mode u = record {
     one = rw (worker, inbox) u.one;
-    course = rw worker (course u.course);
+    mode = rw worker (mode u.mode);
     goes_on = goes_then tells start (view_by state ledger old.port) (view_by state ledger new.port) u.goes_on on (λ told. same_blame (state old.port) (state new.port) (ledger old.port) (ledger new.port) (same told));
     kept = u.kept;
     are_kept = kept_same old.lost new.lost took u.kept (λ e. sym lost ∙ e) u.are_kept;
@@ -115,12 +115,12 @@ module _ {P : Type 0} (tells : Type 0) (state : P → PortState) (ledger : P →
   }
 
   -- a reply was taken by its connection
-  pub replied : (start : PortView) (old new : WorkerPost P) (reply : Reply) (gave : List Job) (took : List Reply) → IsFit new.worker → setting new.worker ≡ setting old.worker → new.inbox ≡ old.inbox → new.course ≡ old.course → new.lost ≡ old.lost
+  pub replied : (start : PortView) (old new : WorkerPost P) (reply : Reply) (gave : List Job) (took : List Reply) → IsFit new.worker → setting new.worker ≡ setting old.worker → new.inbox ≡ old.inbox → new.mode ≡ old.mode → new.lost ≡ old.lost
       → Continues (ledger old.port) (ledger new.port) → (tells → HasBlame (state old.port) (ledger old.port) (state new.port) (ledger new.port))
       → (tells → (jobs : ℕ → List Job) (replies : List Reply) → Represents old.worker (state old.port) jobs replies → Represents new.worker (state new.port) jobs (replies ++ reply ∷ []))
       → (tells → HoldsOwed old.worker (state old.port) → HoldsOwed new.worker (state new.port))
       → IsMade tells state ledger start old gave took → IsMade tells state ledger start new gave (took ++ reply ∷ [])
-  replied start old new reply gave took fit set inbox course lost on blame takes holds m = record {
+  replied start old new reply gave took fit set inbox mode lost on blame takes holds m = record {
     way = record {
       one = record {
         fit = fit;
@@ -128,10 +128,10 @@ module _ {P : Type 0} (tells : Type 0) (state : P → PortState) (ledger : P →
         number = ap (λ (i : MemInbox). i.worker) inbox ∙ m.way.one.number ∙ sym (ap (λ (s : Setting). s.number) set);
         orderly = subst IsOrderly (sym inbox) m.way.one.orderly;
       };
-      course =
-          rw course
-          (on_then old.course (setting old.worker).phase (setting new.worker).phase (PortFailed start (view_by state ledger old.port)) (PortFailed start (view_by state ledger new.port)) (ap (λ (s : Setting). s.phase) set)
-          (failed_on start (view_by state ledger old.port) (view_by state ledger new.port) on) m.way.course);
+      mode =
+          rw mode
+          (mode_then old.mode (setting old.worker).phase (setting new.worker).phase (PortFailed start (view_by state ledger old.port)) (PortFailed start (view_by state ledger new.port)) (ap (λ (s : Setting). s.phase) set)
+          (failed_on start (view_by state ledger old.port) (view_by state ledger new.port) on) m.way.mode);
       goes_on = goes_then tells start (view_by state ledger old.port) (view_by state ledger new.port) m.way.goes_on on blame;
       kept = m.way.kept ++ reply ∷ [];
       are_kept = rw lost (kept_one old.lost took m.way.kept reply m.way.are_kept);
@@ -146,12 +146,12 @@ module _ {P : Type 0} (tells : Type 0) (state : P → PortState) (ledger : P →
   }
 
   -- its jobs were handed out
-  pub handed : (start : PortView) (old new : WorkerPost P) (given : List Job) (gave : List Job) (took : List Reply) → new.worker ≡ old.worker → new.port ≡ old.port → new.course ≡ old.course → new.lost ≡ old.lost
+  pub handed : (start : PortView) (old new : WorkerPost P) (given : List Job) (gave : List Job) (took : List Reply) → new.worker ≡ old.worker → new.port ≡ old.port → new.mode ≡ old.mode → new.lost ≡ old.lost
       → given ≡ waiting old.inbox → waiting new.inbox ≡ [] → new.inbox.worker ≡ old.inbox.worker → IsUnderWay tells state ledger start old gave took → IsMade tells state ledger start new (gave ++ given) took
-  handed start old new given gave took worker port course lost is none own u = record {
+  handed start old new given gave took worker port mode lost is none own u = record {
     way = record {
       one = rw worker (one_emptied old.worker old.inbox new.inbox u.one none own);
-      course = rw (worker, port, course) u.course;
+      mode = rw (worker, port, mode) u.mode;
       goes_on = rw port u.goes_on;
       kept = u.kept;
       are_kept = rw lost u.are_kept;

@@ -32,19 +32,12 @@ use Rattle.lsv_worker.specs.declared.link.Phase.TheVariants.{Stopping, Failed, S
 use Rattle.lsv_worker.specs.declared.outgoing.Voice.{Voice}
 use Rattle.lsv_worker.specs.declared.outgoing.Voice.TheVariants as voices
 use Rattle.lsv_worker.proofs.Tells.{each_ends}
-use Rattle.lsv_post.proofs.Bringing.{all_bad, bad_behind, bad_front, brings, ends_whole}
-use Rattle.lsv_post.proofs.Replying.{early_shuts, not_on}
-use Rattle.lsv_post.proofs.Seats.{SeatOf, SeatOf.taken, SeatOf.free, seat_below, seat_is, seat_of, seats_apart}
+use Rattle.lsv_post.proofs.BoolLemmas.{false_or, true_or}
+use Rattle.lsv_post.proofs.BodyLemmas.{all_bad, bad_behind, bad_front, brings, ends_whole}
+use Rattle.lsv_post.proofs.ReplyLemmas.{early_shuts, not_on}
+use Rattle.lsv_post.proofs.SeatLemmas.{SeatOf, SeatOf.taken, SeatOf.free, seat_below, seat_is, seat_of, seats_apart}
 
--- ---- Bits
-
-true_or : (b : Bool) → (b ≡ false → ⊥) → b ≡ true
-true_or true not_so = refl
-true_or false not_so = absurd (not_so refl)
-
-false_or : (b : Bool) → (b ≡ true → ⊥) → b ≡ false
-false_or true not_so = absurd (not_so refl)
-false_or false not_so = refl
+-- ---- Whether nothing more comes of a link
 
 done_says : (live shut left kept : Bool) → ((not live && (shut && left)) && kept) ≡ true → (live ≡ false) × (kept ≡ true)
 done_says true shut left kept e = absurd (cc)

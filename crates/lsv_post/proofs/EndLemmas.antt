@@ -16,37 +16,37 @@ use Rattle.lsv_worker.specs.Worker.{Stands, setting}
 use Rattle.lsv_worker.specs.declared.link.Link.{Link}
 use Rattle.lsv_worker.specs.declared.link.Phase.{Phase}
 use Rattle.lsv_worker.specs.declared.link.Phase.TheVariants as phases
-use Rattle.lsv_post.specs.InnerPost.{IsMade, IsOn, ended_by}
+use Rattle.lsv_post.specs.InnerPost.{IsMade, IsInMode, ended_by}
 use Rattle.lsv_post.specs.Ports.{view_by}
-use Rattle.lsv_post.specs.declared.course.Course.{Course}
-use Rattle.lsv_post.specs.declared.course.Course.TheVariants.{Going, Failing, Stopping, Failed}
+use Rattle.lsv_post.specs.declared.mode.Mode.{Mode}
+use Rattle.lsv_post.specs.declared.mode.Mode.TheVariants.{Going, Failing, Stopping, Failed}
 use Rattle.lsv_post.specs.declared.post.WorkerPost.{WorkerPost}
-use Rattle.lsv_post.proofs.Serving.{HasEnded, serves_port}
+use Rattle.lsv_post.proofs.LinkLemmas.{HasEnded, serves_port}
 
--- on this course a post ends
-abbrev pub IsOver : Course → Type 0
-IsOver course = (course ≡ Stopping) ⊎ (course ≡ Failed)
+-- in this mode a post ends
+abbrev pub IsOver : Mode → Type 0
+IsOver mode = (mode ≡ Stopping) ⊎ (mode ≡ Failed)
 
-pub course_stopped : (course : Course) → ended_by course ≡ Some ends.Stopped → course ≡ Stopping
-course_stopped Going e = absurd (cc)
-course_stopped Failing e = absurd (cc)
-course_stopped Stopping e = refl
-course_stopped Failed e = absurd (cc)
+pub mode_stopped : (mode : Mode) → ended_by mode ≡ Some ends.Stopped → mode ≡ Stopping
+mode_stopped Going e = absurd (cc)
+mode_stopped Failing e = absurd (cc)
+mode_stopped Stopping e = refl
+mode_stopped Failed e = absurd (cc)
 
-pub course_failed : (course : Course) → ended_by course ≡ Some ends.Failed → course ≡ Failed
-course_failed Going e = absurd (cc)
-course_failed Failing e = absurd (cc)
-course_failed Stopping e = absurd (cc)
-course_failed Failed e = refl
+pub mode_failed : (mode : Mode) → ended_by mode ≡ Some ends.Failed → mode ≡ Failed
+mode_failed Going e = absurd (cc)
+mode_failed Failing e = absurd (cc)
+mode_failed Stopping e = absurd (cc)
+mode_failed Failed e = refl
 
--- the phase of its worker, and that its port failed, by its course
-phase_over : (course : Course) (phase : Phase) (F : Type 0) → IsOver course → IsOn course phase F → (phase ≡ phases.Stopping) ⊎ ((phase ≡ phases.Failed) × F)
-phase_over course phase F over on =
-    ⊎_elim (λ e. inl (subst (λ (c : Course). IsOn c phase F) e on))
-    (λ e. let f : IsOn Failed phase F = subst (λ (c : Course). IsOn c phase F) e on in ⊎_elim (λ a. inr (a, f.1)) (λ b. inl b) f.0) over
+-- the phase of its worker, and that its port failed, by its mode
+phase_over : (mode : Mode) (phase : Phase) (F : Type 0) → IsOver mode → IsInMode mode phase F → (phase ≡ phases.Stopping) ⊎ ((phase ≡ phases.Failed) × F)
+phase_over mode phase F over on =
+    ⊎_elim (λ e. inl (subst (λ (c : Mode). IsInMode c phase F) e on))
+    (λ e. let f : IsInMode Failed phase F = subst (λ (c : Mode). IsInMode c phase F) e on in ⊎_elim (λ a. inr (a, f.1)) (λ b. inl b) f.0) over
 
-pub port_failed : (course : Course) (phase : Phase) (F : Type 0) → course ≡ Failed → IsOn course phase F → F
-port_failed course phase F e on = let f : IsOn Failed phase F = subst (λ (c : Course). IsOn c phase F) e on in f.1
+pub port_failed : (mode : Mode) (phase : Phase) (F : Type 0) → mode ≡ Failed → IsInMode mode phase F → F
+port_failed mode phase F e on = let f : IsInMode Failed phase F = subst (λ (c : Mode). IsInMode c phase F) e on in f.1
 
 module _ {P : Type 0} (tells : Type 0) (state : P → PortState) (ledger : P → PortLedger) (start : PortView) (post : WorkerPost P) (gave : List Job) (took : List Reply) (told : tells) (made : IsMade tells state ledger start post gave took) (whole : post.lost ≡ false) (none : post.worker.links.items ≡ []) where
   stands : Stands (setting post.worker) [] (state post.port) (λ lane. jobs_in lane gave) took
@@ -55,19 +55,19 @@ module _ {P : Type 0} (tells : Type 0) (state : P → PortState) (ledger : P →
       (subst (λ (js : List Job). Stands (setting post.worker) [] (state post.port) (λ lane. jobs_in lane js) made.way.kept) (ap (λ (w : List Job). gave ++ w) made.given ∙ append-nil gave)
       (subst (λ (l : List Link). Stands (setting post.worker) l (state post.port) (λ lane. jobs_in lane (gave ++ waiting post.inbox)) made.way.kept) none (made.way.stands told).represents))
 
-  has_ended : IsOver post.course → HasEnded (setting post.worker) start (view_by state ledger post.port) gave took
+  has_ended : IsOver post.mode → HasEnded (setting post.worker) start (view_by state ledger post.port) gave took
   has_ended over = record {
     stands = stands;
     unopened = made.way.goes_on.unopened told;
     blame = made.way.goes_on.blame told;
     continues = made.way.goes_on.continues;
-    over = phase_over post.course (setting post.worker).phase (PortFailed start (view_by state ledger post.port)) over made.way.course;
+    over = phase_over post.mode (setting post.worker).phase (PortFailed start (view_by state ledger post.port)) over made.way.mode;
   }
 
   -- each link of its port was served
-  pub served : ((bytes : List ℕ) → All (λ b. b < 256) bytes → (jobs : List Body) × AreJobs bytes jobs) → IsOver post.course → ServesPort (AreAsked gave took) (setting post.worker).number gave took start (view_by state ledger post.port)
+  pub served : ((bytes : List ℕ) → All (λ b. b < 256) bytes → (jobs : List Body) × AreJobs bytes jobs) → IsOver post.mode → ServesPort (AreAsked gave took) (setting post.worker).number gave took start (view_by state ledger post.port)
   served always over = serves_port always (setting post.worker) start (view_by state ledger post.port) gave took (has_ended over)
 
   -- its port told Stop, where it ended so
-  pub was_stopped : post.course ≡ Stopping → (state post.port).stopped ≡ true
-  was_stopped e = stands.stop (subst (λ (c : Course). IsOn c (setting post.worker).phase (PortFailed start (view_by state ledger post.port))) e made.way.course)
+  pub was_stopped : post.mode ≡ Stopping → (state post.port).stopped ≡ true
+  was_stopped e = stands.stop (subst (λ (c : Mode). IsInMode c (setting post.worker).phase (PortFailed start (view_by state ledger post.port))) e made.way.mode)

@@ -1,0 +1,11 @@
+pub mod Waiting
+pub mod Asked
+pub mod Beside
+pub mod Numbers
+pub mod Alone
+pub mod Twins
+pub mod Tails
+pub mod Behind
+pub mod Living
+pub mod Served
+pub mod Refusing
