@@ -2,6 +2,8 @@
 //! are.
 #![tactic(auto)]
 
+ghost use Rattle.std.specs.Prelude.{◌≤◌, IfOk};
+
 mod store;
 
 use crate::store::Store;
@@ -25,7 +27,10 @@ fn show(rt: &HostRuntime, end: &LoadEnd) -> Result<()> {
 }
 
 /// How many conversations are asked for.
-fn count_of(word: &str) -> Result<u32> {
+fn count_of(word: &str) -> Result<u32>
+    ensures first { IfOk result (λ count. 1 ≤ count) }
+    ensures last { IfOk result (λ count. count ≤ 10000) }
+{
     let count = word.parse::<u32>()?;
     if count < 1 || count > 10_000 {
         return Err(anyhow!("a number from 1 to 10,000"));

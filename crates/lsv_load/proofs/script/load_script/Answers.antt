@@ -14,8 +14,8 @@ links_more : (n : ℕ) (steps one two three : List Step) (bytes : List ℕ) → 
 links_more n steps one two three bytes so_far sent a b c =
     c ∙ ap (λ (xs : List Step). xs ++ Last (n + 1) ∷ []) (b ∙ ap (λ (xs : List Step). xs ++ Give (n + 1) bytes ∷ []) a) ∙ joined steps (Open (n + 1)) (Give (n + 1) bytes) (Last (n + 1))
     ∙ ap (λ (bs : List ℕ). steps ++ Open (n + 1) ∷ Give (n + 1) bs ∷ Last (n + 1) ∷ []) sent ∙ ap (λ (xs : List Step). xs ++ link_steps (n + 1)) so_far ∙ all_more n where
-  all_more : (k : ℕ) → all_links k ++ link_steps (k + 1) ≡ all_links (k + 1)
-  all_more k = rw (add-one k) refl
+      all_more : (k : ℕ) → all_links k ++ link_steps (k + 1) ≡ all_links (k + 1)
+      all_more k = rw (add-one k) refl
 
 pub loop-before-preserved : goal.loop-before-preserved
 loop-before-preserved c =
