@@ -62,6 +62,12 @@ store()
 load(300)
 load(300)
 told_drawn()
+title("the first call on the disk fails: the store isn't opened, and a second load finds it whole")
+drawn = 0
+case("fail 1")
+case("load 1", "a call on a file of the store failed")
+load(1)
+told_drawn()
 title("no case")
 case("loads 3", "loads 3")
 

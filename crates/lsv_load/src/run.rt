@@ -1,9 +1,8 @@
 //! A load: its conversations are served over a store, and then the logs that they left are summed up.
 
-ghost use Rattle.std.specs.Prelude.{◌≡◌, ◌≤◌, [], List, IfOk, IfErr, OnOk, OnErr};
+ghost use Rattle.std.specs.Prelude.{◌≡◌, ◌≤◌, [], List, IfOk, OnOk, OnErr};
 ghost use Rattle.std.specs.Mem.{FitsInMemory};
 ghost use Rattle.lsv_disk.specs.Throughout.{OnlyReads};
-ghost use Rattle.lsv_keeper.specs.declared.fault.StoreFault.{StoreFault};
 ghost use Rattle.lsv_lane.specs.InnerLane.{Begun};
 ghost use Rattle.lsv_lane.specs.Store.{IsFresh, lane_settings};
 ghost use Rattle.lsv_reactor.specs.Turns.{AreSized};
