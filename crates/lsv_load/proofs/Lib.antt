@@ -2,4 +2,5 @@ mod Adding
 mod Holding
 mod Opened
 mod Summing
+mod Sending
 mod Running

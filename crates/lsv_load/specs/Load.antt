@@ -1,6 +1,7 @@
 -- What happens at the port of a load.
-use Rattle.std.specs.Prelude.{ℕ, zero, suc, List, [], ◌∷◌, ◌++◌}
+use Rattle.std.specs.Prelude.{ℕ, zero, suc, true, List, [], ◌∷◌, ◌++◌}
 use Rattle.lsv_gen.specs.Load.{conversation}
+use Rattle.lsv_port.specs.Memory.Script.{Sent}
 use Rattle.lsv_port.specs.declared.step.Step.{Step}
 use Rattle.lsv_port.specs.declared.step.Step.TheVariants.{Give, Last, Open, Stop}
 
@@ -16,3 +17,7 @@ all_links (suc n) = all_links n ++ link_steps (suc n)
 -- the script of a load of so many conversations: Stop comes last
 abbrev pub load_script : ℕ → List Step
 load_script n = all_links n ++ Stop ∷ []
+
+-- what is sent on the link of conversation i: its bytes, and their end
+abbrev pub whole_sent : ℕ → Sent
+whole_sent i = record { opened = true; bytes = conversation i; ended = true }

@@ -6,7 +6,7 @@ use Rattle.lsv_gen.specs.Summary.{summary}
 use Rattle.lsv_keeper.specs.declared.fault.StoreFault.{StoreFault}
 use Rattle.lsv_keeper.specs.declared.fault.StoreFault.TheVariants as faults
 use Rattle.lsv_machine.specs.Machine.{Settings}
-use Rattle.lsv_port.specs.Memory.Value.{PortValue, TellsScript, port_ledger, port_state}
+use Rattle.lsv_port.specs.Memory.Value.{PortValue, TellsScript, TellsSteps, port_ledger, port_state}
 use Rattle.lsv_reactor.specs.Links.{PortView, ServesPort}
 use Rattle.lsv_reactor.specs.declared.rounds.PortsEnd.TheVariants.{Stopped}
 use Rattle.lsv_record.specs.Points.{Stored}
@@ -46,6 +46,7 @@ pub record ServesLoad (lane_tells : Type 0) (count : ℕ) (turns : List LaneTurn
   pub begun : IsNew count old
   pub served : ServesOne lane_tells turns (view_of old) (view_of new)
   pub script : TellsScript (load_script count) (port_state new)
+  pub all : TellsSteps (load_script count) (port_state new)
   pub unrefused : new.refused ≡ 0
 
 -- ---- The run

@@ -2,10 +2,12 @@
 //! summed up.
 #![tactic(auto)]
 
+mod laws;
 mod logs;
 mod numbering;
 mod replay;
 mod run;
 mod script;
 
+pub use laws::a_load_sends_its_conversations;
 pub use run::{LoadEnd, run_load};
