@@ -14,7 +14,7 @@ use Rattle.lsv_bundle.specs.Body.{length_of}
 use Rattle.lsv_bundle.specs.Committed.{Committed, HasPrefix, HoldsEntry, IsShort}
 use Rattle.lsv_bundle.specs.Shape.{IsPart, on_shape}
 use Rattle.lsv_info.specs.declared.times.Head.{Head}
-use Rattle.lsv_iolog.specs.Recovered.{HasExit, HoldsLog, IsLog, Replays, laid_in, owner_of}
+use Rattle.lsv_iolog.specs.Recovered.{HasExit, HoldsLog, IsLog, Replays, owner_of}
 use Rattle.lsv_iolog.proofs.Replaying.{on_log, same_laid}
 use Rattle.lsv_iolog.proofs.Viewing.{all_there}
 use Rattle.lsv_playback.specs.Playing.{AreAll, IsOpened, laid_at, text_at}

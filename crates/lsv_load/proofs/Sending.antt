@@ -1,15 +1,14 @@
 -- What the script of a load sends on each link, and that all of it was taken where Stop was told.
-use Rattle.std.proofs.Common.{◌≡◌, ◌∙◌, ◌⊎◌, inl, inr, ◌+◌, ◌<◌, ◌≤◌, ◌==◌, ◌++◌, ℕ, zero, suc, Bool, List, [], ◌∷◌, length, take, cond, refl, sym, ap, subst, arith}
-use Rattle.std.specs.Prelude.{true, false, nat_lt}
+use Rattle.std.proofs.Common.{◌≡◌, ◌∙◌, ◌⊎◌, inl, inr, ◌<◌, ◌≤◌, ◌==◌, ◌++◌, ℕ, zero, suc, List, [], ◌∷◌, length, take, refl, sym, ap, subst, arith}
+use Rattle.std.specs.Prelude.{true, false}
 use Rattle.std.specs.List.{Contains, fold, slice_index_or}
 use Rattle.std.proofs.lemmas.Bool.Decides.{nat_tests}
 use Rattle.std.proofs.lemmas.List.Sums.{fold-append}
-use Rattle.lsv_gen.specs.Load.{conversation}
 use Rattle.lsv_port.specs.Memory.Script.{Sent, may_open, sent_by, sent_next, unsent}
 use Rattle.lsv_port.specs.Memory.Value.{TellsScript, TellsSteps}
 use Rattle.lsv_port.specs.Port.{PortState}
 use Rattle.lsv_port.specs.declared.step.Step.{Step}
-use Rattle.lsv_port.specs.declared.step.Step.TheVariants.{Give, Last, Open, Stop}
+use Rattle.lsv_port.specs.declared.step.Step.TheVariants.{Stop}
 use Rattle.lsv_load.specs.Load.{all_links, link_steps, load_script, whole_sent}
 
 -- ---- What is sent

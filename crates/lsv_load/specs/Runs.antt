@@ -1,5 +1,5 @@
 -- A load: the conversations were served from a port of their own, and then the logs of which the replies told were summed up.
-use Rattle.std.specs.Prelude.{◌≡◌, ◌⊎◌, ℕ, Bool, true, false, List, [], ◌∷◌}
+use Rattle.std.specs.Prelude.{◌≡◌, ◌⊎◌, ℕ, true, false, List, []}
 use Rattle.lsv_disk.specs.Throughout.{OnlyReads}
 use Rattle.lsv_disk.specs.View.{DiskView}
 use Rattle.lsv_gen.specs.Summary.{summary}

@@ -1,4 +1,4 @@
-use Rattle.std.proofs.Common.{◌≡◌, ◌∙◌, ◌⊎◌, inl, inr, ◌<◌, ◌≤◌, ℕ, ap, subst, sym, arith}
+use Rattle.std.proofs.Common.{◌≡◌, ◌∙◌, ◌⊎◌, inl, inr, ◌<◌, ℕ, subst, sym, arith}
 use Rattle.lsv_port.specs.Memory.Script.{sent_by, unsent}
 use Rattle.lsv_load.specs.Load.{load_script}
 use Rattle.lsv_load.proofs.Sending.{above, at_zero, tells_all, with_stop, within}

@@ -1,15 +1,15 @@
 -- A log is opened, its last entry is one that a log may have, and its records are added.
-use Rattle.std.proofs.Common.{◌≡◌, ◌∙◌, ◌==◌, ℕ, [], Some, sym, ap, subst}
+use Rattle.std.proofs.Common.{◌∙◌, ◌==◌, ℕ, Some, sym, ap, subst}
 use Rattle.lsv_disk.specs.View.{DiskView, Image}
 use Rattle.lsv_disk.proofs.Composition.{reads_trans}
 use Rattle.lsv_bundle.specs.declared.body.Body.{Body}
 use Rattle.lsv_iolog.specs.declared.fault.LogFault.TheVariants as logs
 use Rattle.lsv_iolog.specs.Recovered.{Replays}
 use Rattle.lsv_iolog.proofs.Viewing.{err_of}
-use Rattle.lsv_playback.specs.Playing.{IsOpened, text_at}
+use Rattle.lsv_playback.specs.Playing.{text_at}
 use Rattle.lsv_disk.specs.declared.file.Part.TheVariants.{Exit}
 use Rattle.lsv_record.specs.Points.{Stored}
-use Rattle.lsv_load.specs.InnerSums.{AddsAll, IsFitting, IsUnread}
+use Rattle.lsv_load.specs.InnerSums.{IsFitting, IsUnread}
 use Rattle.lsv_load.proofs.Adding.{err_holds, same_image}
 use Rattle.lsv_load.proofs.Holding.{entry_fits, exit_some, log_of, replays_log}
 use Rattle.lsv_load.proofs.Opened.{damage_unread, open_fails, opened_now, unread_before}

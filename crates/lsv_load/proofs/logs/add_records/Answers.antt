@@ -1,6 +1,5 @@
 -- Each record that the log gives is added; its end, or a fault, ends the adding.
-use Rattle.std.proofs.Common.{◌≡◌, ◌∙◌, ◌++◌, List, [], ◌∷◌, Option}
-use Rattle.lsv_disk.specs.View.{DiskView}
+use Rattle.std.proofs.Common.{◌++◌, List, [], ◌∷◌, Option}
 use Rattle.lsv_disk.proofs.Composition.{reads_trans}
 use Rattle.lsv_iolog.specs.declared.fault.LogFault.TheVariants as logs
 use Rattle.lsv_iolog.specs.Reading.{IsBehind, IsWhole}

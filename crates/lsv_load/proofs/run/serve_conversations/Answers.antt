@@ -1,10 +1,9 @@
 -- The port in memory was served, and it told its script.
-use Rattle.std.proofs.Common.{◌≡◌, ◌∙◌, ℕ, List, [], sym, ap, subst, arith}
+use Rattle.std.proofs.Common.{◌≡◌, ◌∙◌, List, sym, subst, arith}
 use Rattle.lsv_port.specs.Memory.Value.{TellsScript, port_state}
 use Rattle.lsv_port.specs.declared.step.Step.{Step}
-use Rattle.lsv_reactor.specs.Links.{PortView}
 use Rattle.lsv_load.specs.Load.{load_script}
-use Rattle.lsv_load.specs.Runs.{IsNew, ServesOne, view_of}
+use Rattle.lsv_load.specs.Runs.{ServesOne, view_of}
 use Rattle.lsv_load.proofs.Sending.{tells_all}
 use Rattle.lsv_load.proofs.run.serve_conversations.Goals as goal
 

@@ -1,6 +1,5 @@
 -- What the turns did with the store, by what serving came to.
-use Rattle.std.proofs.Common.{◌≡◌, ◌≢◌, [], List, ℕ}
-use Rattle.lsv_turns.specs.Turns.{LaneTurn}
+use Rattle.std.proofs.Common.{◌≢◌, []}
 use Rattle.lsv_load.proofs.Running.{err_any, keeps_less, ok_all}
 use Rattle.lsv_load.proofs.run.serve_lane.Goals as goal
 

@@ -1,5 +1,5 @@
 -- A post alone has place 0.
-use Rattle.std.proofs.Common.{◌≡◌, ◌∙◌, ℕ, List, [], ◌∷◌, Some, length, refl, sym, subst}
+use Rattle.std.proofs.Common.{◌≡◌, ◌∙◌, ℕ, [], Some, length}
 use Rattle.std.specs.Prelude.{slice_get, slice_index_or}
 use Rattle.lsv_load.proofs.Running.{first_there, only_one, only_place}
 use Rattle.lsv_load.proofs.run.serve_one.Goals as goal
