@@ -92,6 +92,10 @@ idle_store tells taping set texts disk tape only_now = record {
   keeps = λ told. idle_keeps disk (only_now told) (IsUp ends.NoMem []) set texts (λ up. up refl);
 }
 
+pub idle_run : (tells taping telling : Type 0) (set : Settings) (texts : List (List ℕ)) (disk : DiskView) (tape : List TapeTurn) (ports ports' : List PortView) → (tells → (image : Image) → disk.crash_images_at disk.moment image → IsCrashImage disk image)
+    → RunsTo set texts (record { disk_tells = tells; tape_tells = taping; ports_tell = telling; disk = disk; tape = tape; ports = ports }) (record { disk_tells = tells; tape_tells = taping; ports_tell = telling; disk = disk; tape = tape; ports = ports' }) ends.NoMem
+idle_run tells taping telling set texts disk tape ports ports' only_now = record { turns = []; store = idle_store tells taping set texts disk tape only_now; links = λ end over. absurd (cc) }
+
 -- ---- Its end
 
 -- what is said of a run from the disk with its places, is said of it from the disk before
