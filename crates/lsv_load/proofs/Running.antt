@@ -97,9 +97,9 @@ not_up (faults.LanesDiffer kept asked) up = up
 
 -- a load whose store isn't opened runs no turn
 pub runs_unopened : {D : Type 0} (tells taping : Type 0) (view : D → DiskView) (set : Settings) (texts : List (List ℕ)) (count : ℕ) (found left : D) (tape tape' : List TapeTurn) (fault : StoreFault) (end : LoadEnd) → end ≡ ended_by fault → tape' ≡ tape
-    → (tells → KeepsStore ⊥ set texts (record { found = view found; left = view left }) []) → (tells → OnlyNow (view left)) → (tells → (view left).places ≡ (view found).places)
+    → (tells → KeepsStore ⊥ set texts (record { found = view found; left = view left }) []) → (tells → OnlyNow (view left))
     → (tells → IsStoreFault 0 1 (view found).reads fault) → ((o : Owner) → fault ≡ faults.Device o → OwnerFailed o (view found) (view left)) → RunsLoad tells taping view set texts count found left tape tape' end
-runs_unopened tells taping view set texts count found left tape tape' fault end ends same keeps now places is failed = record {
+runs_unopened tells taping view set texts count found left tape tape' fault end ends same keeps now is failed = record {
   turns = [];
   served = left;
   up = unopened fault;
@@ -111,6 +111,5 @@ runs_unopened tells taping view set texts count found left tape tape' fault end 
     keeps = λ told. keeps_less ⊥ (IsUp (unopened fault) []) set texts (record { found = view found; left = view left }) [] (not_up fault) (keeps told);
   };
   read = λ told. reads_nothing (view left) (now told);
-  places = places;
   ends = subst (EndsLoad tells count [] (view found) (view left) (view left) (unopened fault)) (sym ends) (not_opened tells count (view found) (view left) (view left) fault is failed);
 }

@@ -88,5 +88,4 @@ pub record RunsLoad {D : Type 0} (disk_tells tape_tells : Type 0) (view : D → 
   pub up : End
   pub store : RunsStore disk_tells tape_tells set texts (view found) (view served) tape tape' up turns
   pub read : disk_tells → OnlyReads (view served) (view left)
-  pub places : disk_tells → (view left).places ≡ (view found).places
   pub ends : EndsLoad disk_tells count turns (view found) (view served) (view left) up end

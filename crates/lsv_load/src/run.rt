@@ -139,8 +139,9 @@ fn load_lane<D: Disk, C: Clock, G: Tape, F: LineWriter + Drop, H: Search + Drop>
 ) -> (Bay<D, C, G>, LoadEnd)
     requires last { count ≤ 10000 }
     requires lane { (start : Begun D G) × ⟦<StoreLane<D, C, G, F, H> as Lane>⟧.made_by start lane [] }
-    ensures { (start : Begun D G) → ⟦<StoreLane<D, C, G, F, H> as Lane>⟧.made_by start lane [] →
+    ensures runs { (start : Begun D G) → ⟦<StoreLane<D, C, G, F, H> as Lane>⟧.made_by start lane [] →
         RunsLoad D.tells G.tells D.view start.set start.texts count start.disk result.0.disk (G.turns start.tape) (G.turns result.0.tape) result.1 }
+    ensures places { D.tells → (start : Begun D G) → ⟦<StoreLane<D, C, G, F, H> as Lane>⟧.made_by start lane [] → (D.view result.0.disk).places ≡ (D.view start.disk).places }
 {
     let (bay, numbers) = serve_lane(alloc, count, lane);
     let mut bay = bay;
@@ -165,7 +166,8 @@ pub fn run_load<D: Disk, C: Clock, G: Tape, F: LineWriter + Drop, H: Search + Dr
     requires first { 1 ≤ count }
     requires last { count ≤ 10000 }
     requires fresh { D.tells → IsFresh 0 1 (D.view bay.disk) }
-    ensures { RunsLoad D.tells G.tells D.view (lane_settings 0 1 plan.formatter.kind plan.log_exit) plan.texts count bay.disk result.0.disk (G.turns bay.tape) (G.turns result.0.tape) result.1 }
+    ensures runs { RunsLoad D.tells G.tells D.view (lane_settings 0 1 plan.formatter.kind plan.log_exit) plan.texts count bay.disk result.0.disk (G.turns bay.tape) (G.turns result.0.tape) result.1 }
+    ensures places { D.tells → (D.view result.0.disk).places ≡ (D.view bay.disk).places }
 {
     let Plan {
         formatter,
