@@ -1,7 +1,7 @@
 //! The program: its words and its settings file, and the command that they ask for.
 
 ghost use Rattle.std.specs.Prelude.{◌≡◌, ◌≤◌, ◌⊎◌, ℕ, List, [], Option, Some, None, length, slice_get, Err, IfOk, IfErr, OnOk, unwrap_or};
-ghost use Rattle.lsv_args.specs.Reading as words;
+ghost use Rattle.lsv_args.specs.Reading as told;
 ghost use Rattle.lsv_args.specs.Reading.{Asked, IsInRange, Load, Once, Serve, asked_in};
 ghost use Rattle.lsv_conf.specs.Lines.{first_refused};
 ghost use Rattle.lsv_conf.specs.Settings.{settings_in};
@@ -270,17 +270,17 @@ pub fn logsrvd<
     ensures other_words { ((a : Asked) → Asks words.now a → ⊥) → (result.1 ≡ Status.Usage) ⊎ (result.1 ≡ Status.NoMem) }
     ensures unchanged { ((a : Asked) → Asks words.now a → ⊥) → result.0 ≡ out }
     ensures unserved { (line : ℕ) → result.1 ≡ Status.Conf line → (result.0.source ≡ out.source) × (result.0.sink ≡ out.sink) × (result.0.disk ≡ out.disk) × (result.0.clock ≡ out.clock) }
-    ensures once { (o : words.Options) → Asks words.now (Once o) → AsFound T.tells o.conf (T.texts out.texts) (λ found. OnceAs found (T.faults out.texts) (T.faults result.0.texts)
+    ensures once { (o : told.Options) → Asks words.now (Once o) → AsFound T.tells o.conf (T.texts out.texts) (λ found. OnceAs found (T.faults out.texts) (T.faults result.0.texts)
         (world_of ⟦<S as Source>⟧ ⟦<K as Sink>⟧ ⟦<D as Disk>⟧ out.source out.sink out.disk)
         (world_of ⟦<S as Source>⟧ ⟦<K as Sink>⟧ ⟦<D as Disk>⟧ result.0.source result.0.sink result.0.disk) result.1) }
-    ensures serves { (o : words.Options) → Asks words.now (Serve o) → AsFound T.tells o.conf (T.texts out.texts) (λ found. ServesAs found (T.faults out.texts) (T.faults result.0.texts)
+    ensures serves { (o : told.Options) → Asks words.now (Serve o) → AsFound T.tells o.conf (T.texts out.texts) (λ found. ServesAs found (T.faults out.texts) (T.faults result.0.texts)
         (server_of ⟦<P as Port>⟧ ⟦<D as Disk>⟧ ⟦<G as Tape>⟧ out.ports.items out.disk out.tape)
         (server_of ⟦<P as Port>⟧ ⟦<D as Disk>⟧ ⟦<G as Tape>⟧ result.0.ports.items result.0.disk result.0.tape) result.1) }
-    ensures loads { (o : words.Options) (count : ℕ) → Asks words.now (Load o count) → AsFound T.tells o.conf (T.texts out.texts) (λ found. LoadsAs G.tells D.view found (T.faults out.texts) (T.faults result.0.texts) count
+    ensures loads { (o : told.Options) (count : ℕ) → Asks words.now (Load o count) → AsFound T.tells o.conf (T.texts out.texts) (λ found. LoadsAs G.tells D.view found (T.faults out.texts) (T.faults result.0.texts) count
         (world_of ⟦<S as Source>⟧ ⟦<K as Sink>⟧ ⟦<D as Disk>⟧ out.source out.sink out.disk)
         (world_of ⟦<S as Source>⟧ ⟦<K as Sink>⟧ ⟦<D as Disk>⟧ result.0.source result.0.sink result.0.disk)
         out.disk result.0.disk (G.turns out.tape) (G.turns result.0.tape) result.1) }
-    ensures beside { (o : words.Options) → Asks words.now (Serve o) → (result.0.source ≡ out.source) × (result.0.sink ≡ out.sink) }
+    ensures beside { (o : told.Options) → Asks words.now (Serve o) → (result.0.source ≡ out.source) × (result.0.sink ≡ out.sink) }
 {
     let command = match command_of(alloc, words) {
         Ok(command) => command,

@@ -1,0 +1,54 @@
+use Rattle.std.proofs.Common.{◌≡◌, ◌∙◌, refl, ap, inl, List, ℕ, Option, Err}
+use Rattle.lsv_args.specs.Reading.{Load, Once, Serve}
+use Rattle.lsv_serve.specs.declared.status.Status.TheVariants as status
+use Rattle.lsv_serve.specs.Serve.{ServerWorld, server_of}
+use Rattle.lsv_serve.specs.World.{World, world_of}
+use Rattle.lsv_serve.proofs.LoadLemmas.{loads_unread}
+use Rattle.lsv_serve.proofs.OnceLemmas.{once_unread}
+use Rattle.lsv_serve.proofs.ServeLemmas.{serves_unread}
+use Rattle.lsv_serve.proofs.program.logsrvd.Goals as goal
+
+pub returns-in-Err-Usage-clause-once : goal.returns-in-Err-Usage-clause-once
+returns-in-Err-Usage-clause-once g c = λ o asks. absurd (c.command_of.ensures.usage (c.in-Err-Usage.is ∙ ap Err c.in-Err-Usage.field-0-is) (Once o) asks)
+
+pub returns-in-Err-Usage-clause-serves : goal.returns-in-Err-Usage-clause-serves
+returns-in-Err-Usage-clause-serves g c = λ o asks. absurd (c.command_of.ensures.usage (c.in-Err-Usage.is ∙ ap Err c.in-Err-Usage.field-0-is) (Serve o) asks)
+
+pub returns-in-Err-Usage-clause-loads : goal.returns-in-Err-Usage-clause-loads
+returns-in-Err-Usage-clause-loads g c = λ o count asks. absurd (c.command_of.ensures.usage (c.in-Err-Usage.is ∙ ap Err c.in-Err-Usage.field-0-is) (Load o count) asks)
+
+pub returns-in-Err-NoMem-clause-once : goal.returns-in-Err-NoMem-clause-once
+returns-in-Err-NoMem-clause-once g c = λ o asks.
+    let w : World = world_of g.S.Source g.K.Sink g.D.Disk c.args.out.source c.args.out.sink c.args.out.disk in
+    let found : Option (List ℕ) = g.T.Texts.texts c.args.out.texts o.conf in
+    (found, λ told. refl, once_unread w (λ told image is. g.met.D.Disk.only_now told c.args.out.disk image is) found (g.T.Texts.faults c.args.out.texts) (g.T.Texts.faults c.args.out.texts) status.NoMem (inl refl))
+
+pub returns-in-Err-NoMem-clause-serves : goal.returns-in-Err-NoMem-clause-serves
+returns-in-Err-NoMem-clause-serves g c = λ o asks.
+    let w : ServerWorld = server_of g.P.Port g.D.Disk g.G.Tape c.args.out.ports.items c.args.out.disk c.args.out.tape in
+    let found : Option (List ℕ) = g.T.Texts.texts c.args.out.texts o.conf in
+    (found, λ told. refl, serves_unread found (g.T.Texts.faults c.args.out.texts) (g.T.Texts.faults c.args.out.texts) w status.NoMem (λ told image is. g.met.D.Disk.only_now told c.args.out.disk image is) (inl refl))
+
+pub returns-in-Err-NoMem-clause-loads : goal.returns-in-Err-NoMem-clause-loads
+returns-in-Err-NoMem-clause-loads g c = λ o count asks.
+    let w : World = world_of g.S.Source g.K.Sink g.D.Disk c.args.out.source c.args.out.sink c.args.out.disk in
+    let found : Option (List ℕ) = g.T.Texts.texts c.args.out.texts o.conf in
+    (found, λ told. refl, loads_unread g.G.Tape.tells g.D.Disk.view count w c.args.out.disk (g.G.Tape.turns c.args.out.tape) found (g.T.Texts.faults c.args.out.texts) (g.T.Texts.faults c.args.out.texts) status.NoMem (λ told image is. g.met.D.Disk.only_now told c.args.out.disk image is) (inl refl))
+
+pub returns-in-Once-clause-other_words : goal.returns-in-Once-clause-other_words
+returns-in-Once-clause-other_words g c = λ none. absurd (none _ c.in-Ok.ensures.ok)
+
+pub returns-in-Once-clause-unchanged : goal.returns-in-Once-clause-unchanged
+returns-in-Once-clause-unchanged g c = λ none. absurd (none _ c.in-Ok.ensures.ok)
+
+pub returns-in-Serve-clause-other_words : goal.returns-in-Serve-clause-other_words
+returns-in-Serve-clause-other_words g c = λ none. absurd (none _ c.in-Ok.ensures.ok)
+
+pub returns-in-Serve-clause-unchanged : goal.returns-in-Serve-clause-unchanged
+returns-in-Serve-clause-unchanged g c = λ none. absurd (none _ c.in-Ok.ensures.ok)
+
+pub returns-in-Load-clause-other_words : goal.returns-in-Load-clause-other_words
+returns-in-Load-clause-other_words g c = λ none. absurd (none _ c.in-Ok.ensures.ok)
+
+pub returns-in-Load-clause-unchanged : goal.returns-in-Load-clause-unchanged
+returns-in-Load-clause-unchanged g c = λ none. absurd (none _ c.in-Ok.ensures.ok)
