@@ -8,6 +8,7 @@ pub mod EndLemmas
 pub mod StartLemmas
 pub mod ProgramLemmas
 pub mod OnceLemmas
+pub mod PostLemmas
 pub mod ServeLemmas
 pub mod TextLemmas
 mod CompleteLemmas

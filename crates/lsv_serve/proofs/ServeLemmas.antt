@@ -74,6 +74,14 @@ module _ {T : Type 0} (tells lane_tells : Type 0) (view : T → PortView) (olds 
 
 -- ---- A run that did nothing
 
+idle_keeps : (disk : DiskView) → ((image : Image) → disk.crash_images_at disk.moment image → IsCrashImage disk image) → (opened : Type 0) (set : Settings) (texts : List (List ℕ)) → (opened → ⊥) → KeepsStore opened set texts (record { found = disk; left = disk }) []
+idle_keeps disk only_now opened set texts not = record {
+  story = record { opened = disk.moment; turns = [] };
+  are = tt;
+  conforms = λ up. absurd (not up);
+  recovers = only_opened (reading_of set.lane set.lanes) set.lane set.lanes texts disk disk (opens_nothing disk only_now (reading_of set.lane set.lanes) set.lane set.lanes);
+}
+
 pub idle_store : (tells taping : Type 0) (set : Settings) (texts : List (List ℕ)) (disk : DiskView) (tape : List TapeTurn) → (tells → (image : Image) → disk.crash_images_at disk.moment image → IsCrashImage disk image)
     → RunsStore tells taping set texts disk disk tape tape ends.NoMem []
 idle_store tells taping set texts disk tape only_now = record {
@@ -81,12 +89,7 @@ idle_store tells taping set texts disk tape only_now = record {
   sized = tt;
   timed = tt;
   taped = λ told. sym (append-nil tape);
-  keeps = λ told. record {
-    story = record { opened = disk.moment; turns = [] };
-    are = tt;
-    conforms = λ up. absurd (up refl);
-    recovers = only_opened (reading_of set.lane set.lanes) set.lane set.lanes texts disk disk (opens_nothing disk (only_now told) (reading_of set.lane set.lanes) set.lane set.lanes);
-  };
+  keeps = λ told. idle_keeps disk (only_now told) (IsUp ends.NoMem []) set texts (λ up. up refl);
 }
 
 -- ---- Its end
@@ -154,7 +157,11 @@ serves_unread found faults faults' old status only_now (inl e) = subst (ServesAs
   fresh_again = λ tells fit. fit;
 })
 serves_unread found faults faults' old status only_now (inr (line, e, c)) = subst (ServesAs found faults faults' old old) (sym e) (record {
-  runs = record { disk = refl; tape = refl; ports = refl };
+  runs = record {
+    keeps = λ tells. idle_keeps old.disk (only_now tells) ⊥ (machine_of (set_by found)) (prompts_of (set_by found)) (λ x. x);
+    tape = refl;
+    ports = refl;
+  };
   cause = c;
   places = λ tells. refl;
   fresh_again = λ tells fit. fit;

@@ -1,5 +1,5 @@
 -- A run of the command `serve`: what came on the links of its ports and what was put on them, and what it did with the store, also where device calls fail and wherever the machine stops.
-use Rattle.std.specs.Prelude.{◌≡◌, ℕ, List, Option, Some, None, true, map, slice_get}
+use Rattle.std.specs.Prelude.{◌≡◌, ℕ, List, [], Option, Some, None, true, map, slice_get}
 use Rattle.lsv_conf.specs.Lines.{Placed, first_refused}
 use Rattle.lsv_disk.specs.View.{DiskView, IsCrashImage}
 use Rattle.lsv_disk.specs.declared.disk.Disk
@@ -9,6 +9,7 @@ use Rattle.lsv_machine.specs.Machine.{Settings}
 use Rattle.lsv_keeper.specs.Reading.{reading_of}
 use Rattle.lsv_turns.specs.Turns.{LaneTurn, TapeTurn}
 use Rattle.lsv_turns.specs.declared.tape.Tape
+use Rattle.lsv_lane.specs.Store.{KeepsStore}
 use Rattle.lsv_reactor.specs.Links.{PortFailed, PortView, ServesPorts}
 use Rattle.lsv_reactor.specs.declared.rounds.PortsEnd.{PortsEnd}
 use Rattle.lsv_reactor.specs.declared.rounds.PortsEnd.TheVariants.{Stopped, Failed}
@@ -63,8 +64,8 @@ pub record RunsTo (set : Settings) (texts : List (List ℕ)) (old new : ServerWo
   pub links : (ports : PortsEnd) → end ≡ ends.Over ports → ServesLinks old new turns ports
 
 -- nothing was done
-pub record IsIdle (old new : ServerWorld) : Type 0 where
-  pub disk : new.disk ≡ old.disk
+pub record IsIdle (set : Settings) (texts : List (List ℕ)) (old new : ServerWorld) : Type 0 where
+  pub keeps : old.disk_tells → KeepsStore ⊥ set texts (record { found = old.disk; left = new.disk }) []
   pub tape : new.tape ≡ old.tape
   pub ports : new.ports ≡ old.ports
 
@@ -74,7 +75,7 @@ RunsServe set texts old new Served = RunsTo set texts old new (ends.Over Stopped
 RunsServe set texts old new PortFault = RunsTo set texts old new (ends.Over Failed)
 RunsServe set texts old new (Store fault) = RunsTo set texts old new (ends.Store fault)
 RunsServe set texts old new NoMem = RunsTo set texts old new ends.NoMem
-RunsServe set texts old new (Conf line) = IsIdle old new
+RunsServe set texts old new (Conf line) = IsIdle set texts old new
 RunsServe set texts old new Usage = ⊥
 RunsServe set texts old new ReadFault = ⊥
 RunsServe set texts old new WriteFault = ⊥

@@ -1,2 +1,1 @@
-pub mod PostLemmas
 pub mod RunLemmas

@@ -58,3 +58,6 @@ pub opened_cause : (tells : Type 0) (found left : DiskView) (end : End) → ((fa
 opened_cause tells found left (Over ports) no_fault = tt
 opened_cause tells found left (Store fault) no_fault = absurd (no_fault fault refl)
 opened_cause tells found left NoMem no_fault = tt
+
+pub same_end : (a b : PortsEnd) → Over a ≡ Over b → a ≡ b
+same_end a b e = cc

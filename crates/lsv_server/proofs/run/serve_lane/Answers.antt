@@ -1,5 +1,7 @@
-use Rattle.std.proofs.Common.{◌≢◌, []}
-use Rattle.lsv_server.proofs.RunLemmas.{keeps_less}
+use Rattle.std.proofs.Common.{◌≢◌, [], subst}
+use Rattle.lsv_reactor.specs.Served.{ServesAll}
+use Rattle.lsv_reactor.specs.declared.rounds.PortsEnd.{PortsEnd}
+use Rattle.lsv_server.proofs.RunLemmas.{keeps_less, same_end}
 use Rattle.lsv_server.proofs.run.serve_lane.Goals as goal
 
 pub returns-in-Ok-clause-runs : goal.returns-in-Ok-clause-runs
@@ -13,7 +15,7 @@ returns-in-Ok-clause-runs g c = λ starts start made lane.
         taped = λ told. c.into_bay.ensures.taped told start r.0 r.1;
         keeps = λ told. c.into_bay.ensures.kept told start r.0 r.1;
       },
-      λ end over. ?,
+      λ end over. subst (λ (e : PortsEnd). ServesAll g.T.Post.tells g.D.Disk.tells g.T.Post.begun g.T.Post.view starts c.serve.new.posts r.0 e) (same_end c.in-Ok.end end over) r.3,
     )
 
 pub returns-in-Ok-clause-places : goal.returns-in-Ok-clause-places
