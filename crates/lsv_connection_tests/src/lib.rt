@@ -2,4 +2,12 @@
 #![tactic(auto)]
 
 #[cfg(test)]
+mod answering;
+#[cfg(test)]
+mod frames;
+#[cfg(test)]
 mod port;
+#[cfg(test)]
+mod served;
+#[cfg(test)]
+mod watched;
