@@ -9,5 +9,3 @@ mod frames;
 mod port;
 #[cfg(test)]
 mod served;
-#[cfg(test)]
-mod watched;

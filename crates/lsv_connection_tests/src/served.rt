@@ -2,7 +2,6 @@
 
 use crate::answering::Answering;
 use crate::frames::{HELLO, add_error, add_word, sent};
-use crate::watched::Watched;
 use Plan::{Breaks, Ends, Fails, Many, Opens, Sends, Stops, Takes, Wakes};
 use lsv_base::{Bytes, NoMem};
 use lsv_msg::ClientMessage;
@@ -10,6 +9,7 @@ use lsv_port::{MemPort, Step};
 use lsv_post::WorkerPost;
 use lsv_reactor::{PortsEnd, serve};
 use lsv_session::{Body, Job};
+use lsv_watched_port::Watched;
 use std::alloc::Global;
 use std::process::Abort;
 use std::test::Fail;
@@ -63,19 +63,38 @@ fn step(alloc: Global, plan: Plan) -> Result<Step, Fail> {
     })
 }
 
-/// Serves a port of this script by a lane that answers.
-fn play(alloc: Global, plan: &[Plan]) -> Result<Played, Fail> {
+/// A port of this script.
+fn port_of(alloc: Global, plan: &[Plan]) -> Result<Watched, Fail> {
     let mut script = Vec::new(alloc);
     for planned in plan {
         script.push(step(alloc, *planned)?)?;
     }
-    let port = Watched::new(alloc, MemPort::new(alloc, script));
+    Ok(Watched::new(alloc, MemPort::new(alloc, script)))
+}
+
+/// Serves a port by a lane that answers.
+fn serve_one(
+    alloc: Global,
+    port: Watched,
+    lane: &mut Answering,
+) -> Result<(Watched, PortsEnd), NoMem> {
     let mut posts = [WorkerPost::new(alloc, 0, port)?];
-    let mut lane = Answering::new(alloc);
-    let end = serve(alloc, &mut posts, &mut lane)?;
+    let end = serve(alloc, &mut posts, lane)?;
     let [post] = posts;
-    let port = post.into_port();
-    if port.misused > 0 || port.longest > 65_536 || port.port.refused() > 0 {
+    Ok((post.into_port(), end))
+}
+
+/// Whether a link was used that wasn't open, or read into more than 65,536 bytes, or memory was refused.
+fn is_misused(port: &Watched) -> bool {
+    let refused = port.port.refused();
+    port.misused > 0 || port.longest > 65_536 || refused > 0
+}
+
+/// Serves a port of this script by a lane that answers.
+fn play(alloc: Global, plan: &[Plan]) -> Result<Played, Fail> {
+    let mut lane = Answering::new(alloc);
+    let (port, end) = serve_one(alloc, port_of(alloc, plan)?, &mut lane)?;
+    if is_misused(&port) {
         return Err("a link is misused")?;
     }
     Ok(Played {

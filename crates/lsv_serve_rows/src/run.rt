@@ -1,8 +1,6 @@
 //! Runs of the program, and what becomes of its outside.
 
-ghost use Rattle.std.specs.Prelude.{◌≡◌, ◌≤◌, ℕ, Some, length, slice_get, IfOk};
-ghost use Rattle.lsv_post.specs.Ports.{IsUnopened};
-ghost use Rattle.lsv_port.specs.Memory.Value.{port_state};
+ghost use Rattle.std.specs.Prelude.{◌≡◌, ◌≤◌, length, IfOk};
 
 use crate::disk;
 use crate::outside::{Heard, Still};
@@ -15,6 +13,7 @@ use lsv_mask::{Prompt, TextSearch};
 use lsv_port::{MemPort, Step};
 use lsv_serve::{Kept, Outside, logsrvd};
 use lsv_turns::MemTape;
+use lsv_watched_port::Watched;
 use std::alloc::Global;
 use std::mem;
 
@@ -89,22 +88,21 @@ fn words_of(alloc: Global, line: &str) -> Result<List<Bytes>, NoMem> {
 }
 
 /// A port for each script.
-fn ports_of(alloc: Global, scripts: Vec<Vec<Step>>) -> Result<Vec<MemPort>>
-    ensures few { IfOk result (λ ports. length ports.items ≤ 64) }
-    ensures idle { IfOk result (λ ports. (i : ℕ) (port : MemPort) → slice_get ports.items i ≡ Some port → IsUnopened (port_state port)) }
+fn ports_of(alloc: Global, scripts: Vec<Vec<Step>>) -> Result<Vec<Watched>>
+    ensures { IfOk result (λ ports. length ports.items ≤ 64) }
 {
-    if scripts.len() > 64 {
-        return Err(anyhow!("at most 64 ports"));
-    }
     let mut ports = Vec::new(alloc);
     for script in scripts {
-        ports.push(MemPort::new(alloc, script))?;
+        ports.push(Watched::new(alloc, MemPort::new(alloc, script)))?;
+    }
+    if ports.len() > 64 {
+        return Err(anyhow!("more than 64 ports"));
     }
     Ok(ports)
 }
 
 /// What a run of these ports stands in. The store is taken for it.
-fn outside(alloc: Global, world: &mut World, ports: Vec<MemPort>) -> Result<MemOutside>
+fn outside(alloc: Global, world: &mut World, ports: Vec<Watched>) -> Result<MemOutside>
     ensures { IfOk result (λ out. out.ports ≡ ports) }
 {
     let texts = world.texts(alloc)?;

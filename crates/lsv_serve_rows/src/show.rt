@@ -7,9 +7,9 @@ use anyhow::{Result, anyhow};
 use lsv_base::LogNo;
 use lsv_hostile_disk::Hostile;
 use lsv_iolog::{LogFault, LogView};
-use lsv_port::MemPort;
 use lsv_record::Record;
 use lsv_serve::Status;
+use lsv_watched_port::Watched;
 use md5::{Digest, Md5};
 use std::alloc::Global;
 use std::str;
@@ -42,7 +42,11 @@ fn show_told(rt: &HostRuntime, told: &Told) -> Result<()> {
 }
 
 /// Prints of each link of a port how many bytes were read of it, and those that were put on it.
-fn show_port(rt: &HostRuntime, place: usize, port: &MemPort) -> Result<()> {
+fn show_port(rt: &HostRuntime, place: usize, watched: &Watched) -> Result<()> {
+    if watched.misused > 0 {
+        println!(rt; "port {place} misused")?;
+    }
+    let port = &watched.port;
     for link in port.opened() {
         let put = shown(rt.alloc(), port.output(*link), MOST_PUT)?;
         let read = port.input(*link).len();

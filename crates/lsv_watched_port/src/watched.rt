@@ -1,5 +1,3 @@
-//! A port in memory that notes how it is used.
-
 ghost use Rattle.std.specs.Prelude.{◌≡◌};
 ghost use Rattle.lsv_port.specs.Memory.Value.{port_ledger, port_state};
 
@@ -9,14 +7,14 @@ use std::alloc::Global;
 /// A port that hands each call on to one in memory, and tells nothing itself: so whoever uses it owes nothing, and what it does
 /// wrong is noted.
 #[derive(Drop)]
-pub(crate) struct Watched {
+pub struct Watched {
     alloc: Global,
     pub port: MemPort,
     /// The links that each turn was handed as held.
     pub held: Vec<Vec<u32>>,
     /// How often a link was used that wasn't open.
     pub misused: u32,
-    /// The longest buffer that a link was read into.
+    /// The longest buffer that a link was read into, in bytes.
     pub longest: usize,
 }
 
