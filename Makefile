@@ -1,6 +1,6 @@
-# `make` proves and builds the programs, `make run` does their main job on the session in examples/,
+# `make` proves and builds the programs, `make run` lets `serve` store the session in examples/ over a socket, and plays it,
 # `make test` is the gate's proofs and tests, `make wrong-bodies` tries the wrong bodies that the gate leaves out,
-# `make bench` measures, `make interop` tries the programs with sudo's own clients, `make drill` kills the server N times
+# `make bench` measures, also beside sudo's own server where it is installed, `make interop` tries the programs with sudo's own clients, `make drill` kills the server N times
 # under load and reads the store after each. `make install` installs what was built, and proves nothing, `make uninstall`
 # takes it away, `make installed` tries an installed tree, `make dist` makes a tarball, `make pages` looks up the manual pages.
 
@@ -14,6 +14,8 @@ SBINDIR ?= $(PREFIX)/sbin
 BINDIR ?= $(PREFIX)/bin
 MANDIR ?= $(PREFIX)/share/man
 DOCDIR ?= $(PREFIX)/share/doc/$(NAME)
+UNITDIR ?= $(PREFIX)/lib/systemd/system
+SYSUSERSDIR ?= $(PREFIX)/lib/sysusers.d
 
 # What stands before the names of programs and pages. Below /usr the names are those of Debian's package sudo, which isn't
 # overwritten unless it is told so, as by `make install PREFIX=/usr FRONT=`.
@@ -25,14 +27,16 @@ REPLAY_CRATE = crates/sudoreplay
 REPLAY = $(REPLAY_CRATE)/out/sudoreplay
 MEASURES = crates/lsv_bench
 
-# how often the drill kills, and what: a process for each connection
+# how often the drill kills, and what: `serve`, or `once` with a process for each connection
 N ?= 50
-AS ?= once
+AS ?= serve
 
 INSTALLED = \
 	$(SBINDIR)/$(FRONT)sudo_logsrvd \
 	$(BINDIR)/$(FRONT)sudoreplay \
 	$(BINDIR)/$(FRONT)sudo-layout \
+	$(UNITDIR)/$(FRONT)sudo_logsrvd.service \
+	$(SYSUSERSDIR)/$(NAME).conf \
 	$(MANDIR)/man1/$(FRONT)sudo-layout.1 \
 	$(MANDIR)/man8/$(FRONT)sudo_logsrvd.8 \
 	$(MANDIR)/man8/$(FRONT)sudoreplay.8 \
@@ -61,9 +65,10 @@ bench: build
 	cd $(MEASURES) && rt run -- decode >/dev/null
 	python3 bench/bench.py $(PROGRAM) $(MEASURES)/out/lsv_bench
 	python3 bench/replay.py $(REPLAY)
+	python3 bench/serve.py $(PROGRAM)
 
 interop: build
-	bash interop/run once
+	bash interop/run once serve
 
 drill: build
 	python3 interop/drill.py --server $(PROGRAM) --as $(AS) --kills $(N)
@@ -82,9 +87,15 @@ install:
 	install -D -m 644 man/sudo_logsrvd.conf.5 $(DESTDIR)$(MANDIR)/man5/$(FRONT)sudo_logsrvd.conf.5
 	install -d $(DESTDIR)$(DOCDIR)/examples
 	install -m 644 README.md docs/FORMATS.md docs/OPERATIONS.md docs/SETTINGS.md docs/TRUST.md $(DESTDIR)$(DOCDIR)
-	install -m 644 etc/sudo_logsrvd.conf etc/logrotate etc/sysusers etc/tmpfiles $(DESTDIR)$(DOCDIR)/examples
+	install -m 644 etc/sudo_logsrvd.conf etc/logrotate etc/tmpfiles $(DESTDIR)$(DOCDIR)/examples
+	install -d $(DESTDIR)$(UNITDIR)
+	sed -e 's#/usr/local/sbin/sudo_logsrvd#$(SBINDIR)/$(FRONT)sudo_logsrvd#' -e 's#/etc/sudo_logsrvd.conf#$(SYSCONFDIR)/sudo_logsrvd.conf#' \
+	  -e 's#man:#man:$(FRONT)#g' etc/sudo_logsrvd.service >$(DESTDIR)$(UNITDIR)/$(FRONT)sudo_logsrvd.service
+	chmod 644 $(DESTDIR)$(UNITDIR)/$(FRONT)sudo_logsrvd.service
+	install -D -m 644 etc/sysusers $(DESTDIR)$(SYSUSERSDIR)/$(NAME).conf
 	@if [ -e $(DESTDIR)$(SYSCONFDIR)/sudo_logsrvd.conf ]; then \
 	  echo "make install: $(DESTDIR)$(SYSCONFDIR)/sudo_logsrvd.conf is there, and stays as it is"; \
+	  echo "make install: for the unit, its iolog_dir and path must lie below /var/lib/sudo-logsrvd"; \
 	else \
 	  install -D -m 644 etc/sudo_logsrvd.conf $(DESTDIR)$(SYSCONFDIR)/sudo_logsrvd.conf; \
 	fi

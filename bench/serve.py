@@ -3,9 +3,10 @@
 
 usage: serve.py PROGRAM [--peer PEER] [--disk FOLDER] [--share S] [--only WORD]
 
-PEER is by default the sudo_logsrvd of Debian's package sudo, where it is installed; sudo's own server never syncs. Each figure
-is the least of some runs, and behind it stands that of the peer and the ratio of both. Processor time is that of the server
-alone, without its start. S makes the loads smaller (0.01), to try the script. `--only peer` measures the peer alone.
+PEER is by default the sudo_logsrvd of Debian's package sudo, which never syncs; where it isn't installed, and no WORD is given,
+nothing is measured. Each figure is the least of some runs, and behind it stands that of the peer and the ratio of both.
+Processor time is that of the server alone, without its start. S makes the loads smaller (0.01), to try the script. WORD is one of
+loads, memory, commits and load, or peer, which measures the peer alone.
 """
 import argparse
 import os
@@ -197,8 +198,14 @@ def commits(side, folder, connections, seconds):
     links = [client.connect(place.port) for _ in range(connections)]
     poll, count = selectors.DefaultSelector(), 0
     for link in links:
-        link.send(client.hello(), client.accept(5 * SECOND, INFO), record)
+        link.send(client.hello(), client.accept(5 * SECOND, INFO))
         poll.register(link.link, selectors.EVENT_READ, link)
+    # the making of the logs isn't measured
+    for link in links:
+        while link.read()[0] != "log_id":
+            pass
+    for link in links:
+        link.send(record)
     begin = time.monotonic()
     while time.monotonic() < begin + seconds:
         for key, _ in poll.select(1):
@@ -257,6 +264,9 @@ def main():
     words.add_argument("--share", type=float, default=1.0)
     words.add_argument("--only", default="")
     args = words.parse_args()
+    if not args.peer and not args.only:
+        print("bench: serve skipped: sudo's own sudo_logsrvd (Debian's package sudo) isn't there to stand beside it")
+        return
     ours = Side(os.path.realpath(args.program), servers.Serve)
     peer = Side(args.peer, servers.Sudo) if args.peer else None
     folder = tempfile.mkdtemp(prefix="bench", dir=args.disk)

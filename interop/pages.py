@@ -102,11 +102,12 @@ class Pages:
         self.same("options of sudo-layout", sorted(taken), sorted(shown))
 
     def forms(self):
-        """The second line of a usage error shows what the synopsis does."""
+        """The lines behind a usage error show what the synopsis does: of the server one for each command."""
         for program, name in ((self.program, "sudo_logsrvd"), (self.replay, "sudoreplay")):
             front, *forms = self.run(program, "--none").stderr.decode().splitlines()
-            self.same(f"lines of a usage error of {name}", (front, len(forms)), (f"{name}: usage", 1))
             synopsis = sections(f"man/{name}.8")["SYNOPSIS"]
+            wanted = len(re.findall(r"^\.Cm \w+$", synopsis, flags=re.M)) or 1
+            self.same(f"lines of a usage error of {name}", (front, len(forms)), (f"{name}: usage", wanted))
             letters = sorted(re.findall(r"Fl (\S+)", synopsis))
             shown = [word.removeprefix("-") for word in re.findall(r"(?<![\w-])-([\w-]+)", " ".join(forms))]
             self.same(f"options of the forms of {name}", sorted(shown), sorted(letter.removeprefix("-") for letter in letters))

@@ -60,6 +60,7 @@ module _ {P : Type 0} (tells : Type 0) (state : P → PortState) (ledger : P →
     stands = stands;
     unopened = made.way.goes_on.unopened told;
     blame = made.way.goes_on.blame told;
+    continues = made.way.goes_on.continues;
     over = phase_over post.mode (setting post.worker).phase (PortFailed start (view_by state ledger post.port)) over made.way.mode;
   }
 

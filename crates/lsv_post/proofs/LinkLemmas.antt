@@ -6,6 +6,7 @@ use Rattle.std.proofs.lemmas.Bool.{cases_lt}
 use Rattle.std.proofs.lemmas.Bool.Decides.{nat_tests}
 use Rattle.std.proofs.lemmas.List.{append-nil}
 use Rattle.std.proofs.lemmas.List.Elements.{Contains-append_cases}
+use Rattle.lsv_port.specs.Ledger.{Continues}
 use Rattle.lsv_port.specs.Port.{LinkState}
 use Rattle.lsv_session.specs.Connections.{same}
 use Rattle.lsv_session.specs.Transcript.{AreJobs, answers, bodies_of}
@@ -118,6 +119,7 @@ pub record HasEnded (set : Setting) (start now : PortView) (jobs : List Job) (re
   pub stands : Stands set [] now.state (λ lane. jobs_in lane jobs) replies
   pub unopened : start.state.opened ≡ []
   pub blame : (l : ℕ) → (now.state.link l).failed ≡ true → LinkFailed l start now
+  pub continues : Continues start.ledger now.ledger
   pub over : (set.phase ≡ Stopping) ⊎ ((set.phase ≡ Failed) × PortFailed start now)
 
 module _ (always : (bytes : List ℕ) → All (λ b. b < 256) bytes → (jobs : List Body) × AreJobs bytes jobs) (set : Setting) (start now : PortView) (jobs : List Job) (replies : List Reply) (h : HasEnded set start now jobs replies) where
@@ -234,4 +236,5 @@ module _ (always : (bytes : List ℕ) → All (λ b. b < 256) bytes → (jobs : 
     served = λ l has. serves_at l (seat_of (λ k. (h.stands.last k).number) l set.next) has;
     known = known;
     over = over;
+    continues = h.continues;
   }

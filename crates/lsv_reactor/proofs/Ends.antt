@@ -138,4 +138,5 @@ module _ (tells : Type 0) (w : ℕ) (jobs : List Job) (replies : List Reply) (ol
     served = λ l is. served_own l (s.seats.seat l) (s.served l is);
     known = λ job c e. s.known job (contains_own w jobs job c e) e;
     over = s.over;
+    continues = s.continues;
   }

@@ -3,7 +3,7 @@ use Rattle.std.specs.Prelude.{◌≡◌, ◌⊎◌, ◌<◌, ◌++◌, ℕ, Bool
 use Rattle.std.specs.List.{Contains, list_any}
 use Rattle.lsv_words.specs.Causes.{HasRisen}
 use Rattle.lsv_words.specs.Pieces.{IsPrefix}
-use Rattle.lsv_port.specs.Ledger.{PortLedger}
+use Rattle.lsv_port.specs.Ledger.{Continues, PortLedger}
 use Rattle.lsv_port.specs.Port.{LinkState, PortState}
 use Rattle.lsv_session.specs.Transcript.{AreFirst, AreJobs, answers, bodies_of}
 use Rattle.lsv_session.specs.declared.connection.ConnId.{ConnId}
@@ -117,6 +117,8 @@ pub record ServesPort (lane_tells : Type 0) (worker : ℕ) (jobs : List Job) (re
   pub known : (job : Job) → Contains jobs job → job.conn.worker ≡ worker → (l : ℕ) × Contains seats.opened l × (seats.seat l ≡ Some job.conn.seq)
   -- its turns were made until it told Stop, or one failed
   pub over : (new.state.stopped ≡ true) ⊎ PortFailed old new
+  -- it is the same port still, and no count of it fell
+  pub continues : Continues old.ledger new.ledger
 
 -- the links of all ports were served, by workers of the ports' places, and each job is of one of these workers
 pub record ServesPorts (lane_tells : Type 0) (turns : List LaneTurn) (old new : List PortView) : Type 0 where

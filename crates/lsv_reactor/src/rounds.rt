@@ -125,7 +125,11 @@ fn run<T: Post, L: Lane>(alloc: Global, posts: &mut [T], lane: &mut L) -> Result
 
 /// Serves what comes at these posts, each numbered by its place, by turns of the lane, until nothing more is to come of any.
 /// Out of memory all links are closed.
-pub fn serve<T: Post, L: Lane>(alloc: Global, posts: &mut [T], lane: &mut L) -> Result<PortsEnd, NoMem>
+pub fn serve<T: Post, L: Lane>(
+    alloc: Global,
+    posts: &mut [T],
+    lane: &mut L,
+) -> Result<PortsEnd, NoMem>
     requires numbered { (i : ℕ) (post : T) → slice_get posts.old i ≡ Some post → T.number post ≡ i }
     requires posts { (starts : ℕ → T.Start) × ((i : ℕ) (post : T) → slice_get posts.old i ≡ Some post → T.made_by (starts i) post [] []) }
     requires lane { (start : L.Start) × L.made_by start lane.old [] }

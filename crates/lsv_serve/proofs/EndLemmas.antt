@@ -113,6 +113,7 @@ module _ (set : Settings) (texts : List (List ℕ)) (old now : World) (v : Keepe
   goes Served shut may = (inl refl, may)
   goes ReadFault shut may = (inr (inl refl), may)
   goes WriteFault shut may = (inr (inr refl), may)
+  goes PortFault shut may = absurd may
   goes NoMem shut may = absurd may
   goes Usage shut may = absurd may
   goes (Conf line) shut may = absurd may

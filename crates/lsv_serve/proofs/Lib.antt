@@ -10,5 +10,6 @@ pub mod ProgramLemmas
 pub mod OnceLemmas
 pub mod PostLemmas
 pub mod ServeLemmas
+pub mod LoadLemmas
 pub mod TextLemmas
 mod CompleteLemmas

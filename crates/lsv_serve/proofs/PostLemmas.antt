@@ -1,8 +1,8 @@
 -- Posts of ports, and one more; and the ports of posts.
 use Rattle.std.proofs.Common.{◌≡◌, ◌≢◌, ◌<◌, ◌≤◌, ◌+◌, ◌++◌, ◌∷◌, [], List, ℕ, Bool, true, false, Some, map, length, refl, sym, ap, subst, ◌∙◌, arith}
-use Rattle.std.specs.Prelude.{◌==◌, slice_get}
+use Rattle.std.specs.Prelude.{◌==◌, drop, slice_get, take}
 use Rattle.std.proofs.Math.ListN.{get_or}
-use Rattle.std.proofs.Math.Seq.{get_or-append_seam}
+use Rattle.std.proofs.Math.Seq.{get_or-append_seam, take-append_seam}
 use Rattle.std.proofs.lemmas.Bool.Decides.{nat_tests}
 use Rattle.std.proofs.lemmas.List.{get_or_append_left, length-append}
 use Rattle.std.proofs.lemmas.Option.{get_or_from_slice_get, slice_get-get_or, slice_get_within}
@@ -62,3 +62,7 @@ nothing_left (x ∷ xs) none = absurd (omega arith)
 -- what stands between two parts of a list
 pub stands_there : {A : Type 0} (xs : List A) (x : A) (ys : List A) → slice_get (xs ++ x ∷ ys) (length xs) ≡ Some x
 stands_there xs x ys = slice_get-get_or (xs ++ x ∷ ys) (length xs) x (omega (arith, length-append xs (x ∷ ys))) ∙ ap Some (get_or-append_seam xs x ys x)
+
+-- what is written back into a vector of as many
+pub written_back : {A : Type 0} (n : ℕ) (olds news : List A) → length news ≡ n → length olds ≡ n → take n (news ++ drop (length news) olds) ≡ news
+written_back n olds news size held = ap (λ (k : ℕ). take k (news ++ drop (length news) olds)) (sym size) ∙ take-append_seam news (drop (length news) olds)

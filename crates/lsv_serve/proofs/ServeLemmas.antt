@@ -26,7 +26,8 @@ use Rattle.lsv_serve.specs.declared.status.Status.TheVariants.{Conf, NoMem}
 use Rattle.lsv_serve.specs.Causes.{HasConfCause, HasPlaces, HasPlacesAt}
 use Rattle.lsv_serve.specs.InnerServe.{RunsAs, nothing, port_at, told}
 use Rattle.lsv_serve.specs.Program.{lines_in, machine_of, prompts_of, set_by}
-use Rattle.lsv_serve.specs.Serve.{ArePortsEnded, HasServeCause, RunsServe, RunsTo, ServerWorld, ServesAs, ServesLinks}
+use Rattle.lsv_server.proofs.CompleteLemmas.{completes}
+use Rattle.lsv_serve.specs.Serve.{ArePortsEnded, CompletesLinks, HasServeCause, RunsServe, RunsTo, ServerWorld, ServesAs, ServesLinks}
 use Rattle.lsv_serve.proofs.ProgramLemmas.{Unread}
 use Rattle.lsv_serve.proofs.StartLemmas.{fit_kept, opens_nothing, store_before, store_cause_before}
 
@@ -74,7 +75,7 @@ module _ {T : Type 0} (tells lane_tells : Type 0) (view : T → PortView) (olds 
 
 -- ---- A run that did nothing
 
-idle_keeps : (disk : DiskView) → ((image : Image) → disk.crash_images_at disk.moment image → IsCrashImage disk image) → (opened : Type 0) (set : Settings) (texts : List (List ℕ)) → (opened → ⊥) → KeepsStore opened set texts (record { found = disk; left = disk }) []
+pub idle_keeps : (disk : DiskView) → ((image : Image) → disk.crash_images_at disk.moment image → IsCrashImage disk image) → (opened : Type 0) (set : Settings) (texts : List (List ℕ)) → (opened → ⊥) → KeepsStore opened set texts (record { found = disk; left = disk }) []
 idle_keeps disk only_now opened set texts not = record {
   story = record { opened = disk.moment; turns = [] };
   are = tt;
@@ -91,6 +92,10 @@ idle_store tells taping set texts disk tape only_now = record {
   taped = λ told. sym (append-nil tape);
   keeps = λ told. idle_keeps disk (only_now told) (IsUp ends.NoMem []) set texts (λ up. up refl);
 }
+
+pub idle_run : (tells taping telling : Type 0) (set : Settings) (texts : List (List ℕ)) (disk : DiskView) (tape : List TapeTurn) (ports ports' : List PortView) → (tells → (image : Image) → disk.crash_images_at disk.moment image → IsCrashImage disk image)
+    → RunsTo set texts (record { disk_tells = tells; tape_tells = taping; ports_tell = telling; disk = disk; tape = tape; ports = ports }) (record { disk_tells = tells; tape_tells = taping; ports_tell = telling; disk = disk; tape = tape; ports = ports' }) ends.NoMem
+idle_run tells taping telling set texts disk tape ports ports' only_now = record { turns = []; store = idle_store tells taping set texts disk tape only_now; links = λ end over. absurd (cc) }
 
 -- ---- Its end
 
@@ -131,6 +136,10 @@ places_told logs events before after (ends.Over Failed) p = p
 places_told logs events before after (ends.Store fault) p = p
 places_told logs events before after ends.NoMem p = inl p
 
+complete_links : (set : Settings) (texts : List (List ℕ)) (old new : ServerWorld) → CompletesLinks set texts old new
+complete_links set texts old new ports run told ports_told worker before after was is =
+    completes old.disk_tells told set texts old.disk new.disk run.turns (run.store.keeps told) worker before after (((run.links ports refl).served ports_told).each worker before after was is)
+
 -- a run whose settings were read
 pub serves_read : (found : Option (List ℕ)) (faults faults' : ℕ) (old new : ServerWorld) (status : Status) → (old.disk_tells → (image : Image) → IsCrashImage new.disk image → new.disk.crash_images_at new.disk.moment image) → first_refused (lines_in found) ≡ None
     → RunsAs (machine_of (set_by found)) (prompts_of (set_by found)) old new status → (old.disk_tells → HasPlaces (set_by found).iolog_dir (set_by found).path new.disk) → ServesAs found faults faults' old new status
@@ -139,6 +148,7 @@ serves_read found faults faults' old new status is_now none r places =
     subst (ServesAs found faults faults' old new) (sym r.is) (record {
       runs = runs_told set (prompts_of (set_by found)) old new r.end r.run;
       cause = cause_told (lines_in found) faults faults' old new r.end none r.cause;
+      complete = complete_links set (prompts_of (set_by found)) old new;
       places = λ tells. places_told (set_by found).iolog_dir (set_by found).path old.disk new.disk r.end (places tells);
       fresh_again = λ tells fit. fit_kept (IsUp r.end r.run.turns) set (prompts_of (set_by found)) old.disk new.disk r.run.turns (r.run.store.keeps tells) (is_now tells) fit;
     })
@@ -153,6 +163,7 @@ serves_unread found faults faults' old status only_now (inl e) = subst (ServesAs
     links = λ ports over. absurd (cc);
   };
   cause = tt;
+  complete = complete_links (machine_of (set_by found)) (prompts_of (set_by found)) old old;
   places = λ tells. inr refl;
   fresh_again = λ tells fit. fit;
 })
@@ -163,6 +174,7 @@ serves_unread found faults faults' old status only_now (inr (line, e, c)) = subs
     ports = refl;
   };
   cause = c;
+  complete = complete_links (machine_of (set_by found)) (prompts_of (set_by found)) old old;
   places = λ tells. refl;
   fresh_again = λ tells fit. fit;
 })

@@ -1,6 +1,8 @@
--- For proofs of a run of `serve`: its ports as posts, and how its end is told.
-use Rattle.std.specs.Prelude.{◌≡◌, ℕ, List, [], Some, false, length, slice_get}
+-- For proofs of a run of `serve` or `load`: ports as posts, and how its end is told.
+use Rattle.std.specs.Prelude.{◌≡◌, ◌⊎◌, ◌++◌, ℕ, List, [], Some, false, length, slice_get}
 use Rattle.std.proofs.Math.ListN.{get_or}
+use Rattle.lsv_words.specs.Causes.{HasRisen}
+use Rattle.lsv_words.specs.Pieces.{IsPrefix}
 use Rattle.lsv_disk.specs.View.{DiskView}
 use Rattle.lsv_port.specs.Port.{fresh_link}
 use Rattle.lsv_session.specs.declared.job.Job.{Job}
@@ -11,9 +13,14 @@ use Rattle.lsv_reactor.specs.declared.rounds.PortsEnd.TheVariants.{Stopped, Fail
 use Rattle.lsv_server.specs.Runs.{HasEndCause}
 use Rattle.lsv_server.specs.declared.run.End.{End}
 use Rattle.lsv_server.specs.declared.run.End.TheVariants as ends
+use Rattle.lsv_turns.specs.Turns.{TapeTurn}
+use Rattle.lsv_load.specs.Runs.{RunsLoad}
+use Rattle.lsv_load.specs.declared.run.LoadEnd.{LoadEnd}
+use Rattle.lsv_load.specs.declared.run.LoadEnd.TheVariants as loads
 use Rattle.lsv_serve.specs.declared.status.Status.{Status}
-use Rattle.lsv_serve.specs.declared.status.Status.TheVariants.{Served, Store, PortFault, NoMem}
+use Rattle.lsv_serve.specs.declared.status.Status.TheVariants.{Served, Store, WriteFault, PortFault, NoMem}
 use Rattle.lsv_serve.specs.Serve.{RunsTo, ServerWorld}
+use Rattle.lsv_serve.specs.World.{World}
 
 -- a port of which nothing is known
 abbrev pub nothing : PortView
@@ -42,3 +49,16 @@ pub record RunsAs (set : Settings) (texts : List (List ℕ)) (old new : ServerWo
   pub is : status ≡ told end
   pub run : RunsTo set texts old new end
   pub cause : HasEndCause old.disk_tells old.disk new.disk end
+
+-- how a load's end is told: its summary is put, or a write of it fails
+abbrev pub TellsLoad : (sink_tells : Type 0) (put new_put : List ℕ) (faults new_faults : ℕ) → LoadEnd → Status → Type 0
+TellsLoad sink_tells put new_put faults new_faults (loads.Served text) status =
+    ((status ≡ Served) × (sink_tells → new_put ≡ put ++ text)) ⊎ ((status ≡ WriteFault) × HasRisen faults new_faults × (sink_tells → (front : List ℕ) × IsPrefix front text × (new_put ≡ put ++ front)))
+TellsLoad sink_tells put new_put faults new_faults (loads.Store fault) status = (status ≡ Store fault) × (sink_tells → new_put ≡ put)
+TellsLoad sink_tells put new_put faults new_faults loads.NoMem status = (status ≡ NoMem) × (sink_tells → new_put ≡ put)
+
+-- a load that ended in some way, which is told as this
+pub record LoadsBy {D : Type 0} (tape_tells : Type 0) (view : D → DiskView) (set : Settings) (texts : List (List ℕ)) (count : ℕ) (old new : World) (found left : D) (tape new_tape : List TapeTurn) (status : Status) : Type 0 where
+  pub end : LoadEnd
+  pub run : RunsLoad old.disk_tells tape_tells view set texts count found left tape new_tape end
+  pub told : TellsLoad old.sink_tells old.put new.put old.write_faults new.write_faults end status

@@ -4,6 +4,7 @@ pub mod Tape
 pub mod Once
 pub mod Program
 pub mod Serve
+pub mod Load
 pub mod InnerServe
 pub mod Causes
 pub mod InnerRun

@@ -1,5 +1,5 @@
 -- A run of the command `serve`: what came on the links of its ports and what was put on them, and what it did with the store, also where device calls fail and wherever the machine stops.
-use Rattle.std.specs.Prelude.{◌≡◌, ℕ, List, [], Option, Some, None, true, map, slice_get}
+use Rattle.std.specs.Prelude.{◌≡◌, ℕ, List, [], Option, Some, None, true, map, refl, slice_get}
 use Rattle.lsv_conf.specs.Lines.{Placed, first_refused}
 use Rattle.lsv_disk.specs.View.{DiskView, IsCrashImage}
 use Rattle.lsv_disk.specs.declared.disk.Disk
@@ -14,6 +14,7 @@ use Rattle.lsv_reactor.specs.Links.{PortFailed, PortView, ServesPorts}
 use Rattle.lsv_reactor.specs.declared.rounds.PortsEnd.{PortsEnd}
 use Rattle.lsv_reactor.specs.declared.rounds.PortsEnd.TheVariants.{Stopped, Failed}
 use Rattle.lsv_post.specs.Ports.{view_by}
+use Rattle.lsv_server.specs.Complete.{Completes}
 use Rattle.lsv_server.specs.Runs.{HasStoreCause, RunsStore}
 use Rattle.lsv_server.specs.declared.run.End.{End}
 use Rattle.lsv_server.specs.declared.run.End.TheVariants as ends
@@ -91,10 +92,17 @@ HasServeCause lines faults faults' old new Usage = ⊥
 HasServeCause lines faults faults' old new ReadFault = ⊥
 HasServeCause lines faults faults' old new WriteFault = ⊥
 
+-- each legal conversation that comes over a link of a port is served, where nothing is in its way
+abbrev pub CompletesLinks : Settings → List (List ℕ) → (old new : ServerWorld) → Type 0
+CompletesLinks set texts old new =
+    (ports : PortsEnd) (run : RunsTo set texts old new (ends.Over ports)) (told : old.disk_tells) (ports_told : old.ports_tell) (worker : ℕ) (before after : PortView) (was : slice_get old.ports worker ≡ Some before) (is : slice_get new.ports worker ≡ Some after)
+    → Completes set texts old.disk new.disk run.turns (run.store.keeps told) worker before after (((run.links ports refl).served ports_told).each worker before after was is)
+
 -- a run of `serve` with the settings file as it was found
 pub record ServesAs (found : Option (List ℕ)) (faults faults' : ℕ) (old new : ServerWorld) (status : Status) : Type 0 where
   pub runs : RunsServe (machine_of (set_by found)) (prompts_of (set_by found)) old new status
   pub cause : HasServeCause (lines_in found) faults faults' old new status
+  pub complete : CompletesLinks (machine_of (set_by found)) (prompts_of (set_by found)) old new
   pub places : old.disk_tells → HasPlacesAt (set_by found).iolog_dir (set_by found).path old.disk new.disk status
   -- the numbers fit the images of the disk again, as the next run asks
   pub fresh_again : old.disk_tells → NumbersFit (reading_of 0 1) 0 1 (IsCrashImage old.disk) → NumbersFit (reading_of 0 1) 0 1 (IsCrashImage new.disk)

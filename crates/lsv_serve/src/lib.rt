@@ -4,6 +4,7 @@
 mod answers;
 mod incoming;
 mod laws;
+mod load;
 mod once;
 mod outside;
 mod posts;
@@ -14,6 +15,7 @@ mod status;
 mod text;
 
 pub use laws::an_empty_store_may_be_served;
+pub use load::serve_load;
 pub use once::run_once;
 pub use outside::{Kept, Options, Outside};
 pub use program::logsrvd;

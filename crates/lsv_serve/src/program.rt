@@ -1,7 +1,8 @@
 //! The program: its words and its settings file, and the command that they ask for.
 
 ghost use Rattle.std.specs.Prelude.{◌≡◌, ◌≤◌, ◌⊎◌, ℕ, List, [], Option, Some, None, length, slice_get, Err, IfOk, IfErr, OnOk, unwrap_or};
-ghost use Rattle.lsv_args.specs.Reading.{Asked, Once, Options, Serve, asked_in};
+ghost use Rattle.lsv_args.specs.Reading as words;
+ghost use Rattle.lsv_args.specs.Reading.{Asked, IsInRange, Load, Once, Serve, asked_in};
 ghost use Rattle.lsv_conf.specs.Lines.{first_refused};
 ghost use Rattle.lsv_conf.specs.Settings.{settings_in};
 ghost use Rattle.lsv_words.specs.Causes.{HasRisen};
@@ -10,10 +11,12 @@ ghost use Rattle.lsv_lane.specs.Store.{IsFresh};
 ghost use Rattle.lsv_post.specs.Ports.{IsUnopened};
 ghost use Rattle.lsv_serve.specs.Causes.{HasConfCause};
 ghost use Rattle.lsv_serve.specs.Complete.{OnceAs};
+ghost use Rattle.lsv_serve.specs.Load.{LoadsAs};
 ghost use Rattle.lsv_serve.specs.Program.{AsFound, Asks, lines_in, prompts_of, set_by};
 ghost use Rattle.lsv_serve.specs.Serve.{ServesAs, server_of};
 ghost use Rattle.lsv_serve.specs.World.{world_of};
 
+use crate::load::serve_load;
 use crate::once::run_once;
 use crate::outside::{Kept, Options, Outside};
 use crate::serve::run_serve;
@@ -33,6 +36,7 @@ use std::alloc::Global;
 /// What the words ask for. Words that ask for nothing are Usage.
 fn command_of(alloc: Global, words: &List<Bytes>) -> Result<Command, ArgFault>
     ensures ok { IfOk result (λ command. Asks words.now (asked_in command)) }
+    ensures in_range { IfOk result (λ command. IsInRange (asked_in command)) }
     ensures usage { result ≡ Err ArgFault.Usage → (a : Asked) → Asks words.now a → ⊥ }
 {
     if !are_texts(words.as_slice()) {
@@ -178,6 +182,7 @@ fn serve<
         (server_of ⟦<P as Port>⟧ ⟦<D as Disk>⟧ ⟦<G as Tape>⟧ out.ports.items out.disk out.tape)
         (server_of ⟦<P as Port>⟧ ⟦<D as Disk>⟧ ⟦<G as Tape>⟧ result.0.ports.items result.0.disk result.0.tape) result.1) }
     ensures unserved { (line : ℕ) → result.1 ≡ Status.Conf line → (result.0.source ≡ out.source) × (result.0.sink ≡ out.sink) × (result.0.disk ≡ out.disk) × (result.0.clock ≡ out.clock) }
+    ensures not_usage { result.1 ≡ Status.Usage → ⊥ }
     ensures beside { (result.0.source ≡ out.source) × (result.0.sink ≡ out.sink) }
 {
     let mut out = out;
@@ -191,8 +196,52 @@ fn serve<
     }
 }
 
+/// The command `load`, by the settings of its file.
+fn load<
+    S: Source,
+    K: Sink,
+    P,
+    D: Disk,
+    C: Clock,
+    G: Tape,
+    T: Texts,
+    N,
+    F: LineWriter + Drop,
+    J: LineWriter + Drop,
+    H: Search + Drop,
+>(
+    alloc: Global,
+    opts: &Opts,
+    count: u32,
+    out: Outside<S, K, P, D, C, G, T, N>,
+    kept: Kept<F, J, H>,
+) -> (Outside<S, K, P, D, C, G, T, N>, Status)
+    requires sudo { kept.sudo.kind ≡ kinds.Sudo }
+    requires json { kept.json.kind ≡ kinds.Json }
+    requires first { 1 ≤ count }
+    requires last { count ≤ 10000 }
+    requires fresh { D.tells → IsFresh 0 1 (D.view out.disk) }
+    ensures loads { AsFound T.tells opts.now.conf (T.texts out.texts) (λ found. LoadsAs G.tells D.view found (T.faults out.texts) (T.faults result.0.texts) count
+        (world_of ⟦<S as Source>⟧ ⟦<K as Sink>⟧ ⟦<D as Disk>⟧ out.source out.sink out.disk)
+        (world_of ⟦<S as Source>⟧ ⟦<K as Sink>⟧ ⟦<D as Disk>⟧ result.0.source result.0.sink result.0.disk)
+        out.disk result.0.disk (G.turns out.tape) (G.turns result.0.tape) result.1) }
+    ensures unserved { (line : ℕ) → result.1 ≡ Status.Conf line → (result.0.source ≡ out.source) × (result.0.sink ≡ out.sink) × (result.0.disk ≡ out.disk) × (result.0.clock ≡ out.clock) }
+    ensures not_usage { result.1 ≡ Status.Usage → ⊥ }
+{
+    let mut out = out;
+    let found = match found_file(alloc, &mut out.texts, opts) {
+        Ok(found) => found,
+        Err(status) => return (out, status),
+    };
+    match conf_in(alloc, &found) {
+        Ok(conf) => serve_load(alloc, options_of(alloc, conf), count, out, kept),
+        Err(status) => (out, status),
+    }
+}
+
 /// `sudo_logsrvd`, behind its name. The command `once` serves one connection, from the source to the sink; `serve` those that come
-/// at the ports. Both go by the settings of their file; where there is no such file they are the defaults. Keys that the settings
+/// at the ports; `load` generated ones, whose summary goes to the sink. They go by the settings of their file; where there is no
+/// such file these are the defaults. Keys that the settings
 /// pass over are not told by this call.
 pub fn logsrvd<
     S: Source,
@@ -221,13 +270,17 @@ pub fn logsrvd<
     ensures other_words { ((a : Asked) → Asks words.now a → ⊥) → (result.1 ≡ Status.Usage) ⊎ (result.1 ≡ Status.NoMem) }
     ensures unchanged { ((a : Asked) → Asks words.now a → ⊥) → result.0 ≡ out }
     ensures unserved { (line : ℕ) → result.1 ≡ Status.Conf line → (result.0.source ≡ out.source) × (result.0.sink ≡ out.sink) × (result.0.disk ≡ out.disk) × (result.0.clock ≡ out.clock) }
-    ensures once { (o : Options) → Asks words.now (Once o) → AsFound T.tells o.conf (T.texts out.texts) (λ found. OnceAs found (T.faults out.texts) (T.faults result.0.texts)
+    ensures once { (o : words.Options) → Asks words.now (Once o) → AsFound T.tells o.conf (T.texts out.texts) (λ found. OnceAs found (T.faults out.texts) (T.faults result.0.texts)
         (world_of ⟦<S as Source>⟧ ⟦<K as Sink>⟧ ⟦<D as Disk>⟧ out.source out.sink out.disk)
         (world_of ⟦<S as Source>⟧ ⟦<K as Sink>⟧ ⟦<D as Disk>⟧ result.0.source result.0.sink result.0.disk) result.1) }
-    ensures serves { (o : Options) → Asks words.now (Serve o) → AsFound T.tells o.conf (T.texts out.texts) (λ found. ServesAs found (T.faults out.texts) (T.faults result.0.texts)
+    ensures serves { (o : words.Options) → Asks words.now (Serve o) → AsFound T.tells o.conf (T.texts out.texts) (λ found. ServesAs found (T.faults out.texts) (T.faults result.0.texts)
         (server_of ⟦<P as Port>⟧ ⟦<D as Disk>⟧ ⟦<G as Tape>⟧ out.ports.items out.disk out.tape)
         (server_of ⟦<P as Port>⟧ ⟦<D as Disk>⟧ ⟦<G as Tape>⟧ result.0.ports.items result.0.disk result.0.tape) result.1) }
-    ensures beside { (o : Options) → Asks words.now (Serve o) → (result.0.source ≡ out.source) × (result.0.sink ≡ out.sink) }
+    ensures loads { (o : words.Options) (count : ℕ) → Asks words.now (Load o count) → AsFound T.tells o.conf (T.texts out.texts) (λ found. LoadsAs G.tells D.view found (T.faults out.texts) (T.faults result.0.texts) count
+        (world_of ⟦<S as Source>⟧ ⟦<K as Sink>⟧ ⟦<D as Disk>⟧ out.source out.sink out.disk)
+        (world_of ⟦<S as Source>⟧ ⟦<K as Sink>⟧ ⟦<D as Disk>⟧ result.0.source result.0.sink result.0.disk)
+        out.disk result.0.disk (G.turns out.tape) (G.turns result.0.tape) result.1) }
+    ensures beside { (o : words.Options) → Asks words.now (Serve o) → (result.0.source ≡ out.source) × (result.0.sink ≡ out.sink) }
 {
     let command = match command_of(alloc, words) {
         Ok(command) => command,
@@ -241,6 +294,7 @@ pub fn logsrvd<
             (out, status)
         }
         Command::Serve(opts) => serve(alloc, &opts, out, kept),
-        Command::Load(..) | Command::Relay(_) => (out, Status::Usage),
+        Command::Load(opts, count) => load(alloc, &opts, count, out, kept),
+        Command::Relay(_) => (out, Status::Usage),
     }
 }

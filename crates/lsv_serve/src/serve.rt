@@ -18,9 +18,9 @@ use crate::text::text_of;
 use lsv_base::Clock;
 use lsv_disk::Disk;
 use lsv_event::Kind;
-use lsv_hook::LineWriter;
+use lsv_hook::{Formatter, LineWriter};
 use lsv_lane::Bay;
-use lsv_mask::Search;
+use lsv_mask::{Prompt, Search};
 use lsv_port::Port;
 use lsv_reactor::PortsEnd;
 use lsv_server::{End, Notices, Plan, Site, serve_store};
@@ -76,6 +76,80 @@ fn serve_ports<
     (ports_of(posts, room), bay, end)
 }
 
+/// Gives the disk the places of the store, and serves what comes at the ports, with event lines of this formatter.
+fn serve_by<
+    S,
+    K,
+    P: Port + Drop,
+    D: Disk,
+    C: Clock,
+    G: Tape,
+    T,
+    N: Notices,
+    F: LineWriter + Drop,
+    H: Search + Drop,
+>(
+    alloc: Global,
+    options: Options,
+    stop_after: Option<u32>,
+    out: Outside<S, K, P, D, C, G, T, N>,
+    formatter: Formatter<F>,
+    prompt: Prompt<H>,
+) -> (Outside<S, K, P, D, C, G, T, N>, Status)
+    requires fresh { D.tells → IsFresh 0 1 (D.view out.disk) }
+    requires few { length out.ports.items ≤ 64 }
+    requires idle { P.tells → (i : ℕ) (port : P) → slice_get out.ports.items i ≡ Some port → IsUnopened (P.state port) }
+    ensures runs { RunsAs (once_settings formatter.kind options.log_exit) options.prompts
+        (server_of ⟦<P as Port>⟧ ⟦<D as Disk>⟧ ⟦<G as Tape>⟧ out.ports.items out.disk out.tape)
+        (server_of ⟦<P as Port>⟧ ⟦<D as Disk>⟧ ⟦<G as Tape>⟧ result.0.ports.items result.0.disk result.0.tape) result.1 }
+    ensures places { D.tells → HasPlaces options.logs options.events (D.view result.0.disk) }
+    ensures beside { (result.0.source ≡ out.source) × (result.0.sink ≡ out.sink) × (result.0.texts ≡ out.texts) }
+{
+    let Outside {
+        source,
+        sink,
+        ports,
+        mut disk,
+        clock,
+        tape,
+        texts,
+        mut notices,
+    } = out;
+    give_places(&mut disk, &options);
+    let Options {
+        log_exit,
+        prompts,
+        logs,
+        listen,
+        ..
+    } = options;
+    let site = Site {
+        address: text_of(&listen),
+        stop_after,
+        logs: text_of(&logs),
+    };
+    let plan = Plan {
+        formatter,
+        log_exit,
+        texts: prompts,
+        prompt,
+    };
+    let bay = Bay { disk, clock, tape };
+    let (ports, bay, end) = serve_ports(alloc, ports, bay, plan, &site, &mut notices);
+    let Bay { disk, clock, tape } = bay;
+    let out = Outside {
+        source,
+        sink,
+        ports,
+        disk,
+        clock,
+        tape,
+        texts,
+        notices,
+    };
+    (out, told(end))
+}
+
 /// Serves what comes at the ports, over the store of one lane, until each has told Stop or failed. Nothing else changes the store
 /// while it runs.
 pub fn run_serve<
@@ -108,60 +182,8 @@ pub fn run_serve<
     ensures places { D.tells → HasPlaces options.logs options.events (D.view result.0.disk) }
     ensures beside { (result.0.source ≡ out.source) × (result.0.sink ≡ out.sink) × (result.0.texts ≡ out.texts) }
 {
-    let Outside {
-        source,
-        sink,
-        ports,
-        mut disk,
-        clock,
-        tape,
-        texts,
-        mut notices,
-    } = out;
-    give_places(&mut disk, &options);
-    let Options {
-        form,
-        log_exit,
-        prompts,
-        logs,
-        listen,
-        ..
-    } = options;
-    let site = Site {
-        address: text_of(&listen),
-        stop_after,
-        logs: text_of(&logs),
-    };
-    let bay = Bay { disk, clock, tape };
-    let (ports, bay, end) = match form {
-        Kind::Sudo => {
-            let plan = Plan {
-                formatter: kept.sudo,
-                log_exit,
-                texts: prompts,
-                prompt: kept.prompt,
-            };
-            serve_ports(alloc, ports, bay, plan, &site, &mut notices)
-        }
-        Kind::Json => {
-            let plan = Plan {
-                formatter: kept.json,
-                log_exit,
-                texts: prompts,
-                prompt: kept.prompt,
-            };
-            serve_ports(alloc, ports, bay, plan, &site, &mut notices)
-        }
-    };
-    let out = Outside {
-        source,
-        sink,
-        ports,
-        disk: bay.disk,
-        clock: bay.clock,
-        tape: bay.tape,
-        texts,
-        notices,
-    };
-    (out, told(end))
+    match options.form {
+        Kind::Sudo => serve_by(alloc, options, stop_after, out, kept.sudo, kept.prompt),
+        Kind::Json => serve_by(alloc, options, stop_after, out, kept.json, kept.prompt),
+    }
 }

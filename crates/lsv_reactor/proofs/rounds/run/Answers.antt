@@ -14,12 +14,11 @@ rounds-preserved g c = λ starts start turns posts lane. let r = c.rounds.invari
 
 pub returns-in-Ended-clause-ok : goal.returns-in-Ended-clause-ok
 returns-in-Ended-clause-ok g c = λ starts start turns posts lane.
-    let r = c.rounds.invariant starts start turns posts lane in
-    (
+    let r = c.rounds.invariant starts start turns posts lane in (
       r.0,
       r.2,
       served_all g.T.Post.tells g.L.Lane.tells g.T.Post.number g.T.Post.made_by g.T.Post.begun g.T.Post.view starts c.rounds.posts g.L.Lane.made_by start c.rounds.lane r.0 c.in-Ended.end r.1 r.2
-      (λ gave took made. c.how_far.ensures c.in-Ended.end c.in-Ended.is starts gave took made),
+          (λ gave took made. c.how_far.ensures c.in-Ended.end c.in-Ended.is starts gave took made),
     )
 
 pub stop_all-requires : goal.stop_all-requires

@@ -1,0 +1,123 @@
+-- The records of a log are added one by one.
+use Rattle.std.proofs.Common.{◌≡◌, ◌∙◌, ◌++◌, ◌≤◌, inr, ℕ, List, [], ◌∷◌, length, refl, sym, ap, subst, arith, None, Result, Ok, Err, IsErrAnd}
+use Rattle.std.specs.Prelude.{IfErr, true}
+use Rattle.std.proofs.Math.Path.{fun_ext}
+use Rattle.lsv_disk.specs.declared.file.FileId.{FileId}
+use Rattle.lsv_disk.specs.declared.file.Part.{Part}
+use Rattle.lsv_disk.specs.Throughout.{OnlyReads}
+use Rattle.lsv_disk.specs.View.{DiskView, Image}
+use Rattle.lsv_disk.proofs.Composition.{OnlyNow, reads_trans, unchanged_reads}
+use Rattle.lsv_bundle.specs.declared.body.Body.{Body}
+use Rattle.lsv_gen.specs.Summary.{totals_of, totals_with}
+use Rattle.lsv_gen.specs.declared.totals.Totals.{Totals}
+use Rattle.lsv_iolog.specs.declared.fault.LogFault.{LogFault}
+use Rattle.lsv_iolog.specs.declared.fault.LogFault.TheVariants as logs
+use Rattle.lsv_iolog.specs.Faults.{IsNextFault}
+use Rattle.lsv_iolog.specs.Reading.{IsBehind, IsFaultBehind, IsWhole, ViewState, committed_laid}
+use Rattle.lsv_iolog.proofs.Scans.{reads_nothing}
+use Rattle.lsv_play.specs.declared.options.Options.{Options}
+use Rattle.lsv_play.specs.Playing.{play}
+use Rattle.lsv_playback.specs.Playing.{IsOpened, laid_at}
+use Rattle.lsv_playback.proofs.Played.{begins_same}
+use Rattle.lsv_playback.proofs.Undamaged.{stored_undamaged}
+use Rattle.lsv_record.specs.declared.laid.Laid.{Laid}
+use Rattle.lsv_record.specs.declared.records.Record.{Record}
+use Rattle.lsv_record.specs.Layout.{IsLayout}
+use Rattle.lsv_record.specs.Points.{Stored}
+use Rattle.lsv_record.specs.Records.{elapsed}
+use Rattle.lsv_load.specs.InnerSums.{AddsAll, IsAdding, IsUnread}
+
+-- a disk that was only read reads as before
+pub same_image : (old new : DiskView) → OnlyReads old new → new.reads ≡ old.reads
+same_image old new reads = fun_ext (λ f. unchanged_reads old new reads.unchanged f)
+
+-- what holds of the error that it is
+pub err_holds : {T : Type 0} (r : Result T LogFault) (e : LogFault) (P : LogFault → Type 0) → IsErrAnd r (λ x. x ≡ e) → P e → IfErr r P
+err_holds (Ok x) e P is holds = absurd is
+err_holds (Err x) e P is holds = subst P (sym is) holds
+
+-- at first
+pub adding_starts : (tells : Type 0) (log : ViewState) (disk : DiskView) (sums : Totals) → (tells → OnlyNow disk) → IsAdding tells log log disk disk sums sums
+adding_starts tells log disk sums now = record {
+  number = refl;
+  body = refl;
+  disk = λ f. omega arith;
+  reads = λ told. reads_nothing disk (now told);
+  behind = λ told behind. ([], behind, λ logs e. e);
+}
+
+-- with one record more
+pub adding_goes_on : (tells : Type 0) (start log next : ViewState) (old now later : DiskView) (before sums more : Totals) (r : Record) → IsAdding tells start log old now before sums → next.number ≡ log.number → next.body ≡ log.body
+    → (tells → OnlyReads now later) → ((f : FileId) → now.faults f ≤ later.faults f) → (tells → (rs : List Record) → IsBehind log rs now → IsBehind next (rs ++ r ∷ []) later)
+    → ((logs : List Stored) (rs : List Record) → sums ≡ totals_with logs rs → more ≡ totals_with logs (rs ++ r ∷ [])) → IsAdding tells start next old later before more
+adding_goes_on tells start log next old now later before sums more r is number body reads disk given added = record {
+  number = number ∙ is.number;
+  body = body ∙ is.body;
+  disk = λ f. omega (arith, is.disk f, disk f);
+  reads = λ told. reads_trans old now later (is.reads told) (reads told);
+  behind = λ told behind. let so_far = is.behind told behind in (
+    so_far.0 ++ r ∷ [],
+    given told so_far.0 so_far.1,
+    λ logs e. added logs so_far.0 (so_far.2 logs e),
+  );
+}
+
+-- the committed bytes are those of the image at the start
+laid_same : (start log : ViewState) (old now : DiskView) → log.number ≡ start.number → log.body ≡ start.body → now.reads ≡ old.reads → committed_laid log.number log.body now ≡ laid_at start.number start.body old.reads
+laid_same start log old now number body reads =
+    ap (λ (image : Image). laid_at log.number log.body image) reads ∙ ap (λ (n : ℕ). laid_at n log.body old.reads) number ∙ ap (λ (b : Body). laid_at start.number b old.reads) body
+
+-- a way in which a log may be played
+any_way : Options
+any_way = record { streams = true ∷ true ∷ true ∷ true ∷ true ∷ []; longest = None; speed = 1000000000; suspended = true; runs = omega arith }
+
+module _ (tells : Type 0) (start log : ViewState) (old now : DiskView) (before sums : Totals) (is : IsAdding tells start log old now before sums) (told : tells) (fresh : IsBehind start [] old) where
+  so_far : (rs : List Record) × IsBehind log rs now × ((logs : List Stored) → before ≡ totals_of logs → sums ≡ totals_with logs rs)
+  so_far = is.behind told fresh
+
+  laid_is : committed_laid log.number log.body now ≡ laid_at start.number start.body old.reads
+  laid_is = laid_same start log old now is.number is.body (same_image old now (is.reads told))
+
+  -- there is no log where a part is at fault behind the records so far
+  no_log : (part : Part) → IsOpened start.number start.body start.head old.reads → IsFaultBehind (committed_laid log.number log.body now) log.body so_far.0 part → IsUnread old.reads start.number (logs.Damaged part)
+  no_log part opened fault stored holds =
+      stored_undamaged (Unit {0}) any_way start.number old.reads (play any_way so_far.0) stored part holds (inr (record {
+        body = start.body;
+        head = start.head;
+        opened = opened;
+        records = (
+          so_far.0,
+          record {
+            begins = begins_same start log old now so_far.0 is.number is.body (is.reads told) so_far.1;
+            fault = subst (λ (b : Body). IsFaultBehind (laid_at start.number start.body old.reads) b so_far.0 part) is.body
+                (subst (λ (l : Laid). IsFaultBehind l log.body so_far.0 part) laid_is fault);
+          },
+          refl,
+        );
+      }))
+
+  -- the log gives no further record for this fault
+  pub next_fails : (e : LogFault) → IsNextFault e → ((part : Part) → e ≡ logs.Damaged part → (rs : List Record) → IsBehind log rs now → IsFaultBehind (committed_laid log.number log.body now) log.body rs part)
+      → IsOpened start.number start.body start.head old.reads → IsUnread old.reads start.number e
+  next_fails logs.Absent is_fault fault opened = absurd is_fault
+  next_fails (logs.Damaged part) is_fault fault opened = no_log part opened (fault part refl so_far.0 so_far.1)
+  next_fails logs.Disk is_fault fault opened = tt
+  next_fails logs.NoMem is_fault fault opened = tt
+  next_fails logs.Complete is_fault fault opened = absurd is_fault
+  next_fails (logs.NoPoint point) is_fault fault opened = absurd is_fault
+  next_fails logs.Broken is_fault fault opened = absurd is_fault
+  next_fails (logs.Full part) is_fault fault opened = absurd is_fault
+  next_fails (logs.TooLong point) is_fault fault opened = absurd is_fault
+
+  -- the log has no further record
+  pub next_ends : ((rs : List Record) → IsBehind log rs now → IsWhole log rs now) → AddsAll start.number start.body old.reads before sums
+  next_ends whole = let all = whole so_far.0 so_far.1 in record {
+    records = so_far.0;
+    all = record {
+      begins = begins_same start log old now so_far.0 is.number is.body (is.reads told) so_far.1;
+      layout = subst (λ (l : Laid). IsLayout l so_far.0) laid_is all.layout;
+      count = subst (λ (b : Body). b.count ≡ length so_far.0) is.body all.count;
+      time = subst (λ (b : Body). b.elapsed ≡ elapsed so_far.0) is.body all.time;
+    };
+    sums = so_far.2;
+  }

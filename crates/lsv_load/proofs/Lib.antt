@@ -1,0 +1,6 @@
+mod Adding
+mod Holding
+mod Opened
+mod Summing
+mod Sending
+mod Running

@@ -1,0 +1,60 @@
+-- A log that is opened to be read, and one that isn't.
+use Rattle.std.proofs.Common.{◌≡◌, ◌∙◌, ℕ, [], None, Some, Ok, refl, sym, ap, subst}
+use Rattle.lsv_disk.specs.declared.file.Part.{Part}
+use Rattle.lsv_disk.specs.declared.file.Part.TheVariants.{Head as HeadPart}
+use Rattle.lsv_disk.specs.Throughout.{OnlyReads}
+use Rattle.lsv_disk.specs.View.{DiskView, Image}
+use Rattle.lsv_bundle.specs.Committed.{HasEntry}
+use Rattle.lsv_info.specs.Reading.{head_of}
+use Rattle.lsv_iolog.specs.declared.fault.LogFault.{LogFault}
+use Rattle.lsv_iolog.specs.declared.fault.LogFault.TheVariants as logs
+use Rattle.lsv_iolog.specs.Damage.{IsViewDamage}
+use Rattle.lsv_iolog.specs.Faults.{IsOpenFault}
+use Rattle.lsv_iolog.specs.Reading.{IsBehind, ViewState, committed_text}
+use Rattle.lsv_iolog.specs.Recovered.{Replays, owner_of}
+use Rattle.lsv_iolog.proofs.Replaying.{one_replay}
+use Rattle.lsv_playback.specs.Playing.{IsOpened}
+use Rattle.lsv_playback.proofs.Undamaged.{no_view_damage}
+use Rattle.lsv_record.specs.Points.{Stored}
+use Rattle.lsv_load.specs.InnerSums.{IsDamage, IsUnread}
+use Rattle.lsv_load.specs.Replayed.{HasNoLog}
+use Rattle.lsv_load.proofs.Adding.{same_image}
+
+-- a log that is opened is one of its head
+pub opened_now : (n : ℕ) (v : ViewState) (old new : DiskView) → v.number ≡ n → OnlyReads old new → HasEntry (owner_of n) v.body old.reads → head_of (committed_text n v.body new HeadPart) ≡ Ok v.head → IsBehind v [] new → IsOpened v.number v.body v.head new.reads
+opened_now n v old new number reads entry head behind = record {
+  entry = subst (λ (k : ℕ). HasEntry (owner_of k) v.body new.reads) (sym number) (subst (λ (image : Image). HasEntry (owner_of n) v.body image) (sym (same_image old new reads)) entry);
+  there = behind.there;
+  head_is = ap (λ (k : ℕ). head_of (committed_text k v.body new HeadPart)) number ∙ head;
+}
+
+none_some : (log : Stored) → None ≡ Some log → ⊥
+none_some log e = cc
+
+-- what is so of a log that isn't opened for this fault
+pub open_fails : (n : ℕ) (image : Image) (e : LogFault) → IsOpenFault e → (e ≡ logs.Absent → Replays image n None) → ((part : Part) → e ≡ logs.Damaged part → IsViewDamage n part image) → IsUnread image n e
+open_fails n image logs.Absent is absent damaged = λ log holds. none_some log (one_replay image n None (Some log) (absent refl) holds)
+open_fails n image (logs.Damaged part) is absent damaged = λ log holds. no_view_damage n image log holds part (damaged part refl)
+open_fails n image logs.Disk is absent damaged = tt
+open_fails n image logs.NoMem is absent damaged = tt
+open_fails n image logs.Complete is absent damaged = absurd is
+open_fails n image (logs.NoPoint point) is absent damaged = absurd is
+open_fails n image logs.Broken is absent damaged = absurd is
+open_fails n image (logs.Full part) is absent damaged = absurd is
+open_fails n image (logs.TooLong point) is absent damaged = absurd is
+
+-- and of one of which a part is damaged
+pub damage_unread : (n : ℕ) (image : Image) (e : LogFault) → IsDamage e → HasNoLog image n → IsUnread image n e
+damage_unread n image logs.Absent is none = absurd is
+damage_unread n image (logs.Damaged part) is none = none
+damage_unread n image logs.Disk is none = absurd is
+damage_unread n image logs.NoMem is none = absurd is
+damage_unread n image logs.Complete is none = absurd is
+damage_unread n image (logs.NoPoint point) is none = absurd is
+damage_unread n image logs.Broken is none = absurd is
+damage_unread n image (logs.Full part) is none = absurd is
+damage_unread n image (logs.TooLong point) is none = absurd is
+
+-- it is the same log on a disk that was only read
+pub unread_before : (n k : ℕ) (old new : DiskView) (e : LogFault) → k ≡ n → OnlyReads old new → IsUnread new.reads k e → IsUnread old.reads n e
+unread_before n k old new e number reads is = subst (λ (m : ℕ). IsUnread old.reads m e) number (subst (λ (image : Image). IsUnread image k e) (same_image old new reads) is)

@@ -1,0 +1,115 @@
+-- How a load ends, by what its parts came to.
+use Rattle.std.proofs.Common.{◌≡◌, ◌∙◌, inl, inr, ℕ, zero, suc, List, [], ◌∷◌, Some, Result, Ok, Err, OnErr, length, refl, sym, subst, append-nil, arith}
+use Rattle.std.specs.Prelude.{IfOk, slice_get, slice_index_or}
+use Rattle.lsv_disk.specs.View.{DiskView}
+use Rattle.lsv_disk.specs.declared.file.Owner.{Owner}
+use Rattle.lsv_disk.proofs.Composition.{OnlyNow}
+use Rattle.lsv_iolog.proofs.Scans.{reads_nothing}
+use Rattle.lsv_keeper.specs.Opening.{IsStoreFault}
+use Rattle.lsv_keeper.specs.declared.fault.StoreFault.{StoreFault}
+use Rattle.lsv_keeper.specs.declared.fault.StoreFault.TheVariants as faults
+use Rattle.lsv_lane.specs.Store.{KeepsStore, OwnerFailed}
+use Rattle.lsv_machine.specs.Machine.{Settings}
+use Rattle.lsv_machine.specs.Recovery.{Outside}
+use Rattle.lsv_reactor.specs.declared.rounds.PortsEnd.TheVariants.{Stopped}
+use Rattle.lsv_server.specs.Runs.{HasTurns, IsUp, unopened}
+use Rattle.lsv_server.specs.declared.run.End.TheVariants as ends
+use Rattle.lsv_turns.specs.Turns.{LaneTurn, TapeTurn, replies_in}
+use Rattle.lsv_load.specs.Faults.{HasReplayCause}
+use Rattle.lsv_load.specs.Numbers.{numbers_told}
+use Rattle.lsv_load.specs.Runs.{EndsLoad, IsSumOf, RunsLoad, ServesLoad, ended_by}
+use Rattle.lsv_load.specs.declared.run.LoadEnd.{LoadEnd}
+use Rattle.lsv_load.specs.declared.run.LoadEnd.TheVariants.{NoMem, Served, Store}
+
+-- a load whose store isn't opened
+pub not_opened : (tells : Type 0) (count : ℕ) (found served left : DiskView) (fault : StoreFault) → (tells → IsStoreFault 0 1 found.reads fault) → ((o : Owner) → fault ≡ faults.Device o → OwnerFailed o found served)
+    → EndsLoad tells count [] found served left (unopened fault) (ended_by fault)
+not_opened tells count found served left faults.NoMem is failed = tt
+not_opened tells count found served left (faults.Device o) is failed = inl (record { is = refl; cause = record { memory = λ none. let no_ : ⊥ = cc in no_; is = is; failed = failed } })
+not_opened tells count found served left (faults.Damaged file) is failed = inl (record { is = refl; cause = record { memory = λ none. let no_ : ⊥ = cc in no_; is = is; failed = failed } })
+not_opened tells count found served left (faults.LanesDiffer kept asked) is failed = inl (record { is = refl; cause = record { memory = λ none. let no_ : ⊥ = cc in no_; is = is; failed = failed } })
+
+-- a load whose logs aren't replayed
+pub not_replayed : (tells : Type 0) (numbers : List ℕ) (served left : DiskView) (fault : StoreFault) → HasReplayCause tells numbers served left fault → IsSumOf tells numbers served left (ended_by fault)
+not_replayed tells numbers served left faults.NoMem cause = tt
+not_replayed tells numbers served left (faults.Device o) cause = cause
+not_replayed tells numbers served left (faults.Damaged file) cause = cause
+not_replayed tells numbers served left (faults.LanesDiffer kept asked) cause = absurd cause
+
+-- a load that was served
+pub served_ends : (tells : Type 0) (count : ℕ) (turns : List LaneTurn) (found served left : DiskView) (numbers : List ℕ) (end : LoadEnd) → ServesLoad tells count turns → numbers ≡ numbers_told (replies_in turns) → IsSumOf tells numbers served left end
+    → EndsLoad tells count turns found served left (ends.Over Stopped) end
+served_ends tells count turns found served left numbers (Served text) load same sum = record { is = refl; load = load; sum = subst (λ (ns : List ℕ). IsSumOf tells ns served left (Served text)) same sum }
+served_ends tells count turns found served left numbers (Store fault) load same sum = inr (record { is = refl; load = load; sum = subst (λ (ns : List ℕ). IsSumOf tells ns served left (Store fault)) same sum })
+served_ends tells count turns found served left numbers NoMem load same sum = tt
+
+some_first : {A : Type 0} (x y : A) → Some x ≡ Some y → x ≡ y
+some_first x y e = cc
+
+-- what holds of the one element of a list, at its place
+pub only_place : {A : Type 0} (P : A → ℕ → Type 0) (xs : List A) (x : A) → xs ≡ x ∷ [] → P x 0 → (i : ℕ) (y : A) → slice_get xs i ≡ Some y → P y i
+only_place {A} P xs x is holds i y at = at_place i (subst (λ (ys : List A). slice_get ys i ≡ Some y) is at) where
+  at_place : (j : ℕ) → slice_get (x ∷ []) j ≡ Some y → P y j
+  at_place zero e = subst (λ (z : A). P z 0) (some_first x y e) holds
+  at_place (suc j) e = absurd (let no_ : ⊥ = cc in no_)
+
+pub only_one : {A : Type 0} (P : A → Type 0) (xs : List A) (x : A) → xs ≡ x ∷ [] → P x → (i : ℕ) (y : A) → slice_get xs i ≡ Some y → P y
+only_one {A} P xs x is holds i y at = only_place (λ (z : A) (j : ℕ). P z) xs x is holds i y at
+
+-- the first of one
+pub first_there : {A : Type 0} (xs : List A) (d : A) → length xs ≡ 1 → slice_get xs 0 ≡ Some (slice_index_or xs 0 d)
+first_there [] d e = absurd (let no_ : ⊥ = omega (arith, e) in no_)
+first_there (x ∷ xs) d e = refl
+
+-- what holds where the store was opened, holds for less
+pub keeps_less : (up less : Type 0) (set : Settings) (texts : List (List ℕ)) (o : Outside) (turns : List LaneTurn) → (less → up) → KeepsStore up set texts o turns → KeepsStore less set texts o turns
+keeps_less up less set texts o turns f k = record { story = k.story; are = k.are; conforms = λ x. k.conforms (f x); recovers = k.recovers }
+
+-- what follows of an answer, where there is one
+pub ok_all : {A E : Type 0} (r : Result A E) (P Q : A → Type 0) → IfOk r P → ((a : A) → P a → Q a) → IfOk r Q
+ok_all (Ok a) P Q is f = f a is
+ok_all (Err e) P Q is f = tt
+
+-- what holds anyway, holds where there is an error
+pub err_any : {A E : Type 0} (r : Result A E) (P : Type 0) → P → OnErr r P
+err_any (Ok a) P is = tt
+err_any (Err e) P is = is
+
+pub at_ok : {A E : Type 0} (r : Result A E) (a : A) (P : A → Type 0) → r ≡ Ok a → IfOk r P → P a
+at_ok {A} {E} r a P e is = let h : IfOk {E = E} (Ok a) P = subst (λ (x : Result A E). IfOk x P) e is in h
+
+pub at_err : {A E : Type 0} (r : Result A E) (x : E) (P : Type 0) → r ≡ Err x → OnErr r P → P
+at_err {A} {E} r x P e is = let h : OnErr {T = A} (Err x) P = subst (λ (y : Result A E). OnErr y P) e is in h
+
+-- ---- A store that isn't opened
+
+no_turns : (fault : StoreFault) → HasTurns (unopened fault) []
+no_turns faults.NoMem = tt
+no_turns (faults.Device o) = refl
+no_turns (faults.Damaged file) = refl
+no_turns (faults.LanesDiffer kept asked) = refl
+
+not_up : (fault : StoreFault) → IsUp (unopened fault) [] → ⊥
+not_up faults.NoMem up = up refl
+not_up (faults.Device o) up = up
+not_up (faults.Damaged file) up = up
+not_up (faults.LanesDiffer kept asked) up = up
+
+-- a load whose store isn't opened runs no turn
+pub runs_unopened : {D : Type 0} (tells taping : Type 0) (view : D → DiskView) (set : Settings) (texts : List (List ℕ)) (count : ℕ) (found left : D) (tape tape' : List TapeTurn) (fault : StoreFault) (end : LoadEnd) → end ≡ ended_by fault → tape' ≡ tape
+    → (tells → KeepsStore ⊥ set texts (record { found = view found; left = view left }) []) → (tells → OnlyNow (view left))
+    → (tells → IsStoreFault 0 1 (view found).reads fault) → ((o : Owner) → fault ≡ faults.Device o → OwnerFailed o (view found) (view left)) → RunsLoad tells taping view set texts count found left tape tape' end
+runs_unopened tells taping view set texts count found left tape tape' fault end ends same keeps now is failed = record {
+  turns = [];
+  served = left;
+  up = unopened fault;
+  store = record {
+    some = no_turns fault;
+    sized = tt;
+    timed = tt;
+    taped = λ told. same ∙ sym (append-nil tape);
+    keeps = λ told. keeps_less ⊥ (IsUp (unopened fault) []) set texts (record { found = view found; left = view left }) [] (not_up fault) (keeps told);
+  };
+  read = λ told. reads_nothing (view left) (now told);
+  ends = subst (EndsLoad tells count [] (view found) (view left) (view left) (unopened fault)) (sym ends) (not_opened tells count (view found) (view left) (view left) fault is failed);
+}

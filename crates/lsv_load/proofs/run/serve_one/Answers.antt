@@ -1,0 +1,30 @@
+-- A post alone has place 0.
+use Rattle.std.proofs.Common.{◌≡◌, ◌∙◌, ℕ, [], Some, length}
+use Rattle.std.specs.Prelude.{slice_get, slice_index_or}
+use Rattle.lsv_load.proofs.Running.{first_there, only_one, only_place}
+use Rattle.lsv_load.proofs.run.serve_one.Goals as goal
+
+pub serve-requires-clause-numbered : goal.serve-requires-clause-numbered
+serve-requires-clause-numbered g c i post at = only_place (λ (p : g.row.T.Denot) (j : ℕ). g.T.Post.number p ≡ j) c.from_mut.result.now c.args.post.now c.from_mut.ensures.value c.requires.number i post at
+
+pub serve-requires-clause-posts : goal.serve-requires-clause-posts
+serve-requires-clause-posts g c =
+    (λ i. c.requires.post.0, λ i post at. only_one (λ (p : g.row.T.Denot). g.T.Post.made_by c.requires.post.0 p [] []) c.from_mut.result.now c.args.post.now c.from_mut.ensures.value c.requires.post.1 i post at)
+
+pub returns-in-Ok-Failed-clause-err : goal.returns-in-Ok-Failed-clause-err
+returns-in-Ok-Failed-clause-err g c start made =
+    let ran = (rw c.in-Ok-Failed.field-0-is at c.in-Ok-Failed.ensures.ok) (λ i. c.requires.post.0) start
+    (λ i post at. only_one (λ (p : g.row.T.Denot). g.T.Post.made_by c.requires.post.0 p [] []) c.from_mut.result.now c.args.post.now c.from_mut.ensures.value c.requires.post.1 i post at) made in
+    (ran.0, ran.1, ran.2)
+
+pub returns-in-Ok-Stopped-clause-ok : goal.returns-in-Ok-Stopped-clause-ok
+returns-in-Ok-Stopped-clause-ok g c begun start made_post made =
+    let ran = (rw c.in-Ok-Stopped.field-0-is at c.in-Ok-Stopped.ensures.ok) (λ i. begun) start
+    (λ i post at. only_one (λ (p : g.row.T.Denot). g.T.Post.made_by begun p [] []) c.from_mut.result.now c.args.post.now c.from_mut.ensures.value made_post i post at) made in
+    let one : length c.serve.new.posts ≡ 1 = c.serve.auto.posts ∙ c.from_mut.ensures.len in
+    let at : slice_get c.serve.new.posts 0 ≡ Some (slice_index_or c.serve.new.posts 0 c.args.post.now) = first_there c.serve.new.posts c.args.post.now one in (
+      ran.0,
+      ran.1,
+      ran.2,
+      λ told. record { served = ran.3.each told 0 (slice_index_or c.serve.new.posts 0 c.args.post.now) at; stopped = ran.3.ended told 0 (slice_index_or c.serve.new.posts 0 c.args.post.now) at },
+    )

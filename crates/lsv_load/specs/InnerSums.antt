@@ -1,0 +1,67 @@
+-- For proofs of the sums of a load: one log of it, and what was summed up so far.
+use Rattle.std.specs.Prelude.{◌≡◌, ◌≢◌, ◌<◌, ◌≤◌, ◌^◌, ℕ, List, []}
+use Rattle.lsv_bundle.specs.declared.body.Body.{Body}
+use Rattle.lsv_bundle.specs.Body.{length_of}
+use Rattle.lsv_disk.specs.Throughout.{OnlyReads}
+use Rattle.lsv_disk.specs.View.{DiskView, Image}
+use Rattle.lsv_disk.specs.declared.file.FileId.{FileId}
+use Rattle.lsv_disk.specs.declared.file.Part.TheVariants.{Exit, Timing}
+use Rattle.lsv_gen.specs.Summary.{totals_of, totals_with}
+use Rattle.lsv_gen.specs.declared.totals.Totals.{Totals}
+use Rattle.lsv_iolog.specs.Reading.{IsBehind, ViewState}
+use Rattle.lsv_iolog.specs.declared.fault.LogFault.{LogFault}
+use Rattle.lsv_iolog.specs.declared.fault.LogFault.TheVariants as logs
+use Rattle.lsv_playback.specs.Playing.{AreAll, laid_at}
+use Rattle.lsv_record.specs.Points.{Stored}
+use Rattle.lsv_record.specs.declared.records.Record.{Record}
+use Rattle.lsv_load.specs.Replayed.{AreReplayed, HasNoLog}
+
+-- an entry of a log tells of the bytes of an exit exactly where the log is complete, and of no more timing than a log has
+pub record IsFitting (body : Body) : Type 0 where
+  pub some : body.kind ≡ 3 → 0 < length_of body Exit
+  pub none : body.kind ≢ 3 → length_of body Exit ≡ 0
+  pub small : length_of body Timing ≤ 2 ^ 40
+
+-- a part is damaged
+abbrev pub IsDamage : LogFault → Type 0
+IsDamage (logs.Damaged part) = Unit {0}
+IsDamage logs.Absent = ⊥
+IsDamage logs.Disk = ⊥
+IsDamage logs.NoMem = ⊥
+IsDamage logs.Complete = ⊥
+IsDamage (logs.NoPoint point) = ⊥
+IsDamage logs.Broken = ⊥
+IsDamage (logs.Full part) = ⊥
+IsDamage (logs.TooLong point) = ⊥
+
+-- what is so of a log that isn't replayed for this fault
+abbrev pub IsUnread : Image → ℕ → LogFault → Type 0
+IsUnread image n logs.Absent = HasNoLog image n
+IsUnread image n (logs.Damaged part) = HasNoLog image n
+IsUnread image n logs.Disk = Unit {0}
+IsUnread image n logs.NoMem = Unit {0}
+IsUnread image n logs.Complete = ⊥
+IsUnread image n (logs.NoPoint point) = ⊥
+IsUnread image n logs.Broken = ⊥
+IsUnread image n (logs.Full part) = ⊥
+IsUnread image n (logs.TooLong point) = ⊥
+
+-- all records of a log are added to sums over other logs
+pub record AddsAll (n : ℕ) (body : Body) (image : Image) (old new : Totals) : Type 0 where
+  pub records : List Record
+  pub all : AreAll (laid_at n body image) body records
+  pub sums : (logs : List Stored) → old ≡ totals_of logs → new ≡ totals_with logs records
+
+-- records of a log are added one by one: it only read, and stands behind those that were added
+pub record IsAdding (tells : Type 0) (start log : ViewState) (old now : DiskView) (before sums : Totals) : Type 0 where
+  pub number : log.number ≡ start.number
+  pub body : log.body ≡ start.body
+  pub disk : (f : FileId) → old.faults f ≤ now.faults f
+  pub reads : tells → OnlyReads old now
+  pub behind : tells → IsBehind start [] old → (records : List Record) × IsBehind log records now × ((logs : List Stored) → before ≡ totals_of logs → sums ≡ totals_with logs records)
+
+-- logs are summed up one by one: of the disk was only read
+pub record IsSumming (tells : Type 0) (numbers : List ℕ) (old now : DiskView) (sums : Totals) : Type 0 where
+  pub disk : (f : FileId) → old.faults f ≤ now.faults f
+  pub reads : tells → OnlyReads old now
+  pub replayed : tells → (logs : List Stored) × AreReplayed now.reads numbers logs × (sums ≡ totals_of logs)

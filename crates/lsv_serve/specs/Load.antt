@@ -1,0 +1,65 @@
+-- A run of the command `load`: the generated conversations are served, and the summary of their logs is put.
+use Rattle.std.specs.Prelude.{◌≡◌, ◌++◌, ℕ, List, [], Option, None}
+use Rattle.lsv_words.specs.Causes.{HasRisen}
+use Rattle.lsv_words.specs.Pieces.{IsPrefix}
+use Rattle.lsv_conf.specs.Lines.{Placed, first_refused}
+use Rattle.lsv_disk.specs.View.{DiskView, IsCrashImage}
+use Rattle.lsv_machine.specs.Disks.{NumbersFit}
+use Rattle.lsv_machine.specs.Machine.{Settings}
+use Rattle.lsv_keeper.specs.Reading.{reading_of}
+use Rattle.lsv_turns.specs.Turns.{TapeTurn}
+use Rattle.lsv_lane.specs.Store.{KeepsStore}
+use Rattle.lsv_load.specs.Runs.{RunsLoad}
+use Rattle.lsv_load.specs.declared.run.LoadEnd.TheVariants as ends
+use Rattle.lsv_serve.specs.declared.status.Status.{Status}
+use Rattle.lsv_serve.specs.declared.status.Status.TheVariants.{Served, Usage, Conf, Store, ReadFault, WriteFault, PortFault, NoMem}
+use Rattle.lsv_serve.specs.Causes.{HasConfCause, HasPlacesAt}
+use Rattle.lsv_serve.specs.Program.{lines_in, machine_of, prompts_of, set_by}
+use Rattle.lsv_serve.specs.World.{World}
+
+-- all of the summary was put
+pub record PutsSummary {D : Type 0} (tape_tells : Type 0) (view : D → DiskView) (set : Settings) (texts : List (List ℕ)) (count : ℕ) (old new : World) (found left : D) (tape new_tape : List TapeTurn) : Type 0 where
+  pub text : List ℕ
+  pub run : RunsLoad old.disk_tells tape_tells view set texts count found left tape new_tape (ends.Served text)
+  pub put : old.sink_tells → new.put ≡ old.put ++ text
+
+-- a write of the summary failed, of which a first part was put
+pub record PutsPart {D : Type 0} (tape_tells : Type 0) (view : D → DiskView) (set : Settings) (texts : List (List ℕ)) (count : ℕ) (old new : World) (found left : D) (tape new_tape : List TapeTurn) : Type 0 where
+  pub text : List ℕ
+  pub run : RunsLoad old.disk_tells tape_tells view set texts count found left tape new_tape (ends.Served text)
+  pub risen : HasRisen old.write_faults new.write_faults
+  pub put : old.sink_tells → (front : List ℕ) × IsPrefix front text × (new.put ≡ old.put ++ front)
+
+-- nothing was put
+abbrev pub PutsNothing : (old new : World) → Type 0
+PutsNothing old new = old.sink_tells → new.put ≡ old.put
+
+-- a run by its status
+abbrev pub LoadsTo : {D : Type 0} (tape_tells : Type 0) (view : D → DiskView) → Settings → List (List ℕ) → (count : ℕ) → (old new : World) (found left : D) (tape new_tape : List TapeTurn) → Status → Type 0
+LoadsTo {D} tape_tells view set texts count old new found left tape new_tape Served = PutsSummary tape_tells view set texts count old new found left tape new_tape
+LoadsTo {D} tape_tells view set texts count old new found left tape new_tape WriteFault = PutsPart tape_tells view set texts count old new found left tape new_tape
+LoadsTo {D} tape_tells view set texts count old new found left tape new_tape (Store fault) = RunsLoad old.disk_tells tape_tells view set texts count found left tape new_tape (ends.Store fault) × PutsNothing old new
+LoadsTo {D} tape_tells view set texts count old new found left tape new_tape NoMem = RunsLoad old.disk_tells tape_tells view set texts count found left tape new_tape ends.NoMem × PutsNothing old new
+LoadsTo {D} tape_tells view set texts count old new found left tape new_tape (Conf line) = (old.disk_tells → KeepsStore ⊥ set texts (record { found = view found; left = view left }) []) × (new_tape ≡ tape) × PutsNothing old new
+LoadsTo {D} tape_tells view set texts count old new found left tape new_tape Usage = ⊥
+LoadsTo {D} tape_tells view set texts count old new found left tape new_tape ReadFault = ⊥
+LoadsTo {D} tape_tells view set texts count old new found left tape new_tape PortFault = ⊥
+
+-- why a run ended so: its settings weren't read, or no line of them is refused
+abbrev pub HasLoadCause : (lines : List Placed) (faults faults' : ℕ) → Status → Type 0
+HasLoadCause lines faults faults' Served = first_refused lines ≡ None
+HasLoadCause lines faults faults' WriteFault = first_refused lines ≡ None
+HasLoadCause lines faults faults' (Store fault) = first_refused lines ≡ None
+HasLoadCause lines faults faults' NoMem = Unit {0}
+HasLoadCause lines faults faults' (Conf line) = HasConfCause lines faults faults' line
+HasLoadCause lines faults faults' Usage = ⊥
+HasLoadCause lines faults faults' ReadFault = ⊥
+HasLoadCause lines faults faults' PortFault = ⊥
+
+-- a run of `load` with the settings file as it was found
+pub record LoadsAs {D : Type 0} (tape_tells : Type 0) (view : D → DiskView) (set : Option (List ℕ)) (faults faults' : ℕ) (count : ℕ) (old new : World) (found left : D) (tape new_tape : List TapeTurn) (status : Status) : Type 0 where
+  pub runs : LoadsTo tape_tells view (machine_of (set_by set)) (prompts_of (set_by set)) count old new found left tape new_tape status
+  pub cause : HasLoadCause (lines_in set) faults faults' status
+  pub places : old.disk_tells → HasPlacesAt (set_by set).iolog_dir (set_by set).path (view found) (view left) status
+  -- the numbers fit the images of the disk again, as the next run asks
+  pub fresh_again : old.disk_tells → NumbersFit (reading_of 0 1) 0 1 (IsCrashImage (view found)) → NumbersFit (reading_of 0 1) 0 1 (IsCrashImage (view left))

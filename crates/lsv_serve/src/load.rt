@@ -1,0 +1,143 @@
+//! The command `load`: the generated conversations, over the store of one lane.
+
+ghost use Rattle.std.specs.Prelude.{◌≡◌, ◌≤◌, ℕ};
+ghost use Rattle.lsv_event.specs.declared.event.Kind.TheVariants as kinds;
+ghost use Rattle.lsv_lane.specs.Store.{IsFresh};
+ghost use Rattle.lsv_serve.specs.Causes.{HasPlaces};
+ghost use Rattle.lsv_serve.specs.InnerServe.{LoadsBy, TellsLoad};
+ghost use Rattle.lsv_serve.specs.Once.{once_settings};
+ghost use Rattle.lsv_serve.specs.World.{world_of};
+
+use crate::answers::write_answers;
+use crate::once::give_places;
+use crate::outside::{Kept, Options, Outside};
+use crate::status::Status;
+use lsv_base::{Clock, Sink, Source};
+use lsv_disk::Disk;
+use lsv_event::Kind;
+use lsv_hook::{Formatter, LineWriter};
+use lsv_lane::Bay;
+use lsv_load::{LoadEnd, run_load};
+use lsv_mask::{Prompt, Search};
+use lsv_server::Plan;
+use lsv_turns::Tape;
+use std::alloc::Global;
+
+/// Puts the summary of a load, and says how the run ended.
+fn tell_load<K: Sink>(sink: &mut K, end: LoadEnd) -> Status
+    ensures { TellsLoad K.tells (K.put sink.old) (K.put sink.new) (K.faults sink.old) (K.faults sink.new) end result }
+{
+    match end {
+        LoadEnd::Served(text) => match write_answers(sink, text.as_slice()) {
+            Ok(()) => Status::Served,
+            Err(_) => Status::WriteFault,
+        },
+        LoadEnd::Store(fault) => Status::Store(fault),
+        LoadEnd::NoMem => Status::NoMem,
+    }
+}
+
+/// Gives the disk the places of the store, and runs the load with event lines of this formatter.
+fn load_by<
+    S: Source,
+    K: Sink,
+    P,
+    D: Disk,
+    C: Clock,
+    G: Tape,
+    T,
+    N,
+    F: LineWriter + Drop,
+    H: Search + Drop,
+>(
+    alloc: Global,
+    options: Options,
+    count: u32,
+    out: Outside<S, K, P, D, C, G, T, N>,
+    formatter: Formatter<F>,
+    prompt: Prompt<H>,
+) -> (Outside<S, K, P, D, C, G, T, N>, Status)
+    requires first { 1 ≤ count }
+    requires last { count ≤ 10000 }
+    requires fresh { D.tells → IsFresh 0 1 (D.view out.disk) }
+    ensures runs { LoadsBy G.tells D.view (once_settings formatter.kind options.log_exit) options.prompts count
+        (world_of ⟦<S as Source>⟧ ⟦<K as Sink>⟧ ⟦<D as Disk>⟧ out.source out.sink out.disk)
+        (world_of ⟦<S as Source>⟧ ⟦<K as Sink>⟧ ⟦<D as Disk>⟧ result.0.source result.0.sink result.0.disk)
+        out.disk result.0.disk (G.turns out.tape) (G.turns result.0.tape) result.1 }
+    ensures places { D.tells → HasPlaces options.logs options.events (D.view result.0.disk) }
+    ensures beside { (result.0.source ≡ out.source) × (result.0.ports ≡ out.ports) × (result.0.texts ≡ out.texts) }
+{
+    let Outside {
+        source,
+        mut sink,
+        ports,
+        mut disk,
+        clock,
+        tape,
+        texts,
+        notices,
+    } = out;
+    give_places(&mut disk, &options);
+    let Options {
+        log_exit, prompts, ..
+    } = options;
+    let plan = Plan {
+        formatter,
+        log_exit,
+        texts: prompts,
+        prompt,
+    };
+    let (bay, end) = run_load(alloc, count, Bay { disk, clock, tape }, plan);
+    let Bay { disk, clock, tape } = bay;
+    let status = tell_load(&mut sink, end);
+    let out = Outside {
+        source,
+        sink,
+        ports,
+        disk,
+        clock,
+        tape,
+        texts,
+        notices,
+    };
+    (out, status)
+}
+
+/// Serves so many generated conversations over the store of one lane, and puts the summary of the logs that they leave. Nothing
+/// else changes the store while it runs.
+pub fn serve_load<
+    S: Source,
+    K: Sink,
+    P,
+    D: Disk,
+    C: Clock,
+    G: Tape,
+    T,
+    N,
+    F: LineWriter + Drop,
+    J: LineWriter + Drop,
+    H: Search + Drop,
+>(
+    alloc: Global,
+    options: Options,
+    count: u32,
+    out: Outside<S, K, P, D, C, G, T, N>,
+    kept: Kept<F, J, H>,
+) -> (Outside<S, K, P, D, C, G, T, N>, Status)
+    requires sudo { kept.sudo.kind ≡ kinds.Sudo }
+    requires json { kept.json.kind ≡ kinds.Json }
+    requires first { 1 ≤ count }
+    requires last { count ≤ 10000 }
+    requires fresh { D.tells → IsFresh 0 1 (D.view out.disk) }
+    ensures runs { LoadsBy G.tells D.view (once_settings options.form options.log_exit) options.prompts count
+        (world_of ⟦<S as Source>⟧ ⟦<K as Sink>⟧ ⟦<D as Disk>⟧ out.source out.sink out.disk)
+        (world_of ⟦<S as Source>⟧ ⟦<K as Sink>⟧ ⟦<D as Disk>⟧ result.0.source result.0.sink result.0.disk)
+        out.disk result.0.disk (G.turns out.tape) (G.turns result.0.tape) result.1 }
+    ensures places { D.tells → HasPlaces options.logs options.events (D.view result.0.disk) }
+    ensures beside { (result.0.source ≡ out.source) × (result.0.ports ≡ out.ports) × (result.0.texts ≡ out.texts) }
+{
+    match options.form {
+        Kind::Sudo => load_by(alloc, options, count, out, kept.sudo, kept.prompt),
+        Kind::Json => load_by(alloc, options, count, out, kept.json, kept.prompt),
+    }
+}
