@@ -2,4 +2,10 @@
 #![tactic(auto)]
 
 #[cfg(test)]
+mod answering;
+#[cfg(test)]
+mod frames;
+#[cfg(test)]
 mod port;
+#[cfg(test)]
+mod served;

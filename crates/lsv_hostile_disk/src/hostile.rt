@@ -19,6 +19,8 @@ pub enum Plan {
     Length(u64),
     /// The machine stops behind the call of this number: no later one reaches the disk.
     Stop(u64),
+    /// Each sync of this file fails while it has so many bytes or more.
+    Sync(FileId, u64),
 }
 
 /// What a crash makes of the bytes that it may leave in any way.
@@ -168,6 +170,22 @@ impl Hostile {
         }
     }
 
+    /// Whether a sync of this file fails by its length.
+    fn fails_sync(&mut self, f: FileId) -> bool
+        ensures { self.new.faults ≡ self.old.faults }
+    {
+        let Plan::Sync(file, least) = self.plan else {
+            return false;
+        };
+        if file != f {
+            return false;
+        }
+        match self.disk.length(f) {
+            Ok(Some(length)) => length >= least,
+            _ => false,
+        }
+    }
+
     /// A failure at a file is counted.
     fn counted<T: Drop>(&mut self, f: FileId, answer: Result<T, DiskFault>) -> Result<T, DiskFault>
         ensures same { result ≡ answer }
@@ -240,7 +258,8 @@ impl Disk for Hostile {
     }
 
     fn sync(&mut self, f: FileId) -> Result<(), DiskFault> {
-        let answer = if self.begins() {
+        let reaches = self.begins();
+        let answer = if reaches && !self.fails_sync(f) {
             self.disk.sync(f)
         } else {
             Err(DiskFault)

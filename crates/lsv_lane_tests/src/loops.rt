@@ -1,14 +1,15 @@
 //! A conversation through the loop, over a store in memory.
 
-use crate::scripted::{Scripted, Still};
+use crate::scripted::{Heard, Scripted, Still};
 use lsv_base::List;
 use lsv_gen::conversation;
-use lsv_hook::Formatter;
-use lsv_hostile_disk::{Hostile, Plan};
+use lsv_hook::{Formatter, SudoLines};
+use lsv_hostile_disk::{Hostile, Plan as Calls};
 use lsv_lane::Bay;
 use lsv_mask::{Prompt, TextSearch};
 use lsv_msg::decode_client;
-use lsv_server::{End, serve_store};
+use lsv_reactor::PortsEnd;
+use lsv_server::{End, Plan, Site, serve_store};
 use lsv_session::Body;
 use lsv_turns::MemTape;
 use lsv_wire::Framer;
@@ -33,11 +34,21 @@ fn bodies(alloc: Global) -> Result<Vec<Body>, Fail> {
     Ok(bodies)
 }
 
+/// Event lines in sudo's form, also of exits, and nothing is masked.
+fn plan(alloc: Global) -> Plan<SudoLines, TextSearch> {
+    Plan {
+        formatter: Formatter::sudo(),
+        log_exit: true,
+        texts: List::new(alloc),
+        prompt: Prompt::new(TextSearch),
+    }
+}
+
 #[test]
 fn a_conversation_is_served_and_each_turn_is_kept(rt: HostRuntime) -> Result<(), Fail> {
     let alloc = rt.alloc();
     let bay = Bay {
-        disk: Hostile::new(alloc, Plan::Whole)?,
+        disk: Hostile::new(alloc, Calls::Whole)?,
         clock: Still,
         tape: MemTape::new(alloc),
     };
@@ -47,16 +58,15 @@ fn a_conversation_is_served_and_each_turn_is_kept(rt: HostRuntime) -> Result<(),
         said: 0,
         is_shut: false,
     }];
-    let (bay, end) = serve_store(
-        alloc,
-        &mut posts,
-        bay,
-        Formatter::sudo(),
-        true,
-        List::new(alloc),
-        Prompt::new(TextSearch),
-    );
-    assert_eq!(rt; end, End::Over);
+    let mut heard = Heard { times: 0, last: 9 };
+    let site = Site {
+        address: "localhost:30343",
+        stop_after: None,
+        logs: "store",
+    };
+    let (bay, end) = serve_store(alloc, &mut posts, bay, plan(alloc), &site, &mut heard);
+    assert_eq!(rt; end, End::Over(PortsEnd::Stopped));
+    assert_eq!(rt; (heard.times, heard.last), (1, 0));
     assert_eq!(rt; (posts[0].said, posts[0].is_shut), (4, true));
     assert_eq!(rt; bay.tape.turns().len(), 6);
     Ok(())

@@ -3,7 +3,8 @@
 ghost use Rattle.lsv_lane_tests.specs.Nothing.{no_port};
 
 use lsv_base::{Clock, TimeSpec};
-use lsv_reactor::Post;
+use lsv_reactor::{Post, PostEnd};
+use lsv_server::{Notices, Site};
 use lsv_session::{Body, ConnId, Job, Reply, ReplyBody};
 
 /// A clock that stands still.
@@ -16,6 +17,20 @@ impl Clock for Still {
             sec: 1_700_000_000,
             nsec: 0,
         }
+    }
+}
+
+/// Keeps how often a server told that it serves, and the last log number that it named then.
+#[derive(Drop)]
+pub(crate) struct Heard {
+    pub times: u32,
+    pub last: u32,
+}
+
+impl Notices for Heard {
+    fn serving(&mut self, _site: &Site<'_>, last: u32) {
+        self.times = self.times.saturating_add(1);
+        self.last = last;
     }
 }
 
@@ -41,6 +56,10 @@ impl Post for Scripted {
 
     ghost made_by = { λ _ _ _ _. Unit {0} };
 
+    fn open(&mut self, _address: &str, _stop_after: Option<u32>) -> bool {
+        true
+    }
+
     fn wait(&mut self, jobs: &mut Vec<Job>) {
         if let Some(body) = self.bodies.pop() {
             let conn = ConnId {
@@ -60,8 +79,11 @@ impl Post for Scripted {
         }
     }
 
-    fn is_over(&self) -> bool {
-        self.bodies.is_empty() && self.is_shut
+    fn end(&self) -> Option<PostEnd> {
+        if self.bodies.is_empty() && self.is_shut {
+            return Some(PostEnd::Stopped);
+        }
+        None
     }
 
     fn stop(&mut self) {

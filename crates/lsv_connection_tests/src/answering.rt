@@ -1,0 +1,92 @@
+//! A lane that answers by fixed rules and keeps all jobs.
+
+ghost use Rattle.std.specs.Prelude.{IfOk, IsSome};
+ghost use Rattle.lsv_base.specs.Time.{nanos_of};
+
+use crate::frames::LONG;
+use lsv_base::{Bytes, NoMem, TimeSpec};
+use lsv_msg::{ClientMessage, ServerMessage};
+use lsv_session::{Body, ConnId, Job, Reply, ReplyBody};
+use lsv_turns::Lane;
+use std::alloc::Global;
+
+/// How many bytes are answered to the text `long`: with so many unsent a link isn't read.
+pub(crate) const LADEN: usize = 65_536;
+
+/// It says each text to the connection that brought it; at an exit, at bytes that are no message and at its end a connection
+/// is shut.
+#[derive(Drop)]
+pub(crate) struct Answering {
+    pub alloc: Global,
+    pub turns: Vec<Vec<Job>>,
+    /// The connections that are shut.
+    pub shut: Vec<u64>,
+}
+
+impl Answering {
+    /// No turn was done.
+    pub fn new(alloc: Global) -> Self {
+        Answering {
+            alloc,
+            turns: Vec::new(alloc),
+            shut: Vec::new(alloc),
+        }
+    }
+
+    /// What is answered to a text.
+    fn answer(&self, text: &[u8]) -> Result<ServerMessage, NoMem> {
+        if text == LONG.as_bytes() {
+            let long = vec![in self.alloc; b'x'; LADEN]?;
+            return Ok(ServerMessage::Error(Bytes::from_vec(long)));
+        }
+        Ok(ServerMessage::Error(Bytes::of(self.alloc, text)?))
+    }
+
+    /// Shuts a connection, once.
+    fn shut(&mut self, conn: ConnId, last: bool, replies: &mut Vec<Reply>) -> Result<(), NoMem> {
+        if self.shut.contains(&conn.seq) {
+            return Ok(());
+        }
+        self.shut.push(conn.seq)?;
+        replies.push(Reply {
+            conn,
+            body: ReplyBody::Shut,
+            last,
+        })?;
+        Ok(())
+    }
+
+    /// Answers a job.
+    fn judge(&mut self, job: &Job, replies: &mut Vec<Reply>) -> Result<(), NoMem> {
+        match &job.body {
+            Body::Msg(ClientMessage::Ttyout(shown)) => {
+                if !self.shut.contains(&job.conn.seq) {
+                    replies.push(Reply {
+                        conn: job.conn,
+                        body: ReplyBody::Say(self.answer(shown.bytes.as_slice())?),
+                        last: false,
+                    })?;
+                }
+                Ok(())
+            }
+            Body::Msg(_) | Body::Bad(_) => self.shut(job.conn, false, replies),
+            Body::Gone => self.shut(job.conn, true, replies),
+        }
+    }
+}
+
+impl Lane for Answering {
+    ghost tells = { ⊥ };
+
+    ghost Start = { Unit {0} };
+
+    ghost made_by = { λ _ _ _. Unit {0} };
+
+    fn turn(&mut self, jobs: Vec<Job>, replies: &mut Vec<Reply>) -> Result<TimeSpec, NoMem> {
+        for job in &jobs {
+            self.judge(job, replies)?;
+        }
+        self.turns.push(jobs)?;
+        Ok(TimeSpec { sec: 0, nsec: 0 })
+    }
+}

@@ -1,0 +1,52 @@
+//! A clock that stands still, and who keeps what a server tells at its start.
+
+use lsv_base::{Bytes, Clock, TimeSpec};
+use lsv_server::{Notices, Site};
+use std::alloc::Global;
+
+/// A clock that stands still.
+#[derive(Drop)]
+pub struct Still;
+
+impl Clock for Still {
+    fn now(&mut self) -> TimeSpec {
+        TimeSpec {
+            sec: 1_700_000_000,
+            nsec: 0,
+        }
+    }
+}
+
+/// What a server told at its start.
+#[derive(Drop)]
+pub struct Told {
+    pub address: Bytes,
+    pub logs: Bytes,
+    pub stop_after: Option<u32>,
+    pub last: u32,
+}
+
+/// Keeps what a server tells at its start.
+#[derive(Drop)]
+pub struct Heard {
+    pub alloc: Global,
+    pub told: Vec<Told>,
+}
+
+impl Notices for Heard {
+    fn serving(&mut self, site: &Site<'_>, last: u32) {
+        let (Ok(address), Ok(logs)) = (
+            Bytes::of(self.alloc, site.address.as_bytes()),
+            Bytes::of(self.alloc, site.logs.as_bytes()),
+        ) else {
+            return;
+        };
+        let stop_after = site.stop_after;
+        let _ = self.told.push(Told {
+            address,
+            logs,
+            stop_after,
+            last,
+        });
+    }
+}

@@ -1,0 +1,111 @@
+//! What is printed of a tape: the jobs of each connection, in order.
+
+use anyhow::{Result, anyhow};
+use lsv_msg::ClientMessage;
+use lsv_session::{Body, ConnId, Fault, Job};
+use lsv_turns::MemTape;
+use std::alloc::Global;
+
+/// What a connection brought, one kind after the other.
+#[derive(Drop)]
+struct Brought {
+    conn: ConnId,
+    words: String,
+    /// The last kind, and how often it came one behind the other.
+    kind: String,
+    times: u64,
+}
+
+/// The word for a message.
+fn word_of(message: &ClientMessage) -> &'static str {
+    match message {
+        ClientMessage::Accept(_) => "accept",
+        ClientMessage::Reject(_) => "reject",
+        ClientMessage::Exit(_) => "exit",
+        ClientMessage::Restart(_) => "restart",
+        ClientMessage::Alert(_) => "alert",
+        ClientMessage::Ttyin(_) => "ttyin",
+        ClientMessage::Ttyout(_) => "ttyout",
+        ClientMessage::Stdin(_) => "stdin",
+        ClientMessage::Stdout(_) => "stdout",
+        ClientMessage::Stderr(_) => "stderr",
+        ClientMessage::Winsize(_) => "window",
+        ClientMessage::Suspend(_) => "suspend",
+        ClientMessage::Hello(_) => "hello",
+    }
+}
+
+/// The word for what a connection brings.
+fn kind_of(alloc: Global, body: &Body) -> Result<String> {
+    let word = match body {
+        Body::Msg(message) => word_of(message),
+        Body::Bad(Fault::Malformed(_)) => "malformed",
+        Body::Bad(Fault::TooLarge(stated)) => return Ok(format!(in alloc; "large:{stated}")?),
+        Body::Bad(Fault::NoMem) => "starved",
+        Body::Gone => "gone",
+    };
+    Ok(format!(in alloc; "{word}")?)
+}
+
+impl Brought {
+    /// Nothing yet.
+    fn new(alloc: Global, conn: ConnId) -> Self {
+        Brought {
+            conn,
+            words: String::new(alloc),
+            kind: String::new(alloc),
+            times: 0,
+        }
+    }
+
+    /// The last kind is written.
+    fn settle(&mut self, alloc: Global) -> Result<()> {
+        let word = match self.times {
+            0 => return Ok(()),
+            1 => format!(in alloc; " {}", self.kind)?,
+            times => format!(in alloc; " {}*{times}", self.kind)?,
+        };
+        self.words.push_str(word.as_str())?;
+        self.times = 0;
+        Ok(())
+    }
+
+    /// A job more.
+    fn add(&mut self, alloc: Global, job: &Job) -> Result<()> {
+        let kind = kind_of(alloc, &job.body)?;
+        if kind.as_str() != self.kind.as_str() {
+            self.settle(alloc)?;
+            self.kind = kind;
+        }
+        self.times = self.times.saturating_add(1);
+        Ok(())
+    }
+}
+
+/// Adds a job to those of its connection.
+fn add(alloc: Global, all: &mut Vec<Brought>, job: &Job) -> Result<()> {
+    if !all.iter().any(|brought| brought.conn == job.conn) {
+        all.push(Brought::new(alloc, job.conn))?;
+    }
+    let its = all.iter_mut().find(|brought| brought.conn == job.conn);
+    its.ok_or(anyhow!("a connection"))?.add(alloc, job)
+}
+
+/// Prints the jobs of each connection, in the order in which the connections came.
+pub fn show_tape(rt: &HostRuntime, tape: &MemTape) -> Result<()> {
+    let alloc = rt.alloc();
+    let mut all = Vec::new(alloc);
+    for turn in tape.turns() {
+        for job in turn.jobs.as_slice() {
+            add(alloc, &mut all, job)?;
+        }
+    }
+    for brought in &mut all {
+        brought.settle(alloc)?;
+        println!(rt;
+            "jobs {}.{}{}",
+            brought.conn.worker, brought.conn.seq, brought.words
+        )?;
+    }
+    Ok(())
+}
