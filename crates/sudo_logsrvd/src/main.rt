@@ -1,6 +1,8 @@
 //! The log server of sudo: it stores the sessions that sudo sends it.
 #![tactic(auto)]
 
+ghost use Rattle.std.specs.Prelude.{◌≡◌, length, IfOk};
+
 mod advice;
 mod herald;
 mod told;
@@ -39,7 +41,9 @@ fn words(rt: &HostRuntime, alloc: Global) -> Result<List<Bytes>, Status> {
 }
 
 /// The one port of `serve`.
-fn ports(rt: HostRuntime) -> Result<Vec<MioPort<HostRuntime>>, Status> {
+fn ports(rt: HostRuntime) -> Result<Vec<MioPort<HostRuntime>>, Status>
+    ensures { IfOk result (λ ports. length ports.items ≡ 1) }
+{
     let mut ports = Vec::new(rt.alloc());
     let Ok(port) = MioPort::new(rt, rt, "sudo_logsrvd") else {
         return Err(Status::NoMem);
