@@ -24,7 +24,7 @@ const CONF: &str = "conf";
 pub type MemOutside = Outside<
     MemSource,
     MemSink,
-    MemPort,
+    Watched,
     Hostile,
     Still,
     MemTape,
