@@ -79,7 +79,9 @@ fn load_by<
     } = out;
     give_places(&mut disk, &options);
     let Options {
-        log_exit, prompts, ..
+        log_exit,
+        prompts,
+        ..
     } = options;
     let plan = Plan {
         formatter,

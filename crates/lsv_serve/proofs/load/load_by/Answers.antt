@@ -11,7 +11,7 @@ pub returns-clause-runs : goal.returns-clause-runs
 returns-clause-runs g c = record {
   end = c.run_load-bay.result.1;
   run = load_before g.D.Disk.tells g.G.Tape.tells g.D.Disk.view (once_settings c.args.formatter.kind c.args.options.log_exit) c.args.options.prompts c.args.count c.args.out.disk c.give_places.new.disk c.run_load-bay.result.0.disk
-  (g.G.Tape.turns c.args.out.tape) (g.G.Tape.turns c.run_load-bay.result.0.tape) c.run_load-bay.result.1 c.give_places.ensures.frame c.run_load-bay.ensures.runs;
+      (g.G.Tape.turns c.args.out.tape) (g.G.Tape.turns c.run_load-bay.result.0.tape) c.run_load-bay.result.1 c.give_places.ensures.frame c.run_load-bay.ensures.runs;
   told = c.tell_load-status.ensures;
 }
 

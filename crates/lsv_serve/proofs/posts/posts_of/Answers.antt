@@ -49,8 +49,8 @@ loop-port-preserved g c =
           let view : g.row.P.Denot → PortView = view_by g.P.Port.state g.P.Port.ledger in
           let n : (setting c.in_ok-new.field-0.worker).number ≡ length c.loop-port.posts.items = c.in_ok-new.ensures.number ∙ (c.loop-port.invariant.number ∙ sym c.loop-port.invariant.size) in
           rw (c.in_ok-push.ensures.items, map-append view c.loop-port.yielded (c.in-Some.port ∷ [])) (
-            posts_more (λ post. (setting post.worker).number) (λ start post gave took. IsMade g.P.Port.tells g.P.Port.state g.P.Port.ledger start post gave took) (map view c.loop-port.yielded) c.loop-port.posts.items (view c.in-Some.port) c.in_ok-new.field-0
-            n c.in_ok-new.ensures.made c.loop-port.invariant.posts
+          posts_more (λ post. (setting post.worker).number) (λ start post gave took. IsMade g.P.Port.tells g.P.Port.state g.P.Port.ledger start post gave took) (map view c.loop-port.yielded) c.loop-port.posts.items (view c.in-Some.port) c.in_ok-new.field-0
+          n c.in_ok-new.ensures.made c.loop-port.invariant.posts
           );
     }
 

@@ -38,6 +38,6 @@ returns-in-Ok-conf_in-clause-loads g c =
       found,
       λ told. c.in-Ok.ensures.ok told,
       loads_read g.G.Tape.tells g.D.Disk.view c.args.count old new c.args.out.disk out.disk (g.G.Tape.turns c.args.out.tape) (g.G.Tape.turns out.tape) found (g.T.Texts.faults c.args.out.texts) _ c.serve_load.result.1 (λ d told image is. g.met.D.Disk.is_now told d image is) c.in-Ok-conf_in.ensures.none_refused
-      (rw (form, log_exit, prompts) at c.serve_load.ensures.runs)
-      (λ told. subst (λ (e : List ℕ). HasPlaces (set_by found).iolog_dir e new.disk) events (subst (λ (l : List ℕ). HasPlaces l c.options_of.result.events new.disk) logs (c.serve_load.ensures.places told))),
+          (rw (form, log_exit, prompts) at c.serve_load.ensures.runs)
+          (λ told. subst (λ (e : List ℕ). HasPlaces (set_by found).iolog_dir e new.disk) events (subst (λ (l : List ℕ). HasPlaces l c.options_of.result.events new.disk) logs (c.serve_load.ensures.places told))),
     )

@@ -34,11 +34,10 @@ returns-in-Ok-conf_in-clause-serves g c =
     let log_exit : c.options_of.result.log_exit ≡ (set_by found).log_exit = c.options_of.ensures.log_exit ∙ ap (λ (s : conf.Settings). s.log_exit) set in
     let prompts : c.options_of.result.prompts ≡ prompts_of (set_by found) = c.options_of.ensures.prompts ∙ ap prompts_of set in
     let logs : c.options_of.result.logs ≡ (set_by found).iolog_dir = c.options_of.ensures.logs ∙ ap (λ (s : conf.Settings). s.iolog_dir) set in
-    let events : c.options_of.result.events ≡ (set_by found).path = c.options_of.ensures.events ∙ ap (λ (s : conf.Settings). s.path) set in
-    (
+    let events : c.options_of.result.events ≡ (set_by found).path = c.options_of.ensures.events ∙ ap (λ (s : conf.Settings). s.path) set in (
       found,
       λ told. c.in-Ok.ensures.ok told,
       serves_read found (g.T.Texts.faults c.args.out.texts) _ old new c.run_serve.result.1 (λ told image is. g.met.D.Disk.is_now told out.disk image is) c.in-Ok-conf_in.ensures.none_refused
-      (rw (form, log_exit, prompts) at c.run_serve.ensures.runs)
-      (λ told. subst (λ (e : List ℕ). HasPlaces (set_by found).iolog_dir e new.disk) events (subst (λ (l : List ℕ). HasPlaces l c.options_of.result.events new.disk) logs (c.run_serve.ensures.places told))),
+          (rw (form, log_exit, prompts) at c.run_serve.ensures.runs)
+          (λ told. subst (λ (e : List ℕ). HasPlaces (set_by found).iolog_dir e new.disk) events (subst (λ (l : List ℕ). HasPlaces l c.options_of.result.events new.disk) logs (c.run_serve.ensures.places told))),
     )

@@ -30,7 +30,7 @@ returns-clause-runs g c =
     let held : length c.in-Ok-posts_of.posts.items ≡ c.in-Ok-posts_of.posts.len = let o = c.in-Ok-posts_of.posts.ok.0 in omega (arith, o) in
     let same : length c.serve_store-bay.new.posts ≡ length olds = let n = c.in-Ok-posts_of.ensures.count in omega (arith, n, size, held) in
     let views : map (view_by g.P.Port.state g.P.Port.ledger) c.ports_of.result.items ≡ map view c.serve_store-bay.new.posts =
-        c.ports_of.ensures ∙ ap (map view) (written_back c.in-Ok-posts_of.posts.len c.in-Ok-posts_of.posts.items c.serve_store-bay.new.posts size held) in
+    c.ports_of.ensures ∙ ap (map view) (written_back c.in-Ok-posts_of.posts.len c.in-Ok-posts_of.posts.items c.serve_store-bay.new.posts size held) in
     record {
       turns = r.0;
       store = r.1;
