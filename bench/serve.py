@@ -16,6 +16,7 @@ import socket
 import subprocess
 import sys
 import tempfile
+import threading
 import time
 
 sys.path.insert(0, os.path.join(os.path.dirname(os.path.abspath(__file__)), "..", "interop"))
@@ -178,6 +179,27 @@ def measure_memory(sides, share):
     told(f"memory added over {logs} logs", "MiB", grown)
 
 
+def measure_hostile(side):
+    """Peak while 128 clients send accepts of 2 MiB with some 350,000 empty entries at once."""
+    place = side.place("/dev/shm")
+    server = side.kind(side.program, place).start()
+    links = [client.connect(place.port) for _ in range(128)]
+    frame = client.hostile()
+    threads = [threading.Thread(target=link.send, args=(frame,)) for link in links]
+    for thread in threads:
+        thread.start()
+    for link in links:
+        while link.read()[0] != "error":
+            pass
+    for thread in threads:
+        thread.join()
+    told("peak of memory with 128 clients that send accepts of 350,000 empty entries", "MiB", [memory(server.process, "VmHWM") / 2**20])
+    for link in links:
+        link.close()
+    server.stop()
+    shutil.rmtree(place.folder)
+
+
 def syncs_alone(folder, times):
     """How often a second two data files and twice a journal can be written and synced, one after the other."""
     files = [os.open(os.path.join(folder, f"alone{number}"), os.O_RDWR | os.O_CREAT, 0o600) for number in range(3)]
@@ -277,6 +299,8 @@ def main():
         measure_loads(sides, [("/dev/shm", "/dev/shm"), (os.path.abspath(folder), "disk")], args.share)
     if args.only in ("", "peer", "memory"):
         measure_memory(sides, args.share)
+    if args.only in ("", "memory"):
+        measure_hostile(ours)
     if args.only in ("", "commits"):
         measure_commits(ours, os.path.abspath(folder), args.share)
     if args.only in ("", "load"):

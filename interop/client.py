@@ -78,6 +78,12 @@ def accept(submit, info, expect_iobufs=True):
     return frame(field(1, field(1, timespec(submit)) + entries + scalar(3, expect_iobufs)))
 
 
+def hostile():
+    """An accept of about 2 MiB of entries with an empty key and an empty text, which takes many times as much to read."""
+    entry_of_nothing = field(2, b"\x0a\x00\x1a\x00")
+    return frame(field(1, field(1, timespec(SECOND)) + entry_of_nothing * 349_000 + scalar(3, True)))
+
+
 def refusal(name, at, reason, info):
     """A reject or an alert."""
     entries = b"".join(field(3, entry(key, value)) for key, value in info.items())

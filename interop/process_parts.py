@@ -112,6 +112,30 @@ def part_limit_of_files(trial):
             raise Differs(f"{log.body.elapsed} ns are stored, and {points[-1]} were committed")
 
 
+def little_memory():
+    resource.setrlimit(resource.RLIMIT_AS, (28 << 20, 28 << 20))
+
+
+@only("serve")
+def part_want_of_memory(trial):
+    """A message whose reading wants more memory than there is: its client is told so and shut, and nobody else."""
+    with Fresh(trial, before=little_memory) as fresh:
+        beside = fresh.server.connect()
+        beside.send(client.hello(), ACCEPT)
+        heard = [beside.read(), beside.read()]
+        hostile = fresh.server.connect()
+        hostile.send(client.hostile())
+        same("answers", [hostile.read()[0], hostile.read()], ["hello", ("error", "out of memory")])
+        hostile.close()
+        fresh.session()
+        record = (SECOND, "ttyout", b"abc")
+        beside.send(client.record(record), client.exited(SECOND))
+        heard += [beside.read()]
+        same("answers of the other", [name for name, _ in heard], ["hello", "log_id", "commit_point"])
+        same("its records", store.read_log(fresh.place.store, heard[1][1]).records, [record])
+        beside.close()
+
+
 @only("serve")
 def part_second_server(trial):
     """Another server on the same store ends with status 4, and the first goes on."""
