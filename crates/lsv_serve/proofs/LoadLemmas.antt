@@ -14,14 +14,15 @@ use Rattle.lsv_turns.specs.Turns.{LaneTurn, TapeTurn}
 use Rattle.lsv_server.specs.Runs.{IsUp}
 use Rattle.lsv_server.specs.declared.run.End.{End}
 use Rattle.lsv_server.specs.declared.run.End.TheVariants as up
-use Rattle.lsv_load.specs.Runs.{EndsLoad, RunsLoad}
+use Rattle.lsv_server.proofs.CompleteLemmas.{completes}
+use Rattle.lsv_load.specs.Runs.{EndsLoad, RunsLoad, view_of}
 use Rattle.lsv_load.specs.declared.run.LoadEnd.{LoadEnd}
 use Rattle.lsv_load.specs.declared.run.LoadEnd.TheVariants as ends
 use Rattle.lsv_serve.specs.declared.status.Status.{Status}
 use Rattle.lsv_serve.specs.declared.status.Status.TheVariants.{Served, Conf, Store, WriteFault, NoMem}
 use Rattle.lsv_serve.specs.Causes.{HasPlaces, HasPlacesAt}
 use Rattle.lsv_serve.specs.InnerServe.{LoadsBy, TellsLoad}
-use Rattle.lsv_serve.specs.Load.{HasLoadCause, LoadsAs, LoadsTo}
+use Rattle.lsv_serve.specs.Load.{CompletesLoad, HasLoadCause, LoadsAs, LoadsTo, while_up}
 use Rattle.lsv_serve.specs.Program.{lines_in, machine_of, prompts_of, set_by}
 use Rattle.lsv_serve.specs.World.{World}
 use Rattle.lsv_serve.proofs.ProgramLemmas.{Unread}
@@ -67,6 +68,10 @@ load_before tells taping view set texts count found after left tape new_tape end
 
 -- ---- By its status
 
+complete_load : {D : Type 0} (tells taping : Type 0) (view : D → DiskView) (set : Settings) (texts : List (List ℕ)) (count : ℕ) (found left : D) (tape new_tape : List TapeTurn) → CompletesLoad tells taping view set texts count found left tape new_tape
+complete_load tells taping view set texts count found left tape new_tape text run told up =
+    completes tells told set texts (view found) (view run.served) run.turns (while_up up (run.store.keeps told)) 0 (view_of run.ends.load.old) (view_of run.ends.load.new) run.ends.load.served.served
+
 module _ {D : Type 0} (taping : Type 0) (view : D → DiskView) (count : ℕ) (old new : World) (found left : D) (tape new_tape : List TapeTurn) where
   runs_to : (set : Settings) (texts : List (List ℕ)) (status : Status) (end : LoadEnd) → RunsLoad old.disk_tells taping view set texts count found left tape new_tape end
       → TellsLoad old.sink_tells old.put new.put old.write_faults new.write_faults end status → LoadsTo taping view set texts count old new found left tape new_tape status
@@ -94,6 +99,7 @@ module _ {D : Type 0} (taping : Type 0) (view : D → DiskView) (count : ℕ) (o
   loads_read set faults faults' status is_now none b places = record {
     runs = runs_to (machine_of (set_by set)) (prompts_of (set_by set)) status b.end b.run b.told;
     cause = cause_to set faults faults' status b.end none b.told;
+    complete = complete_load old.disk_tells taping view (machine_of (set_by set)) (prompts_of (set_by set)) count found left tape new_tape;
     places = λ told. places_to (set_by set).iolog_dir (set_by set).path status b.end b.told (places told);
     fresh_again = λ told fit.
         fit_read (reading_of 0 1) 0 1 (view b.run.served) (view left) (b.run.read told) (is_now left told)
@@ -116,12 +122,14 @@ loads_unread taping view count old found tape set faults faults' status only_now
     λ told. refl,
   );
   cause = tt;
+  complete = complete_load old.disk_tells taping view (machine_of (set_by set)) (prompts_of (set_by set)) count found found tape tape;
   places = λ told. inr refl;
   fresh_again = λ told fit. fit;
 })
 loads_unread taping view count old found tape set faults faults' status only_now (inr (line, e, c)) = subst (LoadsAs taping view set faults faults' count old old found found tape tape) (sym e) (record {
   runs = (λ told. idle_keeps (view found) (only_now told) ⊥ (machine_of (set_by set)) (prompts_of (set_by set)) (λ x. x), refl, λ told. refl);
   cause = c;
+  complete = complete_load old.disk_tells taping view (machine_of (set_by set)) (prompts_of (set_by set)) count found found tape tape;
   places = λ told. refl;
   fresh_again = λ told fit. fit;
 })

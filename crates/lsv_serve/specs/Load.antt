@@ -7,9 +7,12 @@ use Rattle.lsv_disk.specs.View.{DiskView, IsCrashImage}
 use Rattle.lsv_machine.specs.Disks.{NumbersFit}
 use Rattle.lsv_machine.specs.Machine.{Settings}
 use Rattle.lsv_keeper.specs.Reading.{reading_of}
-use Rattle.lsv_turns.specs.Turns.{TapeTurn}
+use Rattle.lsv_machine.specs.Recovery.{Outside}
+use Rattle.lsv_turns.specs.Turns.{LaneTurn, TapeTurn}
 use Rattle.lsv_lane.specs.Store.{KeepsStore}
-use Rattle.lsv_load.specs.Runs.{RunsLoad}
+use Rattle.lsv_server.specs.Complete.{Completes}
+use Rattle.lsv_server.specs.Runs.{IsUp}
+use Rattle.lsv_load.specs.Runs.{RunsLoad, view_of}
 use Rattle.lsv_load.specs.declared.run.LoadEnd.TheVariants as ends
 use Rattle.lsv_serve.specs.declared.status.Status.{Status}
 use Rattle.lsv_serve.specs.declared.status.Status.TheVariants.{Served, Usage, Conf, Store, ReadFault, WriteFault, PortFault, NoMem}
@@ -56,10 +59,21 @@ HasLoadCause lines faults faults' Usage = ⊥
 HasLoadCause lines faults faults' ReadFault = ⊥
 HasLoadCause lines faults faults' PortFault = ⊥
 
+-- what was kept of the store where it was opened
+abbrev pub while_up : {opened : Type 0} {set : Settings} {texts : List (List ℕ)} {o : Outside} {turns : List LaneTurn} → opened → KeepsStore opened set texts o turns → KeepsStore (Unit {0}) set texts o turns
+while_up up k = record { story = k.story; are = k.are; conforms = λ x. k.conforms up; recovers = k.recovers }
+
+-- each legal conversation that came over a link of the load's port is served, where nothing was in its way
+abbrev pub CompletesLoad : {D : Type 0} (disk_tells tape_tells : Type 0) (view : D → DiskView) → Settings → List (List ℕ) → (count : ℕ) (found left : D) (tape new_tape : List TapeTurn) → Type 0
+CompletesLoad {D} disk_tells tape_tells view set texts count found left tape new_tape =
+    (text : List ℕ) (run : RunsLoad disk_tells tape_tells view set texts count found left tape new_tape (ends.Served text)) (told : disk_tells) (up : IsUp run.up run.turns)
+    → Completes set texts (view found) (view run.served) run.turns (while_up up (run.store.keeps told)) 0 (view_of run.ends.load.old) (view_of run.ends.load.new) run.ends.load.served.served
+
 -- a run of `load` with the settings file as it was found
 pub record LoadsAs {D : Type 0} (tape_tells : Type 0) (view : D → DiskView) (set : Option (List ℕ)) (faults faults' : ℕ) (count : ℕ) (old new : World) (found left : D) (tape new_tape : List TapeTurn) (status : Status) : Type 0 where
   pub runs : LoadsTo tape_tells view (machine_of (set_by set)) (prompts_of (set_by set)) count old new found left tape new_tape status
   pub cause : HasLoadCause (lines_in set) faults faults' status
+  pub complete : CompletesLoad old.disk_tells tape_tells view (machine_of (set_by set)) (prompts_of (set_by set)) count found left tape new_tape
   pub places : old.disk_tells → HasPlacesAt (set_by set).iolog_dir (set_by set).path (view found) (view left) status
   -- the numbers fit the images of the disk again, as the next run asks
   pub fresh_again : old.disk_tells → NumbersFit (reading_of 0 1) 0 1 (IsCrashImage (view found)) → NumbersFit (reading_of 0 1) 0 1 (IsCrashImage (view left))
