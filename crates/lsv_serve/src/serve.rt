@@ -76,6 +76,60 @@ fn serve_ports<
     (ports_of(posts, room), bay, end)
 }
 
+/// Serves what comes at the ports, over the store whose places the disk was given.
+fn serve_outside<
+    S,
+    K,
+    P: Port + Drop,
+    D: Disk,
+    C: Clock,
+    G: Tape,
+    T,
+    N: Notices,
+    F: LineWriter + Drop,
+    H: Search + Drop,
+>(
+    alloc: Global,
+    out: Outside<S, K, P, D, C, G, T, N>,
+    plan: Plan<F, H>,
+    site: &Site<'_>,
+) -> (Outside<S, K, P, D, C, G, T, N>, End)
+    requires fresh { D.tells → IsFresh 0 1 (D.view out.disk) }
+    requires few { length out.ports.items ≤ 64 }
+    requires idle { P.tells → (i : ℕ) (port : P) → slice_get out.ports.items i ≡ Some port → IsUnopened (P.state port) }
+    ensures runs { RunsTo (once_settings plan.formatter.kind plan.log_exit) plan.texts
+        (server_of ⟦<P as Port>⟧ ⟦<D as Disk>⟧ ⟦<G as Tape>⟧ out.ports.items out.disk out.tape)
+        (server_of ⟦<P as Port>⟧ ⟦<D as Disk>⟧ ⟦<G as Tape>⟧ result.0.ports.items result.0.disk result.0.tape) result.1 }
+    ensures cause { HasEndCause D.tells (D.view out.disk) (D.view result.0.disk) result.1 }
+    ensures places { D.tells → (D.view result.0.disk).places ≡ (D.view out.disk).places }
+    ensures beside { (result.0.source ≡ out.source) × (result.0.sink ≡ out.sink) × (result.0.texts ≡ out.texts) }
+{
+    let Outside {
+        source,
+        sink,
+        ports,
+        disk,
+        clock,
+        tape,
+        texts,
+        mut notices,
+    } = out;
+    let bay = Bay { disk, clock, tape };
+    let (ports, bay, end) = serve_ports(alloc, ports, bay, plan, site, &mut notices);
+    let Bay { disk, clock, tape } = bay;
+    let out = Outside {
+        source,
+        sink,
+        ports,
+        disk,
+        clock,
+        tape,
+        texts,
+        notices,
+    };
+    (out, end)
+}
+
 /// Gives the disk the places of the store, and serves what comes at the ports, with event lines of this formatter.
 fn serve_by<
     S,
@@ -105,17 +159,8 @@ fn serve_by<
     ensures places { D.tells → HasPlaces options.logs options.events (D.view result.0.disk) }
     ensures beside { (result.0.source ≡ out.source) × (result.0.sink ≡ out.sink) × (result.0.texts ≡ out.texts) }
 {
-    let Outside {
-        source,
-        sink,
-        ports,
-        mut disk,
-        clock,
-        tape,
-        texts,
-        mut notices,
-    } = out;
-    give_places(&mut disk, &options);
+    let mut out = out;
+    give_places(&mut out.disk, &options);
     let Options {
         log_exit,
         prompts,
@@ -134,19 +179,7 @@ fn serve_by<
         texts: prompts,
         prompt,
     };
-    let bay = Bay { disk, clock, tape };
-    let (ports, bay, end) = serve_ports(alloc, ports, bay, plan, &site, &mut notices);
-    let Bay { disk, clock, tape } = bay;
-    let out = Outside {
-        source,
-        sink,
-        ports,
-        disk,
-        clock,
-        tape,
-        texts,
-        notices,
-    };
+    let (out, end) = serve_outside(alloc, out, plan, &site);
     (out, told(end))
 }
 

@@ -5,22 +5,22 @@ use Rattle.lsv_serve.proofs.ServeLemmas.{end_before, run_before}
 use Rattle.lsv_serve.proofs.StartLemmas.{fresh_after}
 use Rattle.lsv_serve.proofs.serve.serve_by.Goals as goal
 
-pub serve_ports-ports-requires-clause-fresh : goal.serve_ports-ports-requires-clause-fresh
-serve_ports-ports-requires-clause-fresh g c = λ told. fresh_after _ _ (c.give_places.ensures.frame.untouched told) (c.requires.fresh told)
+pub serve_outside-out-requires-clause-fresh : goal.serve_outside-out-requires-clause-fresh
+serve_outside-out-requires-clause-fresh g c = λ told. fresh_after _ _ (c.give_places.ensures.frame.untouched told) (c.requires.fresh told)
 
 pub returns-clause-runs : goal.returns-clause-runs
 returns-clause-runs g c =
     let old : ServerWorld = server_of g.P.Port g.D.Disk g.G.Tape c.args.out.ports.items c.args.out.disk c.args.out.tape in
-    let new : ServerWorld = server_of g.P.Port g.D.Disk g.G.Tape c.serve_ports-ports.result.0.items c.serve_ports-ports.result.1.disk c.serve_ports-ports.result.1.tape in
+    let new : ServerWorld = server_of g.P.Port g.D.Disk g.G.Tape c.serve_outside-out.result.0.ports.items c.serve_outside-out.result.0.disk c.serve_outside-out.result.0.tape in
     let after = g.D.Disk.view c.give_places.new.disk in
     record {
-      end = c.serve_ports-ports.result.2;
+      end = c.serve_outside-out.result.1;
       is = c.told.ensures;
-      run = run_before (once_settings c.args.formatter.kind c.args.options.log_exit) c.args.options.prompts old new after c.serve_ports-ports.result.2 c.give_places.ensures.frame c.serve_ports-ports.ensures.runs;
-      cause = end_before g.D.Disk.tells old.disk after new.disk c.serve_ports-ports.result.2 c.give_places.ensures.frame c.serve_ports-ports.ensures.cause;
+      run = run_before (once_settings c.args.formatter.kind c.args.options.log_exit) c.args.options.prompts old new after c.serve_outside-out.result.1 c.give_places.ensures.frame c.serve_outside-out.ensures.runs;
+      cause = end_before g.D.Disk.tells old.disk after new.disk c.serve_outside-out.result.1 c.give_places.ensures.frame c.serve_outside-out.ensures.cause;
     }
 
 pub returns-clause-places : goal.returns-clause-places
 returns-clause-places g c told =
-    let kept = c.serve_ports-ports.ensures.places told in
+    let kept = c.serve_outside-out.ensures.places told in
     elim (c.give_places.ensures.places told) [ inl given ↦ inl (kept ∙ given) | inr none ↦ inr (kept ∙ none) ]
