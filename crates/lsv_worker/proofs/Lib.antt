@@ -5,6 +5,7 @@ pub mod Ports
 pub mod Speaking
 pub mod Linking
 pub mod Tables
+mod Reading
 pub mod Notes
 pub mod Going
 pub mod Taking

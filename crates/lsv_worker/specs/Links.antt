@@ -81,6 +81,14 @@ pub record WasReadAtMost (most : ℕ) (old new : LinkState) : Type 0 where
   pub few : times ≤ most
   pub were : WasRead times old new
 
+-- no link was read
+abbrev pub ReadsNone : PortState → PortState → Type 0
+ReadsNone before after = (l : ℕ) → (after.link l).reads ≡ (before.link l).reads
+
+-- a link to which 65,536 bytes or more are still unsent wasn't read
+abbrev pub IsSpared : Link → LinkState → LinkState → Type 0
+IsSpared link before after = 65536 ≤ length link.outgoing.unsent → after.reads ≡ before.reads
+
 -- nothing more comes of a connection: its link is closed, its Gone was put, its Shut was taken, and no reply to it was lost
 -- since memory was wanting
 abbrev pub is_done : Link → Bool

@@ -14,7 +14,7 @@ use Rattle.lsv_session.specs.declared.job.Job.{Job}
 use Rattle.lsv_session.specs.declared.reply.Reply.{Reply}
 use Rattle.lsv_worker.specs.Incoming.{Hears, has_left}
 use Rattle.lsv_worker.specs.Outgoing.{Speaks}
-use Rattle.lsv_worker.specs.Links.{LinkStands, PauseIsFor, is_done}
+use Rattle.lsv_worker.specs.Links.{IsSpared, LinkStands, PauseIsFor, is_done}
 use Rattle.lsv_worker.specs.declared.link.Link.{Link}
 use Rattle.lsv_worker.specs.declared.link.Pause.TheVariants.{Calm}
 use Rattle.lsv_worker.specs.declared.link.Phase.{Phase}
@@ -48,6 +48,11 @@ AreCalmed (link ∷ links) = IsCalmed link × AreCalmed links
 -- the connections of which more is to come
 abbrev pub undone : List Link → List Link
 undone links = filter (λ link. not (is_done link)) links
+
+-- no link was read of a connection in a table to which 65,536 bytes or more are still unsent
+abbrev pub AreSpared : List Link → PortState → PortState → Type 0
+AreSpared [] before after = Unit {0}
+AreSpared (link ∷ links) before after = IsSpared link (before.link link.number) (after.link link.number) × AreSpared links before after
 
 -- each connection goes to one of so many lanes
 abbrev pub AreOfLanes : ℕ → List Link → Type 0

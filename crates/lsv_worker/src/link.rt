@@ -10,7 +10,7 @@ ghost use Rattle.lsv_session.specs.declared.job.Job.{Job};
 ghost use Rattle.lsv_session.specs.declared.reply.Reply.{Reply};
 ghost use Rattle.lsv_session.specs.declared.reply.ReplyBody.TheVariants as said;
 ghost use Rattle.lsv_worker.specs.Incoming.{WasFull};
-ghost use Rattle.lsv_worker.specs.Links.{Closes, Fails, HasBlame, LetsEnd, LinkStands, LinkStep, OwesNoMore, PauseIsFor, ReasonOf, SameSides, Takes, WasRead, WasReadAtMost, is_done, reads_in};
+ghost use Rattle.lsv_worker.specs.Links.{Closes, Fails, HasBlame, IsSpared, LetsEnd, LinkStands, LinkStep, OwesNoMore, PauseIsFor, ReadsNone, ReasonOf, SameSides, Takes, WasRead, WasReadAtMost, is_done, reads_in};
 
 use crate::outgoing::{Outgoing, Voice};
 use crate::{Inbox, Incoming, Stage, Why};
@@ -109,6 +109,7 @@ impl Link {
         ensures is_open { P.tells → self.new.live ≡ true → IsOpen (P.state port.new) self.old.number }
         ensures once { P.tells → self.new.owed ≡ true → WasRead 1 ((P.state port.old).link self.old.number) ((P.state port.new).link self.old.number) }
         ensures most { P.tells → WasReadAtMost 1 ((P.state port.old).link self.old.number) ((P.state port.new).link self.old.number) }
+        ensures unsent { length self.new.outgoing.unsent ≤ length self.old.outgoing.unsent }
         ensures blame { P.tells → HasBlame (P.state port.old) (P.ledger port.old) (P.state port.new) (P.ledger port.new) }
         ensures continues { Continues (P.ledger port.old) (P.ledger port.new) }
     {
@@ -153,6 +154,7 @@ impl Link {
         ensures calm { result ≡ Pause.Calm → self.new.live ≡ true → self.new.owed ≡ false }
         ensures reason { P.tells → ReasonOf result self.new ((P.state port.old).link self.old.number) ((P.state port.new).link self.old.number) (I.refused inbox.old) (I.refused inbox.new) }
         ensures most { P.tells → WasReadAtMost 16 ((P.state port.old).link self.old.number) ((P.state port.new).link self.old.number) }
+        ensures laden { P.tells → phase ≡ Phase.Going → IsSpared self.new ((P.state port.old).link self.old.number) ((P.state port.new).link self.old.number) }
         ensures blame { P.tells → HasBlame (P.state port.old) (P.ledger port.old) (P.state port.new) (P.ledger port.new) }
         ensures continues { Continues (P.ledger port.old) (P.ledger port.new) }
         ensures counts { (m : ℕ) → I.refused inbox.old m ≤ I.refused inbox.new m }
@@ -172,10 +174,8 @@ impl Link {
             if self.incoming.stage.is_starved() {
                 return Pause::Starved;
             }
-            if phase == Phase::Going {
-                if self.is_laden() {
-                    return Pause::Laden;
-                }
+            if self.is_spared(phase) {
+                return Pause::Laden;
             }
             self.read_once(port, buffer);
             if self.advance(inbox) {
@@ -191,11 +191,12 @@ impl Link {
         Pause::Tired
     }
 
-    /// Whether too much is unsent for it to be read.
-    fn is_laden(&self) -> bool
-        ensures { result ≡ true → 65536 ≤ length self.now.outgoing.unsent }
+    /// Whether too much is unsent for it to be read: so it is before Stop alone.
+    fn is_spared(&self, phase: Phase) -> bool
+        ensures yes { result ≡ true → 65536 ≤ length self.now.outgoing.unsent }
+        ensures no { result ≡ false → phase ≡ Phase.Going → length self.now.outgoing.unsent < 65536 }
     {
-        self.outgoing.unsent.as_slice().len() >= LADEN
+        phase == Phase::Going && self.outgoing.unsent.as_slice().len() >= LADEN
     }
 
     /// No more bytes come: puts the rest of its jobs. True where its lane was full.
@@ -260,6 +261,8 @@ impl Link {
         ensures calm { reads_in phase ≡ true → self.new.pause ≡ Pause.Calm → self.new.live ≡ true → self.new.owed ≡ false }
         ensures reason { P.tells → PauseIsFor self.new ((P.state port.old).link self.old.number) ((P.state port.new).link self.old.number) (I.refused inbox.old) (I.refused inbox.new) }
         ensures most { P.tells → WasReadAtMost 16 ((P.state port.old).link self.old.number) ((P.state port.new).link self.old.number) }
+        ensures laden { P.tells → phase ≡ Phase.Going → IsSpared self.new ((P.state port.old).link self.old.number) ((P.state port.new).link self.old.number) }
+        ensures unread { P.tells → reads_in phase ≡ false → ((P.state port.new).link self.old.number).reads ≡ ((P.state port.old).link self.old.number).reads }
         ensures blame { P.tells → HasBlame (P.state port.old) (P.ledger port.old) (P.state port.new) (P.ledger port.new) }
         ensures continues { Continues (P.ledger port.old) (P.ledger port.new) }
         ensures counts { (m : ℕ) → I.refused inbox.old m ≤ I.refused inbox.new m }
@@ -284,6 +287,8 @@ impl Link {
         ensures calm { reads_in phase ≡ true → self.new.pause ≡ Pause.Calm → self.new.live ≡ true → self.new.owed ≡ false }
         ensures reason { P.tells → PauseIsFor self.new ((P.state port.old).link self.old.number) ((P.state port.new).link self.old.number) (I.refused inbox.old) (I.refused inbox.new) }
         ensures most { P.tells → WasReadAtMost 16 ((P.state port.old).link self.old.number) ((P.state port.new).link self.old.number) }
+        ensures laden { P.tells → phase ≡ Phase.Going → IsSpared self.new ((P.state port.old).link self.old.number) ((P.state port.new).link self.old.number) }
+        ensures unread { P.tells → reads_in phase ≡ false → ((P.state port.new).link self.old.number).reads ≡ ((P.state port.old).link self.old.number).reads }
         ensures blame { P.tells → HasBlame (P.state port.old) (P.ledger port.old) (P.state port.new) (P.ledger port.new) }
         ensures continues { Continues (P.ledger port.old) (P.ledger port.new) }
         ensures counts { (m : ℕ) → I.refused inbox.old m ≤ I.refused inbox.new m }
@@ -358,6 +363,7 @@ impl Link {
         ensures takes { P.tells → (reply : Reply) → reply.conn ≡ self.old.conn → reply.body ≡ said.Shut → reply.last ≡ last → Takes reply self.old self.new (P.state port.old) (P.state port.new) }
         ensures lanes { self.new.incoming.route.lanes ≡ self.old.incoming.route.lanes }
         ensures owes { P.tells → OwesNoMore (P.state port.old) (P.state port.new) }
+        ensures unread { P.tells → ReadsNone (P.state port.old) (P.state port.new) }
         ensures blame { P.tells → HasBlame (P.state port.old) (P.ledger port.old) (P.state port.new) (P.ledger port.new) }
         ensures continues { Continues (P.ledger port.old) (P.ledger port.new) }
     {
@@ -381,6 +387,7 @@ impl Link {
         ensures closes { P.tells → Closes self.old self.new (P.state port.old) (P.state port.new) }
         ensures lanes { self.new.incoming.route.lanes ≡ self.old.incoming.route.lanes }
         ensures owes { P.tells → OwesNoMore (P.state port.old) (P.state port.new) }
+        ensures unread { P.tells → ReadsNone (P.state port.old) (P.state port.new) }
         ensures blame { P.tells → HasBlame (P.state port.old) (P.ledger port.old) (P.state port.new) (P.ledger port.new) }
         ensures continues { Continues (P.ledger port.old) (P.ledger port.new) }
     {
@@ -400,6 +407,7 @@ impl Link {
         ensures takes { P.tells → reply.now.conn ≡ self.old.conn → Takes reply.now self.old self.new (P.state port.old) (P.state port.new) }
         ensures lanes { self.new.incoming.route.lanes ≡ self.old.incoming.route.lanes }
         ensures owes { P.tells → OwesNoMore (P.state port.old) (P.state port.new) }
+        ensures unread { P.tells → ReadsNone (P.state port.old) (P.state port.new) }
         ensures blame { P.tells → HasBlame (P.state port.old) (P.ledger port.old) (P.state port.new) (P.ledger port.new) }
         ensures continues { Continues (P.ledger port.old) (P.ledger port.new) }
     {
@@ -420,6 +428,7 @@ impl Link {
         requires is_open { P.tells → self.old.live ≡ true → IsOpen (P.state port.old) self.old.number }
         ensures step { P.tells → (jobs : ℕ → List Job) → LinkStep Phase.Stopped self.old self.new (P.state port.old) (P.state port.new) jobs jobs }
         ensures live { self.new.live ≡ false }
+        ensures unread { P.tells → ReadsNone (P.state port.old) (P.state port.new) }
         ensures lanes { self.new.incoming.route.lanes ≡ self.old.incoming.route.lanes }
         ensures blame { P.tells → HasBlame (P.state port.old) (P.ledger port.old) (P.state port.new) (P.ledger port.new) }
         ensures continues { Continues (P.ledger port.old) (P.ledger port.new) }

@@ -6,8 +6,8 @@ ghost use Rattle.lsv_port.specs.Ledger.{Continues};
 ghost use Rattle.lsv_port.specs.Port.{IsOpen, Opens, PortState, Told};
 ghost use Rattle.lsv_session.specs.declared.job.Job.{Job};
 ghost use Rattle.lsv_session.specs.declared.reply.Reply.{Reply};
-ghost use Rattle.lsv_worker.specs.Links.{HasBlame, OwesNoMore, reads_in};
-ghost use Rattle.lsv_worker.specs.Worker.{Admits, AreCalmed, AreOfLanes, Goes, HaveLeft, HoldsOwed, IsAt, IsFit, IsFresh, IsMade, IsSameWorker, IsTable, Represents, Setting, Stands, Steps, conn_at, held_by, marked, owed_if, phase_after, setting, undone};
+ghost use Rattle.lsv_worker.specs.Links.{HasBlame, OwesNoMore, ReadsNone, WasReadAtMost, reads_in};
+ghost use Rattle.lsv_worker.specs.Worker.{Admits, AreCalmed, AreOfLanes, AreSpared, Goes, HaveLeft, HoldsOwed, IsAt, IsFit, IsFresh, IsMade, IsSameWorker, IsTable, Represents, Setting, Stands, Steps, conn_at, held_by, marked, owed_if, phase_after, setting, undone};
 
 use crate::link::{Link, PIECE, Pause, Phase};
 use crate::{Inbox, Incoming, Outgoing};
@@ -106,6 +106,9 @@ fn pass_all<P: Port, I: Inbox>(
     requires at { P.tells → IsTable phase links.old (P.state port.old) }
     ensures steps { P.tells → (set : Setting) → set.phase ≡ phase → Steps set links.old links.new (P.state port.old) (P.state port.new) (I.jobs inbox.old) (I.jobs inbox.new) }
     ensures calm { reads_in phase ≡ true → AreCalmed links.new }
+    ensures reads { P.tells → (l : ℕ) → WasReadAtMost 16 ((P.state port.old).link l) ((P.state port.new).link l) }
+    ensures laden { P.tells → phase ≡ Phase.Going → AreSpared links.new (P.state port.old) (P.state port.new) }
+    ensures unread { P.tells → reads_in phase ≡ false → ReadsNone (P.state port.old) (P.state port.new) }
     ensures lanes { AreOfLanes (I.lanes inbox.old) links.new }
     ensures inbox { I.lanes inbox.new ≡ I.lanes inbox.old }
     ensures blame { P.tells → HasBlame (P.state port.old) (P.ledger port.old) (P.state port.new) (P.ledger port.new) }
@@ -130,6 +133,9 @@ fn pass_table<P: Port, I: Inbox>(
     requires at { P.tells → IsTable phase links.old.items (P.state port.old) }
     ensures steps { P.tells → (set : Setting) → set.phase ≡ phase → Steps set links.old.items links.new.items (P.state port.old) (P.state port.new) (I.jobs inbox.old) (I.jobs inbox.new) }
     ensures calm { reads_in phase ≡ true → AreCalmed links.new.items }
+    ensures reads { P.tells → (l : ℕ) → WasReadAtMost 16 ((P.state port.old).link l) ((P.state port.new).link l) }
+    ensures laden { P.tells → phase ≡ Phase.Going → AreSpared links.new.items (P.state port.old) (P.state port.new) }
+    ensures unread { P.tells → reads_in phase ≡ false → ReadsNone (P.state port.old) (P.state port.new) }
     ensures lanes { AreOfLanes (I.lanes inbox.old) links.new.items }
     ensures size { vec_len links.new ≡ vec_len links.old }
     ensures inbox { I.lanes inbox.new ≡ I.lanes inbox.old }
@@ -149,6 +155,7 @@ fn take_at<P: Port>(links: &mut [Link], place: usize, reply: &Reply, port: &mut 
     ensures took { P.tells → (set : Setting) (jobs : ℕ → List Job) (replies : List Reply) → reply.now.conn ≡ conn_at set reply.now.conn.seq → Stands set links.old (P.state port.old) jobs replies → Stands set links.new (P.state port.new) jobs (replies ++ reply.now ∷ []) }
     ensures lanes { (n : ℕ) → AreOfLanes n links.old → AreOfLanes n links.new }
     ensures owes { P.tells → OwesNoMore (P.state port.old) (P.state port.new) }
+    ensures unread { P.tells → ReadsNone (P.state port.old) (P.state port.new) }
     ensures blame { P.tells → HasBlame (P.state port.old) (P.ledger port.old) (P.state port.new) (P.ledger port.new) }
     ensures continues { Continues (P.ledger port.old) (P.ledger port.new) }
 {
@@ -165,6 +172,7 @@ fn take_in_table<P: Port>(links: &mut Vec<Link>, place: usize, reply: &Reply, po
     ensures lanes { (n : ℕ) → AreOfLanes n links.old.items → AreOfLanes n links.new.items }
     ensures size { vec_len links.new ≡ vec_len links.old }
     ensures owes { P.tells → OwesNoMore (P.state port.old) (P.state port.new) }
+    ensures unread { P.tells → ReadsNone (P.state port.old) (P.state port.new) }
     ensures blame { P.tells → HasBlame (P.state port.old) (P.ledger port.old) (P.state port.new) (P.ledger port.new) }
     ensures continues { Continues (P.ledger port.old) (P.ledger port.new) }
 {
@@ -175,6 +183,7 @@ fn take_in_table<P: Port>(links: &mut Vec<Link>, place: usize, reply: &Reply, po
 fn close_all<P: Port>(links: &mut [Link], port: &mut P)
     requires at { P.tells → IsTable Phase.Stopped links.old (P.state port.old) }
     ensures steps { P.tells → (set : Setting) (jobs : ℕ → List Job) → set.phase ≡ Phase.Stopped → Steps set links.old links.new (P.state port.old) (P.state port.new) jobs jobs }
+    ensures unread { P.tells → ReadsNone (P.state port.old) (P.state port.new) }
     ensures lanes { (n : ℕ) → AreOfLanes n links.old → AreOfLanes n links.new }
     ensures blame { P.tells → HasBlame (P.state port.old) (P.ledger port.old) (P.state port.new) (P.ledger port.new) }
     ensures continues { Continues (P.ledger port.old) (P.ledger port.new) }
@@ -188,6 +197,7 @@ fn close_all<P: Port>(links: &mut [Link], port: &mut P)
 fn close_table<P: Port>(links: &mut Vec<Link>, port: &mut P)
     requires at { P.tells → IsTable Phase.Stopped links.old.items (P.state port.old) }
     ensures steps { P.tells → (set : Setting) (jobs : ℕ → List Job) → set.phase ≡ Phase.Stopped → Steps set links.old.items links.new.items (P.state port.old) (P.state port.new) jobs jobs }
+    ensures unread { P.tells → ReadsNone (P.state port.old) (P.state port.new) }
     ensures lanes { (n : ℕ) → AreOfLanes n links.old.items → AreOfLanes n links.new.items }
     ensures size { vec_len links.new ≡ vec_len links.old }
     ensures blame { P.tells → HasBlame (P.state port.old) (P.ledger port.old) (P.state port.new) (P.ledger port.new) }
@@ -242,6 +252,8 @@ impl Worker {
         ensures phase { self.new.phase ≡ phase_after ready }
         ensures goes { P.tells → (before : PortState) → Told ready before (P.state port.old) → Goes self.old self.new before (P.state port.new) (I.jobs inbox.old) (I.jobs inbox.new) }
         ensures owed { P.tells → HoldsOwed self.new (P.state port.new) }
+        ensures reads { P.tells → (l : ℕ) → WasReadAtMost 16 ((P.state port.old).link l) ((P.state port.new).link l) }
+        ensures laden { P.tells → self.new.phase ≡ Phase.Going → AreSpared self.new.links.items (P.state port.old) (P.state port.new) }
         ensures blame { P.tells → HasBlame (P.state port.old) (P.ledger port.old) (P.state port.new) (P.ledger port.new) }
         ensures continues { Continues (P.ledger port.old) (P.ledger port.new) }
         ensures counts { (m : ℕ) → I.refused inbox.old m ≤ I.refused inbox.new m }
@@ -262,6 +274,9 @@ impl Worker {
         ensures phase { self.new.phase ≡ self.old.phase }
         ensures goes { P.tells → Goes self.old self.new (P.state port.old) (P.state port.new) (I.jobs inbox.old) (I.jobs inbox.new) }
         ensures owed { P.tells → reads_in self.old.phase ≡ true → HoldsOwed self.new (P.state port.new) }
+        ensures reads { P.tells → (l : ℕ) → WasReadAtMost 16 ((P.state port.old).link l) ((P.state port.new).link l) }
+        ensures laden { P.tells → self.new.phase ≡ Phase.Going → AreSpared self.new.links.items (P.state port.old) (P.state port.new) }
+        ensures unread { P.tells → reads_in self.old.phase ≡ false → ReadsNone (P.state port.old) (P.state port.new) }
         ensures blame { P.tells → HasBlame (P.state port.old) (P.ledger port.old) (P.state port.new) (P.ledger port.new) }
         ensures continues { Continues (P.ledger port.old) (P.ledger port.new) }
         ensures counts { (m : ℕ) → I.refused inbox.old m ≤ I.refused inbox.new m }
@@ -281,6 +296,7 @@ impl Worker {
         ensures worker { IsSameWorker self.old self.new }
         ensures phase { self.new.phase ≡ Phase.Failed }
         ensures goes { P.tells → Goes self.old self.new (P.state port.old) (P.state port.new) (I.jobs inbox.old) (I.jobs inbox.new) }
+        ensures unread { P.tells → ReadsNone (P.state port.old) (P.state port.new) }
         ensures blame { P.tells → HasBlame (P.state port.old) (P.ledger port.old) (P.state port.new) (P.ledger port.new) }
         ensures continues { Continues (P.ledger port.old) (P.ledger port.new) }
         ensures counts { (m : ℕ) → I.refused inbox.old m ≤ I.refused inbox.new m }
@@ -303,6 +319,7 @@ impl Worker {
         ensures held { held_by self.new ≡ held_by self.old }
         ensures takes { P.tells → (jobs : ℕ → List Job) (replies : List Reply) → Represents self.old (P.state port.old) jobs replies → Represents self.new (P.state port.new) jobs (replies ++ reply ∷ []) }
         ensures owed { P.tells → HoldsOwed self.old (P.state port.old) → HoldsOwed self.new (P.state port.new) }
+        ensures unread { P.tells → ReadsNone (P.state port.old) (P.state port.new) }
         ensures blame { P.tells → HasBlame (P.state port.old) (P.ledger port.old) (P.state port.new) (P.ledger port.new) }
         ensures continues { Continues (P.ledger port.old) (P.ledger port.new) }
     {
@@ -339,6 +356,7 @@ impl Worker {
         ensures worker { IsSameWorker self.old self.new }
         ensures phase { self.new.phase ≡ Phase.Stopped }
         ensures goes { P.tells → (jobs : ℕ → List Job) → Goes self.old self.new (P.state port.old) (P.state port.new) jobs jobs }
+        ensures unread { P.tells → ReadsNone (P.state port.old) (P.state port.new) }
         ensures blame { P.tells → HasBlame (P.state port.old) (P.ledger port.old) (P.state port.new) (P.ledger port.new) }
         ensures continues { Continues (P.ledger port.old) (P.ledger port.new) }
     {
@@ -412,6 +430,7 @@ impl Worker {
         ensures worker { IsSameWorker self.old self.new }
         ensures phase { self.new.phase ≡ self.old.phase }
         ensures opens { P.tells → (before : PortState) (jobs : ℕ → List Job) (replies : List Reply) → Opens number before (P.state port.old) → Represents self.old before jobs replies → Represents self.new (P.state port.new) jobs replies }
+        ensures unread { P.tells → ReadsNone (P.state port.old) (P.state port.new) }
         ensures blame { P.tells → HasBlame (P.state port.old) (P.ledger port.old) (P.state port.new) (P.ledger port.new) }
         ensures continues { Continues (P.ledger port.old) (P.ledger port.new) }
     {
@@ -438,6 +457,7 @@ impl Worker {
         ensures worker { IsSameWorker self.old self.new }
         ensures phase { self.new.phase ≡ phase_after ready }
         ensures notes { P.tells → (before : PortState) (jobs : ℕ → List Job) (replies : List Reply) → Told ready before (P.state port.old) → Represents self.old before jobs replies → Represents self.new (P.state port.new) jobs replies }
+        ensures unread { P.tells → ReadsNone (P.state port.old) (P.state port.new) }
         ensures blame { P.tells → HasBlame (P.state port.old) (P.ledger port.old) (P.state port.new) (P.ledger port.new) }
         ensures continues { Continues (P.ledger port.old) (P.ledger port.new) }
     {
@@ -472,6 +492,9 @@ impl Worker {
         ensures set { setting self.new ≡ setting self.old }
         ensures goes { P.tells → Goes self.old self.new (P.state port.old) (P.state port.new) (I.jobs inbox.old) (I.jobs inbox.new) }
         ensures owed { P.tells → reads_in self.old.phase ≡ true → HoldsOwed self.new (P.state port.new) }
+        ensures reads { P.tells → (l : ℕ) → WasReadAtMost 16 ((P.state port.old).link l) ((P.state port.new).link l) }
+        ensures laden { P.tells → self.new.phase ≡ Phase.Going → AreSpared self.new.links.items (P.state port.old) (P.state port.new) }
+        ensures unread { P.tells → reads_in self.old.phase ≡ false → ReadsNone (P.state port.old) (P.state port.new) }
         ensures blame { P.tells → HasBlame (P.state port.old) (P.ledger port.old) (P.state port.new) (P.ledger port.new) }
         ensures continues { Continues (P.ledger port.old) (P.ledger port.new) }
         ensures counts { (m : ℕ) → I.refused inbox.old m ≤ I.refused inbox.new m }

@@ -5,6 +5,8 @@ use Rattle.lsv_worker.specs.Worker.{IsCalmed, IsTable, Setting, Stands}
 use Rattle.lsv_worker.specs.declared.link.Link.{Link}
 use Rattle.lsv_worker.specs.declared.link.Phase.{Phase}
 use Rattle.lsv_worker.proofs.Ports.{blame_same, blame_then, continues_here, continues_then}
+use Rattle.lsv_worker.proofs.Linking.{most_none}
+use Rattle.lsv_worker.proofs.Reading.{below_on, reads_on, rest_on, spared_all, unread_here, unread_on}
 use Rattle.lsv_worker.proofs.Tables.{below_set, calm_all, lanes_at, lanes_set, open_at, steps_none, steps_one}
 use Rattle.lsv_worker.proofs.worker.pass_all.Goals as goal
 
@@ -14,6 +16,10 @@ loop-link-init g c = record {
   calm = λ reads i d within. absurd (omega arith);
   lanes = c.requires.lanes;
   inbox = refl;
+  reads = λ told m. most_none 16 ((g.P.Port.state c.args.port.now).link m) ((g.P.Port.state c.args.port.now).link m) refl;
+  rest = λ told j d above within. refl;
+  laden = λ told going j d under. absurd (omega arith);
+  unread = λ told quiet. unread_here (g.P.Port.state c.args.port.now);
   blame = λ told. blame_same (g.P.Port.state c.args.port.now) (g.P.Port.state c.args.port.now) (g.P.Port.ledger c.args.port.now) (g.P.Port.ledger c.args.port.now) (λ l. refl);
   continues = continues_here (g.P.Port.ledger c.args.port.now);
   counts = λ m. omega arith;
@@ -44,6 +50,17 @@ loop-link-preserved g c =
       lanes = lanes_set (g.I.Inbox.lanes c.args.inbox.now) c.loop-link.links c.loop-link.link-index c.pass.new.self
           (sym c.pass.ensures.lanes ∙ inbox) c.loop-link.invariant.lanes;
       inbox = inbox;
+      reads = λ told. reads_on c.loop-link.links c.loop-link.link-index c.link-item.result (g.P.Port.state c.args.port.now) (g.P.Port.state c.loop-link.port) (g.P.Port.state c.pass.new.port) here (c.pass.ensures.step told).alone (c.loop-link.invariant.rest told) (c.loop-link.invariant.reads told) (c.pass.ensures.most told);
+      rest = λ told.
+          let at : IsTable c.args.phase c.args.links.now (g.P.Port.state c.args.port.now) = c.requires.at told in
+          let steps = c.loop-link.invariant.steps told at.set at.phase_is in
+          rest_on at.set c.loop-link.links c.loop-link.link-index c.link-item.result c.pass.new.self (g.P.Port.state c.args.port.now) (g.P.Port.state c.loop-link.port) (g.P.Port.state c.pass.new.port) (λ lane. at.jobs lane ++ steps.added lane) at.replies here (steps.goes at.jobs at.replies at.stands) (c.pass.ensures.step told).alone (c.loop-link.invariant.rest told);
+      laden = λ told going.
+          let at : IsTable c.args.phase c.args.links.now (g.P.Port.state c.args.port.now) = c.requires.at told in
+          let steps = c.loop-link.invariant.steps told at.set at.phase_is in
+          below_on at.set c.loop-link.links c.loop-link.link-index c.link-item.result c.pass.new.self (g.P.Port.state c.args.port.now) (g.P.Port.state c.loop-link.port) (g.P.Port.state c.pass.new.port) (λ lane. at.jobs lane ++ steps.added lane) at.replies here (steps.goes at.jobs at.replies at.stands) (c.pass.ensures.step told).alone (c.pass.ensures.step told).number
+          (c.pass.ensures.laden told going) (c.loop-link.invariant.rest told) (c.loop-link.invariant.laden told going);
+      unread = λ told quiet. unread_on _ (g.P.Port.state c.args.port.now) (g.P.Port.state c.loop-link.port) (g.P.Port.state c.pass.new.port) (c.pass.ensures.step told).alone (c.loop-link.invariant.unread told quiet) (c.pass.ensures.unread told quiet);
       blame = λ told. blame_then (g.P.Port.state c.args.port.now) (g.P.Port.state c.loop-link.port) (g.P.Port.state c.pass.new.port) (g.P.Port.ledger c.args.port.now) (g.P.Port.ledger c.loop-link.port) (g.P.Port.ledger c.pass.new.port) c.loop-link.invariant.continues c.pass.ensures.continues (c.loop-link.invariant.blame told) (c.pass.ensures.blame told);
       continues = continues_then (g.P.Port.ledger c.args.port.now) (g.P.Port.ledger c.loop-link.port) (g.P.Port.ledger c.pass.new.port) c.loop-link.invariant.continues c.pass.ensures.continues;
       counts = λ m. omega (arith, c.loop-link.invariant.counts m, c.pass.ensures.counts m);
@@ -52,3 +69,6 @@ loop-link-preserved g c =
 
 pub returns-clause-calm : goal.returns-clause-calm
 returns-clause-calm g c = λ reads. calm_all _ (λ i d within. c.loop-link.invariant.calm reads i d (omega arith))
+
+pub returns-clause-laden : goal.returns-clause-laden
+returns-clause-laden g c = λ told going. spared_all _ (g.P.Port.state c.args.port.now) (g.P.Port.state c.loop-link.port) (λ i d within. c.loop-link.invariant.laden told going i d (omega arith))

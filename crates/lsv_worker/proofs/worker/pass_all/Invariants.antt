@@ -1,8 +1,10 @@
-use Rattle.std.proofs.Common.{◌≡◌, ◌<◌, ◌≤◌, ℕ, true, get_or}
+use Rattle.std.proofs.Common.{◌≡◌, ◌<◌, ◌≤◌, ℕ, true, false, get_or}
 use Rattle.lsv_port.specs.Ledger.{Continues}
-use Rattle.lsv_worker.specs.Links.{HasBlame, reads_in}
+use Rattle.lsv_worker.specs.Links.{HasBlame, ReadsNone, WasReadAtMost, reads_in}
 use Rattle.lsv_worker.specs.Worker.{AreOfLanes, IsCalmed, Setting, Steps}
 use Rattle.lsv_worker.specs.declared.link.Link.{Link}
+use Rattle.lsv_worker.specs.declared.link.Phase.TheVariants.{Going}
+use Rattle.lsv_worker.proofs.Reading.{Below, Rest}
 use Rattle.lsv_worker.proofs.worker.pass_all.Given as goal
 
 abbrev pub invariant-loop-link : goal.invariant-loop-link
@@ -11,6 +13,10 @@ invariant-loop-link g l = record {
   calm : reads_in l.phase ≡ true → (i : ℕ) (d : Link) → i < l.link-index → IsCalmed (get_or l.links i d);
   lanes : AreOfLanes (g.I.Inbox.lanes l.initial.inbox) l.links;
   inbox : g.I.Inbox.lanes l.inbox ≡ g.I.Inbox.lanes l.initial.inbox;
+  reads : g.P.Port.tells → (m : ℕ) → WasReadAtMost 16 ((g.P.Port.state l.initial.port).link m) ((g.P.Port.state l.port).link m);
+  rest : g.P.Port.tells → Rest l.links l.link-index (g.P.Port.state l.initial.port) (g.P.Port.state l.port);
+  laden : g.P.Port.tells → l.phase ≡ Going → Below l.links l.link-index (g.P.Port.state l.initial.port) (g.P.Port.state l.port);
+  unread : g.P.Port.tells → reads_in l.phase ≡ false → ReadsNone (g.P.Port.state l.initial.port) (g.P.Port.state l.port);
   blame : g.P.Port.tells → HasBlame (g.P.Port.state l.initial.port) (g.P.Port.ledger l.initial.port) (g.P.Port.state l.port) (g.P.Port.ledger l.port);
   continues : Continues (g.P.Port.ledger l.initial.port) (g.P.Port.ledger l.port);
   counts : (m : ℕ) → g.I.Inbox.refused l.initial.inbox m ≤ g.I.Inbox.refused l.inbox m;

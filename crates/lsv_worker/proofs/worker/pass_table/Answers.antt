@@ -1,5 +1,5 @@
 use Rattle.std.proofs.Common.{◌≡◌, List, length, sym, ap, subst, ◌∙◌}
-use Rattle.lsv_worker.specs.Worker.{AreCalmed, AreOfLanes, IsTable, Steps}
+use Rattle.lsv_worker.specs.Worker.{AreCalmed, AreOfLanes, AreSpared, IsTable, Steps}
 use Rattle.lsv_worker.specs.declared.link.Link.{Link}
 use Rattle.lsv_worker.proofs.Tables.{lent}
 use Rattle.lsv_worker.proofs.worker.pass_table.Goals as goal
@@ -28,3 +28,9 @@ returns-clause-lanes g c =
     let size : length c.pass_all.new.links ≡ length c.args.links.now.items = c.pass_all.auto.links ∙ ap length c.deref_mut.ensures.value in
     let whole = lent c.args.links.now.len c.pass_all.new.links c.args.links.now.items (sym c.deref_mut.ensures.len ∙ ap length c.deref_mut.ensures.value) size in
     subst (AreOfLanes (g.I.Inbox.lanes c.args.inbox.now)) (sym whole) c.pass_all.ensures.lanes
+
+pub returns-clause-laden : goal.returns-clause-laden
+returns-clause-laden g c = λ told going.
+    let size : length c.pass_all.new.links ≡ length c.args.links.now.items = c.pass_all.auto.links ∙ ap length c.deref_mut.ensures.value in
+    let whole = lent c.args.links.now.len c.pass_all.new.links c.args.links.now.items (sym c.deref_mut.ensures.len ∙ ap length c.deref_mut.ensures.value) size in
+    subst (λ (l : List Link). AreSpared l (g.P.Port.state c.args.port.now) (g.P.Port.state c.pass_all.new.port)) (sym whole) (c.pass_all.ensures.laden told going)

@@ -1,7 +1,8 @@
-use Rattle.std.proofs.Common.{◌≡◌, ◌≤◌, ◌+◌, ℕ, Bool, sym, subst, ◌∙◌, rules, arith, refl}
+use Rattle.std.proofs.Common.{◌≡◌, ◌<◌, ◌≤◌, ◌+◌, ℕ, Bool, length, sym, ap, subst, ◌∙◌, rules, arith, refl}
 use Rattle.lsv_port.specs.Port.{IsOpen}
 use Rattle.lsv_worker.specs.Lanes.{lane_or_home}
 use Rattle.lsv_worker.specs.Links.{WasRead, WasReadAtMost}
+use Rattle.lsv_worker.specs.declared.outgoing.Outgoing.{Outgoing}
 use Rattle.lsv_worker.proofs.Linking.{link_then, most_add, most_none, most_up, read_more, read_none}
 use Rattle.lsv_worker.proofs.Ports.{blame_same, blame_then, continues_here, continues_then, risen_late}
 use Rattle.lsv_worker.proofs.link.Link.read_on.Goals as goal
@@ -25,6 +26,7 @@ reads-init g c = record {
   here = λ told live. subst (IsOpen (g.P.Port.state c.args.port.now)) (sym c.advance.ensures.sides.number) (c.requires.is_open told (sym c.advance.ensures.sides.live ∙ live));
   read = λ told owed. read_none ((g.P.Port.state c.args.port.now).link c.args.self.now.number) ((g.P.Port.state c.args.port.now).link c.args.self.now.number) refl;
   most = λ told. most_none 0 ((g.P.Port.state c.args.port.now).link c.args.self.now.number) ((g.P.Port.state c.args.port.now).link c.args.self.now.number) refl;
+  laden = λ told going laden. refl;
   blame = λ told. blame_same (g.P.Port.state c.args.port.now) (g.P.Port.state c.args.port.now) (g.P.Port.ledger c.args.port.now) (g.P.Port.ledger c.args.port.now) (λ l. refl);
   continues = continues_here (g.P.Port.ledger c.args.port.now);
   counts = c.advance.ensures.counts;
@@ -79,9 +81,21 @@ reads-preserved g c =
       most = λ told.
           most_add c.reads.k 1 ((g.P.Port.state c.args.port.now).link n) ((g.P.Port.state c.reads.port).link n) ((g.P.Port.state c.read_once.new.port).link n) (c.reads.invariant.most told)
           (subst (λ k. WasReadAtMost 1 ((g.P.Port.state c.reads.port).link k) ((g.P.Port.state c.read_once.new.port).link k)) c.reads.invariant.number (c.read_once.ensures.most told));
+      laden = λ told going laden.
+          let light : length c.reads.self.outgoing.unsent < 65536 = c.is_spared.ensures.no c.if-is_spared.false going in
+          let less : length c.read_once.new.self.outgoing.unsent ≤ length c.reads.self.outgoing.unsent = c.read_once.ensures.unsent in
+          let now : length c.advance-in-reads.new.self.outgoing.unsent ≡ length c.read_once.new.self.outgoing.unsent = ap (λ (o : Outgoing). length o.unsent) c.advance-in-reads.ensures.sides.outgoing in
+          absurd (omega (arith, light, less, now, laden));
       blame = λ told. blame_then (g.P.Port.state c.args.port.now) (g.P.Port.state c.reads.port) (g.P.Port.state c.read_once.new.port) (g.P.Port.ledger c.args.port.now) (g.P.Port.ledger c.reads.port) (g.P.Port.ledger c.read_once.new.port) c.reads.invariant.continues c.read_once.ensures.continues (c.reads.invariant.blame told) (c.read_once.ensures.blame told);
       continues = continues_then (g.P.Port.ledger c.args.port.now) (g.P.Port.ledger c.reads.port) (g.P.Port.ledger c.read_once.new.port) c.reads.invariant.continues c.read_once.ensures.continues;
       counts = λ m. omega (arith, c.reads.invariant.counts m, c.advance-in-reads.ensures.counts m);
       lanes = c.advance-in-reads.ensures.lanes;
       same = g.met.I.Inbox.same_through c.args.inbox.now c.reads.inbox c.advance-in-reads.new.inbox c.reads.invariant.same c.advance-in-reads.ensures.same;
     }
+
+pub returns-then-advance-2-clause-laden : goal.returns-then-advance-2-clause-laden
+returns-then-advance-2-clause-laden g c = λ told going laden.
+    let light : length c.reads.self.outgoing.unsent < 65536 = c.is_spared.ensures.no c.if-is_spared.false going in
+    let less : length c.read_once.new.self.outgoing.unsent ≤ length c.reads.self.outgoing.unsent = c.read_once.ensures.unsent in
+    let now : length c.advance-in-reads.new.self.outgoing.unsent ≡ length c.read_once.new.self.outgoing.unsent = ap (λ (o : Outgoing). length o.unsent) c.advance-in-reads.ensures.sides.outgoing in
+    absurd (omega (arith, light, less, now, laden))

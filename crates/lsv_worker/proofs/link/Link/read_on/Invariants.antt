@@ -1,7 +1,8 @@
 use Rattle.std.proofs.Common.{◌≡◌, ◌≤◌, ℕ, true}
 use Rattle.lsv_port.specs.Ledger.{Continues}
 use Rattle.lsv_port.specs.Port.{IsOpen}
-use Rattle.lsv_worker.specs.Links.{HasBlame, LinkStep, WasRead, WasReadAtMost}
+use Rattle.lsv_worker.specs.Links.{HasBlame, IsSpared, LinkStep, WasRead, WasReadAtMost}
+use Rattle.lsv_worker.specs.declared.link.Phase.TheVariants.{Going}
 use Rattle.lsv_worker.proofs.link.Link.read_on.Given as goal
 
 abbrev pub invariant-reads : goal.invariant-reads
@@ -11,6 +12,7 @@ invariant-reads g l = record {
   here : g.P.Port.tells → l.self.live ≡ true → IsOpen (g.P.Port.state l.port) l.self.number;
   read : g.P.Port.tells → l.self.owed ≡ true → WasRead l.k ((g.P.Port.state l.fn.port).link l.fn.self.number) ((g.P.Port.state l.port).link l.fn.self.number);
   most : g.P.Port.tells → WasReadAtMost l.k ((g.P.Port.state l.fn.port).link l.fn.self.number) ((g.P.Port.state l.port).link l.fn.self.number);
+  laden : g.P.Port.tells → l.phase ≡ Going → IsSpared l.self ((g.P.Port.state l.fn.port).link l.fn.self.number) ((g.P.Port.state l.port).link l.fn.self.number);
   blame : g.P.Port.tells → HasBlame (g.P.Port.state l.fn.port) (g.P.Port.ledger l.fn.port) (g.P.Port.state l.port) (g.P.Port.ledger l.port);
   continues : Continues (g.P.Port.ledger l.fn.port) (g.P.Port.ledger l.port);
   counts : (m : ℕ) → g.I.Inbox.refused l.fn.inbox m ≤ g.I.Inbox.refused l.inbox m;

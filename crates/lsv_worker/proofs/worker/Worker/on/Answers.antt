@@ -3,6 +3,7 @@ use Rattle.lsv_worker.specs.Links.{reads_in}
 use Rattle.lsv_worker.specs.Worker.{Setting}
 use Rattle.lsv_worker.specs.declared.link.Phase.{Phase}
 use Rattle.lsv_worker.proofs.Ports.{blame_then, continues_then}
+use Rattle.lsv_worker.proofs.Reading.{most_late, spared_late}
 use Rattle.lsv_worker.proofs.Going.{at_after, goes_after, reads_after, same_set, same_then}
 use Rattle.lsv_worker.proofs.worker.Worker.on.Goals as goal
 
@@ -32,3 +33,9 @@ returns-clause-blame g c = λ told.
 
 pub returns-clause-continues : goal.returns-clause-continues
 returns-clause-continues g c = continues_then (g.P.Port.ledger c.args.port.now) (g.P.Port.ledger c.note.new.port) (g.P.Port.ledger c.pass.new.port) c.note.ensures.continues c.pass.ensures.continues
+
+pub returns-clause-reads : goal.returns-clause-reads
+returns-clause-reads g c = λ told l. most_late 16 ((g.P.Port.state c.args.port.now).link l) ((g.P.Port.state c.note.new.port).link l) ((g.P.Port.state c.pass.new.port).link l) (c.note.ensures.unread told l) (c.pass.ensures.reads told l)
+
+pub returns-clause-laden : goal.returns-clause-laden
+returns-clause-laden g c = λ told going. spared_late c.pass.new.self.links.items (g.P.Port.state c.args.port.now) (g.P.Port.state c.note.new.port) (g.P.Port.state c.pass.new.port) (c.note.ensures.unread told) (c.pass.ensures.laden told going)

@@ -1,5 +1,6 @@
 use Rattle.std.proofs.Common.{◌≡◌, refl, rules}
 use Rattle.lsv_worker.specs.Worker.{IsFresh, setting}
+use Rattle.lsv_worker.proofs.Reading.{unread_closed}
 use Rattle.lsv_worker.proofs.Notes.{admitted_stands, opens_closed, refused_stands}
 use Rattle.lsv_worker.proofs.worker.Worker.opened.Goals as goal
 
@@ -26,3 +27,12 @@ pub admit-requires-clause-lanes : goal.admit-requires-clause-lanes
 admit-requires-clause-lanes g c =
     let fresh : IsFresh (setting c.args.self.now) c.args.number c.in-Some.link = c.fresh.ensures c.in-Some.link c.in-Some.is in
     fresh.lanes
+
+pub returns-then-is_crowded-clause-unread : goal.returns-then-is_crowded-clause-unread
+returns-then-is_crowded-clause-unread g c = λ told. unread_closed c.args.number (g.P.Port.state c.args.port.now) (g.P.Port.state c.close.new.self) (c.close.ensures.change told)
+
+pub returns-in_default-clause-unread : goal.returns-in_default-clause-unread
+returns-in_default-clause-unread g c = λ told. unread_closed c.args.number (g.P.Port.state c.args.port.now) (g.P.Port.state c.close-in_default.new.self) (c.close-in_default.ensures.change told)
+
+pub returns-clause-unread : goal.returns-clause-unread
+returns-clause-unread g c = λ told. unread_closed c.args.number (g.P.Port.state c.args.port.now) (g.P.Port.state c.close-2.new.self) (c.close-2.ensures.change told)

@@ -1,9 +1,10 @@
 use Rattle.std.proofs.Common.{◌≡◌, ◌≢◌, ◌<◌, ◌≤◌, ◌++◌, ℕ, List, length, get_or, sym, ap, subst, ◌∙◌, refl, arith, rules}
 use Rattle.std.specs.List.{Contains}
 use Rattle.std.specs.Vec.{vec_capacity, vec_len}
-use Rattle.lsv_worker.specs.Worker.{AreCalmed, AreHeld, AreOfLanes, Stands, setting, undone}
+use Rattle.lsv_worker.specs.Worker.{AreCalmed, AreHeld, AreOfLanes, AreSpared, Stands, setting, undone}
 use Rattle.lsv_worker.specs.declared.link.Link.{Link}
 use Rattle.lsv_worker.specs.declared.link.Pause.TheVariants.{Calm}
+use Rattle.lsv_worker.proofs.Reading.{spared_swept}
 use Rattle.lsv_worker.proofs.Tables.{calm_swept, held_all, holds_owed, lanes_swept, stands_swept}
 use Rattle.lsv_worker.proofs.worker.Worker.pass.Goals as goal
 
@@ -42,3 +43,7 @@ returns-clause-fit g c = record {
   room = omega (arith, c.requires.fit.room, c.pass_table.ensures.size, c.sweep.ensures.fewer, c.collect.ensures.room);
   lanes = subst (AreOfLanes c.args.self.now.lanes) (sym c.sweep.ensures.items) (lanes_swept c.args.self.now.lanes c.pass_table.new.links.items (subst (λ (n : ℕ). AreOfLanes n c.pass_table.new.links.items) c.requires.lanes c.pass_table.ensures.lanes));
 }
+
+pub returns-clause-laden : goal.returns-clause-laden
+returns-clause-laden g c = λ told going.
+    subst (λ (l : List Link). AreSpared l (g.P.Port.state c.args.port.now) (g.P.Port.state c.pass_table.new.port)) (sym c.sweep.ensures.items) (spared_swept c.pass_table.new.links.items (g.P.Port.state c.args.port.now) (g.P.Port.state c.pass_table.new.port) (c.pass_table.ensures.laden told going))
