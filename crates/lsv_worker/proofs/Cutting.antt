@@ -173,6 +173,9 @@ wants_ended link stage read put marks h = wants_at Ended link read put marks ref
 pub wants_refused : (link : Incoming) → link.stage ≡ Leaving Refused → SameWay link (record link { stage = Starving })
 wants_refused link stage read put marks h = wants_at Refused link read put marks refl (begins_all read) stage h
 
+pub wants_shut : (link : Incoming) → link.stage ≡ Leaving Shut → SameWay link (record link { stage = Starving })
+wants_shut link stage read put marks h = wants_at Shut link read put marks refl (λ heard begin. begin) stage h
+
 -- ---- bytes come
 
 pub hears_on : (link new : Incoming) (piece : List ℕ) → cuts link.stage ≡ true → new ≡ record link { rest = new.rest } → new.rest ≡ link.rest ++ piece

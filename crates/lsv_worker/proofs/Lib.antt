@@ -1,11 +1,14 @@
 pub mod Routes
 pub mod Cutting
 pub mod Putting
+pub mod Wanting
 pub mod Ports
 pub mod Speaking
 pub mod Linking
+pub mod Ruling
 pub mod Tables
 mod Reading
+pub mod Passing
 pub mod Notes
 pub mod Going
 pub mod Taking

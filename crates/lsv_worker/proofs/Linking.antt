@@ -19,7 +19,7 @@ use Rattle.lsv_session.specs.declared.job.Body.{Body}
 use Rattle.lsv_session.specs.declared.job.Job.{Job}
 use Rattle.lsv_session.specs.declared.reply.Reply.{Reply}
 use Rattle.lsv_worker.specs.Lanes.{job_of}
-use Rattle.lsv_worker.specs.Incoming.{Hears, Marks, Puts, SameWay, hears}
+use Rattle.lsv_worker.specs.Incoming.{Hears, KeepsWant, Marks, Puts, SameWay, TellsWant, hears}
 use Rattle.lsv_worker.specs.Outgoing.{Alone, HasEarlyShut, HasShut, SameInput, Speaks, TalksOn, Writes}
 use Rattle.lsv_worker.specs.Links.{Closes, Fails, LetsEnd, LinkStands, LinkStep, MayEnd, Takes, WasRead, WasReadAtMost, reads_in, repeated}
 use Rattle.lsv_worker.specs.declared.incoming.Incoming.{Incoming}
@@ -50,6 +50,8 @@ stands_ext phase link s p q replies same h = record {
   over = h.over;
   closed = h.closed;
   sent = h.sent;
+  kept = h.kept;
+  wants = h.wants;
 }
 
 -- one step behind another
@@ -80,8 +82,8 @@ link_quiet phase old new s t jobs number conn alone goes = record {
 }
 
 -- jobs are put
-pub link_puts : (phase : Phase) (old : Link) (inc : Incoming) (port : PortState) (p q : ℕ → List Job) → Puts old.conn old.incoming inc p q → LinkStep phase old (record old { incoming = inc }) port port p q
-link_puts phase old inc port p q puts = record {
+pub link_puts : (phase : Phase) (old : Link) (inc : Incoming) (port : PortState) (p q : ℕ → List Job) → Puts old.conn old.incoming inc p q → KeepsWant old.incoming inc → LinkStep phase old (record old { incoming = inc }) port port p q
+link_puts phase old inc port p q puts keeps = record {
   number = refl;
   conn = refl;
   alone = alone_here old.number port;
@@ -103,13 +105,15 @@ link_puts phase old inc port p q puts = record {
     over = h.over;
     closed = h.closed;
     sent = h.sent;
+    kept = h.kept;
+    wants = λ e. keeps.told (h.wants e);
   };
 }
 
 -- no more bytes come, where its phase lets it end
 pub link_ends : (phase : Phase) (old : Link) (inc : Incoming) (port : PortState) (jobs : ℕ → List Job) → ((s : LinkState) → s.owed ≡ old.owed → LetsEnd phase s)
-    → ((read : List ℕ) (put : ℕ → List Body) (marks : Marks) → Hears old.incoming read put marks → Hears inc read put (record marks { over = true })) → LinkStep phase old (record old { incoming = inc }) port port jobs jobs
-link_ends phase old inc port jobs lets goes = link_quiet phase old (record old { incoming = inc }) port port jobs refl refl (alone_here old.number port) (λ past replies h. record {
+    → ((read : List ℕ) (put : ℕ → List Body) (marks : Marks) → Hears old.incoming read put marks → Hears inc read put (record marks { over = true })) → KeepsWant old.incoming inc → LinkStep phase old (record old { incoming = inc }) port port jobs jobs
+link_ends phase old inc port jobs lets goes keeps = link_quiet phase old (record old { incoming = inc }) port port jobs refl refl (alone_here old.number port) (λ past replies h. record {
   marks = record h.marks { over = true };
   inward = goes (port.link old.number).input past h.marks h.inward;
   outward = h.outward;
@@ -125,6 +129,8 @@ link_ends phase old inc port jobs lets goes = link_quiet phase old (record old {
   over = h.over;
   closed = h.closed;
   sent = h.sent;
+  kept = h.kept;
+  wants = λ e. keeps.told (h.wants e);
 })
 
 -- why the reading stopped changes nothing else
@@ -154,6 +160,8 @@ link_paused phase old new after s t p q is step =
             over = k.over;
             closed = k.closed;
             sent = k.sent;
+            kept = k.kept;
+            wants = k.wants;
           };
     })
 
@@ -183,8 +191,8 @@ may_same phase s t ended failed lets h = ⊎_elim (λ e. inl (ended ∙ e)) (λ 
 -- bytes came on a link that hears
 pub stands_heard : (phase : Phase) (old : Link) (inc : Incoming) (s : LinkState) (count : ℕ) (buf : List ℕ) (past : ℕ → List Body) (replies : List Reply)
     → ((read : List ℕ) (put : ℕ → List Body) (marks : Marks) → Hears old.incoming read put marks → Hears inc (read ++ take count buf) put marks)
-    → All (λ b. b < 256) buf → LinkStands phase old s past replies → LinkStands phase (record old { incoming = inc }) (after_read (took.Bytes count) buf s) past replies
-stands_heard phase old inc s count buf past replies goes small h = record {
+    → All (λ b. b < 256) buf → KeepsWant old.incoming inc → LinkStands phase old s past replies → LinkStands phase (record old { incoming = inc }) (after_read (took.Bytes count) buf s) past replies
+stands_heard phase old inc s count buf past replies goes small keeps h = record {
   marks = h.marks;
   inward = goes s.input past h.marks h.inward;
   outward = h.outward;
@@ -200,6 +208,8 @@ stands_heard phase old inc s count buf past replies goes small h = record {
   over = h.over;
   closed = h.closed;
   sent = h.sent;
+  kept = h.kept;
+  wants = λ e. keeps.told (h.wants e);
 }
 
 -- no bytes come on a link that doesn't hear
@@ -226,12 +236,14 @@ stands_unowed phase old s buf past replies h = record {
   over = h.over;
   closed = h.closed;
   sent = h.sent;
+  kept = h.kept;
+  wants = h.wants;
 }
 
 pub stands_ended : (phase : Phase) (old : Link) (inc : Incoming) (s : LinkState) (buf : List ℕ) (past : ℕ → List Body) (replies : List Reply)
     → ((read : List ℕ) (put : ℕ → List Body) (marks : Marks) → Hears old.incoming read put marks → Hears inc read put (record marks { over = true }))
-    → LinkStands phase old s past replies → LinkStands phase (record old { owed = false; incoming = inc }) (after_read took.End buf s) past replies
-stands_ended phase old inc s buf past replies goes h = record {
+    → KeepsWant old.incoming inc → LinkStands phase old s past replies → LinkStands phase (record old { owed = false; incoming = inc }) (after_read took.End buf s) past replies
+stands_ended phase old inc s buf past replies goes keeps h = record {
   marks = record h.marks { over = true };
   inward = goes s.input past h.marks h.inward;
   outward = h.outward;
@@ -247,13 +259,15 @@ stands_ended phase old inc s buf past replies goes h = record {
   over = h.over;
   closed = h.closed;
   sent = h.sent;
+  kept = h.kept;
+  wants = λ e. keeps.told (h.wants e);
 }
 
 -- a link that failed is closed
 pub stands_failed : (phase : Phase) (old mid new : Link) (s t : LinkState) (past : ℕ → List Body) (replies : List Reply) → mid.conn ≡ old.conn → mid.shut ≡ old.shut → mid.incoming ≡ old.incoming
-    → ((answers : List ℕ) → Speaks old.outgoing s.output answers → Speaks mid.outgoing t.output answers) → (mid.outgoing.voice ≡ voices.Over → old.outgoing.voice ≡ voices.Over) → Fails mid new
+    → ((answers : List ℕ) → Speaks old.outgoing s.output answers → Speaks mid.outgoing t.output answers) → (mid.outgoing.voice ≡ voices.Over → old.outgoing.voice ≡ voices.Over) → (mid.outgoing.voice ≡ voices.Starved → old.outgoing.voice ≡ voices.Starved) → Fails mid new
     → t.input ≡ s.input → t.is_open ≡ false → t.failed ≡ true → t.owed ≡ mid.owed → (t.ended ≡ true → t.owed ≡ false) → LinkStands phase old s past replies → LinkStands phase new t past replies
-stands_failed phase old mid new s t past replies conn shut incoming speaks over fails input shutdown failed owed paid h =
+stands_failed phase old mid new s t past replies conn shut incoming speaks over starved fails input shutdown failed owed paid h =
     let c : new.conn ≡ old.conn = fails.conn ∙ conn in
     record {
       marks = record h.marks { over = true };
@@ -271,16 +285,18 @@ stands_failed phase old mid new s t past replies conn shut incoming speaks over 
       over = λ e. inr (inl failed);
       closed = λ e. inl failed;
       sent = λ e full. fails.unsent;
+      kept = λ going e. fails.unsent;
+      wants = λ e. fails.keeps.told (subst TellsWant (sym incoming) (h.wants (starved (fails.starved e))));
     }
 
 -- ---- writing
 
 pub stands_wrote : (phase : Phase) (old : Link) (out : Outgoing) (live : Bool) (s t : LinkState) (past : ℕ → List Body) (replies : List Reply)
     → t.input ≡ s.input → t.ended ≡ s.ended → t.owed ≡ s.owed → t.failed ≡ s.failed → t.is_open ≡ live
-    → ((answers : List ℕ) → Speaks old.outgoing s.output answers → Speaks out t.output answers) → (out.voice ≡ voices.Failed → old.outgoing.voice ≡ voices.Failed) → (out.voice ≡ voices.Over → (old.outgoing.voice ≡ voices.Over) ⊎ (phase ≡ Stopped))
-    → (old.live ≡ false → live ≡ false) → (live ≡ false → (t.failed ≡ true) ⊎ ((old.shut ≡ true) ⊎ (phase ≡ Stopped))) → (live ≡ false → t.full ≡ false → out.unsent ≡ [])
+    → ((answers : List ℕ) → Speaks old.outgoing s.output answers → Speaks out t.output answers) → (out.voice ≡ voices.Failed → old.outgoing.voice ≡ voices.Failed) → (out.voice ≡ voices.Over → (old.outgoing.voice ≡ voices.Over) ⊎ (phase ≡ Stopped)) → (out.voice ≡ voices.Starved → old.outgoing.voice ≡ voices.Starved)
+    → (old.live ≡ false → live ≡ false) → (live ≡ false → (t.failed ≡ true) ⊎ ((old.shut ≡ true) ⊎ (phase ≡ Stopped))) → (live ≡ false → t.full ≡ false → out.unsent ≡ []) → (phase ≡ Going → live ≡ false → out.unsent ≡ [])
     → LinkStands phase old s past replies → LinkStands phase (record old { outgoing = out; live = live }) t past replies
-stands_wrote phase old out live s t past replies input ended owed failed here speaks silent over still closed sent h = record {
+stands_wrote phase old out live s t past replies input ended owed failed here speaks silent over starved still closed sent kept h = record {
   marks = h.marks;
   inward = subst (λ (r : List ℕ). Hears old.incoming r past h.marks) (sym input) h.inward;
   outward = speaks (answers old.conn replies) h.outward;
@@ -296,6 +312,8 @@ stands_wrote phase old out live s t past replies input ended owed failed here sp
   over = λ e. ⊎_elim (λ was. ⊎_elim (λ t. inl t) (λ l. inr (⊎_elim (λ f. inl (failed ∙ f)) (λ p. inr p) l)) (h.over was)) (λ p. inr (inr p)) (over e);
   closed = closed;
   sent = sent;
+  kept = kept;
+  wants = λ e. h.wants (starved e);
 }
 
 -- ---- counts of reads
@@ -344,17 +362,17 @@ link_read_failed phase old new buf s t u jobs first second fails =
     let is : u.link old.number ≡ closed (after_read took.Failed buf (s.link old.number)) = second.this ∙ ap closed first.this in
     link_quiet phase old new s u jobs fails.number fails.conn (alone_then old.number s t u (alone_change old.number (after_read took.Failed buf (s.link old.number)) s t first) (alone_change old.number (closed (t.link old.number)) t u second))
     (λ past replies h. stands_failed phase old (record old { owed = false }) new (s.link old.number) (u.link old.number) past replies refl refl refl
-    (λ a speaks. subst (λ (x : LinkState). Speaks old.outgoing x.output a) (sym is) speaks) (λ e. e) fails
+    (λ a speaks. subst (λ (x : LinkState). Speaks old.outgoing x.output a) (sym is) speaks) (λ e. e) (λ e. e) fails
     (ap (λ (x : LinkState). x.input) is) (ap (λ (x : LinkState). x.is_open) is) (ap (λ (x : LinkState). x.failed) is) (ap (λ (x : LinkState). x.owed) is) (λ e. ap (λ (x : LinkState). x.owed) is) h)
 
 -- a write failed, and the link was closed
-pub link_write_failed : (phase : Phase) (old new : Link) (out : Outgoing) (s t u : PortState) (jobs : ℕ → List Job) → Writes old.number old.outgoing out s t → (t.link old.number).failed ≡ true → (out.voice ≡ voices.Over → old.outgoing.voice ≡ voices.Over)
+pub link_write_failed : (phase : Phase) (old new : Link) (out : Outgoing) (s t u : PortState) (jobs : ℕ → List Job) → Writes old.number old.outgoing out s t → (t.link old.number).failed ≡ true → (out.voice ≡ voices.Over → old.outgoing.voice ≡ voices.Over) → (out.voice ≡ voices.Starved → old.outgoing.voice ≡ voices.Starved)
     → Changes old.number (closed (t.link old.number)) t u → Fails (record old { outgoing = out }) new → LinkStep phase old new s u jobs jobs
-link_write_failed phase old new out s t u jobs writes failed over change fails =
+link_write_failed phase old new out s t u jobs writes failed over starved change fails =
     let is : u.link old.number ≡ closed (t.link old.number) = change.this in
     link_quiet phase old new s u jobs fails.number fails.conn (alone_then old.number s t u writes.alone (alone_change old.number (closed (t.link old.number)) t u change))
     (λ past replies h. stands_failed phase old (record old { outgoing = out }) new (s.link old.number) (u.link old.number) past replies refl refl refl
-    (λ a speaks. subst (λ (x : LinkState). Speaks out x.output a) (sym is) (writes.goes a speaks)) over fails
+    (λ a speaks. subst (λ (x : LinkState). Speaks out x.output a) (sym is) (writes.goes a speaks)) over starved fails
     (ap (λ (x : LinkState). x.input) is ∙ writes.input.input) (ap (λ (x : LinkState). x.is_open) is) (ap (λ (x : LinkState). x.failed) is ∙ failed) (ap (λ (x : LinkState). x.owed) is ∙ writes.input.owed ∙ h.owed)
     (λ e. ap (λ (x : LinkState). x.owed) is ∙ writes.input.owed ∙ h.paid (sym (ap (λ (x : LinkState). x.ended) is ∙ writes.input.ended) ∙ e)) h)
 
@@ -364,17 +382,17 @@ pub link_wrote : (phase : Phase) (old : Link) (out : Outgoing) (s t : PortState)
 link_wrote phase old out s t jobs live writes failed voice =
     link_quiet phase old (record old { outgoing = out }) s t jobs refl refl writes.alone
     (λ past replies h. stands_wrote phase old out old.live (s.link old.number) (t.link old.number) past replies writes.input.input writes.input.ended writes.input.owed failed (writes.input.is_open ∙ h.live) writes.goes
-    (λ e. sym voice ∙ e) (λ e. inl (sym voice ∙ e)) (λ e. e) (λ e. let no : true ≡ false = sym live ∙ e in absurd cc) (λ e. let no : true ≡ false = sym live ∙ e in absurd cc) h)
+    (λ e. sym voice ∙ e) (λ e. inl (sym voice ∙ e)) (λ e. sym voice ∙ e) (λ e. e) (λ e. let no : true ≡ false = sym live ∙ e in absurd cc) (λ e. let no : true ≡ false = sym live ∙ e in absurd cc) (λ going e. let no : true ≡ false = sym live ∙ e in absurd cc) h)
 
 -- the same of a link that was shut, which is closed
 pub link_wrote_last : (phase : Phase) (old : Link) (out : Outgoing) (s t u : PortState) (jobs : ℕ → List Job) → old.shut ≡ true → Writes old.number old.outgoing out s t → (t.link old.number).failed ≡ (s.link old.number).failed → out.voice ≡ old.outgoing.voice
-    → ((t.link old.number).full ≡ false → out.unsent ≡ []) → Changes old.number (closed (t.link old.number)) t u → LinkStep phase old (record old { outgoing = out; live = false }) s u jobs jobs
-link_wrote_last phase old out s t u jobs shut writes failed voice done change =
+    → ((t.link old.number).full ≡ false → out.unsent ≡ []) → (phase ≡ Going → out.unsent ≡ []) → Changes old.number (closed (t.link old.number)) t u → LinkStep phase old (record old { outgoing = out; live = false }) s u jobs jobs
+link_wrote_last phase old out s t u jobs shut writes failed voice done idle change =
     let is : u.link old.number ≡ closed (t.link old.number) = change.this in
     link_quiet phase old (record old { outgoing = out; live = false }) s u jobs refl refl (alone_then old.number s t u writes.alone (alone_change old.number (closed (t.link old.number)) t u change))
     (λ past replies h. stands_wrote phase old out false (s.link old.number) (u.link old.number) past replies (ap (λ (x : LinkState). x.input) is ∙ writes.input.input) (ap (λ (x : LinkState). x.ended) is ∙ writes.input.ended) (ap (λ (x : LinkState). x.owed) is ∙ writes.input.owed)
     (ap (λ (x : LinkState). x.failed) is ∙ failed) (ap (λ (x : LinkState). x.is_open) is) (λ a speaks. subst (λ (x : LinkState). Speaks out x.output a) (sym is) (writes.goes a speaks))
-    (λ e. sym voice ∙ e) (λ e. inl (sym voice ∙ e)) (λ e. refl) (λ e. inr (inl shut)) (λ e full. done (sym (ap (λ (x : LinkState). x.full) is) ∙ full)) h)
+    (λ e. sym voice ∙ e) (λ e. inl (sym voice ∙ e)) (λ e. sym voice ∙ e) (λ e. refl) (λ e. inr (inl shut)) (λ e full. done (sym (ap (λ (x : LinkState). x.full) is) ∙ full)) (λ going e. idle going) h)
 
 -- nothing is done
 pub link_same : (phase : Phase) (old : Link) (s : PortState) (jobs : ℕ → List Job) → LinkStep phase old old s s jobs jobs
@@ -433,9 +451,9 @@ talks_now c replies reply conn shut = record { before = replies; reply = reply; 
 -- a reply was taken that says something
 pub stands_said : (phase : Phase) (old : Link) (inc : Incoming) (out : Outgoing) (s : LinkState) (past : ℕ → List Body) (replies : List Reply) (reply : Reply) (m : ServerMessage) → reply.conn ≡ old.conn → reply.body ≡ said.Say m → SameWay old.incoming inc
     → (Speaks old.outgoing s.output (answers old.conn replies) → Speaks out s.output (answers old.conn replies ++ frame_of (server_bytes m)))
-    → (out.voice ≡ voices.Failed → old.outgoing.voice ≡ voices.Failed) → (out.voice ≡ voices.Over → (old.outgoing.voice ≡ voices.Over) ⊎ ((old.shut ≡ true) ⊎ (old.live ≡ false))) → (old.live ≡ false → out.unsent ≡ [])
+    → (out.voice ≡ voices.Failed → old.outgoing.voice ≡ voices.Failed) → (out.voice ≡ voices.Over → (old.outgoing.voice ≡ voices.Over) ⊎ ((old.shut ≡ true) ⊎ (old.live ≡ false))) → (old.live ≡ false → out.unsent ≡ []) → ((old.outgoing.voice ≡ voices.Starved → TellsWant old.incoming) → out.voice ≡ voices.Starved → TellsWant inc)
     → LinkStands phase old s past replies → LinkStands phase (record old { incoming = inc; outgoing = out }) s past (replies ++ reply ∷ [])
-stands_said phase old inc out s past replies reply m conn body way speaks silent over sent h = record {
+stands_said phase old inc out s past replies reply m conn body way speaks silent over sent wants h = record {
   marks = h.marks;
   inward = way s.input past h.marks h.inward;
   outward = subst (Speaks out s.output) (sym (answers_said old.conn replies reply m conn body)) (speaks h.outward);
@@ -453,13 +471,15 @@ stands_said phase old inc out s past replies reply m conn body way speaks silent
       (λ l. ⊎_elim (λ f. inr (inl f)) (λ k. ⊎_elim (λ shut. inl (talks_now old.conn replies reply conn (h.shut shut))) (λ p. inr (inr p)) k) (h.closed l)) why) (over e);
   closed = h.closed;
   sent = λ e full. sent e;
+  kept = λ going e. sent e;
+  wants = wants h.wants;
 }
 
 -- a Shut was taken
 pub stands_shut : (phase : Phase) (old : Link) (inc : Incoming) (marks : Marks → Marks) (s : LinkState) (past : ℕ → List Body) (replies : List Reply) (reply : Reply) → reply.conn ≡ old.conn → reply.body ≡ said.Shut
-    → ((read : List ℕ) (put : ℕ → List Body) (m : Marks) → Hears old.incoming read put m → Hears inc read put (marks m)) → ((m : Marks) → (marks m).over ≡ m.over) → ((m : Marks) → (marks m).shut ≡ true → (m.shut ≡ true) ⊎ (reply.last ≡ false))
+    → ((read : List ℕ) (put : ℕ → List Body) (m : Marks) → Hears old.incoming read put m → Hears inc read put (marks m)) → ((m : Marks) → (marks m).over ≡ m.over) → ((m : Marks) → (marks m).shut ≡ true → (m.shut ≡ true) ⊎ (reply.last ≡ false)) → KeepsWant old.incoming inc
     → LinkStands phase old s past replies → LinkStands phase (record old { incoming = inc; shut = true }) s past (replies ++ reply ∷ [])
-stands_shut phase old inc marks s past replies reply conn body way same_over shut h = record {
+stands_shut phase old inc marks s past replies reply conn body way same_over shut keeps h = record {
   marks = marks h.marks;
   inward = way s.input past h.marks h.inward;
   outward = subst (Speaks old.outgoing s.output) (sym (answers_shut old.conn replies reply conn body)) h.outward;
@@ -475,6 +495,8 @@ stands_shut phase old inc marks s past replies reply conn body way same_over shu
   over = λ e. ⊎_elim (λ t. inl (talks_more old.conn replies (reply ∷ []) t)) (λ l. inr l) (h.over e);
   closed = λ e. ⊎_elim (λ f. inl f) (λ k. inr (⊎_elim (λ was. inl refl) (λ p. inr p) k)) (h.closed e);
   sent = h.sent;
+  kept = h.kept;
+  wants = λ e. keeps.told (h.wants e);
 }
 
 -- a Shut that changes nothing
@@ -496,33 +518,35 @@ stands_ignored phase old s past replies reply conn body h = record {
   over = λ e. ⊎_elim (λ t. inl (talks_more old.conn replies (reply ∷ []) t)) (λ l. inr l) (h.over e);
   closed = h.closed;
   sent = h.sent;
+  kept = h.kept;
+  wants = h.wants;
 }
 
 pub takes_said : (old : Link) (inc : Incoming) (out : Outgoing) (port : PortState) (reply : Reply) (m : ServerMessage) → reply.conn ≡ old.conn → reply.body ≡ said.Say m → inc.route.lanes ≡ old.incoming.route.lanes → SameWay old.incoming inc
     → ((output answers : List ℕ) → Speaks old.outgoing output answers → Speaks out output (answers ++ frame_of (server_bytes m)))
-    → (out.voice ≡ voices.Failed → old.outgoing.voice ≡ voices.Failed) → (out.voice ≡ voices.Over → (old.outgoing.voice ≡ voices.Over) ⊎ ((old.shut ≡ true) ⊎ (old.live ≡ false))) → (old.live ≡ false → out.unsent ≡ [])
+    → (out.voice ≡ voices.Failed → old.outgoing.voice ≡ voices.Failed) → (out.voice ≡ voices.Over → (old.outgoing.voice ≡ voices.Over) ⊎ ((old.shut ≡ true) ⊎ (old.live ≡ false))) → (old.live ≡ false → out.unsent ≡ []) → ((old.outgoing.voice ≡ voices.Starved → TellsWant old.incoming) → out.voice ≡ voices.Starved → TellsWant inc)
     → Takes reply old (record old { incoming = inc; outgoing = out }) port port
-takes_said old inc out port reply m conn body lanes way speaks silent over sent = record {
+takes_said old inc out port reply m conn body lanes way speaks silent over sent wants = record {
   number = refl;
   conn = refl;
   lanes = lanes;
   alone = alone_here old.number port;
   open_before = λ e. e;
   owed = refl;
-  goes = λ phase past replies h. stands_said phase old inc out (port.link old.number) past replies reply m conn body way (speaks (port.link old.number).output (answers old.conn replies)) silent over sent h;
+  goes = λ phase past replies h. stands_said phase old inc out (port.link old.number) past replies reply m conn body way (speaks (port.link old.number).output (answers old.conn replies)) silent over sent wants h;
 }
 
 pub takes_shut : (old : Link) (inc : Incoming) (marks : Marks → Marks) (port : PortState) (reply : Reply) → reply.conn ≡ old.conn → reply.body ≡ said.Shut → inc.route.lanes ≡ old.incoming.route.lanes
-    → ((read : List ℕ) (put : ℕ → List Body) (m : Marks) → Hears old.incoming read put m → Hears inc read put (marks m)) → ((m : Marks) → (marks m).over ≡ m.over) → ((m : Marks) → (marks m).shut ≡ true → (m.shut ≡ true) ⊎ (reply.last ≡ false))
+    → ((read : List ℕ) (put : ℕ → List Body) (m : Marks) → Hears old.incoming read put m → Hears inc read put (marks m)) → ((m : Marks) → (marks m).over ≡ m.over) → ((m : Marks) → (marks m).shut ≡ true → (m.shut ≡ true) ⊎ (reply.last ≡ false)) → KeepsWant old.incoming inc
     → Takes reply old (record old { incoming = inc; shut = true }) port port
-takes_shut old inc marks port reply conn body lanes way same_over shut = record {
+takes_shut old inc marks port reply conn body lanes way same_over shut keeps = record {
   number = refl;
   conn = refl;
   lanes = lanes;
   alone = alone_here old.number port;
   open_before = λ e. e;
   owed = refl;
-  goes = λ phase past replies h. stands_shut phase old inc marks (port.link old.number) past replies reply conn body way same_over shut h;
+  goes = λ phase past replies h. stands_shut phase old inc marks (port.link old.number) past replies reply conn body way same_over shut keeps h;
 }
 
 pub takes_ignored : (old : Link) (port : PortState) (reply : Reply) → reply.conn ≡ old.conn → reply.body ≡ said.Shut → Takes reply old old port port
@@ -563,20 +587,20 @@ closes_now old s t shut empty change =
       open_before = λ e. let no : (t.link old.number).is_open ≡ false = ap (λ (x : LinkState). x.is_open) is in absurd cc;
       owed = ap (λ (x : LinkState). x.owed) is;
       goes = λ phase past replies h. stands_wrote phase old old.outgoing false (s.link old.number) (t.link old.number) past replies (ap (λ (x : LinkState). x.input) is) (ap (λ (x : LinkState). x.ended) is) (ap (λ (x : LinkState). x.owed) is)
-          (ap (λ (x : LinkState). x.failed) is) (ap (λ (x : LinkState). x.is_open) is) (λ a speaks. subst (λ (x : LinkState). Speaks old.outgoing x.output a) (sym is) speaks) (λ e. e) (λ e. inl e) (λ e. refl) (λ e. inr (inl shut)) (λ e full. empty) h;
+          (ap (λ (x : LinkState). x.failed) is) (ap (λ (x : LinkState). x.is_open) is) (λ a speaks. subst (λ (x : LinkState). Speaks old.outgoing x.output a) (sym is) speaks) (λ e. e) (λ e. inl e) (λ e. e) (λ e. refl) (λ e. inr (inl shut)) (λ e full. empty) (λ going e. empty) h;
     }
 
 -- the worker was stopped: a link is closed, and nothing more is put on it
 pub stopped_open : (old : Link) (out : Outgoing) (s t : PortState) (jobs : ℕ → List Job) → Changes old.number (closed (s.link old.number)) s t → ((output answers : List ℕ) → Speaks old.outgoing output answers → Speaks out output answers)
-    → (out.voice ≡ voices.Failed → old.outgoing.voice ≡ voices.Failed) → out.unsent ≡ [] → LinkStep Stopped old (record old { outgoing = out; live = false }) s t jobs jobs
-stopped_open old out s t jobs change speaks silent empty =
+    → (out.voice ≡ voices.Failed → old.outgoing.voice ≡ voices.Failed) → (out.voice ≡ voices.Starved → old.outgoing.voice ≡ voices.Starved) → out.unsent ≡ [] → LinkStep Stopped old (record old { outgoing = out; live = false }) s t jobs jobs
+stopped_open old out s t jobs change speaks silent starved empty =
     let is : t.link old.number ≡ closed (s.link old.number) = change.this in
     link_quiet Stopped old (record old { outgoing = out; live = false }) s t jobs refl refl (alone_change old.number (closed (s.link old.number)) s t change)
     (λ past replies h. stands_wrote Stopped old out false (s.link old.number) (t.link old.number) past replies (ap (λ (x : LinkState). x.input) is) (ap (λ (x : LinkState). x.ended) is) (ap (λ (x : LinkState). x.owed) is)
-    (ap (λ (x : LinkState). x.failed) is) (ap (λ (x : LinkState). x.is_open) is) (λ a h. subst (λ (x : LinkState). Speaks out x.output a) (sym is) (speaks (s.link old.number).output a h)) silent (λ e. inr refl) (λ e. refl) (λ e. inr (inr refl)) (λ e full. empty) h)
+    (ap (λ (x : LinkState). x.failed) is) (ap (λ (x : LinkState). x.is_open) is) (λ a h. subst (λ (x : LinkState). Speaks out x.output a) (sym is) (speaks (s.link old.number).output a h)) silent (λ e. inr refl) starved (λ e. refl) (λ e. inr (inr refl)) (λ e full. empty) (λ going e. empty) h)
 
 pub stopped_closed : (old : Link) (out : Outgoing) (s : PortState) (jobs : ℕ → List Job) → old.live ≡ false → ((output answers : List ℕ) → Speaks old.outgoing output answers → Speaks out output answers)
-    → (out.voice ≡ voices.Failed → old.outgoing.voice ≡ voices.Failed) → out.unsent ≡ [] → LinkStep Stopped old (record old { outgoing = out }) s s jobs jobs
-stopped_closed old out s jobs dead speaks silent empty =
+    → (out.voice ≡ voices.Failed → old.outgoing.voice ≡ voices.Failed) → (out.voice ≡ voices.Starved → old.outgoing.voice ≡ voices.Starved) → out.unsent ≡ [] → LinkStep Stopped old (record old { outgoing = out }) s s jobs jobs
+stopped_closed old out s jobs dead speaks silent starved empty =
     link_quiet Stopped old (record old { outgoing = out }) s s jobs refl refl (alone_here old.number s)
-    (λ past replies h. stands_wrote Stopped old out old.live (s.link old.number) (s.link old.number) past replies refl refl refl refl h.live (λ a k. speaks (s.link old.number).output a k) silent (λ e. inr refl) (λ e. e) (λ e. inr (inr refl)) (λ e full. empty) h)
+    (λ past replies h. stands_wrote Stopped old out old.live (s.link old.number) (s.link old.number) past replies refl refl refl refl h.live (λ a k. speaks (s.link old.number).output a k) silent (λ e. inr refl) starved (λ e. e) (λ e. inr (inr refl)) (λ e full. empty) (λ going e. empty) h)

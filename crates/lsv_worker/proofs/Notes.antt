@@ -79,6 +79,8 @@ phase_on p q link s past replies going h = record {
   over = λ e. ⊎_elim (λ t. inl t) (λ l. inr (⊎_elim (λ f. inl f) (λ no. let a : Going ≡ Stopped = sym going ∙ no in absurd cc) l)) (h.over e);
   closed = λ e. ⊎_elim (λ f. inl f) (λ k. inr (⊎_elim (λ u. inl u) (λ no. let a : Going ≡ Stopped = sym going ∙ no in absurd cc) k)) (h.closed e);
   sent = h.sent;
+  kept = λ e dead. h.kept going dead;
+  wants = h.wants;
 }
 
 -- a worker is stopped, in whatever phase
@@ -99,6 +101,8 @@ phase_stopped p link s past replies h = record {
   over = λ e. ⊎_elim (λ t. inl t) (λ l. inr (inr refl)) (h.over e);
   closed = λ e. inr (inr refl);
   sent = h.sent;
+  kept = λ e dead. let no : Stopped ≡ Going = e in absurd cc;
+  wants = h.wants;
 }
 
 pub woken_stands : (s : Setting) (links : List Link) (before after : PortState) (jobs : ℕ → List Job) (replies : List Reply) → IsSame before after → Stands s links before jobs replies → Stands s links after jobs replies
@@ -137,6 +141,8 @@ unfull phase link s past replies here h = record {
   over = h.over;
   closed = h.closed;
   sent = λ e full. let no : true ≡ false = sym here ∙ h.live ∙ e in absurd cc;
+  kept = h.kept;
+  wants = h.wants;
 }
 
 pub writable_stands : (s : Setting) (links : List Link) (l : ℕ) (before after : PortState) (jobs : ℕ → List Job) (replies : List Reply) → TellsWritable l before after → Stands s links before jobs replies → Stands s links after jobs replies
@@ -225,6 +231,8 @@ owed_now phase link s past replies going here on h = record {
   over = h.over;
   closed = h.closed;
   sent = h.sent;
+  kept = h.kept;
+  wants = h.wants;
 }
 
 flagged_fits : (s : Setting) (l : ℕ) (link : Link) (before after : PortState) (jobs : ℕ → List Job) (replies : List Reply) → s.phase ≡ Going → TellsReadable l before after → (link.number ≡ l) ⊎ (link.number ≢ l) → Fits s link before jobs replies → Fits s (flagged l link) after jobs replies
@@ -316,6 +324,8 @@ fresh_fits s link beside put replies l fresh quiet unasked = record {
   over = λ e. let no : voices.Speaking ≡ voices.Over = sym fresh.voice ∙ e in absurd cc;
   closed = λ e. let no : true ≡ false = sym fresh.live ∙ e in absurd cc;
   sent = λ e full. let no : true ≡ false = sym fresh.live ∙ e in absurd cc;
+  kept = λ going e. let no : true ≡ false = sym fresh.live ∙ e in absurd cc;
+  wants = λ e. let no : voices.Speaking ≡ voices.Starved = sym fresh.voice ∙ e in absurd cc;
 }
 
 abbrev one_more : Setting → Setting

@@ -5,7 +5,7 @@ use Rattle.lsv_port.specs.Port.{Changes, LinkState, PortState, closed}
 use Rattle.lsv_session.specs.declared.job.Job.{Job}
 use Rattle.lsv_session.specs.declared.reply.Reply.{Reply}
 use Rattle.lsv_worker.specs.Outgoing.{Alone}
-use Rattle.lsv_worker.specs.Links.{IsSpared, ReadsNone, WasReadAtMost, is_done, repeated}
+use Rattle.lsv_worker.specs.Links.{IsSpared, ReadsNone, WasReadAtMost, WritesNone, is_done, repeated}
 use Rattle.lsv_worker.specs.Worker.{AreLast, AreSpared, IsMade, Setting, Stands, undone}
 use Rattle.lsv_worker.specs.declared.link.Link.{Link}
 use Rattle.lsv_worker.proofs.Putting.{same_or_not}
@@ -26,6 +26,18 @@ unread_one n s t others this l =
 
 pub unread_closed : (n : ℕ) (s t : PortState) → Changes n (closed (s.link n)) s t → ReadsNone s t
 unread_closed n s t change = unread_one n s t change.others (ap (λ (x : LinkState). x.reads) change.this)
+
+-- ---- nothing was put
+
+pub unwritten_here : (s : PortState) → WritesNone s s
+unwritten_here s l = refl
+
+pub unwritten_then : (s t u : PortState) → WritesNone s t → WritesNone t u → WritesNone s u
+unwritten_then s t u x y l = y l ∙ x l
+
+pub unwritten_closed : (n : ℕ) (s t : PortState) → Changes n (closed (s.link n)) s t → WritesNone s t
+unwritten_closed n s t change l =
+    ⊎_elim (λ e. subst (λ (k : ℕ). (t.link k).output ≡ (s.link k).output) (sym e) (ap (λ (x : LinkState). x.output) change.this)) (λ ne. ap (λ (x : LinkState). x.output) (change.others l ne)) (same_or_not l n)
 
 pub most_late : (n : ℕ) (s t u : LinkState) → t.reads ≡ s.reads → WasReadAtMost n t u → WasReadAtMost n s u
 most_late n s t u e a = record { times = a.times; few = a.few; were = a.were ∙ ap (λ (l : List ℕ). l ++ repeated a.times 65536) e }

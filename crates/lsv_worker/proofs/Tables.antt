@@ -310,7 +310,7 @@ below_set P links i new here at under j d within =
 
 -- ---- links that are held
 
-live_undone : (l : Link) → l.live ≡ true → is_done l ≡ false
+pub live_undone : (l : Link) → l.live ≡ true → is_done l ≡ false
 live_undone l live = ap (λ (b : Bool). (not b && (l.shut && has_left l.incoming.stage)) && kept_up l.outgoing.voice) live
 
 calm_held : (last : ℕ → Link) (s : Setting) (k : ℕ) (links : List Link) (held : List ℕ) → AreLast last s links → AreCalmed links → AreHeld held links → IsIn k links → (last k).live ≡ true → (last k).owed ≡ true → Contains held (last k).number

@@ -47,6 +47,8 @@ other_reply s link port jobs replies reply differs h = record {
   over = λ e. ⊎_elim (λ t. inl (talks_more link.conn replies (reply ∷ []) t)) (λ l. inr l) (h.over e);
   closed = h.closed;
   sent = h.sent;
+  kept = h.kept;
+  wants = h.wants;
 }
 
 unasked_more : (c : ConnId) (replies : List Reply) (reply : Reply) → same reply.conn c ≡ false → IsUnasked c replies → IsUnasked c (replies ++ reply ∷ [])
@@ -128,6 +130,8 @@ mute_fits s link port jobs replies reply to done h =
       over = λ e. inl (talks_now link.conn replies reply to (h.shut is.1));
       closed = h.closed;
       sent = λ e full. refl;
+      kept = λ going e. refl;
+      wants = λ e. absurd cc;
     }
 
 not_in_other : (k : ℕ) (new : Link) (last : ℕ → Link) (s : Setting) (links : List Link) → (IsIn k links → ⊥) → AreLast last s links → AreLast (with_link k new last) s links

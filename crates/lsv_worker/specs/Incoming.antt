@@ -122,6 +122,45 @@ was_shut Starving = false
 was_shut (Leaving why) = is_shut why
 was_shut (Left why) = is_shut why
 
+-- memory was wanting for a connection that ends so
+abbrev pub is_starving : Why → Bool
+is_starving Ended = false
+is_starving Refused = false
+is_starving Shut = false
+is_starving Starved = true
+
+-- a connection at this stage ends since memory was wanting
+abbrev pub starves : Stage → Bool
+starves Hearing = false
+starves Ending = false
+starves Starving = true
+starves (Leaving why) = is_starving why
+starves (Left why) = is_starving why
+
+-- a connection that ends so, and of which this waits, told that memory was wanting, or the job of its other fault was put
+abbrev pub LeavesTelling : Why → Option Body → Type 0
+LeavesTelling Ended waiting = ⊥
+LeavesTelling Refused waiting = waiting ≡ None
+LeavesTelling Shut waiting = ⊥
+LeavesTelling Starved waiting = Unit {0}
+
+-- the same of a connection at this stage, of which that is told by a job to come too, or the Gone was put
+abbrev pub TellsAt : Stage → Option Body → Type 0
+TellsAt Hearing waiting = ⊥
+TellsAt Ending waiting = ⊥
+TellsAt Starving waiting = Unit {0}
+TellsAt (Leaving why) waiting = LeavesTelling why waiting
+TellsAt (Left why) waiting = Unit {0}
+
+-- that memory was wanting is told by a job that was put or is to come, unless the job of another fault or the Gone was put
+abbrev pub TellsWant : Incoming → Type 0
+TellsWant link = TellsAt link.stage link.waiting
+
+-- a connection for which memory was wanting stays one, and goes on to tell so
+pub record KeepsWant (old new : Incoming) : Type 0 where
+  pub starved : starves old.stage ≡ true → starves new.stage ≡ true
+  pub told : TellsWant old → TellsWant new
+
 -- what came of outside: that a keeper shut the connection by itself, and that no more bytes come
 pub record Marks : Type 0 where
   pub shut : Bool

@@ -1,5 +1,5 @@
 -- What one connection stands for: its link of the port, its jobs, its replies.
-use Rattle.std.specs.Prelude.{◌≡◌, ◌≢◌, ◌⊎◌, ℕ, zero, suc, ◌<◌, ◌≤◌, ◌&&◌, not, Bool, true, false, List, [], ◌∷◌, ◌++◌, length, map}
+use Rattle.std.specs.Prelude.{◌≡◌, ◌≢◌, ◌⊎◌, ℕ, zero, suc, ◌<◌, ◌≤◌, ◌+◌, ◌&&◌, ◌||◌, not, Bool, true, false, List, [], ◌∷◌, ◌++◌, length, map}
 use Rattle.std.specs.List.{All}
 use Rattle.lsv_words.specs.Causes.{HasRisen}
 use Rattle.lsv_port.specs.Ledger.{PortLedger}
@@ -10,7 +10,7 @@ use Rattle.lsv_session.specs.declared.job.Body.{Body}
 use Rattle.lsv_session.specs.declared.job.Job.{Job}
 use Rattle.lsv_session.specs.declared.reply.Reply.{Reply}
 use Rattle.lsv_worker.specs.Lanes.{job_of}
-use Rattle.lsv_worker.specs.Incoming.{Hears, Marks, SameWay, WasFull, has_left}
+use Rattle.lsv_worker.specs.Incoming.{Hears, KeepsWant, Marks, SameWay, TellsWant, WasFull, has_left, starves}
 use Rattle.lsv_worker.specs.Outgoing.{Alone, HasEarlyShut, HasShut, Speaks, TalksOn, kept_up}
 use Rattle.lsv_worker.specs.declared.outgoing.Voice.TheVariants as voices
 use Rattle.lsv_worker.specs.declared.link.Link.{Link}
@@ -48,6 +48,8 @@ pub record LinkStands (phase : Phase) (link : Link) (s : LinkState) (put : ℕ �
   pub over : link.outgoing.voice ≡ voices.Over → TalksOn link.conn replies ⊎ ((s.failed ≡ true) ⊎ (phase ≡ Stopped))
   pub closed : link.live ≡ false → (s.failed ≡ true) ⊎ ((link.shut ≡ true) ⊎ (phase ≡ Stopped))
   pub sent : link.live ≡ false → s.full ≡ false → link.outgoing.unsent ≡ []
+  pub kept : phase ≡ Going → link.live ≡ false → link.outgoing.unsent ≡ []
+  pub wants : link.outgoing.voice ≡ voices.Starved → TellsWant link.incoming
 
 -- what a call does for one connection, whatever was put and taken before
 pub record LinkStep (phase : Phase) (old new : Link) (before after : PortState) (jobs_before jobs_after : ℕ → List Job) : Type 0 where
@@ -85,6 +87,10 @@ pub record WasReadAtMost (most : ℕ) (old new : LinkState) : Type 0 where
 abbrev pub ReadsNone : PortState → PortState → Type 0
 ReadsNone before after = (l : ℕ) → (after.link l).reads ≡ (before.link l).reads
 
+-- nothing was put on a link
+abbrev pub WritesNone : PortState → PortState → Type 0
+WritesNone before after = (l : ℕ) → (after.link l).output ≡ (before.link l).output
+
 -- a link to which 65,536 bytes or more are still unsent wasn't read
 abbrev pub IsSpared : Link → LinkState → LinkState → Type 0
 IsSpared link before after = 65536 ≤ length link.outgoing.unsent → after.reads ≡ before.reads
@@ -93,6 +99,39 @@ IsSpared link before after = 65536 ≤ length link.outgoing.unsent → after.rea
 -- since memory was wanting
 abbrev pub is_done : Link → Bool
 is_done link = (not link.live && (link.shut && has_left link.incoming.stage)) && kept_up link.outgoing.voice
+
+-- memory was wanting for a connection: for what it sent, or for a reply to it
+abbrev pub is_starved : Link → Bool
+is_starved link = starves link.incoming.stage || not (kept_up link.outgoing.voice)
+
+-- the same connection: one that is closed stays so, one for which memory was wanting, and one of which nothing more is put
+pub record Remains (old new : Link) : Type 0 where
+  pub number : new.number ≡ old.number
+  pub conn : new.conn ≡ old.conn
+  pub live : new.live ≡ true → old.live ≡ true
+  pub starved : is_starved old ≡ true → is_starved new ≡ true
+  pub mute : old.outgoing.voice ≢ voices.Speaking → new.outgoing.voice ≡ old.outgoing.voice
+
+-- The rules of a connection over a call: where memory was wanting it isn't read; where nothing more is put on its link
+-- nothing is; and before Stop it isn't read where 65,536 bytes or more, of those that were unsent, weren't put.
+pub record KeepsRules (phase : Phase) (old new : Link) (before after : LinkState) : Type 0 where
+  pub remains : Remains old new
+  pub starved : is_starved old ≡ true → after.reads ≡ before.reads
+  pub mute : old.outgoing.voice ≢ voices.Speaking → after.output ≡ before.output
+  pub waiting : phase ≡ Going → 65536 + length after.output ≤ length old.outgoing.unsent + length before.output → after.reads ≡ before.reads
+
+-- nothing is unsent where the link is open and isn't full
+abbrev pub IsSent : Link → LinkState → Type 0
+IsSent link s = link.live ≡ true → s.full ≡ false → link.outgoing.unsent ≡ []
+
+-- what reading on does for a connection
+pub record ReadsOn (phase : Phase) (old new : Link) (before after : LinkState) : Type 0 where
+  pub remains : Remains old new
+  pub starved : is_starved old ≡ true → after.reads ≡ before.reads
+  pub laden : phase ≡ Going → 65536 ≤ length old.outgoing.unsent → after.reads ≡ before.reads
+  pub closed : old.live ≡ false → after.reads ≡ before.reads
+  pub output : after.output ≡ before.output
+  pub sent : IsSent old before → IsSent new after
 
 -- nothing changed but on the way in
 pub record SameSides (old new : Link) : Type 0 where
@@ -115,6 +154,9 @@ pub record Fails (old new : Link) : Type 0 where
   pub outgoing : (output answers : List ℕ) → Speaks old.outgoing output answers → Speaks new.outgoing output answers
   pub unsent : new.outgoing.unsent ≡ []
   pub over : new.outgoing.voice ≡ voices.Over → old.outgoing.voice ≡ voices.Over
+  pub starved : new.outgoing.voice ≡ voices.Starved → old.outgoing.voice ≡ voices.Starved
+  pub keeps : KeepsWant old.incoming new.incoming
+  pub remains : Remains old new
 
 -- no link is open and owed a read that wasn't so before
 abbrev pub OwesNoMore : PortState → PortState → Type 0
@@ -147,10 +189,16 @@ ReasonOf pauses.Calm link before after refused_before refused_after = Unit {0}
 ReasonOf pauses.Full link before after refused_before refused_after = WasFull link.incoming.route refused_before refused_after
 ReasonOf pauses.Laden link before after refused_before refused_after = 65536 ≤ length link.outgoing.unsent
 ReasonOf pauses.Tired link before after refused_before refused_after = WasRead 16 before after
-ReasonOf pauses.Starved link before after refused_before refused_after = Unit {0}
+ReasonOf pauses.Starved link before after refused_before refused_after = is_starved link ≡ true
 
 abbrev pub PauseIsFor : Link → LinkState → LinkState → (ℕ → ℕ) → (ℕ → ℕ) → Type 0
 PauseIsFor link before after refused_before refused_after = ReasonOf link.pause link before after refused_before refused_after
+
+-- what a pass does for a connection: it keeps the rules, is held for a reason alone, and what is unsent is written
+pub record IsPassed (phase : Phase) (old new : Link) (before after : LinkState) (refused_before refused_after : ℕ → ℕ) : Type 0 where
+  pub rules : KeepsRules phase old new before after
+  pub reason : PauseIsFor new before after refused_before refused_after
+  pub sent : IsSent new after
 
 -- a link that failed had failed before, or its count rose
 abbrev pub HasBlame : PortState → PortLedger → PortState → PortLedger → Type 0

@@ -14,7 +14,7 @@ use Rattle.lsv_session.specs.declared.job.Job.{Job}
 use Rattle.lsv_session.specs.declared.reply.Reply.{Reply}
 use Rattle.lsv_worker.specs.Incoming.{Hears, has_left}
 use Rattle.lsv_worker.specs.Outgoing.{Speaks}
-use Rattle.lsv_worker.specs.Links.{IsSpared, LinkStands, PauseIsFor, is_done}
+use Rattle.lsv_worker.specs.Links.{IsPassed, IsSent, IsSpared, KeepsRules, LinkStands, PauseIsFor, Remains, is_done}
 use Rattle.lsv_worker.specs.declared.link.Link.{Link}
 use Rattle.lsv_worker.specs.declared.link.Pause.TheVariants.{Calm}
 use Rattle.lsv_worker.specs.declared.link.Phase.{Phase}
@@ -161,18 +161,58 @@ pub record IsHeldFor (w : Worker) (l : ℕ) (before after : PortState) (refused_
   pub paused : link.pause ≢ Calm
   pub reason : PauseIsFor link (before.link l) (after.link l) refused_before refused_after
 
--- all that was taken is written, of each open link that isn't full
+-- nothing is unsent of each open link that isn't full
 abbrev pub IsWritten : List Link → PortState → Type 0
-IsWritten [] port = Unit {0}
-IsWritten (link ∷ links) port = (link.live ≡ true → (port.link link.number).full ≡ false → link.outgoing.unsent ≡ []) × IsWritten links port
+IsWritten links port = (link : Link) → Contains links link → IsSent link (port.link link.number)
 
--- a worker has from 1 to 8 lanes, and room for the numbers of all its links
+-- a connection of a table has this later form, which stands in the table unless nothing more comes of it
+pub record HasLater (phase : Phase) (link : Link) (links : List Link) (before after : PortState) : Type 0 where
+  pub new : Link
+  pub stands : is_done new ≡ false → Contains links new
+  pub rules : KeepsRules phase link new (before.link link.number) (after.link link.number)
+
+-- each connection of a table keeps the rules over a call
+abbrev pub KeepRules : Phase → List Link → List Link → PortState → PortState → Type 0
+KeepRules phase olds links before after = (link : Link) → Contains olds link → HasLater phase link links before after
+
+-- what a pass does for each connection of a table
+pub record ArePassed (phase : Phase) (olds links : List Link) (before after : PortState) (refused_before refused_after : ℕ → ℕ) : Type 0 where
+  pub size : length links ≡ length olds
+  pub each : (i : ℕ) (d : Link) → i < length olds
+      → IsPassed phase (slice_index_or olds i d) (slice_index_or links i d) (before.link (slice_index_or olds i d).number) (after.link (slice_index_or olds i d).number) refused_before refused_after
+
+-- each connection of a table stays the same one
+pub record AllRemain (olds links : List Link) : Type 0 where
+  pub size : length links ≡ length olds
+  pub each : (i : ℕ) (d : Link) → i < length olds → Remains (slice_index_or olds i d) (slice_index_or links i d)
+
+-- a link whose reading stopped is one of a table
+pub record IsPaused (links : List Link) (l : ℕ) : Type 0 where
+  pub link : Link
+  pub is : Contains links link
+  pub number : link.number ≡ l
+  pub paused : link.pause ≢ Calm
+
+-- no connection of a table is open
+abbrev pub AreClosed : List Link → Type 0
+AreClosed links = (i : ℕ) (d : Link) → i < length links → (slice_index_or links i d).live ≡ false
+
+-- the Gone of a connection of this number wasn't put, where it is one of a table
+abbrev pub IsThere : ℕ → List Link → Type 0
+IsThere seq links = (link : Link) → Contains links link → link.conn.seq ≡ seq → has_left link.incoming.stage ≡ false
+
+-- the connections whose links are open
+abbrev pub open_in : List Link → List Link
+open_in links = filter (λ link. link.live) links
+
+-- a worker has from 1 to 8 lanes, room for the numbers of all its links, and at most 128 open links
 pub record IsFit (w : Worker) : Type 0 where
   pub first : 1 ≤ w.next
   pub some : 1 ≤ w.lanes
   pub few : w.lanes ≤ 8
   pub room : vec_len w.links ≤ vec_capacity w.held
   pub lanes : AreOfLanes w.lanes w.links.items
+  pub open_few : length (open_in w.links.items) ≤ 128
 
 -- each connection has left and was shut
 abbrev pub HaveLeft : List Link → Type 0
@@ -193,6 +233,11 @@ owed_if false link = link
 
 abbrev pub marked : ℕ → List Link → List Link
 marked number links = map (λ link. owed_if (link.number == number) link) links
+
+-- a connection stands in a table, but for whether it is owed a read
+pub record IsNoted (link : Link) (links : List Link) : Type 0 where
+  pub owed : Bool
+  pub is : Contains links (record link { owed = owed })
 
 -- a connection that was just made for a link: the server's hello is unsent, and nothing else came or went
 pub record IsFresh (set : Setting) (number : ℕ) (link : Link) : Type 0 where

@@ -7,7 +7,7 @@ ghost use Rattle.lsv_session.specs.Transcript.{AreAllJobs};
 ghost use Rattle.lsv_session.specs.declared.job.Body.{Body};
 ghost use Rattle.lsv_session.specs.declared.job.Body.TheVariants as bodies;
 ghost use Rattle.lsv_session.specs.declared.job.Fault.TheVariants as faults;
-ghost use Rattle.lsv_worker.specs.Incoming.{Hears, Marks, Puts, SameWay, WasFull, cuts, drops, has_left, hears, kept, weight};
+ghost use Rattle.lsv_worker.specs.Incoming.{Hears, KeepsWant, Marks, Puts, SameWay, TellsWant, WasFull, cuts, drops, has_left, hears, is_starving, kept, starves, weight};
 ghost use Rattle.lsv_worker.specs.Lanes.{Routed, lane_by};
 
 use crate::Inbox;
@@ -72,6 +72,17 @@ fn is_dropping(why: Why) -> bool
     }
 }
 
+fn is_starving(why: Why) -> bool
+    ensures { result ≡ is_starving why }
+{
+    match why {
+        Why::Ended => false,
+        Why::Refused => false,
+        Why::Shut => false,
+        Why::Starved => true,
+    }
+}
+
 impl Stage {
     /// Whether messages are still cut.
     pub(crate) fn is_cutting(self) -> bool
@@ -100,10 +111,15 @@ impl Stage {
     }
 
     /// Whether memory was wanting for it.
-    pub(crate) fn is_starved(self) -> bool {
+    pub(crate) fn is_starved(self) -> bool
+        ensures { result ≡ starves self }
+    {
         match self {
-            Stage::Starving | Stage::Leaving(Why::Starved) | Stage::Left(Why::Starved) => true,
-            _ => false,
+            Stage::Hearing => false,
+            Stage::Ending => false,
+            Stage::Starving => true,
+            Stage::Leaving(why) => is_starving(why),
+            Stage::Left(why) => is_starving(why),
         }
     }
 
@@ -213,23 +229,27 @@ impl Incoming {
     /// Memory was wanting for this connection elsewhere: a job says so before its end, unless that or the end was put.
     pub(crate) fn want(&mut self)
         ensures goes { SameWay self.old self.new }
+        ensures tells { TellsWant self.new }
+        ensures keeps { KeepsWant self.old self.new }
         ensures lanes { self.new.route.lanes ≡ self.old.route.lanes }
     {
         match self.stage {
             Stage::Hearing | Stage::Ending => self.starve(),
             Stage::Leaving(Why::Ended) => self.stage = Stage::Starving,
+            Stage::Leaving(Why::Shut) => self.stage = Stage::Starving,
             Stage::Leaving(Why::Refused) => {
                 if self.waiting.is_some() {
                     self.stage = Stage::Starving;
                 }
             }
-            _ => {}
+            Stage::Starving | Stage::Leaving(Why::Starved) | Stage::Left(_) => {}
         }
     }
 
     /// A Shut was taken that isn't the last: nothing more is cut, and its end comes behind what waits.
     pub(crate) fn shut(&mut self)
         ensures goes { (read : List ℕ) (put : ℕ → List Body) (marks : Marks) → Hears self.old read put marks → Hears self.new read put (record marks { shut = true }) }
+        ensures keeps { KeepsWant self.old self.new }
         ensures lanes { self.new.route.lanes ≡ self.old.route.lanes }
     {
         if self.stage.is_cutting() {
@@ -241,6 +261,7 @@ impl Incoming {
     /// No more bytes come.
     pub(crate) fn end(&mut self)
         ensures goes { (read : List ℕ) (put : ℕ → List Body) (marks : Marks) → Hears self.old read put marks → Hears self.new read put (record marks { over = true }) }
+        ensures keeps { KeepsWant self.old self.new }
         ensures lanes { self.new.route.lanes ≡ self.old.route.lanes }
     {
         if let Stage::Hearing = self.stage {
@@ -252,6 +273,7 @@ impl Incoming {
     pub(crate) fn hear(&mut self, piece: &[u8])
         requires { hears self.old.stage ≡ true }
         ensures goes { (read : List ℕ) (put : ℕ → List Body) (marks : Marks) → Hears self.old read put marks → Hears self.new (read ++ piece.now) put marks }
+        ensures keeps { KeepsWant self.old self.new }
         ensures lanes { self.new.route.lanes ≡ self.old.route.lanes }
     {
         if self.stage.is_cutting() {
@@ -273,6 +295,7 @@ impl Incoming {
         ensures puts { Puts conn self.old self.new (I.jobs inbox.old) (I.jobs inbox.new) }
         ensures stage { self.new.stage ≡ self.old.stage }
         ensures rest { self.new.rest ≡ self.old.rest }
+        ensures waiting { self.new.waiting ≡ self.old.waiting }
         ensures emptied { result ≢ Tried.Full → (n : ℕ) → self.new.route.lane ≡ Some n → self.new.first ≡ None }
         ensures counts { (m : ℕ) → I.refused inbox.old m ≤ I.refused inbox.new m }
         ensures lanes { I.lanes inbox.new ≡ self.new.route.lanes }
@@ -293,6 +316,7 @@ impl Incoming {
         ensures puts { Puts conn self.old self.new (I.jobs inbox.old) (I.jobs inbox.new) }
         ensures stage { self.new.stage ≡ self.old.stage }
         ensures rest { self.new.rest ≡ self.old.rest }
+        ensures waiting { self.new.waiting ≡ self.old.waiting }
         ensures emptied { result ≢ Tried.Full → self.new.first ≡ None }
         ensures counts { (m : ℕ) → I.refused inbox.old m ≤ I.refused inbox.new m }
         ensures lanes { I.lanes inbox.new ≡ self.new.route.lanes }
@@ -322,6 +346,7 @@ impl Incoming {
         ensures first { self.new.first ≡ self.old.first }
         ensures route { self.new.route ≡ self.old.route }
         ensures emptied { result ≢ Tried.Full → self.new.waiting ≡ None }
+        ensures empty { self.old.waiting ≡ None → self.new.waiting ≡ None }
         ensures counts { (m : ℕ) → I.refused inbox.old m ≤ I.refused inbox.new m }
         ensures lanes { I.lanes inbox.new ≡ self.new.route.lanes }
         ensures same { I.is_same inbox.old inbox.new }
@@ -421,6 +446,7 @@ impl Incoming {
         ensures puts { Puts conn self.old self.new (I.jobs inbox.old) (I.jobs inbox.new) }
         ensures rest { self.new.rest ≡ self.old.rest }
         ensures stage { result ≡ Tried.More → self.new.stage ≡ Stage.Leaving Why.Starved }
+        ensures keeps { KeepsWant self.old self.new }
         ensures counts { (m : ℕ) → I.refused inbox.old m ≤ I.refused inbox.new m }
         ensures lanes { I.lanes inbox.new ≡ self.new.route.lanes }
         ensures same { I.is_same inbox.old inbox.new }
@@ -448,6 +474,7 @@ impl Incoming {
         ensures puts { Puts conn self.old self.new (I.jobs inbox.old) (I.jobs inbox.new) }
         ensures rest { self.new.rest ≡ self.old.rest }
         ensures stage { result ≡ Tried.More → self.new.stage ≡ Stage.Left why }
+        ensures keeps { KeepsWant self.old self.new }
         ensures counts { (m : ℕ) → I.refused inbox.old m ≤ I.refused inbox.new m }
         ensures lanes { I.lanes inbox.new ≡ self.new.route.lanes }
         ensures same { I.is_same inbox.old inbox.new }
@@ -471,6 +498,7 @@ impl Incoming {
         requires first { (n : ℕ) → self.old.route.lane ≡ Some n → self.old.first ≡ None }
         requires empty { self.old.waiting ≡ None }
         ensures puts { Puts conn self.old self.new (I.jobs inbox.old) (I.jobs inbox.new) }
+        ensures keeps { KeepsWant self.old self.new }
         ensures less { result ≡ Tried.More → length self.new.rest + weight self.new.stage < length self.old.rest + weight self.old.stage }
         ensures counts { (m : ℕ) → I.refused inbox.old m ≤ I.refused inbox.new m }
         ensures lanes { I.lanes inbox.new ≡ self.new.route.lanes }
@@ -489,6 +517,7 @@ impl Incoming {
     fn step<I: Inbox>(&mut self, conn: ConnId, inbox: &mut I) -> Tried
         requires lanes { I.lanes inbox.old ≡ self.old.route.lanes }
         ensures puts { Puts conn self.old self.new (I.jobs inbox.old) (I.jobs inbox.new) }
+        ensures keeps { KeepsWant self.old self.new }
         ensures less { result ≡ Tried.More → length self.new.rest + weight self.new.stage < length self.old.rest + weight self.old.stage }
         ensures counts { (m : ℕ) → I.refused inbox.old m ≤ I.refused inbox.new m }
         ensures lanes { I.lanes inbox.new ≡ self.new.route.lanes }
@@ -508,6 +537,7 @@ impl Incoming {
     pub(crate) fn advance<I: Inbox>(&mut self, conn: ConnId, inbox: &mut I) -> bool
         requires lanes { I.lanes inbox.old ≡ self.old.route.lanes }
         ensures puts { Puts conn self.old self.new (I.jobs inbox.old) (I.jobs inbox.new) }
+        ensures keeps { KeepsWant self.old self.new }
         ensures counts { (m : ℕ) → I.refused inbox.old m ≤ I.refused inbox.new m }
         ensures lanes { I.lanes inbox.new ≡ self.new.route.lanes }
         ensures same { I.is_same inbox.old inbox.new }

@@ -9,8 +9,8 @@ ghost use Rattle.lsv_session.specs.declared.job.Body.{Body};
 ghost use Rattle.lsv_session.specs.declared.job.Job.{Job};
 ghost use Rattle.lsv_session.specs.declared.reply.Reply.{Reply};
 ghost use Rattle.lsv_session.specs.declared.reply.ReplyBody.TheVariants as said;
-ghost use Rattle.lsv_worker.specs.Incoming.{WasFull};
-ghost use Rattle.lsv_worker.specs.Links.{Closes, Fails, HasBlame, IsSpared, LetsEnd, LinkStands, LinkStep, OwesNoMore, PauseIsFor, ReadsNone, ReasonOf, SameSides, Takes, WasRead, WasReadAtMost, is_done, reads_in};
+ghost use Rattle.lsv_worker.specs.Incoming.{WasFull, has_left};
+ghost use Rattle.lsv_worker.specs.Links.{Closes, Fails, HasBlame, IsPassed, IsSent, IsSpared, LetsEnd, LinkStands, LinkStep, OwesNoMore, PauseIsFor, ReadsNone, ReadsOn, ReasonOf, Remains, SameSides, Takes, WasRead, WasReadAtMost, WritesNone, is_done, is_starved, reads_in};
 
 use crate::outgoing::{Outgoing, Voice};
 use crate::{Inbox, Incoming, Stage, Why};
@@ -77,6 +77,7 @@ impl Link {
         requires lanes { I.lanes inbox.old ≡ self.old.incoming.route.lanes }
         ensures step { (phase : Phase) (port : PortState) → LinkStep phase self.old self.new port port (I.jobs inbox.old) (I.jobs inbox.new) }
         ensures sides { SameSides self.old self.new }
+        ensures remains { Remains self.old self.new }
         ensures counts { (m : ℕ) → I.refused inbox.old m ≤ I.refused inbox.new m }
         ensures lanes { I.lanes inbox.new ≡ self.new.incoming.route.lanes }
         ensures same { I.is_same inbox.old inbox.new }
@@ -109,6 +110,9 @@ impl Link {
         ensures is_open { P.tells → self.new.live ≡ true → IsOpen (P.state port.new) self.old.number }
         ensures once { P.tells → self.new.owed ≡ true → WasRead 1 ((P.state port.old).link self.old.number) ((P.state port.new).link self.old.number) }
         ensures most { P.tells → WasReadAtMost 1 ((P.state port.old).link self.old.number) ((P.state port.new).link self.old.number) }
+        ensures remains { Remains self.old self.new }
+        ensures output { P.tells → ((P.state port.new).link self.old.number).output ≡ ((P.state port.old).link self.old.number).output }
+        ensures sent { P.tells → IsSent self.old ((P.state port.old).link self.old.number) → IsSent self.new ((P.state port.new).link self.old.number) }
         ensures unsent { length self.new.outgoing.unsent ≤ length self.old.outgoing.unsent }
         ensures blame { P.tells → HasBlame (P.state port.old) (P.ledger port.old) (P.state port.new) (P.ledger port.new) }
         ensures continues { Continues (P.ledger port.old) (P.ledger port.new) }
@@ -151,6 +155,8 @@ impl Link {
         requires phase { reads_in phase ≡ true }
         requires is_open { P.tells → self.old.live ≡ true → IsOpen (P.state port.old) self.old.number }
         ensures step { P.tells → LinkStep phase self.old self.new (P.state port.old) (P.state port.new) (I.jobs inbox.old) (I.jobs inbox.new) }
+        ensures reads { P.tells → ReadsOn phase self.old self.new ((P.state port.old).link self.old.number) ((P.state port.new).link self.old.number) }
+        ensures remains { Remains self.old self.new }
         ensures calm { result ≡ Pause.Calm → self.new.live ≡ true → self.new.owed ≡ false }
         ensures reason { P.tells → ReasonOf result self.new ((P.state port.old).link self.old.number) ((P.state port.new).link self.old.number) (I.refused inbox.old) (I.refused inbox.new) }
         ensures most { P.tells → WasReadAtMost 16 ((P.state port.old).link self.old.number) ((P.state port.new).link self.old.number) }
@@ -171,7 +177,7 @@ impl Link {
             if !self.owed {
                 return Pause::Calm;
             }
-            if self.incoming.stage.is_starved() {
+            if self.is_starved() {
                 return Pause::Starved;
             }
             if self.is_spared(phase) {
@@ -191,6 +197,13 @@ impl Link {
         Pause::Tired
     }
 
+    /// Whether memory was wanting for it.
+    fn is_starved(&self) -> bool
+        ensures { result ≡ is_starved self.now }
+    {
+        self.incoming.stage.is_starved() || !self.outgoing.has_kept_up()
+    }
+
     /// Whether too much is unsent for it to be read: so it is before Stop alone.
     fn is_spared(&self, phase: Phase) -> bool
         ensures yes { result ≡ true → 65536 ≤ length self.now.outgoing.unsent }
@@ -204,6 +217,7 @@ impl Link {
         requires lanes { I.lanes inbox.old ≡ self.old.incoming.route.lanes }
         ensures step { (phase : Phase) (port : PortState) → ((s : LinkState) → s.owed ≡ self.old.owed → LetsEnd phase s) → LinkStep phase self.old self.new port port (I.jobs inbox.old) (I.jobs inbox.new) }
         ensures sides { SameSides self.old self.new }
+        ensures remains { Remains self.old self.new }
         ensures counts { (m : ℕ) → I.refused inbox.old m ≤ I.refused inbox.new m }
         ensures lanes { I.lanes inbox.new ≡ self.new.incoming.route.lanes }
         ensures same { I.is_same inbox.old inbox.new }
@@ -215,7 +229,8 @@ impl Link {
 
     /// Whether it is to be closed: it was shut, and nothing is unsent, or Stop or a fault of the port's turn came.
     fn is_finished(&self, phase: Phase) -> bool
-        ensures { result ≡ true → self.now.shut ≡ true }
+        ensures shut { result ≡ true → self.now.shut ≡ true }
+        ensures sent { result ≡ true → phase ≡ Phase.Going → self.now.outgoing.unsent ≡ [] }
     {
         self.shut && (self.outgoing.unsent.as_slice().is_empty() || phase != Phase::Going)
     }
@@ -229,7 +244,10 @@ impl Link {
         ensures lanes { self.new.incoming.route.lanes ≡ self.old.incoming.route.lanes }
         ensures is_open { P.tells → self.new.live ≡ true → IsOpen (P.state port.new) self.old.number }
         ensures reads { P.tells → ((P.state port.new).link self.old.number).reads ≡ ((P.state port.old).link self.old.number).reads }
-        ensures written { P.tells → self.new.live ≡ true → ((P.state port.new).link self.old.number).full ≡ false → self.new.outgoing.unsent ≡ [] }
+        ensures written { P.tells → IsSent self.new ((P.state port.new).link self.old.number) }
+        ensures remains { Remains self.old self.new }
+        ensures mute { P.tells → self.old.outgoing.unsent ≡ [] → ((P.state port.new).link self.old.number).output ≡ ((P.state port.old).link self.old.number).output }
+        ensures balance { P.tells → self.new.live ≡ true → self.old.outgoing.voice ≡ Voice.Speaking → length self.new.outgoing.unsent + length ((P.state port.new).link self.old.number).output ≡ length self.old.outgoing.unsent + length ((P.state port.old).link self.old.number).output }
         ensures blame { P.tells → HasBlame (P.state port.old) (P.ledger port.old) (P.state port.new) (P.ledger port.new) }
         ensures continues { Continues (P.ledger port.old) (P.ledger port.new) }
     {
@@ -257,12 +275,15 @@ impl Link {
     )
         requires lanes { I.lanes inbox.old ≡ self.old.incoming.route.lanes }
         requires is_open { P.tells → self.old.live ≡ true → IsOpen (P.state port.old) self.old.number }
+        requires mute { P.tells → self.old.outgoing.voice ≢ Voice.Speaking → self.old.outgoing.unsent ≡ [] }
         ensures step { P.tells → LinkStep phase self.old self.new (P.state port.old) (P.state port.new) (I.jobs inbox.old) (I.jobs inbox.new) }
+        ensures remains { Remains self.old self.new }
+        ensures passed { P.tells → IsPassed phase self.old self.new ((P.state port.old).link self.old.number) ((P.state port.new).link self.old.number) (I.refused inbox.old) (I.refused inbox.new) }
         ensures calm { reads_in phase ≡ true → self.new.pause ≡ Pause.Calm → self.new.live ≡ true → self.new.owed ≡ false }
-        ensures reason { P.tells → PauseIsFor self.new ((P.state port.old).link self.old.number) ((P.state port.new).link self.old.number) (I.refused inbox.old) (I.refused inbox.new) }
         ensures most { P.tells → WasReadAtMost 16 ((P.state port.old).link self.old.number) ((P.state port.new).link self.old.number) }
         ensures laden { P.tells → phase ≡ Phase.Going → IsSpared self.new ((P.state port.old).link self.old.number) ((P.state port.new).link self.old.number) }
         ensures unread { P.tells → reads_in phase ≡ false → ((P.state port.new).link self.old.number).reads ≡ ((P.state port.old).link self.old.number).reads }
+        ensures stopped { phase ≡ Phase.Stopped → (m : ℕ) → I.jobs inbox.new m ≡ I.jobs inbox.old m }
         ensures blame { P.tells → HasBlame (P.state port.old) (P.ledger port.old) (P.state port.new) (P.ledger port.new) }
         ensures continues { Continues (P.ledger port.old) (P.ledger port.new) }
         ensures counts { (m : ℕ) → I.refused inbox.old m ≤ I.refused inbox.new m }
@@ -284,11 +305,14 @@ impl Link {
         requires lanes { I.lanes inbox.old ≡ self.old.incoming.route.lanes }
         requires is_open { P.tells → self.old.live ≡ true → IsOpen (P.state port.old) self.old.number }
         ensures step { P.tells → LinkStep phase self.old self.new (P.state port.old) (P.state port.new) (I.jobs inbox.old) (I.jobs inbox.new) }
+        ensures reads { P.tells → ReadsOn phase self.old self.new ((P.state port.old).link self.old.number) ((P.state port.new).link self.old.number) }
+        ensures remains { Remains self.old self.new }
         ensures calm { reads_in phase ≡ true → self.new.pause ≡ Pause.Calm → self.new.live ≡ true → self.new.owed ≡ false }
         ensures reason { P.tells → PauseIsFor self.new ((P.state port.old).link self.old.number) ((P.state port.new).link self.old.number) (I.refused inbox.old) (I.refused inbox.new) }
         ensures most { P.tells → WasReadAtMost 16 ((P.state port.old).link self.old.number) ((P.state port.new).link self.old.number) }
         ensures laden { P.tells → phase ≡ Phase.Going → IsSpared self.new ((P.state port.old).link self.old.number) ((P.state port.new).link self.old.number) }
         ensures unread { P.tells → reads_in phase ≡ false → ((P.state port.new).link self.old.number).reads ≡ ((P.state port.old).link self.old.number).reads }
+        ensures stopped { phase ≡ Phase.Stopped → (m : ℕ) → I.jobs inbox.new m ≡ I.jobs inbox.old m }
         ensures blame { P.tells → HasBlame (P.state port.old) (P.ledger port.old) (P.state port.new) (P.ledger port.new) }
         ensures continues { Continues (P.ledger port.old) (P.ledger port.new) }
         ensures counts { (m : ℕ) → I.refused inbox.old m ≤ I.refused inbox.new m }
@@ -326,6 +350,9 @@ impl Link {
         ensures step { (port : PortState) → LinkStep phase self.old self.new port port (I.jobs inbox.old) (I.jobs inbox.new) }
         ensures number { self.new.number ≡ self.old.number }
         ensures owed { self.new.owed ≡ self.old.owed }
+        ensures live { self.new.live ≡ self.old.live }
+        ensures outgoing { self.new.outgoing ≡ self.old.outgoing }
+        ensures remains { Remains self.old self.new }
         ensures reason { (before after : LinkState) (counts : ℕ → ℕ) → ((m : ℕ) → counts m ≤ I.refused inbox.old m) → PauseIsFor self.new before after counts (I.refused inbox.new) }
         ensures counts { (m : ℕ) → I.refused inbox.old m ≤ I.refused inbox.new m }
         ensures lanes { I.lanes inbox.new ≡ self.new.incoming.route.lanes }
@@ -341,6 +368,7 @@ impl Link {
     /// Takes what is said to it. Where memory is wanting nothing more is put on it, and it is heard no more.
     fn say(&mut self, message: &ServerMessage)
         ensures takes { (reply : Reply) (port : PortState) → reply.conn ≡ self.old.conn → reply.body ≡ said.Say message.now → Takes reply self.old self.new port port }
+        ensures remains { Remains self.old self.new }
         ensures lanes { self.new.incoming.route.lanes ≡ self.old.incoming.route.lanes }
     {
         if self.shut {
@@ -361,6 +389,9 @@ impl Link {
     fn take_shut<P: Port>(&mut self, last: bool, port: &mut P)
         requires is_open { P.tells → self.old.live ≡ true → IsOpen (P.state port.old) self.old.number }
         ensures takes { P.tells → (reply : Reply) → reply.conn ≡ self.old.conn → reply.body ≡ said.Shut → reply.last ≡ last → Takes reply self.old self.new (P.state port.old) (P.state port.new) }
+        ensures remains { Remains self.old self.new }
+        ensures unwritten { P.tells → WritesNone (P.state port.old) (P.state port.new) }
+        ensures ignored { last ≡ true → has_left self.old.incoming.stage ≡ false → (self.new ≡ self.old) × (port.new ≡ port.old) }
         ensures lanes { self.new.incoming.route.lanes ≡ self.old.incoming.route.lanes }
         ensures owes { P.tells → OwesNoMore (P.state port.old) (P.state port.new) }
         ensures unread { P.tells → ReadsNone (P.state port.old) (P.state port.new) }
@@ -385,6 +416,8 @@ impl Link {
         requires is_open { P.tells → self.old.live ≡ true → IsOpen (P.state port.old) self.old.number }
         requires shut { self.old.shut ≡ true }
         ensures closes { P.tells → Closes self.old self.new (P.state port.old) (P.state port.new) }
+        ensures remains { Remains self.old self.new }
+        ensures unwritten { P.tells → WritesNone (P.state port.old) (P.state port.new) }
         ensures lanes { self.new.incoming.route.lanes ≡ self.old.incoming.route.lanes }
         ensures owes { P.tells → OwesNoMore (P.state port.old) (P.state port.new) }
         ensures unread { P.tells → ReadsNone (P.state port.old) (P.state port.new) }
@@ -405,6 +438,9 @@ impl Link {
     pub(crate) fn take<P: Port>(&mut self, reply: &Reply, port: &mut P)
         requires is_open { P.tells → self.old.live ≡ true → IsOpen (P.state port.old) self.old.number }
         ensures takes { P.tells → reply.now.conn ≡ self.old.conn → Takes reply.now self.old self.new (P.state port.old) (P.state port.new) }
+        ensures remains { Remains self.old self.new }
+        ensures unwritten { P.tells → WritesNone (P.state port.old) (P.state port.new) }
+        ensures ignored { reply.now.body ≡ said.Shut → reply.now.last ≡ true → has_left self.old.incoming.stage ≡ false → (self.new ≡ self.old) × (port.new ≡ port.old) }
         ensures lanes { self.new.incoming.route.lanes ≡ self.old.incoming.route.lanes }
         ensures owes { P.tells → OwesNoMore (P.state port.old) (P.state port.new) }
         ensures unread { P.tells → ReadsNone (P.state port.old) (P.state port.new) }
@@ -428,6 +464,8 @@ impl Link {
         requires is_open { P.tells → self.old.live ≡ true → IsOpen (P.state port.old) self.old.number }
         ensures step { P.tells → (jobs : ℕ → List Job) → LinkStep Phase.Stopped self.old self.new (P.state port.old) (P.state port.new) jobs jobs }
         ensures live { self.new.live ≡ false }
+        ensures remains { Remains self.old self.new }
+        ensures unwritten { P.tells → WritesNone (P.state port.old) (P.state port.new) }
         ensures unread { P.tells → ReadsNone (P.state port.old) (P.state port.new) }
         ensures lanes { self.new.incoming.route.lanes ≡ self.old.incoming.route.lanes }
         ensures blame { P.tells → HasBlame (P.state port.old) (P.ledger port.old) (P.state port.new) (P.ledger port.new) }

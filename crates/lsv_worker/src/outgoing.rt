@@ -70,6 +70,7 @@ impl Outgoing {
         ensures mute { self.new.voice ≢ Voice.Speaking }
         ensures over { self.new.voice ≡ Voice.Over → (why ≡ Voice.Over) ⊎ (self.old.voice ≡ Voice.Over) }
         ensures failed { self.new.voice ≡ Voice.Failed → (why ≡ Voice.Failed) ⊎ (self.old.voice ≡ Voice.Failed) }
+        ensures starved { self.new.voice ≡ Voice.Starved → (why ≡ Voice.Starved) ⊎ (self.old.voice ≡ Voice.Starved) }
     {
         self.unsent = Bytes::new(self.alloc);
         match self.voice {
@@ -96,6 +97,7 @@ impl Outgoing {
     pub(crate) fn say(&mut self, message: &ServerMessage) -> bool
         ensures goes { (output answers : List ℕ) → Speaks self.old output answers → Speaks self.new output (answers ++ frame_of (server_bytes message.now)) }
         ensures voice { result ≡ true → self.new.voice ≡ self.old.voice }
+        ensures mute { self.old.voice ≢ Voice.Speaking → self.new.voice ≡ self.old.voice }
         ensures starved { (self.new.voice ≡ self.old.voice) ⊎ (self.new.voice ≡ Voice.Starved) }
     {
         match self.voice {
@@ -136,6 +138,9 @@ impl Outgoing {
         ensures voice { result ≡ false → self.new.voice ≡ self.old.voice }
         ensures silent { self.new.voice ≡ Voice.Failed → (result ≡ true) ⊎ (self.old.voice ≡ Voice.Failed) }
         ensures over { self.new.voice ≡ Voice.Over → self.old.voice ≡ Voice.Over }
+        ensures starved { self.new.voice ≡ Voice.Starved → self.old.voice ≡ Voice.Starved }
+        ensures mute { self.old.voice ≢ Voice.Speaking → self.new.voice ≡ self.old.voice }
+        ensures empty { P.tells → self.old.unsent ≡ [] → ((P.state port.new).link link).output ≡ ((P.state port.old).link link).output }
         ensures cause { HasLinkCause link (result ≡ true) (P.ledger port.old) (P.ledger port.new) }
     {
         'writes: while !self.unsent.as_slice().is_empty() {

@@ -6,8 +6,10 @@ ghost use Rattle.lsv_port.specs.Ledger.{Continues};
 ghost use Rattle.lsv_port.specs.Port.{IsOpen, Opens, PortState, Told};
 ghost use Rattle.lsv_session.specs.declared.job.Job.{Job};
 ghost use Rattle.lsv_session.specs.declared.reply.Reply.{Reply};
-ghost use Rattle.lsv_worker.specs.Links.{HasBlame, OwesNoMore, ReadsNone, WasReadAtMost, reads_in};
-ghost use Rattle.lsv_worker.specs.Worker.{Admits, AreCalmed, AreOfLanes, AreSpared, Goes, HaveLeft, HoldsOwed, IsAt, IsFit, IsFresh, IsMade, IsSameWorker, IsTable, Represents, Setting, Stands, Steps, conn_at, held_by, marked, owed_if, phase_after, setting, undone};
+ghost use Rattle.lsv_session.specs.declared.reply.ReplyBody.TheVariants as said;
+ghost use Rattle.lsv_worker.specs.Incoming.{has_left};
+ghost use Rattle.lsv_worker.specs.Links.{HasBlame, OwesNoMore, ReadsNone, WasReadAtMost, WritesNone, reads_in};
+ghost use Rattle.lsv_worker.specs.Worker.{Admits, AllRemain, AreCalmed, AreClosed, AreOfLanes, ArePassed, AreSpared, Goes, HaveLeft, HoldsOwed, IsAt, IsFit, IsFresh, IsHeldFor, IsMade, IsNoted, IsPaused, IsSameWorker, IsTable, IsThere, IsWritten, KeepRules, Represents, Setting, Stands, Steps, conn_at, held_by, marked, open_in, owed_if, phase_after, setting, undone};
 
 use crate::link::{Link, PIECE, Pause, Phase};
 use crate::{Inbox, Incoming, Outgoing};
@@ -32,8 +34,10 @@ pub struct Worker {
     held: Vec<u32>,
 }
 
-/// Whether a link was opened and is not closed.
-fn count_open(links: &[Link]) -> usize {
+/// How many links are open.
+fn count_open(links: &[Link]) -> usize
+    ensures { result ≡ length (open_in links.now) }
+{
     let mut count = 0;
     for link in links {
         if link.live {
@@ -59,7 +63,8 @@ fn place_of(links: &[Link], seq: u64) -> Option<usize>
 
 /// Whether each connection has left and was shut.
 fn have_left(links: &[Link]) -> bool
-    ensures { result ≡ true → HaveLeft links.now }
+    ensures yes { result ≡ true → HaveLeft links.now }
+    ensures no { result ≡ false → HaveLeft links.now → ⊥ }
 {
     for link in links {
         if !link.shut {
@@ -76,6 +81,7 @@ fn have_left(links: &[Link]) -> bool
 fn collect(links: &[Link], held: &mut Vec<u32>)
     requires room { length links.now ≤ vec_capacity held.old }
     ensures held { (i : ℕ) (d : Link) → i < length links.now → (slice_index_or links.now i d).pause ≢ Pause.Calm → Contains held.new.items (slice_index_or links.now i d).number }
+    ensures paused { (l : ℕ) → Contains held.new.items l → IsPaused links.now l }
     ensures room { vec_capacity held.old ≤ vec_capacity held.new }
 {
     held.clear();
@@ -105,10 +111,13 @@ fn pass_all<P: Port, I: Inbox>(
     requires lanes { AreOfLanes (I.lanes inbox.old) links.old }
     requires at { P.tells → IsTable phase links.old (P.state port.old) }
     ensures steps { P.tells → (set : Setting) → set.phase ≡ phase → Steps set links.old links.new (P.state port.old) (P.state port.new) (I.jobs inbox.old) (I.jobs inbox.new) }
+    ensures passed { P.tells → ArePassed phase links.old links.new (P.state port.old) (P.state port.new) (I.refused inbox.old) (I.refused inbox.new) }
+    ensures remains { AllRemain links.old links.new }
     ensures calm { reads_in phase ≡ true → AreCalmed links.new }
     ensures reads { P.tells → (l : ℕ) → WasReadAtMost 16 ((P.state port.old).link l) ((P.state port.new).link l) }
     ensures laden { P.tells → phase ≡ Phase.Going → AreSpared links.new (P.state port.old) (P.state port.new) }
     ensures unread { P.tells → reads_in phase ≡ false → ReadsNone (P.state port.old) (P.state port.new) }
+    ensures stopped { phase ≡ Phase.Stopped → (m : ℕ) → I.jobs inbox.new m ≡ I.jobs inbox.old m }
     ensures lanes { AreOfLanes (I.lanes inbox.old) links.new }
     ensures inbox { I.lanes inbox.new ≡ I.lanes inbox.old }
     ensures blame { P.tells → HasBlame (P.state port.old) (P.ledger port.old) (P.state port.new) (P.ledger port.new) }
@@ -132,10 +141,13 @@ fn pass_table<P: Port, I: Inbox>(
     requires lanes { AreOfLanes (I.lanes inbox.old) links.old.items }
     requires at { P.tells → IsTable phase links.old.items (P.state port.old) }
     ensures steps { P.tells → (set : Setting) → set.phase ≡ phase → Steps set links.old.items links.new.items (P.state port.old) (P.state port.new) (I.jobs inbox.old) (I.jobs inbox.new) }
+    ensures passed { P.tells → ArePassed phase links.old.items links.new.items (P.state port.old) (P.state port.new) (I.refused inbox.old) (I.refused inbox.new) }
+    ensures remains { AllRemain links.old.items links.new.items }
     ensures calm { reads_in phase ≡ true → AreCalmed links.new.items }
     ensures reads { P.tells → (l : ℕ) → WasReadAtMost 16 ((P.state port.old).link l) ((P.state port.new).link l) }
     ensures laden { P.tells → phase ≡ Phase.Going → AreSpared links.new.items (P.state port.old) (P.state port.new) }
     ensures unread { P.tells → reads_in phase ≡ false → ReadsNone (P.state port.old) (P.state port.new) }
+    ensures stopped { phase ≡ Phase.Stopped → (m : ℕ) → I.jobs inbox.new m ≡ I.jobs inbox.old m }
     ensures lanes { AreOfLanes (I.lanes inbox.old) links.new.items }
     ensures size { vec_len links.new ≡ vec_len links.old }
     ensures inbox { I.lanes inbox.new ≡ I.lanes inbox.old }
@@ -153,6 +165,9 @@ fn take_at<P: Port>(links: &mut [Link], place: usize, reply: &Reply, port: &mut 
     requires seq { (d : Link) → (slice_index_or links.old place d).conn.seq ≡ reply.now.conn.seq }
     requires at { P.tells → (phase : Phase) × IsTable phase links.old (P.state port.old) }
     ensures took { P.tells → (set : Setting) (jobs : ℕ → List Job) (replies : List Reply) → reply.now.conn ≡ conn_at set reply.now.conn.seq → Stands set links.old (P.state port.old) jobs replies → Stands set links.new (P.state port.new) jobs (replies ++ reply.now ∷ []) }
+    ensures remains { AllRemain links.old links.new }
+    ensures unwritten { P.tells → WritesNone (P.state port.old) (P.state port.new) }
+    ensures ignored { reply.now.body ≡ said.Shut → reply.now.last ≡ true → ((d : Link) → has_left (slice_index_or links.old place d).incoming.stage ≡ false) → (links.new ≡ links.old) × (port.new ≡ port.old) }
     ensures lanes { (n : ℕ) → AreOfLanes n links.old → AreOfLanes n links.new }
     ensures owes { P.tells → OwesNoMore (P.state port.old) (P.state port.new) }
     ensures unread { P.tells → ReadsNone (P.state port.old) (P.state port.new) }
@@ -169,6 +184,9 @@ fn take_in_table<P: Port>(links: &mut Vec<Link>, place: usize, reply: &Reply, po
     requires seq { (d : Link) → (slice_index_or links.old.items place d).conn.seq ≡ reply.now.conn.seq }
     requires at { P.tells → (phase : Phase) × IsTable phase links.old.items (P.state port.old) }
     ensures took { P.tells → (set : Setting) (jobs : ℕ → List Job) (replies : List Reply) → reply.now.conn ≡ conn_at set reply.now.conn.seq → Stands set links.old.items (P.state port.old) jobs replies → Stands set links.new.items (P.state port.new) jobs (replies ++ reply.now ∷ []) }
+    ensures remains { AllRemain links.old.items links.new.items }
+    ensures unwritten { P.tells → WritesNone (P.state port.old) (P.state port.new) }
+    ensures ignored { reply.now.body ≡ said.Shut → reply.now.last ≡ true → ((d : Link) → has_left (slice_index_or links.old.items place d).incoming.stage ≡ false) → (links.new.items ≡ links.old.items) × (port.new ≡ port.old) }
     ensures lanes { (n : ℕ) → AreOfLanes n links.old.items → AreOfLanes n links.new.items }
     ensures size { vec_len links.new ≡ vec_len links.old }
     ensures owes { P.tells → OwesNoMore (P.state port.old) (P.state port.new) }
@@ -183,6 +201,9 @@ fn take_in_table<P: Port>(links: &mut Vec<Link>, place: usize, reply: &Reply, po
 fn close_all<P: Port>(links: &mut [Link], port: &mut P)
     requires at { P.tells → IsTable Phase.Stopped links.old (P.state port.old) }
     ensures steps { P.tells → (set : Setting) (jobs : ℕ → List Job) → set.phase ≡ Phase.Stopped → Steps set links.old links.new (P.state port.old) (P.state port.new) jobs jobs }
+    ensures closed { AreClosed links.new }
+    ensures remains { AllRemain links.old links.new }
+    ensures unwritten { P.tells → WritesNone (P.state port.old) (P.state port.new) }
     ensures unread { P.tells → ReadsNone (P.state port.old) (P.state port.new) }
     ensures lanes { (n : ℕ) → AreOfLanes n links.old → AreOfLanes n links.new }
     ensures blame { P.tells → HasBlame (P.state port.old) (P.ledger port.old) (P.state port.new) (P.ledger port.new) }
@@ -197,6 +218,9 @@ fn close_all<P: Port>(links: &mut [Link], port: &mut P)
 fn close_table<P: Port>(links: &mut Vec<Link>, port: &mut P)
     requires at { P.tells → IsTable Phase.Stopped links.old.items (P.state port.old) }
     ensures steps { P.tells → (set : Setting) (jobs : ℕ → List Job) → set.phase ≡ Phase.Stopped → Steps set links.old.items links.new.items (P.state port.old) (P.state port.new) jobs jobs }
+    ensures closed { AreClosed links.new.items }
+    ensures remains { AllRemain links.old.items links.new.items }
+    ensures unwritten { P.tells → WritesNone (P.state port.old) (P.state port.new) }
     ensures unread { P.tells → ReadsNone (P.state port.old) (P.state port.new) }
     ensures lanes { (n : ℕ) → AreOfLanes n links.old.items → AreOfLanes n links.new.items }
     ensures size { vec_len links.new ≡ vec_len links.old }
@@ -254,6 +278,9 @@ impl Worker {
         ensures owed { P.tells → HoldsOwed self.new (P.state port.new) }
         ensures reads { P.tells → (l : ℕ) → WasReadAtMost 16 ((P.state port.old).link l) ((P.state port.new).link l) }
         ensures laden { P.tells → self.new.phase ≡ Phase.Going → AreSpared self.new.links.items (P.state port.old) (P.state port.new) }
+        ensures written { P.tells → IsWritten self.new.links.items (P.state port.new) }
+        ensures held { P.tells → (l : ℕ) → Contains (held_by self.new) l → IsHeldFor self.new l (P.state port.old) (P.state port.new) (I.refused inbox.old) (I.refused inbox.new) }
+        ensures rules { P.tells → KeepRules self.new.phase self.old.links.items self.new.links.items (P.state port.old) (P.state port.new) }
         ensures blame { P.tells → HasBlame (P.state port.old) (P.ledger port.old) (P.state port.new) (P.ledger port.new) }
         ensures continues { Continues (P.ledger port.old) (P.ledger port.new) }
         ensures counts { (m : ℕ) → I.refused inbox.old m ≤ I.refused inbox.new m }
@@ -277,6 +304,10 @@ impl Worker {
         ensures reads { P.tells → (l : ℕ) → WasReadAtMost 16 ((P.state port.old).link l) ((P.state port.new).link l) }
         ensures laden { P.tells → self.new.phase ≡ Phase.Going → AreSpared self.new.links.items (P.state port.old) (P.state port.new) }
         ensures unread { P.tells → reads_in self.old.phase ≡ false → ReadsNone (P.state port.old) (P.state port.new) }
+        ensures written { P.tells → IsWritten self.new.links.items (P.state port.new) }
+        ensures held { P.tells → (l : ℕ) → Contains (held_by self.new) l → IsHeldFor self.new l (P.state port.old) (P.state port.new) (I.refused inbox.old) (I.refused inbox.new) }
+        ensures rules { P.tells → KeepRules self.new.phase self.old.links.items self.new.links.items (P.state port.old) (P.state port.new) }
+        ensures stopped { self.old.phase ≡ Phase.Stopped → (m : ℕ) → I.jobs inbox.new m ≡ I.jobs inbox.old m }
         ensures blame { P.tells → HasBlame (P.state port.old) (P.ledger port.old) (P.state port.new) (P.ledger port.new) }
         ensures continues { Continues (P.ledger port.old) (P.ledger port.new) }
         ensures counts { (m : ℕ) → I.refused inbox.old m ≤ I.refused inbox.new m }
@@ -297,6 +328,9 @@ impl Worker {
         ensures phase { self.new.phase ≡ Phase.Failed }
         ensures goes { P.tells → Goes self.old self.new (P.state port.old) (P.state port.new) (I.jobs inbox.old) (I.jobs inbox.new) }
         ensures unread { P.tells → ReadsNone (P.state port.old) (P.state port.new) }
+        ensures written { P.tells → IsWritten self.new.links.items (P.state port.new) }
+        ensures held { P.tells → (l : ℕ) → Contains (held_by self.new) l → IsHeldFor self.new l (P.state port.old) (P.state port.new) (I.refused inbox.old) (I.refused inbox.new) }
+        ensures rules { P.tells → KeepRules self.new.phase self.old.links.items self.new.links.items (P.state port.old) (P.state port.new) }
         ensures blame { P.tells → HasBlame (P.state port.old) (P.ledger port.old) (P.state port.new) (P.ledger port.new) }
         ensures continues { Continues (P.ledger port.old) (P.ledger port.new) }
         ensures counts { (m : ℕ) → I.refused inbox.old m ≤ I.refused inbox.new m }
@@ -320,6 +354,9 @@ impl Worker {
         ensures takes { P.tells → (jobs : ℕ → List Job) (replies : List Reply) → Represents self.old (P.state port.old) jobs replies → Represents self.new (P.state port.new) jobs (replies ++ reply ∷ []) }
         ensures owed { P.tells → HoldsOwed self.old (P.state port.old) → HoldsOwed self.new (P.state port.new) }
         ensures unread { P.tells → ReadsNone (P.state port.old) (P.state port.new) }
+        ensures unwritten { P.tells → WritesNone (P.state port.old) (P.state port.new) }
+        ensures rules { P.tells → KeepRules self.new.phase self.old.links.items self.new.links.items (P.state port.old) (P.state port.new) }
+        ensures ignored { reply.body ≡ said.Shut → reply.last ≡ true → IsThere reply.conn.seq self.old.links.items → (self.new.links.items ≡ self.old.links.items) × (port.new ≡ port.old) }
         ensures blame { P.tells → HasBlame (P.state port.old) (P.ledger port.old) (P.state port.new) (P.ledger port.new) }
         ensures continues { Continues (P.ledger port.old) (P.ledger port.new) }
     {
@@ -340,6 +377,7 @@ impl Worker {
     /// or it was stopped.
     pub fn ended(&self) -> bool
         ensures yes { result ≡ true → (self.now.phase ≡ Phase.Stopped) ⊎ ((self.now.phase ≢ Phase.Going) × HaveLeft self.now.links.items) }
+        ensures no { result ≡ false → (self.now.phase ≡ Phase.Stopped) ⊎ ((self.now.phase ≢ Phase.Going) × HaveLeft self.now.links.items) → ⊥ }
     {
         match self.phase {
             Phase::Going => false,
@@ -357,6 +395,9 @@ impl Worker {
         ensures phase { self.new.phase ≡ Phase.Stopped }
         ensures goes { P.tells → (jobs : ℕ → List Job) → Goes self.old self.new (P.state port.old) (P.state port.new) jobs jobs }
         ensures unread { P.tells → ReadsNone (P.state port.old) (P.state port.new) }
+        ensures unwritten { P.tells → WritesNone (P.state port.old) (P.state port.new) }
+        ensures rules { P.tells → KeepRules self.new.phase self.old.links.items self.new.links.items (P.state port.old) (P.state port.new) }
+        ensures closed { P.tells → (l : ℕ) → IsOpen (P.state port.new) l → ⊥ }
         ensures blame { P.tells → HasBlame (P.state port.old) (P.ledger port.old) (P.state port.new) (P.ledger port.new) }
         ensures continues { Continues (P.ledger port.old) (P.ledger port.new) }
     {
@@ -396,6 +437,7 @@ impl Worker {
         requires fit { IsFit self.old }
         requires room { self.old.next < 2 ^ 64 - 1 }
         requires lanes { link.incoming.route.lanes ≡ self.old.lanes }
+        requires few { length (open_in self.old.links.items) < 128 }
         ensures fit { IsFit self.new }
         ensures yes { result ≡ true → Admits link self.old self.new }
         ensures no { result ≡ false → (setting self.new ≡ setting self.old) × (self.new.links.items ≡ self.old.links.items) }
@@ -416,7 +458,8 @@ impl Worker {
 
     /// Whether one more link is turned away: 128 are open, or the numbers are spent.
     fn is_crowded(&self) -> bool
-        ensures { result ≡ false → self.now.next < 2 ^ 64 - 1 }
+        ensures room { result ≡ false → self.now.next < 2 ^ 64 - 1 }
+        ensures few { result ≡ false → length (open_in self.now.links.items) < 128 }
     {
         self.next == u64::MAX || count_open(&self.links) >= MOST_LINKS
     }
@@ -430,6 +473,8 @@ impl Worker {
         ensures worker { IsSameWorker self.old self.new }
         ensures phase { self.new.phase ≡ self.old.phase }
         ensures opens { P.tells → (before : PortState) (jobs : ℕ → List Job) (replies : List Reply) → Opens number before (P.state port.old) → Represents self.old before jobs replies → Represents self.new (P.state port.new) jobs replies }
+        ensures noted { (link : Link) → Contains self.old.links.items link → IsNoted link self.new.links.items }
+        ensures unwritten { P.tells → WritesNone (P.state port.old) (P.state port.new) }
         ensures unread { P.tells → ReadsNone (P.state port.old) (P.state port.new) }
         ensures blame { P.tells → HasBlame (P.state port.old) (P.ledger port.old) (P.state port.new) (P.ledger port.new) }
         ensures continues { Continues (P.ledger port.old) (P.ledger port.new) }
@@ -457,6 +502,8 @@ impl Worker {
         ensures worker { IsSameWorker self.old self.new }
         ensures phase { self.new.phase ≡ phase_after ready }
         ensures notes { P.tells → (before : PortState) (jobs : ℕ → List Job) (replies : List Reply) → Told ready before (P.state port.old) → Represents self.old before jobs replies → Represents self.new (P.state port.new) jobs replies }
+        ensures noted { (link : Link) → Contains self.old.links.items link → IsNoted link self.new.links.items }
+        ensures unwritten { P.tells → WritesNone (P.state port.old) (P.state port.new) }
         ensures unread { P.tells → ReadsNone (P.state port.old) (P.state port.new) }
         ensures blame { P.tells → HasBlame (P.state port.old) (P.ledger port.old) (P.state port.new) (P.ledger port.new) }
         ensures continues { Continues (P.ledger port.old) (P.ledger port.new) }
@@ -495,6 +542,10 @@ impl Worker {
         ensures reads { P.tells → (l : ℕ) → WasReadAtMost 16 ((P.state port.old).link l) ((P.state port.new).link l) }
         ensures laden { P.tells → self.new.phase ≡ Phase.Going → AreSpared self.new.links.items (P.state port.old) (P.state port.new) }
         ensures unread { P.tells → reads_in self.old.phase ≡ false → ReadsNone (P.state port.old) (P.state port.new) }
+        ensures written { P.tells → IsWritten self.new.links.items (P.state port.new) }
+        ensures held { P.tells → (l : ℕ) → Contains (held_by self.new) l → IsHeldFor self.new l (P.state port.old) (P.state port.new) (I.refused inbox.old) (I.refused inbox.new) }
+        ensures rules { P.tells → KeepRules self.new.phase self.old.links.items self.new.links.items (P.state port.old) (P.state port.new) }
+        ensures stopped { self.old.phase ≡ Phase.Stopped → (m : ℕ) → I.jobs inbox.new m ≡ I.jobs inbox.old m }
         ensures blame { P.tells → HasBlame (P.state port.old) (P.ledger port.old) (P.state port.new) (P.ledger port.new) }
         ensures continues { Continues (P.ledger port.old) (P.ledger port.new) }
         ensures counts { (m : ℕ) → I.refused inbox.old m ≤ I.refused inbox.new m }

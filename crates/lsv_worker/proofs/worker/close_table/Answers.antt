@@ -1,5 +1,5 @@
 use Rattle.std.proofs.Common.{◌≡◌, ℕ, List, length, sym, ap, subst, ◌∙◌}
-use Rattle.lsv_worker.specs.Worker.{AreOfLanes, IsTable, Steps}
+use Rattle.lsv_worker.specs.Worker.{AllRemain, AreClosed, AreOfLanes, IsTable, Steps}
 use Rattle.lsv_worker.specs.declared.link.Link.{Link}
 use Rattle.lsv_worker.specs.declared.link.Phase.TheVariants.{Stopped}
 use Rattle.lsv_worker.proofs.Tables.{lent}
@@ -20,3 +20,15 @@ returns-clause-lanes g c = λ n h.
     let size : length c.close_all.new.links ≡ length c.args.links.now.items = c.close_all.auto.links ∙ ap length c.deref_mut.ensures.value in
     let whole = lent c.args.links.now.len c.close_all.new.links c.args.links.now.items (sym c.deref_mut.ensures.len ∙ ap length c.deref_mut.ensures.value) size in
     subst (AreOfLanes n) (sym whole) (c.close_all.ensures.lanes n (subst (AreOfLanes n) (sym c.deref_mut.ensures.value) h))
+
+pub returns-clause-closed : goal.returns-clause-closed
+returns-clause-closed g c =
+    let size : length c.close_all.new.links ≡ length c.args.links.now.items = c.close_all.auto.links ∙ ap length c.deref_mut.ensures.value in
+    let whole = lent c.args.links.now.len c.close_all.new.links c.args.links.now.items (sym c.deref_mut.ensures.len ∙ ap length c.deref_mut.ensures.value) size in
+    subst AreClosed (sym whole) c.close_all.ensures.closed
+
+pub returns-clause-remains : goal.returns-clause-remains
+returns-clause-remains g c =
+    let size : length c.close_all.new.links ≡ length c.args.links.now.items = c.close_all.auto.links ∙ ap length c.deref_mut.ensures.value in
+    let whole = lent c.args.links.now.len c.close_all.new.links c.args.links.now.items (sym c.deref_mut.ensures.len ∙ ap length c.deref_mut.ensures.value) size in
+    subst (AllRemain c.args.links.now.items) (sym whole) (subst (λ (l : List Link). AllRemain l c.close_all.new.links) c.deref_mut.ensures.value c.close_all.ensures.remains)

@@ -1,11 +1,13 @@
-use Rattle.std.proofs.Common.{◌≡◌, ◌≤◌, ◌<◌, ℕ, List, true, false, length, arith, ◌++◌, sym, ap, subst, ◌∙◌, refl, rules}
+use Rattle.std.proofs.Common.{◌≡◌, ◌≢◌, ◌≤◌, ◌<◌, [], ℕ, List, true, false, length, arith, ◌++◌, sym, ap, subst, ◌∙◌, refl, rules}
 use Rattle.lsv_port.specs.Port.{IsOpen}
-use Rattle.lsv_worker.specs.Links.{LinkStep}
+use Rattle.lsv_worker.specs.Links.{LinkStep, Remains}
 use Rattle.lsv_worker.specs.Worker.{IsCalmed, IsTable, Setting, Stands}
 use Rattle.lsv_worker.specs.declared.link.Link.{Link}
 use Rattle.lsv_worker.specs.declared.link.Phase.{Phase}
+use Rattle.lsv_worker.specs.declared.outgoing.Voice.TheVariants.{Speaking}
 use Rattle.lsv_worker.proofs.Ports.{blame_same, blame_then, continues_here, continues_then}
 use Rattle.lsv_worker.proofs.Linking.{most_none}
+use Rattle.lsv_worker.proofs.Passing.{later_set, passed_on, quiet_in, remain_here, remain_set}
 use Rattle.lsv_worker.proofs.Reading.{below_on, reads_on, rest_on, spared_all, unread_here, unread_on}
 use Rattle.lsv_worker.proofs.Tables.{below_set, calm_all, lanes_at, lanes_set, open_at, steps_none, steps_one}
 use Rattle.lsv_worker.proofs.worker.pass_all.Goals as goal
@@ -13,6 +15,10 @@ use Rattle.lsv_worker.proofs.worker.pass_all.Goals as goal
 pub loop-link-init : goal.loop-link-init
 loop-link-init g c = record {
   steps = λ told set is. steps_none set c.args.links.now (g.P.Port.state c.args.port.now) (g.I.Inbox.jobs c.args.inbox.now);
+  passed = λ told j d under. absurd (omega arith);
+  remains = remain_here c.args.links.now;
+  later = λ j d above. refl;
+  stopped = λ is m. refl;
   calm = λ reads i d within. absurd (omega arith);
   lanes = c.requires.lanes;
   inbox = refl;
@@ -35,6 +41,11 @@ pass-requires g c =
           let at : IsTable c.args.phase c.args.links.now (g.P.Port.state c.args.port.now) = c.requires.at told in
           let steps = c.loop-link.invariant.steps told at.set at.phase_is in
           subst (λ (l : Link). IsOpen (g.P.Port.state c.loop-link.port) l.number) c.link-item.is (open_at at.set c.loop-link.links (g.P.Port.state c.loop-link.port) (λ lane. at.jobs lane ++ steps.added lane) at.replies c.loop-link.link-index c.link-item.result here c.link-item.is (steps.goes at.jobs at.replies at.stands) (ap (λ (l : Link). l.live) c.link-item.is ∙ live));
+      mute = λ told.
+          let at : IsTable c.args.phase c.args.links.now (g.P.Port.state c.args.port.now) = c.requires.at told in
+          let steps = c.loop-link.invariant.steps told at.set at.phase_is in
+          subst (λ (l : Link). l.outgoing.voice ≢ Speaking → l.outgoing.unsent ≡ []) c.link-item.is
+          (quiet_in at.set c.loop-link.links (g.P.Port.state c.loop-link.port) (λ lane. at.jobs lane ++ steps.added lane) at.replies c.loop-link.link-index c.link-item.result here c.link-item.is (steps.goes at.jobs at.replies at.stands));
     }
 
 pub loop-link-preserved : goal.loop-link-preserved
@@ -46,6 +57,15 @@ loop-link-preserved g c =
       steps = λ told set is. steps_one set c.args.links.now c.loop-link.links c.loop-link.link-index c.link-item.result c.pass.new.self (g.P.Port.state c.args.port.now) (g.P.Port.state c.loop-link.port) (g.P.Port.state c.pass.new.port) (g.I.Inbox.jobs c.args.inbox.now) (g.I.Inbox.jobs c.loop-link.inbox) (g.I.Inbox.jobs c.pass.new.inbox) here c.link-item.is
           (c.loop-link.invariant.steps told set is)
           (subst (λ (p : Phase). LinkStep p c.link-item.result c.pass.new.self (g.P.Port.state c.loop-link.port) (g.P.Port.state c.pass.new.port) (g.I.Inbox.jobs c.loop-link.inbox) (g.I.Inbox.jobs c.pass.new.inbox)) (sym is) (subst (λ (l : Link). LinkStep c.args.phase l c.pass.new.self (g.P.Port.state c.loop-link.port) (g.P.Port.state c.pass.new.port) (g.I.Inbox.jobs c.loop-link.inbox) (g.I.Inbox.jobs c.pass.new.inbox)) (sym c.link-item.is) (c.pass.ensures.step told)));
+      passed = λ told.
+          let at : IsTable c.args.phase c.args.links.now (g.P.Port.state c.args.port.now) = c.requires.at told in
+          let steps = c.loop-link.invariant.steps told at.set at.phase_is in
+          passed_on at.set c.args.phase c.args.links.now c.loop-link.links c.loop-link.link-index c.link-item.result c.pass.new.self (g.P.Port.state c.args.port.now) (g.P.Port.state c.loop-link.port) (g.P.Port.state c.pass.new.port) (λ lane. at.jobs lane ++ steps.added lane) at.replies
+          (g.I.Inbox.refused c.args.inbox.now) (g.I.Inbox.refused c.loop-link.inbox) (g.I.Inbox.refused c.pass.new.inbox) here (steps.goes at.jobs at.replies at.stands) (c.pass.ensures.step told).alone (c.loop-link.invariant.rest told) c.loop-link.invariant.later
+          c.loop-link.invariant.counts c.pass.ensures.counts (c.pass.ensures.passed told) (c.loop-link.invariant.passed told);
+      remains = remain_set c.args.links.now c.loop-link.links c.loop-link.link-index c.link-item.result c.pass.new.self here c.link-item.is (subst (λ (l : Link). Remains l c.pass.new.self) (sym c.link-item.is) c.pass.ensures.remains) c.loop-link.invariant.remains;
+      later = later_set c.args.links.now c.loop-link.links c.loop-link.link-index c.pass.new.self c.loop-link.invariant.later;
+      stopped = λ is m. c.pass.ensures.stopped is m ∙ c.loop-link.invariant.stopped is m;
       calm = λ reads. below_set IsCalmed c.loop-link.links c.loop-link.link-index c.pass.new.self here (c.pass.ensures.calm reads) (c.loop-link.invariant.calm reads);
       lanes = lanes_set (g.I.Inbox.lanes c.args.inbox.now) c.loop-link.links c.loop-link.link-index c.pass.new.self
           (sym c.pass.ensures.lanes ∙ inbox) c.loop-link.invariant.lanes;
@@ -72,3 +92,6 @@ returns-clause-calm g c = λ reads. calm_all _ (λ i d within. c.loop-link.invar
 
 pub returns-clause-laden : goal.returns-clause-laden
 returns-clause-laden g c = λ told going. spared_all _ (g.P.Port.state c.args.port.now) (g.P.Port.state c.loop-link.port) (λ i d within. c.loop-link.invariant.laden told going i d (omega arith))
+
+pub returns-clause-passed : goal.returns-clause-passed
+returns-clause-passed g c = λ told. record { size = search rules; each = λ i d within. c.loop-link.invariant.passed told i d (omega arith) }

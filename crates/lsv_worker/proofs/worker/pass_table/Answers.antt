@@ -1,5 +1,5 @@
 use Rattle.std.proofs.Common.{◌≡◌, List, length, sym, ap, subst, ◌∙◌}
-use Rattle.lsv_worker.specs.Worker.{AreCalmed, AreOfLanes, AreSpared, IsTable, Steps}
+use Rattle.lsv_worker.specs.Worker.{AllRemain, AreCalmed, AreOfLanes, ArePassed, AreSpared, IsTable, Steps}
 use Rattle.lsv_worker.specs.declared.link.Link.{Link}
 use Rattle.lsv_worker.proofs.Tables.{lent}
 use Rattle.lsv_worker.proofs.worker.pass_table.Goals as goal
@@ -34,3 +34,16 @@ returns-clause-laden g c = λ told going.
     let size : length c.pass_all.new.links ≡ length c.args.links.now.items = c.pass_all.auto.links ∙ ap length c.deref_mut.ensures.value in
     let whole = lent c.args.links.now.len c.pass_all.new.links c.args.links.now.items (sym c.deref_mut.ensures.len ∙ ap length c.deref_mut.ensures.value) size in
     subst (λ (l : List Link). AreSpared l (g.P.Port.state c.args.port.now) (g.P.Port.state c.pass_all.new.port)) (sym whole) (c.pass_all.ensures.laden told going)
+
+pub returns-clause-passed : goal.returns-clause-passed
+returns-clause-passed g c = λ told.
+    let size : length c.pass_all.new.links ≡ length c.args.links.now.items = c.pass_all.auto.links ∙ ap length c.deref_mut.ensures.value in
+    let whole = lent c.args.links.now.len c.pass_all.new.links c.args.links.now.items (sym c.deref_mut.ensures.len ∙ ap length c.deref_mut.ensures.value) size in
+    subst (λ (l : List Link). ArePassed c.args.phase c.args.links.now.items l (g.P.Port.state c.args.port.now) (g.P.Port.state c.pass_all.new.port) (g.I.Inbox.refused c.args.inbox.now) (g.I.Inbox.refused c.pass_all.new.inbox)) (sym whole)
+    (subst (λ (l : List Link). ArePassed c.args.phase l c.pass_all.new.links (g.P.Port.state c.args.port.now) (g.P.Port.state c.pass_all.new.port) (g.I.Inbox.refused c.args.inbox.now) (g.I.Inbox.refused c.pass_all.new.inbox)) c.deref_mut.ensures.value (c.pass_all.ensures.passed told))
+
+pub returns-clause-remains : goal.returns-clause-remains
+returns-clause-remains g c =
+    let size : length c.pass_all.new.links ≡ length c.args.links.now.items = c.pass_all.auto.links ∙ ap length c.deref_mut.ensures.value in
+    let whole = lent c.args.links.now.len c.pass_all.new.links c.args.links.now.items (sym c.deref_mut.ensures.len ∙ ap length c.deref_mut.ensures.value) size in
+    subst (AllRemain c.args.links.now.items) (sym whole) (subst (λ (l : List Link). AllRemain l c.pass_all.new.links) c.deref_mut.ensures.value c.pass_all.ensures.remains)

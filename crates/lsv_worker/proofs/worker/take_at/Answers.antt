@@ -1,9 +1,10 @@
-use Rattle.std.proofs.Common.{◌≡◌, ◌<◌, ℕ, List, true, length, get_or, refl, sym, ap, subst, ◌∙◌}
+use Rattle.std.proofs.Common.{◌≡◌, ◌<◌, ℕ, List, true, length, get_or, set, refl, sym, ap, subst, ◌∙◌}
 use Rattle.lsv_session.specs.declared.connection.ConnId.{ConnId}
 use Rattle.lsv_worker.specs.Worker.{conn_at}
 use Rattle.lsv_worker.specs.declared.link.Link.{Link}
 use Rattle.lsv_worker.proofs.Tables.{lanes_at, lanes_set, open_at, same_default}
 use Rattle.lsv_worker.proofs.Taking.{own_conn, stands_took}
+use Rattle.lsv_worker.proofs.Passing.{remain_here, remain_set, set_same}
 use Rattle.lsv_worker.proofs.worker.take_at.Goals as goal
 
 pub take-requires : goal.take-requires
@@ -24,3 +25,16 @@ returns-clause-lanes g c = λ n h.
     let old : Link = get_or c.args.links.now c.args.place c.index-links-place.result in
     let is : old ≡ get_or c.args.links.now c.args.place old = same_default c.args.links.now c.args.place c.index-links-place.result old c.requires.within in
     lanes_set n c.args.links.now c.args.place c.take.new.self (c.take.ensures.lanes ∙ lanes_at n c.args.links.now c.args.place old c.requires.within is h) h
+
+pub returns-clause-remains : goal.returns-clause-remains
+returns-clause-remains g c =
+    let old : Link = get_or c.args.links.now c.args.place c.index-links-place.result in
+    let is : old ≡ get_or c.args.links.now c.args.place old = same_default c.args.links.now c.args.place c.index-links-place.result old c.requires.within in
+    remain_set c.args.links.now c.args.links.now c.args.place old c.take.new.self c.requires.within is c.take.ensures.remains (remain_here c.args.links.now)
+
+pub returns-clause-ignored : goal.returns-clause-ignored
+returns-clause-ignored g c = λ body last there.
+    let old : Link = get_or c.args.links.now c.args.place c.index-links-place.result in
+    let is : old ≡ get_or c.args.links.now c.args.place old = same_default c.args.links.now c.args.place c.index-links-place.result old c.requires.within in
+    let same = c.take.ensures.ignored body last (there c.index-links-place.result) in
+    (ap (λ (l : Link). set c.args.links.now c.args.place l) same.0 ∙ set_same c.args.links.now c.args.place old c.requires.within is, same.1)

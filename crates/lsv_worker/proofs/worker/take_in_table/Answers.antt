@@ -1,5 +1,6 @@
-use Rattle.std.proofs.Common.{◌≡◌, ◌<◌, ◌++◌, ◌∷◌, [], ℕ, List, length, get_or, sym, ap, subst, ◌∙◌}
-use Rattle.lsv_worker.specs.Worker.{AreOfLanes, IsTable, Stands}
+use Rattle.std.proofs.Common.{◌≡◌, ◌<◌, false, ◌++◌, ◌∷◌, [], ℕ, List, length, get_or, sym, ap, subst, ◌∙◌}
+use Rattle.lsv_worker.specs.Incoming.{has_left}
+use Rattle.lsv_worker.specs.Worker.{AllRemain, AreOfLanes, IsTable, Stands}
 use Rattle.lsv_worker.specs.declared.link.Link.{Link}
 use Rattle.lsv_worker.specs.declared.link.Phase.{Phase}
 use Rattle.lsv_worker.proofs.Tables.{lent}
@@ -24,3 +25,16 @@ returns-clause-lanes g c = λ n h.
     let size : length c.take_at.new.links ≡ length c.args.links.now.items = c.take_at.auto.links ∙ ap length c.deref_mut.ensures.value in
     let whole = lent c.args.links.now.len c.take_at.new.links c.args.links.now.items (sym c.deref_mut.ensures.len ∙ ap length c.deref_mut.ensures.value) size in
     subst (AreOfLanes n) (sym whole) (c.take_at.ensures.lanes n (subst (AreOfLanes n) (sym c.deref_mut.ensures.value) h))
+
+pub returns-clause-remains : goal.returns-clause-remains
+returns-clause-remains g c =
+    let size : length c.take_at.new.links ≡ length c.args.links.now.items = c.take_at.auto.links ∙ ap length c.deref_mut.ensures.value in
+    let whole = lent c.args.links.now.len c.take_at.new.links c.args.links.now.items (sym c.deref_mut.ensures.len ∙ ap length c.deref_mut.ensures.value) size in
+    subst (AllRemain c.args.links.now.items) (sym whole) (subst (λ (l : List Link). AllRemain l c.take_at.new.links) c.deref_mut.ensures.value c.take_at.ensures.remains)
+
+pub returns-clause-ignored : goal.returns-clause-ignored
+returns-clause-ignored g c = λ body last there.
+    let size : length c.take_at.new.links ≡ length c.args.links.now.items = c.take_at.auto.links ∙ ap length c.deref_mut.ensures.value in
+    let whole = lent c.args.links.now.len c.take_at.new.links c.args.links.now.items (sym c.deref_mut.ensures.len ∙ ap length c.deref_mut.ensures.value) size in
+    let same = c.take_at.ensures.ignored body last (subst (λ (l : List Link). (d : Link) → has_left (get_or l c.args.place d).incoming.stage ≡ false) (sym c.deref_mut.ensures.value) there) in
+    (whole ∙ same.0 ∙ c.deref_mut.ensures.value, same.1)

@@ -3,6 +3,7 @@ use Rattle.lsv_worker.specs.Lanes.{lane_or_home}
 use Rattle.lsv_worker.specs.Incoming.{Puts, WasFull, weight}
 use Rattle.lsv_worker.proofs.Putting.{puts_then}
 use Rattle.lsv_worker.proofs.Ports.{risen_late}
+use Rattle.lsv_worker.proofs.Wanting.{keeps_stage, keeps_then}
 use Rattle.lsv_worker.proofs.incoming.Incoming.step.Goals as goal
 
 pub offer-requires : goal.offer-requires
@@ -44,3 +45,14 @@ pub returns-clause-full : goal.returns-clause-full
 returns-clause-full g c = λ e.
     let at = lane_or_home c.go_on.new.self.route in
     risen_late (g.I.Inbox.refused c.args.inbox.now at) (g.I.Inbox.refused c.offer.new.inbox at) (g.I.Inbox.refused c.go_on.new.inbox at) (omega (arith, c.offer_first.ensures.counts at, c.offer.ensures.counts at)) (c.go_on.ensures.full e)
+
+pub returns-in-Full-clause-keeps : goal.returns-in-Full-clause-keeps
+returns-in-Full-clause-keeps g c = keeps_stage c.args.self.now c.offer_first.new.self c.offer_first.ensures.stage (λ e. c.offer_first.ensures.waiting ∙ e)
+
+pub returns-in-Full-offer-clause-keeps : goal.returns-in-Full-offer-clause-keeps
+returns-in-Full-offer-clause-keeps g c = keeps_stage c.args.self.now c.offer.new.self (c.offer.ensures.stage ∙ c.offer_first.ensures.stage) (λ e. c.offer.ensures.empty (c.offer_first.ensures.waiting ∙ e))
+
+pub returns-clause-keeps : goal.returns-clause-keeps
+returns-clause-keeps g c =
+    keeps_then c.args.self.now c.offer.new.self c.go_on.new.self
+    (keeps_stage c.args.self.now c.offer.new.self (c.offer.ensures.stage ∙ c.offer_first.ensures.stage) (λ e. c.offer.ensures.empty (c.offer_first.ensures.waiting ∙ e))) c.go_on.ensures.keeps

@@ -3,6 +3,8 @@ use Rattle.lsv_worker.proofs.Linking.{link_paused}
 use Rattle.lsv_worker.proofs.Ports.{risen_late}
 use Rattle.lsv_worker.specs.Lanes.{lane_or_home}
 use Rattle.lsv_worker.specs.declared.link.Pause.TheVariants.{Calm, Full}
+use Rattle.lsv_worker.specs.declared.link.Link.{Link}
+use Rattle.lsv_worker.proofs.Ruling.{remains_paused, remains_then}
 use Rattle.lsv_worker.proofs.link.Link.finish_off.Goals as goal
 
 pub returns-then-finish-clause-step : goal.returns-then-finish-clause-step
@@ -15,3 +17,13 @@ returns-then-finish-clause-reason g c = λ before after counts le.
 
 pub returns-clause-step : goal.returns-clause-step
 returns-clause-step g c = λ port. link_paused c.args.phase c.args.self.now c.finish.new.self (record c.finish.new.self { pause = Calm }) port port (g.I.Inbox.jobs c.args.inbox.now) (g.I.Inbox.jobs c.finish.new.inbox) refl (c.finish.ensures.step c.args.phase port c.requires.lets)
+
+pub returns-then-finish-clause-remains : goal.returns-then-finish-clause-remains
+returns-then-finish-clause-remains g c =
+    let last : Link = record c.finish.new.self { pause = Full } in
+    remains_then c.args.self.now c.finish.new.self last c.finish.ensures.remains (remains_paused c.finish.new.self Full)
+
+pub returns-clause-remains : goal.returns-clause-remains
+returns-clause-remains g c =
+    let last : Link = record c.finish.new.self { pause = Calm } in
+    remains_then c.args.self.now c.finish.new.self last c.finish.ensures.remains (remains_paused c.finish.new.self Calm)

@@ -5,13 +5,15 @@ use Rattle.lsv_worker.specs.Incoming.{hears}
 use Rattle.lsv_worker.specs.declared.link.Link.{Link}
 use Rattle.lsv_worker.proofs.Linking.{deaf, link_change, link_read_failed, stands_ended, stands_heard, stands_unowed}
 use Rattle.lsv_worker.proofs.Ports.{alone_change, alone_then, blame_failed, blame_kept, continues_then}
+use Rattle.lsv_worker.proofs.Ruling.{remains_here, remains_so, remains_then, sent_closed, sent_same}
+use Rattle.lsv_worker.proofs.Wanting.{keeps_here}
 use Rattle.lsv_worker.proofs.link.Link.read_once.Goals as goal
 
 pub returns-then-is_hearing-clause-step : goal.returns-then-is_hearing-clause-step
 returns-then-is_hearing-clause-step g c = λ told phase jobs reads.
     let s = (g.P.Port.state c.args.port.now).link c.args.self.now.number in
     link_change phase c.args.self.now (record c.args.self.now { incoming = c.hear.new.self }) (after_read (took.Bytes c.in-Bytes.count) c.read.new.buf s) (g.P.Port.state c.args.port.now) (g.P.Port.state c.read.new.self) jobs refl refl (c.in-Bytes.ensures.change told)
-    (λ past replies h. stands_heard phase c.args.self.now c.hear.new.self s c.in-Bytes.count c.read.new.buf past replies c.hear.ensures.goes c.are_bytes.ensures h)
+    (λ past replies h. stands_heard phase c.args.self.now c.hear.new.self s c.in-Bytes.count c.read.new.buf past replies c.hear.ensures.goes c.are_bytes.ensures c.hear.ensures.keeps h)
 
 pub returns-in-Bytes-clause-step : goal.returns-in-Bytes-clause-step
 returns-in-Bytes-clause-step g c = λ told phase jobs reads.
@@ -30,7 +32,7 @@ pub returns-in-End-clause-step : goal.returns-in-End-clause-step
 returns-in-End-clause-step g c = λ told phase jobs reads.
     let s = (g.P.Port.state c.args.port.now).link c.args.self.now.number in
     link_change phase c.args.self.now (record c.args.self.now { owed = false; incoming = c.end.new.self }) (after_read took.End c.read.new.buf s) (g.P.Port.state c.args.port.now) (g.P.Port.state c.read.new.self) jobs refl refl (c.in-End.ensures.change told)
-    (λ past replies h. stands_ended phase c.args.self.now c.end.new.self s c.read.new.buf past replies c.end.ensures.goes h)
+    (λ past replies h. stands_ended phase c.args.self.now c.end.new.self s c.read.new.buf past replies c.end.ensures.goes c.end.ensures.keeps h)
 
 pub returns-in-Failed-clause-step : goal.returns-in-Failed-clause-step
 returns-in-Failed-clause-step g c = λ told phase jobs reads.
@@ -63,3 +65,50 @@ returns-in-Failed-clause-blame g c = λ told.
 
 pub returns-in-Failed-clause-continues : goal.returns-in-Failed-clause-continues
 returns-in-Failed-clause-continues g c = continues_then (g.P.Port.ledger c.args.port.now) (g.P.Port.ledger c.read.new.self) (g.P.Port.ledger c.fail.new.port) c.read.ensures.cause.continues c.fail.ensures.continues
+
+pub returns-then-is_hearing-clause-remains : goal.returns-then-is_hearing-clause-remains
+returns-then-is_hearing-clause-remains g c = remains_so c.args.self.now (record c.args.self.now { incoming = c.hear.new.self }) refl refl (λ e. e) c.hear.ensures.keeps (λ ne. refl)
+
+pub returns-in-Bytes-clause-remains : goal.returns-in-Bytes-clause-remains
+returns-in-Bytes-clause-remains g c = remains_here c.args.self.now
+
+pub returns-in-NotYet-clause-remains : goal.returns-in-NotYet-clause-remains
+returns-in-NotYet-clause-remains g c = remains_so c.args.self.now (record c.args.self.now { owed = false }) refl refl (λ e. e) (keeps_here c.args.self.now.incoming) (λ ne. refl)
+
+pub returns-in-End-clause-remains : goal.returns-in-End-clause-remains
+returns-in-End-clause-remains g c = remains_so c.args.self.now (record c.args.self.now { owed = false; incoming = c.end.new.self }) refl refl (λ e. e) c.end.ensures.keeps (λ ne. refl)
+
+pub returns-in-Failed-clause-remains : goal.returns-in-Failed-clause-remains
+returns-in-Failed-clause-remains g c =
+    let mid : Link = record c.args.self.now { owed = false } in
+    remains_then c.args.self.now mid c.fail.new.self (remains_so c.args.self.now mid refl refl (λ e. e) (keeps_here c.args.self.now.incoming) (λ ne. refl)) c.fail.ensures.is.remains
+
+pub returns-then-is_hearing-clause-output : goal.returns-then-is_hearing-clause-output
+returns-then-is_hearing-clause-output g c = λ told. ap (λ (x : LinkState). x.output) (c.in-Bytes.ensures.change told).this
+
+pub returns-in-Bytes-clause-output : goal.returns-in-Bytes-clause-output
+returns-in-Bytes-clause-output g c = λ told. ap (λ (x : LinkState). x.output) (c.in-Bytes.ensures.change told).this
+
+pub returns-in-NotYet-clause-output : goal.returns-in-NotYet-clause-output
+returns-in-NotYet-clause-output g c = λ told. ap (λ (x : LinkState). x.output) (c.in-NotYet.ensures.change told).this
+
+pub returns-in-End-clause-output : goal.returns-in-End-clause-output
+returns-in-End-clause-output g c = λ told. ap (λ (x : LinkState). x.output) (c.in-End.ensures.change told).this
+
+pub returns-in-Failed-clause-output : goal.returns-in-Failed-clause-output
+returns-in-Failed-clause-output g c = λ told. ap (λ (x : LinkState). x.output) (c.fail.ensures.change told).this ∙ ap (λ (x : LinkState). x.output) (c.in-Failed.ensures.change told).this
+
+pub returns-then-is_hearing-clause-sent : goal.returns-then-is_hearing-clause-sent
+returns-then-is_hearing-clause-sent g c = λ told was. sent_same c.args.self.now (record c.args.self.now { incoming = c.hear.new.self }) _ _ (λ e. e) refl (ap (λ (x : LinkState). x.full) (c.in-Bytes.ensures.change told).this) was
+
+pub returns-in-Bytes-clause-sent : goal.returns-in-Bytes-clause-sent
+returns-in-Bytes-clause-sent g c = λ told was. sent_same c.args.self.now c.args.self.now _ _ (λ e. e) refl (ap (λ (x : LinkState). x.full) (c.in-Bytes.ensures.change told).this) was
+
+pub returns-in-NotYet-clause-sent : goal.returns-in-NotYet-clause-sent
+returns-in-NotYet-clause-sent g c = λ told was. sent_same c.args.self.now (record c.args.self.now { owed = false }) _ _ (λ e. e) refl (ap (λ (x : LinkState). x.full) (c.in-NotYet.ensures.change told).this) was
+
+pub returns-in-End-clause-sent : goal.returns-in-End-clause-sent
+returns-in-End-clause-sent g c = λ told was. sent_same c.args.self.now (record c.args.self.now { owed = false; incoming = c.end.new.self }) _ _ (λ e. e) refl (ap (λ (x : LinkState). x.full) (c.in-End.ensures.change told).this) was
+
+pub returns-in-Failed-clause-sent : goal.returns-in-Failed-clause-sent
+returns-in-Failed-clause-sent g c = λ told was. sent_closed c.fail.new.self _ c.fail.ensures.is.live

@@ -1,4 +1,4 @@
-use Rattle.std.proofs.Common.{◌≡◌, ◌≤◌, ℕ, length, [], true, false, refl, sym, ap, subst, ◌∙◌, rules, inl, inr}
+use Rattle.std.proofs.Common.{◌≡◌, ◌≤◌, ◌<◌, ℕ, arith, length, [], true, false, refl, sym, ap, subst, ◌∙◌, rules, inl, inr}
 use Rattle.lsv_port.specs.Ledger.{Continues, HasLinkCause}
 use Rattle.lsv_port.specs.Port.{Changes, IsOpen, LinkState, after_write}
 use Rattle.lsv_port.specs.declared.port.Gave.TheVariants as gave
@@ -12,6 +12,7 @@ writes-init g c = record {
   here = c.requires.is_open;
   voice = refl;
   failed = λ told. refl;
+  empty = λ told none. (none, refl);
   continues = continues_here (g.P.Port.ledger c.args.port.now);
 }
 
@@ -25,6 +26,11 @@ writes-preserved g c =
       here = λ told. ap (λ (s : LinkState). s.is_open) (change told).this ∙ c.writes.invariant.here told;
       voice = c.drop_front.ensures.voice ∙ c.writes.invariant.voice;
       failed = λ told. ap (λ (s : LinkState). s.failed) (change told).this ∙ c.writes.invariant.failed told;
+      empty = λ told none.
+          let gone : c.writes.self.unsent ≡ [] = (c.writes.invariant.empty told none).0 in
+          let some : 0 < length c.writes.self.unsent = search rules in
+          let zero : length c.writes.self.unsent ≡ 0 = ap length gone in
+          absurd (omega (arith, some, zero));
       continues = continues_then (g.P.Port.ledger c.args.port.now) (g.P.Port.ledger c.writes.port) (g.P.Port.ledger c.write.new.self) c.writes.invariant.continues c.write.ensures.cause.continues;
     }
 

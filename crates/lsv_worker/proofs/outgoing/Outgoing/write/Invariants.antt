@@ -1,4 +1,4 @@
-use Rattle.std.proofs.Common.{◌≡◌, ℕ, length}
+use Rattle.std.proofs.Common.{◌≡◌, ℕ, [], length}
 use Rattle.lsv_port.specs.Ledger.{Continues}
 use Rattle.lsv_port.specs.Port.{IsOpen}
 use Rattle.lsv_worker.specs.Outgoing.{Writes}
@@ -10,6 +10,7 @@ invariant-writes g l = record {
   here : g.P.Port.tells → IsOpen (g.P.Port.state l.port) l.link;
   voice : l.self.voice ≡ l.initial.self.voice;
   failed : g.P.Port.tells → ((g.P.Port.state l.port).link l.link).failed ≡ ((g.P.Port.state l.initial.port).link l.link).failed;
+  empty : g.P.Port.tells → l.initial.self.unsent ≡ [] → (l.self.unsent ≡ []) × (((g.P.Port.state l.port).link l.link).output ≡ ((g.P.Port.state l.initial.port).link l.link).output);
   continues : Continues (g.P.Port.ledger l.initial.port) (g.P.Port.ledger l.port);
 }
 

@@ -1,8 +1,9 @@
-use Rattle.std.proofs.Common.{◌≡◌, ◌<◌, ◌≤◌, ◌+◌, ◌++◌, ◌∷◌, [], ℕ, List, sym, ap, subst, ◌∙◌, arith, rules}
+use Rattle.std.proofs.Common.{◌≡◌, ◌<◌, ◌≤◌, ◌+◌, ◌++◌, ◌∷◌, [], ℕ, List, length, sym, ap, subst, ◌∙◌, arith, rules}
 use Rattle.std.specs.Vec.{vec_capacity, vec_len}
-use Rattle.lsv_worker.specs.Worker.{AreOfLanes}
+use Rattle.lsv_worker.specs.Worker.{AreOfLanes, open_in}
 use Rattle.lsv_worker.specs.declared.link.Link.{Link}
 use Rattle.lsv_worker.proofs.Notes.{lanes_push}
+use Rattle.lsv_worker.proofs.Passing.{open_push}
 use Rattle.lsv_worker.proofs.worker.Worker.admit.Goals as goal
 
 pub returns-in-Ok-clause-fit : goal.returns-in-Ok-clause-fit
@@ -15,5 +16,9 @@ returns-in-Ok-clause-fit c =
       some = c.requires.fit.some;
       few = c.requires.fit.few;
       room = omega (arith, c.push.ensures.upper_bound, room, len);
+      open_few =
+          let more = open_push c.args.self.now.links.items c.args.link in
+          let few = c.requires.few in
+          subst (λ (l : List Link). length (open_in l) ≤ 128) (sym pushed) (omega (arith, more, few));
       lanes = subst (AreOfLanes c.args.self.now.lanes) (sym pushed) (lanes_push c.args.self.now.lanes c.args.self.now.links.items c.args.link c.requires.lanes c.requires.fit.lanes);
     }

@@ -1,9 +1,11 @@
-use Rattle.std.proofs.Common.{◌≡◌, true, ℕ, List, sym, ap, subst, ◌∙◌, refl, rules}
+use Rattle.std.proofs.Common.{◌≡◌, ◌≤◌, true, ℕ, List, length, sym, ap, subst, ◌∙◌, refl, rules}
 use Rattle.lsv_port.specs.Port.{LinkState, Opens, TellsReadable, TellsStop, TellsWritable, Told, IsSame}
 use Rattle.lsv_port.specs.declared.port.Ready.{Ready}
 use Rattle.lsv_worker.specs.Worker.{AreOfLanes, Stands, setting}
 use Rattle.lsv_worker.specs.declared.link.Link.{Link}
 use Rattle.lsv_worker.proofs.Notes.{lanes_marked, readable_stands, stop_stands, woken_stands, writable_stands}
+use Rattle.lsv_worker.specs.Worker.{IsNoted, open_in}
+use Rattle.lsv_worker.proofs.Passing.{noted_marked, noted_same, open_marked}
 use Rattle.lsv_worker.proofs.worker.Worker.note.Goals as goal
 
 pub opened-requires : goal.opened-requires
@@ -31,6 +33,7 @@ returns-in-Readable-clause-fit g c = record {
   some = c.requires.fit.some;
   few = c.requires.fit.few;
   room = search rules;
+  open_few = let less = open_marked c.in-Readable.number c.args.self.now.links.items in subst (λ (l : List Link). length (open_in l) ≤ 128) (sym c.mark_table.ensures.marked) (subst (λ (n : ℕ). n ≤ 128) (sym less) c.requires.fit.open_few);
   lanes = subst (AreOfLanes c.args.self.now.lanes) (sym c.mark_table.ensures.marked) (lanes_marked c.args.self.now.lanes c.in-Readable.number c.args.self.now.links.items c.requires.fit.lanes);
 }
 
@@ -45,3 +48,15 @@ returns-in-Woken-clause-notes g c = λ told before jobs replies is h.
 pub returns-in-Stop-clause-notes : goal.returns-in-Stop-clause-notes
 returns-in-Stop-clause-notes g c = λ told before jobs replies is h.
     stop_stands (setting c.args.self.now) c.args.self.now.links.items before (g.P.Port.state c.args.port.now) jobs replies c.requires.going (subst (λ (r : Ready). Told r before (g.P.Port.state c.args.port.now)) c.in-Stop.is is) h
+
+pub returns-in-Readable-clause-noted : goal.returns-in-Readable-clause-noted
+returns-in-Readable-clause-noted g c = λ link has. subst (IsNoted link) (sym c.mark_table.ensures.marked) (noted_marked c.in-Readable.number link c.args.self.now.links.items has)
+
+pub returns-in-Writable-clause-noted : goal.returns-in-Writable-clause-noted
+returns-in-Writable-clause-noted g c = λ link has. noted_same link c.args.self.now.links.items has
+
+pub returns-in-Woken-clause-noted : goal.returns-in-Woken-clause-noted
+returns-in-Woken-clause-noted g c = λ link has. noted_same link c.args.self.now.links.items has
+
+pub returns-in-Stop-clause-noted : goal.returns-in-Stop-clause-noted
+returns-in-Stop-clause-noted g c = λ link has. noted_same link c.args.self.now.links.items has

@@ -3,6 +3,7 @@ use Rattle.lsv_worker.specs.Links.{reads_in}
 use Rattle.lsv_worker.specs.Worker.{Setting}
 use Rattle.lsv_worker.specs.declared.link.Phase.{Phase}
 use Rattle.lsv_worker.proofs.Ports.{blame_then, continues_then}
+use Rattle.lsv_worker.proofs.Passing.{held_late, rules_late}
 use Rattle.lsv_worker.proofs.Reading.{most_late, spared_late}
 use Rattle.lsv_worker.proofs.Going.{at_after, goes_after, reads_after, same_set, same_then}
 use Rattle.lsv_worker.proofs.worker.Worker.on.Goals as goal
@@ -39,3 +40,11 @@ returns-clause-reads g c = λ told l. most_late 16 ((g.P.Port.state c.args.port.
 
 pub returns-clause-laden : goal.returns-clause-laden
 returns-clause-laden g c = λ told going. spared_late c.pass.new.self.links.items (g.P.Port.state c.args.port.now) (g.P.Port.state c.note.new.port) (g.P.Port.state c.pass.new.port) (c.note.ensures.unread told) (c.pass.ensures.laden told going)
+
+pub returns-clause-held : goal.returns-clause-held
+returns-clause-held g c = λ told l has.
+    held_late c.pass.new.self l (g.P.Port.state c.args.port.now) (g.P.Port.state c.note.new.port) (g.P.Port.state c.pass.new.port) (g.I.Inbox.refused c.args.inbox.now) (g.I.Inbox.refused c.pass.new.inbox) (c.note.ensures.unread told) (c.pass.ensures.held told l has)
+
+pub returns-clause-rules : goal.returns-clause-rules
+returns-clause-rules g c = λ told.
+    rules_late c.pass.new.self.phase c.args.self.now.links.items c.note.new.self.links.items c.pass.new.self.links.items (g.P.Port.state c.args.port.now) (g.P.Port.state c.note.new.port) (g.P.Port.state c.pass.new.port) c.note.ensures.noted (c.note.ensures.unread told) (c.note.ensures.unwritten told) (c.pass.ensures.rules told)

@@ -1,7 +1,8 @@
-use Rattle.std.proofs.Common.{◌≡◌, refl, rules}
-use Rattle.lsv_worker.specs.Worker.{IsFresh, setting}
-use Rattle.lsv_worker.proofs.Reading.{unread_closed}
+use Rattle.std.proofs.Common.{◌≡◌, refl, rules, sym, subst}
+use Rattle.lsv_worker.specs.Worker.{IsFresh, IsNoted, setting}
+use Rattle.lsv_worker.proofs.Reading.{unread_closed, unwritten_closed}
 use Rattle.lsv_worker.proofs.Notes.{admitted_stands, opens_closed, refused_stands}
+use Rattle.lsv_worker.proofs.Passing.{noted_more, noted_same}
 use Rattle.lsv_worker.proofs.worker.Worker.opened.Goals as goal
 
 pub returns-then-is_crowded-clause-opens : goal.returns-then-is_crowded-clause-opens
@@ -36,3 +37,28 @@ returns-in_default-clause-unread g c = λ told. unread_closed c.args.number (g.P
 
 pub returns-clause-unread : goal.returns-clause-unread
 returns-clause-unread g c = λ told. unread_closed c.args.number (g.P.Port.state c.args.port.now) (g.P.Port.state c.close-2.new.self) (c.close-2.ensures.change told)
+
+pub returns-then-is_crowded-clause-unwritten : goal.returns-then-is_crowded-clause-unwritten
+returns-then-is_crowded-clause-unwritten g c = λ told. unwritten_closed c.args.number (g.P.Port.state c.args.port.now) (g.P.Port.state c.close.new.self) (c.close.ensures.change told)
+
+pub returns-in_default-clause-unwritten : goal.returns-in_default-clause-unwritten
+returns-in_default-clause-unwritten g c = λ told. unwritten_closed c.args.number (g.P.Port.state c.args.port.now) (g.P.Port.state c.close-in_default.new.self) (c.close-in_default.ensures.change told)
+
+pub returns-clause-unwritten : goal.returns-clause-unwritten
+returns-clause-unwritten g c = λ told. unwritten_closed c.args.number (g.P.Port.state c.args.port.now) (g.P.Port.state c.close-2.new.self) (c.close-2.ensures.change told)
+
+pub returns-then-is_crowded-clause-noted : goal.returns-then-is_crowded-clause-noted
+returns-then-is_crowded-clause-noted g c = λ link has. noted_same link c.args.self.now.links.items has
+
+pub returns-in_default-clause-noted : goal.returns-in_default-clause-noted
+returns-in_default-clause-noted g c = λ link has. noted_same link c.args.self.now.links.items has
+
+pub returns-then-admit-clause-noted : goal.returns-then-admit-clause-noted
+returns-then-admit-clause-noted g c = λ link has.
+    let admits = c.admit.ensures.yes c.if-admit.true in
+    subst (IsNoted link) (sym admits.links) (noted_more link c.in-Some.link c.args.self.now.links.items has)
+
+pub returns-clause-noted : goal.returns-clause-noted
+returns-clause-noted g c = λ link has.
+    let same = c.admit.ensures.no c.if-admit.false in
+    subst (IsNoted link) (sym same.1) (noted_same link c.args.self.now.links.items has)

@@ -1,8 +1,10 @@
-use Rattle.std.proofs.Common.{◌≡◌, ◌≢◌, ◌<◌, ◌++◌, ◌∷◌, [], ℕ, List, None, Some, length, get_or, refl, sym, ap, subst, ◌∙◌, rules}
+use Rattle.std.proofs.Common.{◌≡◌, ◌≢◌, ◌<◌, ◌++◌, ◌∷◌, [], ℕ, List, None, Some, length, get_or, refl, sym, ap, subst, ◌∙◌, rules, arith}
 use Rattle.lsv_session.specs.declared.connection.ConnId.{ConnId}
 use Rattle.lsv_worker.specs.Worker.{IsTable, Stands, conn_at, setting}
 use Rattle.lsv_worker.specs.declared.link.Link.{Link}
 use Rattle.lsv_worker.specs.declared.link.Phase.{Phase}
+use Rattle.lsv_worker.proofs.Passing.{open_remain, remain_here, rules_all, there_at}
+use Rattle.lsv_worker.proofs.Reading.{unread_here, unwritten_here}
 use Rattle.lsv_worker.proofs.Taking.{not_in, stands_dropped}
 use Rattle.lsv_worker.proofs.worker.Worker.take.Goals as goal
 
@@ -25,7 +27,21 @@ returns-in_default-clause-takes g c = λ told jobs replies h.
     (not_in c.args.reply.conn.seq c.args.self.now.links.items none) h
 
 pub returns-clause-fit : goal.returns-clause-fit
-returns-clause-fit g c = record { first = c.requires.fit.first; some = c.requires.fit.some; few = c.requires.fit.few; room = search rules; lanes = c.take_in_table.ensures.lanes c.args.self.now.lanes c.requires.fit.lanes }
+returns-clause-fit g c = record { first = c.requires.fit.first; some = c.requires.fit.some; few = c.requires.fit.few; room = search rules; lanes = c.take_in_table.ensures.lanes c.args.self.now.lanes c.requires.fit.lanes; open_few = let less = open_remain c.args.self.now.links.items c.take_in_table.new.links.items c.take_in_table.ensures.remains in let few = c.requires.fit.open_few in omega (arith, less, few) }
 
 pub returns-clause-owed : goal.returns-clause-owed
 returns-clause-owed g c = λ told holds l owed. holds l (c.take_in_table.ensures.owes told l owed)
+
+pub returns-clause-rules : goal.returns-clause-rules
+returns-clause-rules g c = λ told.
+    rules_all c.args.self.now.phase c.args.self.now.links.items c.take_in_table.new.links.items (g.P.Port.state c.args.port.now) (g.P.Port.state c.take_in_table.new.port) c.take_in_table.ensures.remains (c.take_in_table.ensures.unread told) (c.take_in_table.ensures.unwritten told)
+
+pub returns-in_default-clause-rules : goal.returns-in_default-clause-rules
+returns-in_default-clause-rules g c = λ told.
+    rules_all c.args.self.now.phase c.args.self.now.links.items c.args.self.now.links.items (g.P.Port.state c.args.port.now) (g.P.Port.state c.args.port.now) (remain_here c.args.self.now.links.items) (unread_here (g.P.Port.state c.args.port.now)) (unwritten_here (g.P.Port.state c.args.port.now))
+
+pub returns-clause-ignored : goal.returns-clause-ignored
+returns-clause-ignored g c = λ body last there.
+    let within : c.in-Some.place < length c.args.self.now.links.items = subst (λ (l : List Link). c.in-Some.place < length l) c.deref.ensures.value (c.place_of.ensures.found c.in-Some.place c.in-Some.is) in
+    c.take_in_table.ensures.ignored body last (λ d. there_at c.args.reply.conn.seq c.args.self.now.links.items c.in-Some.place d within
+    (subst (λ (l : List Link). (get_or l c.in-Some.place d).conn.seq ≡ c.args.reply.conn.seq) c.deref.ensures.value (c.place_of.ensures.is c.in-Some.place d c.in-Some.is)) there)
