@@ -2,7 +2,7 @@
 use Rattle.std.proofs.Common.{◌≡◌, ◌≢◌, ◌⊎◌, ℕ, zero, suc, ◌+◌, ◌<◌, ◌≤◌, ◌==◌, Bool, true, false, List, [], ◌∷◌, ◌++◌, length, map, get_or, set, get_or-set_same, get_or-set_other, refl, sym, ap, subst, ◌∙◌, inl, inr, ⊎_elim, arith}
 use Rattle.std.specs.Prelude.{if◌then◌else◌, not}
 use Rattle.std.specs.List.{Contains}
-use Rattle.std.proofs.lemmas.List.Elements.{Contains-append_cases, Contains-append_left}
+use Rattle.std.proofs.lemmas.List.Elements.{Contains-append_cases, Contains-append_left, Contains-append_right}
 use Rattle.lsv_port.specs.Port.{IsOpen, LinkState, PortState}
 use Rattle.lsv_session.specs.Transcript.{answers, bodies_of}
 use Rattle.lsv_session.specs.declared.job.Job.{Job}
@@ -12,7 +12,8 @@ use Rattle.lsv_worker.specs.Outgoing.{Alone}
 use Rattle.lsv_worker.specs.Links.{IsPassed, IsSent, KeepsRules, LinkStands, ReadsNone, Remains, WritesNone, is_done}
 use Rattle.lsv_worker.specs.Worker.{AllRemain, AreClosed, AreLast, ArePassed, HasLater, IsHeldFor, IsIn, IsMade, IsNoted, IsPaused, IsThere, IsWritten, KeepRules, Setting, Stands, marked, open_in, owed_if, undone}
 use Rattle.lsv_worker.specs.declared.link.Link.{Link}
-use Rattle.lsv_worker.specs.declared.link.Pause.TheVariants.{Calm}
+use Rattle.lsv_worker.specs.declared.link.Pause.{Pause}
+use Rattle.lsv_worker.specs.declared.link.Pause.TheVariants.{Calm, Full, Laden, Tired, Starved}
 use Rattle.lsv_worker.specs.declared.link.Phase.{Phase}
 use Rattle.lsv_worker.specs.declared.outgoing.Voice.TheVariants.{Speaking}
 use Rattle.lsv_worker.specs.declared.worker.Worker.{Worker}
@@ -55,8 +56,8 @@ kept_if true x link links has = contains_next x link links has
 kept_if false x link links has = has
 
 kept_first : (b : Bool) (x link : Link) (links : List Link) → b ≡ true → x ≡ link → Contains (if b then x ∷ links else links) link
-kept_first true x link links yes is = contains_first x link links is
-kept_first false x link links yes is = absurd cc
+kept_first true x link links e is = contains_first x link links is
+kept_first false x link links e is = absurd cc
 
 pub contains_undone : (link : Link) (links : List Link) → is_done link ≡ false → Contains links link → Contains (undone links) link
 contains_undone link [] more has = absurd (none_contains link has)
@@ -75,6 +76,44 @@ paused_more links held i link within is paused all m has =
     ⊎_elim (λ was. all m was)
     (λ now. record { link = link; is = (i, within, sym is); number = one_at link.number m now.0 now.1 now.2; paused = paused })
     (Contains-append_cases held (link.number ∷ []) m has)
+
+calm_or_not : (p : Pause) → (p ≡ Calm) ⊎ (p ≢ Calm)
+calm_or_not Calm = inl refl
+calm_or_not Full = inr (λ (no : Full ≡ Calm). cc)
+calm_or_not Laden = inr (λ (no : Laden ≡ Calm). cc)
+calm_or_not Tired = inr (λ (no : Tired ≡ Calm). cc)
+calm_or_not Starved = inr (λ (no : Starved ≡ Calm). cc)
+
+held_more : (held : List ℕ) (n m : ℕ) → Contains held m → Contains (held ++ n ∷ []) m
+held_more held n m has = Contains-append_left held (n ∷ []) m has
+
+held_last : (held : List ℕ) (n : ℕ) → Contains (held ++ n ∷ []) n
+held_last held n = Contains-append_right held (n ∷ []) n (0, omega arith, refl)
+
+-- the links below this one whose reading stopped are held
+abbrev pub HeldBelow : List Link → List ℕ → ℕ → Type 0
+HeldBelow links held i = (j : ℕ) (d : Link) → j < i → (get_or links j d).pause ≢ Calm → Contains held (get_or links j d).number
+
+held_here : (links : List Link) (after : List ℕ) (i : ℕ) (link : Link) → i < length links → link ≡ get_or links i link → ((m : ℕ) → m ≡ link.number → link.pause ≢ Calm → Contains after m) → (j : ℕ) (d : Link) → j ≡ i → (get_or links j d).pause ≢ Calm → Contains after (get_or links j d).number
+held_here links after i link within is now j d at paused =
+    let same : get_or links j d ≡ link = ap (λ (k : ℕ). get_or links k d) at ∙ same_default links i d link within ∙ sym is in
+    now (get_or links j d).number (ap (λ (l : Link). l.number) same) (λ e. paused (ap (λ (l : Link). l.pause) same ∙ e))
+
+pub held_on : (links : List Link) (before after : List ℕ) (i : ℕ) (link : Link) → i < length links → link ≡ get_or links i link → (link.pause ≡ Calm → after ≡ before) → (link.pause ≢ Calm → after ≡ before ++ link.number ∷ []) → HeldBelow links before i → HeldBelow links after (i + 1)
+held_on links before after i link within is calm held below j d under paused =
+    ⊎_elim
+    (λ at. held_here links after i link within is (λ m e stopped. subst (λ (h : List ℕ). Contains h m) (sym (held stopped)) (subst (λ (n : ℕ). Contains (before ++ link.number ∷ []) n) (sym e) (held_last before link.number))) j d at paused)
+    (λ ne.
+    let low : j < i = omega arith in
+    let was : Contains before (get_or links j d).number = below j d low paused in
+    ⊎_elim (λ e. subst (λ (h : List ℕ). Contains h (get_or links j d).number) (sym (calm e)) was)
+    (λ stopped. subst (λ (h : List ℕ). Contains h (get_or links j d).number) (sym (held stopped)) (held_more before link.number (get_or links j d).number was)) (calm_or_not link.pause))
+    (same_or_not j i)
+
+pub paused_on : (links : List Link) (before after : List ℕ) (i : ℕ) (link : Link) → i < length links → link ≡ get_or links i link → (link.pause ≡ Calm → after ≡ before) → (link.pause ≢ Calm → after ≡ before ++ link.number ∷ []) → ((m : ℕ) → Contains before m → IsPaused links m) → (m : ℕ) → Contains after m → IsPaused links m
+paused_on links before after i link within is calm held all m has =
+    ⊎_elim (λ e. all m (subst (λ (h : List ℕ). Contains h m) (calm e) has))
+    (λ stopped. paused_more links before i link within is stopped all m (subst (λ (h : List ℕ). Contains h m) (held stopped) has)) (calm_or_not link.pause)
 
 pub paused_none : (links : List Link) (m : ℕ) → Contains [] m → IsPaused links m
 paused_none links m has = absurd (let low : has.0 < 0 = has.1 in omega arith)

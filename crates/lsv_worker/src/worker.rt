@@ -1,6 +1,6 @@
 //! A worker over its port.
 
-ghost use Rattle.std.specs.Prelude.{◌-◌, ◌^◌, ◌≡◌, ◌≢◌, ◌⊎◌, ℕ, ◌<◌, ◌≤◌, ◌==◌, ◌++◌, ◌∷◌, List, [], length, IsTrue, IfOk, Some, None, true, false, slice_index_or, vec_capacity, vec_len};
+ghost use Rattle.std.specs.Prelude.{◌+◌, ◌-◌, ◌^◌, ◌≡◌, ◌≢◌, ◌⊎◌, ℕ, ◌<◌, ◌≤◌, ◌==◌, ◌++◌, ◌∷◌, List, [], length, IsTrue, IfOk, Some, None, true, false, slice_index_or, vec_capacity, vec_len};
 ghost use Rattle.std.specs.List.{Contains};
 ghost use Rattle.lsv_port.specs.Ledger.{Continues};
 ghost use Rattle.lsv_port.specs.Port.{IsOpen, Opens, PortState, Told};
@@ -86,9 +86,20 @@ fn collect(links: &[Link], held: &mut Vec<u32>)
 {
     held.clear();
     for link in links {
-        if link.pause != Pause::Calm {
-            let _ = held.push(link.number);
-        }
+        hold(link, held);
+    }
+}
+
+/// The number of a link whose reading stopped is added.
+fn hold(link: &Link, held: &mut Vec<u32>)
+    requires room { vec_len held.old < vec_capacity held.old }
+    ensures calm { link.now.pause ≡ Pause.Calm → held.new.items ≡ held.old.items }
+    ensures paused { link.now.pause ≢ Pause.Calm → held.new.items ≡ held.old.items ++ link.now.number ∷ [] }
+    ensures few { vec_len held.new ≤ vec_len held.old + 1 }
+    ensures room { vec_capacity held.old ≤ vec_capacity held.new }
+{
+    if link.pause != Pause::Calm {
+        let _ = held.push(link.number);
     }
 }
 

@@ -99,16 +99,16 @@ pub returns-in-Failed-clause-output : goal.returns-in-Failed-clause-output
 returns-in-Failed-clause-output g c = λ told. ap (λ (x : LinkState). x.output) (c.fail.ensures.change told).this ∙ ap (λ (x : LinkState). x.output) (c.in-Failed.ensures.change told).this
 
 pub returns-then-is_hearing-clause-sent : goal.returns-then-is_hearing-clause-sent
-returns-then-is_hearing-clause-sent g c = λ told was. sent_same c.args.self.now (record c.args.self.now { incoming = c.hear.new.self }) _ _ (λ e. e) refl (ap (λ (x : LinkState). x.full) (c.in-Bytes.ensures.change told).this) was
+returns-then-is_hearing-clause-sent g c = λ told was. sent_same c.args.self.now (record c.args.self.now { incoming = c.hear.new.self }) ((g.P.Port.state c.args.port.now).link c.args.self.now.number) ((g.P.Port.state c.read.new.self).link c.args.self.now.number) (λ e. e) refl (ap (λ (x : LinkState). x.full) (c.in-Bytes.ensures.change told).this) was
 
 pub returns-in-Bytes-clause-sent : goal.returns-in-Bytes-clause-sent
-returns-in-Bytes-clause-sent g c = λ told was. sent_same c.args.self.now c.args.self.now _ _ (λ e. e) refl (ap (λ (x : LinkState). x.full) (c.in-Bytes.ensures.change told).this) was
+returns-in-Bytes-clause-sent g c = λ told was. sent_same c.args.self.now c.args.self.now ((g.P.Port.state c.args.port.now).link c.args.self.now.number) ((g.P.Port.state c.read.new.self).link c.args.self.now.number) (λ e. e) refl (ap (λ (x : LinkState). x.full) (c.in-Bytes.ensures.change told).this) was
 
 pub returns-in-NotYet-clause-sent : goal.returns-in-NotYet-clause-sent
-returns-in-NotYet-clause-sent g c = λ told was. sent_same c.args.self.now (record c.args.self.now { owed = false }) _ _ (λ e. e) refl (ap (λ (x : LinkState). x.full) (c.in-NotYet.ensures.change told).this) was
+returns-in-NotYet-clause-sent g c = λ told was. sent_same c.args.self.now (record c.args.self.now { owed = false }) ((g.P.Port.state c.args.port.now).link c.args.self.now.number) ((g.P.Port.state c.read.new.self).link c.args.self.now.number) (λ e. e) refl (ap (λ (x : LinkState). x.full) (c.in-NotYet.ensures.change told).this) was
 
 pub returns-in-End-clause-sent : goal.returns-in-End-clause-sent
-returns-in-End-clause-sent g c = λ told was. sent_same c.args.self.now (record c.args.self.now { owed = false; incoming = c.end.new.self }) _ _ (λ e. e) refl (ap (λ (x : LinkState). x.full) (c.in-End.ensures.change told).this) was
+returns-in-End-clause-sent g c = λ told was. sent_same c.args.self.now (record c.args.self.now { owed = false; incoming = c.end.new.self }) ((g.P.Port.state c.args.port.now).link c.args.self.now.number) ((g.P.Port.state c.read.new.self).link c.args.self.now.number) (λ e. e) refl (ap (λ (x : LinkState). x.full) (c.in-End.ensures.change told).this) was
 
 pub returns-in-Failed-clause-sent : goal.returns-in-Failed-clause-sent
-returns-in-Failed-clause-sent g c = λ told was. sent_closed c.fail.new.self _ c.fail.ensures.is.live
+returns-in-Failed-clause-sent g c = λ told was. sent_closed c.fail.new.self ((g.P.Port.state c.fail.new.port).link c.args.self.now.number) c.fail.ensures.is.live

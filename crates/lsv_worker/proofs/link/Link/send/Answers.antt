@@ -38,7 +38,7 @@ pub returns-clause-remains : goal.returns-clause-remains
 returns-clause-remains g c = remains_so c.args.self.now (record c.args.self.now { outgoing = c.write.new.self }) refl refl (λ e. e) (keeps_here c.args.self.now.incoming) c.write.ensures.mute
 
 pub returns-then-write-clause-written : goal.returns-then-write-clause-written
-returns-then-write-clause-written g c = λ told. sent_closed c.fail.new.self _ c.fail.ensures.is.live
+returns-then-write-clause-written g c = λ told. sent_closed c.fail.new.self ((g.P.Port.state c.fail.new.port).link c.args.self.now.number) c.fail.ensures.is.live
 
 pub returns-then-write-clause-mute : goal.returns-then-write-clause-mute
 returns-then-write-clause-mute g c = λ told empty. ap (λ (x : LinkState). x.output) (c.fail.ensures.change told).this ∙ c.write.ensures.empty told empty

@@ -1,0 +1,13 @@
+use Rattle.std.proofs.Common.{◌≡◌, ◌<◌, ◌≤◌, length, arith, sym}
+use Rattle.lsv_worker.proofs.Passing.{held_on, paused_on}
+use Rattle.lsv_worker.proofs.worker.collect.Goals as goal
+
+pub loop-link-preserved : goal.loop-link-preserved
+loop-link-preserved c =
+    let here : c.loop-link.link-index < length c.args.links.now = omega arith in
+    record {
+      held = held_on c.args.links.now c.loop-link.held.items c.hold.new.held.items c.loop-link.link-index c.link-item.result here c.link-item.is c.hold.ensures.calm c.hold.ensures.paused c.loop-link.invariant.held;
+      paused = paused_on c.args.links.now c.loop-link.held.items c.hold.new.held.items c.loop-link.link-index c.link-item.result here c.link-item.is c.hold.ensures.calm c.hold.ensures.paused c.loop-link.invariant.paused;
+      room = omega (arith, c.loop-link.invariant.room, c.hold.ensures.few);
+      capacity = omega (arith, c.loop-link.invariant.capacity, c.hold.ensures.room);
+    }
