@@ -1,13 +1,11 @@
 -- A worker that has made no connections.
-use Rattle.std.proofs.Common.{◌≡◌, ℕ, ◌<◌, ◌≤◌, false, None, List, [], refl, sym, ap, subst, ◌∙◌, arith}
+use Rattle.std.proofs.Common.{◌≡◌, ℕ, ◌<◌, ◌≤◌, false, None, List, [], refl, sym, subst, ◌∙◌, arith}
 use Rattle.std.specs.List.{Contains}
 use Rattle.lsv_port.specs.Port.{IsOpen, PortState}
-use Rattle.lsv_session.specs.declared.job.Job.{Job}
 use Rattle.lsv_worker.specs.Worker.{AreLast, IsMade, Represents, conn_at, setting}
 use Rattle.lsv_worker.specs.declared.incoming.Stage.TheVariants.{Hearing}
 use Rattle.lsv_worker.specs.declared.link.Link.{Link}
 use Rattle.lsv_worker.specs.declared.link.Pause.TheVariants.{Calm}
-use Rattle.lsv_worker.specs.declared.link.Phase.{Phase}
 use Rattle.lsv_worker.specs.declared.link.Phase.TheVariants.{Going, Stopping}
 use Rattle.lsv_worker.specs.declared.outgoing.Voice.TheVariants.{Speaking}
 use Rattle.lsv_worker.specs.declared.worker.Worker.{Worker}

@@ -1,16 +1,16 @@
 -- From bytes to jobs that wait.
-use Rattle.std.proofs.Common.{◌≡◌, ℕ, Bool, true, false, Ok, Err, Option, Some, None, List, [], ◌∷◌, ◌++◌, refl, sym, ap, subst, ◌∙◌, append_assoc}
+use Rattle.std.proofs.Common.{◌≡◌, ℕ, true, false, Ok, Option, Some, None, List, [], ◌∷◌, ◌++◌, refl, sym, ap, subst, ◌∙◌, append_assoc}
 use Rattle.std.proofs.lemmas.List.{append-nil}
-use Rattle.lsv_wire.specs.Frame.{IsPartial, IsTooLong}
+use Rattle.lsv_wire.specs.Frame.{IsPartial}
 use Rattle.lsv_msg.specs.Messages.{client_in}
 use Rattle.lsv_msg.specs.declared.messages.ClientMessage.{ClientMessage}
-use Rattle.lsv_session.specs.Transcript.{AreJobs, AreAllJobs, AreFirst, HasCut, InFront}
+use Rattle.lsv_session.specs.Transcript.{AreJobs, AreAllJobs, HasCut, InFront}
 use Rattle.lsv_session.specs.declared.job.Body.{Body}
 use Rattle.lsv_session.specs.declared.job.Body.TheVariants.{Msg, Bad, Gone}
 use Rattle.lsv_session.specs.declared.job.Fault.{Fault}
 use Rattle.lsv_session.specs.declared.job.Fault.TheVariants.{NoMem}
 use Rattle.lsv_session.proofs.Jobs.{cut_piece, cut_message, cut_rest, longer, one_list}
-use Rattle.lsv_worker.specs.Lanes.{Routed, Routing, is_hello}
+use Rattle.lsv_worker.specs.Lanes.{Routed, Routing}
 use Rattle.lsv_worker.specs.Incoming.{AreBodies, Begins, Heard, Hears, IsWhole, Marks, SameWay, cuts, drops, has_left, hears, kept, last_words, pending, ready, tail, was_shut}
 use Rattle.lsv_worker.specs.declared.incoming.Incoming.{Incoming}
 use Rattle.lsv_worker.specs.declared.incoming.Stage.{Stage}

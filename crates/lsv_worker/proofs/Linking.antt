@@ -1,5 +1,5 @@
 -- Steps of one connection.
-use Rattle.std.proofs.Common.{◌≡◌, ◌≢◌, ◌⊎◌, ℕ, zero, suc, ◌+◌, ◌<◌, ◌≤◌, Bool, true, false, List, [], ◌∷◌, ◌++◌, length, take, map, refl, sym, ap, subst, ◌∙◌, append_assoc, inl, inr, ⊎_elim, arith}
+use Rattle.std.proofs.Common.{◌≡◌, ◌⊎◌, ℕ, zero, suc, ◌+◌, ◌<◌, ◌≤◌, Bool, true, false, List, [], ◌∷◌, ◌++◌, take, map, refl, sym, ap, subst, ◌∙◌, append_assoc, inl, inr, ⊎_elim, arith}
 use Rattle.std.specs.List.{All}
 use Rattle.std.proofs.lemmas.List.{append-nil, map-append}
 use Rattle.std.proofs.lemmas.List.Elements.{All-append, All-take}
@@ -20,7 +20,7 @@ use Rattle.lsv_session.specs.declared.job.Job.{Job}
 use Rattle.lsv_session.specs.declared.reply.Reply.{Reply}
 use Rattle.lsv_worker.specs.Lanes.{job_of}
 use Rattle.lsv_worker.specs.Incoming.{Hears, KeepsWant, Marks, Puts, SameWay, TellsWant, hears}
-use Rattle.lsv_worker.specs.Outgoing.{Alone, HasEarlyShut, HasShut, SameInput, Speaks, TalksOn, Writes}
+use Rattle.lsv_worker.specs.Outgoing.{Alone, HasEarlyShut, HasShut, Speaks, TalksOn, Writes}
 use Rattle.lsv_worker.specs.Links.{Closes, Fails, LetsEnd, LinkStands, LinkStep, MayEnd, Takes, WasRead, WasReadAtMost, reads_in, repeated}
 use Rattle.lsv_worker.specs.declared.incoming.Incoming.{Incoming}
 use Rattle.lsv_worker.specs.declared.outgoing.Outgoing.{Outgoing}
@@ -28,7 +28,6 @@ use Rattle.lsv_worker.specs.declared.outgoing.Voice.TheVariants as voices
 use Rattle.lsv_worker.specs.declared.link.Link.{Link}
 use Rattle.lsv_worker.specs.declared.link.Phase.{Phase}
 use Rattle.lsv_worker.specs.declared.link.Phase.TheVariants.{Going, Stopping, Failed, Stopped}
-use Rattle.lsv_worker.proofs.Cutting.{marked}
 use Rattle.lsv_worker.proofs.Putting.{hears_ext, same_self}
 use Rattle.lsv_worker.proofs.Ports.{alone_change, alone_here, alone_then}
 

@@ -5,7 +5,7 @@ use Rattle.lsv_session.specs.declared.job.Job.{Job}
 use Rattle.std.specs.Prelude.{length, ◌+◌}
 use Rattle.std.specs.List.{AllByRecursion}
 use Rattle.std.proofs.lemmas.List.{length-append}
-use Rattle.lsv_worker.specs.Memory.{IsOrderly, KeepsOrder, count_in, jobs_in, waiting}
+use Rattle.lsv_worker.specs.Memory.{KeepsOrder, count_in, jobs_in, waiting}
 use Rattle.lsv_worker.specs.declared.memory.MemInbox.{MemInbox}
 
 pub lane_put : (lane : ℕ) (old new : List Job) (job : Job) → lane < 1 → new ≡ old ++ job ∷ [] → jobs_in lane new ≡ jobs_in lane old ++ job ∷ []

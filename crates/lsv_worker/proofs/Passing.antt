@@ -4,12 +4,12 @@ use Rattle.std.specs.Prelude.{if◌then◌else◌, not}
 use Rattle.std.specs.List.{Contains}
 use Rattle.std.proofs.lemmas.List.Elements.{Contains-append_cases, Contains-append_left, Contains-append_right}
 use Rattle.lsv_port.specs.Port.{IsOpen, LinkState, PortState}
-use Rattle.lsv_session.specs.Transcript.{answers, bodies_of}
+use Rattle.lsv_session.specs.Transcript.{answers}
 use Rattle.lsv_session.specs.declared.job.Job.{Job}
 use Rattle.lsv_session.specs.declared.reply.Reply.{Reply}
 use Rattle.lsv_worker.specs.Incoming.{has_left}
 use Rattle.lsv_worker.specs.Outgoing.{Alone}
-use Rattle.lsv_worker.specs.Links.{IsPassed, IsSent, KeepsRules, LinkStands, ReadsNone, Remains, WritesNone, is_done}
+use Rattle.lsv_worker.specs.Links.{IsPassed, IsSent, KeepsRules, ReadsNone, Remains, WritesNone, is_done}
 use Rattle.lsv_worker.specs.Worker.{AllRemain, AreClosed, AreLast, ArePassed, HasLater, IsHeldFor, IsIn, IsMade, IsNoted, IsPaused, IsThere, IsWritten, KeepRules, Setting, Stands, marked, open_in, owed_if, undone}
 use Rattle.lsv_worker.specs.declared.link.Link.{Link}
 use Rattle.lsv_worker.specs.declared.link.Pause.{Pause}

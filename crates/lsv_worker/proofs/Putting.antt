@@ -1,5 +1,5 @@
 -- Jobs that are put to a lane.
-use Rattle.std.proofs.Common.{◌≡◌, ◌≢◌, ◌⊎◌, ℕ, ◌<◌, ◌==◌, Bool, true, false, Option, Some, None, List, [], ◌∷◌, ◌++◌, map, refl, sym, ap, subst, ◌∙◌, append_assoc, inl, inr, ⊎_elim, arith}
+use Rattle.std.proofs.Common.{◌≡◌, ◌≢◌, ◌⊎◌, ℕ, ◌==◌, Bool, true, false, Option, Some, None, List, [], ◌∷◌, ◌++◌, map, refl, sym, ap, subst, ◌∙◌, append_assoc, inl, inr, ⊎_elim, arith}
 use Rattle.std.specs.Prelude.{if◌then◌else◌, ◌&&◌}
 use Rattle.std.specs.Option.{unwrap_or}
 use Rattle.std.proofs.lemmas.Bool.{cases_order}
@@ -8,16 +8,16 @@ use Rattle.std.proofs.lemmas.List.{append-nil, map-append}
 use Rattle.lsv_session.specs.Connections.{same}
 use Rattle.lsv_session.specs.declared.connection.ConnId.{ConnId}
 use Rattle.lsv_session.specs.declared.job.Body.{Body}
-use Rattle.lsv_session.specs.declared.job.Body.TheVariants.{Msg, Bad, Gone}
+use Rattle.lsv_session.specs.declared.job.Body.TheVariants.{Bad, Gone}
 use Rattle.lsv_session.specs.declared.job.Fault.TheVariants.{NoMem}
 use Rattle.lsv_session.specs.declared.job.Job.{Job}
-use Rattle.lsv_worker.specs.Lanes.{Routed, Routing, job_of, lane_of, lane_on, lane_or_home, share}
+use Rattle.lsv_worker.specs.Lanes.{Routed, Routing, job_of, lane_of, lane_or_home, share}
 use Rattle.lsv_worker.specs.Incoming.{AreBodies, Hears, Marks, Puts, SameWay, has_left, hears, kept, pending, ready, tail, was_shut}
 use Rattle.lsv_worker.specs.declared.incoming.Incoming.{Incoming}
 use Rattle.lsv_worker.specs.declared.incoming.Stage.{Stage}
-use Rattle.lsv_worker.specs.declared.incoming.Stage.TheVariants.{Hearing, Ending, Starving, Leaving, Left}
+use Rattle.lsv_worker.specs.declared.incoming.Stage.TheVariants.{Starving, Leaving, Left}
 use Rattle.lsv_worker.specs.declared.incoming.Why.{Why}
-use Rattle.lsv_worker.specs.declared.incoming.Why.TheVariants.{Ended, Refused, Shut, Starved}
+use Rattle.lsv_worker.specs.declared.incoming.Why.TheVariants.{Starved}
 use Rattle.lsv_worker.proofs.Routes.{routed_decided, share_add}
 
 pub same_or_not : (j i : ℕ) → (j ≡ i) ⊎ (j ≢ i)

@@ -1,11 +1,10 @@
 -- The lane of a connection, as its jobs come.
 use Rattle.std.proofs.Common.{◌≡◌, ℕ, ◌==◌, Bool, true, false, Option, Some, None, List, [], ◌∷◌, ◌++◌, refl, sym, ap, subst, ◌∙◌, append_assoc}
-use Rattle.std.specs.Prelude.{if◌then◌else◌, ◌&&◌, is_none}
-use Rattle.std.proofs.lemmas.List.{append-nil}
+use Rattle.std.specs.Prelude.{if◌then◌else◌}
 use Rattle.lsv_session.specs.declared.job.Body.{Body}
-use Rattle.lsv_session.specs.declared.job.Body.TheVariants.{Msg, Bad, Gone}
+use Rattle.lsv_session.specs.declared.job.Body.TheVariants.{Bad, Gone}
 use Rattle.lsv_session.specs.declared.job.Fault.TheVariants.{NoMem}
-use Rattle.lsv_worker.specs.Lanes.{Routed, Routing, is_hello, lane_by, lane_of, lane_on, share}
+use Rattle.lsv_worker.specs.Lanes.{Routed, Routing, is_hello, lane_by, lane_of, share}
 use Rattle.lsv_worker.specs.Incoming.{kept}
 
 first_more : (h : Bool) (l m n : ℕ) → (if h then None else Some l) ≡ Some n → Some (if h then m else l) ≡ Some n

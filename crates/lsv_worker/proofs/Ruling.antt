@@ -1,10 +1,9 @@
 -- The rules of one connection over a call.
-use Rattle.std.proofs.Common.{◌≡◌, ◌≢◌, ◌⊎◌, ℕ, ◌+◌, ◌<◌, ◌≤◌, ◌||◌, not, Bool, true, false, List, [], ◌++◌, length, length-append, refl, sym, ap, subst, ◌∙◌, inl, inr, ⊎_elim, arith}
-use Rattle.lsv_words.specs.Causes.{HasRisen}
+use Rattle.std.proofs.Common.{◌≡◌, ◌≢◌, ◌⊎◌, ℕ, ◌+◌, ◌≤◌, ◌||◌, not, Bool, true, false, List, [], ◌++◌, length, length-append, refl, sym, ap, subst, ◌∙◌, inl, inr, ⊎_elim, arith}
 use Rattle.lsv_port.specs.Port.{LinkState, PortState}
-use Rattle.lsv_worker.specs.Incoming.{KeepsWant, WasFull, starves}
+use Rattle.lsv_worker.specs.Incoming.{KeepsWant, starves}
 use Rattle.lsv_worker.specs.Lanes.{lane_or_home}
-use Rattle.lsv_worker.specs.Links.{IsPassed, IsSent, KeepsRules, PauseIsFor, ReadsOn, ReasonOf, Remains, SameSides, WasRead, is_starved, repeated}
+use Rattle.lsv_worker.specs.Links.{IsPassed, IsSent, KeepsRules, PauseIsFor, ReadsOn, ReasonOf, Remains, SameSides, is_starved, repeated}
 use Rattle.lsv_worker.specs.Outgoing.{PutOf, Writes, kept_up}
 use Rattle.lsv_worker.specs.declared.link.Link.{Link}
 use Rattle.lsv_worker.specs.declared.link.Pause.{Pause}

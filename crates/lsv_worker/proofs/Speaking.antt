@@ -1,17 +1,15 @@
 -- The bytes that are put on a link.
-use Rattle.std.proofs.Common.{◌≡◌, ◌≢◌, ◌⊎◌, ℕ, ◌≤◌, Bool, true, false, List, [], ◌∷◌, ◌++◌, length, take, drop, refl, sym, ap, subst, ◌∙◌, append_assoc}
+use Rattle.std.proofs.Common.{◌≡◌, ◌≢◌, ℕ, ◌≤◌, List, [], ◌∷◌, ◌++◌, length, take, drop, refl, sym, ap, subst, ◌∙◌, append_assoc}
 use Rattle.std.proofs.lemmas.List.{append-nil, take-append-drop}
 use Rattle.std.proofs.Math.Seq.{drop-nil}
 use Rattle.lsv_words.specs.Pieces.{IsPrefix}
-use Rattle.lsv_port.specs.Ledger.{Continues, PortLedger}
 use Rattle.lsv_port.specs.Port.{Changes, LinkState, PortState, after_write}
-use Rattle.lsv_port.specs.declared.port.Gave.{Gave}
 use Rattle.lsv_port.specs.declared.port.Gave.TheVariants as gave
-use Rattle.lsv_worker.specs.Outgoing.{Alone, PutOf, SameInput, Speaks, Writes}
+use Rattle.lsv_worker.specs.Outgoing.{PutOf, SameInput, Speaks, Writes}
 use Rattle.lsv_worker.specs.declared.outgoing.Outgoing.{Outgoing}
 use Rattle.lsv_worker.specs.declared.outgoing.Voice.{Voice}
 use Rattle.lsv_worker.specs.declared.outgoing.Voice.TheVariants.{Speaking, Failed, Starved, Over}
-use Rattle.lsv_worker.proofs.Ports.{alone_change, alone_here, alone_then, input_here, input_then}
+use Rattle.lsv_worker.proofs.Ports.{alone_change, alone_here, alone_then, input_here}
 
 muted : (why : Voice) (output answers : List ℕ) → why ≢ Speaking → IsPrefix output answers → PutOf why [] output answers
 muted Speaking output answers ne h = absurd (ne refl)

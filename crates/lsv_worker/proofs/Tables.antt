@@ -1,5 +1,5 @@
 -- The table of a worker's connections.
-use Rattle.std.proofs.Common.{◌≡◌, ◌≢◌, ◌⊎◌, ℕ, zero, suc, ◌+◌, ◌<◌, ◌≤◌, ◌==◌, Bool, true, false, List, [], ◌∷◌, ◌++◌, length, take, drop, map, get_or, set, get_or-set_same, get_or-set_other, refl, sym, ap, subst, ◌∙◌, append_assoc, inl, inr, ⊎_elim, arith}
+use Rattle.std.proofs.Common.{◌≡◌, ◌≢◌, ℕ, zero, suc, ◌+◌, ◌<◌, ◌==◌, Bool, true, false, List, [], ◌∷◌, ◌++◌, length, take, drop, map, get_or, set, get_or-set_same, get_or-set_other, refl, sym, ap, subst, ◌∙◌, append_assoc, inl, inr, ⊎_elim, arith}
 use Rattle.std.specs.Prelude.{if◌then◌else◌, ◌&&◌, not}
 use Rattle.std.specs.List.{Contains}
 use Rattle.std.proofs.lemmas.Bool.Decides.{nat_tests}
@@ -16,7 +16,7 @@ use Rattle.lsv_session.proofs.Replies.{bodies_of-append}
 use Rattle.lsv_worker.specs.Lanes.{job_of}
 use Rattle.lsv_worker.specs.Outgoing.{Alone, kept_up}
 use Rattle.lsv_worker.specs.Links.{LinkStands, LinkStep, is_done}
-use Rattle.lsv_worker.specs.Worker.{AreCalmed, AreHeld, AreLast, AreOfLanes, IsApart, IsCalmed, IsIn, IsMade, IsUnasked, IsUntouched, Setting, Stands, Steps, conn_at, undone}
+use Rattle.lsv_worker.specs.Worker.{AreCalmed, AreHeld, AreLast, AreOfLanes, IsApart, IsCalmed, IsIn, IsMade, IsUntouched, Setting, Stands, Steps, conn_at, undone}
 use Rattle.lsv_worker.specs.Incoming.{has_left}
 use Rattle.lsv_worker.specs.declared.link.Pause.TheVariants.{Calm}
 use Rattle.lsv_worker.specs.declared.link.Link.{Link}

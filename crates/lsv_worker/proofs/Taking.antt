@@ -1,29 +1,26 @@
 -- Replies that are taken.
-use Rattle.std.proofs.Common.{◌≡◌, ◌≢◌, ◌⊎◌, ℕ, zero, suc, ◌+◌, ◌<◌, ◌≤◌, ◌==◌, Bool, true, false, List, [], ◌∷◌, ◌++◌, length, get_or, set, refl, sym, ap, subst, ◌∙◌, append_assoc, inl, inr, ⊎_elim, arith}
+use Rattle.std.proofs.Common.{◌≡◌, ◌≢◌, ◌⊎◌, ℕ, suc, ◌<◌, Bool, true, false, List, [], ◌∷◌, ◌++◌, length, get_or, set, refl, sym, ap, subst, ◌∙◌, append_assoc, inl, inr, ⊎_elim, arith}
 use Rattle.std.specs.Prelude.{if◌then◌else◌, ◌&&◌, not}
 use Rattle.std.specs.List.{Contains}
 use Rattle.std.proofs.lemmas.List.{append-nil}
 use Rattle.lsv_words.specs.Pieces.{IsPrefix}
-use Rattle.lsv_port.specs.Port.{IsOpen, LinkState, PortState}
-use Rattle.lsv_msg.specs.declared.messages.ServerMessage.{ServerMessage}
+use Rattle.lsv_port.specs.Port.{LinkState, PortState}
 use Rattle.lsv_session.specs.Connections.{same}
 use Rattle.lsv_session.specs.Transcript.{answers, bodies_of, frames_of, messages_in, said_to}
 use Rattle.lsv_session.specs.declared.connection.ConnId.{ConnId}
-use Rattle.lsv_session.specs.declared.job.Body.{Body}
 use Rattle.lsv_session.specs.declared.job.Job.{Job}
 use Rattle.lsv_session.specs.declared.reply.Reply.{Reply}
 use Rattle.lsv_session.proofs.Replies.{answers-append}
 use Rattle.lsv_worker.specs.Incoming.{has_left}
-use Rattle.lsv_worker.specs.Outgoing.{HasShut, IsShutOf, Speaks, TalksOn, kept_up}
+use Rattle.lsv_worker.specs.Outgoing.{Speaks, kept_up}
 use Rattle.lsv_worker.specs.Links.{LinkStands, Takes, is_done}
-use Rattle.lsv_worker.specs.Worker.{AreLast, IsApart, IsIn, IsMade, IsUnasked, IsUntouched, Setting, Stands, conn_at}
+use Rattle.lsv_worker.specs.Worker.{AreLast, IsIn, IsMade, IsUnasked, IsUntouched, Setting, Stands, conn_at}
 use Rattle.lsv_worker.specs.declared.link.Link.{Link}
-use Rattle.lsv_worker.specs.declared.outgoing.Outgoing.{Outgoing}
 use Rattle.lsv_worker.specs.declared.outgoing.Voice.TheVariants as voices
 use Rattle.lsv_worker.proofs.Linking.{early_more, shut_more, talks_more, talks_now}
 use Rattle.lsv_worker.proofs.Putting.{same_or_not}
 use Rattle.lsv_worker.proofs.Speaking.{speaks_prefix}
-use Rattle.lsv_worker.proofs.Tables.{Fits, in_at, in_set, not_same, table_at, table_set, with_each, with_field, with_link, with_other, with_same}
+use Rattle.lsv_worker.proofs.Tables.{Fits, in_at, in_set, not_same, table_at, table_set, with_each, with_field, with_link, with_other}
 
 other_answers : (c : ConnId) (replies : List Reply) (reply : Reply) → same reply.conn c ≡ false → answers c (replies ++ reply ∷ []) ≡ answers c replies
 other_answers c replies reply differs =

@@ -1,15 +1,15 @@
 -- What comes of a connection that has ended.
-use Rattle.std.proofs.Common.{◌≡◌, ◌⊎◌, ℕ, zero, suc, ◌<◌, Bool, true, false, Option, Some, None, List, [], ◌∷◌, ◌++◌, length, get_or, refl, sym, ap, subst, ◌∙◌, append_assoc, ⊎_elim, inl, inr, arith}
+use Rattle.std.proofs.Common.{◌≡◌, ◌⊎◌, ℕ, suc, ◌<◌, Bool, true, false, Option, Some, List, [], ◌∷◌, ◌++◌, length, get_or, refl, sym, ap, subst, ◌∙◌, append_assoc, ⊎_elim, inl, inr, arith}
 use Rattle.std.specs.Prelude.{◌&&◌, not}
 use Rattle.std.proofs.lemmas.List.{append-nil}
 use Rattle.lsv_port.specs.Port.{LinkState, PortState}
 use Rattle.lsv_session.specs.Transcript.{answers, bodies_of}
 use Rattle.lsv_session.specs.declared.connection.ConnId.{ConnId}
 use Rattle.lsv_session.specs.declared.job.Body.{Body}
-use Rattle.lsv_session.specs.declared.job.Body.TheVariants.{Bad, Gone}
+use Rattle.lsv_session.specs.declared.job.Body.TheVariants.{Gone}
 use Rattle.lsv_session.specs.declared.job.Job.{Job}
 use Rattle.lsv_session.specs.declared.reply.Reply.{Reply}
-use Rattle.lsv_worker.specs.Incoming.{AreBodies, Hears, IsWhole, Marks, has_left, hears, last_words, pending, ready, tail, was_shut}
+use Rattle.lsv_worker.specs.Incoming.{AreBodies, IsWhole, has_left, hears, last_words, pending, tail, was_shut}
 use Rattle.lsv_worker.specs.Lanes.{Routed, lane_on, share}
 use Rattle.lsv_worker.specs.Links.{LinkStands, MayEnd, is_done}
 use Rattle.lsv_worker.specs.Outgoing.{HasEarlyShut, kept_up}

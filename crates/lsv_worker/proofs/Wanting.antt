@@ -1,7 +1,7 @@
 -- Connections for which memory was wanting.
-use Rattle.std.proofs.Common.{◌≡◌, ◌≢◌, Bool, true, false, Option, Some, None, refl, sym, ap, subst, ◌∙◌}
+use Rattle.std.proofs.Common.{◌≡◌, true, false, Option, None, refl, sym, ap, subst, ◌∙◌}
 use Rattle.lsv_session.specs.declared.job.Body.{Body}
-use Rattle.lsv_worker.specs.Incoming.{KeepsWant, LeavesTelling, TellsAt, TellsWant, cuts, is_starving, starves}
+use Rattle.lsv_worker.specs.Incoming.{KeepsWant, LeavesTelling, TellsAt, TellsWant, cuts, starves}
 use Rattle.lsv_worker.specs.declared.incoming.Incoming.{Incoming}
 use Rattle.lsv_worker.specs.declared.incoming.Stage.{Stage}
 use Rattle.lsv_worker.specs.declared.incoming.Stage.TheVariants.{Hearing, Ending, Starving, Leaving, Left}

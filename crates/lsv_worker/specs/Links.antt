@@ -5,12 +5,11 @@ use Rattle.lsv_words.specs.Causes.{HasRisen}
 use Rattle.lsv_port.specs.Ledger.{PortLedger}
 use Rattle.lsv_port.specs.Port.{IsOwed, LinkState, PortState}
 use Rattle.lsv_session.specs.Transcript.{answers}
-use Rattle.lsv_session.specs.declared.connection.ConnId.{ConnId}
 use Rattle.lsv_session.specs.declared.job.Body.{Body}
 use Rattle.lsv_session.specs.declared.job.Job.{Job}
 use Rattle.lsv_session.specs.declared.reply.Reply.{Reply}
 use Rattle.lsv_worker.specs.Lanes.{job_of}
-use Rattle.lsv_worker.specs.Incoming.{Hears, KeepsWant, Marks, SameWay, TellsWant, WasFull, has_left, starves}
+use Rattle.lsv_worker.specs.Incoming.{Hears, KeepsWant, Marks, TellsWant, WasFull, has_left, starves}
 use Rattle.lsv_worker.specs.Outgoing.{Alone, HasEarlyShut, HasShut, Speaks, TalksOn, kept_up}
 use Rattle.lsv_worker.specs.declared.outgoing.Voice.TheVariants as voices
 use Rattle.lsv_worker.specs.declared.link.Link.{Link}

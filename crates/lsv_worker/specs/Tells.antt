@@ -12,7 +12,7 @@ use Rattle.lsv_worker.specs.Incoming.{IsWhole}
 use Rattle.lsv_worker.specs.Lanes.{share}
 use Rattle.lsv_worker.specs.Links.{MayEnd}
 use Rattle.lsv_worker.specs.Outgoing.{HasEarlyShut, HasShut}
-use Rattle.lsv_worker.specs.Worker.{IsMade, Represents, conn_at, setting}
+use Rattle.lsv_worker.specs.Worker.{IsMade, conn_at, setting}
 use Rattle.lsv_worker.specs.declared.incoming.Why.{Why}
 use Rattle.lsv_worker.specs.declared.incoming.Why.TheVariants.{Ended, Refused, Shut, Starved}
 use Rattle.lsv_worker.specs.declared.link.Phase.{Phase}

@@ -1,5 +1,5 @@
 -- What a worker stands for: its connections, their links of the port, the jobs that it put and the replies that it took.
-use Rattle.std.specs.Prelude.{◌≡◌, ◌≢◌, ◌⊎◌, ℕ, ◌<◌, ◌≤◌, ◌+◌, ◌==◌, ◌&&◌, not, Bool, true, false, List, [], ◌∷◌, ◌++◌, length, map, slice_index_or}
+use Rattle.std.specs.Prelude.{◌≡◌, ◌≢◌, ◌⊎◌, ℕ, ◌<◌, ◌≤◌, ◌+◌, ◌==◌, not, Bool, true, false, List, [], ◌∷◌, ◌++◌, length, map, slice_index_or}
 use Rattle.std.specs.List.{Contains, filter}
 use Rattle.std.specs.Vec.{vec_capacity, vec_len}
 use Rattle.lsv_port.specs.Port.{LinkState, PortState, IsOpen, IsOwed}

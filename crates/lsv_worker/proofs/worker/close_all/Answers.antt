@@ -1,4 +1,4 @@
-use Rattle.std.proofs.Common.{◌≡◌, ◌≤◌, ◌<◌, ◌++◌, ℕ, List, true, false, length, arith, sym, ap, subst, ◌∙◌, refl}
+use Rattle.std.proofs.Common.{◌≡◌, ◌<◌, ◌++◌, false, length, arith, sym, ap, subst, ◌∙◌, refl}
 use Rattle.lsv_port.specs.Port.{IsOpen}
 use Rattle.lsv_worker.specs.Links.{LinkStep, Remains}
 use Rattle.lsv_worker.specs.Worker.{IsTable}

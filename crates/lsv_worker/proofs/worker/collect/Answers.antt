@@ -1,4 +1,4 @@
-use Rattle.std.proofs.Common.{◌≡◌, ◌<◌, ◌≤◌, length, arith, sym}
+use Rattle.std.proofs.Common.{◌<◌, length, arith}
 use Rattle.lsv_worker.proofs.Passing.{held_on, paused_on}
 use Rattle.lsv_worker.proofs.worker.collect.Goals as goal
 

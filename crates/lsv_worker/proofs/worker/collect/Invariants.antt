@@ -1,4 +1,4 @@
-use Rattle.std.proofs.Common.{◌≡◌, ◌≢◌, ◌<◌, ◌≤◌, ℕ, get_or}
+use Rattle.std.proofs.Common.{◌≢◌, ◌<◌, ◌≤◌, ℕ, get_or}
 use Rattle.std.specs.List.{Contains}
 use Rattle.std.specs.Vec.{vec_capacity, vec_len}
 use Rattle.lsv_worker.specs.Worker.{IsPaused}

@@ -1,5 +1,5 @@
 use Rattle.std.proofs.Common.{◌≡◌, ◌<◌, ◌==◌, ℕ, List, length, get_or, sym, ap, subst, ◌∙◌}
-use Rattle.lsv_worker.specs.Worker.{marked, owed_if}
+use Rattle.lsv_worker.specs.Worker.{owed_if}
 use Rattle.lsv_worker.specs.declared.link.Link.{Link}
 use Rattle.lsv_worker.proofs.Notes.{map_at}
 use Rattle.lsv_worker.proofs.Tables.{lent}

@@ -1,7 +1,7 @@
-use Rattle.std.proofs.Common.{◌≡◌, ◌≢◌, ◌≤◌, ◌<◌, [], ℕ, List, true, false, length, arith, ◌++◌, sym, ap, subst, ◌∙◌, refl, rules}
+use Rattle.std.proofs.Common.{◌≡◌, ◌≢◌, ◌<◌, [], length, arith, ◌++◌, sym, ap, subst, ◌∙◌, refl, rules}
 use Rattle.lsv_port.specs.Port.{IsOpen}
 use Rattle.lsv_worker.specs.Links.{LinkStep, Remains}
-use Rattle.lsv_worker.specs.Worker.{IsCalmed, IsTable, Setting, Stands}
+use Rattle.lsv_worker.specs.Worker.{IsCalmed, IsTable}
 use Rattle.lsv_worker.specs.declared.link.Link.{Link}
 use Rattle.lsv_worker.specs.declared.link.Phase.{Phase}
 use Rattle.lsv_worker.specs.declared.outgoing.Voice.TheVariants.{Speaking}

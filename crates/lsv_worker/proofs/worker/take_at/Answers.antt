@@ -1,5 +1,4 @@
-use Rattle.std.proofs.Common.{◌≡◌, ◌<◌, ℕ, List, true, length, get_or, set, refl, sym, ap, subst, ◌∙◌}
-use Rattle.lsv_session.specs.declared.connection.ConnId.{ConnId}
+use Rattle.std.proofs.Common.{◌≡◌, get_or, set, sym, ap, ◌∙◌}
 use Rattle.lsv_worker.specs.Worker.{conn_at}
 use Rattle.lsv_worker.specs.declared.link.Link.{Link}
 use Rattle.lsv_worker.proofs.Tables.{lanes_at, lanes_set, open_at, same_default}

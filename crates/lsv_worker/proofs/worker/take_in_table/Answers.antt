@@ -1,4 +1,4 @@
-use Rattle.std.proofs.Common.{◌≡◌, ◌<◌, false, ◌++◌, ◌∷◌, [], ℕ, List, length, get_or, sym, ap, subst, ◌∙◌}
+use Rattle.std.proofs.Common.{◌≡◌, ◌<◌, false, ◌++◌, ◌∷◌, [], List, length, get_or, sym, ap, subst, ◌∙◌}
 use Rattle.lsv_worker.specs.Incoming.{has_left}
 use Rattle.lsv_worker.specs.Worker.{AllRemain, AreOfLanes, IsTable, Stands}
 use Rattle.lsv_worker.specs.declared.link.Link.{Link}

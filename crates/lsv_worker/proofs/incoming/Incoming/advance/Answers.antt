@@ -1,8 +1,6 @@
 use Rattle.std.proofs.Common.{arith, refl}
 use Rattle.lsv_worker.proofs.Putting.{puts_none, puts_then}
-use Rattle.lsv_worker.proofs.Ports.{risen_late}
 use Rattle.lsv_worker.proofs.Wanting.{keeps_here, keeps_then}
-use Rattle.lsv_worker.specs.Lanes.{lane_or_home}
 use Rattle.lsv_worker.proofs.incoming.Incoming.advance.Goals as goal
 
 pub tries-init : goal.tries-init

@@ -1,7 +1,6 @@
-use Rattle.std.proofs.Common.{◌≡◌, ◌≢◌, ◌+◌, ◌++◌, ℕ, Ok, Err, List, length, drop, rules, sym, ◌∙◌}
+use Rattle.std.proofs.Common.{◌≡◌, ◌+◌, ◌++◌, Ok, length, drop, rules}
 use Rattle.lsv_wire.specs.Frame.{IsMessage, IsTooLong, frame_of}
 use Rattle.lsv_msg.specs.Messages.{client_in}
-use Rattle.lsv_session.specs.Transcript.{InFront}
 use Rattle.lsv_session.proofs.Jobs.{cut_no_message, cut_too_long}
 use Rattle.lsv_worker.specs.Incoming.{kept}
 use Rattle.lsv_worker.proofs.Cutting.{cuts_message, has_first}

@@ -1,5 +1,3 @@
-use Rattle.std.proofs.Common.{◌≡◌, rules, refl}
-use Rattle.lsv_worker.specs.declared.incoming.Stage.TheVariants.{Hearing}
 use Rattle.lsv_worker.proofs.Cutting.{closes}
 use Rattle.lsv_worker.proofs.incoming.Incoming.end.Goals as goal
 

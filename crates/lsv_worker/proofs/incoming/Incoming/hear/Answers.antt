@@ -1,4 +1,4 @@
-use Rattle.std.proofs.Common.{◌≡◌, List, ℕ, sym, ◌∙◌, subst, rules, refl, ap}
+use Rattle.std.proofs.Common.{List, ℕ, sym, ◌∙◌, subst, refl, ap}
 use Rattle.lsv_worker.specs.Incoming.{Hears, cuts, hears}
 use Rattle.lsv_worker.proofs.Cutting.{drops_on, hears_on}
 use Rattle.lsv_worker.proofs.incoming.Incoming.hear.Goals as goal

@@ -1,9 +1,8 @@
-use Rattle.std.proofs.Common.{◌≡◌, ◌≢◌, ◌++◌, ◌∷◌, [], sym, ◌∙◌, subst, rules, Option, Some, None, ℕ, List}
+use Rattle.std.proofs.Common.{◌≡◌, ◌≢◌, ◌++◌, ◌∷◌, [], sym, subst, rules, Option, Some, None, ℕ}
 use Rattle.lsv_session.specs.declared.job.Body.{Body}
-use Rattle.lsv_session.specs.declared.job.Job.{Job}
 use Rattle.lsv_worker.specs.Lanes.{job_of, lane_or_home, share}
 use Rattle.lsv_worker.specs.Incoming.{Hears}
-use Rattle.lsv_worker.proofs.Putting.{first_back, offers_first, puts_none, puts_one, unput}
+use Rattle.lsv_worker.proofs.Putting.{offers_first, puts_one}
 use Rattle.lsv_worker.proofs.incoming.Incoming.put_first.Goals as goal
 
 pub returns-in-Ok-clause-puts : goal.returns-in-Ok-clause-puts

@@ -1,4 +1,4 @@
-use Rattle.std.proofs.Common.{◌≡◌, ◌++◌, ◌∷◌, [], None, Some, true, false, sym, subst, rules}
+use Rattle.std.proofs.Common.{◌≡◌, ◌++◌, ◌∷◌, [], None, true, false, sym, subst, rules}
 use Rattle.lsv_worker.specs.Lanes.{Routed, Routing, is_hello}
 use Rattle.lsv_worker.specs.Incoming.{kept}
 use Rattle.lsv_worker.proofs.Routes.{decided_now, held_hello, routed_more}

@@ -1,6 +1,6 @@
-use Rattle.std.proofs.Common.{◌≡◌, ◌≤◌, ◌+◌, ◌<◌, ℕ, length, Some, rules, arith, sym, subst, ap, ◌∙◌}
+use Rattle.std.proofs.Common.{◌≡◌, ◌+◌, ◌<◌, length, Some, arith, subst, ap, ◌∙◌}
 use Rattle.lsv_worker.specs.Lanes.{lane_or_home}
-use Rattle.lsv_worker.specs.Incoming.{Puts, WasFull, weight}
+use Rattle.lsv_worker.specs.Incoming.{weight}
 use Rattle.lsv_worker.proofs.Putting.{puts_then}
 use Rattle.lsv_worker.proofs.Ports.{risen_late}
 use Rattle.lsv_worker.proofs.Wanting.{keeps_stage, keeps_then}

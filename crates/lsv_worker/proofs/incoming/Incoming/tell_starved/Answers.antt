@@ -1,5 +1,5 @@
-use Rattle.std.proofs.Common.{◌≡◌, ◌≢◌, ◌++◌, ◌∷◌, [], rules, ℕ, List}
-use Rattle.lsv_session.specs.declared.job.Body.TheVariants.{Bad, Gone}
+use Rattle.std.proofs.Common.{◌≡◌, ◌≢◌, ◌++◌, ◌∷◌, [], rules, ℕ}
+use Rattle.lsv_session.specs.declared.job.Body.TheVariants.{Bad}
 use Rattle.lsv_session.specs.declared.job.Fault.TheVariants.{NoMem}
 use Rattle.lsv_worker.specs.Lanes.{job_of, lane_or_home}
 use Rattle.lsv_worker.specs.declared.incoming.Stage.TheVariants.{Leaving}

@@ -1,4 +1,4 @@
-use Rattle.std.proofs.Common.{◌≡◌, false, refl, rules, sym, ◌∙◌, ⊎_elim}
+use Rattle.std.proofs.Common.{◌≡◌, false, refl, rules, ⊎_elim}
 use Rattle.lsv_worker.specs.declared.outgoing.Voice.TheVariants.{Failed, Starved}
 use Rattle.lsv_worker.proofs.Ruling.{remains_so}
 use Rattle.lsv_worker.proofs.link.Link.fail.Goals as goal

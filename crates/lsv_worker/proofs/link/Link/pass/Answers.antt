@@ -1,4 +1,4 @@
-use Rattle.std.proofs.Common.{ℕ, sym, subst}
+use Rattle.std.proofs.Common.{ℕ, subst}
 use Rattle.lsv_worker.specs.Links.{PauseIsFor, ReadsOn}
 use Rattle.lsv_worker.proofs.Linking.{link_then}
 use Rattle.lsv_worker.proofs.Ruling.{passes, remains_then}

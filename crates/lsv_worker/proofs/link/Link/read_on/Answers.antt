@@ -1,4 +1,4 @@
-use Rattle.std.proofs.Common.{◌≡◌, ◌<◌, ◌≤◌, ◌+◌, ℕ, Bool, true, length, sym, ap, subst, ◌∙◌, rules, arith, refl}
+use Rattle.std.proofs.Common.{◌≡◌, ◌<◌, ◌≤◌, ◌+◌, true, length, sym, ap, subst, ◌∙◌, rules, arith, refl}
 use Rattle.lsv_port.specs.Port.{IsOpen}
 use Rattle.lsv_worker.specs.Lanes.{lane_or_home}
 use Rattle.lsv_worker.specs.Links.{IsSent, WasRead, WasReadAtMost}

@@ -1,4 +1,4 @@
-use Rattle.std.proofs.Common.{◌≡◌, ◌≤◌, ℕ, length, true, false}
+use Rattle.std.proofs.Common.{◌≡◌, ◌≤◌, ℕ, length, true}
 use Rattle.lsv_port.specs.Ledger.{Continues}
 use Rattle.lsv_port.specs.Port.{IsOpen}
 use Rattle.lsv_worker.specs.Links.{HasBlame, IsSpared, LinkStep, ReadsOn, Remains, WasRead, WasReadAtMost}

@@ -1,4 +1,4 @@
-use Rattle.std.proofs.Common.{◌≡◌, ℕ, true, false, sym, ◌∙◌, refl, ap, inl, inr, subst, rules}
+use Rattle.std.proofs.Common.{◌≡◌, false, ◌∙◌, refl, ap, rules}
 use Rattle.lsv_port.specs.Port.{LinkState, after_read, closed}
 use Rattle.lsv_port.specs.declared.port.Took.TheVariants as took
 use Rattle.lsv_worker.specs.Incoming.{hears}

@@ -1,4 +1,4 @@
-use Rattle.std.proofs.Common.{◌≡◌, sym, subst, ◌∙◌, refl, rules}
+use Rattle.std.proofs.Common.{◌≡◌, refl, rules}
 use Rattle.lsv_session.specs.declared.reply.ReplyBody.TheVariants as said
 use Rattle.lsv_worker.proofs.link.Link.take.Goals as goal
 

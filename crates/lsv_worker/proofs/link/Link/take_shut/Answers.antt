@@ -1,4 +1,4 @@
-use Rattle.std.proofs.Common.{◌≡◌, true, false, refl, sym, ◌∙◌, inl, inr, rules}
+use Rattle.std.proofs.Common.{◌≡◌, true, false, refl, ◌∙◌, inl, inr}
 use Rattle.lsv_worker.specs.declared.link.Link.{Link}
 use Rattle.lsv_worker.proofs.Linking.{takes_closes, takes_ignored, takes_shut}
 use Rattle.lsv_worker.proofs.Ruling.{remains_here, remains_so, remains_then}

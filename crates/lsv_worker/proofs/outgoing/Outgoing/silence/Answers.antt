@@ -1,6 +1,5 @@
-use Rattle.std.proofs.Common.{◌≡◌, List, ℕ, [], subst, sym, refl}
+use Rattle.std.proofs.Common.{List, ℕ, subst, sym}
 use Rattle.lsv_worker.specs.Outgoing.{PutOf}
-use Rattle.lsv_worker.specs.declared.outgoing.Voice.{Voice}
 use Rattle.lsv_worker.proofs.Speaking.{silenced}
 use Rattle.lsv_worker.proofs.outgoing.Outgoing.silence.Goals as goal
 

@@ -1,7 +1,6 @@
-use Rattle.std.proofs.Common.{◌≡◌, ◌++◌, List, ℕ, [], subst, sym, refl}
 use Rattle.lsv_msg.specs.Messages.{server_bytes}
 use Rattle.lsv_wire.specs.Frame.{frame_of}
-use Rattle.lsv_worker.proofs.Speaking.{muted_more, spoken}
+use Rattle.lsv_worker.proofs.Speaking.{spoken}
 use Rattle.lsv_worker.proofs.outgoing.Outgoing.speak.Goals as goal
 
 pub returns-in-Ok-clause-goes : goal.returns-in-Ok-clause-goes

@@ -1,8 +1,7 @@
-use Rattle.std.proofs.Common.{◌≡◌, ◌≤◌, ◌<◌, ℕ, arith, length, [], true, false, refl, sym, ap, subst, ◌∙◌, rules, inl, inr}
-use Rattle.lsv_port.specs.Ledger.{Continues, HasLinkCause}
-use Rattle.lsv_port.specs.Port.{Changes, IsOpen, LinkState, after_write}
+use Rattle.std.proofs.Common.{◌≡◌, ◌≤◌, ◌<◌, arith, length, [], refl, ap, ◌∙◌, rules}
+use Rattle.lsv_port.specs.Port.{Changes, LinkState, after_write}
 use Rattle.lsv_port.specs.declared.port.Gave.TheVariants as gave
-use Rattle.lsv_worker.proofs.Ports.{cause_late, continues_here, continues_then}
+use Rattle.lsv_worker.proofs.Ports.{continues_here, continues_then}
 use Rattle.lsv_worker.proofs.Speaking.{writes_failed, writes_full, writes_more, writes_none}
 use Rattle.lsv_worker.proofs.outgoing.Outgoing.write.Goals as goal
 

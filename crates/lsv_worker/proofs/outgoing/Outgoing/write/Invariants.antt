@@ -1,4 +1,4 @@
-use Rattle.std.proofs.Common.{◌≡◌, ℕ, [], length}
+use Rattle.std.proofs.Common.{◌≡◌, [], length}
 use Rattle.lsv_port.specs.Ledger.{Continues}
 use Rattle.lsv_port.specs.Port.{IsOpen}
 use Rattle.lsv_worker.specs.Outgoing.{Writes}

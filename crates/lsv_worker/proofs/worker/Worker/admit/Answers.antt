@@ -1,4 +1,4 @@
-use Rattle.std.proofs.Common.{◌≡◌, ◌<◌, ◌≤◌, ◌+◌, ◌++◌, ◌∷◌, [], ℕ, List, length, sym, ap, subst, ◌∙◌, arith, rules}
+use Rattle.std.proofs.Common.{◌≡◌, ◌≤◌, ◌+◌, ◌++◌, ◌∷◌, [], List, length, sym, subst, arith, rules}
 use Rattle.std.specs.Vec.{vec_capacity, vec_len}
 use Rattle.lsv_worker.specs.Worker.{AreOfLanes, open_in}
 use Rattle.lsv_worker.specs.declared.link.Link.{Link}

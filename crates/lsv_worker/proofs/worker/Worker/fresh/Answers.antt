@@ -1,4 +1,4 @@
-use Rattle.std.proofs.Common.{◌≡◌, ◌++◌, List, ℕ, [], Some, true, false, refl, sym, ap, subst, ◌∙◌, rules}
+use Rattle.std.proofs.Common.{◌≡◌, [], true, false, refl, subst, ◌∙◌, rules}
 use Rattle.lsv_wire.specs.Frame.{frame_of}
 use Rattle.lsv_msg.specs.Messages.{server_bytes}
 use Rattle.lsv_msg.specs.declared.messages.ServerMessage.{ServerMessage}

@@ -1,5 +1,5 @@
-use Rattle.std.proofs.Common.{◌≡◌, ◌≤◌, true, ℕ, List, length, sym, ap, subst, ◌∙◌, refl, rules}
-use Rattle.lsv_port.specs.Port.{LinkState, Opens, TellsReadable, TellsStop, TellsWritable, Told, IsSame}
+use Rattle.std.proofs.Common.{◌≤◌, ℕ, List, length, sym, ap, subst, rules}
+use Rattle.lsv_port.specs.Port.{LinkState, Opens, TellsReadable, Told}
 use Rattle.lsv_port.specs.declared.port.Ready.{Ready}
 use Rattle.lsv_worker.specs.Worker.{AreOfLanes, Stands, setting}
 use Rattle.lsv_worker.specs.declared.link.Link.{Link}

@@ -1,7 +1,6 @@
-use Rattle.std.proofs.Common.{◌≡◌, sym, ap, subst, ◌∙◌}
+use Rattle.std.proofs.Common.{sym, ap, ◌∙◌}
 use Rattle.lsv_worker.specs.Links.{reads_in}
 use Rattle.lsv_worker.specs.Worker.{Setting}
-use Rattle.lsv_worker.specs.declared.link.Phase.{Phase}
 use Rattle.lsv_worker.proofs.Ports.{blame_then, continues_then}
 use Rattle.lsv_worker.proofs.Passing.{held_late, rules_late}
 use Rattle.lsv_worker.proofs.Reading.{most_late, spared_late}

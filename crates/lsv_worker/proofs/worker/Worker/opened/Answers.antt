@@ -1,4 +1,4 @@
-use Rattle.std.proofs.Common.{◌≡◌, refl, rules, sym, subst}
+use Rattle.std.proofs.Common.{sym, subst}
 use Rattle.lsv_worker.specs.Worker.{IsFresh, IsNoted, setting}
 use Rattle.lsv_worker.proofs.Reading.{unread_closed, unwritten_closed}
 use Rattle.lsv_worker.proofs.Notes.{admitted_stands, opens_closed, refused_stands}

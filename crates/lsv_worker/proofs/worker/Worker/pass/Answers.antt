@@ -1,7 +1,6 @@
-use Rattle.std.proofs.Common.{◌≡◌, ◌≢◌, ◌<◌, ◌≤◌, ◌++◌, ℕ, List, length, get_or, sym, ap, subst, ◌∙◌, refl, arith, rules}
+use Rattle.std.proofs.Common.{◌≡◌, ◌≢◌, ◌<◌, ◌≤◌, ◌++◌, ℕ, List, length, get_or, sym, subst, ◌∙◌, refl, arith}
 use Rattle.std.specs.List.{Contains}
-use Rattle.std.specs.Vec.{vec_capacity, vec_len}
-use Rattle.lsv_worker.specs.Worker.{AreCalmed, AreHeld, AreOfLanes, AreSpared, IsPaused, IsWritten, KeepRules, Stands, open_in, setting, undone}
+use Rattle.lsv_worker.specs.Worker.{AreOfLanes, AreSpared, IsPaused, IsWritten, KeepRules, Stands, open_in, setting, undone}
 use Rattle.lsv_worker.specs.declared.link.Link.{Link}
 use Rattle.lsv_worker.specs.declared.link.Pause.TheVariants.{Calm}
 use Rattle.lsv_worker.proofs.Passing.{all_held, all_rules, all_written, open_remain, open_swept}

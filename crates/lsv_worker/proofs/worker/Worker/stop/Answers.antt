@@ -1,5 +1,5 @@
-use Rattle.std.proofs.Common.{◌≡◌, refl, rules, arith, List, ℕ, ◌++◌}
-use Rattle.lsv_worker.specs.Worker.{setting, Setting}
+use Rattle.std.proofs.Common.{refl, rules, arith, ◌++◌}
+use Rattle.lsv_worker.specs.Worker.{setting}
 use Rattle.lsv_worker.specs.declared.link.Phase.TheVariants.{Stopped}
 use Rattle.lsv_worker.proofs.Notes.{stopped_stands}
 use Rattle.lsv_worker.proofs.Passing.{none_open, open_remain, rules_all}

@@ -1,8 +1,6 @@
-use Rattle.std.proofs.Common.{◌≡◌, ◌≢◌, ◌<◌, ◌++◌, ◌∷◌, [], ℕ, List, None, Some, length, get_or, refl, sym, ap, subst, ◌∙◌, rules, arith}
-use Rattle.lsv_session.specs.declared.connection.ConnId.{ConnId}
-use Rattle.lsv_worker.specs.Worker.{IsTable, Stands, conn_at, setting}
+use Rattle.std.proofs.Common.{◌≡◌, ◌≢◌, ◌<◌, ℕ, List, length, get_or, refl, ap, subst, rules, arith}
+use Rattle.lsv_worker.specs.Worker.{setting}
 use Rattle.lsv_worker.specs.declared.link.Link.{Link}
-use Rattle.lsv_worker.specs.declared.link.Phase.{Phase}
 use Rattle.lsv_worker.proofs.Passing.{open_remain, remain_here, rules_all, there_at}
 use Rattle.lsv_worker.proofs.Reading.{unread_here, unwritten_here}
 use Rattle.lsv_worker.proofs.Taking.{not_in, stands_dropped}
