@@ -115,9 +115,6 @@ paused_on links before after i link within is calm held all m has =
     ⊎_elim (λ e. all m (subst (λ (h : List ℕ). Contains h m) (calm e) has))
     (λ stopped. paused_more links before i link within is stopped all m (subst (λ (h : List ℕ). Contains h m) (held stopped) has)) (calm_or_not link.pause)
 
-pub paused_none : (links : List Link) (m : ℕ) → Contains [] m → IsPaused links m
-paused_none links m has = absurd (let low : has.0 < 0 = has.1 in omega arith)
-
 -- ---- nothing more is put on the link of a connection that is silent
 
 pub quiet_in : (s : Setting) (links : List Link) (port : PortState) (jobs : ℕ → List Job) (replies : List Reply) (i : ℕ) (old : Link) → i < length links → old ≡ get_or links i old → Stands s links port jobs replies → old.outgoing.voice ≢ Speaking → old.outgoing.unsent ≡ []

@@ -1,7 +1,7 @@
 -- Connections for which memory was wanting.
-use Rattle.std.proofs.Common.{◌≡◌, true, false, Option, None, refl, sym, ap, subst, ◌∙◌}
+use Rattle.std.proofs.Common.{◌≡◌, Option, None, sym, ap, subst, ◌∙◌}
 use Rattle.lsv_session.specs.declared.job.Body.{Body}
-use Rattle.lsv_worker.specs.Incoming.{KeepsWant, LeavesTelling, TellsAt, TellsWant, cuts, starves}
+use Rattle.lsv_worker.specs.Incoming.{KeepsWant, LeavesTelling, TellsAt, starves}
 use Rattle.lsv_worker.specs.declared.incoming.Incoming.{Incoming}
 use Rattle.lsv_worker.specs.declared.incoming.Stage.{Stage}
 use Rattle.lsv_worker.specs.declared.incoming.Stage.TheVariants.{Hearing, Ending, Starving, Leaving, Left}
@@ -33,48 +33,3 @@ keeps_here old = record { starved = λ e. e; told = λ t. t }
 
 pub keeps_then : (a b c : Incoming) → KeepsWant a b → KeepsWant b c → KeepsWant a c
 keeps_then a b c x y = record { starved = λ e. y.starved (x.starved e); told = λ t. y.told (x.told t) }
-
-cut_calm : (stage : Stage) → cuts stage ≡ true → starves stage ≡ false
-cut_calm Hearing e = refl
-cut_calm Ending e = refl
-cut_calm Starving e = absurd cc
-cut_calm (Leaving why) e = absurd cc
-cut_calm (Left why) e = absurd cc
-
-cut_untold : (stage : Stage) (w : Option Body) → cuts stage ≡ true → TellsAt stage w → ⊥
-cut_untold Hearing w e t = t
-cut_untold Ending w e t = t
-cut_untold Starving w e t = cc
-cut_untold (Leaving why) w e t = cc
-cut_untold (Left why) w e t = cc
-
--- memory wasn't wanting while messages are cut
-pub keeps_cut : (old new : Incoming) → cuts old.stage ≡ true → KeepsWant old new
-keeps_cut old new cutting = record {
-  starved = λ e. let no : starves old.stage ≡ false = cut_calm old.stage cutting in absurd (let bad : true ≡ false = sym e ∙ no in cc);
-  told = λ t. absurd (cut_untold old.stage old.waiting cutting t);
-}
-
-pub tells_starving : (new : Incoming) → new.stage ≡ Starving → TellsWant new
-tells_starving new stage = subst (λ (s : Stage). TellsAt s new.waiting) (sym stage) tt
-
--- memory is wanting
-pub keeps_starving : (old new : Incoming) → new.stage ≡ Starving → KeepsWant old new
-keeps_starving old new stage = record { starved = λ e. ap starves stage; told = λ t. tells_starving new stage }
-
-pub tells_refused : (new : Incoming) → new.stage ≡ Leaving Refused → new.waiting ≡ None → TellsWant new
-tells_refused new stage empty = subst (λ (s : Stage). TellsAt s new.waiting) (sym stage) empty
-
-pub tells_starved : (new : Incoming) → new.stage ≡ Leaving Starved → TellsWant new
-tells_starved new stage = subst (λ (s : Stage). TellsAt s new.waiting) (sym stage) tt
-
-pub tells_left : (new : Incoming) (why : Why) → new.stage ≡ Left why → TellsWant new
-tells_left new why stage = subst (λ (s : Stage). TellsAt s new.waiting) (sym stage) tt
-
--- the job that tells it was put
-pub keeps_told : (old new : Incoming) → new.stage ≡ Leaving Starved → KeepsWant old new
-keeps_told old new stage = record { starved = λ e. ap starves stage; told = λ t. tells_starved new stage }
-
--- the Gone was put
-pub keeps_left : (old new : Incoming) (why : Why) → old.stage ≡ Leaving why → new.stage ≡ Left why → KeepsWant old new
-keeps_left old new why was stage = record { starved = λ e. ap starves stage ∙ sym (ap starves was) ∙ e; told = λ t. tells_left new why stage }
