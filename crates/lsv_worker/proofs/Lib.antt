@@ -14,4 +14,5 @@ pub mod Going
 pub mod Taking
 pub mod Tells
 pub mod Beginning
+mod Counting
 pub mod Memories

@@ -4,4 +4,5 @@ pub mod Outgoing
 pub mod Links
 pub mod Worker
 pub mod Tells
+pub mod Sizes
 pub mod Memory

@@ -1,9 +1,10 @@
 //! An inbox in memory, of one lane.
 
-ghost use Rattle.std.specs.Prelude.{◌≡◌, ℕ, ◌<◌, ◌≤◌, ◌==◌, List, [], ◌∷◌, ◌++◌, length, IfOk, false, refl};
+ghost use Rattle.std.specs.Prelude.{◌≡◌, ℕ, ◌<◌, ◌≤◌, ◌==◌, ◌↔◌, List, [], ◌∷◌, ◌++◌, length, vec_capacity, IfOk, IfErr, IsTrue, OnOk, OnErr, refl};
 ghost use Rattle.lsv_words.specs.Causes.{HasRisen};
 ghost use Rattle.lsv_session.specs.declared.job.Job.{Job};
-ghost use Rattle.lsv_worker.specs.Memory.{KeepsOrder, count_in, jobs_in, order_here, order_through, waiting};
+ghost use Rattle.lsv_worker.specs.Memory.{Admits, HasRoom, IsOrderly, KeepsOrder, count_in, jobs_in, order_here, order_through, waiting};
+ghost use Rattle.lsv_worker.specs.Sizes.{job_bytes};
 
 use crate::Inbox;
 use crate::size::job_size;
@@ -18,8 +19,8 @@ const MOST_JOBS: usize = 256;
 /// The most bytes of decoded messages that wait, above the first job.
 const MOST_BYTES: u64 = 67_108_864;
 
-/// An inbox in memory, of one lane and of one worker: a job of another is refused. It is full where 256 jobs wait, or where those behind the first would hold more than
-/// 64 MiB, as `job_size` has it.
+/// An inbox in memory, of one lane and of one worker: a job of another is refused. It is full where 256 jobs wait, or where
+/// those behind the first would hold more than 64 MiB, as `job_size` has it.
 #[derive(Debug, Drop)]
 pub struct MemInbox {
     pub(crate) worker: u32,
@@ -30,9 +31,11 @@ pub struct MemInbox {
 
 impl MemInbox {
     /// No job waits.
+    #[tactic(auto, using(crate::proofs::Memories::order_none))]
     pub fn new(alloc: Global, worker: u32) -> Result<Self, NoMem>
         ensures empty { IfOk result (λ inbox. waiting inbox ≡ []) }
         ensures worker { IfOk result (λ inbox. inbox.worker ≡ worker) }
+        ensures orderly { IfOk result IsOrderly }
     {
         Ok(MemInbox {
             worker,
@@ -49,31 +52,68 @@ impl MemInbox {
     }
 
     /// Hands out the jobs that wait, in order, and keeps the empty vector in their place.
+    #[tactic(auto, using(crate::proofs::Memories::order_none))]
     pub fn take(&mut self, jobs: &mut Vec<Job>)
         requires { jobs.old.items ≡ [] }
         ensures taken { jobs.new.items ≡ waiting self.old }
         ensures empty { waiting self.new ≡ [] }
         ensures refused { self.new.refused ≡ self.old.refused }
         ensures worker { self.new.worker ≡ self.old.worker }
+        ensures orderly { IsOrderly self.new }
     {
         mem::swap(&mut self.jobs, jobs);
         self.bytes = 0;
     }
 
-    /// Whether a job of this size has no room.
-    fn is_full(&self, size: u64) -> bool
-        ensures { result ≡ false → length (waiting self.now) < 256 }
+    /// Puts a job at the end, or gives it back: where it is another worker's, where it has no room, and where memory is wanting
+    /// for it.
+    #[tactic(auto, using(crate::proofs::Memories::order_same, crate::proofs::Memories::order_first, crate::proofs::Memories::order_behind, crate::proofs::Memories::admits, crate::proofs::Memories::admitted))]
+    pub fn offer(&mut self, job: Job) -> Result<(), (Job, Full)>
+        ensures ok { OnOk result (waiting self.new ≡ waiting self.old ++ job ∷ []) }
+        ensures err { OnErr result (waiting self.new ≡ waiting self.old) }
+        ensures back { IfErr result (λ e. e.0 ≡ job) }
+        ensures admitted { OnOk result (Admits self.old job) }
+        ensures refused { OnErr result (Admits self.old job → vec_capacity self.old.jobs ≤ length (waiting self.old)) }
+        ensures counts { self.old.refused ≤ self.new.refused }
+        ensures cause { OnErr result (HasRisen self.old.refused self.new.refused) }
+        ensures order { KeepsOrder self.old self.new }
     {
-        if self.jobs.len() >= MOST_JOBS {
-            return true;
+        let size = job_size(&job);
+        if job.conn.worker != self.worker {
+            self.refuse();
+            return Err((job, Full));
         }
-        !self.jobs.is_empty() && self.bytes.saturating_add(size) > MOST_BYTES
+        if !self.has_room(size) {
+            self.refuse();
+            return Err((job, Full));
+        }
+        let is_first = self.jobs.is_empty();
+        if let Err(failed) = self.jobs.push(job) {
+            self.refuse();
+            return Err((failed.value, Full));
+        }
+        if is_first {
+            return Ok(());
+        }
+        self.bytes += size;
+        Ok(())
     }
 
-    /// A put was refused.
+    /// Whether one more of this size has room.
+    fn has_room(&self, size: u64) -> bool
+        ensures { IsTrue result ↔ HasRoom self.now size }
+    {
+        if self.jobs.len() >= MOST_JOBS {
+            return false;
+        }
+        self.jobs.is_empty() || self.bytes.saturating_add(size) <= MOST_BYTES
+    }
+
+    /// A job was refused.
     fn refuse(&mut self)
         ensures jobs { waiting self.new ≡ waiting self.old }
         ensures worker { self.new.worker ≡ self.old.worker }
+        ensures bytes { self.new.bytes ≡ self.old.bytes }
         ensures counts { self.old.refused ≤ self.new.refused }
         ensures cause { HasRisen self.old.refused self.new.refused }
     {
@@ -92,30 +132,9 @@ impl Inbox for MemInbox {
 
     ghost is_same = { λ i j. KeepsOrder i j };
 
-    #[tactic(auto, using(crate::proofs::Memories::lane_put, crate::proofs::Memories::lane_others, crate::proofs::Memories::lane_same, crate::proofs::Memories::lane_counts, crate::proofs::Memories::lane_risen, crate::proofs::Memories::order_same, crate::proofs::Memories::order_put))]
+    #[tactic(auto, using(crate::proofs::Memories::lane_put, crate::proofs::Memories::lane_others, crate::proofs::Memories::lane_same, crate::proofs::Memories::lane_counts, crate::proofs::Memories::lane_risen))]
     fn put(&mut self, _lane: u32, job: Job) -> Result<(), (Job, Full)> {
-        if job.conn.worker != self.worker {
-            self.refuse();
-            return Err((job, Full));
-        }
-        let size = job_size(&job);
-        if self.is_full(size) {
-            self.refuse();
-            return Err((job, Full));
-        }
-        let is_first = self.jobs.is_empty();
-        match self.jobs.push(job) {
-            Ok(()) => {
-                if !is_first {
-                    self.bytes = self.bytes.saturating_add(size);
-                }
-                return Ok(());
-            }
-            Err(failed) => {
-                self.refuse();
-                return Err((failed.value, Full));
-            }
-        }
+        self.offer(job)
     }
 
     ghost same_here = { order_here };

@@ -1,5 +1,9 @@
-//! How much memory a job is taken to hold, in bytes.
+//! How much memory a job is taken to hold, in bytes. What is more than the greatest `u64` is counted as that.
 
+ghost use Rattle.std.specs.Prelude.{◌≡◌, length};
+ghost use Rattle.lsv_worker.specs.Sizes.{counted, entry_bytes, info_bytes, job_bytes, message_bytes, texts_bytes, value_bytes};
+
+use lsv_base::Bytes;
 use lsv_info::{Entry, Info, Value};
 use lsv_msg::ClientMessage;
 use lsv_session::{Body, Job};
@@ -10,30 +14,49 @@ const ENTRY: u64 = 64;
 /// What a text of a list takes beside its bytes.
 const TEXT: u64 = 24;
 
-fn value_size(value: &Value) -> u64 {
+/// What a number of a list takes.
+const NUMBER: u64 = 8;
+
+fn text_size(text: &Bytes) -> u64
+    ensures { result ≡ length text.now }
+{
+    text.as_slice().len() as u64
+}
+
+#[tactic(auto, using(crate::proofs::Counting::texts_more))]
+fn texts_size(texts: &[Bytes]) -> u64
+    ensures { result ≡ counted (texts_bytes texts.now) }
+{
+    let mut size: u64 = 0;
+    for text in texts {
+        size = size.saturating_add(TEXT.saturating_add(text_size(text)));
+    }
+    size
+}
+
+fn value_size(value: &Value) -> u64
+    ensures { result ≡ counted (value_bytes value.now) }
+{
     match value {
         Value::Num(_) => 0,
-        Value::Text(text) => text.as_slice().len() as u64,
-        Value::Texts(texts) => {
-            let mut size: u64 = 0;
-            for text in texts.as_slice() {
-                size = size
-                    .saturating_add(TEXT)
-                    .saturating_add(text.as_slice().len() as u64);
-            }
-            size
-        }
-        Value::Nums(numbers) => (numbers.as_slice().len() as u64).saturating_mul(8),
+        Value::Text(text) => text_size(text),
+        Value::Texts(texts) => texts_size(texts.as_slice()),
+        Value::Nums(numbers) => NUMBER.saturating_mul(numbers.as_slice().len() as u64),
     }
 }
 
-fn entry_size(entry: &Entry) -> u64 {
+fn entry_size(entry: &Entry) -> u64
+    ensures { result ≡ counted (entry_bytes entry.now) }
+{
     ENTRY
-        .saturating_add(entry.key.as_slice().len() as u64)
+        .saturating_add(text_size(&entry.key))
         .saturating_add(value_size(&entry.value))
 }
 
-fn info_size(info: &Info) -> u64 {
+#[tactic(auto, using(crate::proofs::Counting::info_more))]
+fn info_size(info: &Info) -> u64
+    ensures { result ≡ counted (info_bytes info.now) }
+{
     let mut size: u64 = 0;
     for entry in info.entries.as_slice() {
         size = size.saturating_add(entry_size(entry));
@@ -41,32 +64,36 @@ fn info_size(info: &Info) -> u64 {
     size
 }
 
-fn message_size(message: &ClientMessage) -> u64 {
+fn message_size(message: &ClientMessage) -> u64
+    ensures { result ≡ counted (message_bytes message.now) }
+{
     match message {
         ClientMessage::Accept(m) => info_size(&m.get().info_msgs),
-        ClientMessage::Reject(m) => info_size(&m.get().info_msgs).saturating_add(
-            m.get().reason.as_slice().len() as u64,
-        ),
-        ClientMessage::Alert(m) => info_size(&m.get().info_msgs).saturating_add(
-            m.get().reason.as_slice().len() as u64,
-        ),
-        ClientMessage::Exit(m) => (m.get().signal.as_slice().len() as u64).saturating_add(
-            m.get().error.as_slice().len() as u64,
-        ),
-        ClientMessage::Restart(m) => m.log_id.as_slice().len() as u64,
-        ClientMessage::Ttyin(m) => m.bytes.as_slice().len() as u64,
-        ClientMessage::Ttyout(m) => m.bytes.as_slice().len() as u64,
-        ClientMessage::Stdin(m) => m.bytes.as_slice().len() as u64,
-        ClientMessage::Stdout(m) => m.bytes.as_slice().len() as u64,
-        ClientMessage::Stderr(m) => m.bytes.as_slice().len() as u64,
+        ClientMessage::Reject(m) => {
+            info_size(&m.get().info_msgs).saturating_add(text_size(&m.get().reason))
+        }
+        ClientMessage::Alert(m) => {
+            info_size(&m.get().info_msgs).saturating_add(text_size(&m.get().reason))
+        }
+        ClientMessage::Exit(m) => {
+            text_size(&m.get().signal).saturating_add(text_size(&m.get().error))
+        }
+        ClientMessage::Restart(m) => text_size(&m.log_id),
+        ClientMessage::Ttyin(m) => text_size(&m.bytes),
+        ClientMessage::Ttyout(m) => text_size(&m.bytes),
+        ClientMessage::Stdin(m) => text_size(&m.bytes),
+        ClientMessage::Stdout(m) => text_size(&m.bytes),
+        ClientMessage::Stderr(m) => text_size(&m.bytes),
         ClientMessage::Winsize(_) => 0,
-        ClientMessage::Suspend(m) => m.signal.as_slice().len() as u64,
-        ClientMessage::Hello(m) => m.client_id.as_slice().len() as u64,
+        ClientMessage::Suspend(m) => text_size(&m.signal),
+        ClientMessage::Hello(m) => text_size(&m.client_id),
     }
 }
 
-/// How much memory a job is taken to hold beyond its own struct: its texts, and 64 bytes for each entry.
-pub(crate) fn job_size(job: &Job) -> u64 {
+/// How much memory a job is taken to hold beyond its own struct.
+pub(crate) fn job_size(job: &Job) -> u64
+    ensures { result ≡ counted (job_bytes job.now) }
+{
     match &job.body {
         Body::Msg(message) => message_size(message),
         Body::Bad(_) => 0,
