@@ -115,10 +115,14 @@ installed:
 pages:
 	python3 interop/pages.py $(PROGRAM) $(REPLAY)
 
-# A tarball of what is committed.
+# A tarball of what is committed; in an unpacked tarball, of what is there but what was built.
 dist:
 	mkdir -p out
-	git archive --prefix=$(NAME)-$(VERSION)/ -o out/$(NAME)-$(VERSION).tar.gz HEAD
+	if [ -e .git ]; then \
+	  git archive --prefix=$(NAME)-$(VERSION)/ -o out/$(NAME)-$(VERSION).tar.gz HEAD; \
+	else \
+	  tar --exclude=./out --exclude='./crates/*/out' --transform='s#^\.#$(NAME)-$(VERSION)#' -czf out/$(NAME)-$(VERSION).tar.gz .; \
+	fi
 
 clean:
 	rm -rf crates/*/out out
