@@ -87,7 +87,11 @@ install:
 	install -D -m 644 man/sudo_logsrvd.conf.5 $(DESTDIR)$(MANDIR)/man5/$(FRONT)sudo_logsrvd.conf.5
 	install -d $(DESTDIR)$(DOCDIR)/examples
 	install -m 644 README.md docs/FORMATS.md docs/OPERATIONS.md docs/SETTINGS.md docs/TRUST.md $(DESTDIR)$(DOCDIR)
-	install -m 644 etc/sudo_logsrvd.conf etc/logrotate etc/tmpfiles $(DESTDIR)$(DOCDIR)/examples
+	install -m 644 etc/sudo_logsrvd.conf etc/tmpfiles etc/proxy.socket $(DESTDIR)$(DOCDIR)/examples
+	for sample in logrotate proxy.service; do \
+	  sed -e 's#\(systemctl .*\|=\)\bsudo_logsrvd\b#\1$(FRONT)sudo_logsrvd#' etc/$$sample >$(DESTDIR)$(DOCDIR)/examples/$$sample && \
+	  chmod 644 $(DESTDIR)$(DOCDIR)/examples/$$sample || exit 1; \
+	done
 	install -d $(DESTDIR)$(UNITDIR)
 	sed -e 's#/usr/local/sbin/sudo_logsrvd#$(SBINDIR)/$(FRONT)sudo_logsrvd#' -e 's#/etc/sudo_logsrvd.conf#$(SYSCONFDIR)/sudo_logsrvd.conf#' \
 	  -e 's#man:#man:$(FRONT)#g' etc/sudo_logsrvd.service >$(DESTDIR)$(UNITDIR)/$(FRONT)sudo_logsrvd.service
@@ -111,10 +115,14 @@ installed:
 pages:
 	python3 interop/pages.py $(PROGRAM) $(REPLAY)
 
-# A tarball of what is committed.
+# A tarball of what is committed; in an unpacked tarball, of what is there but what was built.
 dist:
 	mkdir -p out
-	git archive --prefix=$(NAME)-$(VERSION)/ -o out/$(NAME)-$(VERSION).tar.gz HEAD
+	if [ -e .git ]; then \
+	  git archive --prefix=$(NAME)-$(VERSION)/ -o out/$(NAME)-$(VERSION).tar.gz HEAD; \
+	else \
+	  tar --exclude=./out --exclude='./crates/*/out' --transform='s#^\.#$(NAME)-$(VERSION)#' -czf out/$(NAME)-$(VERSION).tar.gz .; \
+	fi
 
 clean:
 	rm -rf crates/*/out out

@@ -112,6 +112,50 @@ def part_limit_of_files(trial):
             raise Differs(f"{log.body.elapsed} ns are stored, and {points[-1]} were committed")
 
 
+@only("serve")
+def part_faults_of_many(trial):
+    """Several logs pass the limit at once, with many records behind: each is told by one line, with its file."""
+    with Fresh(trial, before=small_files) as fresh:
+        links, logs = [fresh.server.connect() for _ in range(6)], []
+        for link in links:
+            link.send(client.hello(), ACCEPT)
+            logs.append([link.read(), link.read()][1][1])
+        ended = set()
+        while len(ended) < len(links):
+            for at in set(range(len(links))) - ended:
+                try:
+                    links[at].send(*[client.record((SECOND, "ttyout", b"x" * 1_000))] * 50)
+                    links[at].waiting()
+                except client.Closed:
+                    ended.add(at)
+        fresh.session()
+        lines = fresh.place.said().splitlines()
+        for log in logs:
+            folder = store.folder_of(fresh.place.store, log) + "/"
+            same(f"lines of the log {log}", len([line for line in lines if folder in line]), 1)
+
+
+def smaller_files():
+    resource.setrlimit(resource.RLIMIT_FSIZE, (20_000, 20_000))
+
+
+@only("serve")
+def part_faults_of_the_event_log(trial):
+    """Where the event log is full, each connection whose event it doesn't take is told by a line."""
+    accept = client.accept(SECOND, {**INFO, "further": "x" * 6_000})
+    with Fresh(trial, before=smaller_files) as fresh:
+        refused = 0
+        for _ in range(7):
+            link = fresh.server.connect()
+            link.send(client.hello(), accept)
+            link.read(), link.read()
+            link.send(client.exited(SECOND))
+            refused += link.rest()[-1:] == [("error", "device fault")]
+            link.close()
+        lines = [line for line in fresh.place.said().splitlines() if f"{fresh.place.events}:" in line]
+        same("connections that were refused, and lines of the event log", (refused, len(lines)), (4, 4))
+
+
 def little_memory():
     resource.setrlimit(resource.RLIMIT_AS, (28 << 20, 28 << 20))
 

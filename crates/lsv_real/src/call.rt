@@ -3,7 +3,7 @@ use std::fmt;
 use std::fmt::Display;
 
 /// Which call failed.
-#[derive(Clone, Copy, PartialEq, Eq)]
+#[derive(Clone, Copy)]
 pub enum Call {
     Create,
     Length,

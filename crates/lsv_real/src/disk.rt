@@ -5,7 +5,6 @@ ghost use Rattle.lsv_real.specs.Untold.{untold};
 
 use crate::call::Call;
 use crate::foreign::{Foreign, foreign_at};
-use crate::path::Place;
 use crate::store::{Store, StoreFault};
 use lsv_disk::{Disk, DiskFault, FileId, Owner, Part};
 use std::io;
@@ -19,8 +18,6 @@ pub struct FileDisk {
     program: &'static str,
     store: Option<Store>,
     faults: u64,
-    /// The fault that was told last isn't told again.
-    last_told: Option<(FileId, Call)>,
 }
 
 impl FileDisk {
@@ -33,7 +30,6 @@ impl FileDisk {
             program,
             store: None,
             faults: 0,
-            last_told: None,
         }
     }
 
@@ -58,32 +54,20 @@ impl FileDisk {
         }
     }
 
-    /// Says on standard error what failed, but not the same again.
-    fn tell(&mut self, f: FileId, call: Call, e: &io::Error)
-        ensures { self.new.faults ≡ self.old.faults }
-    {
-        if self.last_told == Some((f, call)) {
+    /// Says on standard error what failed. Why there is no store was said by `root`.
+    fn tell(&self, f: FileId, call: Call, e: &io::Error) {
+        let program = self.program;
+        let Some(store) = &self.store else {
             return;
-        }
-        self.last_told = Some((f, call));
-        match self.place_of(f) {
-            Some(place) => say(&self.rt, self.program, place.path.as_str(), call, e),
-            None => say(&self.rt, self.program, "the store", call, e),
-        }
+        };
+        let _ = match store.place_of(f) {
+            Ok(place) => {
+                let path = place.path.as_str();
+                eprintln!(self.rt; "{program}: {path}: {call}: {e}")
+            }
+            Err(_) => eprintln!(self.rt; "{program}: the store: {call}: {e}"),
+        };
     }
-
-    /// Where a file stands, of a disk that has a store.
-    fn place_of(&self, f: FileId) -> Option<Place> {
-        match &self.store {
-            Some(store) => store.place_of(f).ok(),
-            None => None,
-        }
-    }
-}
-
-/// A line on standard error: the program, the path, the call, and the system's error.
-fn say(rt: &HostRuntime, program: &str, path: &str, call: Call, e: &io::Error) {
-    let _ = eprintln!(rt; "{program}: {path}: {call}: {e}");
 }
 
 /// Whether another program's files stand where the store is to be, or it can't be seen whether they do. Both are told on
@@ -102,7 +86,9 @@ fn is_foreign(rt: &HostRuntime, program: &str, dir: &str, events: &str) -> bool 
             );
         }
         Err(e) => {
-            let _ = eprintln!(rt; "{program}: {dir}: look: {e}");
+            let _ = eprintln!(rt;
+                "{program}: {dir}, {events}: look: {e}: let who runs the server own both, or iolog_dir and path of [logfile] be places of its own"
+            );
         }
     }
     true
@@ -134,7 +120,9 @@ impl Disk for FileDisk {
                 );
             }
             Err(StoreFault::Io(e)) => {
-                let _ = eprintln!(self.rt; "{program}: {dir}: lock: {e}");
+                let _ = eprintln!(self.rt;
+                    "{program}: {dir}: lock: {e}: let who runs the server own it, or iolog_dir be a folder of its own"
+                );
             }
         }
     }

@@ -4,6 +4,7 @@ ghost use Rattle.lsv_words.specs.Causes.{HasRisen};
 ghost use Rattle.lsv_real.specs.Untold.{untold};
 
 use crate::call::Call;
+use crate::foreign::{Foreign, foreign_at};
 use crate::handle::read_from;
 use crate::path::Places;
 use lru::LruCache;
@@ -68,14 +69,13 @@ impl ReadOnlyDisk {
         }
     }
 
-    /// Says on standard error what failed.
+    /// Says on standard error what failed. Why there is no store was said by `root`.
     fn tell(&self, f: FileId, call: Call, e: &io::Error) {
         let program = self.program;
-        let place = match &self.store {
-            Some(store) => store.places.place_of(self.rt.alloc(), f),
-            None => Ok(None),
+        let Some(store) = &self.store else {
+            return;
         };
-        match place {
+        match store.places.place_of(self.rt.alloc(), f) {
             Ok(Some(place)) => {
                 let path = place.path.as_str();
                 let _ = eprintln!(self.rt; "{program}: {path}: {call}: {e}");
@@ -185,6 +185,12 @@ impl Disk for ReadOnlyDisk {
 
     fn root(&mut self, dir: &str, events: &str) {
         let program = self.program;
+        if let Ok(Some(Foreign::Logs)) = foreign_at(&self.rt, self.rt.alloc(), dir, events) {
+            let _ = eprintln!(self.rt;
+                "{program}: {dir}: sudo's own programs keep their logs here, as its file seq shows: let sudo's own sudoreplay show them, or -d name the folder of this server's logs"
+            );
+            return;
+        }
         match Opened::new(&self.rt, dir, events) {
             Ok(store) => self.store = Some(store),
             Err(e) => {
