@@ -7,7 +7,7 @@ use Rattle.clap.specs.Walk.{Row}
 use Rattle.lsv_args.specs.declared.command.ArgFault.{ArgFault}
 use Rattle.lsv_replay_args.specs.Asked.{task_in}
 use Rattle.lsv_replay_args.specs.Program.{program}
-use Rattle.lsv_replay_args.specs.Request.{Asked, IsRefused, Manner, Play, Search, asked, asked_by, dir_of, is_set_text, manner_of, play_of, task_of, words_of}
+use Rattle.lsv_replay_args.specs.Request.{IsRefused, Manner, Play, Search, asked, asked_by, dir_of, is_set_text, manner_of, play_of, task_of, words_of}
 use Rattle.lsv_replay_args.specs.declared.request.Task.{Task}
 
 -- ---- the task

@@ -1,5 +1,5 @@
 -- The names of a list, one by one.
-use Rattle.std.proofs.Common.{◌≡◌, ◌∙◌, ℕ, true, Bool, List, [], ◌∷◌, Option, Some, None, Bor, set, ap, sym}
+use Rattle.std.proofs.Common.{◌≡◌, ◌∙◌, ℕ, true, Bool, List, ◌∷◌, Option, Some, None, Bor, set, ap, sym}
 use Rattle.std.specs.Option.{option_and_then}
 use Rattle.lsv_replay_args.specs.Texts.{before, pieces}
 use Rattle.lsv_replay_args.specs.Streams.{index_in, named, streams_in}

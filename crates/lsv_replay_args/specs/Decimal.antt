@@ -1,6 +1,6 @@
 -- Numbers of the command line: digits, and a point with one to nine digits where wanted.
 use Rattle.std.specs.Prelude.{ℕ, ◌+◌, ◌*◌, ◌-◌, ◌^◌, List, length, Option, Some, None, Bool, not, ◌&&◌, nat_le, nat_lt, if◌then◌else◌}
-use Rattle.std.specs.Option.{option_and_then, option_map_or}
+use Rattle.std.specs.Option.{option_and_then}
 use Rattle.std.specs.Str.{all_ascii_digits}
 use Rattle.std.specs.Str.Parse.{digits_value}
 use Rattle.lsv_replay_args.specs.Texts.{before, behind, is_empty}

@@ -1,5 +1,6 @@
 pub mod Asked
 pub mod Decimal
+pub mod Forms
 pub mod Program
 pub mod Request
 pub mod Streams

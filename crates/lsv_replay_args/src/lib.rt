@@ -2,10 +2,12 @@
 #![tactic(auto)]
 
 mod decimal;
+mod forms;
 mod program;
 mod request;
 mod streams;
 mod words;
 
+pub use forms::options_stand_in_any_order;
 pub use lsv_args::ArgFault;
 pub use request::{Request, Task, read_request};

@@ -1,4 +1,4 @@
-use Rattle.std.proofs.Common.{◌≡◌, ◌∙◌, ◌≤◌, sym, arith, get_or}
+use Rattle.std.proofs.Common.{◌∙◌, arith}
 use Rattle.lsv_replay_args.proofs.Decimals.{number_not_text, number_parsed}
 use Rattle.lsv_replay_args.proofs.decimal.digits_in.Goals as goal
 

@@ -1,4 +1,4 @@
-use Rattle.std.proofs.Common.{◌≡◌, ◌∙◌, ◌≤◌, ◌<◌, ◌*◌, ◌^◌, ℕ, ap, sym, subst, arith, length, Some}
+use Rattle.std.proofs.Common.{◌∙◌, ◌≤◌, ◌<◌, ◌*◌, ◌^◌, ℕ, ap, sym, subst, arith, length, Some}
 use Rattle.lsv_replay_args.proofs.Decimals.{fraction_none, fraction_small, fraction_some}
 use Rattle.lsv_replay_args.proofs.decimal.fraction_in.Goals as goal
 

@@ -1,10 +1,9 @@
 -- What the words ask for, by what clap found of them.
-use Rattle.std.proofs.Common.{◌≡◌, ◌∙◌, ℕ, Bor, List, Option, Result, Err, ap, map, option_map, sym}
+use Rattle.std.proofs.Common.{◌≡◌, ◌∙◌, Result, Err, ap, map, option_map, sym}
 use Rattle.std.specs.String.{string_bytes}
 use Rattle.clap.specs.Words.{found_of, rows_of}
 use Rattle.lsv_args.specs.declared.command.ArgFault.{ArgFault}
 use Rattle.lsv_args.specs.declared.command.ArgFault.TheVariants as faults
-use Rattle.lsv_play.specs.declared.options.Options.{Options}
 use Rattle.lsv_replay_args.specs.Asked.{manner_in}
 use Rattle.lsv_replay_args.specs.declared.request.Task.{Task}
 use Rattle.lsv_replay_args.proofs.Asks.{asks_task, none_there, refused_manner, refused_task, same_err}

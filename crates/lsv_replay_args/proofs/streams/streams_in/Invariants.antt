@@ -1,4 +1,4 @@
-use Rattle.std.proofs.Common.{◌≡◌, ℕ}
+use Rattle.std.proofs.Common.{◌≡◌}
 use Rattle.lsv_replay_args.specs.Streams.{named, streams_in}
 use Rattle.lsv_replay_args.proofs.Cuts.{left_of, pieces_left}
 use Rattle.lsv_replay_args.proofs.streams.streams_in.Given as goal

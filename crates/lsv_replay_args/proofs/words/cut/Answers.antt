@@ -1,6 +1,5 @@
-use Rattle.std.proofs.Common.{◌≡◌, ◌∙◌, ℕ, ◌==◌, ◌<◌, ◌+◌, ◌-◌, true, false, Some, None, List, take, drop, length, get_or, ap, sym, arith}
+use Rattle.std.proofs.Common.{◌∙◌, ℕ, Some, List, ap, sym, arith}
 use Rattle.lsv_replay_args.proofs.Cuts.{cut_at, cut_none, not_true, rest_of}
-use Rattle.lsv_replay_args.specs.Texts.{before, behind}
 use Rattle.lsv_replay_args.proofs.words.cut.Goals as goal
 
 pub returns-in-Some-clause-before : goal.returns-in-Some-clause-before
