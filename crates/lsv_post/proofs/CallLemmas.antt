@@ -43,15 +43,15 @@ module _ {P : Type 0} (tells : Type 0) (state : P → PortState) (ledger : P →
   }
 
   -- a post that was just made
-  pub begins : (post : WorkerPost P) (number : ℕ) → IsFit post.worker → setting post.worker ≡ record { number = number; lanes = 1; next = 1; phase = phases.Going } → post.worker.links.items ≡ [] → waiting post.inbox ≡ [] → post.inbox.worker ≡ number → post.mode ≡ Going
+  pub begins : (post : WorkerPost P) (number : ℕ) → IsFit post.worker → setting post.worker ≡ record { number = number; lanes = 1; next = 1; phase = phases.Going } → post.worker.links.items ≡ [] → waiting post.inbox ≡ [] → post.inbox.worker ≡ number → IsOrderly post.inbox → post.mode ≡ Going
       → (tells → IsUnopened (state post.port)) → IsMade tells state ledger (view_by state ledger post.port) post [] []
-  begins post number fit set links none own going un = record {
+  begins post number fit set links none own orderly going un = record {
     way = record {
       one = record {
         fit = fit;
         lanes = ap (λ (s : Setting). s.lanes) set;
         number = own ∙ sym (ap (λ (s : Setting). s.number) set);
-        orderly = record { own = rw none tt; few = rw none (omega arith) };
+        orderly = orderly;
       };
       mode = subst (λ (c : Mode). IsInMode c (setting post.worker).phase (PortFailed (view_by state ledger post.port) (view_by state ledger post.port))) (sym going) (ap (λ (s : Setting). s.phase) set);
       goes_on = record {
@@ -147,10 +147,10 @@ module _ {P : Type 0} (tells : Type 0) (state : P → PortState) (ledger : P →
 
   -- its jobs were handed out
   pub handed : (start : PortView) (old new : WorkerPost P) (given : List Job) (gave : List Job) (took : List Reply) → new.worker ≡ old.worker → new.port ≡ old.port → new.mode ≡ old.mode → new.lost ≡ old.lost
-      → given ≡ waiting old.inbox → waiting new.inbox ≡ [] → new.inbox.worker ≡ old.inbox.worker → IsUnderWay tells state ledger start old gave took → IsMade tells state ledger start new (gave ++ given) took
-  handed start old new given gave took worker port mode lost is none own u = record {
+      → given ≡ waiting old.inbox → waiting new.inbox ≡ [] → new.inbox.worker ≡ old.inbox.worker → IsOrderly new.inbox → IsUnderWay tells state ledger start old gave took → IsMade tells state ledger start new (gave ++ given) took
+  handed start old new given gave took worker port mode lost is none own orderly u = record {
     way = record {
-      one = rw worker (one_emptied old.worker old.inbox new.inbox u.one none own);
+      one = rw worker (one_emptied old.worker old.inbox new.inbox u.one orderly own);
       mode = rw (worker, port, mode) u.mode;
       goes_on = rw port u.goes_on;
       kept = u.kept;

@@ -14,7 +14,7 @@ use Rattle.lsv_reactor.specs.Links.{PortFailed, PortView}
 use Rattle.lsv_session.specs.declared.job.Job.{Job}
 use Rattle.lsv_session.specs.declared.reply.Reply.{Reply}
 use Rattle.lsv_worker.specs.Links.{HasBlame}
-use Rattle.lsv_worker.specs.Memory.{KeepsOrder, jobs_in, waiting}
+use Rattle.lsv_worker.specs.Memory.{IsOrderly, KeepsOrder, bytes_behind_first, jobs_in, waiting}
 use Rattle.lsv_worker.specs.Worker.{Goes, HoldsOwed, IsFit, IsSameWorker, Represents, phase_after, setting}
 use Rattle.lsv_worker.specs.declared.link.Phase.{Phase}
 use Rattle.lsv_worker.specs.declared.link.Phase.TheVariants as phases
@@ -118,15 +118,15 @@ one_then a b i j one fit same keeps = record {
   orderly = keeps.orderly one.orderly;
 }
 
-pub one_emptied : (a : Worker) (i j : MemInbox) → AreOne a i → waiting j ≡ [] → j.worker ≡ i.worker → AreOne a j
-one_emptied a i j one none same = record {
+pub one_emptied : (a : Worker) (i j : MemInbox) → AreOne a i → IsOrderly j → j.worker ≡ i.worker → AreOne a j
+one_emptied a i j one orderly same = record {
   fit = one.fit;
   lanes = one.lanes;
   number = same ∙ one.number;
-  orderly = record { own = rw none tt; few = rw none (omega arith) };
+  orderly = orderly;
 }
 
--- each job that waits is of the worker, and there are few
+-- each job that waits is of the worker, there are few, and those behind the first are light
 pub own_waiting : (a : Worker) (i : MemInbox) (number : ℕ) (given : List Job) → AreOne a i → (setting a).number ≡ number → given ≡ waiting i → AllByRecursion (λ job. job.conn.worker ≡ number) given
 own_waiting a i number given one is e =
     subst (λ (js : List Job). AllByRecursion (λ job. job.conn.worker ≡ number) js) (sym e)
@@ -134,6 +134,9 @@ own_waiting a i number given one is e =
 
 pub few_waiting : (a : Worker) (i : MemInbox) (given : List Job) → AreOne a i → given ≡ waiting i → length given ≤ 256
 few_waiting a i given one e = subst (λ (js : List Job). length js ≤ 256) (sym e) one.orderly.few
+
+pub light_waiting : (a : Worker) (i : MemInbox) (given : List Job) → AreOne a i → given ≡ waiting i → bytes_behind_first given ≤ 67108864
+light_waiting a i given one e = subst (λ (js : List Job). bytes_behind_first js ≤ 67108864) (sym e) one.orderly.light
 
 lane_more : (lane : ℕ) (gave was is added : List Job) → jobs_in lane is ≡ jobs_in lane was ++ added → jobs_in lane (gave ++ was) ++ added ≡ jobs_in lane (gave ++ is)
 lane_more zero gave was is added e = append_assoc gave was added ∙ ap (λ (l : List Job). gave ++ l) (sym e)

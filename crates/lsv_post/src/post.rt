@@ -1,10 +1,12 @@
 //! A worker with its port and its inbox.
 
-ghost use Rattle.std.specs.Prelude.{◌≡◌, ◌++◌, ◌∷◌, [], ℕ, List, IfOk};
+ghost use Rattle.std.specs.Prelude.{◌≡◌, ◌≤◌, ◌++◌, ◌∷◌, [], ℕ, List, IfOk, length};
 ghost use Rattle.lsv_session.specs.declared.job.Job.{Job};
 ghost use Rattle.lsv_session.specs.declared.reply.Reply.{Reply};
 ghost use Rattle.lsv_reactor.specs.Links.{PortView};
+ghost use Rattle.lsv_reactor.specs.Turns.{AreOf, most_jobs};
 ghost use Rattle.std.specs.List.{Contains};
+ghost use Rattle.lsv_worker.specs.Memory.{bytes_behind_first};
 ghost use Rattle.lsv_worker.specs.Worker.{held_by, setting};
 ghost use Rattle.lsv_post.specs.Ports.{IsUnopened, view_by};
 ghost use Rattle.lsv_post.specs.InnerPost.{IsMade, IsUnderWay};
@@ -154,12 +156,29 @@ impl<P: Port> Post for WorkerPost<P> {
         listens
     }
 
-    fn wait(&mut self, jobs: &mut Vec<Job>) {
+    /// Of a call come at most 256 jobs, and those behind the first hold at most 64 MiB.
+    fn wait(&mut self, jobs: &mut Vec<Job>)
+        requires begun { (start : PortView) × (gave : List Job) × (took : List Reply) × IsMade P.tells P.state P.ledger start self.old gave took }
+        requires empty { jobs.old.items ≡ [] }
+        ensures made { (start : PortView) (gave : List Job) (took : List Reply) → IsMade P.tells P.state P.ledger start self.old gave took → IsMade P.tells P.state P.ledger start self.new (gave ++ jobs.new.items) took }
+        ensures own { AreOf (setting self.old.worker).number jobs.new.items }
+        ensures few { length jobs.new.items ≤ most_jobs }
+        ensures light { bytes_behind_first jobs.new.items ≤ 67108864 }
+        ensures number { (setting self.new.worker).number ≡ (setting self.old.worker).number }
+    {
         self.go_on();
         self.inbox.take(jobs);
     }
 
-    fn push(&mut self, jobs: &mut Vec<Job>) {
+    fn push(&mut self, jobs: &mut Vec<Job>)
+        requires begun { (start : PortView) × (gave : List Job) × (took : List Reply) × IsMade P.tells P.state P.ledger start self.old gave took }
+        requires empty { jobs.old.items ≡ [] }
+        ensures made { (start : PortView) (gave : List Job) (took : List Reply) → IsMade P.tells P.state P.ledger start self.old gave took → IsMade P.tells P.state P.ledger start self.new (gave ++ jobs.new.items) took }
+        ensures own { AreOf (setting self.old.worker).number jobs.new.items }
+        ensures few { length jobs.new.items ≤ most_jobs }
+        ensures light { bytes_behind_first jobs.new.items ≤ 67108864 }
+        ensures number { (setting self.new.worker).number ≡ (setting self.old.worker).number }
+    {
         self.try_links();
         self.inbox.take(jobs);
     }
