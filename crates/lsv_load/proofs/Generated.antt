@@ -1,20 +1,15 @@
 -- A generated conversation is legal and opens a log, which is all that it sends.
-use Rattle.std.proofs.Common.{◌≡◌, ◌≤◌, ◌<◌, ◌+◌, ◌*◌, ◌/◌, ◌%◌, ◌^◌, inl, inr, ℕ, zero, suc, pos, Bool, true, false, List, [], ◌∷◌, ◌++◌, map, length, cond, Some, None, Result, Ok, Err, refl, sym, ◌∙◌, ap, subst, arith, codes, replicate, append_assoc, FitsSigned, w32, w64}
-use Rattle.std.specs.Prelude.{is_some, nat_le, nat_lt, option_and_then, Option}
-use Rattle.std.specs.List.{AllByRecursion, flat_map}
+use Rattle.std.proofs.Common.{◌≡◌, ◌≤◌, ◌<◌, ◌+◌, ◌*◌, ◌%◌, ◌^◌, inl, inr, ℕ, zero, suc, pos, Bool, true, List, [], ◌∷◌, ◌++◌, map, length, cond, Some, Result, Ok, Err, refl, sym, ◌∙◌, ap, subst, arith, replicate, append_assoc}
+use Rattle.std.specs.Prelude.{nat_le, nat_lt}
 use Rattle.std.proofs.lemmas.Bool.Decides.{nat_tests}
 use Rattle.std.proofs.lemmas.List.{map-append}
-use Rattle.std.proofs.lemmas.Grind.{flat_map-append}
 use Rattle.lsv_base.specs.Time.{nanos_of, time_of}
-use Rattle.lsv_base.specs.declared.time.TimeSpec.{TimeSpec}
 use Rattle.lsv_base.proofs.Nanoseconds.{value_told}
-use Rattle.lsv_wire.specs.Frame.{frame_of}
 use Rattle.lsv_info.specs.Layout.{exit_text, head_text}
 use Rattle.lsv_mask.specs.Masking.{covered, mask, mask_behind}
 use Rattle.lsv_msg.specs.Fitting.{FitsClient, FitsTime}
 use Rattle.lsv_msg.specs.Messages.{client_bytes, client_in}
 use Rattle.lsv_msg.specs.declared.messages.ClientMessage.{ClientMessage}
-use Rattle.lsv_record.specs.Points.{Stored}
 use Rattle.lsv_record.specs.declared.records.Record.{Record}
 use Rattle.lsv_request.specs.Requests.{has_keys, request_of}
 use Rattle.lsv_request.specs.declared.request.Accept.{Accept}
@@ -23,14 +18,12 @@ use Rattle.lsv_request.specs.declared.request.Request.TheVariants as request
 use Rattle.lsv_request.specs.declared.refusal.Refusal.{Refusal}
 use Rattle.lsv_request.specs.declared.refusal.Refusal.TheVariants.{MissingKey}
 use Rattle.lsv_session.specs.Transcript.{AreJobs, AreJobs.Message, AreJobs.Rest}
-use Rattle.lsv_session.specs.declared.connection.ConnState.{ConnState}
 use Rattle.lsv_session.specs.declared.connection.ConnState.TheVariants.{Fresh, Greeted, Running}
 use Rattle.lsv_session.specs.declared.job.Body.{Body}
 use Rattle.lsv_session.specs.declared.job.Body.TheVariants.{Msg}
-use Rattle.lsv_machine.specs.History.{request_in}
 use Rattle.lsv_machine.specs.Judgement.{judged, with_keys}
 use Rattle.lsv_machine.specs.Legal.{IsLegal, exit_or, exit_sent, first_head, head_or, record_in, records_in, whole_log}
-use Rattle.lsv_gen.specs.Load.{accept, conversation, duration, exit, frames, hello, info, messages, millis, output, outputs}
+use Rattle.lsv_gen.specs.Load.{accept, conversation, duration, exit, frames, hello, info, messages, output, outputs}
 use Rattle.lsv_gen.proofs.Short.{accept_short, exit_short, hello_short, output_short}
 use Rattle.lsv_gen.proofs.Sums.{duration_short}
 use Rattle.lsv_load.specs.Logs.{bodies_of, exit_at, head_at, log_at, record_at, records_of}

@@ -1,18 +1,15 @@
 -- A load sums up the logs of all its conversations, where nothing was in their way.
-use Rattle.std.proofs.Common.{◌≡◌, ◌≤◌, ◌<◌, ◌+◌, ◌⊎◌, inl, inr, ℕ, zero, suc, Bool, true, false, List, [], ◌∷◌, ◌++◌, length, cond, Option, Some, None, unwrap_or, refl, sym, ◌∙◌, ap, subst, arith, sum_by}
-use Rattle.std.specs.Prelude.{◌==◌, ◌||◌, nat_lt, Contains, count_by, is_some}
-use Rattle.std.specs.List.{flat_map, slice_index_or}
+use Rattle.std.proofs.Common.{◌≡◌, ◌≤◌, ◌<◌, ◌+◌, ◌⊎◌, inl, inr, ℕ, zero, suc, Bool, true, false, List, [], ◌∷◌, ◌++◌, length, cond, Option, Some, None, unwrap_or, refl, sym, ◌∙◌, ap, subst, arith, one-add, sum_by}
+use Rattle.std.specs.Prelude.{◌==◌, ◌||◌, nat_lt, Contains, is_some}
+use Rattle.std.specs.List.{slice_index_or}
 use Rattle.std.proofs.lemmas.Bool.Decides.{nat_tests}
 use Rattle.std.proofs.lemmas.List.Sums.{sum_by-cons}
-use Rattle.lsv_base.specs.LogNo.{digits_of, log_no_in}
 use Rattle.lsv_base.proofs.LogNumbers.{digits_computed}
 use Rattle.lsv_disk.specs.View.{DiskView, Image}
 use Rattle.lsv_gen.specs.Load.{conversation}
 use Rattle.lsv_gen.specs.Summary.{data_length, lines_of, summary, told, totals_of}
-use Rattle.lsv_gen.specs.declared.totals.Totals.{Totals}
 use Rattle.lsv_iolog.specs.Recovered.{Replays}
 use Rattle.lsv_iolog.proofs.Replaying.{one_replay}
-use Rattle.lsv_msg.specs.declared.messages.ServerMessage.{ServerMessage}
 use Rattle.lsv_port.specs.Memory.Numbers.{has}
 use Rattle.lsv_port.specs.Memory.Script.{Sent, sent_by, unsent}
 use Rattle.lsv_port.specs.Memory.Value.{port_state}
@@ -27,7 +24,7 @@ use Rattle.lsv_session.specs.declared.job.Job.{Job}
 use Rattle.lsv_session.specs.declared.reply.Reply.{Reply}
 use Rattle.lsv_session.proofs.Jobs.{one_list}
 use Rattle.lsv_machine.specs.Legal.{IsLegal, whole_log}
-use Rattle.lsv_machine.specs.Machine.{Machine, Settings}
+use Rattle.lsv_machine.specs.Machine.{Settings}
 use Rattle.lsv_machine.proofs.Choices.{same_true}
 use Rattle.lsv_turns.specs.Turns.{LaneTurn, jobs_in, replies_in}
 use Rattle.lsv_lane.specs.Store.{KeepsStore}
@@ -45,14 +42,17 @@ use Rattle.lsv_load.proofs.Replying.{is_to, none_unasked, numbers_in, tells, to_
 
 -- ---- Totals
 
-length_is : {S : Type 0} (logs : List S) → length logs ≡ sum_by (λ log. 1) logs
+abbrev one_each : Stored → ℕ
+one_each log = 1
+
+length_is : (logs : List Stored) → length logs ≡ sum_by one_each logs
 length_is [] = refl
-length_is (log ∷ logs) = let rest = length_is logs in let more = sum_by-cons (λ x. 1) log logs in omega (arith, rest, more)
+length_is (log ∷ logs) = ap suc (length_is logs) ∙ sym (sum_by-cons one_each log logs ∙ one-add (sum_by one_each logs))
 
 -- where all sums are the same, so are the totals
 same_totals : (xs ys : List Stored) → ((f : Stored → ℕ) → sum_by f xs ≡ sum_by f ys) → totals_of xs ≡ totals_of ys
 same_totals xs ys same =
-    let count = length_is xs ∙ (same (λ log. 1) ∙ sym (length_is ys)) in
+    let count = length_is xs ∙ (same one_each ∙ sym (length_is ys)) in
     let records = same (λ log. length log.records) in
     let bytes = same (λ log. sum_by data_length log.records) in
     let time = same (λ log. elapsed log.records) in
@@ -140,11 +140,14 @@ module _ (disk_tells : Type 0) (set : Settings) (texts : List (List ℕ)) (count
       go (suc l) (inl last) is = (omega arith, last)
       go (suc l) (inr above) is = absurd (unopened (suc l) is (inr above))
 
+  no_head : (b : Body) (bodies : List Body) → b ∷ bodies ≡ [] → ⊥
+  no_head b bodies e = cc
+
   -- no conversation is nothing
   some_sent : (l : ℕ) → l ≤ 10000 → conversation l ≡ [] → ⊥
   some_sent l few none =
       let nothing : bodies_of l ≡ [] = one_list (jobs l few) (subst (λ (bytes : List ℕ). AreJobs bytes []) (sym none) (Rest [] (inl (omega arith)))) in
-      cc
+      no_head _ _ nothing
 
   -- each is that of a connection
   seat_of : (l : ℕ) → 1 ≤ l → l ≤ count → (seq : ℕ) × (seats.seat l ≡ Some seq)
@@ -153,7 +156,7 @@ module _ (disk_tells : Type 0) (set : Settings) (texts : List (List ℕ)) (count
       go : (o : Option ℕ) → seats.seat l ≡ o → (seq : ℕ) × (seats.seat l ≡ Some seq)
       go (Some seq) e = (seq, e)
       go None e =
-          let away = subst (λ (o : Option ℕ). links.IsServed disk_tells 0 l o (jobs_in turns) (replies_in turns) (view_of load.old) (view_of load.new)) e (load.served.served.served l (is_opened l first last)) in
+          let away : links.IsTurnedAway (port.link l) = subst (λ (o : Option ℕ). links.IsServed disk_tells 0 l o (jobs_in turns) (replies_in turns) (view_of load.old) (view_of load.new)) e (load.served.served.served l (is_opened l first last)) in
           absurd (some_sent l (omega (arith, small, last)) (sym (free.read l first last) ∙ away.unread))
 
   abbrev conn_at : ℕ → ConnId

@@ -1,5 +1,5 @@
 -- The logs that the disk replays now are those that it replayed when all was served.
-use Rattle.std.proofs.Common.{◌∙◌, subst, List, []}
+use Rattle.std.proofs.Common.{◌∙◌, subst}
 use Rattle.lsv_disk.specs.View.{DiskView, Image}
 use Rattle.lsv_lane.specs.Store.{KeepsStore}
 use Rattle.lsv_reactor.specs.declared.rounds.PortsEnd.TheVariants.{Stopped}
