@@ -1,2 +1,2 @@
-mod Sums
-mod Short
+pub mod Sums
+pub mod Short

@@ -4,3 +4,7 @@ mod Opened
 mod Summing
 mod Sending
 mod Running
+mod Counting
+mod Generated
+mod Replying
+mod SummingUp

@@ -3,5 +3,7 @@ pub mod Numbers
 pub mod Replayed
 pub mod Faults
 pub mod Runs
+pub mod Logs
+pub mod Whole
 pub mod InnerNumbering
 pub mod InnerSums

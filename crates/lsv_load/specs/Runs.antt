@@ -1,5 +1,5 @@
 -- A load: the conversations were served from a port of their own, and then the logs of which the replies told were summed up.
-use Rattle.std.specs.Prelude.{◌≡◌, ◌⊎◌, ℕ, true, false, List, []}
+use Rattle.std.specs.Prelude.{◌≡◌, ◌⊎◌, ℕ, true, false, List, [], Contains}
 use Rattle.lsv_disk.specs.Throughout.{OnlyReads}
 use Rattle.lsv_disk.specs.View.{DiskView}
 use Rattle.lsv_gen.specs.Summary.{summary}
@@ -10,6 +10,7 @@ use Rattle.lsv_port.specs.Memory.Value.{PortValue, TellsScript, TellsSteps, port
 use Rattle.lsv_reactor.specs.Links.{PortView, ServesPort}
 use Rattle.lsv_reactor.specs.declared.rounds.PortsEnd.TheVariants.{Stopped}
 use Rattle.lsv_record.specs.Points.{Stored}
+use Rattle.lsv_session.specs.declared.job.Job.{Job}
 use Rattle.lsv_server.specs.Runs.{HasStoreCause, RunsStore}
 use Rattle.lsv_server.specs.declared.run.End.{End}
 use Rattle.lsv_server.specs.declared.run.End.TheVariants as ends
@@ -34,9 +35,10 @@ pub record IsNew (count : ℕ) (port : PortValue) : Type 0 where
   pub going : (port_state port).stopped ≡ false
   pub unrefused : port.refused ≡ 0
 
--- all links of a port were served by these turns, by worker 0, and it told Stop
+-- all links of a port were served by these turns, by worker 0, whose jobs all are, and it told Stop
 pub record ServesOne (lane_tells : Type 0) (turns : List LaneTurn) (old new : PortView) : Type 0 where
   pub served : ServesPort lane_tells 0 (jobs_in turns) (replies_in turns) old new
+  pub only : (job : Job) → Contains (jobs_in turns) job → job.conn.worker ≡ 0
   pub stopped : new.state.stopped ≡ true
 
 -- the conversations were served by these turns, from a port of their own: it told what the script says, all of it, and wanted no memory

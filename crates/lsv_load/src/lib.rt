@@ -9,5 +9,8 @@ mod replay;
 mod run;
 mod script;
 
-pub use laws::a_load_sends_its_conversations;
+pub use laws::{
+    a_generated_conversation_is_legal, a_load_sends_its_conversations,
+    a_load_sums_up_all_its_conversations,
+};
 pub use run::{LoadEnd, run_load};

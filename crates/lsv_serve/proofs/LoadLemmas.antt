@@ -16,6 +16,7 @@ use Rattle.lsv_server.specs.declared.run.End.{End}
 use Rattle.lsv_server.specs.declared.run.End.TheVariants as up
 use Rattle.lsv_server.proofs.CompleteLemmas.{completes}
 use Rattle.lsv_load.specs.Runs.{EndsLoad, RunsLoad, view_of}
+use Rattle.lsv_load.specs.Whole.{SumsUpAll}
 use Rattle.lsv_load.specs.declared.run.LoadEnd.{LoadEnd}
 use Rattle.lsv_load.specs.declared.run.LoadEnd.TheVariants as ends
 use Rattle.lsv_serve.specs.declared.status.Status.{Status}
@@ -95,11 +96,12 @@ module _ {D : Type 0} (taping : Type 0) (view : D → DiskView) (count : ℕ) (o
   -- a run whose settings were read
   pub loads_read : (set : Option (List ℕ)) (faults faults' : ℕ) (status : Status) → ((d : D) → old.disk_tells → (image : Image) → IsCrashImage (view d) image → (view d).crash_images_at (view d).moment image) → first_refused (lines_in set) ≡ None
       → LoadsBy taping view (machine_of (set_by set)) (prompts_of (set_by set)) count old new found left tape new_tape status → (old.disk_tells → HasPlaces (set_by set).iolog_dir (set_by set).path (view left))
-      → LoadsAs taping view set faults faults' count old new found left tape new_tape status
-  loads_read set faults faults' status is_now none b places = record {
+      → SumsUpAll old.disk_tells taping view (machine_of (set_by set)) (prompts_of (set_by set)) count found left tape new_tape → LoadsAs taping view set faults faults' count old new found left tape new_tape status
+  loads_read set faults faults' status is_now none b places whole = record {
     runs = runs_to (machine_of (set_by set)) (prompts_of (set_by set)) status b.end b.run b.told;
     cause = cause_to set faults faults' status b.end none b.told;
     complete = complete_load old.disk_tells taping view (machine_of (set_by set)) (prompts_of (set_by set)) count found left tape new_tape;
+    whole = whole;
     places = λ told. places_to (set_by set).iolog_dir (set_by set).path status b.end b.told (places told);
     fresh_again = λ told fit.
         fit_read (reading_of 0 1) 0 1 (view b.run.served) (view left) (b.run.read told) (is_now left told)
@@ -108,8 +110,9 @@ module _ {D : Type 0} (taping : Type 0) (view : D → DiskView) (count : ℕ) (o
 
 -- a run whose settings weren't read
 pub loads_unread : {D : Type 0} (taping : Type 0) (view : D → DiskView) (count : ℕ) (old : World) (found : D) (tape : List TapeTurn) (set : Option (List ℕ)) (faults faults' : ℕ) (status : Status)
-    → (old.disk_tells → (image : Image) → (view found).crash_images_at (view found).moment image → IsCrashImage (view found) image) → Unread (lines_in set) faults faults' status → LoadsAs taping view set faults faults' count old old found found tape tape status
-loads_unread taping view count old found tape set faults faults' status only_now (inl e) = subst (LoadsAs taping view set faults faults' count old old found found tape tape) (sym e) (record {
+    → (old.disk_tells → (image : Image) → (view found).crash_images_at (view found).moment image → IsCrashImage (view found) image) → Unread (lines_in set) faults faults' status
+    → SumsUpAll old.disk_tells taping view (machine_of (set_by set)) (prompts_of (set_by set)) count found found tape tape → LoadsAs taping view set faults faults' count old old found found tape tape status
+loads_unread taping view count old found tape set faults faults' status only_now (inl e) whole = subst (LoadsAs taping view set faults faults' count old old found found tape tape) (sym e) (record {
   runs = (
     record {
       turns = [];
@@ -123,13 +126,15 @@ loads_unread taping view count old found tape set faults faults' status only_now
   );
   cause = tt;
   complete = complete_load old.disk_tells taping view (machine_of (set_by set)) (prompts_of (set_by set)) count found found tape tape;
+  whole = whole;
   places = λ told. inr refl;
   fresh_again = λ told fit. fit;
 })
-loads_unread taping view count old found tape set faults faults' status only_now (inr (line, e, c)) = subst (LoadsAs taping view set faults faults' count old old found found tape tape) (sym e) (record {
+loads_unread taping view count old found tape set faults faults' status only_now (inr (line, e, c)) whole = subst (LoadsAs taping view set faults faults' count old old found found tape tape) (sym e) (record {
   runs = (λ told. idle_keeps (view found) (only_now told) ⊥ (machine_of (set_by set)) (prompts_of (set_by set)) (λ x. x), refl, λ told. refl);
   cause = c;
   complete = complete_load old.disk_tells taping view (machine_of (set_by set)) (prompts_of (set_by set)) count found found tape tape;
+  whole = whole;
   places = λ told. refl;
   fresh_again = λ told fit. fit;
 })

@@ -13,6 +13,7 @@ use Rattle.lsv_lane.specs.Store.{KeepsStore}
 use Rattle.lsv_server.specs.Complete.{Completes}
 use Rattle.lsv_server.specs.Runs.{IsUp}
 use Rattle.lsv_load.specs.Runs.{RunsLoad, view_of}
+use Rattle.lsv_load.specs.Whole.{SumsUpAll}
 use Rattle.lsv_load.specs.declared.run.LoadEnd.TheVariants as ends
 use Rattle.lsv_serve.specs.declared.status.Status.{Status}
 use Rattle.lsv_serve.specs.declared.status.Status.TheVariants.{Served, Usage, Conf, Store, ReadFault, WriteFault, PortFault, NoMem}
@@ -74,6 +75,8 @@ pub record LoadsAs {D : Type 0} (tape_tells : Type 0) (view : D → DiskView) (s
   pub runs : LoadsTo tape_tells view (machine_of (set_by set)) (prompts_of (set_by set)) count old new found left tape new_tape status
   pub cause : HasLoadCause (lines_in set) faults faults' status
   pub complete : CompletesLoad old.disk_tells tape_tells view (machine_of (set_by set)) (prompts_of (set_by set)) count found left tape new_tape
+  -- where nothing was in the way of any of its conversations, what is summed up are the logs of all of them
+  pub whole : SumsUpAll old.disk_tells tape_tells view (machine_of (set_by set)) (prompts_of (set_by set)) count found left tape new_tape
   pub places : old.disk_tells → HasPlacesAt (set_by set).iolog_dir (set_by set).path (view found) (view left) status
   -- the numbers fit the images of the disk again, as the next run asks
   pub fresh_again : old.disk_tells → NumbersFit (reading_of 0 1) 0 1 (IsCrashImage (view found)) → NumbersFit (reading_of 0 1) 0 1 (IsCrashImage (view left))

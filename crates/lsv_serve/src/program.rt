@@ -27,6 +27,7 @@ use lsv_base::{Bytes, Clock, List, Sink, Source, TextFault, Texts};
 use lsv_conf::{Conf, ConfFault, read_conf};
 use lsv_disk::Disk;
 use lsv_hook::LineWriter;
+use lsv_load::a_load_sums_up_all_its_conversations;
 use lsv_mask::Search;
 use lsv_port::Port;
 use lsv_server::Notices;
@@ -228,6 +229,7 @@ fn load<
     ensures unserved { (line : ℕ) → result.1 ≡ Status.Conf line → (result.0.source ≡ out.source) × (result.0.sink ≡ out.sink) × (result.0.disk ≡ out.disk) × (result.0.clock ≡ out.clock) }
     ensures not_usage { result.1 ≡ Status.Usage → ⊥ }
 {
+    a_load_sums_up_all_its_conversations::<D, G>();
     let mut out = out;
     let found = match found_file(alloc, &mut out.texts, opts) {
         Ok(found) => found,

@@ -17,7 +17,7 @@ use Rattle.lsv_seq.specs.Drawn.{entry_at}
 use Rattle.lsv_seq.specs.declared.entry.Entry.{Entry}
 use Rattle.lsv_wire.specs.Frame.{frame_of}
 use Rattle.lsv_session.specs.Connections.{server_hello}
-use Rattle.lsv_session.specs.Transcript.{AreFirst, answers, bodies_of, frames_of}
+use Rattle.lsv_session.specs.Transcript.{AreFirst, answers, bodies_of, frames_of, said_to}
 use Rattle.lsv_session.specs.declared.connection.ConnId.{ConnId}
 use Rattle.lsv_session.specs.declared.connection.ConnState.TheVariants.{Fresh}
 use Rattle.lsv_session.specs.declared.job.Body.{Body}
@@ -40,7 +40,7 @@ use Rattle.lsv_turns.specs.Turns.{LaneTurn, jobs_in, replies_in, shuts}
 use Rattle.lsv_lane.specs.Store.{Conforms, KeepsStore}
 use Rattle.lsv_reactor.specs.Links.{AtMostStarved, Brings, LinkFailed, PortView, Puts, ServesLink, ServesPort, conn_of}
 use Rattle.lsv_reactor.specs.Links as links
-use Rattle.lsv_server.specs.Complete.{AllAmple, AreAmple, Completes, IsServedBy, IsUnhindered, answers_of, came_by}
+use Rattle.lsv_server.specs.Complete.{AllAmple, AreAmple, Completes, IsServedBy, IsUnhindered, answers_of, came_by, messages_of}
 use Rattle.lsv_server.proofs.Leaving.{isnt_shut_early, unshut_replies}
 use Rattle.lsv_server.proofs.Sent.{NoGone, ends_with_gone, first_no_gone, jobs_no_gone, replies_are, said_all, spoken, spoken_all, told_same, turns_sent}
 
@@ -200,11 +200,13 @@ module _ (disk_tells : Type 0) (set : Settings) (texts : List (List ℕ)) (found
   abbrev n : ℕ
   n = done.0
 
+  said_is : said_to k (replies_in lane) ≡ messages_of (told_of n (came_by k lane))
+  said_is =
+      ap (said_to k) (replies_are k lane turns keeps.are)
+      ∙ (said_all k (all_answers turns) (told_of n (map (λ c. c.bodies) (came_of k turns))) done.1.told ∙ ap messages_of (told_same k n lane turns keeps.are))
+
   answers_are : answers k (replies_in lane) ≡ answers_of (told_of n (came_by k lane))
-  answers_are =
-      let said = said_all k (all_answers turns) (told_of n (map (λ c. c.bodies) (came_of k turns))) done.1.told in
-      ap (answers k) (replies_are k lane turns keeps.are)
-      ∙ (ap (λ (ms : List ServerMessage). frame_of (server_bytes server_hello) ++ frames_of ms) said ∙ ap answers_of (told_same k n lane turns keeps.are))
+  answers_are = ap (λ (ms : List ServerMessage). frame_of (server_bytes server_hello) ++ frames_of ms) said_is
 
   log_now : Replays left.reads n (Some (whole_log texts bodies))
   log_now =
@@ -217,6 +219,8 @@ module _ (disk_tells : Type 0) (set : Settings) (texts : List (List ℕ)) (found
     record {
       came = came_is ∙ ap (λ (bs : List Body). bs ++ body.Gone ∷ []) all_heard;
       above = λ last drawn. subst (λ (x : ℕ). x < n) (one_last set.lane set.lanes found.reads start.last last conforms.ran.drawn drawn) done.1.above;
+      within = (u.fits n done.1.number).number;
+      said = said_is;
       put = subst (λ (bytes : List ℕ). Puts (after.state.link l) (LinkFailed l before after) bytes) answers_are (served.puts told);
       log = log_now;
     },

@@ -125,6 +125,10 @@ module _ (k : ConnId) where
   no_jobs (Tailed tail ∷ h) e = no_jobs h e
   no_jobs (Begins texts ∷ h) e = no_jobs h e
 
+  -- what brings no job has none
+  pub none_brought : (lane : List LaneTurn) (turns : List Turn) → AreTurns lane turns → bodies_of k (jobs_in lane) ≡ [] → NoJobs k (all_turns turns)
+  none_brought lane turns are none = no_jobs (all_turns turns) (ap (bodies_of k) (sym (all_brought lane turns are)) ∙ none)
+
   ends_so : (h : List Happened) → lane_turns.EndsWithGone (bodies_of k (brought h)) → EndsWithGone k h
   ends_so [] e = tt
   ends_so (Did act ∷ h) e = elim (same_or act.job.conn k) [

@@ -1,5 +1,5 @@
 -- Which links of a server are served to their end, and how: each over which a legal conversation comes that opens a log, where nothing is in its way.
-use Rattle.std.specs.Prelude.{◌≡◌, ◌<◌, ◌++◌, ℕ, List, [], ◌∷◌, map, Some, Contains}
+use Rattle.std.specs.Prelude.{◌≡◌, ◌≤◌, ◌<◌, ◌++◌, ℕ, List, [], ◌∷◌, map, Some, Contains}
 use Rattle.std.specs.List.{flat_map}
 use Rattle.lsv_words.specs.Causes.{HasRisen}
 use Rattle.lsv_disk.specs.View.{DiskView}
@@ -10,7 +10,7 @@ use Rattle.lsv_msg.specs.declared.messages.ServerMessage.{ServerMessage}
 use Rattle.lsv_port.specs.Port.{LinkState}
 use Rattle.lsv_wire.specs.Frame.{frame_of}
 use Rattle.lsv_session.specs.Connections.{server_hello}
-use Rattle.lsv_session.specs.Transcript.{AreJobs, bodies_of, frames_of, messages_in}
+use Rattle.lsv_session.specs.Transcript.{AreJobs, bodies_of, frames_of, messages_in, said_to}
 use Rattle.lsv_session.specs.declared.connection.ConnId.{ConnId}
 use Rattle.lsv_session.specs.declared.connection.ConnState.TheVariants.{Fresh}
 use Rattle.lsv_session.specs.declared.job.Body.{Body}
@@ -21,6 +21,7 @@ use Rattle.lsv_machine.specs.Failures.{Act, WantsMemory}
 use Rattle.lsv_machine.specs.Legal.{IsLegal, told_of, whole_log}
 use Rattle.lsv_machine.specs.Machine.{Machine, Settings}
 use Rattle.lsv_machine.specs.Recovery.{Story, Turn}
+use Rattle.lsv_machine.specs.Work.{last_number}
 use Rattle.lsv_complete.specs.Among.{FitsAmong}
 use Rattle.lsv_keeper.specs.Reading.{IsDrawn}
 use Rattle.lsv_turns.specs.Turns.{LaneTurn, jobs_in, replies_in}
@@ -73,7 +74,11 @@ pub record IsServedBy (set : Settings) (texts : List (List ℕ)) (found left : D
   pub came : bodies_of k (jobs_in turns) ≡ bodies ++ Gone ∷ []
   -- the number is above the last one that was drawn before the run
   pub above : (last : ℕ) → IsDrawn set.lane set.lanes found.reads last → last < n
-  -- what was put on the link is the hello, the log's number, a commit point for each turn with records, and the exit's: a prefix of these, and all of them where no call on the link failed and it wasn't full when it was last open
+  -- and at most the last number of a log
+  pub within : n ≤ last_number
+  -- what was said to it are the log's number, a commit point for each turn with records, and the exit's
+  pub said : said_to k (replies_in turns) ≡ messages_of (told_of n (came_by k turns))
+  -- what was put on the link is the hello and these: a prefix of it, and all of it where no call on the link failed and it wasn't full when it was last open
   pub put : Puts link failed (answers_of (told_of n (came_by k turns)))
   -- the log replays as all that was sent, as it is masked, with its exit
   pub log : Replays left.reads n (Some (whole_log texts bodies))

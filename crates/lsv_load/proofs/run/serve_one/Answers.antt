@@ -1,5 +1,5 @@
 -- A post alone has place 0.
-use Rattle.std.proofs.Common.{◌≡◌, ◌∙◌, ℕ, [], Some, length}
+use Rattle.std.proofs.Common.{◌≡◌, ◌∙◌, ℕ, [], Some, length, arith}
 use Rattle.std.specs.Prelude.{slice_get, slice_index_or}
 use Rattle.lsv_load.proofs.Running.{first_there, only_one, only_place}
 use Rattle.lsv_load.proofs.run.serve_one.Goals as goal
@@ -26,5 +26,5 @@ returns-in-Ok-Stopped-clause-ok g c begun start made_post made =
       ran.0,
       ran.1,
       ran.2,
-      λ told. record { served = ran.3.each told 0 (slice_index_or c.serve.new.posts 0 c.args.post.now) at; stopped = ran.3.ended told 0 (slice_index_or c.serve.new.posts 0 c.args.post.now) at },
+      λ told. record { served = ran.3.each told 0 (slice_index_or c.serve.new.posts 0 c.args.post.now) at; only = λ job here. let few = ran.3.within job here in omega (arith, few, one); stopped = ran.3.ended told 0 (slice_index_or c.serve.new.posts 0 c.args.post.now) at },
     )

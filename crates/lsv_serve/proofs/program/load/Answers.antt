@@ -1,7 +1,7 @@
 use Rattle.std.proofs.Common.{◌≡◌, ◌∙◌, refl, ap, subst, List, ℕ, Option}
 use Rattle.lsv_conf.specs.Settings as conf
 use Rattle.lsv_serve.specs.Causes.{HasPlaces}
-use Rattle.lsv_serve.specs.Program.{lines_in, prompts_of, set_by}
+use Rattle.lsv_serve.specs.Program.{lines_in, machine_of, prompts_of, set_by}
 use Rattle.lsv_serve.specs.World.{World, world_of}
 use Rattle.lsv_serve.proofs.LoadLemmas.{loads_read, loads_unread}
 use Rattle.lsv_serve.proofs.ProgramLemmas.{unread_file, unread_line}
@@ -12,16 +12,24 @@ returns-in-Err-clause-loads g c =
     let w : World = world_of g.S.Source g.K.Sink g.D.Disk c.args.out.source c.args.out.sink c.args.out.disk in
     let found : Option (List ℕ) = g.T.Texts.texts c.args.out.texts c.args.opts.now.conf in
     let before = g.T.Texts.faults c.args.out.texts in
-    let after = g.T.Texts.faults c.found_file.new.texts in
-    (found, λ told. refl, loads_unread g.G.Tape.tells g.D.Disk.view c.args.count w c.args.out.disk (g.G.Tape.turns c.args.out.tape) found before after c.in-Err.status (λ told image is. g.met.D.Disk.only_now told c.args.out.disk image is) (unread_file (lines_in found) before after c.in-Err.status c.in-Err.ensures.err))
+    let after = g.T.Texts.faults c.found_file.new.texts in (
+      found,
+      λ told. refl,
+      loads_unread g.G.Tape.tells g.D.Disk.view c.args.count w c.args.out.disk (g.G.Tape.turns c.args.out.tape) found before after c.in-Err.status (λ told image is. g.met.D.Disk.only_now told c.args.out.disk image is) (unread_file (lines_in found) before after c.in-Err.status c.in-Err.ensures.err)
+          (c.a_load_sums_up_all_its_conversations.ensures (machine_of (set_by found)) (prompts_of (set_by found)) c.args.count c.args.out.disk c.args.out.disk (g.G.Tape.turns c.args.out.tape) (g.G.Tape.turns c.args.out.tape) c.requires.last),
+    )
 
 pub returns-in-Err-conf_in-clause-loads : goal.returns-in-Err-conf_in-clause-loads
 returns-in-Err-conf_in-clause-loads g c =
     let w : World = world_of g.S.Source g.K.Sink g.D.Disk c.args.out.source c.args.out.sink c.args.out.disk in
     let found : Option (List ℕ) = c.in-Ok.found in
     let before = g.T.Texts.faults c.args.out.texts in
-    let after = g.T.Texts.faults c.found_file.new.texts in
-    (found, λ told. c.in-Ok.ensures.ok told, loads_unread g.G.Tape.tells g.D.Disk.view c.args.count w c.args.out.disk (g.G.Tape.turns c.args.out.tape) found before after c.in-Err-conf_in.status (λ told image is. g.met.D.Disk.only_now told c.args.out.disk image is) (unread_line (lines_in found) before after c.in-Err-conf_in.status c.in-Err-conf_in.ensures.err))
+    let after = g.T.Texts.faults c.found_file.new.texts in (
+      found,
+      λ told. c.in-Ok.ensures.ok told,
+      loads_unread g.G.Tape.tells g.D.Disk.view c.args.count w c.args.out.disk (g.G.Tape.turns c.args.out.tape) found before after c.in-Err-conf_in.status (λ told image is. g.met.D.Disk.only_now told c.args.out.disk image is) (unread_line (lines_in found) before after c.in-Err-conf_in.status c.in-Err-conf_in.ensures.err)
+          (c.a_load_sums_up_all_its_conversations.ensures (machine_of (set_by found)) (prompts_of (set_by found)) c.args.count c.args.out.disk c.args.out.disk (g.G.Tape.turns c.args.out.tape) (g.G.Tape.turns c.args.out.tape) c.requires.last),
+    )
 
 pub returns-in-Ok-conf_in-clause-loads : goal.returns-in-Ok-conf_in-clause-loads
 returns-in-Ok-conf_in-clause-loads g c =
@@ -39,5 +47,6 @@ returns-in-Ok-conf_in-clause-loads g c =
       λ told. c.in-Ok.ensures.ok told,
       loads_read g.G.Tape.tells g.D.Disk.view c.args.count old new c.args.out.disk out.disk (g.G.Tape.turns c.args.out.tape) (g.G.Tape.turns out.tape) found (g.T.Texts.faults c.args.out.texts) _ c.serve_load.result.1 (λ d told image is. g.met.D.Disk.is_now told d image is) c.in-Ok-conf_in.ensures.none_refused
           (rw (form, log_exit, prompts) at c.serve_load.ensures.runs)
-          (λ told. subst (λ (e : List ℕ). HasPlaces (set_by found).iolog_dir e new.disk) events (subst (λ (l : List ℕ). HasPlaces l c.options_of.result.events new.disk) logs (c.serve_load.ensures.places told))),
+          (λ told. subst (λ (e : List ℕ). HasPlaces (set_by found).iolog_dir e new.disk) events (subst (λ (l : List ℕ). HasPlaces l c.options_of.result.events new.disk) logs (c.serve_load.ensures.places told)))
+          (c.a_load_sums_up_all_its_conversations.ensures (machine_of (set_by found)) (prompts_of (set_by found)) c.args.count c.args.out.disk out.disk (g.G.Tape.turns c.args.out.tape) (g.G.Tape.turns out.tape) c.requires.last),
     )
