@@ -11,6 +11,7 @@ mod limit;
 mod path;
 mod port;
 mod read_only;
+mod reader;
 mod span;
 mod standard;
 mod store;

@@ -56,10 +56,21 @@ impl Places {
     fn in_log(&self, alloc: Global, n: u32, name: Option<&str>) -> Result<Option<Place>, AllocError>
         ensures { IfOk result (λ place. is_some place ≡ (is_log_number n && is_some name.entry)) }
     {
-        let Some(number) = LogNo::new(n) else {
+        let Some(folder) = self.log_folder(alloc, n)? else {
             return Ok(None);
         };
         let Some(name) = name else {
+            return Ok(None);
+        };
+        let path = format!(in alloc; "{folder}/{name}")?;
+        Ok(Some(Place { folder, path }))
+    }
+
+    /// The folder of a log, None where the number is that of no log.
+    pub fn log_folder(&self, alloc: Global, n: u32) -> Result<Option<String>, AllocError>
+        ensures { IfOk result (λ folder. is_some folder ≡ is_log_number n) }
+    {
+        let Some(number) = LogNo::new(n) else {
             return Ok(None);
         };
         let [a, b, c, d, e, f] = number.digits();
@@ -67,13 +78,12 @@ impl Places {
         let (a, b, c) = (a as char, b as char, c as char);
         let (d, e, f) = (d as char, e as char, f as char);
         let folder = format!(in alloc; "{dir}/{a}{b}/{c}{d}/{e}{f}")?;
-        let path = format!(in alloc; "{folder}/{name}")?;
-        Ok(Some(Place { folder, path }))
+        Ok(Some(folder))
     }
 }
 
 /// The name of a file of a log, None where a log has no such file.
-fn log_name(part: Part) -> Option<&'static str>
+pub fn log_name(part: Part) -> Option<&'static str>
     ensures { option_map (λ name. name.now) result ≡ log_name part }
 {
     match part {
