@@ -1,5 +1,5 @@
 -- What each call of a post leaves of it.
-use Rattle.std.proofs.Common.{◌≡◌, ℕ, zero, suc, true, false, List, [], ◌∷◌, ◌++◌, refl, sym, ap, subst, ◌∙◌, inr, arith}
+use Rattle.std.proofs.Common.{◌≡◌, ℕ, zero, suc, true, false, List, [], ◌∷◌, ◌++◌, refl, sym, ap, subst, ◌∙◌, inr}
 use Rattle.std.proofs.Math.Path.{fun_ext}
 use Rattle.lsv_port.specs.Ledger.{Continues, PortLedger}
 use Rattle.lsv_port.specs.Port.{IsSame, PortState}
