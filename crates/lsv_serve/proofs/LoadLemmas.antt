@@ -20,10 +20,10 @@ use Rattle.lsv_load.specs.Whole.{SumsUpAll}
 use Rattle.lsv_load.specs.declared.run.LoadEnd.{LoadEnd}
 use Rattle.lsv_load.specs.declared.run.LoadEnd.TheVariants as ends
 use Rattle.lsv_serve.specs.declared.status.Status.{Status}
-use Rattle.lsv_serve.specs.declared.status.Status.TheVariants.{Served, Conf, Store, WriteFault, NoMem}
+use Rattle.lsv_serve.specs.declared.status.Status.TheVariants.{Served, Usage, Conf, Store, ReadFault, WriteFault, PortFault, NoMem}
 use Rattle.lsv_serve.specs.Causes.{HasPlaces, HasPlacesAt}
 use Rattle.lsv_serve.specs.InnerServe.{LoadsBy, TellsLoad}
-use Rattle.lsv_serve.specs.Load.{CompletesLoad, HasLoadCause, LoadsAs, LoadsTo, while_up}
+use Rattle.lsv_serve.specs.Load.{CompletesLoad, HasLoadCause, LoadsAs, LoadsTo, OfSummary, while_up}
 use Rattle.lsv_serve.specs.Program.{lines_in, machine_of, prompts_of, set_by}
 use Rattle.lsv_serve.specs.World.{World}
 use Rattle.lsv_serve.proofs.ProgramLemmas.{Unread}
@@ -73,6 +73,16 @@ complete_load : {D : Type 0} (tells taping : Type 0) (view : D → DiskView) (se
 complete_load tells taping view set texts count found left tape new_tape text run told up =
     completes tells told set texts (view found) (view run.served) run.turns (while_up up (run.store.keeps told)) 0 (view_of run.ends.load.old) (view_of run.ends.load.new) run.ends.load.served.served
 
+of_summary : (so : Type 0) (status : Status) → so → OfSummary status so
+of_summary so Served x = x
+of_summary so WriteFault x = x
+of_summary so (Store fault) x = tt
+of_summary so NoMem x = tt
+of_summary so (Conf line) x = tt
+of_summary so Usage x = tt
+of_summary so ReadFault x = tt
+of_summary so PortFault x = tt
+
 module _ {D : Type 0} (taping : Type 0) (view : D → DiskView) (count : ℕ) (old new : World) (found left : D) (tape new_tape : List TapeTurn) where
   runs_to : (set : Settings) (texts : List (List ℕ)) (status : Status) (end : LoadEnd) → RunsLoad old.disk_tells taping view set texts count found left tape new_tape end
       → TellsLoad old.sink_tells old.put new.put old.write_faults new.write_faults end status → LoadsTo taping view set texts count old new found left tape new_tape status
@@ -101,7 +111,7 @@ module _ {D : Type 0} (taping : Type 0) (view : D → DiskView) (count : ℕ) (o
     runs = runs_to (machine_of (set_by set)) (prompts_of (set_by set)) status b.end b.run b.told;
     cause = cause_to set faults faults' status b.end none b.told;
     complete = complete_load old.disk_tells taping view (machine_of (set_by set)) (prompts_of (set_by set)) count found left tape new_tape;
-    whole = whole;
+    whole = of_summary _ status whole;
     places = λ told. places_to (set_by set).iolog_dir (set_by set).path status b.end b.told (places told);
     fresh_again = λ told fit.
         fit_read (reading_of 0 1) 0 1 (view b.run.served) (view left) (b.run.read told) (is_now left told)
@@ -110,9 +120,8 @@ module _ {D : Type 0} (taping : Type 0) (view : D → DiskView) (count : ℕ) (o
 
 -- a run whose settings weren't read
 pub loads_unread : {D : Type 0} (taping : Type 0) (view : D → DiskView) (count : ℕ) (old : World) (found : D) (tape : List TapeTurn) (set : Option (List ℕ)) (faults faults' : ℕ) (status : Status)
-    → (old.disk_tells → (image : Image) → (view found).crash_images_at (view found).moment image → IsCrashImage (view found) image) → Unread (lines_in set) faults faults' status
-    → SumsUpAll old.disk_tells taping view (machine_of (set_by set)) (prompts_of (set_by set)) count found found tape tape → LoadsAs taping view set faults faults' count old old found found tape tape status
-loads_unread taping view count old found tape set faults faults' status only_now (inl e) whole = subst (LoadsAs taping view set faults faults' count old old found found tape tape) (sym e) (record {
+    → (old.disk_tells → (image : Image) → (view found).crash_images_at (view found).moment image → IsCrashImage (view found) image) → Unread (lines_in set) faults faults' status → LoadsAs taping view set faults faults' count old old found found tape tape status
+loads_unread taping view count old found tape set faults faults' status only_now (inl e) = subst (LoadsAs taping view set faults faults' count old old found found tape tape) (sym e) (record {
   runs = (
     record {
       turns = [];
@@ -126,15 +135,15 @@ loads_unread taping view count old found tape set faults faults' status only_now
   );
   cause = tt;
   complete = complete_load old.disk_tells taping view (machine_of (set_by set)) (prompts_of (set_by set)) count found found tape tape;
-  whole = whole;
+  whole = tt;
   places = λ told. inr refl;
   fresh_again = λ told fit. fit;
 })
-loads_unread taping view count old found tape set faults faults' status only_now (inr (line, e, c)) whole = subst (LoadsAs taping view set faults faults' count old old found found tape tape) (sym e) (record {
+loads_unread taping view count old found tape set faults faults' status only_now (inr (line, e, c)) = subst (LoadsAs taping view set faults faults' count old old found found tape tape) (sym e) (record {
   runs = (λ told. idle_keeps (view found) (only_now told) ⊥ (machine_of (set_by set)) (prompts_of (set_by set)) (λ x. x), refl, λ told. refl);
   cause = c;
   complete = complete_load old.disk_tells taping view (machine_of (set_by set)) (prompts_of (set_by set)) count found found tape tape;
-  whole = whole;
+  whole = tt;
   places = λ told. refl;
   fresh_again = λ told fit. fit;
 })

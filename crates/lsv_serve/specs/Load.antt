@@ -70,13 +70,24 @@ CompletesLoad {D} disk_tells tape_tells view set texts count found left tape new
     (text : List ℕ) (run : RunsLoad disk_tells tape_tells view set texts count found left tape new_tape (ends.Served text)) (told : disk_tells) (up : IsUp run.up run.turns)
     → Completes set texts (view found) (view run.served) run.turns (while_up up (run.store.keeps told)) 0 (view_of run.ends.load.old) (view_of run.ends.load.new) run.ends.load.served.served
 
+-- this is so of the summary, at the statuses at which there is one
+abbrev pub OfSummary : Status → Type 0 → Type 0
+OfSummary Served so = so
+OfSummary WriteFault so = so
+OfSummary (Store fault) so = Unit {0}
+OfSummary NoMem so = Unit {0}
+OfSummary (Conf line) so = Unit {0}
+OfSummary Usage so = Unit {0}
+OfSummary ReadFault so = Unit {0}
+OfSummary PortFault so = Unit {0}
+
 -- a run of `load` with the settings file as it was found
 pub record LoadsAs {D : Type 0} (tape_tells : Type 0) (view : D → DiskView) (set : Option (List ℕ)) (faults faults' : ℕ) (count : ℕ) (old new : World) (found left : D) (tape new_tape : List TapeTurn) (status : Status) : Type 0 where
   pub runs : LoadsTo tape_tells view (machine_of (set_by set)) (prompts_of (set_by set)) count old new found left tape new_tape status
   pub cause : HasLoadCause (lines_in set) faults faults' status
   pub complete : CompletesLoad old.disk_tells tape_tells view (machine_of (set_by set)) (prompts_of (set_by set)) count found left tape new_tape
   -- where nothing was in the way of any of its conversations, what is summed up are the logs of all of them
-  pub whole : SumsUpAll old.disk_tells tape_tells view (machine_of (set_by set)) (prompts_of (set_by set)) count found left tape new_tape
+  pub whole : OfSummary status (SumsUpAll old.disk_tells tape_tells view (machine_of (set_by set)) (prompts_of (set_by set)) count found left tape new_tape)
   pub places : old.disk_tells → HasPlacesAt (set_by set).iolog_dir (set_by set).path (view found) (view left) status
   -- the numbers fit the images of the disk again, as the next run asks
   pub fresh_again : old.disk_tells → NumbersFit (reading_of 0 1) 0 1 (IsCrashImage (view found)) → NumbersFit (reading_of 0 1) 0 1 (IsCrashImage (view left))

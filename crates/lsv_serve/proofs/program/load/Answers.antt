@@ -15,8 +15,7 @@ returns-in-Err-clause-loads g c =
     let after = g.T.Texts.faults c.found_file.new.texts in (
       found,
       λ told. refl,
-      loads_unread g.G.Tape.tells g.D.Disk.view c.args.count w c.args.out.disk (g.G.Tape.turns c.args.out.tape) found before after c.in-Err.status (λ told image is. g.met.D.Disk.only_now told c.args.out.disk image is) (unread_file (lines_in found) before after c.in-Err.status c.in-Err.ensures.err)
-          (c.a_load_sums_up_all_its_conversations.ensures (machine_of (set_by found)) (prompts_of (set_by found)) c.args.count c.args.out.disk c.args.out.disk (g.G.Tape.turns c.args.out.tape) (g.G.Tape.turns c.args.out.tape) c.requires.last),
+      loads_unread g.G.Tape.tells g.D.Disk.view c.args.count w c.args.out.disk (g.G.Tape.turns c.args.out.tape) found before after c.in-Err.status (λ told image is. g.met.D.Disk.only_now told c.args.out.disk image is) (unread_file (lines_in found) before after c.in-Err.status c.in-Err.ensures.err),
     )
 
 pub returns-in-Err-conf_in-clause-loads : goal.returns-in-Err-conf_in-clause-loads
@@ -27,8 +26,7 @@ returns-in-Err-conf_in-clause-loads g c =
     let after = g.T.Texts.faults c.found_file.new.texts in (
       found,
       λ told. c.in-Ok.ensures.ok told,
-      loads_unread g.G.Tape.tells g.D.Disk.view c.args.count w c.args.out.disk (g.G.Tape.turns c.args.out.tape) found before after c.in-Err-conf_in.status (λ told image is. g.met.D.Disk.only_now told c.args.out.disk image is) (unread_line (lines_in found) before after c.in-Err-conf_in.status c.in-Err-conf_in.ensures.err)
-          (c.a_load_sums_up_all_its_conversations.ensures (machine_of (set_by found)) (prompts_of (set_by found)) c.args.count c.args.out.disk c.args.out.disk (g.G.Tape.turns c.args.out.tape) (g.G.Tape.turns c.args.out.tape) c.requires.last),
+      loads_unread g.G.Tape.tells g.D.Disk.view c.args.count w c.args.out.disk (g.G.Tape.turns c.args.out.tape) found before after c.in-Err-conf_in.status (λ told image is. g.met.D.Disk.only_now told c.args.out.disk image is) (unread_line (lines_in found) before after c.in-Err-conf_in.status c.in-Err-conf_in.ensures.err),
     )
 
 pub returns-in-Ok-conf_in-clause-loads : goal.returns-in-Ok-conf_in-clause-loads
