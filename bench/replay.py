@@ -5,7 +5,8 @@ usage: replay.py PROGRAM [PEER]
 
 It prints the processor time a log of a listing of 10,000 logs, and a record of a session of 1,000,000 records of ten bytes
 that is played without waits, the peak of memory of each, and the ratio of the times to those of a tenth of each load,
-which shows that the cost is linear. PEER is sudo's own sudoreplay, over its own store: of the listing, the time a log.
+which shows that the cost is linear. PEER is sudo's own sudoreplay, by default that of Debian's package sudo, over its own
+store: its listings and ours run in turns, the least time of each counts, and the ratio of ours to its stands behind them.
 """
 import os
 import shutil
@@ -15,12 +16,13 @@ import tempfile
 
 sys.path.insert(0, os.path.join(os.path.dirname(os.path.abspath(__file__)), "..", "interop"))
 import replay as interop  # noqa: E402
+import servers  # noqa: E402
 import stores  # noqa: E402
 from bench import watched  # noqa: E402
 
 LOGS = 10_000
 RECORDS = 1_000_000
-RUNS = 5
+RUNS = 9
 INFO = {
     "columns": 80, "command": "/usr/bin/id", "lines": 24, "runargv": ["id", "-u"], "rungid": 0, "rungroup": "root", "runuid": 0,
     "runuser": "root", "submitcwd": "/home/ann", "submithost": "web1", "submituser": "ann", "ttyname": "/dev/pts/0",
@@ -36,10 +38,10 @@ def run(program, words):
     return usage.ru_utime + usage.ru_stime, peak
 
 
-def best(program, words):
-    """The least processor time of some runs, and the peak of memory."""
-    runs = [run(program, words) for _ in range(RUNS)]
-    return min(seconds for seconds, _ in runs), max(peak for _, peak in runs)
+def best(runners):
+    """The least processor time of some runs of each of these programs with its words, in turns, and the peaks of memory."""
+    runs = [[run(program, words) for program, words in runners] for _ in range(RUNS)]
+    return [min(seconds for seconds, _ in kept) for kept in zip(*runs)], [max(peak for _, peak in kept) for kept in zip(*runs)]
 
 
 def many_logs(folder, count, peer):
@@ -67,20 +69,32 @@ def measure(name, program, fill, count, words):
     for size in (count // 10, count):
         folder = tempfile.mkdtemp(dir="/dev/shm")
         fill(folder, size)
-        seconds, peak = best(program, ["-d", folder, *words])
+        (seconds,), (peak,) = best([(program, ["-d", folder, *words])])
         times.append(seconds)
         shutil.rmtree(folder)
-    print(f"{name}: {times[1] / count * 1e6:.2f} µs, {times[1] / times[0]:.1f} times that of a tenth, {peak / 2**20:.1f} MB")
+    print(f"{name}: {times[1] / count * 1e6:.2f} µs, {times[1] / times[0]:.1f} times that of a tenth, {peak / 2**20:.1f} MB", flush=True)
+
+
+def beside(name, program, peer, words):
+    """Prints the cost of each log beside that of the peer."""
+    stored = [(it, tempfile.mkdtemp(dir="/dev/shm")) for it in (program, peer)]
+    for it, folder in stored:
+        many_logs(folder, LOGS, it is peer)
+    (ours, its), _ = best([(it, ["-d", folder, *words]) for it, folder in stored])
+    for _, folder in stored:
+        shutil.rmtree(folder)
+    print(f"{name}, in turns with sudo's own: {ours / LOGS * 1e6:.2f} µs to {its / LOGS * 1e6:.2f} µs, ratio {ours / its:.2f}", flush=True)
 
 
 def main():
     program = os.path.realpath(sys.argv[1])
+    peer = sys.argv[2] if len(sys.argv) > 2 else servers.tool("sudoreplay")
     measure("a log of a listing", program, lambda folder, n: many_logs(folder, n, False), LOGS, ["-l"])
     measure("a log of a search by command", program, lambda folder, n: many_logs(folder, n, False), LOGS, ["-l", "command", "^/bin"])
     measure("a record that is played", program, many_records, RECORDS, ["-m", "0", "000001"])
-    if len(sys.argv) > 2:
-        measure("the peer, a log of a listing", sys.argv[2], lambda folder, n: many_logs(folder, n, True), LOGS, ["-l"])
-        measure("the peer, a log of a search", sys.argv[2], lambda folder, n: many_logs(folder, n, True), LOGS, ["-l", "command", "^/bin"])
+    if peer:
+        beside("a log of a listing", program, peer, ["-l"])
+        beside("a log of a search by command", program, peer, ["-l", "command", "^/bin"])
 
 
 if __name__ == "__main__":

@@ -200,16 +200,31 @@ def measure_hostile(side):
     shutil.rmtree(place.folder)
 
 
-def syncs_alone(folder, times):
-    """How often a second two data files and twice a journal can be written and synced, one after the other."""
-    files = [os.open(os.path.join(folder, f"alone{number}"), os.O_RDWR | os.O_CREAT, 0o600) for number in range(3)]
-    begin, at = time.monotonic(), 0
-    for _ in range(times):
-        for file, text, place in ((files[0], b"4 0.000001000 10\n", at), (files[1], b"0123456789", at), (files[2], b"x" * 90, 2), (files[2], b"\1", 1)):
-            os.pwrite(file, text, place)
-            os.fdatasync(file)
-        at += 17
-    return times / (time.monotonic() - begin)
+def syncs_alone(folder, times, logs):
+    """How often a second the two data files and twice the journal of a log can be written and synced, of so many logs in turn."""
+    files = []
+    for log in range(logs):
+        place = tempfile.mkdtemp(dir=folder)
+        files.append([os.open(os.path.join(place, name), os.O_RDWR | os.O_CREAT, 0o600) for name in ("timing", "ttyout", "slots")])
+        for file in files[-1]:
+            os.pwrite(file, b"x" * 200, 0)
+            os.fsync(file)
+    begin = time.monotonic()
+    for number in range(times):
+        timing, ttyout, slots = files[number % logs]
+        turn = number // logs
+        os.pwrite(timing, b"4 0.000001000 10\n", 200 + 17 * turn)
+        os.pwrite(ttyout, b"0123456789", 200 + 10 * turn)
+        os.fdatasync(timing)
+        os.fdatasync(ttyout)
+        os.pwrite(slots, b"x" * 89, 2 + 89 * (turn % 2))
+        os.fdatasync(slots)
+        os.pwrite(slots, bytes([turn % 2]), 1)
+        os.fdatasync(slots)
+    took = time.monotonic() - begin
+    for file in (file for those in files for file in those):
+        os.close(file)
+    return times / took
 
 
 def commits(side, folder, connections, seconds):
@@ -243,14 +258,14 @@ def commits(side, folder, connections, seconds):
 
 
 def measure_commits(ours, folder, share):
-    """The peer's commit points are told by a timer and synced by nobody."""
-    alone, one, many = [], [], []
-    for _ in range(RUNS):
-        alone.append(syncs_alone(folder, int(1_000 * share) + 10))
-        one.append(commits(ours, folder, 1, 2 * share + 0.5))
-        many.append(commits(ours, folder, 64, 2 * share + 0.5))
-    print(f"commit points a second on disk, one connection: {max(one):.0f}, {max(one) / max(alone):.2f} of the rate of their {SYNCS} writes and "
-          f"syncs alone, {max(alone):.0f} a second; 64 connections: {max(many):.0f}, {max(many) / max(alone):.2f} of it", flush=True)
+    """Beside their writes and syncs alone, since the peer's commit points are told by a timer and synced by nobody."""
+    for connections in (1, 64):
+        alone, made = [], []
+        for _ in range(RUNS):
+            alone.append(syncs_alone(folder, int(2_000 * share) + 10, connections))
+            made.append(commits(ours, folder, connections, 2 * share + 0.5))
+        print(f"commit points a second on disk, {connections} {'connection' if connections == 1 else 'connections'}: {max(made):.0f}, "
+              f"{max(made) / max(alone):.2f} of the rate of their {SYNCS} writes and syncs alone, {max(alone):.0f} a second", flush=True)
 
 
 def load_time(program, count):
