@@ -47,7 +47,7 @@ NeverGone k (Begins texts ∷ history) = NeverGone k history
 
 -- ---- What is in its way
 
--- in this history no owner failed, and memory wasn't wanting for the connection's jobs
+-- in this history no owner failed, and memory didn't run out for the connection's jobs
 abbrev pub IsUndisturbed : ConnId → List Happened → Type 0
 IsUndisturbed k [] = Unit {0}
 IsUndisturbed k (Did act ∷ history) = (act.failed ≡ []) × (act.job.conn ≡ k → WantsMemory k act.answers → ⊥) × IsUndisturbed k history

@@ -32,7 +32,7 @@ pub fn a_legal_conversation_is_served_among_others()
 {}
 
 /// A restart of a log that is no other's is refused, where no owner failed: there is no such log, or it is in use, or
-/// complete; or memory was wanting for that.
+/// complete; or memory ran out for that.
 pub fn a_log_that_is_held_is_not_restarted()
     ensures refused { (set : Settings) (old new : Machine) (act : Act) (restart : Restart) (k : ConnId) → Step set old act new → act.failed ≡ [] → is_dead (old.states act.job.conn) ≡ false →
         AsksFor (old.states act.job.conn) act.job.body (request.Restart restart) → (held : IsHeld k restart.log old) → (act.answers ≡ refusal act.job.conn (why_not held)) ⊎ WantsMemory act.job.conn act.answers }

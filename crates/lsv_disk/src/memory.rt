@@ -165,7 +165,7 @@ impl MemDisk {
         self.listed.contains(&self.asked)
     }
 
-    /// Memory was wanting for a call.
+    /// Memory ran out for a call.
     fn refuse(&mut self) -> DiskFault
         ensures risen { self.old.refused ≤ self.new.refused }
         ensures rose { HasRisen self.old.refused self.new.refused }

@@ -1,7 +1,7 @@
 use std::alloc::{AllocError, AllocFailed};
 use std::fmt;
 
-/// Memory was wanting.
+/// Memory ran out.
 #[derive(Clone, Copy, Debug, PartialEq, Eq)]
 pub struct NoMem;
 

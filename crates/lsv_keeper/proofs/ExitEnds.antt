@@ -183,7 +183,7 @@ log_full v v' old new m n now job exit its laws at asks state here full l =
     too_long = exit_full held.its.log held.value old (exit_text exit) laws.reads_itself held.represents held.going
         (subst (λ (o : OpenLog). IsFull o.log.bundle parts.Exit (length (exit_text exit))) (sym (one_open (log_in v) n held.its its held.here here)) full)
 
--- memory was wanting for its text
+-- memory ran out for its text
 pub log_wants : (v v' : KeeperView) (old new : DiskView) (m : Machine) (n : ℕ) (now : TimeSpec) (job : Job) (exit : Exit) → Laws old → Represents v old m
     → AsksFor (m.states job.conn) job.body (request.Exit exit) → log_of (m.states job.conn) ≡ Some n → Left job.conn Dead v m v' old new → RowGives v now job (told.Refused refusals.OutOfMemory) m v' old new
 log_wants v v' old new m n now job exit laws at asks state l =
@@ -224,7 +224,7 @@ keeps_line a b c k less line same = record {
 pub set_by : (v v1 : KeeperView) → Keeps v v1 → SetAlike v v1
 set_by v v1 k = record { lane = k.lane; lanes = k.lanes; log_exit = k.log_exit; kind = k.kind }
 
--- its end was refused, and nothing was done: its exit doesn't fit, or memory was wanting
+-- its end was refused, and nothing was done: its exit doesn't fit, or memory ran out
 pub log_not_ended : (v v' : KeeperView) (old new : DiskView) (m : Machine) (n : ℕ) (now : TimeSpec) (job : Job) (exit : Exit) (its : OpenLog) (fault : LogFault) → Laws old → Represents v old m
     → AsksFor (m.states job.conn) job.body (request.Exit exit) → log_of (m.states job.conn) ≡ Some n → log_in v n ≡ Some its
     → ((fault ≡ faults.Disk) ⊎ (fault ≡ faults.Broken) ⊎ (fault ≡ faults.Full parts.Exit) ⊎ (fault ≡ faults.NoMem)) → fault ≢ faults.Disk → (fault ≡ faults.Broken → its.log.is_broken ≡ true)

@@ -99,7 +99,7 @@ set_leaves : (failed : List Owner) (o : Option ℕ) (text : List ℕ) (m left : 
 set_leaves failed None text m left now = now
 set_leaves failed (Some n) text m left (log, is, now) = (log, inr is, now)
 
--- memory was wanting, and the log is left so
+-- memory ran out, and the log is left so
 pub step_wants : (set : Settings) (now : TimeSpec) (job : Job) (exit : Exit) (answers : List Answer) (failed : List Owner) (m left : Machine) → is_dead (m.states job.conn) ≡ false
     → AsksFor (m.states job.conn) job.body (request.Exit exit) → WantsMemory job.conn answers → LeavesLog failed (log_of (m.states job.conn)) (Some (exit_text exit)) m left
     → Step set m (act_of job now answers failed) (leaves job.conn Dead left)
@@ -114,7 +114,7 @@ step_wants set now job exit answers failed m left alive asks wants leaving = inr
     breaks (body.Bad fault) e = absurd e
     breaks body.Gone e = absurd e
 
--- memory was wanting at its event line
+-- memory ran out at its event line
 pub step_line_wants : (v : KeeperView) (now : TimeSpec) (job : Job) (exit : Exit) (said answers : List Answer) (whole left m : Machine) → Exits v now job exit said whole left m → WantsMemory job.conn answers
     → Step (settings_of v) m (act_of job now answers []) (leaves job.conn Dead left)
 step_line_wants v now job exit said answers whole left m x wants =

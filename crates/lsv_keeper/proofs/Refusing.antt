@@ -1,4 +1,4 @@
--- A record that its log refuses, or for which memory is wanting.
+-- A record that its log refuses, or for which memory runs out.
 use Rattle.std.proofs.Common.{◌≡◌, ◌≢◌, ◌≤◌, ◌+◌, ℕ, List, [], ◌∷◌, length, refl, sym, ◌∙◌, ap, subst, inl, inr, arith, Option, Some, None}
 use Rattle.std.specs.Prelude.{◌==◌, nat_lt, Bool, true, false}
 use Rattle.lsv_base.specs.declared.time.TimeSpec.{TimeSpec}
@@ -41,7 +41,7 @@ use Rattle.lsv_keeper.proofs.Sizes.{going_log, takes_not}
 pub asks_stays : (s : ConnState) (b : Body) (what : Request) → AsksFor s b what → b ≡ body.Gone → ⊥
 asks_stays s b what asks gone = subst (λ (x : Body). AsksFor s x what) gone asks
 
--- memory was wanting, and the connection left
+-- memory ran out, and the connection left
 pub wanting_row : (v v' : KeeperView) (now : TimeSpec) (job : Job) (m : Machine) (old new : DiskView) → Laws old → Represents v old m → is_dead (m.states job.conn) ≡ false
     → (job.body ≡ body.Gone → ⊥) → Left job.conn Dead v m v' old new → RowGives v now job (told.Refused OutOfMemory) m v' old new
 wanting_row v v' now job m old new laws at alive_is stays l answers tells =

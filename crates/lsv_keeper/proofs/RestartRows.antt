@@ -202,7 +202,7 @@ module _ (v v1 v' : KeeperView) (old mid new : DiskView) (m : Machine) (job : Jo
   wants_no_look answers (inl e) = ap is_look e
   wants_no_look answers (inr e) = ap is_look e
 
-  -- memory was wanting
+  -- memory ran out
   wants_row : (answers : List Answer) → WantsMemory job.conn answers → IsLooked restart.log old mid → Quits v v' job.conn m mid new → RowIs v now job answers m v' old new
   wants_row answers wants looked q =
       ends_row answers [] (wants_last job.conn answers wants) looked q (rose_none old mid) (breaks_off (settings_of v) now m job restart a answers wants)

@@ -125,7 +125,7 @@ module _ (set : Settings) (now : TimeSpec) (m : Machine) (job : Job) (restart : 
   breaks_by : (act : Act) (new : Machine) → BrokenOff set m act (judged (m.states act.job.conn) a.message) new → Breaks set m act (body.Msg a.message) new
   breaks_by act new t = t
 
-  -- memory was wanting
+  -- memory ran out
   pub breaks_off : (answers : List Answer) → WantsMemory job.conn answers → Step set m (restart_act answers [] false) (leaves job.conn Dead m)
   breaks_off answers wants =
       let act = restart_act answers [] false in

@@ -57,7 +57,7 @@ use Rattle.lsv_keeper.proofs.Telling.{beside_as, same_settings}
 idle_leaves : (s : ConnState) (failed : List Owner) (m : Machine) → is_running s ≡ false → LeavesLog failed (log_of s) None m m
 idle_leaves s failed m r = subst (λ (o : Option ℕ). LeavesLog failed o None m m) (sym (idle_of s r)) refl
 
--- memory is wanting
+-- memory runs out
 pub nothing_done : (v v1 : KeeperView) (disk : DiskView) (now : TimeSpec) (k : ConnId) (head : Head) (m : Machine) → Laws disk → Represents v disk m → is_running (m.states k) ≡ false → IsReserved v v1
     → Stopped v now k (m.states k) head m OutOfMemory v1 disk disk
 nothing_done v v1 disk now k head m laws at r res = record {

@@ -41,7 +41,7 @@ IsNumbersFault lane lanes found (Damaged file) = (file ≡ numbers_file lane) ×
 IsNumbersFault lane lanes found (LanesDiffer kept asked) = judged lane lanes (entry_at lane found) ≡ Err (faults.LanesDiffer kept asked)
 IsNumbersFault lane lanes found NoMem = ⊥
 
--- why the event log of an image isn't opened: a device call on a file of its failed, its lines are absent or fewer than its last entry says, or memory is wanting
+-- why the event log of an image isn't opened: a device call on a file of its failed, its lines are absent or fewer than its last entry says, or memory runs out
 abbrev pub IsEventsFault : (lane : ℕ) → Image → StoreFault → Type 0
 IsEventsFault lane found (Device o) = o ≡ owners.Events lane
 IsEventsFault lane found (Damaged file) = (file.owner ≡ owners.Events lane) × IsDamaged (owners.Events lane) shapes.Lines found file.part

@@ -29,7 +29,7 @@ use Rattle.lsv_keeper.specs.Value.{KeeperView, settings_of}
 
 -- ---- What is told
 
--- a job is answered so; where memory is wanting for the text of a refusal, it is one for want of memory, or a Shut alone
+-- a job is answered so; where memory runs out for the text of a refusal, it is one for want of memory, or a Shut alone
 abbrev pub Tells : ConnId → Told → List Answer → Type 0
 Tells k told.Nothing answers = answers ≡ []
 Tells k (told.Log n id) answers = answers ≡ say k (LogId n) ∷ []
@@ -80,7 +80,7 @@ OwnerRose o old new = (file : FileId) × (file.owner ≡ o) × HasRisen (old.fau
 abbrev pub AllRose : List Owner → DiskView → DiskView → Type 0
 AllRose failed old new = (o : Owner) → Contains failed o → OwnerRose o old new
 
--- why an event line isn't added: the event log is full, memory is wanting, or the event log failed
+-- why an event line isn't added: the event log is full, memory runs out, or the event log failed
 abbrev pub LineFault : (lane : ℕ) (line : List ℕ) → Machine → Refusal → DiskView → DiskView → Type 0
 LineFault lane line m why old new =
     ((why ≡ LogFull) × (line_fits line m ≡ false))

@@ -27,7 +27,7 @@ use std::alloc::Global;
 
 impl<F: LineWriter, H: Search> Keeper<F, H> {
     /// Adds the line of an event to those of the turn; an event log that failed is opened again. Else the refusal: the
-    /// event log is full, it failed, or memory is wanting.
+    /// event log is full, it failed, or memory runs out.
     pub(crate) fn add_line<D: Disk>(
         &mut self,
         disk: &mut D,

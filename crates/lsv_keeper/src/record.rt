@@ -48,7 +48,7 @@ pub(crate) fn windowed(message: ClientMessage) -> ClientMessage
 
 impl<F: LineWriter, H: Search> Keeper<F, H> {
     /// A valid record goes to the log that the connection writes, masked as it is behind the others, and the log waits for
-    /// its commit point. A log that doesn't take it is let go, and so is one for which memory is wanting.
+    /// its commit point. A log that doesn't take it is let go, and so is one for which memory runs out.
     pub(crate) fn record<D: Disk>(
         &mut self,
         disk: &mut D,
@@ -119,7 +119,7 @@ impl<F: LineWriter, H: Search> Keeper<F, H> {
         self.let_go(disk, conn, ConnState::Dead, log, its);
     }
 
-    /// Memory is wanting: the connection is refused, and the log that it wrote let go.
+    /// Memory runs out: the connection is refused, and the log that it wrote let go.
     pub(crate) fn want_memory<D: Disk>(&mut self, disk: &mut D, conn: ConnId) -> Told
         requires stands { D.tells → (m : Machine) × Represents (view_of self.old) (D.view disk.old) m }
         requires room { 1 ≤ room (view_of self.old) }

@@ -16,7 +16,7 @@ use std::alloc::Global;
 pub(crate) struct Numbering<L> {
     lane: L,
     numbers: Vec<LogNo>,
-    /// Memory was wanting to note a number.
+    /// Memory ran out to note a number.
     is_lacking: bool,
 }
 
@@ -75,7 +75,7 @@ impl<L: Lane> Numbering<L> {
         }
     }
 
-    /// Gives back the other lane, with the numbers of which its turns told, unless memory was wanting for them.
+    /// Gives back the other lane, with the numbers of which its turns told, unless memory ran out for them.
     pub(crate) fn into_parts(self) -> (L, Result<Vec<LogNo>, NoMem>)
         ensures made { (start : L.Start) (turns : List LaneTurn) → ⟦<Numbering<L> as Lane>⟧.made_by start self turns → L.made_by start result.0 turns }
         ensures noted { IfOk result.1 (λ numbers. (start : L.Start) (turns : List LaneTurn) → ⟦<Numbering<L> as Lane>⟧.made_by start self turns → numbers.items ≡ numbers_told (replies_in turns)) }

@@ -139,7 +139,7 @@ taken_restart set old new act restart p living asks c =
 
 -- ---- One outcome
 
--- without failures a step is the table's, or memory was wanting
+-- without failures a step is the table's, or memory ran out
 pub plainly_or : (set : Settings) (old new : Machine) (act : Act) → Step set old act new → act.failed ≡ [] → Plainly set old act new ⊎ WantsMemory act.job.conn act.answers
 plainly_or set old new act (inl p) none = inl p
 plainly_or set old new act (inr d) none = go d.how

@@ -163,15 +163,15 @@ pub record MeetsFault (set : Settings) (failed : List Owner) (s : ConnState) (as
   pub did : Contains failed owner
   pub leaves : FailsAt set failed s request owner old new
 
--- the answers where memory was wanting: the error, or a Shut alone in its place
+-- the answers where memory ran out: the error, or a Shut alone in its place
 abbrev pub WantsMemory : ConnId → List Answer → Type 0
 WantsMemory k answers = (answers ≡ refusal k OutOfMemory) ⊎ (answers ≡ say k Shut ∷ [])
 
--- the connection is refused for a device fault, or memory was wanting for that
+-- the connection is refused for a device fault, or memory ran out for that
 abbrev pub IsRefused : ConnId → List Answer → Type 0
 IsRefused k answers = (answers ≡ refusal k DeviceFault) ⊎ WantsMemory k answers
 
--- a job ends its connection: memory was wanting, however far the work had come; or it met a device fault
+-- a job ends its connection: memory ran out, however far the work had come; or it met a device fault
 pub record BrokenOff (set : Settings) (old : Machine) (act : Act) (asked : Result Request Refusal) (new : Machine) : Type 0 where
   pub left : Machine
   pub why : (WantsMemory act.job.conn act.answers × BreaksOff set act.failed (old.states act.job.conn) asked old left)

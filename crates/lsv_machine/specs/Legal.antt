@@ -147,7 +147,7 @@ pub record Fits (set : Settings) (k : ConnId) (n : ℕ) (s : ConnState) (lines :
 
 -- ---- Turns in which nothing is in the way
 
--- no owner failed in these jobs, and memory wasn't wanting
+-- no owner failed in these jobs, and memory didn't run out
 abbrev pub AreUndisturbed : List Act → Type 0
 AreUndisturbed [] = Unit {0}
 AreUndisturbed (act ∷ acts) = (act.failed ≡ []) × (WantsMemory act.job.conn act.answers → ⊥) × AreUndisturbed acts

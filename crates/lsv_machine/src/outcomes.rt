@@ -51,7 +51,7 @@ pub fn an_accepted_restart_keeps_its_point()
         AsksFor (old.states act.job.conn) act.job.body (request.Restart restart) → CanResume old restart → act.answers ≡ [] }
 {}
 
-/// Where no owner failed, a job does what the table says, or memory was wanting. The table has one outcome for a job, if no
+/// Where no owner failed, a job does what the table says, or memory ran out. The table has one outcome for a job, if no
 /// draw has failed since the last good one, and so has the end of a turn.
 pub fn one_job_has_one_outcome()
     ensures plainly { (set : Settings) (old new : Machine) (act : Act) → Step set old act new → act.failed ≡ [] → Plainly set old act new ⊎ WantsMemory act.job.conn act.answers }

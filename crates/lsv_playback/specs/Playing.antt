@@ -57,7 +57,7 @@ PlaysRecords o l body (Err Screen) put = PlaysSome o l put
 PlaysRecords o l body (Err NoMem) put = PlaysSome o l put
 PlaysRecords o l body (Err Absent) put = ⊥
 
--- a log isn't opened: it is absent, or a file is absent or short or its head no head, or a read failed, or memory was wanting
+-- a log isn't opened: it is absent, or a file is absent or short or its head no head, or a read failed, or memory ran out
 abbrev pub IsNotOpened : {T : Type 0} → ℕ → Image → Result T PlayFault → Type 0
 IsNotOpened n image (Ok end) = ⊥
 IsNotOpened n image (Err Absent) = Replays image n None

@@ -31,7 +31,7 @@ pub struct WorkerPost<P> {
     mode: Mode,
     /// Replies were taken and not yet written.
     unsent: bool,
-    /// A reply was lost: memory was wanting for it, or it was to no connection.
+    /// A reply was lost: memory ran out for it, or it was to no connection.
     lost: bool,
 }
 

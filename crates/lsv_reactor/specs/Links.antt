@@ -40,7 +40,7 @@ PortFailed old new = HasRisen old.ledger.turns new.ledger.turns
 abbrev pub conn_of : (worker seq : ℕ) → ConnId
 conn_of worker seq = record { worker = worker; seq = seq }
 
--- whether the bytes went on as no message, or memory was wanting
+-- whether the bytes went on as no message, or memory ran out
 abbrev pub is_bad : Body → Bool
 is_bad (Msg message) = false
 is_bad (Bad why) = true
@@ -50,11 +50,11 @@ is_bad Gone = false
 abbrev pub was_bad : List Body → Bool
 was_bad bodies = list_any is_bad bodies
 
--- that memory was wanting for a connection, once or not at all
+-- that memory ran out for a connection, once or not at all
 abbrev pub AtMostStarved : List Body → Type 0
 AtMostStarved starved = (starved ≡ []) ⊎ (starved ≡ Bad fault.NoMem ∷ [])
 
--- what a connection brought: the first jobs of the bytes that were read, perhaps that memory was wanting, and its end. shut: it was shut
+-- what a connection brought: the first jobs of the bytes that were read, perhaps that memory ran out, and its end. shut: it was shut
 pub record Brings (input : List ℕ) (shut : Bool) (bodies : List Body) : Type 0 where
   pub heard : List Body
   pub starved : List Body
@@ -63,12 +63,12 @@ pub record Brings (input : List ℕ) (shut : Bool) (bodies : List Body) : Type 0
   pub jobs : List Body
   pub of_input : AreJobs input jobs
   pub first : AreFirst heard jobs
-  -- they are all jobs of these bytes, unless it was shut or memory was wanting
+  -- they are all jobs of these bytes, unless it was shut or memory ran out
   pub whole : shut ≡ false → starved ≡ [] → heard ≡ jobs
 
 -- ---- One link
 
--- the server needn't read the link to its end: its connection was shut, what came was no message or memory was wanting, or a call on it failed
+-- the server needn't read the link to its end: its connection was shut, what came was no message or memory ran out, or a call on it failed
 abbrev pub IsLetOff : (shut : Bool) → List Body → ℕ → PortView → PortView → Type 0
 IsLetOff shut bodies l old new = (shut ≡ true) ⊎ (was_bad bodies ≡ true) ⊎ LinkFailed l old new
 
@@ -89,7 +89,7 @@ pub record ServesLink (lane_tells : Type 0) (k : ConnId) (l : ℕ) (jobs : List 
   pub paid : (IsLetOff (shuts k replies) (bodies_of k jobs) l old new → ⊥) → (PortFailed old new → ⊥) → (new.state.link l).owed ≡ false
   pub puts : lane_tells → Puts (new.state.link l) (LinkFailed l old new) (answers k replies)
 
--- a link that is no connection: it was closed at once, since 128 others were open or memory was wanting
+-- a link that is no connection: it was closed at once, since 128 others were open or memory ran out
 pub record IsTurnedAway (link : LinkState) : Type 0 where
   pub unread : link.input ≡ []
   pub unwritten : link.output ≡ []

@@ -75,7 +75,7 @@ abbrev Timed : List TapeTurn → Type 0
 Timed turns = AllByRecursion (λ (t : TapeTurn). IsSome (nanos_of t.now)) turns
 
 module _ (set : Settings) (texts : List (List ℕ)) (old now : World) (v : KeeperView) where
-  -- the run is over with its reads: the connection was shut, or memory was wanting
+  -- the run is over with its reads: the connection was shut, or memory ran out
   pub runs_last : (status : Status) → Ended set texts old now v (ends.Last status) → Serves set texts old now status
   runs_last status e =
       let same : e.reads ≡ e.reads ++ [] = sym (append-nil e.reads) in
@@ -178,7 +178,7 @@ module _ (set : Settings) (texts : List (List ℕ)) (old now : World) (v : Keepe
   put_part status reads bytes (inr (inl s)) p = all_is_part reads bytes (subst (λ (x : Status). PutsFor x reads bytes) s p)
   put_part status reads bytes (inr (inr s)) p = subst (λ (x : Status). PutsFor x reads bytes) s p
 
-  -- memory was wanting for that
+  -- memory ran out for that
   pub runs_out : (status : Status) → Ended set texts old now v (ends.Open status) → Serves set texts old now NoMem
   runs_out status e =
       let same : e.reads ≡ e.reads ++ [] = sym (append-nil e.reads) in

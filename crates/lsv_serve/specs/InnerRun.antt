@@ -147,7 +147,7 @@ pub record Ended (set : Settings) (texts : List (List ℕ)) (old now : World) (v
 
 -- ---- What is put
 
--- the server's hello was put in part: memory was wanting, or the write failed
+-- the server's hello was put in part: memory ran out, or the write failed
 abbrev pub HelloEnds : (tells : Type 0) (put put' : List ℕ) (faults faults' : ℕ) → End → Type 0
 HelloEnds tells put put' faults faults' (ends.Last NoMem) = tells → put' ≡ put
 HelloEnds tells put put' faults faults' (ends.Open WriteFault) = HasRisen faults faults' × (tells → (front : List ℕ) × IsPrefix front (frame_of (server_bytes server_hello)) × (put' ≡ put ++ front))

@@ -23,7 +23,7 @@ once_settings kind log_exit = lane_settings 0 1 kind log_exit
 -- the turns of a run are what was read: a turn for each piece, of at most 65,536 bytes, until the connection is shut, the input ends or fails, or an answer can't be put
 pub record Reads (old new : World) (status : Status) (tape : Tape) : Type 0 where
   pub pieces : List (List ℕ)
-  -- the piece for which memory was wanting
+  -- the piece for which memory ran out
   pub lost : List (List ℕ)
   pub given : old.source_tells → new.given ≡ old.given ++ (pieces ++ lost)
   pub read : old.source_tells → old.rest ≡ concat (pieces ++ lost) ++ new.rest
@@ -32,7 +32,7 @@ pub record Reads (old new : World) (status : Status) (tape : Tape) : Type 0 wher
   pub shut_last : ShutLast tape.reads
   pub ends : EndsFor status tape
   pub moments : AllByRecursion (λ t. IsSome (nanos_of t.now)) (turns_in tape)
-  -- a piece is lost only where memory was wanting, and was read while the connection wasn't shut
+  -- a piece is lost only where memory ran out, and was read while the connection wasn't shut
   pub few_lost : (lost ≡ []) ⊎ ((status ≡ NoMem) × (was_shut tape.reads ≡ false) × ((piece : List ℕ) × (lost ≡ piece ∷ [])))
   -- a connection that is served and wasn't shut came to the end of the input
   pub ended : status ≡ Served → was_shut tape.reads ≡ false → old.source_tells → new.count < 2 ^ 63 - 1 → new.rest ≡ []

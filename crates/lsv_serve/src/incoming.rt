@@ -104,7 +104,7 @@ impl Incoming {
     }
 }
 
-/// Why the bytes of a frame are no message, unless memory was wanting.
+/// Why the bytes of a frame are no message, unless memory ran out.
 fn malformed(fault: MsgFault) -> Result<Fault, NoMem>
     ensures is { IfOk result (λ why. why ≡ faults.Malformed fault) }
     ensures known { OnOk result (fault ≢ message_faults.NoMem) }

@@ -39,7 +39,7 @@ fn told(end: End) -> Status
     }
 }
 
-/// Serves the links of these ports over the store of a lane. The ports are given back, but where memory is wanting for their
+/// Serves the links of these ports over the store of a lane. The ports are given back, but where memory runs out for their
 /// posts, and what the lane worked with.
 fn serve_ports<
     P: Port + Drop,

@@ -129,7 +129,7 @@ one_last lane lanes image a b (inr p) (inr q) = p.1 ∙ sym q.1
 
 -- ---- A link
 
--- memory wasn't wanting where its bytes were cut into jobs
+-- memory didn't run out where its bytes were cut into jobs
 not_starved : (heard starved bodies : List Body) → AtMostStarved starved → bodies ≡ heard ++ (starved ++ body.Gone ∷ []) → (Contains bodies (body.Bad fault.NoMem) → ⊥) → starved ≡ []
 not_starved heard starved bodies (inl none) is ample = none
 not_starved heard starved bodies (inr one) is ample =

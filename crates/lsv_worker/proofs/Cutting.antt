@@ -79,7 +79,7 @@ cut_again link read put marks said cutting routed quiet has over = record {
 pub begins : (read rest : List ℕ) (b : List Body) → HasCut read b rest → Begins read b
 begins read rest b h more jobs j = let first = h.began more jobs j in (first.0, first.1)
 
--- memory was wanting while messages are cut
+-- memory ran out while messages are cut
 pub starves : (link : Incoming) (route : Routing) → (link.route.lane ≡ None → route ≡ record link.route { lane = Some link.route.home }) → ((n : ℕ) → link.route.lane ≡ Some n → route ≡ link.route)
     → cuts link.stage ≡ true → SameWay link (record link { route = route; stage = Starving })
 starves link route none some cutting read put marks h =
@@ -149,7 +149,7 @@ begins_ended read heard h more jobs j = longer more h j
 begins_all : (read : List ℕ) (heard : List Body) → AreAllJobs read heard → Begins read heard
 begins_all read heard h more jobs j = ([], one_list j (h more) ∙ sym (append-nil heard))
 
--- memory was wanting before the end was put
+-- memory ran out before the end was put
 wants_at : (why : Why) (link : Incoming) (read : List ℕ) (put : ℕ → List Body) (marks : Marks) → last_words why ≡ [] → ((heard : List Body) → Heard why read heard → Begins read heard) → link.stage ≡ Leaving why
     → Hears link read put marks → Hears (record link { stage = Starving }) read put marks
 wants_at why link read put marks last begin stage h =

@@ -96,7 +96,7 @@ swap lanes home [] = refl
 swap lanes home (f ∷ []) = refl
 swap lanes home (f ∷ g ∷ xs) = refl
 
--- where memory is wanting instead of an end, the lane is the same
+-- where memory runs out instead of an end, the lane is the same
 pub routed_swap : (route : Routing) (put : ℕ → List Body) (said coming : List Body) → Routed route put said (coming ++ Gone ∷ []) → Routed route put said (coming ++ Bad NoMem ∷ Gone ∷ [])
 routed_swap route put said coming h = record {
   to_lane = h.to_lane;

@@ -1,4 +1,4 @@
--- Connections for which memory was wanting.
+-- Connections for which memory ran out.
 use Rattle.std.proofs.Common.{◌≡◌, Option, None, sym, ap, subst, ◌∙◌}
 use Rattle.lsv_session.specs.declared.job.Body.{Body}
 use Rattle.lsv_worker.specs.Incoming.{KeepsWant, LeavesTelling, TellsAt, starves}

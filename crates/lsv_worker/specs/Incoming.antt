@@ -25,14 +25,14 @@ Heard Refused read heard = AreAllJobs read heard
 Heard Shut read heard = Begins read heard
 Heard Starved read heard = Begins read heard
 
--- the last job before the end: where memory was wanting, that
+-- the last job before the end: where memory ran out, that
 abbrev pub last_words : Why → List Body
 last_words Ended = []
 last_words Refused = []
 last_words Shut = []
 last_words Starved = Bad NoMem ∷ []
 
--- All jobs of a connection that ends so: those of the bytes read, or the first of them; where memory was wanting, that;
+-- All jobs of a connection that ends so: those of the bytes read, or the first of them; where memory ran out, that;
 -- and one Gone.
 pub record IsWhole (why : Why) (read : List ℕ) (bodies : List Body) : Type 0 where
   pub heard : List Body
@@ -122,14 +122,14 @@ was_shut Starving = false
 was_shut (Leaving why) = is_shut why
 was_shut (Left why) = is_shut why
 
--- memory was wanting for a connection that ends so
+-- memory ran out for a connection that ends so
 abbrev pub is_starving : Why → Bool
 is_starving Ended = false
 is_starving Refused = false
 is_starving Shut = false
 is_starving Starved = true
 
--- a connection at this stage ends since memory was wanting
+-- a connection at this stage ends since memory ran out
 abbrev pub starves : Stage → Bool
 starves Hearing = false
 starves Ending = false
@@ -137,7 +137,7 @@ starves Starving = true
 starves (Leaving why) = is_starving why
 starves (Left why) = is_starving why
 
--- a connection that ends so, and of which this waits, told that memory was wanting, or the job of its other fault was put
+-- a connection that ends so, and of which this waits, told that memory ran out, or the job of its other fault was put
 abbrev pub LeavesTelling : Why → Option Body → Type 0
 LeavesTelling Ended waiting = ⊥
 LeavesTelling Refused waiting = waiting ≡ None
@@ -152,11 +152,11 @@ TellsAt Starving waiting = Unit {0}
 TellsAt (Leaving why) waiting = LeavesTelling why waiting
 TellsAt (Left why) waiting = Unit {0}
 
--- that memory was wanting is told by a job that was put or is to come, unless the job of another fault or the Gone was put
+-- that memory ran out is told by a job that was put or is to come, unless the job of another fault or the Gone was put
 abbrev pub TellsWant : Incoming → Type 0
 TellsWant link = TellsAt link.stage link.waiting
 
--- a connection for which memory was wanting stays one, and goes on to tell so
+-- a connection for which memory ran out stays one, and goes on to tell so
 pub record KeepsWant (old new : Incoming) : Type 0 where
   pub starved : starves old.stage ≡ true → starves new.stage ≡ true
   pub told : TellsWant old → TellsWant new

@@ -95,15 +95,15 @@ abbrev pub IsSpared : Link → LinkState → LinkState → Type 0
 IsSpared link before after = 65536 ≤ length link.outgoing.unsent → after.reads ≡ before.reads
 
 -- nothing more comes of a connection: its link is closed, its Gone was put, its Shut was taken, and no reply to it was lost
--- since memory was wanting
+-- since memory ran out
 abbrev pub is_done : Link → Bool
 is_done link = (not link.live && (link.shut && has_left link.incoming.stage)) && kept_up link.outgoing.voice
 
--- memory was wanting for a connection: for what it sent, or for a reply to it
+-- memory ran out for a connection: for what it sent, or for a reply to it
 abbrev pub is_starved : Link → Bool
 is_starved link = starves link.incoming.stage || not (kept_up link.outgoing.voice)
 
--- the same connection: one that is closed stays so, one for which memory was wanting, and one of which nothing more is put
+-- the same connection: one that is closed stays so, one for which memory ran out, and one of which nothing more is put
 pub record Remains (old new : Link) : Type 0 where
   pub number : new.number ≡ old.number
   pub conn : new.conn ≡ old.conn
@@ -111,7 +111,7 @@ pub record Remains (old new : Link) : Type 0 where
   pub starved : is_starved old ≡ true → is_starved new ≡ true
   pub mute : old.outgoing.voice ≢ voices.Speaking → new.outgoing.voice ≡ old.outgoing.voice
 
--- The rules of a connection over a call: where memory was wanting it isn't read; where nothing more is put on its link
+-- The rules of a connection over a call: where memory ran out it isn't read; where nothing more is put on its link
 -- nothing is; and before Stop it isn't read where 65,536 bytes or more, of those that were unsent, weren't put.
 pub record KeepsRules (phase : Phase) (old new : Link) (before after : LinkState) : Type 0 where
   pub remains : Remains old new
@@ -182,7 +182,7 @@ pub record Takes (reply : Reply) (old new : Link) (before after : PortState) : T
   pub goes : (phase : Phase) (past : ℕ → List Body) (replies : List Reply) → LinkStands phase old (before.link old.number) past replies
       → LinkStands phase new (after.link old.number) past (replies ++ reply ∷ [])
 
--- why a link is held: its lane was full, 65,536 bytes to it are unsent, it was read 16 times, or memory was wanting
+-- why a link is held: its lane was full, 65,536 bytes to it are unsent, it was read 16 times, or memory ran out
 abbrev pub ReasonOf : Pause → Link → LinkState → LinkState → (ℕ → ℕ) → (ℕ → ℕ) → Type 0
 ReasonOf pauses.Calm link before after refused_before refused_after = Unit {0}
 ReasonOf pauses.Full link before after refused_before refused_after = WasFull link.incoming.route refused_before refused_after

@@ -21,7 +21,7 @@ PutOf Over unsent output answers = (unsent ≡ []) × IsPrefix output answers
 abbrev pub Speaks : Outgoing → List ℕ → List ℕ → Type 0
 Speaks link output answers = PutOf link.voice link.unsent output answers
 
--- no reply was lost since memory was wanting
+-- no reply was lost since memory ran out
 abbrev pub kept_up : Voice → Bool
 kept_up Speaking = true
 kept_up Failed = true

@@ -17,7 +17,7 @@ use lsv_session::{Body, ConnId, Fault, Job};
 use lsv_wire::Framer;
 use std::alloc::Global;
 
-/// Why a connection ends: no more bytes come; its bytes were no message; a keeper shut it; memory was wanting.
+/// Why a connection ends: no more bytes come; its bytes were no message; a keeper shut it; memory ran out.
 #[derive(Clone, Copy, Debug, PartialEq, Eq)]
 pub enum Why {
     Ended,
@@ -33,7 +33,7 @@ pub enum Stage {
     Hearing,
     /// None come any more.
     Ending,
-    /// Memory was wanting: a job says so, and then its end.
+    /// Memory ran out: a job says so, and then its end.
     Starving,
     /// Its end is the next job.
     Leaving(Why),
@@ -110,7 +110,7 @@ impl Stage {
         }
     }
 
-    /// Whether memory was wanting for it.
+    /// Whether memory ran out for it.
     pub(crate) fn is_starved(self) -> bool
         ensures { result ≡ starves self }
     {
@@ -137,7 +137,7 @@ impl Stage {
     }
 }
 
-/// Why the bytes of a frame are no message; None where memory was wanting.
+/// Why the bytes of a frame are no message; None where memory ran out.
 fn malformed(fault: MsgFault) -> Option<Fault>
     ensures is { IfSome result (λ why. why ≡ faults.Malformed fault) }
     ensures known { (why : _) → result ≡ Some why → fault ≢ message_faults.NoMem }
@@ -165,7 +165,7 @@ impl Incoming {
         }
     }
 
-    /// Memory was wanting while messages are cut.
+    /// Memory ran out while messages are cut.
     fn starve(&mut self)
         requires { cuts self.old.stage ≡ true }
         ensures goes { SameWay self.old self.new }
@@ -226,7 +226,7 @@ impl Incoming {
         self.stage = Stage::Leaving(Why::Refused);
     }
 
-    /// Memory was wanting for this connection elsewhere: a job says so before its end, unless that or the end was put.
+    /// Memory ran out for this connection elsewhere: a job says so before its end, unless that or the end was put.
     pub(crate) fn want(&mut self)
         ensures goes { SameWay self.old self.new }
         ensures tells { TellsWant self.new }
@@ -436,7 +436,7 @@ impl Incoming {
         }
     }
 
-    /// Says that memory was wanting, where nothing waits.
+    /// Says that memory ran out, where nothing waits.
     #[tactic(auto, using(crate::proofs::Putting::puts_none))]
     fn tell_starved<I: Inbox>(&mut self, conn: ConnId, inbox: &mut I) -> Tried
         requires lanes { I.lanes inbox.old ≡ self.old.route.lanes }

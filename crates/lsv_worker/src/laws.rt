@@ -10,7 +10,7 @@ ghost use Rattle.lsv_worker.specs.declared.link.Phase.TheVariants as phases;
 ghost use Rattle.lsv_worker.specs.declared.worker.Worker.{Worker};
 
 /// Where each connection has left and was shut, of each all of its jobs were put, to its one lane, or the first of them where
-/// a keeper shut it or memory was wanting, and one Gone; and what was put on its link is a prefix of its answers.
+/// a keeper shut it or memory ran out, and one Gone; and what was put on its link is a prefix of its answers.
 pub fn connections_end()
     ensures { (worker : Worker) (port : PortState) (jobs : ℕ → List Job) (replies : List Reply) → Represents worker port jobs replies → HaveLeft worker.links.items → EachEnds worker port jobs replies }
 {}

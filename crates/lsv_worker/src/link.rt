@@ -31,7 +31,7 @@ pub enum Phase {
 }
 
 /// Why the reading of a link stopped: nothing is owed; its lane was full; too much is unsent; it was read often enough;
-/// memory was wanting.
+/// memory ran out.
 #[derive(Clone, Copy, Debug, PartialEq, Eq)]
 pub enum Pause {
     Calm,
@@ -197,7 +197,7 @@ impl Link {
         Pause::Tired
     }
 
-    /// Whether memory was wanting for it.
+    /// Whether memory ran out for it.
     fn is_starved(&self) -> bool
         ensures { result ≡ is_starved self.now }
     {
@@ -365,7 +365,7 @@ impl Link {
         self.pause = Pause::Calm;
     }
 
-    /// Takes what is said to it. Where memory is wanting nothing more is put on it, and it is heard no more.
+    /// Takes what is said to it. Where memory runs out nothing more is put on it, and it is heard no more.
     fn say(&mut self, message: &ServerMessage)
         ensures takes { (reply : Reply) (port : PortState) → reply.conn ≡ self.old.conn → reply.body ≡ said.Say message.now → Takes reply self.old self.new port port }
         ensures remains { Remains self.old self.new }

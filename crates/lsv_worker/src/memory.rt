@@ -65,7 +65,7 @@ impl MemInbox {
         self.bytes = 0;
     }
 
-    /// Puts a job at the end, or gives it back: where it is another worker's, where it has no room, and where memory is wanting
+    /// Puts a job at the end, or gives it back: where it is another worker's, where it has no room, and where memory runs out
     /// for it.
     #[tactic(auto, using(crate::proofs::Memories::order_same, crate::proofs::Memories::order_first, crate::proofs::Memories::order_behind, crate::proofs::Memories::admits, crate::proofs::Memories::admitted))]
     pub fn offer(&mut self, job: Job) -> Result<(), (Job, Full)>

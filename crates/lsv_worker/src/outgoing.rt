@@ -22,7 +22,7 @@ pub enum Voice {
     Speaking,
     /// A read or a write of the link failed.
     Failed,
-    /// Memory was wanting for a reply.
+    /// Memory ran out for a reply.
     Starved,
     /// A reply came behind a Shut, or the worker was stopped.
     Over,
@@ -48,7 +48,7 @@ impl Outgoing {
         }
     }
 
-    /// Whether no reply was lost since memory was wanting.
+    /// Whether no reply was lost since memory ran out.
     pub(crate) fn has_kept_up(&self) -> bool
         ensures { result ≡ kept_up self.now.voice }
     {
@@ -93,7 +93,7 @@ impl Outgoing {
         self.unsent = Bytes::from_vec(bytes);
     }
 
-    /// Takes what is said. Where memory is wanting, nothing more is put, and it answers false.
+    /// Takes what is said. Where memory runs out, nothing more is put, and it answers false.
     pub(crate) fn say(&mut self, message: &ServerMessage) -> bool
         ensures goes { (output answers : List ℕ) → Speaks self.old output answers → Speaks self.new output (answers ++ frame_of (server_bytes message.now)) }
         ensures voice { result ≡ true → self.new.voice ≡ self.old.voice }

@@ -416,7 +416,7 @@ impl Worker {
         close_table(&mut self.links, port);
     }
 
-    /// A connection for a link that was just opened, with the server's hello on the way; None where memory is wanting.
+    /// A connection for a link that was just opened, with the server's hello on the way; None where memory runs out.
     fn fresh(&self, number: u32) -> Option<Link>
         requires { IsFit self.now }
         ensures { (link : Link) → result ≡ Some link → IsFresh (setting self.now) number link }
@@ -443,7 +443,7 @@ impl Worker {
         })
     }
 
-    /// Takes a connection into the table. False, and nothing changes, where memory is wanting.
+    /// Takes a connection into the table. False, and nothing changes, where memory runs out.
     fn admit(&mut self, link: Link) -> bool
         requires fit { IsFit self.old }
         requires room { self.old.next < 2 ^ 64 - 1 }
@@ -476,7 +476,7 @@ impl Worker {
     }
 
     /// A link was opened. It is closed at once, and is no connection, where 128 others are open, the numbers are spent, or
-    /// memory is wanting.
+    /// memory runs out.
     fn opened<P: Port>(&mut self, port: &mut P, number: u32)
         requires fit { IsFit self.old }
         requires is_open { P.tells → IsOpen (P.state port.old) number }
