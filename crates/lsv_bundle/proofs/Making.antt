@@ -1,4 +1,4 @@
--- Making a bundle: its data files, and then its journal.
+-- Making a bundle: its files, and then its journal.
 use Rattle.std.proofs.Common.{◌≡◌, ◌≢◌, ◌⊎◌, inl, inr, ℕ, ◌≤◌, List, [], ◌∷◌, map, Option, Some, None, refl, sym, ◌∙◌, ap, subst, arith}
 use Rattle.std.specs.Prelude.{slice_index}
 use Rattle.lsv_disk.specs.declared.file.FileId.{FileId}
@@ -11,16 +11,16 @@ use Rattle.lsv_disk.specs.Throughout.{Throughout, RoseAtMost, CallsAtMost, Write
 use Rattle.lsv_disk.proofs.Composition.{followed, widened, rose_nothing, rose_trans, stayed_rose, uncounted_at_most}
 use Rattle.lsv_disk.proofs.Same.{same_or_other}
 use Rattle.lsv_journal.specs.Last.{IsOwn, JournalHolds, IsSomeCrashOf, OpeningCalls, MayBeMade}
-use Rattle.lsv_journal.proofs.Laws.{own_cases, own_alone, may_be_made_stays}
+use Rattle.lsv_journal.proofs.Laws.{own_cases, own_alone, made_holds_none, made_may_be_made}
 use Rattle.lsv_bundle.specs.declared.shape.Shape.{Shape}
 use Rattle.lsv_bundle.specs.declared.shape.Shape.TheVariants as shape
 use Rattle.lsv_bundle.specs.Shape.{parts_of, IsPart, index_of, journal_of, IsDataFile, IsWritable, IsOwnFile}
 use Rattle.lsv_bundle.specs.Value.{FileView}
 use Rattle.lsv_bundle.specs.Committed.{IsBeingMade}
 use Rattle.lsv_bundle.specs.Represents.{Each, IsDurable, IsDurableFile}
-use Rattle.lsv_bundle.specs.InnerFiles.{EachPart}
+use Rattle.lsv_bundle.specs.InnerFiles.{all_parts_of, EachPart}
 use Rattle.lsv_bundle.proofs.DataFiles.{durable_stays}
-use Rattle.lsv_bundle.proofs.Shapes.{part_one_of, one_of_is_data}
+use Rattle.lsv_bundle.proofs.Shapes.{part_one_of, one_of_is_data, part_made, journal_is_made, made_is_writable}
 use Rattle.lsv_bundle.proofs.Journals.{no_slots, no_commit, data_not_journal, data_not_own}
 
 -- of the journal's parts the first, of others the second
@@ -70,16 +70,21 @@ slots_other Commit a b other = refl
 file_is : (f : FileId) (owner : Owner) (part : Part) → f ≡ file_of owner part → f.part ≡ part
 file_is f owner part e = ap (λ (g : FileId). g.part) e
 
--- the data files are made
-module _ (owner : Owner) (s : Shape) (old mid : DiskView) (reads : IsCrashImage old old.reads)
-    (run : Throughout (IsOneOf owner (parts_of s)) (λ image. (f : FileId) → IsOneOf owner (parts_of s) f → old.crash_states f (image f) ⊎ (image f ≡ Some [])) old mid) where
-  not_data : (f : FileId) → (f.part ≡ Commit) ⊎ (f.part ≡ Slots) → IsOneOf owner (parts_of s) f → ⊥
-  not_data f is one =
-      let file : IsDataFile owner s f = one_of_is_data owner s f one in
-      elim is [
-        | inl e ↦ no_commit s file.0 file.1 (sym (file_is f owner file.0 file.2) ∙ e)
-        | inr e ↦ no_slots s file.0 file.1 (sym (file_is f owner file.0 file.2) ∙ e)
-      ]
+-- the files are made together
+module _ (owner : Owner) (s : Shape) (old mid : DiskView) (reads : IsCrashImage old old.reads) (may : MayBeMade 89 (journal_of owner) old)
+    (run : Throughout (IsOneOf owner (all_parts_of s)) (λ image. (f : FileId) → IsOneOf owner (all_parts_of s) f → old.crash_states f (image f) ⊎ (image f ≡ Some [])) old mid) where
+  -- of the journal's parts the file of slots of this owner alone is made
+  not_made : (f : FileId) → (f.part ≡ Commit) ⊎ (f.part ≡ Slots) → f ≢ journal_of owner → IsOneOf owner (all_parts_of s) f → ⊥
+  not_made f is other one = elim (made_is_writable owner s f one) [
+    | inl file ↦ elim is [
+      | inl e ↦ no_commit s file.0 file.1 (sym (file_is f owner file.0 file.2) ∙ e)
+      | inr e ↦ no_slots s file.0 file.1 (sym (file_is f owner file.0 file.2) ∙ e)
+    ]
+    | inr e ↦ other e
+  ]
+
+  own_not_made : (f : FileId) → IsOwn (journal_of owner) f → f ≢ journal_of owner → IsOneOf owner (all_parts_of s) f → ⊥
+  own_not_made f own other one = elim (made_is_writable owner s f one) [ inl file ↦ data_not_own owner s f file own | inr e ↦ other e ]
 
   abbrev was : Image → Image
   was image f = pick f.part (image f) (old.reads f)
@@ -90,21 +95,29 @@ module _ (owner : Owner) (s : Shape) (old mid : DiskView) (reads : IsCrashImage 
     | inr e ↦ subst (λ (g : FileId). was image g ≡ image g) (sym e) refl
   ]
 
-  -- so the journal is as a crash could leave it before
-  journal_as : (image : Image) → ((f : FileId) → (IsOneOf owner (parts_of s) f → ⊥) → old.crash_states f (image f)) → IsSomeCrashOf 89 (journal_of owner) old image
-  journal_as image beside = (
-    was image,
-    λ f. pick_holds (old.crash_states f) f.part (image f) (old.reads f) (λ is. beside f (not_data f is)) (reads f),
-    own_alone 89 (journal_of owner) (was image) image (λ f own. sym (journal_same image f own)),
-  )
+  module _ (image : Image) (beside : (f : FileId) → (IsOneOf owner (all_parts_of s) f → ⊥) → old.crash_states f (image f)) where
+    left_of : old.crash_states (journal_of owner) (image (journal_of owner)) → (f : FileId) → (f.part ≡ Commit) ⊎ (f.part ≡ Slots) → old.crash_states f (image f)
+    left_of left f is = elim (same_or_other f (journal_of owner)) [
+      | inl same ↦ subst (λ (g : FileId). old.crash_states g (image g)) (sym same) left
+      | inr other ↦ beside f (not_made f is other)
+    ]
+
+    -- so the journal is as a crash could leave it before, or it was made empty
+    journal_as : old.crash_states (journal_of owner) (image (journal_of owner)) ⊎ (image (journal_of owner) ≡ Some []) → IsSomeCrashOf 89 (journal_of owner) old image ⊎ JournalHolds 89 (journal_of owner) None image
+    journal_as (inl left) = inl (
+      was image,
+      λ f. pick_holds (old.crash_states f) f.part (image f) (old.reads f) (left_of left f) (reads f),
+      own_alone 89 (journal_of owner) (was image) image (λ f own. sym (journal_same image f own)),
+    )
+    journal_as (inr made) = inr (made_holds_none 89 (journal_of owner) old image refl may made (λ f own other. beside f (own_not_made f own other)))
 
   pub files_run : Throughout (IsWritable owner s) (IsBeingMade owner s old) old mid
-  files_run = widened (IsOneOf owner (parts_of s)) (IsWritable owner s) (λ image. (f : FileId) → IsOneOf owner (parts_of s) f → old.crash_states f (image f) ⊎ (image f ≡ Some [])) (IsBeingMade owner s old) old mid
-      (λ f is. inl (one_of_is_data owner s f is))
-      (λ image has beside. record { files = λ part is. has (file_of owner part) (part_one_of owner s part is); journal = inl (journal_as image beside) }) run
+  files_run = widened (IsOneOf owner (all_parts_of s)) (IsWritable owner s) (λ image. (f : FileId) → IsOneOf owner (all_parts_of s) f → old.crash_states f (image f) ⊎ (image f ≡ Some [])) (IsBeingMade owner s old) old mid
+      (made_is_writable owner s)
+      (λ image has beside. record { files = λ part is. has (file_of owner part) (part_made owner s part is); journal = journal_as image beside (has (journal_of owner) (journal_is_made owner s)) }) run
 
-  pub files_may : MayBeMade 89 (journal_of owner) old → MayBeMade 89 (journal_of owner) mid
-  files_may may = may_be_made_stays 89 (journal_of owner) (IsOneOf owner (parts_of s)) old mid may run.elsewhere (λ f own one. data_not_own owner s f (one_of_is_data owner s f one) own)
+  pub files_may : ((f : FileId) → IsOneOf owner (all_parts_of s) f → (mid.reads f ≡ old.reads f) ⊎ (mid.reads f ≡ Some [])) → MayBeMade 89 (journal_of owner) mid
+  files_may made = made_may_be_made 89 (journal_of owner) (IsOneOf owner (all_parts_of s)) old mid refl may (made (journal_of owner) (journal_is_made owner s)) run.elsewhere own_not_made
 
   -- and then the journal
   module _ (new : DiskView) (mid_reads : IsCrashImage mid mid.reads) (is_now : (image : Image) → IsCrashImage mid image → mid.crash_images_at mid.moment image)
@@ -201,24 +214,8 @@ one_of_either owner (part ∷ parts) g = elim (same_or_other g (file_of owner pa
   | inr other ↦ elim (one_of_either owner parts g) [ inl there ↦ inl (inr there) | inr apart ↦ inr (λ is. elim is [ inl here ↦ other here | inr there ↦ apart there ]) ]
 ]
 
--- a count that rose for the data files once, and for a journal's files so often
+-- a count that rose for a journal's files so often, and then for the data files once
 module _ (owner : Owner) (s : Shape) (J : FileId → Type 0) (apart : (f : FileId) → IsDataFile owner s f → J f → ⊥) (n : ℕ) (old mid new : FileId → ℕ) (more : 1 ≤ n) where
-  pub files_then : RoseAtMost 1 (IsOneOf owner (parts_of s)) old mid → RoseAtMost n J mid new → RoseAtMost n (λ f. IsDataFile owner s f ⊎ J f) old new
-  files_then first second = record {
-    never_fell = λ f. omega (arith, first.never_fell f, second.never_fell f);
-    own = λ f is. elim is [
-      | inl file ↦
-          let e = second.others f (apart f file) in
-          let k = first.own f (subst (λ (g : FileId). IsOneOf owner (parts_of s) g) (sym file.2) (part_one_of owner s file.0 file.1)) in
-          omega (arith, e, k, more)
-      | inr own ↦
-          let e = first.others f (λ one. apart f (one_of_is_data owner s f one) own) in
-          let k = second.own f own in
-          omega (arith, e, k)
-    ];
-    others = λ f other. second.others f (λ own. other (inr own)) ∙ first.others f (λ one. other (inl (one_of_is_data owner s f one)));
-  }
-
   pub then_files : RoseAtMost n J old mid → RoseAtMost 1 (IsOneOf owner (parts_of s)) mid new → RoseAtMost n (λ f. IsDataFile owner s f ⊎ J f) old new
   then_files first second = record {
     never_fell = λ f. omega (arith, first.never_fell f, second.never_fell f);
@@ -240,11 +237,24 @@ pub files_unwritten : (owner : Owner) (parts : List Part) (old new : DiskView) �
 files_unwritten owner parts old new calls = rose_nothing (IsOneOf owner parts) old.writes new.writes (one_of_either owner parts) calls.writes
 
 module _ (owner : Owner) (s : Shape) (old mid new : DiskView) where
-  -- the data files are made, and then the journal
-  pub made_calls : CallsAtMost 0 1 (IsOneOf owner (parts_of s)) old mid → CallsAtMost 1 2 (λ g. g ≡ journal_of owner) mid new → WritesOneOf (journal_of owner) 1 2 (IsWritable owner s) old new
+  -- the files are made, and then the journal is begun
+  pub made_calls : CallsAtMost 0 1 (IsOneOf owner (all_parts_of s)) old mid → CallsAtMost 1 1 (λ g. g ≡ journal_of owner) mid new → WritesOneOf (journal_of owner) 1 2 (IsWritable owner s) old new
   made_calls first second = record {
-    writes = rose_trans 0 1 (λ g. g ≡ journal_of owner) old.writes mid.writes new.writes (stayed_rose 0 (λ g. g ≡ journal_of owner) old.writes mid.writes (files_unwritten owner (parts_of s) old mid first)) second.writes;
-    syncs = files_then owner s (λ g. g ≡ journal_of owner) (data_not_journal owner s) 2 old.syncs mid.syncs new.syncs (omega arith) first.syncs second.syncs;
+    writes = rose_trans 0 1 (λ g. g ≡ journal_of owner) old.writes mid.writes new.writes (stayed_rose 0 (λ g. g ≡ journal_of owner) old.writes mid.writes (files_unwritten owner (all_parts_of s) old mid first)) second.writes;
+    syncs = record {
+      never_fell = λ f. omega (arith, first.syncs.never_fell f, second.syncs.never_fell f);
+      own = λ f is. elim is [
+        | inl file ↦
+            let e = second.syncs.others f (data_not_journal owner s f file) in
+            let k = first.syncs.own f (subst (λ (g : FileId). IsOneOf owner (all_parts_of s) g) (sym file.2) (part_made owner s file.0 file.1)) in
+            omega (arith, e, k)
+        | inr own ↦
+            let k = first.syncs.own f (subst (λ (g : FileId). IsOneOf owner (all_parts_of s) g) (sym own) (journal_is_made owner s)) in
+            let e = second.syncs.own f own in
+            omega (arith, e, k)
+      ];
+      others = λ f other. second.syncs.others f (λ own. other (inr own)) ∙ first.syncs.others f (λ one. other (made_is_writable owner s f one));
+    };
   }
 
   -- the journal is opened, and then the data files are synced
@@ -255,8 +265,8 @@ module _ (owner : Owner) (s : Shape) (old mid new : DiskView) where
   }
 
 -- one of the two alone
-pub files_alone : (owner : Owner) (s : Shape) (old new : DiskView) → CallsAtMost 0 1 (IsOneOf owner (parts_of s)) old new → WritesOneOf (journal_of owner) 1 2 (IsWritable owner s) old new
-files_alone owner s old new calls = made_calls owner s old new new calls (uncounted_at_most 1 2 (λ g. g ≡ journal_of owner) new new (record { writes = λ f. refl; syncs = λ f. refl }))
+pub files_alone : (owner : Owner) (s : Shape) (old new : DiskView) → CallsAtMost 0 1 (IsOneOf owner (all_parts_of s)) old new → WritesOneOf (journal_of owner) 1 2 (IsWritable owner s) old new
+files_alone owner s old new calls = made_calls owner s old new new calls (uncounted_at_most 1 1 (λ g. g ≡ journal_of owner) new new (record { writes = λ f. refl; syncs = λ f. refl }))
 
 pub journal_alone : (owner : Owner) (s : Shape) (old new : DiskView) → OpeningCalls 89 (journal_of owner) (IsOwn (journal_of owner)) old new → OpeningCalls 89 (journal_of owner) (IsOwnFile owner s) old new
 journal_alone owner s old new calls = record {

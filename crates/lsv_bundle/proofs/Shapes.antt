@@ -1,5 +1,5 @@
 -- Each part of a shape is found at its place, once.
-use Rattle.std.proofs.Common.{◌≡◌, ◌≢◌, ◌⊎◌, inl, inr, ℕ, zero, suc, ◌+◌, List, [], ◌∷◌, length, map, refl, sym, ◌∙◌, ap, subst}
+use Rattle.std.proofs.Common.{◌≡◌, ◌≢◌, ◌⊎◌, inl, inr, ℕ, zero, suc, ◌+◌, ◌≤◌, List, [], ◌∷◌, length, map, refl, sym, ◌∙◌, ap, subst, arith}
 use Rattle.std.specs.Prelude.{slice_index, slice_index_or, replicate, ◌-◌, ◌++◌}
 use Rattle.lsv_disk.specs.declared.file.FileId.{FileId}
 use Rattle.lsv_disk.specs.declared.file.Owner.{Owner}
@@ -8,10 +8,11 @@ use Rattle.lsv_disk.specs.declared.file.Part.TheVariants.{Head, Exit, Timing, St
 use Rattle.lsv_bundle.specs.declared.shape.Shape.{Shape}
 use Rattle.lsv_bundle.specs.declared.shape.Shape.TheVariants as shape
 use Rattle.lsv_disk.specs.Files.{file_of, IsOneOf, AreDistinct}
-use Rattle.lsv_bundle.specs.Shape.{parts_of, IsPart, on_shape, index_of, eight, IsDataFile}
+use Rattle.lsv_bundle.specs.Shape.{parts_of, IsPart, on_shape, index_of, eight, journal_of, IsDataFile, IsWritable}
 use Rattle.lsv_bundle.specs.Value.{FileView}
 use Rattle.lsv_bundle.specs.Represents.{Each}
-use Rattle.lsv_bundle.specs.InnerFiles.{IsAmong, IsStagedAmong, Differ, EachPart, commit_file}
+use Rattle.lsv_bundle.specs.InnerFiles.{IsAmong, IsStagedAmong, Differ, all_parts_of, EachPart, commit_file}
+use Rattle.lsv_bundle.proofs.Journals.{data_not_journal}
 
 -- the file of a list that stands at that place, and what the list has there
 pub record IsFound (P : FileView → Type 0) (files : List FileView) (part : Part) : Type 0 where
@@ -448,6 +449,56 @@ shape_distinct owner shape.Log = (
 )
 shape_distinct owner shape.Lines = (λ is. is, tt)
 shape_distinct owner shape.Relay = (λ is. is, tt)
+
+-- the journal's part behind the parts of a list
+module _ (owner : Owner) where
+  some_more : (parts : List Part) (f : FileId) → IsOneOf owner parts f → IsOneOf owner (parts ++ (Slots ∷ [])) f
+  some_more [] f is = elim is [ ]
+  some_more (part ∷ parts) f is = elim is [ inl here ↦ inl here | inr there ↦ inr (some_more parts f there) ]
+
+  last_more : (parts : List Part) → IsOneOf owner (parts ++ (Slots ∷ [])) (journal_of owner)
+  last_more [] = inl refl
+  last_more (part ∷ parts) = inr (last_more parts)
+
+  one_of_more : (parts : List Part) (f : FileId) → IsOneOf owner (parts ++ (Slots ∷ [])) f → IsOneOf owner parts f ⊎ (f ≡ journal_of owner)
+  one_of_more [] f is = elim is [ inl here ↦ inr here | inr none ↦ elim none [ ] ]
+  one_of_more (part ∷ parts) f is = elim is [
+    | inl here ↦ inl (inl here)
+    | inr there ↦ elim (one_of_more parts f there) [ inl one ↦ inl (inr one) | inr last ↦ inr last ]
+  ]
+
+  distinct_more : (parts : List Part) → AreDistinct owner parts → (IsOneOf owner parts (journal_of owner) → ⊥) → AreDistinct owner (parts ++ (Slots ∷ []))
+  distinct_more [] distinct other = (λ is. is, tt)
+  distinct_more (part ∷ parts) distinct other = (
+    λ is. elim (one_of_more parts (file_of owner part) is) [ inl there ↦ distinct.0 there | inr last ↦ other (inl (sym last)) ],
+    distinct_more parts distinct.1 (λ there. other (inr there)),
+  )
+
+each_with_last : (P : Part → Type 0) (parts : List Part) → EachPart P (parts ++ (Slots ∷ [])) → EachPart P parts × P Slots
+each_with_last P [] each = (tt, each.0)
+each_with_last P (part ∷ parts) each = let others = each_with_last P parts each.1 in ((each.0, others.0), others.1)
+
+-- the files that a making makes are the data files and the journal's
+pub part_made : (owner : Owner) (s : Shape) (part : Part) → IsPart s part → IsOneOf owner (all_parts_of s) (file_of owner part)
+part_made owner s part is = some_more owner (parts_of s) (file_of owner part) (part_one_of owner s part is)
+
+pub journal_is_made : (owner : Owner) (s : Shape) → IsOneOf owner (all_parts_of s) (journal_of owner)
+journal_is_made owner s = last_more owner (parts_of s)
+
+pub made_is_writable : (owner : Owner) (s : Shape) (f : FileId) → IsOneOf owner (all_parts_of s) f → IsWritable owner s f
+made_is_writable owner s f is = elim (one_of_more owner (parts_of s) f is) [ inl one ↦ inl (one_of_is_data owner s f one) | inr last ↦ inr last ]
+
+pub all_distinct : (owner : Owner) (s : Shape) → AreDistinct owner (all_parts_of s)
+all_distinct owner s = distinct_more owner (parts_of s) (shape_distinct owner s)
+    (λ one. data_not_journal owner s (journal_of owner) (one_of_is_data owner s (journal_of owner) one) refl)
+
+pub each_made : (P : Part → Type 0) (s : Shape) → EachPart P (all_parts_of s) → EachPart P (parts_of s) × P Slots
+each_made P s each = each_with_last P (parts_of s) each
+
+pub few_parts : (s : Shape) → length (all_parts_of s) ≤ 9
+few_parts shape.Log = omega arith
+few_parts shape.Lines = omega arith
+few_parts shape.Relay = omega arith
 
 -- a staged file of the list is one of the bundle's
 pub staged_is_data : (owner : Owner) (s : Shape) (files : List FileView) → map (λ f. f.part) files ≡ parts_of s → (g : FileId) → IsStagedAmong owner files g

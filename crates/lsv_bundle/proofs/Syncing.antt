@@ -9,7 +9,7 @@ use Rattle.lsv_disk.specs.Bytes.{size_of}
 use Rattle.lsv_disk.specs.Files.{file_of, IsOneOf, AreDistinct}
 use Rattle.lsv_disk.specs.View.{Image, DiskView, IsSynced, OneRead, OneSync}
 use Rattle.lsv_disk.specs.Throughout.{Throughout, Unchanged, CallsAtMost}
-use Rattle.lsv_disk.proofs.Composition.{OnlyNow, one_read, one_sync, unchanged_trans, followed, widened, unchanged_throughout, rose_nothing, stayed_rose}
+use Rattle.lsv_disk.proofs.Composition.{OnlyNow, one_read, one_sync, unchanged_trans, unchanged_reads, followed, widened, unchanged_throughout, rose_nothing, stayed_rose}
 use Rattle.lsv_bundle.specs.Shape.{index_of}
 use Rattle.lsv_bundle.specs.Committed.{IsShort, IsFirstShort}
 use Rattle.lsv_bundle.specs.Represents.{IsDurable}
@@ -140,3 +140,9 @@ module _ (owner : Owner) (parts absent : List Part) (old mid new : DiskView) (so
         | inr is ↦ inl (unchanged.elsewhere.crash f (λ no. no) (image f) (beside f (not_absent f is)))
       ])
       run)
+
+  pub made_reads : ((f : FileId) → IsOneOf owner absent f → (new.reads f ≡ None) ⊎ (new.reads f ≡ Some [])) → (f : FileId) → IsOneOf owner parts f → (new.reads f ≡ old.reads f) ⊎ (new.reads f ≡ Some [])
+  made_reads or_not f one = elim (one_of_either owner absent f) [
+    | inl made ↦ elim (or_not f made) [ inl gone ↦ inl (gone ∙ sym (none f made) ∙ unchanged_reads old mid unchanged f) | inr empty ↦ inr empty ]
+    | inr other ↦ inl (run.elsewhere.same f other ∙ unchanged_reads old mid unchanged f)
+  ]

@@ -3,8 +3,11 @@ use Rattle.std.specs.Prelude.{◌≡◌, ◌≢◌, ◌⊎◌, ℕ, ◌+◌, ◌
 use Rattle.lsv_disk.specs.declared.file.FileId.{FileId}
 use Rattle.lsv_disk.specs.declared.file.Owner.{Owner}
 use Rattle.lsv_disk.specs.declared.file.Part.{Part}
+use Rattle.lsv_disk.specs.declared.file.Part.TheVariants.{Slots}
 use Rattle.lsv_disk.specs.Files.{file_of, IsOneOf, AreDistinct}
 use Rattle.lsv_disk.specs.View.{Image, DiskView, IsSynced}
+use Rattle.lsv_bundle.specs.declared.shape.Shape.{Shape}
+use Rattle.lsv_bundle.specs.Shape.{parts_of}
 use Rattle.lsv_bundle.specs.Value.{FileView, BundleView}
 use Rattle.lsv_bundle.specs.Committed.{HasPrefix, prefix_at}
 use Rattle.lsv_bundle.specs.Represents.{Each}
@@ -43,6 +46,10 @@ IsSyncedFile owner disk file = file.staged ≢ [] → IsSynced disk (file_of own
 -- and it was synced once
 abbrev pub IsSyncedOnce : Owner → DiskView → DiskView → FileView → Type 0
 IsSyncedOnce owner old new file = file.staged ≢ [] → new.syncs (file_of owner file.part) ≡ old.syncs (file_of owner file.part) + 1
+
+-- the parts of the files that a making makes: the shape's, and the journal's
+abbrev pub all_parts_of : Shape → List Part
+all_parts_of shape = parts_of shape ++ (Slots ∷ [])
 
 -- each part of the list has this
 abbrev pub EachPart : (Part → Type 0) → List Part → Type 0

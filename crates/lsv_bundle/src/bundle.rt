@@ -3,7 +3,7 @@ ghost use Rattle.lsv_words.specs.Pieces.{piece};
 ghost use Rattle.lsv_disk.specs.declared.file.FileId.{FileId};
 ghost use Rattle.lsv_disk.specs.declared.file.Part.{Part};
 ghost use Rattle.lsv_disk.specs.Files.{file_of};
-ghost use Rattle.lsv_disk.specs.View.{HasCause, HasOwnCause};
+ghost use Rattle.lsv_disk.specs.View.{IsSynced, HasCause, HasOwnCause};
 ghost use Rattle.lsv_disk.specs.Throughout.{Throughout, OnlyReads, CallsAtMost, WritesOneOf};
 ghost use Rattle.lsv_journal.specs.Last.{IsOwn, IsSomeCrashOf, JournalHolds, MayBeMade};
 ghost use Rattle.lsv_journal.specs.Value as journals;
@@ -68,9 +68,11 @@ fn next_lengths(files: &[DataFile]) -> [u64; 8]
     lengths
 }
 
-/// Makes the journal of an owner.
-fn make_journal<D: Disk>(disk: &mut D, owner: Owner) -> Result<Journal<89>, BundleFault>
+/// Begins the journal of an owner, whose file was made.
+fn begin_journal<D: Disk>(disk: &mut D, owner: Owner) -> Result<Journal<89>, BundleFault>
     requires may_be_made { D.tells → MayBeMade 89 (journal_of owner) (D.view disk.old) }
+    requires there { D.tells → (D.view disk.old).reads (journal_of owner) ≢ None }
+    requires synced_before { D.tells → IsSynced (D.view disk.old) (journal_of owner) }
     ensures file { IfOk result (λ j. journals.file j ≡ journal_of owner) }
     ensures last { IfOk result (λ j. journals.last j ≡ None) }
     ensures prepared { IfOk result (λ j. journals.prepared j ≡ None) }
@@ -78,11 +80,11 @@ fn make_journal<D: Disk>(disk: &mut D, owner: Owner) -> Result<Journal<89>, Bund
     ensures represents { D.tells → IfOk result (λ j. represents.Represents j (D.view disk.new)) }
     ensures again { D.tells → MayBeMade 89 (journal_of owner) (D.view disk.new) }
     ensures any_moment { D.tells → Throughout (λ g. g ≡ journal_of owner) (λ image. IsSomeCrashOf 89 (journal_of owner) (D.view disk.old) image ⊎ JournalHolds 89 (journal_of owner) None image) (D.view disk.old) (D.view disk.new) }
-    ensures calls { D.tells → CallsAtMost 1 2 (λ g. g ≡ journal_of owner) (D.view disk.old) (D.view disk.new) }
+    ensures calls { D.tells → CallsAtMost 1 1 (λ g. g ≡ journal_of owner) (D.view disk.old) (D.view disk.new) }
     ensures fault { IfErr result (λ e. e ≡ BundleFault.Disk) }
     ensures cause { HasOwnCause (IsOwn (journal_of owner)) (IsErr result) (D.view disk.old) (D.view disk.new) }
 {
-    let Ok(journal) = Journal::create(disk, FileId::new(owner, Part::Slots)) else {
+    let Ok(journal) = Journal::begin(disk, FileId::new(owner, Part::Slots)) else {
         return Err(BundleFault::Disk);
     };
     Ok(journal)
@@ -110,8 +112,8 @@ impl Bundle {
         ensures cause { HasOwnCause (IsOwnFile owner shape) (IsErrOf result BundleFault.Disk) (D.view disk.old) (D.view disk.new) }
     {
         let files = data_files(alloc, shape, &NO_BODY.lens)?;
-        make_files(disk, owner, shape.parts())?;
-        let journal = make_journal(disk, owner)?;
+        make_files(disk, owner, shape.all_parts())?;
+        let journal = begin_journal(disk, owner)?;
         Ok(Bundle {
             owner,
             shape,

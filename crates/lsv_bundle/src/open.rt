@@ -56,21 +56,22 @@ fn sync_present<D: Disk>(
     Ok(1 + others)
 }
 
-/// Makes those of an owner's files that are absent, and syncs the others.
+/// Makes those of an owner's files that are absent, by one call, and syncs the others.
 pub(crate) fn make_files<D: Disk>(
     disk: &mut D,
     owner: Owner,
     parts: &[Part],
 ) -> Result<(), DiskFault>
-    requires few { length parts.now ≤ 8 }
+    requires few { length parts.now ≤ 9 }
     requires distinct { AreDistinct owner parts.now }
     ensures there { D.tells → OnOk result (EachPart (λ part. IsDurable (D.view disk.new) (file_of owner part) 0) parts.now) }
+    ensures reads { D.tells → (f : FileId) → IsOneOf owner parts.now f → ((D.view disk.new).reads f ≡ (D.view disk.old).reads f) ⊎ ((D.view disk.new).reads f ≡ Some []) }
     ensures any_moment { D.tells → Throughout (IsOneOf owner parts.now)
         (λ image. (f : FileId) → IsOneOf owner parts.now f → (D.view disk.old).crash_states f (image f) ⊎ (image f ≡ Some [])) (D.view disk.old) (D.view disk.new) }
     ensures calls { D.tells → CallsAtMost 0 1 (IsOneOf owner parts.now) (D.view disk.old) (D.view disk.new) }
     ensures cause { HasOwnCause (IsOneOf owner parts.now) (IsErr result) (D.view disk.old) (D.view disk.new) }
 {
-    let mut absent = [Part::Head; 8];
+    let mut absent = [Part::Head; 9];
     let count = sync_present(disk, owner, parts, &mut absent)?;
     disk.create_all(owner, &absent[..count])
 }

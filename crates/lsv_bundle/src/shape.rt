@@ -1,5 +1,6 @@
 ghost use Rattle.std.specs.Prelude.{◌≡◌, ◌<◌, ℕ};
 ghost use Rattle.lsv_bundle.specs.Shape.{parts_of, index_of};
+ghost use Rattle.lsv_bundle.specs.InnerFiles.{all_parts_of};
 
 use lsv_disk::Part;
 
@@ -14,7 +15,7 @@ pub enum Shape {
     Relay,
 }
 
-const LOG_PARTS: [Part; 8] = [
+const LOG_PARTS: [Part; 9] = [
     Part::Head,
     Part::Exit,
     Part::Timing,
@@ -23,16 +24,28 @@ const LOG_PARTS: [Part; 8] = [
     Part::Stderr,
     Part::Ttyin,
     Part::Ttyout,
+    Part::Slots,
 ];
 
-const LINES_PARTS: [Part; 1] = [Part::Lines];
+const LINES_PARTS: [Part; 2] = [Part::Lines, Part::Slots];
 
-const RELAY_PARTS: [Part; 1] = [Part::Id];
+const RELAY_PARTS: [Part; 2] = [Part::Id, Part::Slots];
 
 impl Shape {
     /// Its parts, in the order of the eight lengths.
     pub fn parts(self) -> &'static [Part]
         ensures { result.now ≡ parts_of self }
+    {
+        match self {
+            Shape::Log => &LOG_PARTS[..8],
+            Shape::Lines => &LINES_PARTS[..1],
+            Shape::Relay => &RELAY_PARTS[..1],
+        }
+    }
+
+    /// Its parts, and the journal's.
+    pub(crate) fn all_parts(self) -> &'static [Part]
+        ensures { result.now ≡ all_parts_of self }
     {
         match self {
             Shape::Log => &LOG_PARTS,

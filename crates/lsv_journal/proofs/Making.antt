@@ -2,9 +2,9 @@
 use Rattle.std.proofs.Common.{◌≡◌, ◌≢◌, ◌⊎◌, inl, inr, ℕ, ◌<◌, ◌≤◌, List, [], ◌∷◌, length, get_or, Option, Some, None, refl, sym, ◌∙◌, ap, subst, arith}
 use Rattle.lsv_disk.specs.declared.file.FileId.{FileId}
 use Rattle.lsv_disk.specs.Bytes.{overwritten, written, bytes_of, Reaches, Torn, TornBytes}
-use Rattle.lsv_disk.specs.View.{Image, DiskView, IsCrashImage, OneRead, OneMaking, OneSync}
+use Rattle.lsv_disk.specs.View.{Image, DiskView, IsCrashImage, OneRead, OneMaking}
 use Rattle.lsv_disk.specs.Throughout.{Throughout, Unchanged}
-use Rattle.lsv_disk.proofs.Composition.{OnlyNow, one_making, followed, widened, one_sync, one_read, unchanged_trans, unchanged_throughout, unchanged_reads}
+use Rattle.lsv_disk.proofs.Composition.{OnlyNow, one_making, followed, widened, one_read, unchanged_throughout}
 use Rattle.lsv_journal.specs.Slots.{entry_of}
 use Rattle.lsv_journal.specs.Represents.{Stands}
 use Rattle.lsv_journal.specs.Reading.{IsEmptyOrAsBefore}
@@ -98,29 +98,20 @@ module _ (n : ℕ) (f : FileId) where
         as_before c (inl left) = inl left
         as_before c (inr empty) = inr (short_file n c (inr empty))
 
-  -- a file that is synced and read, and then closed where it lacks its gate
-  module _ (old mid seen : DiskView) (only_old : OnlyNow old) (only_mid : OnlyNow mid) (only_seen : OnlyNow seen) (sync : OneSync f old mid) (read : OneRead mid seen) where
+  -- a file that is read, and then closed where it lacks its gate
+  module _ (old seen : DiskView) (only_old : OnlyNow old) (only_seen : OnlyNow seen) (read : OneRead old seen) where
     pub seen_unchanged : Unchanged old seen
-    seen_unchanged = unchanged_trans old mid seen (one_sync f old mid sync only_old only_mid) (one_read mid seen read only_mid only_seen).unchanged
-
-    seen_is_old : seen.reads f ≡ old.reads f
-    seen_is_old = unchanged_reads old seen seen_unchanged f
-
-    pub seen_there : old.reads f ≢ None → seen.reads f ≢ None
-    seen_there there gone = there (sym seen_is_old ∙ gone)
+    seen_unchanged = (one_read old seen read only_old only_seen).unchanged
 
     none_seen : entry_of n (bytes_of (old.reads f)) ≡ None → entry_of n (bytes_of (seen.reads f)) ≡ None
-    none_seen none = ap (λ (c : Option (List ℕ)). entry_of n (bytes_of c)) seen_is_old ∙ none
+    none_seen none = ap (λ (c : Option (List ℕ)). entry_of n (bytes_of c)) (read.quiet.same f) ∙ none
 
-    lacks_seen : Lacks (bytes_of (mid.reads f)) → Lacks (bytes_of (seen.reads f))
+    lacks_seen : Lacks (bytes_of (old.reads f)) → Lacks (bytes_of (seen.reads f))
     lacks_seen lacks = subst (λ (c : Option (List ℕ)). Lacks (bytes_of c)) (sym (read.quiet.same f)) lacks
 
-    pub again_run : (new : DiskView) → Lacks (bytes_of (mid.reads f)) → entry_of n (bytes_of (old.reads f)) ≡ None → Throughout (λ g. g ≡ f) (λ image. Torn 0 1 (seen.reads f) (image f)) seen new → Throughout (λ g. g ≡ f) (May old) old new
+    pub again_run : (new : DiskView) → Lacks (bytes_of (old.reads f)) → entry_of n (bytes_of (old.reads f)) ≡ None → Throughout (λ g. g ≡ f) (λ image. Torn 0 1 (seen.reads f) (image f)) seen new → Throughout (λ g. g ≡ f) (May old) old new
     again_run new lacks none run = after_unchanged old seen new seen_unchanged (closing_run seen new (lacks_seen lacks) (none_seen none) run)
 
-    pub again_none : (new : DiskView) → Lacks (bytes_of (mid.reads f)) → entry_of n (bytes_of (old.reads f)) ≡ None → Throughout (λ g. g ≡ f) (λ image. Torn 0 1 (seen.reads f) (image f)) seen new
+    pub again_none : (new : DiskView) → Lacks (bytes_of (old.reads f)) → entry_of n (bytes_of (old.reads f)) ≡ None → Throughout (λ g. g ≡ f) (λ image. Torn 0 1 (seen.reads f) (image f)) seen new
         → IsCrashImage new new.reads → ((image : Image) → IsCrashImage new image → new.crash_images_at new.moment image) → entry_of n (bytes_of (new.reads f)) ≡ None
     again_none new lacks none run = closing_none seen new (lacks_seen lacks) (none_seen none) run
-
-    pub seen_stands : (Lacks (bytes_of (mid.reads f)) → ⊥) → Stands n (bytes_of (seen.reads f)) None
-    seen_stands full = stands_already n (bytes_of (seen.reads f)) (λ lacks. full (subst (λ (c : Option (List ℕ)). Lacks (bytes_of c)) (read.quiet.same f) lacks))

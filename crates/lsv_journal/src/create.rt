@@ -35,6 +35,23 @@ fn make_new<D: Disk>(disk: &mut D, f: FileId) -> Result<(), DiskFault>
     write_synced(disk, f, 0, &[CLOSED])
 }
 
+/// Closes the gate of a file that is there and was synced, where that byte is missing or open.
+pub(crate) fn close_gate<D: Disk>(disk: &mut D, f: FileId) -> Result<(), DiskFault>
+    requires there { D.tells → (D.view disk.old).reads f ≢ None }
+    requires synced_before { D.tells → IsSynced (D.view disk.old) f }
+    ensures durable { D.tells → OnOk result (IsSynced (D.view disk.new) f) }
+    ensures stands { D.tells → OnOk result ((n : ℕ) → entry_of n (bytes_of ((D.view disk.old).reads f)) ≡ None → Stands n (bytes_of ((D.view disk.new).reads f)) None) }
+    ensures none { D.tells → (n : ℕ) → entry_of n (bytes_of ((D.view disk.old).reads f)) ≡ None → entry_of n (bytes_of ((D.view disk.new).reads f)) ≡ None }
+    ensures any_moment { D.tells → (n : ℕ) → entry_of n (bytes_of ((D.view disk.old).reads f)) ≡ None → Throughout (λ g. g ≡ f) (IsEmptyOrAsBefore n f (D.view disk.old)) (D.view disk.old) (D.view disk.new) }
+    ensures calls { D.tells → CallsAtMost 1 1 (λ g. g ≡ f) (D.view disk.old) (D.view disk.new) }
+    ensures cause { HasCause f (IsErr result) (D.view disk.old) (D.view disk.new) }
+{
+    if lacks_closed_gate(disk, f)? {
+        return write_synced(disk, f, 0, &[CLOSED]);
+    }
+    Ok(())
+}
+
 /// Syncs a file that is there, and closes its gate where that byte is missing or open.
 fn make_again<D: Disk>(disk: &mut D, f: FileId) -> Result<(), DiskFault>
     requires there { D.tells → (D.view disk.old).reads f ≢ None }
@@ -46,10 +63,7 @@ fn make_again<D: Disk>(disk: &mut D, f: FileId) -> Result<(), DiskFault>
     ensures cause { HasCause f (IsErr result) (D.view disk.old) (D.view disk.new) }
 {
     disk.sync(f)?;
-    if lacks_closed_gate(disk, f)? {
-        return write_synced(disk, f, 0, &[CLOSED]);
-    }
-    Ok(())
+    close_gate(disk, f)
 }
 
 /// Makes the file where it is lacking, and closes its gate where that byte is missing or open. What a crash may leave

@@ -2,7 +2,7 @@ ghost use Rattle.std.specs.Prelude.{◌≡◌, ◌≢◌, ◌⊎◌, ◌↔◌, 
 
 use crate::JournalFault;
 use crate::append::{select_free, write_free};
-use crate::create::make;
+use crate::create::{close_gate, make};
 use crate::gates::last_gated;
 use crate::open::{find, is_absent, old_file, settle, sync_both};
 use crate::slot::Slot;
@@ -25,7 +25,7 @@ pub struct Journal<const N: usize> {
 impl<const N: usize> Journal<N> {
     ghost use Rattle.lsv_disk.specs.declared.file.FileId.{FileId};
     ghost use Rattle.lsv_disk.specs.declared.file.Part.{Part};
-    ghost use Rattle.lsv_disk.specs.View.{HasCause, Image, IsCrashImage, HasOwnCause};
+    ghost use Rattle.lsv_disk.specs.View.{HasCause, Image, IsCrashImage, IsSynced, HasOwnCause};
     ghost use Rattle.lsv_disk.specs.Throughout.{Throughout, OnlyReads, CallsAtMost};
     ghost use Rattle.lsv_journal.specs.Last.{IsOwn, IsAbsent, LastAt, JournalHolds, IsBeforeOrAfter, SameJournal, IsSomeCrashOf, OpeningCalls, MayBeMade, KeepsSelected, SelectsSame, IsNoLonger};
     ghost use Rattle.lsv_journal.specs.Value.{file, last, prepared, is_broken, KeptAtError};
@@ -50,13 +50,43 @@ impl<const N: usize> Journal<N> {
         ensures cause { HasOwnCause (IsOwn f) (IsErr result) (D.view disk.old) (D.view disk.new) }
     {
         make(disk, f)?;
-        Ok(Journal {
+        Ok(Journal::without_entry(f))
+    }
+
+    /// Makes a journal without an entry at a file that is there and was synced, and may be made: as `create`, with one
+    /// sync fewer. So a file that was made with others, by one sync of their folder, isn't synced again.
+    pub fn begin<D: Disk>(disk: &mut D, f: FileId) -> Result<Journal<N>, JournalFault>
+        requires size { (0 < N) × (N ≤ 120) }
+        requires slots { f.part ≡ Part.Slots }
+        requires may_be_made { D.tells → MayBeMade N f (D.view disk.old) }
+        requires there { D.tells → (D.view disk.old).reads f ≢ None }
+        requires synced_before { D.tells → IsSynced (D.view disk.old) f }
+        ensures file { IfOk result (λ j. file j ≡ f) }
+        ensures last { IfOk result (λ j. last j ≡ None) }
+        ensures prepared { IfOk result (λ j. prepared j ≡ None) }
+        ensures whole { IfOk result (λ j. is_broken j ≡ false) }
+        ensures represents { D.tells → IfOk result (λ j. Represents j (D.view disk.new)) }
+        ensures again { D.tells → MayBeMade N f (D.view disk.new) }
+        ensures any_moment { D.tells → Throughout (λ g. g ≡ f) (λ image. IsSomeCrashOf N f (D.view disk.old) image ⊎ JournalHolds N f None image) (D.view disk.old) (D.view disk.new) }
+        ensures calls { D.tells → CallsAtMost 1 1 (λ g. g ≡ f) (D.view disk.old) (D.view disk.new) }
+        ensures fault { IfErr result (λ e. e ≡ JournalFault.Disk) }
+        ensures cause { HasOwnCause (IsOwn f) (IsErr result) (D.view disk.old) (D.view disk.new) }
+    {
+        close_gate(disk, f)?;
+        Ok(Journal::without_entry(f))
+    }
+
+    /// The value of a journal without an entry.
+    fn without_entry(f: FileId) -> Journal<N>
+        ensures { result ≡ record { file = f; last = None; prepared = None; selected = None; broken = false } }
+    {
+        Journal {
             file: f,
             last: None,
             prepared: None,
             selected: None,
             broken: false,
-        })
+        }
     }
 
     /// Syncs both files, and reads the last entry: a crash leaves that one. None exactly where both are absent. Where

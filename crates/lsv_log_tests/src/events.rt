@@ -90,8 +90,8 @@ fn after_crash(alloc: Global, disk: &MemDisk, lane: u32) -> Result<[Found; 4], F
     Ok(left)
 }
 
-/// By the number of the call that fails: what is found after a crash, in each fill. The first eight calls make the log.
-const LEFT: [(u64, [Found; 4]); 21] = [
+/// By the number of the call that fails: what is found after a crash, in each fill. The first nine calls make the log.
+const LEFT: [(u64, [Found; 4]); 22] = [
     (1, [EMPTY; 4]),
     (2, [EMPTY; 4]),
     (3, [EMPTY; 4]),
@@ -104,14 +104,15 @@ const LEFT: [(u64, [Found; 4]); 21] = [
     (10, [EMPTY; 4]),
     (11, [EMPTY; 4]),
     (12, [EMPTY; 4]),
-    (13, [EMPTY, EMPTY, ONE, EMPTY]),
-    (14, [EMPTY, ONE, ONE, EMPTY]),
-    (15, [ONE; 4]),
+    (13, [EMPTY; 4]),
+    (14, [EMPTY, EMPTY, ONE, EMPTY]),
+    (15, [EMPTY, ONE, ONE, EMPTY]),
     (16, [ONE; 4]),
     (17, [ONE; 4]),
     (18, [ONE; 4]),
-    (19, [ONE, ONE, ONE, THREE]),
-    (20, [ONE, THREE, ONE, THREE]),
+    (19, [ONE; 4]),
+    (20, [ONE, ONE, ONE, THREE]),
+    (21, [ONE, THREE, ONE, THREE]),
     (0, [THREE; 4]),
 ];
 
@@ -178,7 +179,7 @@ fn flush_broken<D: Disk>(log: &mut EventLog, disk: &mut D) -> Result<(), BundleF
 
 #[test]
 fn a_log_that_failed_is_broken_until_it_is_opened_again(rt: HostRuntime) -> Result<(), Fail> {
-    for number in 9..13 {
+    for number in 10..14 {
         let mut disk = MemDisk::new(rt.alloc(), &[number])?;
         let answers = goes_on(rt.alloc(), &mut disk)?;
         let broken = Err(BundleFault::Broken);

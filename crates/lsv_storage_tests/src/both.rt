@@ -60,7 +60,7 @@ const ONE: Found = (Some(3), None);
 const BOTH: Found = (Some(3), Some(5));
 
 /// By the number of the call that fails: what is found after a crash, in each fill.
-const LEFT: [(u64, [Found; 4]); 22] = [
+const LEFT: [(u64, [Found; 4]); 24] = [
     (1, [NONE; 4]),
     (2, [NONE; 4]),
     (3, [NONE; 4]),
@@ -73,15 +73,17 @@ const LEFT: [(u64, [Found; 4]); 22] = [
     (10, [NONE; 4]),
     (11, [NONE; 4]),
     (12, [NONE; 4]),
-    (13, [NONE, NONE, ONE, NONE]),
-    (14, [NONE, ONE, ONE, NONE]),
-    (15, [ONE; 4]),
-    (16, [ONE; 4]),
+    (13, [NONE; 4]),
+    (14, [NONE; 4]),
+    (15, [NONE, NONE, ONE, NONE]),
+    (16, [NONE, ONE, ONE, NONE]),
     (17, [ONE; 4]),
     (18, [ONE; 4]),
-    (19, [ONE, ONE, BOTH, ONE]),
-    (20, [ONE, BOTH, BOTH, ONE]),
-    (21, [BOTH; 4]),
+    (19, [ONE; 4]),
+    (20, [ONE; 4]),
+    (21, [ONE, ONE, BOTH, ONE]),
+    (22, [ONE, BOTH, BOTH, ONE]),
+    (23, [BOTH; 4]),
     (0, [BOTH; 4]),
 ];
 
@@ -97,7 +99,7 @@ fn two_bundles_are_flushed_one_after_the_other(rt: HostRuntime) -> Result<(), Fa
     for (number, want) in LEFT {
         let (disk, answer) = story(rt.alloc(), number)?;
         let found = after_crash(rt.alloc(), &disk)?;
-        let none_fails = number == 0 || number > 20;
+        let none_fails = number == 0 || number > 22;
         assert_eq!(rt;
             (answer.is_ok(), found),
             (none_fails, want),

@@ -84,7 +84,7 @@ const TWO: Found = Some((2, 6));
 const CUT: Found = Some((0, 0));
 
 /// By the number of the call that fails: what is found after a crash, in each fill.
-const LEFT: [(u64, [Found; 4]); 21] = [
+const LEFT: [(u64, [Found; 4]); 22] = [
     (1, [None; 4]),
     (2, [None; 4]),
     (3, [None; 4]),
@@ -93,18 +93,19 @@ const LEFT: [(u64, [Found; 4]); 21] = [
     (6, [None; 4]),
     (7, [None; 4]),
     (8, [None; 4]),
-    (9, [None, None, ONE, None]),
-    (10, [None, ONE, ONE, None]),
-    (11, [ONE; 4]),
+    (9, [None; 4]),
+    (10, [None, None, ONE, None]),
+    (11, [None, ONE, ONE, None]),
     (12, [ONE; 4]),
     (13, [ONE; 4]),
     (14, [ONE; 4]),
-    (15, [ONE, ONE, TWO, ONE]),
-    (16, [ONE, TWO, TWO, ONE]),
-    (17, [TWO; 4]),
+    (15, [ONE; 4]),
+    (16, [ONE, ONE, TWO, ONE]),
+    (17, [ONE, TWO, TWO, ONE]),
     (18, [TWO; 4]),
-    (19, [TWO, TWO, TWO, CUT]),
-    (20, [TWO, CUT, TWO, CUT]),
+    (19, [TWO; 4]),
+    (20, [TWO, TWO, TWO, CUT]),
+    (21, [TWO, CUT, TWO, CUT]),
     (0, [CUT; 4]),
 ];
 

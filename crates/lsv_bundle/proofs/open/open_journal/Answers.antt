@@ -1,6 +1,5 @@
 use Rattle.std.proofs.Common.{◌≡◌, subst}
 use Rattle.lsv_disk.specs.declared.file.FileId.{FileId}
-use Rattle.lsv_disk.specs.View.{DiskView}
 use Rattle.lsv_disk.specs.Throughout.{Throughout}
 use Rattle.lsv_journal.specs.Last.{IsAbsent, IsSomeCrashOf, MayBeMade}
 use Rattle.lsv_journal.proofs.Laws.{absent_last}

@@ -1,4 +1,6 @@
-use Rattle.std.proofs.Common.{◌≡◌, refl}
+use Rattle.std.proofs.Common.{◌≡◌, refl, sym, subst}
+use Rattle.lsv_journal.specs.declared.journal.Journal.{Journal}
+use Rattle.lsv_journal.specs.Represents.{Represents}
 use Rattle.lsv_journal.proofs.Words.{made_slots, made_old, may_be_made, made_run, no_old_stays, old_other, rose_at, own_itself}
 use Rattle.lsv_journal.proofs.journal.Journal.create.Goals as goal
 
@@ -24,14 +26,14 @@ returns-clause-represents g c told =
     let old = g.D.Disk.view c.args.disk.now in
     let new = g.D.Disk.view c.make.new.disk in
     let none = made_slots g.row.N c.args.f old (c.requires.may_be_made told) in
-    record {
+    subst (λ (j : Journal g.row.N). Represents j new) (sym c.without_entry.ensures) (record {
       part = c.requires.slots;
       synced = c.in_ok-make.ensures.durable told;
       last_entry = c.make.ensures.none told g.row.N none;
       stands = c.in_ok-make.ensures.stands told g.row.N none;
       prepared = tt;
       no_old = λ _. no_old_stays g.row.N c.args.f (λ h. h ≡ c.args.f) old new (c.make.ensures.any_moment told g.row.N none).elsewhere (old_other c.args.f c.requires.slots) (made_old g.row.N c.args.f old (c.requires.may_be_made told));
-    }
+    })
 
 pub returns-clause-again : goal.returns-clause-again
 returns-clause-again g c told =
