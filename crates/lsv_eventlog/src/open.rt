@@ -1,9 +1,9 @@
-ghost use Rattle.std.specs.Prelude.{◌≡◌, ◌⊎◌, ℕ, List, [], Some, None, IsErr, IfOk, IfErr, IfSome, IsErrOf};
+ghost use Rattle.std.specs.Prelude.{◌≡◌, ◌≢◌, ◌⊎◌, ℕ, List, [], Some, None, IsErr, IfOk, IfErr, IfSome, IsErrOf};
 ghost use Rattle.lsv_disk.specs.declared.file.Owner.TheVariants.{Events};
 ghost use Rattle.lsv_disk.specs.declared.file.Part.{Part};
 ghost use Rattle.lsv_disk.specs.View.{Image, HasOwnCause, IsCrashImage};
 ghost use Rattle.lsv_disk.specs.Throughout.{Throughout, WritesOneOf};
-ghost use Rattle.lsv_journal.specs.Last.{LastAt, MayBeMade};
+ghost use Rattle.lsv_journal.specs.Last.{LastAt, MayBeMade, OpeningCalls};
 ghost use Rattle.lsv_bundle.specs.declared.fault.BundleFault.{BundleFault};
 ghost use Rattle.lsv_bundle.specs.declared.shape.Shape.TheVariants as shapes;
 ghost use Rattle.lsv_bundle.specs.Shape.{journal_of};
@@ -37,6 +37,7 @@ fn find<D: Disk>(alloc: Global, disk: &mut D, lane: u32) -> Result<Option<EventL
     ensures reads { D.tells → (text : List ℕ) → HoldsLines (D.view disk.old).reads lane text → HoldsLines (D.view disk.new).reads lane text }
     ensures reads_back { D.tells → (text : List ℕ) → HoldsLines (D.view disk.new).reads lane text → HoldsLines (D.view disk.old).reads lane text }
     ensures calls { D.tells → WritesOneOf (journal_of (Events lane)) 3 5 (IsOfEventLog lane) (D.view disk.old) (D.view disk.new) }
+    ensures opened { D.tells → OpeningCalls 89 (journal_of (Events lane)) (IsOfEventLog lane) (D.view disk.old) (D.view disk.new) }
     ensures damaged { D.tells → (part : Part) → IsErrOf result (BundleFault.Damaged part) → IsDamaged (Events lane) shapes.Lines (D.view disk.old).reads part }
     ensures fault { IfErr result IsOpenFault }
     ensures cause { HasOwnCause (IsOfEventLog lane) (IsErrOf result BundleFault.Disk) (D.view disk.old) (D.view disk.new) }
@@ -76,8 +77,9 @@ fn make<D: Disk>(alloc: Global, disk: &mut D, lane: u32) -> Result<EventLog, Bun
 
 impl EventLog {
     /// Opens the event log of a lane, and makes it where it has no entry, also of what a making that a crash or a
-    /// fault ended has left. `Damaged(Lines)` where its lines are absent or fewer than the last entry says; `Disk` only
-    /// where a device call on a file of this log failed. Also where it fails it reads as before.
+    /// fault ended has left. Where there is an entry it is taken over at most, and where the slots have it nothing is
+    /// written. `Damaged(Lines)` where its lines are absent or fewer than the last entry says; `Disk` only where a device
+    /// call on a file of this log failed. Also where it fails it reads as before.
     pub fn open<D: Disk>(alloc: Global, disk: &mut D, lane: u32) -> Result<EventLog, BundleFault>
         ensures sound { IfOk result IsEventLog }
         ensures value { IfOk result (IsOpened lane) }
@@ -88,6 +90,7 @@ impl EventLog {
         ensures reads { D.tells → (text : List ℕ) → HoldsLines (D.view disk.old).reads lane text → HoldsLines (D.view disk.new).reads lane text }
         ensures reads_back { D.tells → (text : List ℕ) → HoldsLines (D.view disk.new).reads lane text → HoldsLines (D.view disk.old).reads lane text }
         ensures calls { D.tells → WritesOneOf (journal_of (Events lane)) 6 9 (IsOfEventLog lane) (D.view disk.old) (D.view disk.new) }
+        ensures opened { D.tells → LastAt 89 (journal_of (Events lane)) (D.view disk.old).reads ≢ None → OpeningCalls 89 (journal_of (Events lane)) (IsOfEventLog lane) (D.view disk.old) (D.view disk.new) }
         ensures damaged { D.tells → (part : Part) → IsErrOf result (BundleFault.Damaged part) → IsDamaged (Events lane) shapes.Lines (D.view disk.old).reads part }
         ensures fault { IfErr result IsOpenFault }
         ensures cause { HasOwnCause (IsOfEventLog lane) (IsErrOf result BundleFault.Disk) (D.view disk.old) (D.view disk.new) }

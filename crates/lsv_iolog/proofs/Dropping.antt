@@ -22,7 +22,7 @@ use Rattle.lsv_bundle.specs.Value.{committed_length, NoneStaged}
 use Rattle.lsv_record.specs.declared.laid.Laid.{Laid}
 use Rattle.lsv_record.specs.declared.records.Record.{Record}
 use Rattle.lsv_record.specs.declared.records.Stream.TheVariants as stream
-use Rattle.lsv_record.specs.Points.{Stored, first, cut}
+use Rattle.lsv_record.specs.Points.{Stored, cut}
 use Rattle.lsv_record.specs.Points as points
 use Rattle.lsv_record.specs.Records.{timing_of, stream_of, elapsed, IsValid}
 use Rattle.lsv_record.specs.Tally.{Totals}

@@ -11,7 +11,7 @@ use Rattle.lsv_disk.specs.Files.{file_of}
 use Rattle.lsv_disk.specs.Throughout.{Throughout, OnlyReads, RoseAtMost, WritesOneOf}
 use Rattle.lsv_disk.specs.View.{Image, DiskView, IsCrashImage}
 use Rattle.lsv_disk.proofs.Composition.{OnlyNow, followed, widened, unchanged_reads, unchanged_crash, unchanged_throughout}
-use Rattle.lsv_journal.specs.Last.{LastAt, IsOwn, IsSomeCrashOf}
+use Rattle.lsv_journal.specs.Last.{LastAt, HasSlotsEntry, IsOwn, IsSomeCrashOf}
 use Rattle.lsv_journal.proofs.Laws.{own_alone, own_cases, absent_last}
 use Rattle.lsv_bundle.specs.declared.body.Body.{Body}
 use Rattle.lsv_bundle.specs.declared.shape.Shape.TheVariants as shapes
@@ -173,6 +173,18 @@ only_read n old new reads = same_by n old.reads new.reads (own_alone 89 (journal
 -- an absent log stays absent through reads, and has no entry
 pub unmade_stays : (n : ℕ) (old new : DiskView) → OnlyReads old new → IsUnmade n old → IsUnmade n new
 unmade_stays n old new reads unmade f of content left = unmade f of content (reads.unchanged.elsewhere.crash f (λ none. none) content left)
+
+-- where its slots had an entry an opening of its files writes nothing
+pub open_unwritten : (n : ℕ) (owner : Owner) (old new : DiskView) → owner ≡ owner_of n → (HasSlotsEntry 89 (journal_of owner) old.reads → (f : FileId) → new.writes f ≡ old.writes f)
+    → HasSlotsEntry 89 (journal_of (owner_of n)) old.reads → (f : FileId) → new.writes f ≡ old.writes f
+open_unwritten n owner old new owned none some = none (subst (λ (o : Owner). HasSlotsEntry 89 (journal_of o) old.reads) (sym owned) some)
+
+-- nor where the other calls only read
+pub unwritten : (n : ℕ) (old one two new : DiskView) → OnlyReads old one → (HasSlotsEntry 89 (journal_of (owner_of n)) one.reads → (f : FileId) → two.writes f ≡ one.writes f) → OnlyReads two new
+    → HasSlotsEntry 89 (journal_of (owner_of n)) old.reads → (f : FileId) → new.writes f ≡ old.writes f
+unwritten n old one two new first none last some f =
+    let same : one.reads ≡ old.reads = λ i g. unchanged_reads old one first.unchanged g i in
+    last.counts.writes f ∙ none (subst (λ (image : Image). HasSlotsEntry 89 (journal_of (owner_of n)) image) (sym same) some) f ∙ first.counts.writes f
 
 -- what an opening writes and syncs, of the log's files
 pub open_calls : (n : ℕ) (owner : Owner) (old new : DiskView) → owner ≡ owner_of n → WritesOneOf (journal_of owner) 3 5 (IsOwnFile owner shapes.Log) old new → WritesOneOf (journal_of (owner_of n)) 3 5 (IsOfLog n) old new

@@ -1,5 +1,5 @@
 -- Which fault of a bundle a fault of a log was.
-use Rattle.std.proofs.Common.{Bool, true, false, ◌≡◌, ◌⊎◌, inl, inr, Result, Ok, Err, IsErrAnd, IsErrOf, refl, sym, ◌∙◌, ap}
+use Rattle.std.proofs.Common.{Bool, true, false, ◌≡◌, ◌≢◌, ◌⊎◌, inl, inr, Result, Ok, Err, IfErr, IsErrAnd, IsErrOf, refl, sym, ◌∙◌, ap}
 use Rattle.lsv_disk.specs.declared.file.Part.{Part}
 use Rattle.lsv_disk.specs.declared.file.FileId.{FileId}
 use Rattle.lsv_disk.specs.View.{DiskView, HasOwnCause}
@@ -86,3 +86,13 @@ only_damaged e there part fault is = elim fault [
   | inl disk ↦ absurd (let no_ : ⊥ = cc in no_)
   | inr more ↦ elim more [ inl damaged ↦ damaged_part there part (sym damaged ∙ is) | inr memory ↦ absurd (let no_ : ⊥ = cc in no_) ]
 ]
+
+-- this holds, and so also where the fault isn't the device's
+pub if_err_always : {T : Type 0} (r : Result T LogFault) (P : Type 0) → P → IfErr r (λ e. e ≢ logs.Disk → P)
+if_err_always (Ok x) P holds = tt
+if_err_always (Err x) P holds = λ other. holds
+
+-- the fault is the device's
+pub if_err_disk : {T : Type 0} (r : Result T LogFault) (P : Type 0) (e : BundleFault) → IsErrAnd r (λ x. x ≡ fault_of e) → fault_of e ≡ logs.Disk → IfErr r (λ x. x ≢ logs.Disk → P)
+if_err_disk (Ok x) P e is disk = tt
+if_err_disk (Err x) P e is disk = λ other. absurd (other (is ∙ disk))

@@ -35,6 +35,10 @@ pub record ViewState : Type 0 where
   pub start : ℕ
   pub window : List ℕ
 
+-- of the timing no more is held than 65,536 bytes
+abbrev pub HoldsLittle : ViewState → Type 0
+HoldsLittle view = length view.window ≤ 65536
+
 -- the bytes of a part that the entry of a log commits, as the disk reads
 abbrev pub committed_text : ℕ → Body → DiskView → Part → List ℕ
 committed_text n body disk part = prefix_at disk (file_of (owner_of n) part) (length_of body part)

@@ -54,6 +54,7 @@ impl IoLog {
         ensures flushed { OnOk result (IsFlushed self.new) }
         ensures elapsed { OnOk result (self.new.elapsed ≡ point) }
         ensures counts { OnErr result (SameCounts self.old self.new) }
+        ensures kept { OnErr result (is_complete self.new ≡ is_complete self.old) }
         ensures found { D.tells → OnOk result ((value : LogValue) → Represents self.old value (D.view disk.old) → first value.stored.records point ≢ None) }
         ensures represents { D.tells → OnOk result ((value : LogValue) → Represents self.old value (D.view disk.old) → Represents self.new (bare (cut_log value.stored point)) (D.view disk.new)) }
         ensures any_moment { D.tells → (value : LogValue) → Represents self.old value (D.view disk.old)
@@ -102,6 +103,7 @@ impl IoLog {
         ensures unchanged { IfErr result (λ e. e ≢ LogFault.Disk → self.new ≡ self.old) }
         ensures broken { IsErrOf result LogFault.Disk → self.new.is_broken ≡ true }
         ensures counts { SameCounts self.old self.new }
+        ensures last { self.new.bundle.last ≡ self.old.bundle.last }
         ensures fault { IfErr result (λ e. (e ≡ LogFault.NoPoint point) ⊎ (e ≡ LogFault.Disk) ⊎ (e ≡ LogFault.NoMem)) }
         ensures cause { HasOwnCause (IsOfLog self.old.number) (IsErrOf result LogFault.Disk) (D.view disk.old) (D.view disk.new) }
     {
@@ -142,6 +144,7 @@ impl IoLog {
         ensures same { (self.new.number ≡ self.old.number) × (self.new.head ≡ self.old.head) }
         ensures counts { OnOk result ((self.new.count ≡ kept.now.count) × (self.new.elapsed ≡ kept.now.elapsed)) }
         ensures kept { OnErr result (SameCounts self.old self.new) }
+        ensures last { OnErr result (self.new.bundle.last ≡ self.old.bundle.last) }
         ensures whole { OnOk result (self.new.is_broken ≡ false) }
         ensures broken { OnErr result (self.new.is_broken ≡ true) }
         ensures value { OnOk result (IsCutTo kept.now cuts self.old.bundle self.new.bundle) }

@@ -51,7 +51,7 @@ impl Model for Lines {
 
     ghost view = { λ l. record { view = l.view; tally = l.tally; start = l.start; window = l.window } };
 
-    ghost invariant = { λ l. (l.view.shape ≡ shapes.Log) × (l.start ≤ l.tally.timing) × (l.tally.timing ≤ l.start + length l.window) × (l.start + length l.window ≤ length_of l.view.body Timing) };
+    ghost invariant = { λ l. (l.view.shape ≡ shapes.Log) × (l.start ≤ l.tally.timing) × (l.tally.timing ≤ l.start + length l.window) × (l.start + length l.window ≤ length_of l.view.body Timing) × (length l.window ≤ 65536) };
 }
 
 impl Lines {

@@ -1,4 +1,4 @@
-ghost use Rattle.std.specs.Prelude.{◌≡◌, ◌⊎◌, ℕ, List, ◌≤◌, ◌<◌, ◌^◌, true, false, Ok, Some, None, length, IsSome, FitsSigned, IfOk, IfErr, OnOk, IsErrOf};
+ghost use Rattle.std.specs.Prelude.{◌≡◌, ◌≢◌, ◌⊎◌, ℕ, List, ◌≤◌, ◌<◌, ◌^◌, true, false, Ok, Some, None, length, IsSome, FitsSigned, IfOk, IfErr, OnOk, IsErrOf};
 ghost use Rattle.lsv_base.specs.Time.{nanos_of};
 ghost use Rattle.lsv_disk.specs.View.{HasOwnCause};
 ghost use Rattle.lsv_disk.specs.Throughout.{Throughout};
@@ -132,6 +132,7 @@ fn make_files<D: Disk>(
     ensures holds { D.tells → IfOk result (λ b. HasCommitted b (made text.now) (D.view disk.new)) }
     ensures any_moment { D.tells → Throughout (IsOfLog number) (IsEither number None (Some (made text.now))) (D.view disk.old) (D.view disk.new) }
     ensures nothing { D.tells → 2 ^ 40 < length text.now → Throughout (IsOfLog number) (λ image. Replays image number None) (D.view disk.old) (D.view disk.new) }
+    ensures undone { D.tells → IfErr result (λ e. e ≢ LogFault.Disk → Throughout (IsOfLog number) (λ image. Replays image number None) (D.view disk.old) (D.view disk.new)) }
     ensures calls { D.tells → CallsOfLog number 3 4 (D.view disk.old) (D.view disk.new) }
     ensures fault { IfErr result (λ e. (e ≡ LogFault.Disk) ⊎ (e ≡ LogFault.Full Part.Head) ⊎ (e ≡ LogFault.NoMem)) }
     ensures full { IsErrOf result (LogFault.Full Part.Head) → 2 ^ 40 < length text.now }
@@ -148,7 +149,7 @@ impl IoLog {
     /// Makes a log of this head, with no record. None of its files is there, and its head's time is valid. At every
     /// moment a crash leaves nothing of it or the whole log, and after Ok the log. `Disk` only where a device call on
     /// a file of this log failed, `Full(Head)` where the head's text has more than 2^40 bytes; then nothing of it is left
-    /// whatever failed.
+    /// whatever failed. Memory is asked for before the log is there: also at `NoMem` nothing of it is left, at no moment.
     pub fn create<D: Disk>(
         alloc: Global,
         disk: &mut D,
@@ -165,6 +166,7 @@ impl IoLog {
         ensures represents { D.tells → IfOk result (λ log. Represents log (bare (made (head_text head.now))) (D.view disk.new)) }
         ensures any_moment { D.tells → Throughout (IsOfLog number) (IsEither number None (Some (made (head_text head.now)))) (D.view disk.old) (D.view disk.new) }
         ensures nothing { D.tells → 2 ^ 40 < length (head_text head.now) → Throughout (IsOfLog number) (λ image. Replays image number None) (D.view disk.old) (D.view disk.new) }
+        ensures undone { D.tells → IfErr result (λ e. e ≢ LogFault.Disk → Throughout (IsOfLog number) (λ image. Replays image number None) (D.view disk.old) (D.view disk.new)) }
         ensures calls { D.tells → CallsOfLog number 3 4 (D.view disk.old) (D.view disk.new) }
         ensures fault { IfErr result (λ e. (e ≡ LogFault.Disk) ⊎ (e ≡ LogFault.Full Part.Head) ⊎ (e ≡ LogFault.NoMem)) }
         ensures full { IsErrOf result (LogFault.Full Part.Head) → 2 ^ 40 < length (head_text head.now) }

@@ -1,6 +1,7 @@
 ghost use Rattle.std.specs.Prelude.{◌≡◌, ◌≢◌, ◌⊎◌, ◌+◌, ◌<◌, ◌≤◌, ◌^◌, ℕ, List, All, Ok, true, false, Option, Some, None, [], length, IfOk, IfErr, OnOk, OnErr, IsErrOf};
 ghost use Rattle.lsv_disk.specs.View.{HasCause, HasOwnCause};
 ghost use Rattle.lsv_disk.specs.Files.{file_of};
+ghost use Rattle.lsv_disk.specs.declared.file.FileId.{FileId};
 ghost use Rattle.lsv_bundle.specs.declared.shape.Shape.TheVariants as shapes;
 ghost use Rattle.lsv_info.specs.Reading.{head_of};
 ghost use Rattle.lsv_record.specs.declared.records.Shaped.{Shaped};
@@ -12,7 +13,7 @@ ghost use Rattle.lsv_disk.specs.declared.file.Part.{Part};
 ghost use Rattle.lsv_bundle.specs.Body.{length_of};
 ghost use Rattle.lsv_record.specs.Points.{Stored};
 ghost use Rattle.lsv_iolog.specs.declared.fault.LogFault.{LogFault};
-ghost use Rattle.lsv_journal.specs.Last.{LastAt, SameJournal, IsSomeCrashOf};
+ghost use Rattle.lsv_journal.specs.Last.{LastAt, SameJournal, IsSomeCrashOf, HasSlotsEntry};
 ghost use Rattle.lsv_bundle.specs.declared.body.Body.{Body};
 ghost use Rattle.lsv_bundle.specs.Represents as bundles;
 ghost use Rattle.lsv_bundle.specs.Value.{committed_length};
@@ -59,6 +60,7 @@ impl IoLog {
         ensures any_moment { D.tells → Throughout (IsOfLog number) (IsAsBefore number (D.view disk.old)) (D.view disk.old) (D.view disk.new) }
         ensures unmade { D.tells → IsUnmade number (D.view disk.old) → OnlyReads (D.view disk.old) (D.view disk.new) }
         ensures calls { D.tells → WritesOneOf (journal_of (owner_of number)) 3 5 (IsOfLog number) (D.view disk.old) (D.view disk.new) }
+        ensures unwritten { D.tells → HasSlotsEntry 89 (journal_of (owner_of number)) (D.view disk.old).reads → (f : FileId) → (D.view disk.new).writes f ≡ (D.view disk.old).writes f }
         ensures fault { IfErr result IsOpenFault }
         ensures cause { HasOwnCause (IsOfLog number) (IsErrOf result LogFault.Disk) (D.view disk.old) (D.view disk.new) }
     {
@@ -107,6 +109,7 @@ fn open_files<D: Disk>(alloc: Global, disk: &mut D, number: LogNo) -> Result<Bun
     ensures reads { D.tells → SameJournal 89 (journal_of (owner_of number)) (D.view disk.old).reads (D.view disk.new).reads }
     ensures any_moment { D.tells → Throughout (λ g. g ≡ journal_of (owner_of number)) (IsSomeCrashOf 89 (journal_of (owner_of number)) (D.view disk.old)) (D.view disk.old) (D.view disk.new) }
     ensures calls { D.tells → WritesOneOf (journal_of (owner_of number)) 3 5 (IsOfLog number) (D.view disk.old) (D.view disk.new) }
+    ensures unwritten { D.tells → HasSlotsEntry 89 (journal_of (owner_of number)) (D.view disk.old).reads → (f : FileId) → (D.view disk.new).writes f ≡ (D.view disk.old).writes f }
     ensures fault { IfErr result IsOpenFault }
     ensures cause { HasOwnCause (IsOfLog number) (IsErrOf result LogFault.Disk) (D.view disk.old) (D.view disk.new) }
 {

@@ -19,7 +19,7 @@ ghost use Rattle.lsv_iolog.specs.Damage.{IsViewDamage};
 ghost use Rattle.lsv_iolog.specs.Faults.{IsOpenFault, IsNextFault};
 ghost use Rattle.lsv_iolog.specs.Inner.Scanning.{text_of, IsReading, IsViewOf, AllCounted};
 ghost use Rattle.lsv_iolog.specs.Inner.Judging.{IsBehindLines, AreWhole, LacksIn, IsWithin, IsEndFault, back_to};
-ghost use Rattle.lsv_iolog.specs.Reading.{committed_text, committed_laid, AreThere, HasShrunk, IsBehind, IsWhole, IsFaultBehind};
+ghost use Rattle.lsv_iolog.specs.Reading.{committed_text, committed_laid, AreThere, HasShrunk, HoldsLittle, IsBehind, IsWhole, IsFaultBehind};
 
 use crate::LogFault;
 use crate::append::part_of;
@@ -55,6 +55,7 @@ pub struct LogView {
 }
 
 impl Model for LogView {
+    ghost use Rattle.std.specs.Prelude.{◌≤◌, length};
     ghost use Rattle.lsv_iolog.specs.Reading.{ViewState};
     ghost use Rattle.lsv_iolog.specs.Inner.Scanning.{IsViewOf};
 
@@ -62,7 +63,7 @@ impl Model for LogView {
 
     ghost view = { λ v. record { number = v.number; head = v.head; body = v.lines.view.body; given = v.lines.tally; start = v.lines.start; window = v.lines.window } };
 
-    ghost invariant = { λ v. IsViewOf v.number v.lines.view };
+    ghost invariant = { λ v. IsViewOf v.number v.lines.view × (length v.lines.window ≤ 65536) };
 }
 
 impl LogView {
@@ -74,6 +75,7 @@ impl LogView {
         ensures entry { D.tells → IfOk result (λ v. HasEntry (owner_of number) v.body (D.view disk.old).reads) }
         ensures head { D.tells → IfOk result (λ v. head_of (committed_text number v.body (D.view disk.new) Part.Head) ≡ Ok v.head) }
         ensures behind { D.tells → IfOk result (λ v. IsBehind v [] (D.view disk.new)) }
+        ensures little { IfOk result HoldsLittle }
         ensures absent { D.tells → IsErrOf result LogFault.Absent → Replays (D.view disk.old).reads number None }
         ensures damaged { D.tells → (part : Part) → IsErrOf result (LogFault.Damaged part) → IsViewDamage number part (D.view disk.old).reads }
         ensures reads { D.tells → OnlyReads (D.view disk.old) (D.view disk.new) }
@@ -138,6 +140,7 @@ impl LogView {
         ensures end { D.tells → IfOk result (λ o. IfNone o ((records : List Record) → IsBehind self.old records (D.view disk.old) → IsWhole self.old records (D.view disk.old) × IsBehind self.new records (D.view disk.new))) }
         ensures stays { D.tells → OnErr result ((records : List Record) → IsBehind self.old records (D.view disk.old) → IsBehind self.new records (D.view disk.new)) }
         ensures same { (self.new.number ≡ self.old.number) × (self.new.head ≡ self.old.head) × (self.new.body ≡ self.old.body) }
+        ensures little { HoldsLittle self.new }
         ensures damaged { D.tells → (part : Part) → IsErrOf result (LogFault.Damaged part) → (records : List Record) → IsBehind self.old records (D.view disk.old)
             → IsFaultBehind (committed_laid self.old.number self.old.body (D.view disk.old)) self.old.body records part }
         ensures reads { D.tells → OnlyReads (D.view disk.old) (D.view disk.new) }
@@ -164,6 +167,7 @@ impl LogView {
         ensures later { D.tells → IfOk result (λ renewed. renewed ≡ Renewed.Same → (before now : Stored) (records more : List Record) → before.records ≡ records ++ more → before.cuts ≡ self.old.body.extra
             → Replays (D.view disk.old).reads self.old.number (Some now) → IsLater before now → self.old.given ≡ totals_of (map shape_of records) → IsBehind self.new records (D.view disk.new)) }
         ensures unchanged { OnErr result (self.new ≡ self.old) }
+        ensures little { HoldsLittle self.new }
         ensures absent { D.tells → IsErrOf result LogFault.Absent → Replays (D.view disk.old).reads self.old.number None }
         ensures damaged { D.tells → (part : Part) → IsErrOf result (LogFault.Damaged part) → IsViewDamage self.old.number part (D.view disk.old).reads ⊎ ((part ≡ Part.Timing) × HasShrunk self.old (D.view disk.old).reads) }
         ensures reads { D.tells → OnlyReads (D.view disk.old) (D.view disk.new) }
@@ -195,6 +199,7 @@ fn next_record<D: Disk>(
     ensures end { D.tells → IfOk result (λ o. IfNone o ((records : List Record) → IsBehindLines lines.old records (D.view disk.old) → AreWhole lines.old.view records (D.view disk.old) × IsBehindLines lines.new records (D.view disk.new))) }
     ensures stays { D.tells → OnErr result (IsReading lines.old (D.view disk.old) → IsReading (back_to lines.new lines.old.tally) (D.view disk.new)) }
     ensures window { (lines.new.start ≤ lines.old.tally.timing) × (lines.old.tally.timing ≤ lines.new.start + length lines.new.window) }
+    ensures little { length lines.new.window ≤ 65536 }
     ensures view { lines.new.view ≡ lines.old.view }
     ensures damaged { D.tells → (part : Part) → IsErrOf result (LogFault.Damaged part) → (records : List Record) → IsBehindLines lines.old records (D.view disk.old)
         → IsFaultBehind (laid_in (text_of lines.old.view (D.view disk.old))) lines.old.view.body records part }

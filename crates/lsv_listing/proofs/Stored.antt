@@ -1,23 +1,18 @@
 -- A log that the disk holds is found as it is.
-use Rattle.std.proofs.Common.{◌≡◌, ◌∙◌, inl, inr, ℕ, List, [], ◌∷◌, Option, Some, None, Ok, length, length-append, take, drop, refl, sym, ap, subst, slice_index, arith}
+use Rattle.std.proofs.Common.{◌≡◌, ◌∙◌, inl, inr, ℕ, List, Option, Some, None, Ok, take, drop, refl, sym, ap}
 use Rattle.std.proofs.lemmas.List.{take-append-drop}
-use Rattle.lsv_disk.specs.declared.file.Owner.{Owner}
-use Rattle.lsv_disk.specs.declared.file.Part.{Part}
-use Rattle.lsv_disk.specs.declared.file.Part.TheVariants.{Head as HeadPart, Exit, Timing, Stdin, Stdout, Stderr, Ttyin, Ttyout}
+use Rattle.lsv_disk.specs.declared.file.Part.TheVariants.{Head as HeadPart}
 use Rattle.lsv_disk.specs.Bytes.{bytes_of}
 use Rattle.lsv_disk.specs.Files.{file_of}
 use Rattle.lsv_disk.specs.View.{Image}
 use Rattle.lsv_bundle.specs.declared.body.Body.{Body}
-use Rattle.lsv_bundle.specs.declared.shape.Shape.TheVariants as shapes
 use Rattle.lsv_bundle.specs.Body.{encoded, length_of}
-use Rattle.lsv_bundle.specs.Committed.{HasPrefix, IsDamaged, IsFirstShort, IsShort}
-use Rattle.lsv_bundle.specs.Shape.{IsPart, index_of, parts_of}
+use Rattle.lsv_bundle.specs.Committed.{HasPrefix}
 use Rattle.lsv_bundle.proofs.Laws.{one_body}
 use Rattle.lsv_info.specs.declared.times.Head.{Head}
 use Rattle.lsv_info.specs.Reading.{head_of}
-use Rattle.lsv_iolog.specs.Damage.{HasFault}
-use Rattle.lsv_iolog.specs.Recovered.{HoldsLog, IsHeadText, Replays, owner_of}
-use Rattle.lsv_iolog.proofs.Replaying.{one_entry, prefix_same}
+use Rattle.lsv_iolog.specs.Recovered.{HoldsLog, Replays, owner_of}
+use Rattle.lsv_iolog.proofs.Replaying.{prefix_same}
 use Rattle.lsv_iolog.proofs.Viewing.{all_there as file_long}
 use Rattle.lsv_record.specs.Points.{Stored}
 use Rattle.lsv_playback.specs.Playing.{IsOpened, text_at}

@@ -2,7 +2,7 @@ ghost use Rattle.std.specs.Prelude.{◌≡◌, ◌≢◌, ◌⊎◌, ℕ, ◌+�
 ghost use Rattle.std.specs.Option.{option_map};
 ghost use Rattle.lsv_disk.specs.View.{Image, IsCrashImage, HasOwnCause};
 ghost use Rattle.lsv_disk.specs.Throughout.{Throughout, CallsAtMost, WritesOneOf};
-ghost use Rattle.lsv_journal.specs.Last.{IsSomeCrashOf, LastAt, MayBeMade};
+ghost use Rattle.lsv_journal.specs.Last.{IsSomeCrashOf, LastAt, MayBeMade, OpeningCalls};
 ghost use Rattle.lsv_journal.specs.Value as journals;
 ghost use Rattle.lsv_journal.specs.Represents as represented;
 ghost use Rattle.lsv_seq.specs.declared.entry.Entry.{Entry};
@@ -43,8 +43,9 @@ impl Numbers {
     ghost use Rattle.lsv_seq.specs.Represents.{Represents};
 
     /// Opens the numbers of a lane of so many lanes, at most eight; files that are absent or have no entry are made, with the
-    /// last number 0. `LanesDiffer` exactly where the last entry is of another number of lanes, else `Damaged` exactly where
-    /// its lane or its last number is none of this lane's; `Disk` only where a device call on a file of the numbers failed.
+    /// last number 0. Where there is an entry it is taken over at most, and where the slots have it nothing is written.
+    /// `LanesDiffer` exactly where the last entry is of another number of lanes, else `Damaged` exactly where its lane or its
+    /// last number is none of this lane's; `Disk` only where a device call on a file of the numbers failed.
     pub fn open<D: Disk>(disk: &mut D, lane: u32, lanes: u32) -> Result<Self, SeqFault>
         requires lane { lane < lanes }
         requires lanes { lanes ≤ 8 }
@@ -57,6 +58,7 @@ impl Numbers {
         ensures kept { D.tells → entry_at lane (D.view disk.old).reads ≢ None → Throughout (λ g. g ≡ numbers_file lane) (IsAsSomeCrash lane (D.view disk.old)) (D.view disk.old) (D.view disk.new) }
         ensures durable { D.tells → IfOk result (λ n. (image : Image) → IsCrashImage (D.view disk.new) image → LastDrawn lane lanes (last_of n) image) }
         ensures calls { D.tells → WritesOneOf (numbers_file lane) 6 9 (IsNumbersFile lane) (D.view disk.old) (D.view disk.new) }
+        ensures opened { D.tells → entry_at lane (D.view disk.old).reads ≢ None → OpeningCalls 12 (numbers_file lane) (IsNumbersFile lane) (D.view disk.old) (D.view disk.new) }
         ensures cause { HasOwnCause (IsNumbersFile lane) (IsErrOf result SeqFault.Disk) (D.view disk.old) (D.view disk.new) }
     {
         let Some(journal) = Journal::<12>::open(disk, numbers_file(lane))? else {

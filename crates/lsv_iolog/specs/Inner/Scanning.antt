@@ -41,11 +41,12 @@ pub record Scan : Type 0 where
 abbrev pub IsReading : Scan → DiskView → Type 0
 IsReading scan disk = IsWindowOf (text_of scan.view disk Timing) scan.start scan.window scan.tally.timing
 
--- the next line begins in the window or at its end, and the window lies within the timing
+-- the next line begins in the window or at its end, and the window lies within the timing and is no longer than one that is read at once
 pub record IsInOrder (scan : Scan) : Type 0 where
   pub before : scan.start ≤ scan.tally.timing
   pub after : scan.tally.timing ≤ scan.start + length scan.window
   pub within : scan.start + length scan.window ≤ length_of scan.view.body Timing
+  pub little : length scan.window ≤ 65536
   pub shape : scan.view.shape ≡ shapes.Log
 
 -- the window is as it was

@@ -1,10 +1,11 @@
 -- The files are made, the head is staged, and one flush commits it.
-use Rattle.std.proofs.Common.{Some, Result, Err, IsErrOf, ◌∙◌, ap}
+use Rattle.std.proofs.Common.{Some, None, Result, Err, IsErrOf, ◌∙◌, ap}
 use Rattle.lsv_disk.specs.declared.file.Part.TheVariants.{Head}
+use Rattle.lsv_disk.specs.Throughout.{Throughout}
 use Rattle.lsv_disk.proofs.Composition.{cause_second}
 use Rattle.lsv_bundle.specs.declared.shape.Shape.TheVariants as shapes
 use Rattle.lsv_bundle.proofs.Laws.{staging_represents}
-use Rattle.lsv_iolog.specs.Recovered.{IsOfLog}
+use Rattle.lsv_iolog.specs.Recovered.{IsOfLog, Replays}
 use Rattle.lsv_iolog.specs.Value.{made}
 use Rattle.lsv_bundle.specs.declared.bundle.Bundle.{Bundle}
 use Rattle.lsv_bundle.specs.declared.fault.BundleFault.{BundleFault}
@@ -13,7 +14,7 @@ use Rattle.lsv_bundle.specs.Value.{next_body}
 use Rattle.lsv_bundle.specs.Committed.{committed_next}
 use Rattle.lsv_bundle.proofs.Laws.{of_owner}
 use Rattle.lsv_iolog.specs.declared.fault.LogFault.TheVariants as logs
-use Rattle.lsv_iolog.proofs.Results.{given_fault, full_is, disk_cause}
+use Rattle.lsv_iolog.proofs.Results.{given_fault, full_is, disk_cause, flush_fault, if_err_always, if_err_disk}
 use Rattle.lsv_iolog.proofs.Committing.{unmade_may_be_made, make_moment, make_nothing, make_calls, make_then_flush, settled_next}
 use Rattle.lsv_iolog.proofs.Making.{staged_owner, staged_shape, staged_whole, full_text, empty_timing, made_log, made_moment}
 use Rattle.lsv_iolog.proofs.log.make_files.Goals as goal
@@ -28,6 +29,11 @@ returns-in_err-bundle-clause-any_moment g c told =
 pub returns-in_err-bundle-clause-nothing : goal.returns-in_err-bundle-clause-nothing
 returns-in_err-bundle-clause-nothing g c told long =
     make_nothing c.args.number c.owner_of.result (g.D.Disk.view c.args.disk.now) (g.D.Disk.view c.create.new.disk) c.owner_of.ensures (c.requires.unmade told) (c.create.ensures.any_moment told)
+
+pub returns-in_err-bundle-clause-undone : goal.returns-in_err-bundle-clause-undone
+returns-in_err-bundle-clause-undone g c told =
+    if_err_always c.from_residual.result (Throughout (IsOfLog c.args.number) (λ image. Replays image c.args.number None) (g.D.Disk.view c.args.disk.now) (g.D.Disk.view c.create.new.disk))
+    (make_nothing c.args.number c.owner_of.result (g.D.Disk.view c.args.disk.now) (g.D.Disk.view c.create.new.disk) c.owner_of.ensures (c.requires.unmade told) (c.create.ensures.any_moment told))
 
 pub returns-in_err-bundle-clause-calls : goal.returns-in_err-bundle-clause-calls
 returns-in_err-bundle-clause-calls g c told =
@@ -46,6 +52,11 @@ pub returns-in_err-stage-clause-nothing : goal.returns-in_err-stage-clause-nothi
 returns-in_err-stage-clause-nothing g c told long =
     make_nothing c.args.number c.owner_of.result (g.D.Disk.view c.args.disk.now) (g.D.Disk.view c.create.new.disk) c.owner_of.ensures (c.requires.unmade told) (c.create.ensures.any_moment told)
 
+pub returns-in_err-stage-clause-undone : goal.returns-in_err-stage-clause-undone
+returns-in_err-stage-clause-undone g c told =
+    if_err_always c.from_residual-in_err-stage.result (Throughout (IsOfLog c.args.number) (λ image. Replays image c.args.number None) (g.D.Disk.view c.args.disk.now) (g.D.Disk.view c.create.new.disk))
+    (make_nothing c.args.number c.owner_of.result (g.D.Disk.view c.args.disk.now) (g.D.Disk.view c.create.new.disk) c.owner_of.ensures (c.requires.unmade told) (c.create.ensures.any_moment told))
+
 pub returns-in_err-stage-clause-calls : goal.returns-in_err-stage-clause-calls
 returns-in_err-stage-clause-calls g c told =
     make_calls c.args.number c.owner_of.result (g.D.Disk.view c.args.disk.now) (g.D.Disk.view c.create.new.disk) c.owner_of.ensures (c.create.ensures.calls told)
@@ -63,6 +74,13 @@ returns-in_err-flush-clause-any_moment g c told =
     made_moment c.args.number c.owner_of.result c.in_ok-bundle.bundle c.stage.new.self c.as_slice.result.now c.args.text.now (g.D.Disk.view c.args.disk.now) (g.D.Disk.view c.create.new.disk) (g.D.Disk.view c.flush.new.disk)
     c.owner_of.ensures (c.requires.unmade told) c.requires.head c.as_slice.ensures c.in_ok-bundle.ensures.fresh c.in_ok-bundle.ensures.last c.in_ok-bundle.ensures.lengths c.in_ok-stage.ensures.value
     (c.create.ensures.any_moment told) (c.flush.ensures.any_moment told (staged_whole c.in_ok-bundle.bundle c.stage.new.self c.owner_of.result c.in_ok-bundle.ensures.fresh c.in_ok-stage.ensures.value))
+
+pub returns-in_err-flush-clause-undone : goal.returns-in_err-flush-clause-undone
+returns-in_err-flush-clause-undone g c told =
+    if_err_disk c.from_residual-in_err-flush.result (Throughout (IsOfLog c.args.number) (λ image. Replays image c.args.number None) (g.D.Disk.view c.args.disk.now) (g.D.Disk.view c.flush.new.disk))
+    c.in_err-flush.field-0.0 c.from_residual-in_err-flush.ensures.1
+    (flush_fault c.in_err-flush.field-0.0 c.stage.new.self.is_broken (staged_whole c.in_ok-bundle.bundle c.stage.new.self c.owner_of.result c.in_ok-bundle.ensures.fresh c.in_ok-stage.ensures.value) c.in_err-flush.ensures.fault
+    (λ e. c.in_err-flush.ensures.broken.0 (ap (λ (x : BundleFault). let y : Result Unit BundleFault = Err x in y) e)))
 
 pub returns-in_err-flush-clause-calls : goal.returns-in_err-flush-clause-calls
 returns-in_err-flush-clause-calls g c told =

@@ -1,10 +1,13 @@
 -- The text is written and read, and then its files are made.
 use Rattle.lsv_info.specs.Layout.{head_text}
 use Rattle.lsv_bundle.specs.declared.body.Body.{Body}
-use Rattle.std.proofs.Common.{false, ℕ, Some, List, refl, subst, arith}
+use Rattle.std.proofs.Common.{false, ℕ, Some, None, List, refl, subst, arith}
+use Rattle.lsv_disk.specs.Throughout.{Throughout}
+use Rattle.lsv_iolog.specs.Recovered.{IsOfLog, Replays}
 use Rattle.lsv_iolog.specs.Value.{IoLogView, bare, made}
 use Rattle.lsv_iolog.specs.Represents.{Represents}
 use Rattle.lsv_iolog.proofs.Committing.{unmade_started, nothing_started}
+use Rattle.lsv_iolog.proofs.Results.{if_err_always}
 use Rattle.lsv_iolog.proofs.Representing.{settled_represents, settled_invariant, settled_small}
 use Rattle.lsv_iolog.proofs.log.IoLog.create.Goals as goal
 
@@ -19,6 +22,18 @@ returns-in_err-text-clause-nothing g c told long = nothing_started c.args.number
 
 pub returns-in_err-head-clause-nothing : goal.returns-in_err-head-clause-nothing
 returns-in_err-head-clause-nothing g c told long = nothing_started c.args.number (g.D.Disk.view c.args.disk.now) (g.met.D.Disk.only_now told c.args.disk.now) (c.requires.unmade told)
+
+pub returns-in_err-text-clause-undone : goal.returns-in_err-text-clause-undone
+returns-in_err-text-clause-undone g c told =
+    let old = g.D.Disk.view c.args.disk.now in
+    if_err_always c.from_residual.result (Throughout (IsOfLog c.args.number) (λ image. Replays image c.args.number None) old old)
+    (nothing_started c.args.number old (g.met.D.Disk.only_now told c.args.disk.now) (c.requires.unmade told))
+
+pub returns-in_err-head-clause-undone : goal.returns-in_err-head-clause-undone
+returns-in_err-head-clause-undone g c told =
+    let old = g.D.Disk.view c.args.disk.now in
+    if_err_always c.from_residual-in_err-head.result (Throughout (IsOfLog c.args.number) (λ image. Replays image c.args.number None) old old)
+    (nothing_started c.args.number old (g.met.D.Disk.only_now told c.args.disk.now) (c.requires.unmade told))
 
 pub invariant_of-result : goal.invariant_of-result
 invariant_of-result g c =

@@ -1,12 +1,9 @@
 -- The point is found, and then the files are cut.
-use Rattle.std.specs.Prelude.{nat_lt}
-use Rattle.lsv_disk.specs.declared.file.FileId.{FileId}
-use Rattle.lsv_record.specs.declared.tally.Tally.{Tally}
-use Rattle.std.proofs.Common.{◌≡◌, ◌≢◌, ◌≤◌, ◌<◌, ◌^◌, ◌-◌, inl, inr, ℕ, true, false, List, [], Option, Some, None, Result, Ok, Err, OnOk, IsErrOf, refl, sym, ◌∙◌, ap, subst, arith}
+use Rattle.std.proofs.Common.{◌≡◌, ◌≢◌, ◌≤◌, ◌<◌, ◌^◌, ◌-◌, inl, inr, ℕ, true, false, Option, Some, None, Result, Err, IsErrOf, sym, ◌∙◌, ap, subst, arith}
 use Rattle.lsv_disk.specs.declared.file.Owner.{Owner}
 use Rattle.lsv_disk.specs.Throughout.{Throughout, CallsAtMost}
-use Rattle.lsv_disk.specs.View.{DiskView, HasCause, HasOwnCause}
-use Rattle.lsv_disk.proofs.Composition.{started, followed, calls_trans, uncounted_at_most, cause_second, cause_widened, risen_second}
+use Rattle.lsv_disk.specs.View.{DiskView, HasCause}
+use Rattle.lsv_disk.proofs.Composition.{followed, calls_trans, uncounted_at_most, cause_second, cause_widened, risen_second}
 use Rattle.lsv_bundle.specs.Shape.{journal_of}
 use Rattle.lsv_bundle.specs.Committed.{committed}
 use Rattle.lsv_bundle.specs.Represents as bundles
@@ -23,10 +20,14 @@ use Rattle.lsv_iolog.specs.Value.{IoLogView, LogValue, bare}
 use Rattle.lsv_iolog.specs.Represents.{Represents}
 use Rattle.lsv_iolog.specs.Inner.Next.{cuts_in}
 use Rattle.lsv_iolog.specs.Inner.Cutting.{IsFound, IsCutTo, entry_behind}
+use Rattle.std.specs.Prelude.{◌==◌}
+use Rattle.std.specs.Option.{option_map_or}
+use Rattle.std.proofs.lemmas.Result.{on_err_weaker}
+use Rattle.lsv_bundle.specs.declared.body.Body.{Body}
 use Rattle.lsv_iolog.proofs.Flushing.{idle_moment, either_later, on_ok_always}
 use Rattle.lsv_iolog.proofs.Finishing.{going_exit}
 use Rattle.lsv_iolog.proofs.Results.{same_log_fault}
-use Rattle.lsv_iolog.proofs.Scans.{none_there, if_some_at}
+use Rattle.lsv_iolog.proofs.Scans.{none_there}
 use Rattle.lsv_iolog.proofs.Dropping.{read_stays, read_moment, none_left, on_ok_five, some_first, cut_later, cut_moment, cut_represents, cuts_are, drops_is, has_body}
 use Rattle.lsv_iolog.proofs.log.IoLog.cut_at.Goals as goal
 
@@ -226,3 +227,8 @@ returns-clause-blame g c told failed value at =
         risen = λ is. risen_second (old.faults (journal_of files.bundle.owner)) (mid.faults (journal_of files.bundle.owner)) (new.faults (journal_of files.bundle.owner)) (c.find.ensures.cause.monotone (journal_of files.bundle.owner)) (c.cut_behind.ensures.blame.risen failed);
       }),
     )
+
+pub returns-clause-kept : goal.returns-clause-kept
+returns-clause-kept g c =
+    on_err_weaker c.cut_behind.result
+    (λ last. ap (λ (o : Option Body). option_map_or (λ (body : Body). body.kind == 3) o false) (last ∙ ap (λ (v : IoLogView). v.bundle.last) c.in_ok-kept.ensures.same)) c.cut_behind.ensures.last

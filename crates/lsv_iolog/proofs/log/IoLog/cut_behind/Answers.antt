@@ -1,7 +1,5 @@
 -- One cut of the files commits the records through the point.
-use Rattle.lsv_bundle.specs.declared.shape.Shape.TheVariants as shapes
-use Rattle.std.proofs.Common.{◌≡◌, ℕ, ◌≤◌, ◌<◌, ◌^◌, List, [], Some, true, false, Result, Err, IsErrOf, refl, sym, ◌∙◌, ap, subst, arith, length}
-use Rattle.lsv_disk.specs.declared.file.Part.{Part}
+use Rattle.std.proofs.Common.{◌≡◌, ℕ, ◌≤◌, ◌^◌, List, [], Some, Result, Err, IsErrOf, refl, sym, ◌∙◌, ap, subst, arith, length}
 use Rattle.lsv_disk.specs.declared.file.Part.TheVariants.{Timing}
 use Rattle.lsv_disk.specs.Throughout.{Throughout, CallsAtMost}
 use Rattle.lsv_disk.specs.View.{DiskView, HasCause, HasOwnCause}
@@ -12,17 +10,16 @@ use Rattle.lsv_iolog.specs.Faults.{fault_of}
 use Rattle.lsv_iolog.specs.declared.fault.LogFault.{LogFault}
 use Rattle.lsv_iolog.specs.declared.fault.LogFault.TheVariants as logs
 use Rattle.lsv_iolog.proofs.Results.{disk_is}
-use Rattle.lsv_bundle.specs.declared.body.Body.{Body}
 use Rattle.lsv_bundle.specs.declared.shape.Shape.{Shape}
 use Rattle.lsv_bundle.specs.Body.{length_of}
 use Rattle.lsv_bundle.specs.Committed.{IsBeforeOrAfter, committed, committed_cut}
-use Rattle.lsv_bundle.specs.Shape.{IsPart, journal_of, eight, index_of}
+use Rattle.lsv_bundle.specs.Shape.{IsPart, journal_of}
 use Rattle.std.specs.Prelude.{slice_index}
 use Rattle.lsv_bundle.specs.Value.{BundleView, committed_length, lengths_of, staged, next_length, cut_body, IsKept}
 use Rattle.lsv_iolog.specs.Value.{IoLogView}
 use Rattle.lsv_iolog.specs.Inner.Cutting.{length_behind, entry_behind}
 use Rattle.lsv_iolog.proofs.Committing.{kept_files, kept_next, kept_staged}
-use Rattle.lsv_iolog.proofs.Representing.{settled_invariant, settled_timing}
+use Rattle.lsv_iolog.proofs.Representing.{settled_invariant}
 use Rattle.lsv_iolog.proofs.Shortening.{none_grows, entry_is, cut_run, settled_cut}
 use Rattle.lsv_iolog.proofs.log.IoLog.cut_behind.Goals as goal
 

@@ -27,7 +27,7 @@ use Rattle.lsv_iolog.proofs.Results.{same_log_fault}
 use Rattle.lsv_iolog.proofs.Scans.{reads_nothing}
 use Rattle.lsv_iolog.proofs.Judging.{judged_log}
 use Rattle.lsv_iolog.proofs.Representing.{settled_represents, settled_invariant, settled_small}
-use Rattle.lsv_iolog.proofs.Opening.{open_moment, open_reads, read_moment, only_read, unmade_last, settled_as, whole_view, holds_old, committed_new}
+use Rattle.lsv_iolog.proofs.Opening.{open_moment, open_reads, read_moment, only_read, unmade_last, settled_as, whole_view, holds_old, committed_new, unwritten}
 use Rattle.lsv_iolog.proofs.log.IoLog.open.Goals as goal
 
 pub returns-in_err-check_entry-clause-reads : goal.returns-in_err-check_entry-clause-reads
@@ -220,3 +220,18 @@ returns-clause-found g c told =
           (committed_new n b body old one two new settled first entry enough run.elsewhere.same last judged.0 judged.1 (c.in_ok-bundle.ensures.represents told))
           (settled_small n body b settled (omega (arith, small, long))) judged.2 (c.count.ensures.value ∙ judged.3) (c.elapsed.ensures.value ∙ judged.4),
     )
+
+pub returns-in_err-bundle-clause-unwritten : goal.returns-in_err-bundle-clause-unwritten
+returns-in_err-bundle-clause-unwritten g c told =
+    let two : DiskView = g.D.Disk.view c.open_files.new.disk in
+    unwritten c.args.number (g.D.Disk.view c.args.disk.now) (g.D.Disk.view c.check_entry.new.disk) two two (c.check_entry.ensures.reads told) (c.open_files.ensures.unwritten told) (reads_nothing two (g.met.D.Disk.only_now told c.open_files.new.disk))
+
+pub returns-in_err-head-clause-unwritten : goal.returns-in_err-head-clause-unwritten
+returns-in_err-head-clause-unwritten g c told =
+    let two : DiskView = g.D.Disk.view c.open_files.new.disk in
+    unwritten c.args.number (g.D.Disk.view c.args.disk.now) (g.D.Disk.view c.check_entry.new.disk) two (g.D.Disk.view c.read_stored.new.disk) (c.check_entry.ensures.reads told) (c.open_files.ensures.unwritten told) (c.read_stored.ensures.reads told)
+
+pub returns-clause-unwritten : goal.returns-clause-unwritten
+returns-clause-unwritten g c told =
+    let two : DiskView = g.D.Disk.view c.open_files.new.disk in
+    unwritten c.args.number (g.D.Disk.view c.args.disk.now) (g.D.Disk.view c.check_entry.new.disk) two (g.D.Disk.view c.read_stored.new.disk) (c.check_entry.ensures.reads told) (c.open_files.ensures.unwritten told) (c.read_stored.ensures.reads told)

@@ -1,5 +1,6 @@
-use Rattle.std.proofs.Common.{sym, ap, ◌∙◌, refl}
+use Rattle.std.proofs.Common.{sym, ap, subst, ◌∙◌, refl}
 use Rattle.std.specs.Option.{option_map}
+use Rattle.lsv_journal.specs.Last.{IsOwn, OpeningCalls}
 use Rattle.lsv_seq.specs.Entry.{entry_in}
 use Rattle.lsv_seq.specs.Inner.{last_in}
 use Rattle.lsv_seq.proofs.Openings.{made_reads, kept_moments, made_moments, opened_moments, opened_calls, resumed_represents}
@@ -62,3 +63,23 @@ returns-in_default-last-clause-kept g c told some =
 pub returns-clause-kept : goal.returns-clause-kept
 returns-clause-kept g c told some =
     kept_moments c.args.lane c.args.lanes c.numbers_file.result c.numbers_file.ensures (g.D.Disk.view c.args.disk.now) (g.D.Disk.view c.open.new.disk) (c.open.ensures.any_moment told)
+
+pub returns-in_err-journal-clause-opened : goal.returns-in_err-journal-clause-opened
+returns-in_err-journal-clause-opened g c told some =
+    subst (λ h. OpeningCalls 12 h (IsOwn h) (g.D.Disk.view c.args.disk.now) (g.D.Disk.view c.open.new.disk)) c.numbers_file.ensures (c.open.ensures.calls told)
+
+pub returns-in_default-clause-opened : goal.returns-in_default-clause-opened
+returns-in_default-clause-opened g c told some =
+    let reads = (g.D.Disk.view c.args.disk.now).reads in
+    let found = reopened_entry c.args.lane c.numbers_file.result reads c.in_ok-journal.field-0 c.numbers_file.ensures (c.in_ok-journal.ensures.absent told).0 (c.in_ok-journal.ensures.last told) in
+    absurd (some (sym found ∙ ap (λ o. option_map entry_in (last_in o)) c.in_default.is))
+
+pub returns-in_default-last-clause-opened : goal.returns-in_default-last-clause-opened
+returns-in_default-last-clause-opened g c told some =
+    let reads = (g.D.Disk.view c.args.disk.now).reads in
+    let found = reopened_entry c.args.lane c.numbers_file.result reads c.in_ok-journal.field-0 c.numbers_file.ensures (c.in_ok-journal.ensures.absent told).0 (c.in_ok-journal.ensures.last told) in
+    absurd (some (sym found ∙ ap (λ o. option_map entry_in (last_in o)) c.in-Some.is ∙ ap (option_map entry_in) (sym c.last.ensures ∙ c.in_default-last.is)))
+
+pub returns-clause-opened : goal.returns-clause-opened
+returns-clause-opened g c told some =
+    subst (λ h. OpeningCalls 12 h (IsOwn h) (g.D.Disk.view c.args.disk.now) (g.D.Disk.view c.open.new.disk)) c.numbers_file.ensures (c.open.ensures.calls told)
