@@ -8,6 +8,7 @@ mod folders;
 mod foreign;
 mod handle;
 mod limit;
+mod opened;
 mod path;
 mod port;
 mod read_only;
