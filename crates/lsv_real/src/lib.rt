@@ -8,6 +8,7 @@ mod folders;
 mod foreign;
 mod handle;
 mod limit;
+mod log_path;
 mod opened;
 mod path;
 mod port;

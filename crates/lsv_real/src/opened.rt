@@ -1,6 +1,7 @@
 // The store that is only read: its places, and the files that are open.
 ghost use Rattle.std.specs.Prelude.{◌≤◌, IfOk, length};
 
+use crate::log_path::LogPath;
 use crate::path::{Places, log_name};
 use crate::reader::Reader;
 use lsv_disk::{FileId, Owner, Part};
@@ -19,30 +20,22 @@ pub struct Opened {
     /// A look begins where a journal is read from its start: of what was read ahead before, nothing is answered.
     look: u64,
     log: LogPath,
-}
-
-/// The path of a file of the log that was asked for last.
-#[derive(Drop)]
-struct LogPath {
-    number: Option<u32>,
-    folder: String,
+    /// The path of another file, which was asked for last.
     path: String,
 }
 
 impl Opened {
     /// The places of a store, with no file open.
-    pub fn new(alloc: Global, dir: &str, events: &str) -> Result<Self, AllocError> {
+    pub fn new(rt: HostRuntime, dir: &str, events: &str) -> Result<Self, AllocError> {
+        let alloc = rt.alloc();
         let places = Places::new(alloc, dir, events)?;
         Ok(Opened {
+            log: LogPath::new(rt, alloc, &places),
             places,
             owner: None,
             readers: Vec::new(alloc),
             look: 0,
-            log: LogPath {
-                number: None,
-                folder: String::new(alloc),
-                path: String::new(alloc),
-            },
+            path: String::new(alloc),
         })
     }
 
@@ -141,36 +134,17 @@ impl Opened {
         }
     }
 
-    /// The path of a file.
+    /// The path of a file, from where the process stands.
     fn path_of(&mut self, alloc: Global, f: FileId) -> io::Result<&str> {
         if let (Owner::Log(n), Some(name)) = (f.owner, log_name(f.part)) {
-            return self.log.path_of(alloc, &self.places, n, name);
+            return self.log.path_of(&self.places, n, name);
         }
         match self.places.place_of(alloc, f)? {
             Some(place) => {
-                self.log.number = None;
-                self.log.path = place.path;
-                Ok(self.log.path.as_str())
+                self.path = place.path;
+                Ok(self.path.as_str())
             }
             None => Err(ErrorKind::InvalidInput.into()),
         }
-    }
-}
-
-impl LogPath {
-    /// The path of the file of this name of a log.
-    fn path_of(&mut self, alloc: Global, places: &Places, n: u32, name: &str) -> io::Result<&str> {
-        if self.number != Some(n) {
-            let Some(folder) = places.log_folder(alloc, n)? else {
-                return Err(ErrorKind::InvalidInput.into());
-            };
-            self.folder = folder;
-            self.number = Some(n);
-        }
-        self.path.clear();
-        self.path.push_str(self.folder.as_str())?;
-        self.path.push('/')?;
-        self.path.push_str(name)?;
-        Ok(self.path.as_str())
     }
 }

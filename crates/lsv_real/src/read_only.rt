@@ -120,7 +120,7 @@ impl Disk for ReadOnlyDisk {
             );
             return;
         }
-        match Opened::new(self.rt.alloc(), dir, events) {
+        match Opened::new(self.rt, dir, events) {
             Ok(store) => self.store = Some(store),
             Err(e) => {
                 let _ = eprintln!(self.rt; "{program}: {dir}: {e}");
