@@ -99,6 +99,13 @@ impl LogView {
         &self.head
     }
 
+    /// What is told of the command at its start, of a log that is read no more.
+    pub fn into_head(self) -> Head
+        ensures { result ≡ self.head }
+    {
+        self.head
+    }
+
     /// What the last entry says.
     pub fn body(&self) -> Body
         ensures { result ≡ self.now.body }

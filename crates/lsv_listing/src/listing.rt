@@ -91,7 +91,7 @@ fn list_log<D: Disk, S: Screen>(
     ensures screen { HasCause (result ≡ Err faults.Screen) (S.faults screen.old) (S.faults screen.new) }
 {
     match LogView::open(alloc, disk, number) {
-        Ok(log) => list_head(alloc, e, number, log.head(), screen),
+        Ok(log) => list_head(alloc, e, number, log.into_head(), screen),
         Err(fault) => damage_of(fault),
     }
 }
@@ -114,11 +114,11 @@ fn list_head<S: Screen>(
     alloc: Global,
     e: &Expr,
     number: LogNo,
-    head: &Head,
+    head: Head,
     screen: &mut S,
 ) -> Result<Option<Part>, ListFault>
-    ensures listed { IsSome (nanos_of head.now.submit) → (searched : Option Expression) → AreStepsOf searched e.now
-        → (put : List Item) × (S.tells → S.shown screen.new ≡ S.shown screen.old ++ put) × ListsHead searched number head.now result put }
+    ensures listed { IsSome (nanos_of head.submit) → (searched : Option Expression) → AreStepsOf searched e.now
+        → (put : List Item) × (S.tells → S.shown screen.new ≡ S.shown screen.old ++ put) × ListsHead searched number head result put }
     ensures no_disk { result ≡ Err faults.Disk → ⊥ }
     ensures screen { HasCause (result ≡ Err faults.Screen) (S.faults screen.old) (S.faults screen.new) }
 {
@@ -126,7 +126,7 @@ fn list_head<S: Screen>(
     if head.submit.delay().is_none() {
         return Ok(Some(Part::Head));
     }
-    if matches(alloc, e, head)? {
+    if matches(alloc, e, &head)? {
         let line = line_of(alloc, number, head)?;
         screen.put(line.as_slice())?;
     }
@@ -135,15 +135,15 @@ fn list_head<S: Screen>(
 
 #[tactic(auto, unfolding(crate::specs::Listing::line_of))]
 /// The line of a log: that of the event by which it was accepted.
-fn line_of(alloc: Global, number: LogNo, head: &Head) -> Result<Bytes, NoMem>
-    requires timed { IsSome (nanos_of head.now.submit) }
-    ensures { IfOk result (λ line. line ≡ line_of number head.now) }
+fn line_of(alloc: Global, number: LogNo, head: Head) -> Result<Bytes, NoMem>
+    requires timed { IsSome (nanos_of head.submit) }
+    ensures { IfOk result (λ line. line ≡ line_of number head) }
 {
     let accept = Event::Accept {
         at: head.submit,
         peer: NOBODY,
         log: Some(number),
-        head: head.copy(alloc)?,
+        head,
     };
     sudo_line(alloc, &accept)
 }

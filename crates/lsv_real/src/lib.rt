@@ -8,6 +8,8 @@ mod folders;
 mod foreign;
 mod handle;
 mod limit;
+mod log_path;
+mod opened;
 mod path;
 mod port;
 mod read_only;

@@ -22,10 +22,10 @@ returns-in-Ok-clause-listed g c told searched steps =
     let v = c.in-Ok.log in
     let opened : IsOpened c.args.number v.body v.head old.reads =
     opened_log c.args.number v old mid c.in-Ok.ensures.number (c.open.ensures.reads told) (c.in-Ok.ensures.entry told) (c.in-Ok.ensures.head told) (c.in-Ok.ensures.behind told) in
-    let same : c.head.result.now ≡ v.head = c.head.ensures in
-    let timed : IsSome (nanos_of c.head.result.now.submit) = subst (λ (h : Head). IsSome (nanos_of h.submit)) (sym same) (head_timed _ v.head (c.in-Ok.ensures.head told)) in
+    let same : c.into_head.result ≡ v.head = c.into_head.ensures in
+    let timed : IsSome (nanos_of c.into_head.result.submit) = subst (λ (h : Head). IsSome (nanos_of h.submit)) (sym same) (head_timed _ v.head (c.in-Ok.ensures.head told)) in
     let puts = c.list_head.ensures.listed timed searched steps in
-    (puts.0, puts.1, one_of_head searched old.reads c.args.number c.head.result.now c.list_head.result puts.0 (subst (λ (h : Head). IsFound old.reads c.args.number (There h)) (sym same) (v.body, opened)) puts.2)
+    (puts.0, puts.1, one_of_head searched old.reads c.args.number c.into_head.result c.list_head.result puts.0 (subst (λ (h : Head). IsFound old.reads c.args.number (There h)) (sym same) (v.body, opened)) puts.2)
 
 pub returns-in-Err-clause-listed : goal.returns-in-Err-clause-listed
 returns-in-Err-clause-listed g c told searched steps =
