@@ -38,8 +38,8 @@ fn write_alone(file: &File, at: u64, bytes: &[u8]) -> io::Result<()> {
     file.sync_data()
 }
 
-/// Makes files in a folder of their own with a sync of each thing, one after the other: four folders above, eight files
-/// and their folder after each, and four writes. That is 24 syncs.
+/// Makes the nine files in a folder of their own with a sync of each thing, one after the other, as this store's first
+/// version did: four folders above, each file and the folder after it, and four writes. That is 26 syncs.
 fn make_one_by_one(rt: &HostRuntime, number: u32) -> io::Result<()> {
     let folder = format!(in rt.alloc(); "alone/a/b/{number}")?;
     let folder = folder.as_str();
@@ -48,10 +48,18 @@ fn make_one_by_one(rt: &HostRuntime, number: u32) -> io::Result<()> {
         sync_folder(rt, above)?;
     }
     let head = make_alone(rt, folder, "log.json")?;
-    let slots = make_alone(rt, folder, "slots")?;
-    for name in ["exit.json", "timing", "stdin", "stdout", "stderr", "ttyout"] {
+    for name in [
+        "exit.json",
+        "timing",
+        "stdin",
+        "stdout",
+        "stderr",
+        "ttyin",
+        "ttyout",
+    ] {
         make_alone(rt, folder, name)?;
     }
+    let slots = make_alone(rt, folder, "slots")?;
     write_alone(&slots, 0, &[0])?;
     write_alone(&head, 0, HEAD)?;
     write_alone(&slots, 1, &[0; 90])?;

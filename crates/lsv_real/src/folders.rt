@@ -9,6 +9,9 @@ use std::{fs, io};
 /// Whoever runs the server may look into its folders, and nobody else.
 const MODE: u32 = 0o700;
 
+/// The bits of a mode, those that a folder takes over from the one above too.
+const ALL_BITS: u32 = 0o7777;
+
 /// So many folders are remembered as synced at most.
 const MOST_REMEMBERED: usize = 1024;
 
@@ -76,11 +79,19 @@ impl Folders {
         let _ = File::open(&self.rt, parent)?;
         self.change(parent);
         match DirBuilder::new().mode(MODE).create(&self.rt, folder) {
-            Ok(()) => fs::set_permissions(&self.rt, folder, Permissions::from_mode(MODE)),
+            Ok(()) => self.set_mode(folder),
             // Another server, which wants the same store, was faster.
             Err(e) if e.kind() == ErrorKind::AlreadyExists => Ok(()),
             Err(e) => Err(e),
         }
+    }
+
+    /// Gives a folder its mode, where the mask of the process or the folder above left it another.
+    fn set_mode(&self, folder: &str) -> io::Result<()> {
+        if fs::metadata(&self.rt, folder)?.permissions().mode() & ALL_BITS == MODE {
+            return Ok(());
+        }
+        fs::set_permissions(&self.rt, folder, Permissions::from_mode(MODE))
     }
 
     /// Waits until the names of a folder and of those above it are on the disk, also of those that were there, since
