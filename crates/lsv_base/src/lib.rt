@@ -13,6 +13,7 @@ mod no_mem;
 mod pieces;
 mod point;
 mod script;
+mod short;
 mod sink;
 mod source;
 mod texts;

@@ -19,7 +19,7 @@ use std::marker::Model;
 pub(crate) const FILE_LIMIT: u64 = 1 << 40;
 
 /// A buffer of more bytes is let go once what is staged in it is committed.
-const KEPT_CAPACITY: usize = 1 << 16;
+const KEPT_CAPACITY: usize = 1 << 17;
 
 /// A data file of a bundle: how many of its bytes are committed, and what is staged behind them.
 #[derive(Debug, Drop)]

@@ -31,18 +31,13 @@ use lsv_record::Record;
 use lsv_request::Refusal;
 use lsv_session::{ConnId, ConnState};
 
-/// A message as it is: the numbers of a window are of 32 bits, which only their reading shows.
-pub(crate) fn windowed(message: ClientMessage) -> ClientMessage
-    ensures same { result ≡ message }
-    ensures fits { IsWindowFit result }
+/// The numbers of a window are of 32 bits, which only their reading shows.
+pub(crate) fn windowed(message: &ClientMessage)
+    ensures { IsWindowFit message.now }
 {
-    match message {
-        ClientMessage::Winsize(m) => {
-            let _rows = m.rows;
-            let _cols = m.cols;
-            ClientMessage::Winsize(m)
-        }
-        other => other,
+    if let ClientMessage::Winsize(m) = message {
+        let _rows = m.rows;
+        let _cols = m.cols;
     }
 }
 

@@ -126,7 +126,7 @@ impl<F: LineWriter, H: Search> Keeper<F, H> {
             → RowGives (view_of self.old) now job result m (view_of self.new) (D.view disk.old) (D.view disk.new) }
         ensures syncs { D.tells → (m : Machine) → Represents (view_of self.old) (D.view disk.old) m → Syncs (Restarts (bodies.Msg message)) (view_of self.old) (view_of self.new) (D.view disk.old) (D.view disk.new) }
     {
-        let message = windowed(message);
+        windowed(&message);
         match judged(copied(&state), message) {
             Ok(request) => self.work(disk, now, conn, state, request),
             Err(why) => self.refuse(disk, conn, why),

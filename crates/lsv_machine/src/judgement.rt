@@ -1,4 +1,4 @@
-ghost use Rattle.std.specs.Prelude.{◌≡◌, Ok};
+ghost use Rattle.std.specs.Prelude.{◌≡◌};
 ghost use Rattle.lsv_machine.specs.Judgement.{allows, fault_refusal, judged, row, with_keys};
 
 use crate::connections::is_running;
@@ -42,14 +42,14 @@ fn allows(message: &ClientMessage, state: ConnState) -> bool
 }
 
 /// What is asked, or that an accept that opens a session lacks its keys.
-fn with_keys(state: ConnState, asked: Request) -> Result<Request, Refusal>
-    ensures { result ≡ with_keys state (Ok asked) }
+fn with_keys(state: ConnState, asked: Result<Request, Refusal>) -> Result<Request, Refusal>
+    ensures { result ≡ with_keys state asked }
 {
     match &asked {
-        Request::Accept(accept) if !is_running(state) && !has_keys(&accept.head.info) => {
+        Ok(Request::Accept(accept)) if !is_running(state) && !has_keys(&accept.head.info) => {
             Err(Refusal::MissingKey)
         }
-        _ => Ok(asked),
+        _ => asked,
     }
 }
 
@@ -61,7 +61,7 @@ pub fn judged(state: ConnState, message: ClientMessage) -> Result<Request, Refus
     if !allows(&message, state) {
         return Err(Refusal::UnexpectedMessage);
     }
-    with_keys(state, request_of(message)?)
+    with_keys(state, request_of(message))
 }
 
 /// Why a connection is refused from which no message comes.

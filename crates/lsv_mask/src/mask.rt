@@ -11,13 +11,11 @@ use lsv_base::{Bytes, List, NoMem};
 use lsv_record::{Record, Stream};
 use std::alloc::Global;
 use std::marker::Model;
-use std::mem;
 
 /// What is known of a log's records to cover the next one: the end of the last line of output, and whether a password
 /// is awaited. It keeps no record. Contracts see these, and the texts of the prompts.
 #[derive(Debug, Drop)]
 pub struct Mask {
-    alloc: Global,
     texts: List<Bytes>,
     tail: Tail,
     is_hot: bool,
@@ -44,7 +42,6 @@ impl Mask {
             };
         }
         Ok(Mask {
-            alloc,
             texts: copies,
             tail: Tail::new(),
             is_hot: false,
@@ -112,10 +109,8 @@ impl Mask {
         if !self.is_hot {
             return;
         }
-        let mut typed = mem::replace(bytes, Bytes::new(self.alloc)).into_vec();
-        if star(&mut typed) {
+        if star(bytes) {
             self.is_hot = false;
         }
-        *bytes = Bytes::from_vec(typed);
     }
 }

@@ -9,3 +9,4 @@ pub mod Refusals
 pub mod Keeping
 pub mod Decoded
 pub mod Replies
+pub mod FewFields

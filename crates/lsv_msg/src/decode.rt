@@ -10,6 +10,7 @@ ghost use Rattle.lsv_msg.specs.Messages.{client_in, client_message, server_in, s
 use crate::commands::{read_accept, read_alert, read_exit, read_reject};
 use crate::fields::{Fields, take_all};
 use crate::hellos::{read_client_hello, read_restart, read_server_hello};
+use crate::plain::one_field;
 use crate::records::{read_buffer, read_size, read_suspend};
 use crate::rows::{bytes_of, no_second};
 use crate::time::read_time;
@@ -119,8 +120,17 @@ impl Fields for ClientFields {
     }
 }
 
-#[tactic(auto, unfolding(crate::specs::Format::read))]
 fn read_client(alloc: Global, bytes: &[u8]) -> Result<Option<ClientMessage>, MsgFault>
+    ensures { Gives (λ m. m) result (read client_message bytes.now) }
+{
+    match one_field(bytes) {
+        Some(field) => client_of(alloc, bytes, field),
+        None => any_client(alloc, bytes),
+    }
+}
+
+#[tactic(auto, unfolding(crate::specs::Format::read))]
+fn any_client(alloc: Global, bytes: &[u8]) -> Result<Option<ClientMessage>, MsgFault>
     ensures { Gives (λ m. m) result (read client_message bytes.now) }
 {
     let mut fields = ClientFields { message: None };

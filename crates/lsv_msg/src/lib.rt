@@ -13,6 +13,7 @@ mod hellos;
 mod laws;
 mod messages;
 mod packed;
+mod plain;
 mod put;
 mod records;
 mod reply;

@@ -1,6 +1,7 @@
 //! How the rows of a table take a field.
 
-ghost use Rattle.std.specs.Prelude.{◌≡◌, ◌≤◌, ◌<◌, ◌⊎◌, [], length, MatchResult};
+ghost use Rattle.std.specs.Prelude.{◌≡◌, ◌≤◌, ◌<◌, ◌%◌, ◌^◌, ◌⊎◌, [], length, MatchResult};
+ghost use Rattle.std.specs.Int.{w32, cast_signed};
 ghost use Rattle.lsv_msg.specs.declared.fault.MsgFault.TheVariants as faults;
 ghost use Rattle.lsv_wire.specs.Fields.{IsWithin};
 ghost use Rattle.lsv_msg.specs.Format.{Gives, once, pushed, extended, number_in, bytes_in, numbers_in, message, value_or, int64, int32, flag, text};
@@ -52,9 +53,17 @@ pub fn set_int32(slot: &mut Option<i32>, field: Field) -> Result<(), MsgFault>
     if slot.is_some() {
         return Err(MsgFault::Twice(field.number));
     }
-    let low = (number_of(field)? & 0xffff_ffff) as u32;
-    *slot = Some(low.cast_signed());
+    *slot = Some(int32_of(number_of(field)?));
     Ok(())
+}
+
+/// The int32 of a varint, its low 32 bits.
+#[inline(always)]
+pub fn int32_of(n: u64) -> i32
+    ensures { result ≡ cast_signed w32 (n % 2 ^ 32) }
+{
+    let low = (n & 0xffff_ffff) as u32;
+    low.cast_signed()
 }
 
 /// Takes the one value of a bool.

@@ -96,7 +96,15 @@ fn bytes_and_lists_grow_at_their_end(rt: HostRuntime) -> Result<(), Fail> {
     let mut copy = bytes.copy(rt.alloc())?;
     copy.add(b"d")?;
     assert_eq!(rt; bytes.as_slice(), &b"abc"[..]);
-    assert_eq!(rt; Bytes::from_vec(copy.into_vec()).as_slice(), &b"abcd"[..]);
+    copy.drop_front(1);
+    assert_eq!(rt; copy.as_slice(), &b"bcd"[..]);
+    copy.fill_front(2, b'*');
+    assert_eq!(rt; copy.as_slice(), &b"**d"[..]);
+    copy.add(&[b'x'; 40])?;
+    copy.drop_front(2);
+    copy.fill_front(2, b'*');
+    assert_eq!(rt; copy.as_slice().len(), 41);
+    assert_eq!(rt; &copy.as_slice()[..3], &b"**x"[..]);
     assert!(rt; Bytes::new(rt.alloc()).as_slice().is_empty());
 
     let mut list = List::new(rt.alloc());

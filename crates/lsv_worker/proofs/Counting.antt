@@ -8,8 +8,8 @@ counted_more : (a b : ℕ) → min (counted a + counted b) (2 ^ 64 - 1) ≡ coun
 counted_more a b = omega arith
 
 -- one text more
-pub texts_more : (texts : List (List ℕ)) (i : ℕ) (d : List ℕ) → i < length texts → min (counted (texts_bytes (take i texts)) + counted (24 + length (get_or texts i d))) (2 ^ 64 - 1) ≡ counted (texts_bytes (take (i + 1) texts))
-texts_more texts i d here = counted_more (texts_bytes (take i texts)) (24 + length (get_or texts i d)) ∙ ap counted (sym (sum_by_more (λ (text : List ℕ). 24 + length text) texts i d here))
+pub texts_more : (texts : List (List ℕ)) (i : ℕ) (d : List ℕ) → i < length texts → min (counted (texts_bytes (take i texts)) + counted (32 + length (get_or texts i d))) (2 ^ 64 - 1) ≡ counted (texts_bytes (take (i + 1) texts))
+texts_more texts i d here = counted_more (texts_bytes (take i texts)) (32 + length (get_or texts i d)) ∙ ap counted (sym (sum_by_more (λ (text : List ℕ). 32 + length text) texts i d here))
 
 -- one entry more
 pub info_more : (entries : List Entry) (i : ℕ) (d : Entry) → i < length entries → min (counted (sum_by entry_bytes (take i entries)) + counted (entry_bytes (get_or entries i d))) (2 ^ 64 - 1) ≡ counted (sum_by entry_bytes (take (i + 1) entries))

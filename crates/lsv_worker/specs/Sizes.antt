@@ -10,9 +10,9 @@ use Rattle.lsv_session.specs.declared.job.Body.{Body}
 use Rattle.lsv_session.specs.declared.job.Body.TheVariants.{Msg, Bad, Gone}
 use Rattle.lsv_session.specs.declared.job.Job.{Job}
 
--- a text of a list takes its bytes, and 24 more
+-- a text of a list takes its bytes, and 32 more
 abbrev pub texts_bytes : List (List ℕ) → ℕ
-texts_bytes texts = sum_by (λ text. 24 + length text) texts
+texts_bytes texts = sum_by (λ text. 32 + length text) texts
 
 -- a value takes its texts, or 8 for each number of a list
 abbrev pub value_bytes : Value → ℕ
@@ -21,9 +21,9 @@ value_bytes (Text text) = length text
 value_bytes (Texts texts) = texts_bytes texts
 value_bytes (Nums numbers) = 8 * length numbers
 
--- an entry takes its key and its value, and 64 more
+-- an entry takes its key and its value, and 72 more
 abbrev pub entry_bytes : Entry → ℕ
-entry_bytes entry = 64 + length entry.key + value_bytes entry.value
+entry_bytes entry = 72 + length entry.key + value_bytes entry.value
 
 -- what is told of a command takes its entries
 abbrev pub info_bytes : Info → ℕ

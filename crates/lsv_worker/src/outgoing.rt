@@ -11,10 +11,6 @@ use lsv_base::Bytes;
 use lsv_msg::{ServerMessage, put_server};
 use lsv_port::{Gave, Port};
 use std::alloc::Global;
-use std::mem;
-
-/// The bytes of memory that a link keeps at most while nothing is unsent.
-const KEPT: usize = 65_536;
 
 /// Whether replies are put on the link still, or why not.
 #[derive(Clone, Copy, Debug, PartialEq, Eq)]
@@ -85,12 +81,7 @@ impl Outgoing {
         ensures unsent { self.new.unsent ≡ drop count self.old.unsent }
         ensures voice { self.new.voice ≡ self.old.voice }
     {
-        let mut bytes = mem::replace(&mut self.unsent, Bytes::new(self.alloc)).into_vec();
-        bytes.drain(..count);
-        if bytes.is_empty() && bytes.capacity() > KEPT {
-            bytes.shrink_to(0);
-        }
-        self.unsent = Bytes::from_vec(bytes);
+        self.unsent.drop_front(count);
     }
 
     /// Takes what is said. Where memory runs out, nothing more is put, and it answers false.

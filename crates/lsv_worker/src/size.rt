@@ -9,10 +9,10 @@ use lsv_msg::ClientMessage;
 use lsv_session::{Body, Job};
 
 /// What an entry takes beside its texts: the structs of its key and value.
-const ENTRY: u64 = 64;
+const ENTRY: u64 = 72;
 
 /// What a text of a list takes beside its bytes.
-const TEXT: u64 = 24;
+const TEXT: u64 = 32;
 
 /// What a number of a list takes.
 const NUMBER: u64 = 8;

@@ -1,6 +1,5 @@
 use Rattle.std.proofs.Common.{◌≡◌, ◌∙◌, Err, ap, sym, subst}
 use Rattle.std.specs.Prelude.{false, Ok, Result}
-use Rattle.lsv_msg.specs.declared.messages.ClientMessage.{ClientMessage}
 use Rattle.lsv_request.specs.declared.request.Request.{Request}
 use Rattle.lsv_request.specs.declared.refusal.Refusal.{Refusal}
 use Rattle.lsv_session.specs.declared.connection.ConnState.{ConnState}
@@ -20,7 +19,7 @@ pub returns-in-Err-clause-row : goal.returns-in-Err-clause-row
 returns-in-Err-clause-row g c told m job at conn is =
     let alive : is_dead (m.states c.args.conn) ≡ false = ap is_dead (at.states c.args.conn) ∙ c.requires.alive in
     let e : judged (m.states c.args.conn) c.args.message ≡ Err c.in-Err.why =
-    ap (λ (s : ConnState). judged s c.args.message) (at.states c.args.conn ∙ sym c.requires.state ∙ sym c.copied.ensures) ∙ ap (λ (x : ClientMessage). judged c.copied.result x) (sym c.windowed-message.ensures.same) ∙ sym c.in-Err.ensures in
+    ap (λ (s : ConnState). judged s c.args.message) (at.states c.args.conn ∙ sym c.requires.state ∙ sym c.copied.ensures) ∙ sym c.in-Err.ensures in
     c.refuse.ensures.row told m job c.args.now at conn alive (judged_fair (m.states c.args.conn) c.args.message c.in-Err.why e c.args.conn)
     (message_refused (settings_of (view_of c.args.self.now)) c.args.now job c.args.message c.in-Err.why m c.args.conn conn is alive e)
 
@@ -31,7 +30,7 @@ pub returns-in-Ok-clause-syncs : goal.returns-in-Ok-clause-syncs
 returns-in-Ok-clause-syncs g c told m at =
     wider (GoesOnWith c.in-Ok.request) (Restarts (bodies.Msg c.args.message)) (view_of c.args.self.now) (view_of c.work.new.self) (g.D.Disk.view c.args.disk.now) (g.D.Disk.view c.work.new.disk)
     (λ n goes. subst (IsRestartOf c.args.message) (sym goes.2) (restart_named c.copied.result c.args.message goes.0
-    (ap (λ (x : ClientMessage). judged c.copied.result x) (sym c.windowed-message.ensures.same) ∙ sym c.in-Ok.ensures ∙ ap (λ (x : Request). asked x) goes.1))) (c.work.ensures.syncs told m at)
+    (sym c.in-Ok.ensures ∙ ap (λ (x : Request). asked x) goes.1))) (c.work.ensures.syncs told m at)
 
 pub returns-in-Err-clause-syncs : goal.returns-in-Err-clause-syncs
 returns-in-Err-clause-syncs g c told m at = of_none (Restarts (bodies.Msg c.args.message)) (view_of c.args.self.now) (view_of c.refuse.new.self) (g.D.Disk.view c.args.disk.now) (g.D.Disk.view c.refuse.new.disk) (c.refuse.ensures.syncs told m at)
