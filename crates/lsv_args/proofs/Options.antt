@@ -1,22 +1,17 @@
 -- How options and their values are walked, at any command: each option that isn't given yet is taken with its value.
-use Rattle.std.proofs.Common.{◌≡◌, ◌∙◌, ◌&&◌, ◌||◌, ◌==◌, ℕ, Bool, true, false, not, cond, List, [], ◌∷◌, ◌++◌, Option, Some, None, codes, fold, is_some, map, refl, sym, subst, ap, ap₂, append_assoc, unwrap_or}
-use lib.Utf8.{encode}
-use Rattle.std.specs.List.{AllByRecursion, list_all}
+use Rattle.std.proofs.Common.{◌≡◌, ◌∙◌, ◌&&◌, ◌||◌, ◌==◌, ℕ, Bool, true, false, not, cond, List, [], ◌∷◌, ◌++◌, Option, Some, None, fold, is_some, refl, sym, ap, ap₂, append_assoc}
+use Rattle.std.specs.List.{AllByRecursion}
 use Rattle.std.specs.Option.{option_and_then, option_map_or}
-use Rattle.std.specs.Str.{bytes_eq, chars}
-use Rattle.clap.specs.Faults.{bundle_fault, check_fault, defaults_fault, entered_fault, fault_of, flag_word_fault, flags_fault, given_default_fault, level_fault, settle_fault, step_fault, turn_fault, walk_fault, word_fault}
+use Rattle.std.specs.Str.{bytes_eq}
+use Rattle.clap.specs.Faults.{bundle_fault, check_fault, defaults_fault, entered_fault, flag_word_fault, given_default_fault, settle_fault, step_fault, turn_fault, walk_fault, word_fault}
 use Rattle.clap.specs.Kinds.{Kinds, or_else}
 use Rattle.clap.specs.Lexer.{long_of, long_of_rest, short_of, short_of_rest, strip_byte}
-use Rattle.clap.specs.Simple.{App, Shape, built, entered, filled, names_of}
-use Rattle.clap.specs.ValueTests.{accepts}
-use Rattle.clap.specs.Walk.{Held, Names, Row, Rule, Step, Text, Walk, action_of, after_step, bundle_met, finished, first_of, has_row, idle, is_empty, long_or_other, more_values, nothing_held, option, plain_word, reading_by, rows_after, settled, settled_rows, short_or_plain, trailing, used, used_as, walk, walk_from, walked, with_default, with_values, word_met}
+use Rattle.clap.specs.Simple.{App, Shape, built, entered}
+use Rattle.clap.specs.Walk.{Held, Names, Row, Rule, Step, Text, Walk, action_of, after_step, finished, has_row, idle, is_empty, long_or_other, more_values, option, plain_word, reading_by, settled, settled_rows, short_or_plain, trailing, used, used_as, walked, with_default, with_values, word_met}
 use Rattle.clap.specs.declared.builder.action.ArgAction.{ArgAction}
 use Rattle.clap.specs.declared.builder.action.ArgAction.TheVariants.{Set}
 use Rattle.clap.specs.declared.parser.matches.ValueSource.TheVariants.{CommandLine}
-use Rattle.lsv_args.specs.Commands.{commands, conf, from_to, lanes, most_lanes, serve, stop_after}
-use Rattle.lsv_args.specs.Forms.{File, Given, Lanes, StopAfter, file_in, is_good, is_once, is_other, is_value, lanes_in, stop_after_in, told, words_in}
-use Rattle.lsv_args.specs.Reading.{Options, Serve, asked, asked_by, number_in, options_of}
-use Rattle.lsv_args.proofs.Asked.{defaults_none, lanes_value, made, serve_lanes}
+use Rattle.lsv_args.specs.Commands.{commands}
 use Rattle.lsv_args.proofs.Walks.{no_more, no_row}
 
 -- ---- a value is no flag

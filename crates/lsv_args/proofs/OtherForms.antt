@@ -1,13 +1,13 @@
 -- The words of `once` and of `load` are taken, with the option of `load` in front of its number or behind it.
-use Rattle.std.proofs.Common.{◌≡◌, ◌∙◌, ◌&&◌, ◌==◌, ℕ, Bool, true, false, List, [], ◌∷◌, ◌++◌, Option, Some, None, codes, fold, refl, sym, ap, ap₂, unwrap_or, option_map}
+use Rattle.std.proofs.Common.{◌≡◌, ◌∙◌, ◌&&◌, ◌==◌, ℕ, true, false, List, [], ◌∷◌, ◌++◌, Option, Some, None, codes, fold, refl, ap, ap₂, option_map}
 use lib.Utf8.{encode}
 use Rattle.std.specs.Option.{option_and_then}
 use Rattle.std.specs.Str.{chars}
-use Rattle.clap.specs.Faults.{bundle_fault, check_fault, defaults_fault, entered_fault, fault_of, flags_fault, level_fault, settle_fault, step_fault, turn_fault, walk_fault}
+use Rattle.clap.specs.Faults.{check_fault, defaults_fault, fault_of, flags_fault, level_fault, settle_fault, step_fault, turn_fault, walk_fault}
 use Rattle.clap.specs.Kinds.{Kinds, or_else}
 use Rattle.clap.specs.Simple.{Shape, entered, filled, names_of}
 use Rattle.clap.specs.ValueTests.{accepts}
-use Rattle.clap.specs.Walk.{Held, Row, Rule, Step, Text, Walk, after_step, bundle_met, finished, has_row, idle, nothing_held, plain_word, rows_after, settled, settled_rows, walk, walk_from, walked}
+use Rattle.clap.specs.Walk.{Held, Row, Step, Text, Walk, after_step, bundle_met, finished, has_row, nothing_held, rows_after, settled, settled_rows, walk, walk_from, walked}
 use Rattle.lsv_args.specs.Commands.{commands, conf, count, from_to, load, once}
 use Rattle.lsv_args.specs.Forms.{file_words, is_count, is_file, is_value, told_file}
 use Rattle.lsv_args.specs.Reading.{Load, Once, Options, asked, asked_by, number_in, options_of}

@@ -1,7 +1,7 @@
 ghost use Rattle.std.specs.Prelude.{◌≡◌, ◌≢◌, ◌↔◌, ◌⊎◌, ℕ, ◌+◌, ◌-◌, ◌≤◌, ◌<◌, ◌^◌, List, [], ◌++◌, Option, length, take, map, slice_index, IsErr, IfOk, IfErr, OnOk, OnErr};
 ghost use Rattle.lsv_disk.specs.declared.file.FileId.{FileId};
 ghost use Rattle.lsv_disk.specs.Files.{file_of};
-ghost use Rattle.lsv_disk.specs.View.{HasCause, HasOwnCause, IsSynced};
+ghost use Rattle.lsv_disk.specs.View.{HasCause, HasOwnCause};
 ghost use Rattle.lsv_disk.specs.Throughout.{Throughout, Unchanged, CallsAtMost};
 ghost use Rattle.lsv_bundle.specs.declared.fault.BundleFault.{BundleFault};
 ghost use Rattle.lsv_bundle.specs.Shape.{parts_of, index_of};

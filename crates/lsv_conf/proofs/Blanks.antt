@@ -1,6 +1,6 @@
 -- Blanks at the ends of a text.
-use Rattle.std.proofs.Common.{◌≡◌, ◌∙◌, ℕ, Bool, true, false, ◌&&◌, List, [], ◌∷◌, ◌++◌, length, ap, refl, sym, cond, arith}
-use Rattle.lsv_conf.specs.Texts.{is_blank, is_empty, without_end, without_front}
+use Rattle.std.proofs.Common.{◌≡◌, ◌∙◌, ℕ, Bool, true, false, ◌&&◌, List, [], ◌∷◌, ◌++◌, length, ap, refl, cond, arith}
+use Rattle.lsv_conf.specs.Texts.{is_blank, is_empty, without_end}
 
 and_true : (a b : Bool) → a ≡ true → b ≡ true → (a && b) ≡ true
 and_true a b p q = rw (p, q) refl

@@ -1,5 +1,5 @@
 -- Where the first separator stands, and the pieces between separators.
-use Rattle.std.proofs.Common.{◌≡◌, ◌∙◌, ℕ, zero, suc, ◌+◌, ◌-◌, ◌<◌, ◌≤◌, ◌==◌, Bool, true, false, List, [], ◌∷◌, Option, Some, None, length, take, drop, get_or, ap, refl, sym, cond, arith, add-one, Bor, option_map, map, append_assoc, ◌++◌}
+use Rattle.std.proofs.Common.{◌≡◌, ◌∙◌, ℕ, zero, suc, ◌+◌, ◌-◌, ◌<◌, ◌≤◌, ◌==◌, Bool, true, false, List, [], ◌∷◌, Option, Some, None, length, take, drop, get_or, ap, refl, sym, arith, add-one, Bor, option_map, map, append_assoc, ◌++◌}
 use Rattle.std.proofs.lemmas.List.{take_rest}
 use Rattle.lsv_conf.specs.Texts.{before, behind, onto, pieces}
 

@@ -1,8 +1,8 @@
 -- Lines that are text, and lines that aren't.
-use Rattle.std.proofs.Common.{◌≡◌, ◌∙◌, ℕ, Bool, true, false, List, cond, ap, refl, sym}
+use Rattle.std.proofs.Common.{◌≡◌, ◌∙◌, ℕ, Bool, true, false, List, refl, sym}
 use Rattle.std.specs.Str.{IsUtf8, is_utf8}
 use Rattle.std.proofs.lemmas.Str.{IsUtf8-from_is_utf8, is_utf8-from_IsUtf8}
-use Rattle.lsv_conf.specs.Lines.{Line, Bad, form_of, line_of}
+use Rattle.lsv_conf.specs.Lines.{Bad, form_of, line_of}
 use Rattle.lsv_conf.specs.Texts.{before, trimmed}
 
 not_text : (bytes : List ℕ) (t : Bool) → is_utf8 bytes ≡ t → (IsUtf8 bytes → ⊥) → Bad ≡ line_of bytes

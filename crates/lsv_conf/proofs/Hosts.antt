@@ -1,5 +1,5 @@
 -- Tests of a whole list, where the program has tested its length.
-use Rattle.std.proofs.Common.{◌≡◌, ◌∙◌, ℕ, Bool, true, false, ◌&&◌, ◌==◌, not, List, [], ◌∷◌, length, ap, refl}
+use Rattle.std.proofs.Common.{◌≡◌, ◌∙◌, ℕ, Bool, false, ◌&&◌, ◌==◌, not, List, [], ◌∷◌, length}
 use Rattle.std.specs.List.{list_all}
 use Rattle.lsv_conf.specs.Values.{is_host, is_mark}
 

@@ -1,16 +1,16 @@
 -- The settings of lines and one more.
-use Rattle.std.proofs.Common.{◌≡◌, ◌∙◌, ℕ, Bool, true, false, ◌&&◌, List, [], ◌∷◌, ◌++◌, Option, Some, None, Result, cond, codes, map, find, ap, ap₂, refl, sym, subst, option_map}
+use Rattle.std.proofs.Common.{◌≡◌, ◌∙◌, ℕ, Bool, true, false, ◌&&◌, List, [], ◌∷◌, ◌++◌, Option, Some, None, cond, codes, map, find, ap, ap₂, refl, sym}
 use Rattle.std.proofs.Math.Path.{fun_ext}
 use Rattle.std.specs.Char.{to_ascii_lowercase}
 use Rattle.std.specs.List.{filter_map, cons_option}
 use Rattle.std.specs.Option.{option_or}
 use Rattle.std.specs.Str.{bytes_eq, str_eq_ignore_ascii_case}
 use Rattle.std.proofs.lemmas.List.Elements.{filter_map-append}
-use Rattle.lsv_conf.specs.Inner.{AreNames, HasNames, at, nothing_given, placed_setting, shown, values_of, with_given, with_value}
-use Rattle.lsv_conf.specs.Lines.{Line, Empty, Section, Setting, Bad, Placed, refuses}
-use Rattle.lsv_conf.specs.Settings.{Settings, note_by, noted, notes_of, settings_by, settings_of, told, value_by, value_of}
-use Rattle.lsv_conf.specs.Table.{Row, has_names, row_of, table}
-use Rattle.lsv_conf.specs.Values.{Values, takes}
+use Rattle.lsv_conf.specs.Inner.{HasNames, placed_setting, values_of, with_given, with_value}
+use Rattle.lsv_conf.specs.Lines.{Empty, Section, Placed}
+use Rattle.lsv_conf.specs.Settings.{note_by, noted, notes_of, settings_by, settings_of, told, value_by, value_of}
+use Rattle.lsv_conf.specs.Table.{Row, row_of, table}
+use Rattle.lsv_conf.specs.Values.{Values}
 use Rattle.lsv_conf.specs.declared.conf.Note.{Note}
 use Rattle.lsv_conf.specs.declared.row.Key.{Key}
 use Rattle.lsv_conf.specs.declared.row.Key.TheVariants as key

@@ -1,9 +1,9 @@
 -- A text that is read as far as some line.
-use Rattle.std.proofs.Common.{◌≡◌, ◌∙◌, ℕ, ◌+◌, ◌-◌, ◌^◌, ◌≤◌, Bool, true, false, List, [], ◌∷◌, ◌++◌, Option, Some, None, Bor, cond, find, min, length, ap, refl, sym, option_map, append_assoc, arith}
+use Rattle.std.proofs.Common.{◌≡◌, ◌∙◌, ℕ, ◌+◌, ◌-◌, ◌^◌, ◌≤◌, Bool, true, false, List, [], ◌∷◌, ◌++◌, Option, Some, None, Bor, cond, find, min, ap, refl, sym, option_map, append_assoc, arith}
 use Rattle.lsv_conf.specs.Inner.{at}
 use Rattle.lsv_conf.specs.Lines.{Placed, first_refused, is_refused, line_of, lines_of, placed, refuses, section_behind}
 use Rattle.lsv_conf.specs.Settings.{Settings, settings_of, told}
-use Rattle.lsv_conf.specs.Texts.{before, behind, pieces}
+use Rattle.lsv_conf.specs.Texts.{before, behind}
 use Rattle.lsv_conf.proofs.Cuts.{left_cut, pieces_left}
 
 -- the bytes of a reference, if there is one

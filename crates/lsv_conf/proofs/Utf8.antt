@@ -1,17 +1,17 @@
 -- What is cut out of a text beside ASCII is text, so all texts of the settings are.
-use Rattle.std.proofs.Common.{◌≡◌, ◌∙◌, ℕ, zero, suc, ◌+◌, ◌-◌, ◌<◌, ◌≤◌, ◌==◌, Bool, true, false, ◌&&◌, ◌||◌, List, [], ◌∷◌, ◌++◌, Option, Some, None, String, cond, codes, length, take, drop, add-one, get_or, map, ap, refl, sym, subst, option_map, unwrap_or, nat_lt, arith, rules}
+use Rattle.std.proofs.Common.{◌≡◌, ◌∙◌, ℕ, zero, suc, ◌+◌, ◌-◌, ◌<◌, ◌≤◌, ◌==◌, Bool, true, false, ◌&&◌, ◌||◌, List, [], ◌∷◌, ◌++◌, Option, Some, None, cond, codes, length, take, drop, add-one, get_or, map, ap, refl, sym, subst, option_map, unwrap_or, nat_lt, arith}
 use borrow.Author.Tests.{ltb-true}
 use Rattle.std.proofs.lemmas.Str.Ascii.{IsAscii-nil, IsAscii-cons}
-use Rattle.std.specs.List.{list_all, filter_map, cons_option}
-use Rattle.std.specs.Option.{option_map_or, option_or, option_and_then}
+use Rattle.std.specs.List.{list_all, cons_option}
+use Rattle.std.specs.Option.{option_map_or, option_or}
 use Rattle.std.specs.Str.{IsUtf8, IsAscii, IsCharBoundary, is_utf8}
 use Rattle.std.proofs.lemmas.Bool.Decides.{nat_tests}
 use Rattle.std.proofs.lemmas.Str.{IsUtf8-append, IsUtf8-take, IsUtf8-drop, IsUtf8-nil, IsUtf8-from_ascii, IsUtf8-from_is_utf8, is_utf8-from_IsUtf8, IsCharBoundary-after_ascii}
 use Rattle.lsv_conf.specs.Inner.{AreTexts}
-use Rattle.lsv_conf.specs.Lines.{Line, Empty, Section, Setting, Bad, Placed, form_of, line_of, lines_of, placed, setting_of, is_section}
-use Rattle.lsv_conf.specs.Settings.{Settings, counting, note_by, noted, notes_of, settings_by, settings_of, text_in, value_by, value_of}
+use Rattle.lsv_conf.specs.Lines.{Line, Empty, Section, Setting, Bad, form_of, line_of, lines_of, placed, setting_of, is_section}
+use Rattle.lsv_conf.specs.Settings.{note_by, noted, notes_of, settings_of, value_by, value_of}
 use Rattle.lsv_conf.specs.Table.{Row, row_of}
-use Rattle.lsv_conf.specs.Texts.{before, behind, is_blank, is_empty, onto, pieces, trimmed, without_end, without_front}
+use Rattle.lsv_conf.specs.Texts.{before, behind, is_blank, is_empty, pieces, trimmed, without_end, without_front}
 use Rattle.lsv_conf.specs.Values.{has_port, prompts_of, with_port}
 use Rattle.lsv_conf.specs.declared.conf.Note.{Note}
 use Rattle.lsv_conf.proofs.Cuts.{behind_shorter, pieces_behind, pieces_cut}

@@ -1,4 +1,4 @@
-ghost use Rattle.std.specs.Prelude.{◌≡◌, [], ◌∷◌, ◌++◌, true, false, not, ◌&&◌, IfOk, IfErr, OnOk, OnErr};
+ghost use Rattle.std.specs.Prelude.{◌≡◌, [], ◌∷◌, ◌++◌, true, false, ◌&&◌, IfOk, OnOk};
 ghost use Rattle.lsv_conf.specs.declared.draft.SetFault.TheVariants as faults;
 ghost use Rattle.lsv_conf.specs.Inner.{AreTexts, nothing_given, shown, values_of, with_value};
 ghost use Rattle.lsv_conf.specs.Settings.{settings_by, settings_in};

@@ -1,7 +1,5 @@
 //! A lane that answers by fixed rules and keeps all jobs.
 
-ghost use Rattle.std.specs.Prelude.{IfOk, IsSome};
-ghost use Rattle.lsv_base.specs.Time.{nanos_of};
 
 use crate::frames::LONG;
 use lsv_base::{Bytes, NoMem, TimeSpec};

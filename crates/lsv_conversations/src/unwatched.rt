@@ -1,6 +1,6 @@
 //! A disk in memory that tells nothing of its content, as a real one.
 
-ghost use Rattle.std.specs.Prelude.{◌≤◌, ◌≡◌, IfOk, OnErr};
+ghost use Rattle.std.specs.Prelude.{◌≤◌, ◌≡◌, OnErr};
 ghost use Rattle.lsv_words.specs.Causes.{HasRisen};
 ghost use Rattle.lsv_conversations.specs.Untold.{untold};
 

@@ -1,6 +1,6 @@
 //! Laws of the definitions that the contracts of this crate cite. They do nothing when they run.
 
-ghost use Rattle.std.specs.Prelude.{◌≡◌, ◌≤◌, ◌++◌, ◌∷◌, [], ℕ, List, All};
+ghost use Rattle.std.specs.Prelude.{◌≡◌, ◌≤◌, ◌++◌, ◌∷◌, [], ℕ};
 ghost use Rattle.lsv_event.specs.Events.{IsOneLine, IsVisible};
 ghost use Rattle.lsv_event.specs.JsonLine.{json_line};
 ghost use Rattle.lsv_event.specs.SudoLine.{sudo_line};

@@ -1,5 +1,5 @@
 -- The lemmas that crates above use: what an image holds of an event log, and how an event log stays represented.
-use Rattle.std.proofs.Common.{◌≡◌, ◌≢◌, ◌⊎◌, inl, inr, ℕ, ◌+◌, List, [], ◌∷◌, ◌++◌, length, take, map, Option, Some, None, option_map, refl, sym, ◌∙◌, ap, subst, arith}
+use Rattle.std.proofs.Common.{◌≡◌, ◌≢◌, ◌⊎◌, inl, inr, ℕ, ◌+◌, List, [], ◌∷◌, ◌++◌, length, take, map, Option, Some, None, option_map, refl, sym, ◌∙◌, ap, subst}
 use Rattle.std.specs.Prelude.{slice_index}
 use Rattle.std.proofs.lemmas.List.{take_at, length-take-le}
 use Rattle.lsv_disk.specs.declared.file.FileId.{FileId}
@@ -17,9 +17,9 @@ use Rattle.lsv_bundle.specs.declared.shape.Shape.TheVariants as shapes
 use Rattle.lsv_bundle.specs.Body.{encoded, length_of}
 use Rattle.lsv_bundle.specs.Shape.{on_shape, parts_of, journal_of}
 use Rattle.lsv_bundle.specs.Value.{BundleView, FileView, committed_length}
-use Rattle.lsv_bundle.specs.Committed.{Committed, HasPrefix, HoldsEntry, BundleHolds, IsOwnImage, committed, committed_bytes}
+use Rattle.lsv_bundle.specs.Committed.{Committed, HasPrefix, HoldsEntry, BundleHolds, committed, committed_bytes}
 use Rattle.lsv_bundle.specs.Represents as bundles
-use Rattle.lsv_bundle.proofs.Laws.{of_owner, holds_alone, holds_absent, one_body, represents_holds, owner_represents, owner_committed, staging_represents, staging_lengths, staging_committed}
+use Rattle.lsv_bundle.proofs.Laws.{of_owner, holds_alone, holds_absent, one_body, represents_holds, owner_represents, staging_represents, staging_lengths}
 use Rattle.lsv_eventlog.specs.Inner.{IsEventLog}
 use Rattle.lsv_eventlog.specs.Recovered.{HoldsLines, IsOfEventLog, SameFiles}
 use Rattle.lsv_eventlog.specs.Value.{EventLogView, IsAdded, Represents, added_text, committed_text, text_length}

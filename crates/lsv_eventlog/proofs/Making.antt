@@ -1,5 +1,5 @@
 -- Making an event log: no image has a line meanwhile.
-use Rattle.std.proofs.Common.{◌≡◌, ◌≢◌, ◌⊎◌, inl, inr, ℕ, ◌+◌, ◌≤◌, List, [], ◌∷◌, ◌++◌, length, take, Option, Some, None, option_map, refl, sym, ◌∙◌, ap, subst, arith}
+use Rattle.std.proofs.Common.{◌≡◌, ◌≢◌, ◌⊎◌, inl, inr, ℕ, ◌+◌, ◌≤◌, List, [], ◌∷◌, ◌++◌, take, Option, Some, None, option_map, refl, sym, ◌∙◌, ap, subst, arith}
 use Rattle.std.proofs.lemmas.Bool.{false≢true}
 use Rattle.lsv_disk.specs.declared.file.FileId.{FileId}
 use Rattle.lsv_disk.specs.declared.file.Owner.{Owner}
@@ -19,7 +19,7 @@ use Rattle.lsv_bundle.specs.declared.shape.Shape.TheVariants as shapes
 use Rattle.lsv_bundle.specs.Calls.{CallsOfFlush, RoseByFlush}
 use Rattle.lsv_bundle.specs.Shape.{journal_of, on_shape, IsPart, IsWritable}
 use Rattle.lsv_bundle.specs.Value.{BundleView, IsCommitted, IsFresh, IsStagedFile, committed_length, staged}
-use Rattle.lsv_bundle.specs.Committed.{Committed, BundleHolds, HoldsEntry, IsBeforeOrAfter, IsBeingMade, committed, committed_bytes, committed_next}
+use Rattle.lsv_bundle.specs.Committed.{Committed, BundleHolds, IsBeforeOrAfter, IsBeingMade, committed, committed_bytes, committed_next}
 use Rattle.lsv_eventlog.specs.Inner.{IsEventLog}
 use Rattle.lsv_eventlog.specs.Moments.{IsAsBefore}
 use Rattle.lsv_eventlog.specs.Recovered.{HoldsLines, IsOfEventLog}

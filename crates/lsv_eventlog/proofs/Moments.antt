@@ -1,12 +1,12 @@
 -- What crash images hold of an event log while it is flushed.
-use Rattle.std.proofs.Common.{◌≡◌, ◌≢◌, ◌⊎◌, inl, inr, ℕ, List, [], ◌∷◌, ◌++◌, Option, Some, None, option_map, true, false, refl, sym, ◌∙◌, ap, subst, arith}
+use Rattle.std.proofs.Common.{◌≡◌, ◌≢◌, ◌⊎◌, inl, inr, ℕ, List, [], ◌∷◌, ◌++◌, Option, Some, None, true, false, refl, sym, ◌∙◌, ap, subst, arith}
 use Rattle.std.proofs.lemmas.Bool.{cases_Bool, false≢true}
 use Rattle.lsv_disk.specs.declared.file.FileId.{FileId}
 use Rattle.lsv_disk.specs.declared.file.Owner.{Owner}
 use Rattle.lsv_disk.specs.declared.file.Owner.TheVariants.{Events}
 use Rattle.lsv_disk.specs.declared.file.Part.{Part}
 use Rattle.lsv_disk.specs.declared.file.Part.TheVariants.{Lines}
-use Rattle.lsv_disk.specs.View.{Image, DiskView, IsCrashImage}
+use Rattle.lsv_disk.specs.View.{Image, DiskView}
 use Rattle.lsv_disk.specs.Throughout.{Throughout}
 use Rattle.lsv_disk.proofs.Composition.{OnlyNow, started, widened}
 use Rattle.lsv_journal.specs.Last.{IsOwn}
@@ -15,8 +15,8 @@ use Rattle.lsv_bundle.specs.declared.body.Body.{Body}
 use Rattle.lsv_bundle.specs.declared.shape.Shape.{Shape}
 use Rattle.lsv_bundle.specs.declared.shape.Shape.TheVariants as shapes
 use Rattle.lsv_bundle.specs.Shape.{on_shape, journal_of, IsPart, IsWritable, IsOwnFile}
-use Rattle.lsv_bundle.specs.Value.{BundleView, IsCommitted, next_body, next_length, staged}
-use Rattle.lsv_bundle.specs.Committed.{Committed, BundleHolds, HoldsEntry, IsBeforeOrAfter, IsOwnImage, committed, committed_bytes, committed_next}
+use Rattle.lsv_bundle.specs.Value.{BundleView, IsCommitted, staged}
+use Rattle.lsv_bundle.specs.Committed.{Committed, HoldsEntry, IsBeforeOrAfter, committed, committed_bytes, committed_next}
 use Rattle.lsv_eventlog.specs.Inner.{IsEventLog}
 use Rattle.lsv_eventlog.specs.Moments.{IsEither}
 use Rattle.lsv_eventlog.specs.Recovered.{HoldsLines, IsOfEventLog}

@@ -1,4 +1,4 @@
-ghost use Rattle.std.specs.Prelude.{◌≡◌, ◌≢◌, ◌⊎◌, ℕ, ◌+◌, ◌<◌, ◌≤◌, ◌^◌, true, false, List, [], ◌++◌, length, IsErr, IsOk, IfErr, OnOk, OnErr, IsErrOf, ◌↔◌, Some};
+ghost use Rattle.std.specs.Prelude.{◌≡◌, ◌≢◌, ◌⊎◌, ℕ, ◌+◌, ◌<◌, ◌≤◌, ◌^◌, true, false, [], ◌++◌, length, IsOk, IfErr, OnOk, OnErr, IsErrOf, ◌↔◌, Some};
 ghost use Rattle.lsv_disk.specs.declared.file.Part.{Part};
 ghost use Rattle.lsv_disk.specs.View.{Image, IsCrashImage, HasOwnCause};
 ghost use Rattle.lsv_disk.specs.Throughout.{Throughout};

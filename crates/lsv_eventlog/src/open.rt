@@ -1,4 +1,4 @@
-ghost use Rattle.std.specs.Prelude.{◌≡◌, ◌≢◌, ◌⊎◌, ℕ, List, [], Some, None, IsErr, IfOk, IfErr, IfSome, IsErrOf};
+ghost use Rattle.std.specs.Prelude.{◌≡◌, ◌≢◌, ◌⊎◌, ℕ, List, [], Some, None, IfOk, IfErr, IfSome, IsErrOf};
 ghost use Rattle.lsv_disk.specs.declared.file.Owner.TheVariants.{Events};
 ghost use Rattle.lsv_disk.specs.declared.file.Part.{Part};
 ghost use Rattle.lsv_disk.specs.View.{Image, HasOwnCause, IsCrashImage};

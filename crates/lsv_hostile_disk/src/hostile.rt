@@ -1,6 +1,6 @@
 //! A disk in memory whose calls fail, or end, where they are told to.
 
-ghost use Rattle.std.specs.Prelude.{◌≤◌, ◌≡◌, IfOk, OnErr};
+ghost use Rattle.std.specs.Prelude.{◌≤◌, ◌≡◌, OnErr};
 ghost use Rattle.lsv_words.specs.Causes.{HasRisen};
 ghost use Rattle.lsv_hostile_disk.specs.Untold.{untold};
 

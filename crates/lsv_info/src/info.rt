@@ -1,6 +1,5 @@
-ghost use Rattle.std.specs.Prelude.{◌≡◌, IfOk, option_map, find, reverse};
+ghost use Rattle.std.specs.Prelude.{◌≡◌, IfOk, option_map, find};
 ghost use Rattle.std.specs.Option.{option_copied};
-ghost use Rattle.std.specs.Str.{bytes_eq};
 ghost use Rattle.lsv_info.specs.Info.{counting, text_in, text_of, value_of};
 
 use lsv_base::{Bytes, List, NoMem, copy_numbers, copy_texts};

@@ -1,4 +1,4 @@
-ghost use Rattle.std.specs.Prelude.{◌≡◌, ◌≢◌, ◌⊎◌, ◌↔◌, ◌+◌, ◌<◌, ◌≤◌, ◌^◌, ℕ, true, false, Some, None, [], length, IsSome, IfOk, IfErr, OnOk, OnErr, IsErrOf};
+ghost use Rattle.std.specs.Prelude.{◌≡◌, ◌≢◌, ◌⊎◌, ◌↔◌, ◌+◌, ◌<◌, ◌≤◌, ◌^◌, ℕ, true, false, Some, [], length, IsSome, IfOk, IfErr, OnOk, OnErr, IsErrOf};
 ghost use Rattle.lsv_base.specs.Time.{nanos_of};
 ghost use Rattle.lsv_disk.specs.View.{HasOwnCause};
 ghost use Rattle.lsv_disk.specs.Throughout.{Throughout};
@@ -11,7 +11,7 @@ ghost use Rattle.lsv_bundle.specs.Value.{next_length, IsCommitted};
 ghost use Rattle.lsv_info.specs.Layout.{exit_text};
 ghost use Rattle.lsv_iolog.specs.declared.fault.LogFault.{LogFault};
 ghost use Rattle.lsv_iolog.specs.Recovered.{IsOfLog};
-ghost use Rattle.lsv_iolog.specs.Value.{LogValue, is_complete, all_of, bare, flushed, finished, SameCounts, IsFlushed};
+ghost use Rattle.lsv_iolog.specs.Value.{LogValue, is_complete, bare, flushed, finished, SameCounts, IsFlushed};
 ghost use Rattle.lsv_iolog.specs.Represents.{Represents};
 ghost use Rattle.lsv_iolog.specs.Inner.Next.{next_entry};
 ghost use Rattle.lsv_iolog.specs.Moments.{IsEither, IsThereLater, CallsOfLog};

@@ -1,4 +1,4 @@
-ghost use Rattle.std.specs.Prelude.{◌≡◌, ◌≢◌, ◌⊎◌, ℕ, List, ◌≤◌, ◌<◌, ◌^◌, true, false, Ok, Some, None, length, IsSome, FitsSigned, IfOk, IfErr, OnOk, IsErrOf};
+ghost use Rattle.std.specs.Prelude.{◌≡◌, ◌≢◌, ◌⊎◌, ℕ, List, ◌≤◌, ◌<◌, ◌^◌, false, Ok, Some, None, length, IsSome, FitsSigned, IfOk, IfErr, OnOk, IsErrOf};
 ghost use Rattle.lsv_base.specs.Time.{nanos_of};
 ghost use Rattle.lsv_disk.specs.View.{HasOwnCause};
 ghost use Rattle.lsv_disk.specs.Throughout.{Throughout};

@@ -1,4 +1,4 @@
-ghost use Rattle.std.specs.Prelude.{◌≡◌, ◌≢◌, ◌⊎◌, ◌+◌, ◌<◌, ◌≤◌, ◌^◌, ℕ, List, All, Ok, true, false, Option, Some, None, [], length, IfOk, IfErr, OnOk, OnErr, IsErrOf};
+ghost use Rattle.std.specs.Prelude.{◌≡◌, ◌≢◌, ◌⊎◌, ◌+◌, ◌<◌, ◌≤◌, ◌^◌, ℕ, List, All, Ok, false, Some, None, [], length, IfOk, IfErr, OnOk, IsErrOf};
 ghost use Rattle.lsv_disk.specs.View.{HasCause, HasOwnCause};
 ghost use Rattle.lsv_disk.specs.Files.{file_of};
 ghost use Rattle.lsv_disk.specs.declared.file.FileId.{FileId};

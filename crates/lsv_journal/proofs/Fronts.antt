@@ -8,7 +8,7 @@ use Rattle.lsv_disk.specs.Bytes.{bytes_of, size_of}
 use Rattle.lsv_disk.specs.View.{DiskView, OneRead}
 use Rattle.lsv_disk.specs.Throughout.{OnlyReads}
 use Rattle.lsv_disk.proofs.Composition.{OnlyNow, started, one_read, reads_trans, unchanged_reads}
-use Rattle.lsv_journal.specs.Gates.{place, gate, body, is_whole, count, last_of}
+use Rattle.lsv_journal.specs.Gates.{place, is_whole, count, last_of}
 use Rattle.lsv_journal.specs.Gates as Entries
 use Rattle.lsv_journal.specs.Reading.{IsMore}
 use Rattle.lsv_journal.proofs.Counting.{place_next, entry_le_place, is_whole_by, not_whole_short, gate_of_whole, end_of_whole, count_passes, count_stops, count_is, count_within, whole_before, whole_dropped, whole_of_part, first_in_part}

@@ -1,4 +1,4 @@
-ghost use Rattle.std.specs.Prelude.{◌≡◌, ◌≢◌, ◌⊎◌, ◌↔◌, ℕ, ◌+◌, ◌≤◌, ◌<◌, true, false, Option, Some, None, IfOk, IfErr, IfSome, IsErr, OnOk, OnErr, IsErrOf};
+ghost use Rattle.std.specs.Prelude.{◌≡◌, ◌≢◌, ◌⊎◌, ◌↔◌, ℕ, ◌+◌, ◌≤◌, ◌<◌, true, false, Option, Some, None, IfOk, IfErr, IfSome, IsErr, OnOk, IsErrOf};
 
 use crate::JournalFault;
 use crate::append::{select_free, write_free};

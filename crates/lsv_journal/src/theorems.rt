@@ -1,9 +1,9 @@
-ghost use Rattle.std.specs.Prelude.{◌≡◌, List, ℕ, Option, None};
+ghost use Rattle.std.specs.Prelude.{◌≡◌, ℕ, None};
 ghost use Rattle.lsv_disk.specs.declared.file.FileId.{FileId};
 ghost use Rattle.lsv_disk.specs.View.{Image, IsCrashImage, Elsewhere};
 ghost use Rattle.lsv_journal.specs.Last.{IsOwn, IsAbsent, LastAt, JournalHolds, MayBeMade, old_file};
 ghost use Rattle.lsv_journal.specs.Represents.{Represents};
-ghost use Rattle.lsv_journal.specs.Value.{file, last, prepared};
+ghost use Rattle.lsv_journal.specs.Value.{file, last};
 
 use crate::Journal;
 use lsv_disk::{Claim, Disk};

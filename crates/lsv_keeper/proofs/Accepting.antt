@@ -24,7 +24,7 @@ use Rattle.lsv_machine.specs.Answers.{Answer, LogId, refusal, say}
 use Rattle.lsv_machine.specs.Disks.{AllGood, AsBefore, GoodOr}
 use Rattle.lsv_machine.specs.Durable.{GoodAt, GoodFor}
 use Rattle.lsv_machine.specs.Failures.{Act, AsksFor, LeavesLog, MayDraw, Step, WantsMemory}
-use Rattle.lsv_machine.specs.History.{Ledger, is_look, noted, request_in, settles, tells_log}
+use Rattle.lsv_machine.specs.History.{Ledger, is_look, noted, request_in, tells_log}
 use Rattle.lsv_machine.specs.History as history
 use Rattle.lsv_machine.specs.Silence.{AllTo}
 use Rattle.lsv_machine.specs.Machine.{Machine, Settings, is_dead, is_running, leaves, log_of, with_owner, with_state}

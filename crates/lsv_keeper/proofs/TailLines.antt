@@ -17,7 +17,7 @@ use Rattle.lsv_session.specs.declared.reply.Reply.{Reply}
 use Rattle.lsv_machine.specs.Disks.{AllGood, AsBefore, KeepsNumbers, LinesAs, SameLines}
 use Rattle.lsv_machine.specs.History.{Ledger}
 use Rattle.lsv_machine.specs.Machine.{Machine}
-use Rattle.lsv_machine.specs.Tails.{LinesEnded, no_answer}
+use Rattle.lsv_machine.specs.Tails.{no_answer}
 use Rattle.lsv_machine.specs.Turns.{with_lines}
 use Rattle.lsv_machine.specs.Work.{next_number}
 use Rattle.lsv_machine.proofs.TailFolds.{logs_none}
@@ -25,7 +25,7 @@ use Rattle.lsv_machine.proofs.Weaken.{at_same}
 use Rattle.lsv_keeper.specs.Reading.{reading_of}
 use Rattle.lsv_keeper.specs.Represents.{EventsAre, Represents}
 use Rattle.lsv_keeper.specs.Rows.{OwnerRose}
-use Rattle.lsv_keeper.specs.Tails.{IsOneOf, LinesGive, RefusedGive}
+use Rattle.lsv_keeper.specs.Tails.{LinesGive, RefusedGive}
 use Rattle.lsv_keeper.specs.Value.{KeeperView, settings_of}
 use Rattle.lsv_keeper.proofs.Counting.{counts_tailed, rose_none, rose_one}
 use Rattle.lsv_keeper.proofs.Frames.{IsApart, Laws, Resting, events_touch, keeps_files, resting_apart}

@@ -1,6 +1,6 @@
 -- Pieces of the end of a turn: connections that are refused one after another, where their lines were lost.
 use Rattle.std.proofs.Common.{◌≡◌, ℕ, List, [], ◌∷◌, ◌++◌, refl, sym, ◌∙◌, ap, subst, inl, inr, append_assoc, arith, ◌⊎◌}
-use Rattle.std.specs.Prelude.{true, false, Contains}
+use Rattle.std.specs.Prelude.{false, Contains}
 use Rattle.std.proofs.lemmas.List.Elements.{Contains-append_left, Contains-append_right}
 use Rattle.lsv_disk.specs.Throughout.{Jointly}
 use Rattle.lsv_disk.specs.View.{DiskView, Image, IsCrashImage}

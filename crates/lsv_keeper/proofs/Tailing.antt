@@ -14,7 +14,7 @@ use Rattle.lsv_record.specs.declared.records.Record.{Record}
 use Rattle.lsv_session.specs.declared.connection.ConnId.{ConnId}
 use Rattle.lsv_machine.specs.Answers.{CommitPoint, say}
 use Rattle.lsv_machine.specs.Disks.{AllGood, AsBefore}
-use Rattle.lsv_machine.specs.Durable.{GoodAt, GoodFor, GoodLog, IsPrefix}
+use Rattle.lsv_machine.specs.Durable.{GoodAt, GoodFor}
 use Rattle.lsv_machine.specs.History.{Ledger, heard_all, noted, raised_to, writes}
 use Rattle.lsv_machine.specs.Machine.{LogState.There, Machine, Settings, with_log}
 use Rattle.lsv_machine.specs.Stands.{StandsFor, as_list}

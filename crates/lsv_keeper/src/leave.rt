@@ -9,7 +9,7 @@ ghost use Rattle.lsv_machine.specs.Machine.{Machine, is_dead};
 ghost use Rattle.lsv_machine.specs.Work.{plain, refused};
 ghost use Rattle.lsv_keeper.specs.Represents.{Represents};
 ghost use Rattle.lsv_keeper.specs.Views.{view_of};
-ghost use Rattle.lsv_keeper.specs.Rows.{IsTold, Left, RowGives};
+ghost use Rattle.lsv_keeper.specs.Rows.{Left, RowGives};
 ghost use Rattle.lsv_session.specs.Table.{room_for};
 ghost use Rattle.lsv_session.specs.declared.job.Body.TheVariants as bodies;
 ghost use Rattle.lsv_machine.specs.Machine.{log_of, same};

@@ -29,7 +29,7 @@ use Rattle.lsv_machine.proofs.Choices.{same_true}
 use Rattle.lsv_turns.specs.Turns.{LaneTurn, jobs_in, replies_in}
 use Rattle.lsv_lane.specs.Store.{KeepsStore}
 use Rattle.lsv_reactor.specs.Links as links
-use Rattle.lsv_reactor.specs.Links.{LinkFailed, PortView, Seats, conn_of}
+use Rattle.lsv_reactor.specs.Links.{LinkFailed, Seats, conn_of}
 use Rattle.lsv_server.specs.Complete.{Completes, IsServedBy, came_by}
 use Rattle.lsv_load.specs.Load.{load_script, whole_sent}
 use Rattle.lsv_load.specs.Logs.{bodies_of, log_at, logs_of}

@@ -1,6 +1,6 @@
 //! The calls of a log, and of a lane's numbers.
 
-ghost use Rattle.std.specs.Prelude.{IfOk, IsSome};
+ghost use Rattle.std.specs.Prelude.{IsSome};
 ghost use Rattle.lsv_base.specs.Time.{nanos_of};
 
 use crate::records::{entry_of, point_of, record_of};

@@ -1,6 +1,5 @@
 //! A script that is played over a hostile disk, up to the step that fails.
 
-ghost use Rattle.std.specs.Prelude.{IfOk};
 ghost use Rattle.lsv_base.specs.Time.{nanos_of};
 ghost use Rattle.std.specs.Prelude.{IsSome};
 

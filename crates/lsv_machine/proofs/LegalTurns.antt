@@ -1,5 +1,5 @@
 -- A legal conversation, job by job and turn by turn: it is served.
-use Rattle.std.proofs.Common.{◌≡◌, ◌≤◌, ◌+◌, ◌^◌, ◌<◌, ℕ, List, [], ◌∷◌, ◌++◌, length, map, refl, sym, ◌∙◌, ap, subst, inl, inr, arith, Option, Some, None, ◌⊎◌, append_assoc, append-nil, length-append}
+use Rattle.std.proofs.Common.{◌≡◌, ◌≤◌, ◌+◌, ◌^◌, ◌<◌, ℕ, List, [], ◌∷◌, ◌++◌, length, map, refl, sym, ◌∙◌, ap, subst, inl, inr, arith, Some, None, ◌⊎◌, append_assoc, append-nil, length-append}
 use Rattle.std.specs.Prelude.{◌||◌, ◌&&◌, not, nat_le, Bool, true, false, if◌then◌else◌, Result, Ok, Err, All}
 use Rattle.std.specs.List.{flat_map, list_any}
 use Rattle.std.proofs.lemmas.Bool.Decides.{nat_tests}
@@ -7,13 +7,12 @@ use Rattle.std.proofs.lemmas.List.Elements.{All-head, All-tail}
 use Rattle.lsv_base.specs.declared.time.TimeSpec.{TimeSpec}
 use Rattle.lsv_disk.specs.declared.file.Owner.{Owner}
 use Rattle.lsv_disk.specs.declared.file.Owner.TheVariants.{Log, Events}
-use Rattle.lsv_info.specs.Layout.{head_text, exit_text}
+use Rattle.lsv_info.specs.Layout.{head_text}
 use Rattle.lsv_mask.specs.Masking.{mask}
 use Rattle.lsv_record.specs.Points.{Stored}
 use Rattle.lsv_record.specs.Records.{elapsed, stream_of, timing_of}
 use Rattle.lsv_record.specs.declared.records.Record.{Record}
 use Rattle.lsv_record.specs.declared.records.Stream.{Stream}
-use Rattle.lsv_msg.specs.declared.messages.ClientMessage.{ClientMessage}
 use Rattle.lsv_request.specs.Requests.{has_keys, request_of}
 use Rattle.lsv_request.specs.declared.refusal.Refusal.{Refusal}
 use Rattle.lsv_request.specs.declared.refusal.Refusal.TheVariants as refusals
@@ -29,8 +28,8 @@ use Rattle.lsv_session.specs.declared.job.Job.{Job}
 use Rattle.lsv_machine.specs.Answers.{Answer, Saying, Saying.CommitPoint, Saying.LogId, Saying.Shut, is_refused, say}
 use Rattle.lsv_machine.specs.Failures.{Act, AsksFor, Plainly, Step, WantsMemory}
 use Rattle.lsv_machine.specs.History.{is_exit, request_in}
-use Rattle.lsv_machine.specs.Judgement.{allows, judged, with_keys}
-use Rattle.lsv_machine.specs.Legal.{AreSent, AreUndisturbed, Came, Fits, IsLegal, IsServed, all_answers, all_lines, behind, behind_all, exit_or, exit_sent, first_head, goes_to, has_place, head_or, is_committed, is_shut, line_for, lines_in, points, record_in, records_in, told_of, whole_log}
+use Rattle.lsv_machine.specs.Judgement.{allows, with_keys}
+use Rattle.lsv_machine.specs.Legal.{AreSent, AreUndisturbed, Came, Fits, IsLegal, IsServed, all_answers, all_lines, behind, behind_all, exit_or, exit_sent, first_head, goes_to, has_place, head_or, is_committed, is_shut, line_for, lines_in, points, record_in, records_in, whole_log}
 use Rattle.lsv_machine.specs.Machine.{LogState, LogState.There, Machine, Settings, is_dead, is_running, leaves, with_log, with_state}
 use Rattle.lsv_machine.specs.Recovery.{AtTheirMoments, Turn, all_turns}
 use Rattle.lsv_machine.specs.Starts.{StartsAs}
@@ -38,7 +37,7 @@ use Rattle.lsv_machine.specs.Turns.{Commits, EndOfTurn, FlushesLines, FlushesLog
 use Rattle.lsv_machine.specs.Work.{Done, adds_line, exited, fits_file, has_line, last_number, line_fits, line_in, lined, next_number, opened, opens, plain, silently, work}
 use Rattle.lsv_machine.proofs.Choices.{EqOr.equal, EqOr.unequal, eq_or}
 use Rattle.lsv_machine.proofs.LegalRecords.{log_takes, masked_count, masked_time}
-use Rattle.lsv_machine.proofs.LegalWork.{Lined, Lined.unlined, Lined.with_line, Opens, Rests, Writes, asked_does, ends_now, exit_set, greets, has_opened, has_taken, lined_is, log_ended, log_with, opened_is, opens_lined, opens_now, record_taken, rests_lined, takes_now, writes_lined}
+use Rattle.lsv_machine.proofs.LegalWork.{Lined.unlined, Lined.with_line, Opens, Rests, Writes, asked_does, ends_now, exit_set, greets, has_opened, has_taken, lined_is, log_ended, log_with, opened_is, opens_lined, opens_now, record_taken, rests_lined, takes_now, writes_lined}
 use Rattle.lsv_machine.proofs.OutcomeLemmas.{number_is, plainly_or}
 use Rattle.lsv_machine.proofs.StepLooks.{none_among}
 

@@ -1,32 +1,25 @@
 -- One job of a legal conversation: what it does where nothing is in the way.
-use Rattle.std.proofs.Common.{◌≡◌, ◌≤◌, ◌<◌, ◌+◌, ◌^◌, ℕ, List, [], ◌∷◌, ◌++◌, length, refl, sym, ◌∙◌, ap, subst, inl, inr, arith, Option, Some, None, ◌⊎◌, length-append}
-use Rattle.std.specs.Prelude.{◌==◌, ◌||◌, nat_lt, nat_le, Bool, true, false, if◌then◌else◌, not, Result, Ok, Err}
+use Rattle.std.proofs.Common.{◌≡◌, ◌≤◌, ◌<◌, ◌+◌, ◌^◌, ℕ, List, [], ◌∷◌, ◌++◌, length, refl, sym, ◌∙◌, ap, arith, Some, None, ◌⊎◌, length-append}
+use Rattle.std.specs.Prelude.{◌==◌, ◌||◌, nat_lt, Bool, true, false, if◌then◌else◌}
 use Rattle.std.proofs.lemmas.Bool.Decides.{nat_tests}
 use Rattle.lsv_base.specs.declared.time.TimeSpec.{TimeSpec}
-use Rattle.lsv_info.specs.Layout.{head_text, exit_text}
 use Rattle.lsv_mask.specs.Masking.{covered, mask}
 use Rattle.lsv_mask.proofs.Covers.{covered_masked, more_masked}
 use Rattle.lsv_record.specs.Points.{Stored}
-use Rattle.lsv_record.specs.Records.{elapsed, stream_of, timing_of}
+use Rattle.lsv_record.specs.Records.{elapsed}
 use Rattle.lsv_record.specs.declared.records.Record.{Record}
-use Rattle.lsv_record.specs.declared.records.Stream.{Stream}
-use Rattle.lsv_request.specs.declared.refusal.Refusal.{Refusal}
-use Rattle.lsv_request.specs.declared.request.Accept.{Accept}
 use Rattle.lsv_request.specs.declared.request.Request.{Request}
 use Rattle.lsv_request.specs.declared.request.Request.TheVariants as request
 use Rattle.lsv_session.specs.declared.connection.ConnId.{ConnId}
 use Rattle.lsv_session.specs.declared.connection.ConnState.{ConnState}
-use Rattle.lsv_session.specs.declared.connection.ConnState.TheVariants.{Fresh, Greeted, Alerted, Running, Dead}
+use Rattle.lsv_session.specs.declared.connection.ConnState.TheVariants.{Running, Dead}
 use Rattle.lsv_session.specs.declared.job.Body.{Body}
 use Rattle.lsv_session.specs.declared.job.Body.TheVariants as body
-use Rattle.lsv_session.specs.declared.job.Job.{Job}
-use Rattle.lsv_machine.specs.Answers.{Answer, Saying.CommitPoint, Saying.LogId, Saying.Shut, is_refused, say}
+use Rattle.lsv_machine.specs.Answers.{Saying.CommitPoint, Saying.LogId, Saying.Shut, is_refused, say}
 use Rattle.lsv_machine.specs.Failures.{AsksFor}
-use Rattle.lsv_machine.specs.Legal.{has_place}
-use Rattle.lsv_machine.specs.Machine.{LogState, LogState.There, Machine, Settings, insert_once, is_dead, is_running, leaves, let_go, log_of, with_log, with_owner, with_state, without}
-use Rattle.lsv_machine.specs.Work.{Done, adds_line, draws, empty_log, ends, exited, finished, fits_file, has_line, last_number, line_fits, line_in, lined, makes, next_number, opened, plain, recorded, silently, taken, takes, waits, with_exit, with_record, work}
+use Rattle.lsv_machine.specs.Machine.{LogState, LogState.There, Machine, Settings, insert_once, is_dead, is_running, leaves, let_go, log_of, with_log, with_owner, with_state}
+use Rattle.lsv_machine.specs.Work.{Done, adds_line, ends, exited, fits_file, has_line, last_number, line_fits, line_in, lined, makes, next_number, opened, plain, recorded, silently, takes, waits, with_exit, with_record, work}
 use Rattle.lsv_machine.proofs.Choices.{EqOr.equal, EqOr.unequal, eq_or}
-use Rattle.lsv_machine.proofs.LegalRecords.{log_takes, masked_time}
 use Rattle.lsv_machine.proofs.Shapes.{its_state}
 
 -- ---- What is known of the machine

@@ -1,6 +1,6 @@
 //! What follows from the definitions of the machine alone. These functions do nothing when they run.
 
-ghost use Rattle.std.specs.Prelude.{◌≡◌, ◌≤◌, ℕ, List, [], ◌∷◌, ◌++◌, length, map, Option, Some, None};
+ghost use Rattle.std.specs.Prelude.{◌≡◌, ◌≤◌, ℕ, List, [], ◌∷◌, ◌++◌, length, map, Some};
 ghost use Rattle.lsv_mask.specs.Masking.{mask};
 ghost use Rattle.lsv_record.specs.Points.{Stored};
 ghost use Rattle.lsv_record.specs.Records.{delay_of};

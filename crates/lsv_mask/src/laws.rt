@@ -1,6 +1,6 @@
 //! Laws of masking over whole lists of records. They do nothing when they run.
 
-ghost use Rattle.std.specs.Prelude.{◌≡◌, ◌≢◌, ◌↔◌, ℕ, List, [], ◌∷◌, ◌++◌, length, take, map, All, Contains, Bool, true, false, IsTrue};
+ghost use Rattle.std.specs.Prelude.{◌≡◌, ◌≢◌, ◌↔◌, ℕ, List, [], ◌∷◌, ◌++◌, take, map, All, Contains, false, IsTrue};
 ghost use Rattle.lsv_mask.specs.Masking.{covered, hot, hot_with, mask, prompted, tail};
 ghost use Rattle.lsv_record.specs.Records.{IsValid, delay_of, shape_of, stream_of};
 ghost use Rattle.lsv_record.specs.declared.records.Record.{Record};

@@ -1,4 +1,4 @@
-ghost use Rattle.std.specs.Prelude.{◌≡◌, ℕ, List, [], ◌∷◌, ◌++◌, Bool, ◌&&◌, not, if◌then◌else◌, IfOk};
+ghost use Rattle.std.specs.Prelude.{◌≡◌, ℕ, List, [], ◌∷◌, ◌++◌, ◌&&◌, not, if◌then◌else◌, IfOk};
 ghost use Rattle.lsv_mask.specs.Inner.{tail_with};
 ghost use Rattle.lsv_mask.specs.Masking.{Seen, covered, ends_line, prompted, seen, starred};
 ghost use Rattle.lsv_record.specs.Records.{shape_of};

@@ -1,4 +1,4 @@
-ghost use Rattle.std.specs.Prelude.{◌≡◌, [], ◌∷◌, ◌++◌, Bool, true, false, map, OnOk, IfOk};
+ghost use Rattle.std.specs.Prelude.{◌≡◌, [], ◌∷◌, ◌++◌, true, false, map, OnOk};
 ghost use Rattle.lsv_machine.specs.Answers.{reply_of};
 ghost use Rattle.lsv_model.specs.Inner.{answers_of};
 ghost use Rattle.lsv_session.specs.declared.reply.ReplyBody.TheVariants as body;

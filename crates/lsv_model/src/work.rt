@@ -1,5 +1,4 @@
 ghost use Rattle.std.specs.Prelude.{◌≡◌, ◌+◌, ◌^◌, nat_le, nat_lt, false, length, ◌∷◌, [], if◌then◌else◌, Some, None, Ok, IfOk, OnOk, SomeIff, IsTrue};
-ghost use Rattle.lsv_info.specs.Layout.{exit_text, head_text};
 ghost use Rattle.lsv_machine.specs.Answers.{Shut, farewell, say};
 ghost use Rattle.lsv_machine.specs.Machine.{LogState.There, forgets, is_dead, log_of, with_log, with_owner, with_state};
 ghost use Rattle.lsv_machine.specs.Work.{adds_line, answered, before_line, can_cut, cut_to, dropped, empty_log, ends, finished, has_line, last_number, line_fits, makes, next_number, opened, opens, plain, refused, restarted, sets_exit, silently, taken, work};

@@ -3,7 +3,7 @@
 ghost use Rattle.std.specs.Prelude.{◌≡◌, ◌≤◌, ◌<◌, ◌++◌, length, Some, IfOk, OnOk, IfErr, IsErrOf};
 ghost use Rattle.lsv_msg.specs.declared.fault.EncodeFault.TheVariants as faults;
 ghost use Rattle.lsv_msg.specs.Format.{canon, repeated_said};
-ghost use Rattle.lsv_msg.specs.Messages.{time_spec, io_buffer, change_window_size, command_suspend, string_list, number_list, entry_value, info_message, accept_message, reject_message, alert_message, exit_message, restart_message, client_hello, server_hello, client_bytes, server_bytes};
+ghost use Rattle.lsv_msg.specs.Messages.{io_buffer, change_window_size, command_suspend, entry_value, info_message, accept_message, reject_message, alert_message, exit_message, restart_message, client_hello, server_hello, client_bytes, server_bytes};
 
 use crate::put::{put_flag, put_int32, put_numbers, put_text, put_texts, put_time, time_bytes};
 use crate::{

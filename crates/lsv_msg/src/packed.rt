@@ -1,4 +1,4 @@
-ghost use Rattle.std.specs.Prelude.{◌≡◌, ◌++◌, ◌∷◌, [], length, OnOk, IfErr};
+ghost use Rattle.std.specs.Prelude.{◌≡◌, ◌++◌, ◌∷◌, [], OnOk, IfErr};
 ghost use Rattle.std.specs.Int.{w64, cast_signed};
 ghost use Rattle.lsv_msg.specs.declared.fault.MsgFault.TheVariants as faults;
 ghost use Rattle.lsv_msg.specs.Format.{Gives, extended, packed_from};

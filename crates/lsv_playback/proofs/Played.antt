@@ -28,7 +28,7 @@ use Rattle.lsv_play.specs.Items.{IsPart}
 use Rattle.lsv_play.specs.Playing.{items_of, play}
 use Rattle.lsv_play.proofs.Parts.{part_behind, part_whole, play_append}
 use Rattle.lsv_playback.specs.Faults.{of_log}
-use Rattle.lsv_playback.specs.Playing.{AreAll, AreBeforeFault, IsNotOpened, IsOpened, Plays, PlaysLog, PlaysRecords, PlaysSome, laid_at, text_at}
+use Rattle.lsv_playback.specs.Playing.{IsNotOpened, IsOpened, Plays, PlaysRecords, laid_at, text_at}
 use Rattle.lsv_playback.specs.declared.fault.PlayFault.{PlayFault}
 use Rattle.lsv_playback.specs.declared.fault.PlayFault.TheVariants as faults
 

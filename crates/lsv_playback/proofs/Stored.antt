@@ -1,5 +1,5 @@
 -- A log that the disk holds is played as it is.
-use Rattle.std.proofs.Common.{◌≡◌, ◌∙◌, ◌++◌, ◌⊎◌, ◌≤◌, inl, inr, ℕ, List, [], ◌∷◌, Option, Some, None, Result, Ok, Err, length, length-append, take, drop, refl, sym, ap, subst, append-nil, arith}
+use Rattle.std.proofs.Common.{◌≡◌, ◌∙◌, ◌++◌, ◌⊎◌, ◌≤◌, inl, inr, ℕ, List, [], ◌∷◌, Option, Some, None, Result, Ok, Err, length, length-append, take, drop, sym, ap, subst, append-nil, arith}
 use Rattle.std.proofs.lemmas.List.{take-append-drop}
 use Rattle.lsv_disk.specs.declared.file.Part.{Part}
 use Rattle.lsv_disk.specs.Bytes.{bytes_of}
@@ -8,10 +8,10 @@ use Rattle.lsv_disk.specs.View.{Image}
 use Rattle.lsv_bundle.specs.declared.body.Body.{Body}
 use Rattle.lsv_bundle.specs.declared.shape.Shape.TheVariants as shapes
 use Rattle.lsv_bundle.specs.Body.{encoded, length_of}
-use Rattle.lsv_bundle.specs.Committed.{HasEntry, HasPrefix}
+use Rattle.lsv_bundle.specs.Committed.{HasPrefix}
 use Rattle.lsv_bundle.specs.Shape.{IsPart as IsPartOf}
 use Rattle.lsv_info.specs.declared.times.Head.{Head}
-use Rattle.lsv_iolog.specs.Recovered.{HoldsLog, Replays, laid_in, owner_of}
+use Rattle.lsv_iolog.specs.Recovered.{HoldsLog, Replays, owner_of}
 use Rattle.lsv_bundle.proofs.Laws.{one_body}
 use Rattle.lsv_iolog.proofs.Replaying.{prefix_same, same_laid}
 use Rattle.lsv_iolog.proofs.Viewing.{all_there}
@@ -23,13 +23,12 @@ use Rattle.lsv_record.specs.Points.{Stored}
 use Rattle.lsv_record.specs.Records.{line_of, shape_of, text_of, timing_of}
 use Rattle.lsv_record.proofs.Layouts.{layout_is_texts, timing_of-append}
 use Rattle.lsv_record.proofs.Once.{laid_is_read, one_begins, one_layout}
-use Rattle.lsv_words.specs.Pieces.{IsPrefix}
 use Rattle.lsv_play.specs.declared.options.Options.{Options}
 use Rattle.lsv_play.specs.declared.screen.Item.{Item}
 use Rattle.lsv_play.specs.Items.{IsPart}
 use Rattle.lsv_play.specs.Playing.{play}
 use Rattle.lsv_play.proofs.Parts.{part_of_more, part_whole, play_append}
-use Rattle.lsv_playback.specs.Playing.{AreAll, AreBeforeFault, IsOpened, Plays, PlaysLog, PlaysRecords, PlaysSome, laid_at, text_at}
+use Rattle.lsv_playback.specs.Playing.{IsOpened, Plays, PlaysRecords, laid_at, text_at}
 use Rattle.lsv_playback.specs.declared.fault.PlayFault.{PlayFault}
 use Rattle.lsv_playback.specs.declared.fault.PlayFault.TheVariants.{Absent, Damaged, Disk, Screen, NoMem}
 

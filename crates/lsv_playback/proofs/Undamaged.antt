@@ -1,5 +1,5 @@
 -- A log that the disk holds isn't damaged.
-use Rattle.std.proofs.Common.{◌≡◌, ◌∙◌, ◌++◌, ◌⊎◌, ◌+◌, ◌<◌, ◌≤◌, ◌^◌, inl, inr, ℕ, suc, List, [], ◌∷◌, Option, Some, None, Result, Ok, Err, length, length-append, drop, refl, sym, ap, subst, append-nil, slice_index, arith}
+use Rattle.std.proofs.Common.{◌≡◌, ◌∙◌, ◌++◌, ◌⊎◌, ◌+◌, ◌<◌, ◌≤◌, ◌^◌, inl, inr, ℕ, List, [], ◌∷◌, Option, Some, None, Err, length, length-append, drop, refl, sym, ap, subst, append-nil, slice_index, arith}
 use Rattle.std.proofs.lemmas.List.{drop_at}
 use Rattle.lsv_disk.specs.declared.file.Owner.{Owner}
 use Rattle.lsv_disk.specs.declared.file.Part.{Part}
@@ -10,10 +10,10 @@ use Rattle.lsv_bundle.specs.declared.body.Body.{Body}
 use Rattle.lsv_bundle.specs.declared.shape.Shape.TheVariants as shapes
 use Rattle.lsv_bundle.specs.Body.{encoded, length_of}
 use Rattle.lsv_bundle.specs.Committed.{HasPrefix, IsDamaged, IsFirstShort, IsShort}
-use Rattle.lsv_bundle.specs.Shape.{IsPart as IsPartOf, index_of, parts_of}
+use Rattle.lsv_bundle.specs.Shape.{index_of, parts_of}
 use Rattle.lsv_bundle.proofs.Laws.{one_body}
 use Rattle.lsv_iolog.specs.Damage.{HasFault, IsViewDamage}
-use Rattle.lsv_iolog.specs.Reading.{AreThere, EndsThere, GoesOn, IsFaultBehind, IsLeftOver, IsStreamFault, IsTimingFault, LacksData}
+use Rattle.lsv_iolog.specs.Reading.{AreThere, GoesOn, IsFaultBehind, IsStreamFault, IsTimingFault, LacksData}
 use Rattle.lsv_iolog.specs.Recovered.{HoldsLog, IsHeadText, Replays, owner_of}
 use Rattle.lsv_iolog.proofs.Replaying.{one_entry}
 use Rattle.lsv_record.specs.declared.laid.Laid.{Laid}
@@ -23,7 +23,7 @@ use Rattle.lsv_record.specs.declared.records.Shaped.{Shaped}
 use Rattle.lsv_record.specs.declared.records.Stream.{Stream}
 use Rattle.lsv_record.specs.declared.records.Stream.TheVariants as streams
 use Rattle.lsv_record.specs.Layout.{Begins, IsLayout, NextLine, stream_in}
-use Rattle.lsv_record.specs.Lines.{IsBadAt, IsLineAt, told_delay}
+use Rattle.lsv_record.specs.Lines.{IsLineAt, told_delay}
 use Rattle.lsv_record.specs.Points.{Stored}
 use Rattle.lsv_record.specs.Records.{data_in, delay_of, elapsed, line_of, shape_of, shaped_line, stream_of, text_of, timing_of}
 use Rattle.lsv_record.specs.Tally.{told_count}
@@ -31,7 +31,7 @@ use Rattle.lsv_record.proofs.Layouts.{elapsed-append, elapsed-push, stream_of-ap
 use Rattle.lsv_record.proofs.Once.{data_length, line_behind, one_begins, one_line}
 use Rattle.lsv_play.specs.declared.options.Options.{Options}
 use Rattle.lsv_play.specs.declared.screen.Item.{Item}
-use Rattle.lsv_playback.specs.Playing.{AreBeforeFault, IsOpened, Plays, laid_at}
+use Rattle.lsv_playback.specs.Playing.{Plays, laid_at}
 use Rattle.lsv_playback.specs.declared.fault.PlayFault.TheVariants.{Damaged}
 use Rattle.lsv_playback.proofs.Stored.{begins_log, is_layout, same_body, some_of_all}
 

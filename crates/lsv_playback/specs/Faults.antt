@@ -2,7 +2,7 @@
 use Rattle.lsv_iolog.specs.declared.fault.LogFault.{LogFault}
 use Rattle.lsv_iolog.specs.declared.fault.LogFault.TheVariants as logs
 use Rattle.lsv_playback.specs.declared.fault.PlayFault.{PlayFault}
-use Rattle.lsv_playback.specs.declared.fault.PlayFault.TheVariants.{Absent, Damaged, Disk, Screen, NoMem}
+use Rattle.lsv_playback.specs.declared.fault.PlayFault.TheVariants.{Absent, Damaged, Disk, NoMem}
 
 -- the same fault; those that never come of reading count as want of memory
 abbrev pub of_log : LogFault → PlayFault

@@ -1,5 +1,4 @@
-ghost use Rattle.std.specs.Prelude.{◌≡◌, ◌⊎◌, ◌<◌, ℕ, Bool, true, false, [], Some, length, IfOk, OnErr, IsErr};
-ghost use Rattle.std.specs.List.{Contains};
+ghost use Rattle.std.specs.Prelude.{◌≡◌, ◌⊎◌, ◌<◌, ℕ, false, [], Some, length, IfOk, OnErr, IsErr};
 ghost use Rattle.std.specs.Result.{result_ok};
 ghost use Rattle.lsv_port.specs.declared.memory.link.MemLink.{MemLink};
 ghost use Rattle.lsv_port.specs.Ledger.{Continues, HasTurnCause, HasLinkCause};

@@ -2,7 +2,6 @@ ghost use Rattle.std.specs.Prelude.{◌≡◌, ◌≢◌, ◌+◌, ◌<◌, ◌�
 ghost use Rattle.std.specs.Bool.{OnTrue, OnFalse};
 ghost use Rattle.lsv_record.specs.Inner.Reader.{IsBehind, IsTaken};
 ghost use Rattle.lsv_record.specs.Layout.{IsRead, IsRefused, Fails};
-ghost use Rattle.lsv_record.specs.Lines.{told_delay};
 ghost use Rattle.lsv_record.specs.Records.{IsGood};
 ghost use Rattle.lsv_record.specs.declared.log.LayFault.TheVariants as faults;
 

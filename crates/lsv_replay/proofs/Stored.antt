@@ -1,5 +1,5 @@
 -- A log that the disk holds is shown as it is.
-use Rattle.std.proofs.Common.{◌≡◌, ◌∙◌, ◌⊎◌, inl, inr, ℕ, List, [], Option, Some, Result, Ok, Err, sym, subst}
+use Rattle.std.proofs.Common.{◌≡◌, ◌∙◌, ◌⊎◌, inl, inr, ℕ, List, [], Option, Some, Result, Ok, Err, subst}
 use Rattle.lsv_base.specs.LogNo.{log_no_in}
 use Rattle.lsv_disk.specs.declared.file.Part.{Part}
 use Rattle.lsv_disk.specs.View.{Image}
@@ -19,7 +19,7 @@ use Rattle.lsv_replay_args.specs.Request.{Asked, Manner, Play}
 use Rattle.lsv_replay.specs.Replay.{Answers, AsksForLog, Does, PlaysNumber}
 use Rattle.lsv_replay.specs.Status.{of_playing}
 use Rattle.lsv_replay.specs.declared.status.ReplayStatus.{ReplayStatus}
-use Rattle.lsv_replay.specs.declared.status.ReplayStatus.TheVariants.{Shown, Usage, Damaged, Absent, NoMem}
+use Rattle.lsv_replay.specs.declared.status.ReplayStatus.TheVariants.{Shown, Damaged, Absent, NoMem}
 use Rattle.lsv_replay.proofs.Replayed.{not_both, one_asked}
 
 -- what is put of a log is put by its playing, where the run didn't end before

@@ -1,5 +1,5 @@
 -- For private clauses: which statuses come of which task.
-use Rattle.std.specs.Prelude.{ℕ, List}
+use Rattle.std.specs.Prelude.{ℕ}
 use Rattle.lsv_replay_args.specs.Request.{Asked, Play, Search}
 use Rattle.lsv_search.specs.Places.{IsFirstBad}
 use Rattle.lsv_replay.specs.Replay.{IsSoundTask}

@@ -1,6 +1,6 @@
 //! What a message asks of a session, or why it is refused.
 
-ghost use Rattle.std.specs.Prelude.{◌≡◌, ◌≤◌, IfOk};
+ghost use Rattle.std.specs.Prelude.{◌≡◌, ◌≤◌};
 ghost use Rattle.lsv_request.specs.Requests.{accept_of, alert_of, data_of, exit_of, has_keys, head_of, is_signal, nanos_in, reject_of, request_of, restart_of, run_of, suspend_of, valid_time, window_of};
 
 use crate::{Accept, Refusal, Report, Request, Restart};

@@ -1,5 +1,5 @@
 ghost use Rattle.std.specs.Prelude.{◌≡◌};
-ghost use Rattle.lsv_search.specs.Names.{all_names, name_in, text_of};
+ghost use Rattle.lsv_search.specs.Names.{name_in, text_of};
 
 /// The names of tests.
 #[derive(Clone, Copy, Debug, PartialEq, Eq)]

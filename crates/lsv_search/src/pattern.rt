@@ -1,4 +1,4 @@
-ghost use Rattle.std.specs.Prelude.{◌≡◌, ◌≢◌, IfOk, IfErr, IsErrOf};
+ghost use Rattle.std.specs.Prelude.{◌≡◌, ◌≢◌, IfOk, IsErrOf};
 ghost use Rattle.lsv_search.specs.Patterns.{IsPattern, IsRefusedPattern, is_found};
 ghost use Rattle.lsv_search.specs.declared.pattern.PatternFault.TheVariants as faults;
 

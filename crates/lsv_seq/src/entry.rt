@@ -1,4 +1,4 @@
-ghost use Rattle.std.specs.Prelude.{◌≡◌, ◌↔◌, ◌⊎◌, ◌<◌, ◌≤◌, true, Some, SomeIff};
+ghost use Rattle.std.specs.Prelude.{◌≡◌, ◌↔◌, ◌⊎◌, ◌<◌, ◌≤◌, true, SomeIff};
 ghost use Rattle.lsv_seq.specs.Entry.{body_of, entry_in, is_entry, is_of_lane, most, next};
 
 use lsv_base::LogNo;

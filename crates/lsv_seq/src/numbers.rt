@@ -1,14 +1,13 @@
-ghost use Rattle.std.specs.Prelude.{◌≡◌, ◌≢◌, ◌⊎◌, ℕ, ◌+◌, ◌≤◌, ◌<◌, true, false, Option, Some, None, Ok, Err, IsErr, IsOk, IfOk, IfErr, IfSome, OnOk, OnErr, IsErrOf};
-ghost use Rattle.std.specs.Option.{option_map};
+ghost use Rattle.std.specs.Prelude.{◌≡◌, ◌≢◌, ◌⊎◌, ℕ, ◌+◌, ◌≤◌, ◌<◌, false, Option, Some, None, Ok, Err, IsErr, IsOk, IfOk, IfErr, IfSome, OnOk, OnErr, IsErrOf};
 ghost use Rattle.lsv_disk.specs.View.{Image, IsCrashImage, HasOwnCause};
 ghost use Rattle.lsv_disk.specs.Throughout.{Throughout, CallsAtMost, WritesOneOf};
-ghost use Rattle.lsv_journal.specs.Last.{IsSomeCrashOf, LastAt, MayBeMade, OpeningCalls};
+ghost use Rattle.lsv_journal.specs.Last.{MayBeMade, OpeningCalls};
 ghost use Rattle.lsv_journal.specs.Value as journals;
 ghost use Rattle.lsv_journal.specs.Represents as represented;
 ghost use Rattle.lsv_seq.specs.declared.entry.Entry.{Entry};
 ghost use Rattle.lsv_seq.specs.declared.fault.DrawFault.TheVariants as draw_faults;
 ghost use Rattle.lsv_seq.specs.declared.fault.SeqFault.TheVariants as faults;
-ghost use Rattle.lsv_seq.specs.Entry.{body_of, entry_in, is_entry, is_of_lane, most, next};
+ghost use Rattle.lsv_seq.specs.Entry.{body_of, entry_in, is_of_lane, most, next};
 ghost use Rattle.lsv_seq.specs.Drawn.{IsAsSomeCrash, IsNumbersFile, LastDrawn, entry_at, judged, judged_entry, numbers_file};
 ghost use Rattle.lsv_seq.specs.Sound.{IsSound};
 

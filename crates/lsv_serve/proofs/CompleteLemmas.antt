@@ -17,24 +17,23 @@ use Rattle.lsv_event.specs.declared.event.Kind.{Kind}
 use Rattle.lsv_iolog.specs.Recovered.{Replays}
 use Rattle.lsv_conf.specs.Lines.{Placed, first_refused}
 use Rattle.lsv_conf.specs.Settings.{told}
-use Rattle.lsv_seq.specs.Drawn.{LastDrawn, entry_at}
+use Rattle.lsv_seq.specs.Drawn.{entry_at}
 use Rattle.lsv_seq.specs.declared.entry.Entry.{Entry}
 use Rattle.lsv_msg.specs.declared.messages.ServerMessage.{ServerMessage}
 use Rattle.lsv_session.specs.Connections.{same}
 use Rattle.lsv_session.specs.Transcript.{AreFirst, AreJobs, AreJobs.Rest, answers, frames_of, messages_in, said_to}
 use Rattle.lsv_session.specs.declared.connection.ConnState.TheVariants.{Fresh}
 use Rattle.lsv_session.specs.declared.job.Body.{Body}
-use Rattle.lsv_session.specs.declared.job.Job.{Job}
 use Rattle.lsv_session.specs.declared.reply.Reply.{Reply}
 use Rattle.lsv_session.proofs.Jobs.{longer, one_list}
 use Rattle.lsv_session.proofs.Replies.{answers-append}
 use Rattle.lsv_machine.specs.Answers.{Answer, Saying, Saying.CommitPoint, Saying.Error, Saying.LogId, Saying.Shut, body_of, reply_of, say}
-use Rattle.lsv_machine.specs.Counts.{Counts, IsCounted, all_parts, failed_in, failures, faults_among, faults_of, is_among, one_if, same_owner}
-use Rattle.lsv_machine.specs.Failures.{Act, WantsMemory}
-use Rattle.lsv_machine.specs.Legal.{AreSent, AreUndisturbed, Came, Fits, IsLegal, IsServed, all_answers, is_shut, points, told_of, whole_log}
+use Rattle.lsv_machine.specs.Counts.{Counts, IsCounted, all_parts, failed_in, failures, faults_among, is_among, one_if, same_owner}
+use Rattle.lsv_machine.specs.Failures.{Act}
+use Rattle.lsv_machine.specs.Legal.{AreSent, AreUndisturbed, Came, Fits, IsLegal, IsServed, all_answers, is_shut, told_of, whole_log}
 use Rattle.lsv_machine.specs.Machine.{LogState, Machine, Settings}
-use Rattle.lsv_machine.specs.Recovery.{AtTheirMoments, Ran, Story, Turn, all_turns}
-use Rattle.lsv_machine.specs.Starts.{ReadsAs, StartsAs}
+use Rattle.lsv_machine.specs.Recovery.{AtTheirMoments, Story, Turn, all_turns}
+use Rattle.lsv_machine.specs.Starts.{ReadsAs}
 use Rattle.lsv_machine.specs.Turns.{Happened, Happened.Begins, Happened.Did, Happened.Tailed, Run, Tail, all_acted}
 use Rattle.lsv_machine.specs.Work.{next_number}
 use Rattle.lsv_machine.proofs.LegalTurns.{legal_served, none_is_shut}
@@ -44,10 +43,10 @@ use Rattle.lsv_keeper.specs.declared.fault.StoreFault.{StoreFault}
 use Rattle.lsv_keeper.specs.declared.fault.StoreFault.TheVariants as faults
 use Rattle.lsv_serve.specs.Causes.{HasConfCause, HasProgramCause, HasStatusCause}
 use Rattle.lsv_serve.specs.Complete.{AllAmple, AreAmple, Completes, IsServedBy, IsUnhindered, answers_of, came_in, messages_of}
-use Rattle.lsv_lane.specs.Store.{AreTurns, Conforms, IsTurn}
+use Rattle.lsv_lane.specs.Store.{AreTurns, Conforms}
 use Rattle.lsv_serve.specs.Once.{RunsOnce, outside_of, once_settings}
 use Rattle.lsv_turns.specs.Turns as tape
-use Rattle.lsv_serve.specs.Tape.{Leaves, Tape, TapeTurn, TurnsOf, bodies_in, jobs_of, once_conn, replies_in, shuts, turn_of, turns_in, was_shut}
+use Rattle.lsv_serve.specs.Tape.{Leaves, TapeTurn, TurnsOf, bodies_in, once_conn, replies_in, shuts, turn_of, was_shut}
 use Rattle.lsv_serve.specs.World.{World}
 use Rattle.lsv_serve.specs.declared.status.Status.{Status}
 use Rattle.lsv_serve.specs.declared.status.Status.TheVariants.{Served, Usage, Conf, Store, ReadFault, WriteFault, PortFault, NoMem}

@@ -1,6 +1,5 @@
 -- A run of `load`.
 use Rattle.std.proofs.Common.{◌≡◌, ◌⊎◌, ◌≤◌, inl, inr, [], List, ℕ, Option, None, refl, sym, subst, ◌∙◌, append-nil, arith}
-use Rattle.lsv_words.specs.Causes.{HasRisen}
 use Rattle.lsv_conf.specs.Lines.{first_refused}
 use Rattle.lsv_disk.specs.Throughout.{OnlyReads}
 use Rattle.lsv_disk.specs.View.{DiskView, Image, IsCrashImage, IsLeftAlone}
@@ -9,7 +8,6 @@ use Rattle.lsv_machine.specs.Disks.{NumbersFit}
 use Rattle.lsv_machine.specs.Durable.{Reading}
 use Rattle.lsv_machine.specs.Machine.{Settings}
 use Rattle.lsv_keeper.specs.Reading.{reading_of}
-use Rattle.lsv_keeper.specs.declared.fault.StoreFault.{StoreFault}
 use Rattle.lsv_turns.specs.Turns.{LaneTurn, TapeTurn}
 use Rattle.lsv_server.specs.Runs.{IsUp}
 use Rattle.lsv_server.specs.declared.run.End.{End}

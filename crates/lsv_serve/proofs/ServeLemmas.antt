@@ -1,33 +1,30 @@
 -- A run of `serve`: its ports as posts, its links, its end, and a run that did nothing.
-use Rattle.std.proofs.Common.{◌≡◌, ◌<◌, ◌++◌, ◌∷◌, ◌⊎◌, inl, inr, [], List, ℕ, Option, Some, None, map, length, true, refl, sym, ap, subst, ◌∙◌, append-nil, arith}
+use Rattle.std.proofs.Common.{◌≡◌, ◌<◌, ◌++◌, ◌∷◌, ◌⊎◌, inl, inr, [], List, ℕ, Option, Some, None, map, length, true, refl, sym, ap, subst, ◌∙◌, append-nil}
 use Rattle.std.specs.Prelude.{option_map, slice_get}
 use Rattle.std.proofs.Math.ListN.{get_or}
 use Rattle.std.proofs.lemmas.List.{length-map}
 use Rattle.std.proofs.lemmas.Option.{get_or_from_slice_get, slice_get-get_or, slice_get-map, slice_get_within}
-use Rattle.std.specs.List.{Contains}
 use Rattle.lsv_conf.specs.Lines.{Placed, first_refused}
 use Rattle.lsv_disk.specs.View.{DiskView, Image, IsCrashImage, IsLeftAlone}
-use Rattle.lsv_session.specs.declared.job.Job.{Job}
-use Rattle.lsv_machine.specs.Disks.{NumbersFit}
 use Rattle.lsv_machine.specs.Machine.{Settings}
 use Rattle.lsv_machine.proofs.Recovering.{only_opened}
 use Rattle.lsv_keeper.specs.Reading.{reading_of}
 use Rattle.lsv_turns.specs.Turns.{LaneTurn, TapeTurn, jobs_in, replies_in}
 use Rattle.lsv_lane.specs.Store.{KeepsStore}
-use Rattle.lsv_reactor.specs.Links.{PortFailed, PortView, ServesPort, ServesPorts}
+use Rattle.lsv_reactor.specs.Links.{PortView, ServesPort, ServesPorts}
 use Rattle.lsv_reactor.specs.Served.{HasPortsEnd, ServesAll}
 use Rattle.lsv_reactor.specs.declared.rounds.PortsEnd.{PortsEnd}
 use Rattle.lsv_reactor.specs.declared.rounds.PortsEnd.TheVariants.{Stopped, Failed}
-use Rattle.lsv_server.specs.Runs.{HasEndCause, HasStoreCause, IsUp, RunsStore}
+use Rattle.lsv_server.specs.Runs.{HasEndCause, IsUp, RunsStore}
 use Rattle.lsv_server.specs.declared.run.End.{End}
 use Rattle.lsv_server.specs.declared.run.End.TheVariants as ends
 use Rattle.lsv_serve.specs.declared.status.Status.{Status}
-use Rattle.lsv_serve.specs.declared.status.Status.TheVariants.{Conf, NoMem}
-use Rattle.lsv_serve.specs.Causes.{HasConfCause, HasPlaces, HasPlacesAt}
+use Rattle.lsv_serve.specs.declared.status.Status.TheVariants.{NoMem}
+use Rattle.lsv_serve.specs.Causes.{HasPlaces, HasPlacesAt}
 use Rattle.lsv_serve.specs.InnerServe.{RunsAs, nothing, port_at, told}
 use Rattle.lsv_serve.specs.Program.{lines_in, machine_of, prompts_of, set_by}
 use Rattle.lsv_server.proofs.CompleteLemmas.{completes}
-use Rattle.lsv_serve.specs.Serve.{ArePortsEnded, CompletesLinks, HasServeCause, RunsServe, RunsTo, ServerWorld, ServesAs, ServesLinks}
+use Rattle.lsv_serve.specs.Serve.{ArePortsEnded, CompletesLinks, HasServeCause, RunsServe, RunsTo, ServerWorld, ServesAs}
 use Rattle.lsv_serve.proofs.ProgramLemmas.{Unread}
 use Rattle.lsv_serve.proofs.StartLemmas.{fit_kept, opens_nothing, store_before, store_cause_before}
 

@@ -2,15 +2,13 @@
 
 ghost use Rattle.std.specs.Prelude.{◌≡◌, ◌≢◌, ◌⊎◌, ℕ, ◌+◌, ◌<◌, ◌≤◌, List, [], ◌∷◌, ◌++◌, length, IsTrue, true, false};
 ghost use Rattle.std.specs.List.{All};
-ghost use Rattle.lsv_words.specs.Causes.{HasRisen};
-ghost use Rattle.lsv_port.specs.Ledger.{Continues, HasLinkCause};
+ghost use Rattle.lsv_port.specs.Ledger.{Continues};
 ghost use Rattle.lsv_port.specs.Port.{Changes, IsOpen, LinkState, PortState, closed};
-ghost use Rattle.lsv_session.specs.declared.job.Body.{Body};
 ghost use Rattle.lsv_session.specs.declared.job.Job.{Job};
 ghost use Rattle.lsv_session.specs.declared.reply.Reply.{Reply};
 ghost use Rattle.lsv_session.specs.declared.reply.ReplyBody.TheVariants as said;
 ghost use Rattle.lsv_worker.specs.Incoming.{WasFull, has_left};
-ghost use Rattle.lsv_worker.specs.Links.{Closes, Fails, HasBlame, IsPassed, IsSent, IsSpared, LetsEnd, LinkStands, LinkStep, OwesNoMore, PauseIsFor, ReadsNone, ReadsOn, ReasonOf, Remains, SameSides, Takes, WasRead, WasReadAtMost, WritesNone, is_done, is_starved, reads_in};
+ghost use Rattle.lsv_worker.specs.Links.{Closes, Fails, HasBlame, IsPassed, IsSent, IsSpared, LetsEnd, LinkStep, OwesNoMore, PauseIsFor, ReadsNone, ReadsOn, ReasonOf, Remains, SameSides, Takes, WasRead, WasReadAtMost, WritesNone, is_done, is_starved, reads_in};
 
 use crate::outgoing::{Outgoing, Voice};
 use crate::{Inbox, Incoming, Stage, Why};

@@ -1,7 +1,7 @@
 //! From the replies to a connection to the bytes on its link.
 
 ghost use Rattle.std.specs.Prelude.{◌≡◌, ◌≢◌, ◌⊎◌, ℕ, ◌≤◌, ◌++◌, List, [], length, drop, true, false};
-ghost use Rattle.lsv_port.specs.Ledger.{Continues, HasLinkCause};
+ghost use Rattle.lsv_port.specs.Ledger.{HasLinkCause};
 ghost use Rattle.lsv_port.specs.Port.{IsOpen};
 ghost use Rattle.lsv_msg.specs.Messages.{server_bytes};
 ghost use Rattle.lsv_wire.specs.Frame.{frame_of};

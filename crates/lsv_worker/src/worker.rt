@@ -1,6 +1,6 @@
 //! A worker over its port.
 
-ghost use Rattle.std.specs.Prelude.{◌+◌, ◌-◌, ◌^◌, ◌≡◌, ◌≢◌, ◌⊎◌, ℕ, ◌<◌, ◌≤◌, ◌==◌, ◌++◌, ◌∷◌, List, [], length, IsTrue, IfOk, Some, None, true, false, slice_index_or, vec_capacity, vec_len};
+ghost use Rattle.std.specs.Prelude.{◌+◌, ◌-◌, ◌^◌, ◌≡◌, ◌≢◌, ◌⊎◌, ℕ, ◌<◌, ◌≤◌, ◌==◌, ◌++◌, ◌∷◌, List, [], length, IfOk, Some, None, true, false, slice_index_or, vec_capacity, vec_len};
 ghost use Rattle.std.specs.List.{Contains};
 ghost use Rattle.lsv_port.specs.Ledger.{Continues};
 ghost use Rattle.lsv_port.specs.Port.{IsOpen, Opens, PortState, Told};

@@ -1,6 +1,4 @@
-use Rattle.std.proofs.Common.{rules, subst, sym}
-use Rattle.lsv_keeper.specs.Value.{IsResting}
-use Rattle.lsv_keeper.specs.Views.{view_of}
+use Rattle.std.proofs.Common.{rules}
 use Rattle.lsv_conversations.proofs.converse.Goals as goal
 use Rattle.lsv_conversations.proofs.converse.Goals.{in-turn+in_ok-turn-in-turn, in-stop+in_ok-stop-in-stop, in_default+in_ok-push-in_default}
 

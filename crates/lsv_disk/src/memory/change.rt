@@ -1,4 +1,4 @@
-ghost use Rattle.std.specs.Prelude.{◌≡◌, ℕ, ◌+◌, ◌≤◌, ◌<◌, ◌^◌, [], ◌∷◌, ◌++◌, Option, None, length, OnOk, OnErr};
+ghost use Rattle.std.specs.Prelude.{◌≡◌, ℕ, ◌+◌, ◌≤◌, ◌<◌, ◌^◌, [], ◌∷◌, ◌++◌, None, length, OnOk, OnErr};
 ghost use Rattle.lsv_disk.specs.declared.memory.call.Effect.TheVariants.{Made, Written};
 ghost use Rattle.lsv_disk.specs.Bytes.{overwritten, Reaches};
 ghost use Rattle.lsv_disk.specs.Memory.Calls.{reads_of, AreLegal, Noted, NotedWrite};

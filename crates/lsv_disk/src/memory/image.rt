@@ -1,4 +1,4 @@
-ghost use Rattle.std.specs.Prelude.{◌≡◌, ◌⊎◌, ◌&&◌, ◌+◌, ◌-◌, ◌≤◌, ◌<◌, ℕ, true, false, List, [], ◌∷◌, ◌++◌, Option, Some, None, length, replicate, slice_index_or, option_map, nat_lt, if◌then◌else◌, IfOk, OnOk, OnErr};
+ghost use Rattle.std.specs.Prelude.{◌≡◌, ◌⊎◌, ◌&&◌, ◌+◌, ◌-◌, ◌≤◌, ◌<◌, ℕ, [], ◌∷◌, ◌++◌, Option, Some, None, replicate, option_map, nat_lt, if◌then◌else◌, IfOk, OnOk};
 ghost use Rattle.lsv_disk.specs.declared.memory.call.Call.{Call};
 ghost use Rattle.lsv_disk.specs.Bytes.{written};
 ghost use Rattle.lsv_disk.specs.Files.{same_file};

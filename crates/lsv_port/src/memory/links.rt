@@ -3,9 +3,9 @@ ghost use Rattle.lsv_port.specs.declared.step.Step.TheVariants as steps;
 ghost use Rattle.lsv_port.specs.declared.memory.link.MemLink.{MemLink};
 ghost use Rattle.lsv_port.specs.Port.{TakesWithin, GivesWithin};
 ghost use Rattle.lsv_port.specs.Memory.Numbers.{has};
-ghost use Rattle.lsv_port.specs.Memory.Script.{unsent, may_open};
+ghost use Rattle.lsv_port.specs.Memory.Script.{unsent};
 ghost use Rattle.lsv_port.specs.Memory.Link.{with_bytes, with_last, with_room, breaking, shut, IsRead, IsWritten, AnswersRead, AnswersWrite};
-ghost use Rattle.lsv_port.specs.Memory.Links.{links_of, AreSentBy, AreSound, UsesOne, AreOpened, AreOpen, AreSame, ChangesOne, OpensOne, Takes, told_if, is_hearing, is_open_in, changed_at};
+ghost use Rattle.lsv_port.specs.Memory.Links.{links_of, AreSentBy, AreSound, UsesOne, AreOpen, AreSame, ChangesOne, OpensOne, Takes, told_if, is_hearing, is_open_in, changed_at};
 
 use crate::memory::link::MemLink;
 use crate::{Gave, Ready, Step, Took};

@@ -1,4 +1,4 @@
-use Rattle.std.proofs.Common.{◌≡◌, ◌∙◌, Some, ap, sym, subst, arith, rules}
+use Rattle.std.proofs.Common.{◌≡◌, ◌∙◌, Some, ap, sym, subst, rules}
 use Rattle.lsv_conf.specs.Inner.{AreTexts, shown}
 use Rattle.lsv_conf.proofs.Cuts.{left_less}
 use Rattle.lsv_conf.proofs.Utf8.{settings_are_text}

@@ -1,7 +1,7 @@
-use Rattle.std.proofs.Common.{◌≡◌, ◌∙◌, ◌++◌, ◌∷◌, [], ap, sym, option_map}
-use Rattle.lsv_conf.specs.Lines.{Line, Placed}
+use Rattle.std.proofs.Common.{◌≡◌, ◌∙◌, ◌++◌, ◌∷◌, [], ap, option_map}
+use Rattle.lsv_conf.specs.Lines.{Line}
 use Rattle.lsv_conf.specs.Settings.{settings_of}
-use Rattle.lsv_conf.proofs.Pushes.{pushed_empty, pushed_section, pushed_known, pushed_unknown}
+use Rattle.lsv_conf.proofs.Pushes.{pushed_empty, pushed_section}
 use Rattle.lsv_conf.proofs.read.take_line.Goals as goal
 
 pub returns-in-Empty-clause-settings : goal.returns-in-Empty-clause-settings

@@ -1,7 +1,6 @@
 use Rattle.std.proofs.Common.{◌≡◌, ◌∙◌, ◌++◌, ◌∷◌, [], ap, sym}
 use Rattle.lsv_conf.specs.Inner.{with_value}
 use Rattle.lsv_conf.specs.Settings.{Settings, settings_of, notes_of}
-use Rattle.lsv_conf.specs.declared.conf.Note.{Note}
 use Rattle.lsv_conf.proofs.Pushes.{pushed_known, pushed_unknown}
 use Rattle.lsv_conf.proofs.read.take_setting.Goals as goal
 

@@ -1,4 +1,4 @@
-use Rattle.std.proofs.Common.{◌≡◌, ◌∙◌, ℕ, ◌==◌, ◌<◌, ◌+◌, ◌-◌, true, false, Some, None, List, take, drop, length, get_or, ap, sym, arith}
+use Rattle.std.proofs.Common.{◌≡◌, ◌∙◌, ℕ, ◌==◌, ◌<◌, ◌+◌, ◌-◌, Some, None, List, ap, sym, arith}
 use Rattle.lsv_conf.proofs.Cuts.{cut_at, cut_none, not_true, rest_of}
 use Rattle.lsv_conf.specs.Texts.{before, behind}
 use Rattle.lsv_conf.proofs.text.cut.Goals as goal

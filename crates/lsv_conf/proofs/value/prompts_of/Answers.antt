@@ -1,4 +1,4 @@
-use Rattle.std.proofs.Common.{◌≡◌, ◌∙◌, ◌++◌, ◌∷◌, ℕ, List, [], ap, sym, rules}
+use Rattle.std.proofs.Common.{◌≡◌, ◌∙◌, ◌++◌, ◌∷◌, ℕ, [], ap}
 use Rattle.lsv_conf.specs.Texts.{before, trimmed}
 use Rattle.lsv_conf.specs.Values.{prompts_of}
 use Rattle.lsv_conf.proofs.Cuts.{left_cut, left_less, made_more}

@@ -1,5 +1,5 @@
 -- A log is opened, or nothing is put; then its records are played.
-use Rattle.std.proofs.Common.{◌≡◌, ◌∙◌, List, [], append-nil, arith, sym}
+use Rattle.std.proofs.Common.{◌≡◌, ◌∙◌, [], append-nil, arith, sym}
 use Rattle.lsv_disk.specs.View.{DiskView}
 use Rattle.lsv_disk.proofs.Composition.{reads_trans}
 use Rattle.lsv_iolog.specs.declared.fault.LogFault.TheVariants as logs

@@ -1,12 +1,10 @@
 -- Each record that the log gives is put; its end, or a fault, ends the playing.
-use Rattle.std.proofs.Common.{◌≡◌, ◌∙◌, ◌++◌, ℕ, List, [], ◌∷◌, Option, Some, None, Result, Ok, Err, IsErrAnd, IfNone, ap, refl, subst, sym}
-use Rattle.lsv_disk.specs.View.{DiskView}
+use Rattle.std.proofs.Common.{◌≡◌, ◌∙◌, ◌++◌, ℕ, List, [], ◌∷◌, Option, Some, Result, Err, refl}
 use Rattle.lsv_disk.proofs.Composition.{reads_trans}
 use Rattle.lsv_iolog.specs.declared.fault.LogFault.TheVariants as logs
 use Rattle.lsv_iolog.specs.Reading.{IsBehind, IsWhole}
 use Rattle.lsv_iolog.proofs.Scans.{if_none_at, if_some_at, none_there}
 use Rattle.lsv_iolog.proofs.Viewing.{err_of}
-use Rattle.lsv_play.specs.declared.screen.Item.{Item}
 use Rattle.lsv_record.specs.declared.records.Record.{Record}
 use Rattle.lsv_playback.specs.Faults.{of_log}
 use Rattle.lsv_playback.specs.declared.fault.PlayFault.{PlayFault}

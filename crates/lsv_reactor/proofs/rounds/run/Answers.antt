@@ -1,4 +1,4 @@
-use Rattle.std.proofs.Common.{ℕ, subst, ◌++◌}
+use Rattle.std.proofs.Common.{ℕ, ◌++◌}
 use Rattle.lsv_turns.specs.Turns.{jobs_in, replies_in}
 use Rattle.lsv_reactor.proofs.Progress.{served_all}
 use Rattle.lsv_reactor.proofs.rounds.run.Goals as goal

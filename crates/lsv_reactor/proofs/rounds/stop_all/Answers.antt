@@ -1,4 +1,4 @@
-use Rattle.std.proofs.Common.{◌≡◌, ◌≤◌, ℕ, Some, slice_get, arith}
+use Rattle.std.proofs.Common.{◌≡◌, ◌≤◌, ℕ, slice_get, arith}
 use Rattle.std.proofs.lemmas.Option.{slice_get-get_or}
 use Rattle.lsv_reactor.specs.Turns.{jobs_of, replies_to}
 use Rattle.lsv_reactor.proofs.Places.{set_there}

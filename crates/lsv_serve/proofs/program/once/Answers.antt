@@ -1,8 +1,6 @@
 use Rattle.std.proofs.Common.{◌≡◌, ◌∙◌, refl, ap, subst, List, ℕ, Option}
 use Rattle.lsv_conf.specs.Settings as conf
-use Rattle.lsv_event.specs.declared.event.Kind.{Kind}
 use Rattle.lsv_serve.specs.Causes.{HasPlaces}
-use Rattle.lsv_serve.specs.Once.{RunsOnce, once_settings}
 use Rattle.lsv_serve.specs.Program.{lines_in, prompts_of, set_by}
 use Rattle.lsv_serve.specs.World.{World, world_of}
 use Rattle.lsv_serve.proofs.CompleteLemmas.{completes}

@@ -1,4 +1,4 @@
-use Rattle.std.proofs.Common.{◌≡◌, [], ◌∙◌, List, ℕ, Some, ap, sym, subst, arith, slice_get}
+use Rattle.std.proofs.Common.{◌≡◌, [], ◌∙◌, ℕ, arith, slice_get}
 use Rattle.std.proofs.lemmas.Option.{slice_get-get_or}
 use Rattle.lsv_server.proofs.run.open_all.Goals as goal
 

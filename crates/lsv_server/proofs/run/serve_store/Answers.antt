@@ -1,6 +1,6 @@
 use Rattle.std.proofs.Common.{[], ap}
 use Rattle.lsv_lane.specs.Store.{lane_settings}
-use Rattle.lsv_server.proofs.RunLemmas.{not_over, opened_cause, runs_unopened, unopened_cause}
+use Rattle.lsv_server.proofs.RunLemmas.{not_over, runs_unopened, unopened_cause}
 use Rattle.lsv_server.proofs.run.serve_store.Goals as goal
 
 pub returns-in-Err-clause-runs : goal.returns-in-Err-clause-runs

@@ -1,9 +1,7 @@
 -- The second bundle may still be made once the first is, and then both are represented.
-use Rattle.std.proofs.Common.{◌≡◌, ◌≢◌, false, sym, ◌∙◌, ap}
-use Rattle.lsv_disk.specs.declared.file.FileId.{FileId}
+use Rattle.std.proofs.Common.{◌≡◌, ◌≢◌, sym, ◌∙◌, ap}
 use Rattle.lsv_disk.specs.declared.file.Owner.{Owner}
 use Rattle.lsv_disk.specs.declared.file.Owner.TheVariants.{Events, Relay}
-use Rattle.lsv_journal.specs.Last.{IsOwn}
 use Rattle.lsv_journal.proofs.Laws.{own_owner, may_be_made_stays}
 use Rattle.lsv_bundle.specs.declared.shape.Shape.TheVariants as shape
 use Rattle.lsv_bundle.specs.Shape.{journal_of, IsWritable}

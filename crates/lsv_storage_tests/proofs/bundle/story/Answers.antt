@@ -1,5 +1,4 @@
 use Rattle.lsv_disk.specs.Memory.Value.{view_of_disk}
-use Rattle.lsv_disk.specs.declared.file.Owner.{Owner}
 use Rattle.lsv_bundle.specs.Shape.{journal_of}
 use Rattle.lsv_journal.specs.Last.{old_file}
 use Rattle.lsv_journal.proofs.Laws.{may_be_made_by}
