@@ -200,7 +200,7 @@ def measure_making(messages):
             shutil.rmtree(folder)
     together, alone, count = min(r[0] for r in runs), min(r[1] for r in runs), runs[0][2]
     print(f"making the nine files of a log and its first entry on disk: {together / count / 1e3:.0f} us, "
-          f"{together / alone:.2f} of the time of a sync of each thing, 26 of them (at most 0.33)")
+          f"{together / alone:.2f} of the time that the first version's calls take, with 35 syncs (at most 0.33)")
 
 
 def measure_appending(messages):

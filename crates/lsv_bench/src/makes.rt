@@ -4,6 +4,7 @@ use lsv_disk::{Disk, Owner, Part};
 use lsv_real::FileDisk;
 use std::alloc::Global;
 use std::fs::File;
+use std::io::ErrorKind;
 use std::os::unix::fs::FileExt;
 use std::time::Instant;
 use std::{fs, io};
@@ -23,32 +24,65 @@ fn sync_folder(rt: &HostRuntime, path: &str) -> io::Result<()> {
     File::open(rt, path)?.sync_all()
 }
 
-/// Makes an empty file, and waits until it and its folder are on the disk.
-fn make_alone(rt: &HostRuntime, folder: &str, name: &str) -> io::Result<File> {
+/// The files of the first version that are open: at most so many, and each that is closed for another is synced before.
+const MOST_KEPT: usize = 64;
+
+/// Makes an empty file, which isn't there, and waits until it and its folder are on the disk.
+fn make_alone(
+    rt: &HostRuntime,
+    kept: &mut Vec<File>,
+    folder: &str,
+    name: &str,
+) -> io::Result<()> {
     let path = format!(in rt.alloc(); "{folder}/{name}")?;
+    if File::open(rt, path.as_str()).is_ok() {
+        return Err(ErrorKind::AlreadyExists.into());
+    }
     let file = File::create_new(rt, path.as_str())?;
     file.sync_all()?;
     sync_folder(rt, folder)?;
-    Ok(file)
+    if kept.len() >= MOST_KEPT {
+        kept.remove(0).sync_data()?;
+    }
+    Ok(kept.push(file)?)
 }
 
-/// Writes at an offset, and waits until that is on the disk.
-fn write_alone(file: &File, at: u64, bytes: &[u8]) -> io::Result<()> {
-    file.write_all_at(bytes, at)?;
-    file.sync_data()
+/// Writes at an offset of a file that is kept, counted from the one that was made last, and waits until that is on the
+/// disk.
+fn write_alone(kept: &[File], from_last: usize, at: u64, bytes: &[u8]) -> io::Result<()> {
+    match kept.iter().rev().nth(from_last) {
+        Some(file) => {
+            file.write_all_at(bytes, at)?;
+            file.sync_data()
+        }
+        None => Err(ErrorKind::NotFound.into()),
+    }
+}
+
+/// Makes a folder where it isn't there, and waits until its name is on the disk.
+fn make_folder(rt: &HostRuntime, above: &str, folder: &str) -> io::Result<()> {
+    match fs::create_dir(rt, folder) {
+        Err(e) if e.kind() != ErrorKind::AlreadyExists => Err(e),
+        _ => sync_folder(rt, above),
+    }
 }
 
 /// Makes the nine files in a folder of their own with a sync of each thing, one after the other, as this store's first
-/// version did: four folders above, each file and the folder after it, and four writes. That is 26 syncs.
-fn make_one_by_one(rt: &HostRuntime, number: u32) -> io::Result<()> {
+/// version did: four folders above, each file and the folder after it, and four writes. That is 26 syncs, and 9 more
+/// once it had made more files than it kept open.
+fn make_one_by_one(rt: &HostRuntime, kept: &mut Vec<File>, number: u32) -> io::Result<()> {
     let folder = format!(in rt.alloc(); "alone/a/b/{number}")?;
     let folder = folder.as_str();
-    fs::create_dir(rt, folder)?;
-    for above in [".", "alone", "alone/a", "alone/a/b"] {
-        sync_folder(rt, above)?;
+    for (above, name) in [
+        (".", "alone"),
+        ("alone", "alone/a"),
+        ("alone/a", "alone/a/b"),
+        ("alone/a/b", folder),
+    ] {
+        make_folder(rt, above, name)?;
     }
-    let head = make_alone(rt, folder, "log.json")?;
     for name in [
+        "log.json",
         "exit.json",
         "timing",
         "stdin",
@@ -56,14 +90,14 @@ fn make_one_by_one(rt: &HostRuntime, number: u32) -> io::Result<()> {
         "stderr",
         "ttyin",
         "ttyout",
+        "slots",
     ] {
-        make_alone(rt, folder, name)?;
+        make_alone(rt, kept, folder, name)?;
     }
-    let slots = make_alone(rt, folder, "slots")?;
-    write_alone(&slots, 0, &[0])?;
-    write_alone(&head, 0, HEAD)?;
-    write_alone(&slots, 1, &[0; 90])?;
-    write_alone(&slots, 0, &[1])
+    write_alone(kept, 0, 0, &[0])?;
+    write_alone(kept, 8, 0, HEAD)?;
+    write_alone(kept, 0, 1, &[0; 90])?;
+    write_alone(kept, 0, 0, &[1])
 }
 
 /// Makes so many logs each way, in turn, in folders of their own in this one. Says on standard error how many
@@ -71,14 +105,14 @@ fn make_one_by_one(rt: &HostRuntime, number: u32) -> io::Result<()> {
 pub fn makes(rt: HostRuntime, count: u32) -> Option<u64> {
     let mut disk = FileDisk::new(rt, "lsv_bench");
     disk.root("store", "store/events");
-    fs::create_dir_all(&rt, "alone/a/b").ok()?;
+    let mut kept = Vec::new(rt.alloc());
     let (mut together, mut alone) = (0, 0);
     for i in 0..count {
         let start = Instant::now(&rt).ok()?;
         make_together(rt.alloc(), &mut disk, 1 + i % 1_000_000).ok()?;
         together = start.elapsed(&rt).ok()?.as_nanos().saturating_add(together);
         let start = Instant::now(&rt).ok()?;
-        make_one_by_one(&rt, i).ok()?;
+        make_one_by_one(&rt, &mut kept, i).ok()?;
         alone = start.elapsed(&rt).ok()?.as_nanos().saturating_add(alone);
     }
     let _ = eprintln!(rt; "{together} {alone}");

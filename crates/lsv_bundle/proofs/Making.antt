@@ -5,7 +5,7 @@ use Rattle.lsv_disk.specs.declared.file.FileId.{FileId}
 use Rattle.lsv_disk.specs.declared.file.Owner.{Owner}
 use Rattle.lsv_disk.specs.declared.file.Part.{Part}
 use Rattle.lsv_disk.specs.declared.file.Part.TheVariants.{Head, Exit, Timing, Stdin, Stdout, Stderr, Ttyin, Ttyout, Lines, Id, Commit, Slots}
-use Rattle.lsv_disk.specs.Files.{file_of, IsOneOf}
+use Rattle.lsv_disk.specs.Files.{file_of, IsOneOf, IsNew}
 use Rattle.lsv_disk.specs.View.{Image, DiskView, IsCrashImage}
 use Rattle.lsv_disk.specs.Throughout.{Throughout, RoseAtMost, CallsAtMost, WritesOneOf}
 use Rattle.lsv_disk.proofs.Composition.{followed, widened, rose_nothing, rose_trans, stayed_rose, uncounted_at_most}
@@ -72,7 +72,7 @@ file_is f owner part e = ap (λ (g : FileId). g.part) e
 
 -- the files are made together
 module _ (owner : Owner) (s : Shape) (old mid : DiskView) (reads : IsCrashImage old old.reads) (may : MayBeMade 89 (journal_of owner) old)
-    (run : Throughout (IsOneOf owner (all_parts_of s)) (λ image. (f : FileId) → IsOneOf owner (all_parts_of s) f → old.crash_states f (image f) ⊎ (image f ≡ Some [])) old mid) where
+    (run : Throughout (IsOneOf owner (all_parts_of s)) (λ image. (f : FileId) → IsOneOf owner (all_parts_of s) f → old.crash_states f (image f) ⊎ IsNew f (image f)) old mid) where
   -- of the journal's parts the file of slots of this owner alone is made
   not_made : (f : FileId) → (f.part ≡ Commit) ⊎ (f.part ≡ Slots) → f ≢ journal_of owner → IsOneOf owner (all_parts_of s) f → ⊥
   not_made f is other one = elim (made_is_writable owner s f one) [
@@ -102,8 +102,8 @@ module _ (owner : Owner) (s : Shape) (old mid : DiskView) (reads : IsCrashImage 
       | inr other ↦ beside f (not_made f is other)
     ]
 
-    -- so the journal is as a crash could leave it before, or it was made empty
-    journal_as : old.crash_states (journal_of owner) (image (journal_of owner)) ⊎ (image (journal_of owner) ≡ Some []) → IsSomeCrashOf 89 (journal_of owner) old image ⊎ JournalHolds 89 (journal_of owner) None image
+    -- so the journal is as a crash could leave it before, or it is new
+    journal_as : old.crash_states (journal_of owner) (image (journal_of owner)) ⊎ IsNew (journal_of owner) (image (journal_of owner)) → IsSomeCrashOf 89 (journal_of owner) old image ⊎ JournalHolds 89 (journal_of owner) None image
     journal_as (inl left) = inl (
       was image,
       λ f. pick_holds (old.crash_states f) f.part (image f) (old.reads f) (left_of left f) (reads f),
@@ -111,12 +111,17 @@ module _ (owner : Owner) (s : Shape) (old mid : DiskView) (reads : IsCrashImage 
     )
     journal_as (inr made) = inr (made_holds_none 89 (journal_of owner) old image refl may made (λ f own other. beside f (own_not_made f own other)))
 
-  pub files_run : Throughout (IsWritable owner s) (IsBeingMade owner s old) old mid
-  files_run = widened (IsOneOf owner (all_parts_of s)) (IsWritable owner s) (λ image. (f : FileId) → IsOneOf owner (all_parts_of s) f → old.crash_states f (image f) ⊎ (image f ≡ Some [])) (IsBeingMade owner s old) old mid
-      (made_is_writable owner s)
-      (λ image has beside. record { files = λ part is. has (file_of owner part) (part_made owner s part is); journal = journal_as image beside (has (journal_of owner) (journal_is_made owner s)) }) run
+  -- and a data file is as a crash could leave it before, or empty
+  data_as : (part : Part) → IsPart s part → (content : Option (List ℕ)) → old.crash_states (file_of owner part) content ⊎ IsNew (file_of owner part) content → old.crash_states (file_of owner part) content ⊎ (content ≡ Some [])
+  data_as part is content (inl was) = inl was
+  data_as part is content (inr made) = elim made [ inl empty ↦ inr empty | inr gate ↦ absurd (no_slots s part is gate.0) ]
 
-  pub files_may : ((f : FileId) → IsOneOf owner (all_parts_of s) f → (mid.reads f ≡ old.reads f) ⊎ (mid.reads f ≡ Some [])) → MayBeMade 89 (journal_of owner) mid
+  pub files_run : Throughout (IsWritable owner s) (IsBeingMade owner s old) old mid
+  files_run = widened (IsOneOf owner (all_parts_of s)) (IsWritable owner s) (λ image. (f : FileId) → IsOneOf owner (all_parts_of s) f → old.crash_states f (image f) ⊎ IsNew f (image f)) (IsBeingMade owner s old) old mid
+      (made_is_writable owner s)
+      (λ image has beside. record { files = λ part is. data_as part is (image (file_of owner part)) (has (file_of owner part) (part_made owner s part is)); journal = journal_as image beside (has (journal_of owner) (journal_is_made owner s)) }) run
+
+  pub files_may : ((f : FileId) → IsOneOf owner (all_parts_of s) f → (mid.reads f ≡ old.reads f) ⊎ IsNew f (mid.reads f)) → MayBeMade 89 (journal_of owner) mid
   files_may made = made_may_be_made 89 (journal_of owner) (IsOneOf owner (all_parts_of s)) old mid refl may (made (journal_of owner) (journal_is_made owner s)) run.elsewhere own_not_made
 
   -- and then the journal

@@ -6,7 +6,7 @@ use Rattle.lsv_disk.specs.declared.file.FileId.{FileId}
 use Rattle.lsv_disk.specs.declared.file.Owner.{Owner}
 use Rattle.lsv_disk.specs.declared.file.Part.{Part}
 use Rattle.lsv_disk.specs.Bytes.{size_of}
-use Rattle.lsv_disk.specs.Files.{file_of, IsOneOf, AreDistinct}
+use Rattle.lsv_disk.specs.Files.{file_of, IsOneOf, AreDistinct, IsNew}
 use Rattle.lsv_disk.specs.View.{Image, DiskView, IsSynced, OneRead, OneSync}
 use Rattle.lsv_disk.specs.Throughout.{Throughout, Unchanged, CallsAtMost}
 use Rattle.lsv_disk.proofs.Composition.{OnlyNow, one_read, one_sync, unchanged_trans, unchanged_reads, followed, widened, unchanged_throughout, rose_nothing, stayed_rose}
@@ -116,33 +116,38 @@ map_parts P Q (part ∷ parts) follows each = (follows part each.0, map_parts P 
 -- those that are there were synced, and the others are made
 module _ (owner : Owner) (parts absent : List Part) (old mid new : DiskView) (some : AreSomeOf owner absent parts)
     (present : EachPart (λ part. IsOneOf owner absent (file_of owner part) ⊎ IsDurable mid (file_of owner part) 0) parts) (none : (f : FileId) → IsOneOf owner absent f → mid.reads f ≡ None) (unchanged : Unchanged old mid)
-    (run : Throughout (IsOneOf owner absent) (λ image. (f : FileId) → IsOneOf owner absent f → mid.crash_states f (image f) ⊎ (image f ≡ Some [])) mid new) where
+    (run : Throughout (IsOneOf owner absent) (λ image. (f : FileId) → IsOneOf owner absent f → mid.crash_states f (image f) ⊎ IsNew f (image f)) mid new) where
   not_absent : (f : FileId) → IsDurable mid f 0 → IsOneOf owner absent f → ⊥
   not_absent f is one = let no : None ≡ Some is.content = sym (none f one) ∙ is.there in cc
 
-  pub made_there : ((f : FileId) → IsOneOf owner absent f → new.reads f ≡ Some []) → ((f : FileId) → IsOneOf owner absent f → IsSynced new f) → EachPart (λ part. IsDurable new (file_of owner part) 0) parts
+  -- a new file is there
+  there_new : (f : FileId) → IsNew f (new.reads f) → IsSynced new f → IsDurable new f 0
+  there_new f (inl empty) synced = record { content = []; there = empty; enough = omega arith; synced = synced }
+  there_new f (inr begun) synced = record { content = begun.1 ∷ []; there = begun.2; enough = omega arith; synced = synced }
+
+  pub made_there : ((f : FileId) → IsOneOf owner absent f → IsNew f (new.reads f)) → ((f : FileId) → IsOneOf owner absent f → IsSynced new f) → EachPart (λ part. IsDurable new (file_of owner part) 0) parts
   made_there made synced = map_parts (λ part. IsOneOf owner absent (file_of owner part) ⊎ IsDurable mid (file_of owner part) 0) (λ part. IsDurable new (file_of owner part) 0) parts
       (λ part found. elim found [
-        | inl one ↦ record { content = []; there = made (file_of owner part) one; enough = omega arith; synced = synced (file_of owner part) one }
+        | inl one ↦ there_new (file_of owner part) (made (file_of owner part) one) (synced (file_of owner part) one)
         | inr is ↦ durable_stays (IsOneOf owner absent) mid new (file_of owner part) 0 run.elsewhere (not_absent (file_of owner part) is) is
       ])
       present
 
-  abbrev AsOrEmpty : Image → Type 0
-  AsOrEmpty image = (f : FileId) → IsOneOf owner parts f → old.crash_states f (image f) ⊎ (image f ≡ Some [])
+  abbrev AsOrNew : Image → Type 0
+  AsOrNew image = (f : FileId) → IsOneOf owner parts f → old.crash_states f (image f) ⊎ IsNew f (image f)
 
-  pub made_run : Throughout (IsOneOf owner parts) AsOrEmpty old new
-  made_run = followed (IsOneOf owner parts) AsOrEmpty old mid new
-      (unchanged_throughout (IsOneOf owner parts) AsOrEmpty old mid (λ image is f one. inl (is f)) unchanged)
-      (widened (IsOneOf owner absent) (IsOneOf owner parts) (λ image. (f : FileId) → IsOneOf owner absent f → mid.crash_states f (image f) ⊎ (image f ≡ Some [])) AsOrEmpty mid new some.one_of
+  pub made_run : Throughout (IsOneOf owner parts) AsOrNew old new
+  made_run = followed (IsOneOf owner parts) AsOrNew old mid new
+      (unchanged_throughout (IsOneOf owner parts) AsOrNew old mid (λ image is f one. inl (is f)) unchanged)
+      (widened (IsOneOf owner absent) (IsOneOf owner parts) (λ image. (f : FileId) → IsOneOf owner absent f → mid.crash_states f (image f) ⊎ IsNew f (image f)) AsOrNew mid new some.one_of
       (λ image has beside f one. elim (each_file owner (λ g. IsOneOf owner absent g ⊎ IsDurable mid g 0) parts present f one) [
-        | inl made ↦ elim (has f made) [ inl was ↦ inl (unchanged.elsewhere.crash f (λ no. no) (image f) was) | inr empty ↦ inr empty ]
+        | inl made ↦ elim (has f made) [ inl was ↦ inl (unchanged.elsewhere.crash f (λ no. no) (image f) was) | inr is_new ↦ inr is_new ]
         | inr is ↦ inl (unchanged.elsewhere.crash f (λ no. no) (image f) (beside f (not_absent f is)))
       ])
       run)
 
-  pub made_reads : ((f : FileId) → IsOneOf owner absent f → (new.reads f ≡ None) ⊎ (new.reads f ≡ Some [])) → (f : FileId) → IsOneOf owner parts f → (new.reads f ≡ old.reads f) ⊎ (new.reads f ≡ Some [])
+  pub made_reads : ((f : FileId) → IsOneOf owner absent f → (new.reads f ≡ None) ⊎ IsNew f (new.reads f)) → (f : FileId) → IsOneOf owner parts f → (new.reads f ≡ old.reads f) ⊎ IsNew f (new.reads f)
   made_reads or_not f one = elim (one_of_either owner absent f) [
-    | inl made ↦ elim (or_not f made) [ inl gone ↦ inl (gone ∙ sym (none f made) ∙ unchanged_reads old mid unchanged f) | inr empty ↦ inr empty ]
+    | inl made ↦ elim (or_not f made) [ inl gone ↦ inl (gone ∙ sym (none f made) ∙ unchanged_reads old mid unchanged f) | inr is_new ↦ inr is_new ]
     | inr other ↦ inl (run.elsewhere.same f other ∙ unchanged_reads old mid unchanged f)
   ]

@@ -1,7 +1,7 @@
-ghost use Rattle.std.specs.Prelude.{◌≡◌, ◌≢◌, ◌⊎◌, ℕ, ◌≤◌, false, [], Option, Some, None, length, take, slice_index, IsErr, IfOk, IfErr, IfSome, OnOk, IsErrOf};
+ghost use Rattle.std.specs.Prelude.{◌≡◌, ◌≢◌, ◌⊎◌, ℕ, ◌≤◌, false, Option, Some, None, length, take, slice_index, IsErr, IfOk, IfErr, IfSome, OnOk, IsErrOf};
 ghost use Rattle.lsv_disk.specs.declared.file.FileId.{FileId};
 ghost use Rattle.lsv_disk.specs.declared.file.Part.{Part};
-ghost use Rattle.lsv_disk.specs.Files.{file_of, IsOneOf, AreDistinct};
+ghost use Rattle.lsv_disk.specs.Files.{file_of, IsOneOf, AreDistinct, IsNew};
 ghost use Rattle.lsv_disk.specs.View.{Image, IsCrashImage, HasOwnCause};
 ghost use Rattle.lsv_disk.specs.Throughout.{Throughout, Unchanged, OnlyReads, CallsAtMost};
 ghost use Rattle.lsv_journal.specs.Last.{IsOwn, LastAt, SameJournal, IsSomeCrashOf, OpeningCalls, MayBeMade};
@@ -65,9 +65,9 @@ pub(crate) fn make_files<D: Disk>(
     requires few { length parts.now ≤ 9 }
     requires distinct { AreDistinct owner parts.now }
     ensures there { D.tells → OnOk result (EachPart (λ part. IsDurable (D.view disk.new) (file_of owner part) 0) parts.now) }
-    ensures reads { D.tells → (f : FileId) → IsOneOf owner parts.now f → ((D.view disk.new).reads f ≡ (D.view disk.old).reads f) ⊎ ((D.view disk.new).reads f ≡ Some []) }
+    ensures reads { D.tells → (f : FileId) → IsOneOf owner parts.now f → ((D.view disk.new).reads f ≡ (D.view disk.old).reads f) ⊎ IsNew f ((D.view disk.new).reads f) }
     ensures any_moment { D.tells → Throughout (IsOneOf owner parts.now)
-        (λ image. (f : FileId) → IsOneOf owner parts.now f → (D.view disk.old).crash_states f (image f) ⊎ (image f ≡ Some [])) (D.view disk.old) (D.view disk.new) }
+        (λ image. (f : FileId) → IsOneOf owner parts.now f → (D.view disk.old).crash_states f (image f) ⊎ IsNew f (image f)) (D.view disk.old) (D.view disk.new) }
     ensures calls { D.tells → CallsAtMost 0 1 (IsOneOf owner parts.now) (D.view disk.old) (D.view disk.new) }
     ensures cause { HasOwnCause (IsOneOf owner parts.now) (IsErr result) (D.view disk.old) (D.view disk.new) }
 {

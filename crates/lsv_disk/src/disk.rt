@@ -1,7 +1,7 @@
 ghost use Rattle.std.specs.Prelude.{◌≡◌, ◌⊎◌, ℕ, ◌+◌, ◌<◌, ◌^◌, ◌≤◌, List, [], ◌++◌, Option, Some, None, length, drop, IsErr, IfOk, OnOk, OnErr};
 ghost use Rattle.lsv_words.specs.Pieces.{piece};
 ghost use Rattle.lsv_disk.specs.declared.file.FileId.{FileId};
-ghost use Rattle.lsv_disk.specs.Files.{AreDistinct, IsOneOf};
+ghost use Rattle.lsv_disk.specs.Files.{AreDistinct, IsOneOf, IsNew};
 ghost use Rattle.lsv_disk.specs.Bytes.{written, bytes_of, size_of, Reaches, Torn};
 ghost use Rattle.lsv_disk.specs.View.{Image, DiskView, IsCrashImage, IsSynced, Follows, OneRead, OneMaking, OneWrite, OneSync, Uncounted, IsLeftAlone, HasCause, HasOwnCause};
 ghost use Rattle.lsv_disk.specs.Throughout.{Throughout};
@@ -38,16 +38,17 @@ pub trait Disk {
         ensures frame { tells → OneMaking f (view self.old) (view self.new) }
         ensures cause { HasCause f (IsErr result) (view self.old) (view self.new) };
 
-    /// Makes several empty files of one owner, together. At Ok a crash leaves all of them there; else each is there
-    /// and empty, or it is absent.
+    /// Makes several files of one owner, together, with no bytes in them; but a file of slots may have its gate byte
+    /// at once, so that one sync serves both. At Ok a crash leaves all of them there; else each is there and new, or it
+    /// is absent.
     fn create_all(&mut self, owner: Owner, parts: &[Part]) -> Result<(), DiskFault>
         requires distinct { AreDistinct owner parts.now }
         requires absent { tells → (f : FileId) → IsOneOf owner parts.now f → (view self.old).reads f ≡ None }
-        ensures made { tells → OnOk result ((f : FileId) → IsOneOf owner parts.now f → (view self.new).reads f ≡ Some []) }
+        ensures made { tells → OnOk result ((f : FileId) → IsOneOf owner parts.now f → IsNew f ((view self.new).reads f)) }
         ensures durable { tells → OnOk result ((f : FileId) → IsOneOf owner parts.now f → IsSynced (view self.new) f) }
-        ensures made_or_not { tells → (f : FileId) → IsOneOf owner parts.now f → ((view self.new).reads f ≡ None) ⊎ ((view self.new).reads f ≡ Some []) }
+        ensures made_or_not { tells → (f : FileId) → IsOneOf owner parts.now f → ((view self.new).reads f ≡ None) ⊎ IsNew f ((view self.new).reads f) }
         ensures any_moment { tells → Throughout (IsOneOf owner parts.now)
-            (λ image. (f : FileId) → IsOneOf owner parts.now f → (view self.old).crash_states f (image f) ⊎ (image f ≡ Some []))
+            (λ image. (f : FileId) → IsOneOf owner parts.now f → (view self.old).crash_states f (image f) ⊎ IsNew f (image f))
             (view self.old) (view self.new) }
         ensures counts { tells → Uncounted (view self.old) (view self.new) }
         ensures cause { HasOwnCause (IsOneOf owner parts.now) (IsErr result) (view self.old) (view self.new) };

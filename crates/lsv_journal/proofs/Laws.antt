@@ -1,9 +1,9 @@
 -- What a crate above knows of a journal, over plain values: it cites these lemmas, and no other of this crate.
-use Rattle.std.proofs.Common.{◌≡◌, ◌≢◌, ◌⊎◌, inl, inr, ℕ, List, [], Option, Some, None, refl, sym, ◌∙◌, ap, subst, if◌then◌else◌, Bool, true, false}
+use Rattle.std.proofs.Common.{◌≡◌, ◌≢◌, ◌⊎◌, inl, inr, ℕ, List, [], ◌∷◌, Option, Some, None, refl, sym, ◌∙◌, ap, subst, if◌then◌else◌, Bool, true, false, arith}
 use Rattle.lsv_disk.specs.declared.file.FileId.{FileId}
 use Rattle.lsv_disk.specs.declared.file.Part.TheVariants.{Slots}
 use Rattle.lsv_disk.specs.Bytes.{bytes_of}
-use Rattle.lsv_disk.specs.Files.{same_file}
+use Rattle.lsv_disk.specs.Files.{same_file, IsNew}
 use Rattle.lsv_disk.specs.View.{Image, DiskView, IsCrashImage, Elsewhere}
 use Rattle.lsv_disk.specs.Throughout.{Throughout}
 use Rattle.lsv_journal.specs.declared.journal.Journal.{Journal}
@@ -12,6 +12,7 @@ use Rattle.lsv_journal.specs.Last.{old_file, last_gated, IsOwn, IsAbsent, LastAt
 use Rattle.lsv_journal.specs.Represents.{Stands, IsPrepared, Represents}
 use Rattle.lsv_disk.proofs.Same.{same_is, same_itself}
 use Rattle.lsv_journal.proofs.Appending as Appending
+use Rattle.lsv_journal.proofs.Slots.{empty_none}
 use Rattle.lsv_journal.proofs.Making as Making
 use Rattle.lsv_journal.proofs.Words as Words
 
@@ -105,18 +106,23 @@ reads_absent_may_be_made n f disk leaves absent = Words.may_be_made n f disk (Wo
     | inr empty ↦ ap (last_gated n) empty ∙ Words.absent_gated n None refl
   ]
 
--- where a journal may be made and its file was made empty, it has no entry
-pub made_holds_none : (n : ℕ) (f : FileId) (disk : DiskView) (image : Image) → f.part ≡ Slots → MayBeMade n f disk → image f ≡ Some [] → ((g : FileId) → IsOwn f g → g ≢ f → disk.crash_states g (image g)) → JournalHolds n f None image
+-- a new file has no entry
+new_none : (n : ℕ) (f : FileId) (content : Option (List ℕ)) → IsNew f content → entry_of n (bytes_of content) ≡ None
+new_none n f content (inl empty) = Making.short_file n content (inr empty)
+new_none n f content (inr begun) = ap (λ (c : Option (List ℕ)). entry_of n (bytes_of c)) begun.2 ∙ empty_none n (begun.1 ∷ []) (omega arith)
+
+-- where a journal may be made and its file is new, it has no entry
+pub made_holds_none : (n : ℕ) (f : FileId) (disk : DiskView) (image : Image) → f.part ≡ Slots → MayBeMade n f disk → IsNew f (image f) → ((g : FileId) → IsOwn f g → g ≢ f → disk.crash_states g (image g)) → JournalHolds n f None image
 made_holds_none n f disk image slots may made left =
-    Words.last_old n f image (Making.short_file n (image f) (inr made)) ∙ Words.made_old n f disk may (image (old_file f)) (left (old_file f) (Words.own_old f) (Words.old_other f slots))
+    Words.last_old n f image (new_none n f (image f) made) ∙ Words.made_old n f disk may (image (old_file f)) (left (old_file f) (Words.own_old f) (Words.old_other f slots))
 
 -- and may be made still
-pub made_may_be_made : (n : ℕ) (f : FileId) (Touched : FileId → Type 0) (old new : DiskView) → f.part ≡ Slots → MayBeMade n f old → (new.reads f ≡ old.reads f) ⊎ (new.reads f ≡ Some [])
+pub made_may_be_made : (n : ℕ) (f : FileId) (Touched : FileId → Type 0) (old new : DiskView) → f.part ≡ Slots → MayBeMade n f old → (new.reads f ≡ old.reads f) ⊎ IsNew f (new.reads f)
     → Elsewhere Touched old new → ((g : FileId) → IsOwn f g → g ≢ f → Touched g → ⊥) → MayBeMade n f new
 made_may_be_made n f Touched old new slots may reads elsewhere apart =
     Words.may_be_made n f new
     (elim reads [
       | inl same ↦ ap (λ (c : Option (List ℕ)). entry_of n (bytes_of c)) same ∙ Words.made_slots n f old may
-      | inr empty ↦ Making.short_file n (new.reads f) (inr empty)
+      | inr new_file ↦ new_none n f (new.reads f) new_file
     ])
     (Words.no_old_stays n f Touched old new elsewhere (apart (old_file f) (Words.own_old f) (Words.old_other f slots)) (Words.made_old n f old may))

@@ -19,6 +19,9 @@ use std::os::unix::fs::{OpenOptionsExt, PermissionsExt};
 /// So many files are kept open: a log has nine, and a process has 1,024 descriptors by default.
 const MOST_OPEN: usize = 512;
 
+/// How a file of slots begins that has no entry.
+const CLOSED_GATE: &[u8] = &[0];
+
 /// Whoever runs the server may read and write its files, and nobody else.
 const MODE: u32 = 0o600;
 
@@ -97,24 +100,53 @@ impl Store {
 
     /// Makes an empty file, and waits until its folder is on the disk with it.
     pub fn make(&mut self, f: FileId) -> io::Result<()> {
-        self.make_all(f.owner, &[f.part])
+        let folder = self.place_of(f)?.folder;
+        self.make_empty(folder.as_str(), f.owner, &[f.part])?;
+        self.sync_made(folder.as_str(), f.owner, &[f.part])
     }
 
-    /// Makes empty files of one owner, which all stand in one folder, and waits until that folder is on the disk with
-    /// them. A new file that is empty is there once its folder was synced after it was made, so none is synced itself.
-    /// All is made before the first sync, so that a file system with a journal takes it in one transaction.
+    /// Makes files of one owner, which all stand in one folder, and waits until that folder is on the disk with them.
+    /// A file of slots begins with its gate, and is synced first: where a file system has a journal, one transaction
+    /// takes all of it then, and the syncs of folders behind it find nothing to write.
     pub fn make_all(&mut self, owner: Owner, parts: &[Part]) -> io::Result<()> {
         let [first, ..] = parts else {
             return Ok(());
         };
         let folder = self.place_of(FileId::new(owner, *first))?.folder;
-        self.folders.make(folder.as_str())?;
-        self.folders.change(folder.as_str());
+        self.make_empty(folder.as_str(), owner, parts)?;
+        if parts.contains(&Part::Slots) {
+            self.close_gate(FileId::new(owner, Part::Slots))?;
+        }
+        self.sync_made(folder.as_str(), owner, parts)
+    }
+
+    /// Makes empty files, with the folders that are lacking.
+    fn make_empty(&mut self, folder: &str, owner: Owner, parts: &[Part]) -> io::Result<()> {
+        self.folders.make(folder)?;
+        self.folders.change(folder);
         for part in parts {
             self.make_one(FileId::new(owner, *part))?;
         }
-        self.folders.sync(folder.as_str())?;
-        self.folders.sync_names(folder.as_str())?;
+        Ok(())
+    }
+
+    /// Writes the gate of a file of slots that was just made, and waits until it is on the disk.
+    fn close_gate(&mut self, f: FileId) -> io::Result<()> {
+        self.limit.check(0, CLOSED_GATE.len())?;
+        match self.handles.get_mut(&f) {
+            Some(handle) => {
+                handle.write(0, CLOSED_GATE)?;
+                handle.sync()
+            }
+            None => Err(ErrorKind::NotFound.into()),
+        }
+    }
+
+    /// Waits until the folder of new files is on the disk with them. None that is empty is synced itself: it is there
+    /// once its folder was synced after it was made.
+    fn sync_made(&mut self, folder: &str, owner: Owner, parts: &[Part]) -> io::Result<()> {
+        self.folders.sync(folder)?;
+        self.folders.sync_names(folder)?;
         self.set_named(owner, parts);
         Ok(())
     }

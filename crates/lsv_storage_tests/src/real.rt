@@ -97,6 +97,29 @@ fn nobody_else_may_read_the_store(rt: HostRuntime) -> Result<(), Fail> {
 }
 
 #[test]
+fn files_that_are_made_together_are_empty_but_for_the_gate_of_slots(
+    rt: HostRuntime,
+) -> Result<(), Fail> {
+    let own = own_folder(&rt, "gate")?;
+    let mut disk = FileDisk::new(rt, "test");
+    disk.root(own.as_str(), "events");
+    let output = FileId::new(Owner::Log(1), Part::Stdout);
+    let slots = FileId::new(Owner::Log(1), Part::Slots);
+    disk.create_all(Owner::Log(1), &[Part::Stdout, Part::Slots])?;
+    assert_eq!(rt; disk.length(output), Ok(Some(0)));
+    assert_eq!(rt; disk.length(slots), Ok(Some(1)));
+    let mut gate = [9];
+    assert_eq!(rt; disk.read_at(slots, 0, &mut gate), Ok(1));
+    assert_eq!(rt; gate, [0]);
+    // One that is made alone has no gate.
+    let other = FileId::new(Owner::Log(2), Part::Slots);
+    disk.create(other)?;
+    assert_eq!(rt; disk.length(other), Ok(Some(0)));
+    fs::remove_dir_all(&rt, own.as_str())?;
+    Ok(())
+}
+
+#[test]
 fn a_store_has_one_server(rt: HostRuntime) -> Result<(), Fail> {
     let own = own_folder(&rt, "lock")?;
     let mut first = FileDisk::new(rt, "first");

@@ -2,7 +2,7 @@
 use Rattle.std.proofs.Common.{◌≡◌, ◌⊎◌, List, [], map, None, Some, refl, sym, subst, ◌∙◌, ap}
 use Rattle.lsv_disk.specs.declared.file.FileId.{FileId}
 use Rattle.lsv_disk.specs.declared.file.Part.{Part}
-use Rattle.lsv_disk.specs.Files.{file_of, IsOneOf}
+use Rattle.lsv_disk.specs.Files.{file_of, IsOneOf, IsNew}
 use Rattle.lsv_disk.specs.Throughout.{Throughout, CallsAtMost}
 use Rattle.lsv_disk.proofs.Composition.{cause_widened}
 use Rattle.lsv_bundle.specs.Shape.{parts_of, IsOwnFile}
@@ -21,10 +21,10 @@ returns-in_err-make_files-clause-again g c told =
     let old = g.D.Disk.view c.args.disk.now in
     let mid = g.D.Disk.view c.make_files.new.disk in
     let reads = g.met.D.Disk.reads_itself told c.args.disk.now in
-    let run : Throughout (IsOneOf owner (all_parts_of s)) (λ image. (f : FileId) → IsOneOf owner (all_parts_of s) f → old.crash_states f (image f) ⊎ (image f ≡ Some [])) old mid =
-    subst (λ (ps : List Part). Throughout (IsOneOf owner ps) (λ image. (f : FileId) → IsOneOf owner ps f → old.crash_states f (image f) ⊎ (image f ≡ Some [])) old mid) c.all_parts.ensures (c.make_files.ensures.any_moment told) in
+    let run : Throughout (IsOneOf owner (all_parts_of s)) (λ image. (f : FileId) → IsOneOf owner (all_parts_of s) f → old.crash_states f (image f) ⊎ IsNew f (image f)) old mid =
+    subst (λ (ps : List Part). Throughout (IsOneOf owner ps) (λ image. (f : FileId) → IsOneOf owner ps f → old.crash_states f (image f) ⊎ IsNew f (image f)) old mid) c.all_parts.ensures (c.make_files.ensures.any_moment told) in
     files_may owner s old mid reads (c.requires.may_be_made told) run
-    (subst (λ (ps : List Part). (f : FileId) → IsOneOf owner ps f → (mid.reads f ≡ old.reads f) ⊎ (mid.reads f ≡ Some [])) c.all_parts.ensures (c.make_files.ensures.reads told))
+    (subst (λ (ps : List Part). (f : FileId) → IsOneOf owner ps f → (mid.reads f ≡ old.reads f) ⊎ IsNew f (mid.reads f)) c.all_parts.ensures (c.make_files.ensures.reads told))
 
 pub returns-in_err-make_files-clause-any_moment : goal.returns-in_err-make_files-clause-any_moment
 returns-in_err-make_files-clause-any_moment g c told =
@@ -33,8 +33,8 @@ returns-in_err-make_files-clause-any_moment g c told =
     let old = g.D.Disk.view c.args.disk.now in
     let mid = g.D.Disk.view c.make_files.new.disk in
     let reads = g.met.D.Disk.reads_itself told c.args.disk.now in
-    let run : Throughout (IsOneOf owner (all_parts_of s)) (λ image. (f : FileId) → IsOneOf owner (all_parts_of s) f → old.crash_states f (image f) ⊎ (image f ≡ Some [])) old mid =
-    subst (λ (ps : List Part). Throughout (IsOneOf owner ps) (λ image. (f : FileId) → IsOneOf owner ps f → old.crash_states f (image f) ⊎ (image f ≡ Some [])) old mid) c.all_parts.ensures (c.make_files.ensures.any_moment told) in
+    let run : Throughout (IsOneOf owner (all_parts_of s)) (λ image. (f : FileId) → IsOneOf owner (all_parts_of s) f → old.crash_states f (image f) ⊎ IsNew f (image f)) old mid =
+    subst (λ (ps : List Part). Throughout (IsOneOf owner ps) (λ image. (f : FileId) → IsOneOf owner ps f → old.crash_states f (image f) ⊎ IsNew f (image f)) old mid) c.all_parts.ensures (c.make_files.ensures.any_moment told) in
     files_run owner s old mid reads (c.requires.may_be_made told) run
 
 pub returns-in_err-make_files-clause-calls : goal.returns-in_err-make_files-clause-calls
@@ -62,10 +62,10 @@ begin_journal-requires g c =
           let old = g.D.Disk.view c.args.disk.now in
           let mid = g.D.Disk.view c.make_files.new.disk in
           let reads = g.met.D.Disk.reads_itself told c.args.disk.now in
-          let run : Throughout (IsOneOf owner (all_parts_of s)) (λ image. (f : FileId) → IsOneOf owner (all_parts_of s) f → old.crash_states f (image f) ⊎ (image f ≡ Some [])) old mid =
-          subst (λ (ps : List Part). Throughout (IsOneOf owner ps) (λ image. (f : FileId) → IsOneOf owner ps f → old.crash_states f (image f) ⊎ (image f ≡ Some [])) old mid) c.all_parts.ensures (c.make_files.ensures.any_moment told) in
+          let run : Throughout (IsOneOf owner (all_parts_of s)) (λ image. (f : FileId) → IsOneOf owner (all_parts_of s) f → old.crash_states f (image f) ⊎ IsNew f (image f)) old mid =
+          subst (λ (ps : List Part). Throughout (IsOneOf owner ps) (λ image. (f : FileId) → IsOneOf owner ps f → old.crash_states f (image f) ⊎ IsNew f (image f)) old mid) c.all_parts.ensures (c.make_files.ensures.any_moment told) in
           files_may owner s old mid reads (c.requires.may_be_made told) run
-          (subst (λ (ps : List Part). (f : FileId) → IsOneOf owner ps f → (mid.reads f ≡ old.reads f) ⊎ (mid.reads f ≡ Some [])) c.all_parts.ensures (c.make_files.ensures.reads told));
+          (subst (λ (ps : List Part). (f : FileId) → IsOneOf owner ps f → (mid.reads f ≡ old.reads f) ⊎ IsNew f (mid.reads f)) c.all_parts.ensures (c.make_files.ensures.reads told));
       there = λ told none.
           let owner = c.args.owner in
           let s = c.args.shape in
@@ -93,8 +93,8 @@ returns-in_err-journal-clause-any_moment g c told =
     let old = g.D.Disk.view c.args.disk.now in
     let mid = g.D.Disk.view c.make_files.new.disk in
     let reads = g.met.D.Disk.reads_itself told c.args.disk.now in
-    let run : Throughout (IsOneOf owner (all_parts_of s)) (λ image. (f : FileId) → IsOneOf owner (all_parts_of s) f → old.crash_states f (image f) ⊎ (image f ≡ Some [])) old mid =
-    subst (λ (ps : List Part). Throughout (IsOneOf owner ps) (λ image. (f : FileId) → IsOneOf owner ps f → old.crash_states f (image f) ⊎ (image f ≡ Some [])) old mid) c.all_parts.ensures (c.make_files.ensures.any_moment told) in
+    let run : Throughout (IsOneOf owner (all_parts_of s)) (λ image. (f : FileId) → IsOneOf owner (all_parts_of s) f → old.crash_states f (image f) ⊎ IsNew f (image f)) old mid =
+    subst (λ (ps : List Part). Throughout (IsOneOf owner ps) (λ image. (f : FileId) → IsOneOf owner ps f → old.crash_states f (image f) ⊎ IsNew f (image f)) old mid) c.all_parts.ensures (c.make_files.ensures.any_moment told) in
     let new = g.D.Disk.view c.begin_journal.new.disk in
     let mid_reads = g.met.D.Disk.reads_itself told c.make_files.new.disk in
     let is_now = g.met.D.Disk.is_now told c.make_files.new.disk in
@@ -116,8 +116,8 @@ returns-clause-any_moment g c told =
     let old = g.D.Disk.view c.args.disk.now in
     let mid = g.D.Disk.view c.make_files.new.disk in
     let reads = g.met.D.Disk.reads_itself told c.args.disk.now in
-    let run : Throughout (IsOneOf owner (all_parts_of s)) (λ image. (f : FileId) → IsOneOf owner (all_parts_of s) f → old.crash_states f (image f) ⊎ (image f ≡ Some [])) old mid =
-    subst (λ (ps : List Part). Throughout (IsOneOf owner ps) (λ image. (f : FileId) → IsOneOf owner ps f → old.crash_states f (image f) ⊎ (image f ≡ Some [])) old mid) c.all_parts.ensures (c.make_files.ensures.any_moment told) in
+    let run : Throughout (IsOneOf owner (all_parts_of s)) (λ image. (f : FileId) → IsOneOf owner (all_parts_of s) f → old.crash_states f (image f) ⊎ IsNew f (image f)) old mid =
+    subst (λ (ps : List Part). Throughout (IsOneOf owner ps) (λ image. (f : FileId) → IsOneOf owner ps f → old.crash_states f (image f) ⊎ IsNew f (image f)) old mid) c.all_parts.ensures (c.make_files.ensures.any_moment told) in
     let new = g.D.Disk.view c.begin_journal.new.disk in
     let mid_reads = g.met.D.Disk.reads_itself told c.make_files.new.disk in
     let is_now = g.met.D.Disk.is_now told c.make_files.new.disk in
@@ -139,8 +139,8 @@ returns-clause-represents g c told =
     let old = g.D.Disk.view c.args.disk.now in
     let mid = g.D.Disk.view c.make_files.new.disk in
     let reads = g.met.D.Disk.reads_itself told c.args.disk.now in
-    let run : Throughout (IsOneOf owner (all_parts_of s)) (λ image. (f : FileId) → IsOneOf owner (all_parts_of s) f → old.crash_states f (image f) ⊎ (image f ≡ Some [])) old mid =
-    subst (λ (ps : List Part). Throughout (IsOneOf owner ps) (λ image. (f : FileId) → IsOneOf owner ps f → old.crash_states f (image f) ⊎ (image f ≡ Some [])) old mid) c.all_parts.ensures (c.make_files.ensures.any_moment told) in
+    let run : Throughout (IsOneOf owner (all_parts_of s)) (λ image. (f : FileId) → IsOneOf owner (all_parts_of s) f → old.crash_states f (image f) ⊎ IsNew f (image f)) old mid =
+    subst (λ (ps : List Part). Throughout (IsOneOf owner ps) (λ image. (f : FileId) → IsOneOf owner ps f → old.crash_states f (image f) ⊎ IsNew f (image f)) old mid) c.all_parts.ensures (c.make_files.ensures.any_moment told) in
     let new = g.D.Disk.view c.begin_journal.new.disk in
     let mid_reads = g.met.D.Disk.reads_itself told c.make_files.new.disk in
     let is_now = g.met.D.Disk.is_now told c.make_files.new.disk in
