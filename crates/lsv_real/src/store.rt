@@ -11,10 +11,10 @@ use lsv_disk::{FileId, Owner, Part};
 use std::alloc::{AllocError, Global};
 use std::collections::HashMap;
 use std::fs::{File, OpenOptions, Permissions, TryLockError};
-use std::io;
 use std::io::ErrorKind;
 use std::num::NonZeroUsize;
 use std::os::unix::fs::{OpenOptionsExt, PermissionsExt};
+use std::{fs, io};
 
 /// So many files are kept open: a log has nine, and a process has 1,024 descriptors by default.
 const MOST_OPEN: usize = 512;
@@ -58,6 +58,8 @@ pub struct Store {
     handles: LruCache<FileId, Handle>,
     /// What was written to files that are closed, and could not be synced.
     left: HashMap<FileId, Unsynced>,
+    /// Whose folder isn't there, by the last calls, which all asked for lengths of files in it.
+    lacking: Option<Owner>,
     limit: SizeLimit,
     _lock: File,
 }
@@ -85,6 +87,7 @@ impl Store {
             folders,
             handles,
             left: HashMap::new(alloc),
+            lacking: None,
             limit: SizeLimit::now(),
             _lock: lock,
         })
@@ -122,6 +125,7 @@ impl Store {
 
     /// Makes empty files, with the folders that are lacking.
     fn make_empty(&mut self, folder: &str, owner: Owner, parts: &[Part]) -> io::Result<()> {
+        self.lacking = None;
         self.folders.make(folder)?;
         self.folders.change(folder);
         for part in parts {
@@ -166,18 +170,28 @@ impl Store {
         }
     }
 
-    /// How many bytes a file has, None where there is none.
+    /// How many bytes a file has, None where there is none. Where its folder isn't there, that is remembered until
+    /// something else than a length is asked for: who makes a log asks for each of its files first.
     pub fn length(&mut self, f: FileId) -> io::Result<Option<u64>> {
-        match self.handle(f)? {
-            Some(handle) => Ok(Some(handle.length()?)),
-            None => Ok(None),
+        if self.lacking == Some(f.owner) {
+            return Ok(None);
         }
+        self.lacking = None;
+        if let Some(handle) = self.handle(f)? {
+            return Ok(Some(handle.length()?));
+        }
+        let folder = self.place_of(f)?.folder;
+        if !fs::exists(&self.rt, folder.as_str())? {
+            self.lacking = Some(f.owner);
+        }
+        Ok(None)
     }
 
     /// Reads as many bytes as there are and as the buffer takes.
     pub fn read(&mut self, f: FileId, at: u64, buf: &mut [u8]) -> io::Result<usize>
         ensures { IfOk result (λ n. n ≤ length buf.old) }
     {
+        self.lacking = None;
         match self.handle(f)? {
             Some(handle) => handle.read(at, buf),
             None => Ok(0),
@@ -186,6 +200,7 @@ impl Store {
 
     /// Writes, and remembers what is to be synced.
     pub fn write(&mut self, f: FileId, at: u64, bytes: &[u8]) -> io::Result<()> {
+        self.lacking = None;
         self.limit.check(at, bytes.len())?;
         match self.handle(f)? {
             Some(handle) => handle.write(at, bytes),
@@ -196,6 +211,7 @@ impl Store {
     /// Waits until what was written is on the disk. A file that wasn't made in this run may have been made by a
     /// program that was killed, so its folder is synced with it, once.
     pub fn sync(&mut self, f: FileId) -> io::Result<()> {
+        self.lacking = None;
         match self.handle(f)? {
             Some(handle) if handle.is_named() => return handle.sync(),
             Some(_) => {}
