@@ -1,4 +1,5 @@
-ghost use Rattle.std.specs.Prelude.{◌≡◌};
+ghost use Rattle.std.specs.Prelude.{◌≡◌, Err, if◌then◌else◌};
+ghost use Rattle.lsv_request.specs.declared.refusal.Refusal.TheVariants.{MissingKey};
 ghost use Rattle.lsv_machine.specs.Judgement.{allows, fault_refusal, judged, row, with_keys};
 
 use crate::connections::is_running;
@@ -41,16 +42,21 @@ fn allows(message: &ClientMessage, state: ConnState) -> bool
     }
 }
 
-/// What is asked, or that an accept that opens a session lacks its keys.
-fn with_keys(state: ConnState, asked: Result<Request, Refusal>) -> Result<Request, Refusal>
-    ensures { result ≡ with_keys state asked }
+/// Whether this is an accept that opens a session and lacks its keys.
+fn lacks_keys(state: ConnState, asked: &Result<Request, Refusal>) -> bool
+    ensures { with_keys state asked.now ≡ (if result then Err MissingKey else asked.now) }
 {
-    match &asked {
-        Ok(Request::Accept(accept)) if !is_running(state) && !has_keys(&accept.head.info) => {
-            Err(Refusal::MissingKey)
-        }
-        _ => asked,
+    match asked {
+        Ok(Request::Accept(accept)) => !is_running(state) && !has_keys(&accept.head.info),
+        _ => false,
     }
+}
+
+/// A state, to be passed on twice.
+fn copied(state: &ConnState) -> ConnState
+    ensures { result ≡ state.now }
+{
+    *state
 }
 
 /// What a message asks of a session in this state, or the first refusal: its state, then its time, then its size, signal,
@@ -58,10 +64,14 @@ fn with_keys(state: ConnState, asked: Result<Request, Refusal>) -> Result<Reques
 pub fn judged(state: ConnState, message: ClientMessage) -> Result<Request, Refusal>
     ensures { result ≡ judged state message }
 {
-    if !allows(&message, state) {
+    if !allows(&message, copied(&state)) {
         return Err(Refusal::UnexpectedMessage);
     }
-    with_keys(state, request_of(message))
+    let asked = request_of(message);
+    if lacks_keys(state, &asked) {
+        return Err(Refusal::MissingKey);
+    }
+    asked
 }
 
 /// Why a connection is refused from which no message comes.
