@@ -28,12 +28,7 @@ fn sync_folder(rt: &HostRuntime, path: &str) -> io::Result<()> {
 const MOST_KEPT: usize = 64;
 
 /// Makes an empty file, which isn't there, and waits until it and its folder are on the disk.
-fn make_alone(
-    rt: &HostRuntime,
-    kept: &mut Vec<File>,
-    folder: &str,
-    name: &str,
-) -> io::Result<()> {
+fn make_alone(rt: &HostRuntime, kept: &mut Vec<File>, folder: &str, name: &str) -> io::Result<()> {
     let path = format!(in rt.alloc(); "{folder}/{name}")?;
     if File::open(rt, path.as_str()).is_ok() {
         return Err(ErrorKind::AlreadyExists.into());

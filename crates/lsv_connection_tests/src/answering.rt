@@ -1,6 +1,5 @@
 //! A lane that answers by fixed rules and keeps all jobs.
 
-
 use crate::frames::LONG;
 use lsv_base::{Bytes, NoMem, TimeSpec};
 use lsv_msg::{ClientMessage, ServerMessage};
