@@ -14,8 +14,9 @@ pub fn head(rt: &HostRuntime, digits: &str) -> Result<()> {
     let bytes = bytes_of(alloc, digits)?;
     match read_head(alloc, bytes.as_slice()) {
         Ok(head) => {
-            let line = write_head(alloc, &head.copy(alloc)?)?;
-            println!(rt; "{head:?} {}", digits_of(alloc, &line)?)?;
+            let copy = head.copy(alloc)?;
+            let line = write_head(alloc, &copy)?;
+            println!(rt; "{copy:?} {}", digits_of(alloc, &line)?)?;
         }
         Err(fault) => println!(rt; "{fault}")?,
     }
@@ -28,8 +29,9 @@ pub fn exit(rt: &HostRuntime, digits: &str) -> Result<()> {
     let bytes = bytes_of(alloc, digits)?;
     match read_exit(alloc, bytes.as_slice()) {
         Ok(exit) => {
-            let line = write_exit(alloc, &exit.copy(alloc)?)?;
-            println!(rt; "{exit:?} {}", digits_of(alloc, &line)?)?;
+            let copy = exit.copy(alloc)?;
+            let line = write_exit(alloc, &copy)?;
+            println!(rt; "{copy:?} {}", digits_of(alloc, &line)?)?;
         }
         Err(fault) => println!(rt; "{fault}")?,
     }
