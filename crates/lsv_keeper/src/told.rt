@@ -82,9 +82,25 @@ fn put_refusal(alloc: Global, out: &mut Vec<Reply>, conn: ConnId, why: Refusal)
     put(out, shut(conn, false));
 }
 
+/// Puts the replies of an answer at the end, for which there is room. Nearly all jobs are answered nothing.
+#[inline(always)]
+pub(crate) fn put_replies(alloc: Global, out: &mut Vec<Reply>, conn: ConnId, told: Told)
+    requires told { IsTold told }
+    requires room { 2 ≤ room_in out.old }
+    ensures told { (answers : List Answer) × Tells conn told answers × (out.new.items ≡ out.old.items ++ map reply_of answers) }
+    ensures room { room_in out.old ≤ room_in out.new + 2 }
+{
+    if let Told::Nothing = told {
+        return;
+    }
+    put_told(alloc, out, conn, told);
+}
+
 /// Puts the replies of an answer at the end, for which there is room. Where no memory is for the text of a refusal, it is a
 /// refusal for want of memory, or a `Shut` alone.
-pub(crate) fn put_replies(alloc: Global, out: &mut Vec<Reply>, conn: ConnId, told: Told)
+#[cold]
+#[inline(never)]
+fn put_told(alloc: Global, out: &mut Vec<Reply>, conn: ConnId, told: Told)
     requires told { IsTold told }
     requires room { 2 ≤ room_in out.old }
     ensures told { (answers : List Answer) × Tells conn told answers × (out.new.items ≡ out.old.items ++ map reply_of answers) }

@@ -12,7 +12,7 @@ use Rattle.lsv_request.specs.declared.request.Request.{Request}
 use Rattle.lsv_request.specs.declared.request.Request.TheVariants as request
 use Rattle.lsv_session.specs.declared.connection.ConnState.{ConnState}
 use Rattle.lsv_session.specs.declared.connection.ConnState.TheVariants.{Fresh, Greeted, Alerted, Running, Dead}
-use Rattle.lsv_machine.specs.Judgement.{allows, judged, row, with_keys}
+use Rattle.lsv_machine.specs.Judgement.{allows, is_accept, judged, row, with_keys}
 use Rattle.lsv_machine.specs.Machine.{is_running, log_of}
 
 -- what a request says of the state that allows it
@@ -42,6 +42,26 @@ with_keys_ok s (Ok (request.Accept accept)) asked e = go (is_running s || has_ke
     go : (b : Bool) → (if b then passes (request.Accept accept) else Err refusals.MissingKey) ≡ passes asked → passes (request.Accept accept) ≡ passes asked
     go true d = d
     go false d = absurd (cc)
+
+-- what asks for something else than an accept, or is refused, needs no keys
+needs_none : {A : Type 0} (s : ConnState) (ask : A → Request) → ((a : A) → with_keys s (passes (ask a)) ≡ passes (ask a)) → (w : Result A Refusal) → with_keys s (and_then w (λ a. passes (ask a))) ≡ and_then w (λ a. passes (ask a))
+needs_none s ask no (Ok a) = no a
+needs_none s ask no (Err why) = refl
+
+pub others_pass : (s : ConnState) (m : ClientMessage) → is_accept m ≡ false → with_keys s (request_of m) ≡ request_of m
+others_pass s (client.Hello m) e = refl
+others_pass s (client.Accept m) e = absurd (cc)
+others_pass s (client.Reject m) e = needs_none s request.Reject (λ a. refl) (reject_of m)
+others_pass s (client.Alert m) e = needs_none s request.Alert (λ a. refl) (alert_of m)
+others_pass s (client.Restart m) e = needs_none s request.Restart (λ a. refl) (restart_of m)
+others_pass s (client.Exit m) e = needs_none s request.Exit (λ a. refl) (exit_of m)
+others_pass s (client.Ttyin m) e = needs_none s request.Record (λ a. refl) (data_of stream.Ttyin m)
+others_pass s (client.Ttyout m) e = needs_none s request.Record (λ a. refl) (data_of stream.Ttyout m)
+others_pass s (client.Stdin m) e = needs_none s request.Record (λ a. refl) (data_of stream.Stdin m)
+others_pass s (client.Stdout m) e = needs_none s request.Record (λ a. refl) (data_of stream.Stdout m)
+others_pass s (client.Stderr m) e = needs_none s request.Record (λ a. refl) (data_of stream.Stderr m)
+others_pass s (client.Winsize m) e = needs_none s request.Record (λ a. refl) (window_of m)
+others_pass s (client.Suspend m) e = needs_none s request.Record (λ a. refl) (suspend_of m)
 
 and_then_ok : {A B : Type 0} (w : Result A Refusal) (next : A → Result B Refusal) (b : B) → and_then w next ≡ Ok b → (a : A) × (next a ≡ Ok b)
 and_then_ok (Ok a) next b e = (a, e)

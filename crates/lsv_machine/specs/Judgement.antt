@@ -41,6 +41,11 @@ allows (client.Winsize m) = row false false false false true
 allows (client.Suspend m) = row false false false false true
 allows (client.Exit m) = row false false false true true
 
+-- this is an accept
+abbrev pub is_accept : ClientMessage → Bool
+is_accept (client.Accept m) = true
+is_accept m = false
+
 -- a judgement passed on, but that an accept that opens a session is refused where keys are missing
 abbrev pub with_keys : ConnState → Result Request Refusal → Result Request Refusal
 with_keys s (Ok (request.Accept accept)) = if is_running s || has_keys accept.head.info then Ok (request.Accept accept) else Err MissingKey

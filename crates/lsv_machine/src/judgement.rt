@@ -1,6 +1,6 @@
-ghost use Rattle.std.specs.Prelude.{◌≡◌, Err, if◌then◌else◌};
-ghost use Rattle.lsv_request.specs.declared.refusal.Refusal.TheVariants.{MissingKey};
-ghost use Rattle.lsv_machine.specs.Judgement.{allows, fault_refusal, judged, row, with_keys};
+ghost use Rattle.std.specs.Prelude.{◌≡◌};
+ghost use Rattle.lsv_request.specs.Requests.{request_of};
+ghost use Rattle.lsv_machine.specs.Judgement.{allows, fault_refusal, is_accept, judged, row, with_keys};
 
 use crate::connections::is_running;
 use lsv_msg::{ClientMessage, MsgFault};
@@ -42,16 +42,6 @@ fn allows(message: &ClientMessage, state: ConnState) -> bool
     }
 }
 
-/// Whether this is an accept that opens a session and lacks its keys.
-fn lacks_keys(state: ConnState, asked: &Result<Request, Refusal>) -> bool
-    ensures { with_keys state asked.now ≡ (if result then Err MissingKey else asked.now) }
-{
-    match asked {
-        Ok(Request::Accept(accept)) => !is_running(state) && !has_keys(&accept.head.info),
-        _ => false,
-    }
-}
-
 /// A state, to be passed on twice.
 fn copied(state: &ConnState) -> ConnState
     ensures { result ≡ state.now }
@@ -59,19 +49,40 @@ fn copied(state: &ConnState) -> ConnState
     *state
 }
 
+/// What an accept asks, or that one that opens a session lacks its keys.
+#[cold]
+#[inline(never)]
+fn judged_accept(state: ConnState, message: ClientMessage) -> Result<Request, Refusal>
+    ensures { result ≡ with_keys state (request_of message) }
+{
+    match request_of(message)? {
+        Request::Accept(accept) if !is_running(state) && !has_keys(&accept.head.info) => {
+            Err(Refusal::MissingKey)
+        }
+        asked => Ok(asked),
+    }
+}
+
 /// What a message asks of a session in this state, or the first refusal: its state, then its time, then its size, signal,
-/// identifier or amount of data, then its keys.
+/// identifier or amount of data, then its keys, which an accept alone has.
+#[tactic(auto, using(crate::proofs::JudgedLemmas::others_pass))]
 pub fn judged(state: ConnState, message: ClientMessage) -> Result<Request, Refusal>
     ensures { result ≡ judged state message }
 {
     if !allows(&message, copied(&state)) {
         return Err(Refusal::UnexpectedMessage);
     }
-    let asked = request_of(message);
-    if lacks_keys(state, &asked) {
-        return Err(Refusal::MissingKey);
+    if is_accept(&message) {
+        return judged_accept(state, message);
     }
-    asked
+    request_of(message)
+}
+
+/// Whether this is an accept.
+fn is_accept(message: &ClientMessage) -> bool
+    ensures { result ≡ is_accept message.now }
+{
+    matches!(message, ClientMessage::Accept(_))
 }
 
 /// Why a connection is refused from which no message comes.

@@ -1,6 +1,6 @@
 //! Messages are read in place, from front to back.
 
-ghost use Rattle.std.specs.Prelude.{◌≡◌, ◌≢◌, length, None, Ok, Err, IfOk, IfErr};
+ghost use Rattle.std.specs.Prelude.{◌≡◌, ◌≢◌, ◌⊎◌, ◌≤◌, ◌<◌, length, None, Ok, Err, IfOk, IfErr};
 ghost use Rattle.lsv_wire.specs.Fields.{IsWithin};
 ghost use Rattle.lsv_msg.specs.declared.fault.MsgFault.TheVariants as faults;
 ghost use Rattle.lsv_msg.specs.Fitting.{FitsClient, FitsServer, ClientWithin, ServerWithin};
@@ -52,9 +52,47 @@ fn server_in(alloc: Global, bytes: &[u8]) -> Result<ServerMessage, MsgFault>
     read_server(alloc, bytes)?.ok_or(MsgFault::Untyped)
 }
 
-/// A member of the client's messages, where the number is that of one.
+/// A member of the client's messages, where the number is that of one. Data, which nearly all are, are read by a function
+/// of few values: whatever a function may hold is cleared where it begins.
 fn client_of(alloc: Global, bytes: &[u8], field: Field) -> Result<Option<ClientMessage>, MsgFault>
     requires { IsWithin (length bytes.now) field.value }
+    ensures { Gives (λ m. m) result (client_message.take bytes.now 0 None field) }
+{
+    if field.number < 6 || field.number > 10 {
+        return other_client(alloc, bytes, field);
+    }
+    data_client(alloc, bytes, field)
+}
+
+/// A message of data.
+#[inline(always)]
+fn data_client(alloc: Global, bytes: &[u8], field: Field) -> Result<Option<ClientMessage>, MsgFault>
+    requires within { IsWithin (length bytes.now) field.value }
+    requires least { 6 ≤ field.number }
+    requires most { field.number ≤ 10 }
+    ensures { Gives (λ m. m) result (client_message.take bytes.now 0 None field) }
+{
+    let data = read_buffer(alloc, bytes_of(bytes, field)?)?;
+    match field.number {
+        6 => Ok(Some(ClientMessage::Ttyin(data))),
+        7 => Ok(Some(ClientMessage::Ttyout(data))),
+        8 => Ok(Some(ClientMessage::Stdin(data))),
+        9 => Ok(Some(ClientMessage::Stdout(data))),
+        10 => Ok(Some(ClientMessage::Stderr(data))),
+        _ => Ok(None),
+    }
+}
+
+/// A message that isn't data, where the number is that of one.
+#[cold]
+#[inline(never)]
+fn other_client(
+    alloc: Global,
+    bytes: &[u8],
+    field: Field,
+) -> Result<Option<ClientMessage>, MsgFault>
+    requires within { IsWithin (length bytes.now) field.value }
+    requires number { (field.number < 6) ⊎ (10 < field.number) }
     ensures { Gives (λ m. m) result (client_message.take bytes.now 0 None field) }
 {
     match field.number {
@@ -75,11 +113,6 @@ fn client_of(alloc: Global, bytes: &[u8], field: Field) -> Result<Option<ClientM
             alloc,
             read_alert(alloc, bytes_of(bytes, field)?)?,
         )?))),
-        6 => Ok(Some(ClientMessage::Ttyin(read_buffer(alloc, bytes_of(bytes, field)?)?))),
-        7 => Ok(Some(ClientMessage::Ttyout(read_buffer(alloc, bytes_of(bytes, field)?)?))),
-        8 => Ok(Some(ClientMessage::Stdin(read_buffer(alloc, bytes_of(bytes, field)?)?))),
-        9 => Ok(Some(ClientMessage::Stdout(read_buffer(alloc, bytes_of(bytes, field)?)?))),
-        10 => Ok(Some(ClientMessage::Stderr(read_buffer(alloc, bytes_of(bytes, field)?)?))),
         11 => Ok(Some(ClientMessage::Winsize(read_size(alloc, bytes_of(bytes, field)?)?))),
         12 => Ok(Some(ClientMessage::Suspend(read_suspend(alloc, bytes_of(bytes, field)?)?))),
         13 => Ok(Some(ClientMessage::Hello(read_client_hello(alloc, bytes_of(bytes, field)?)?))),
@@ -129,6 +162,8 @@ fn read_client(alloc: Global, bytes: &[u8]) -> Result<Option<ClientMessage>, Msg
     }
 }
 
+#[cold]
+#[inline(never)]
 #[tactic(auto, unfolding(crate::specs::Format::read))]
 fn any_client(alloc: Global, bytes: &[u8]) -> Result<Option<ClientMessage>, MsgFault>
     ensures { Gives (λ m. m) result (read client_message bytes.now) }

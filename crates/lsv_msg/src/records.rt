@@ -60,6 +60,8 @@ pub fn read_buffer(alloc: Global, bytes: &[u8]) -> Result<IoBuffer, MsgFault>
     any_buffer(alloc, bytes)
 }
 
+#[cold]
+#[inline(never)]
 #[tactic(auto, unfolding(crate::specs::Format::read))]
 fn any_buffer(alloc: Global, bytes: &[u8]) -> Result<IoBuffer, MsgFault>
     ensures { Gives (λ m. m) result (read io_buffer bytes.now) }

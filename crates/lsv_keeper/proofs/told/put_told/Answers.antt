@@ -8,7 +8,7 @@ use Rattle.lsv_session.specs.declared.reply.ReplyBody.TheVariants as body
 use Rattle.lsv_machine.specs.Answers.{CommitPoint, LogId, Shut, farewell, say}
 use Rattle.lsv_keeper.specs.declared.told.Told.{Told}
 use Rattle.lsv_keeper.specs.Rows.{IsTold, Tells}
-use Rattle.lsv_keeper.proofs.told.put_replies.Goals as goal
+use Rattle.lsv_keeper.proofs.told.put_told.Goals as goal
 
 pub returns-in-Log-clause-told : goal.returns-in-Log-clause-told
 returns-in-Log-clause-told c =
