@@ -5,12 +5,21 @@ ghost use Rattle.std.specs.Prelude.{◌≡◌, ◌≤◌, [], ◌∷◌, length,
 ghost use Rattle.std.specs.Bool.{OnTrue};
 ghost use Rattle.lsv_wire.specs.declared.field.FieldValue.TheVariants as values;
 ghost use Rattle.lsv_wire.specs.Fields.{IsWithin, fields_from, fields_of};
-ghost use Rattle.lsv_msg.specs.Format.{listed, read};
+ghost use Rattle.lsv_msg.specs.Format.{read};
 ghost use Rattle.lsv_msg.specs.Messages.{time_spec, io_buffer};
 
 use crate::rows::int32_of;
 use lsv_base::TimeSpec;
-use lsv_wire::{Field, FieldValue, read_field};
+use lsv_wire::{Field, keyed_bytes, keyed_number, read_field};
+
+/// The keys of a record's delay and data, and of a time's seconds and nanoseconds: the field's number times 8, and its type.
+const DELAY: u8 = 0x0a;
+
+const DATA: u8 = 0x12;
+
+const SECONDS: u8 = 0x08;
+
+const NANOS: u8 = 0x10;
 
 /// The one field that these bytes are.
 #[inline(always)]
@@ -18,19 +27,26 @@ pub fn one_field(bytes: &[u8]) -> Option<Field>
     ensures fields { IfSome result (λ f. fields_of bytes.now ≡ record { fields = f ∷ []; fault = None }) }
     ensures within { IfSome result (λ f. IsWithin (length bytes.now) f.value) }
 {
-    last_field(bytes, 0)
+    let Ok(Some((field, next))) = read_field(bytes, 0) else {
+        return None;
+    };
+    if !is_end(bytes, next) {
+        return None;
+    }
+    Some(field)
 }
 
 /// The delay and the data of a record that has these two fields and no other.
 #[inline(always)]
+#[tactic(auto, using(crate::proofs::FewFields::delay_and_data))]
 pub fn plain_buffer(bytes: &[u8]) -> Option<(TimeSpec, &[u8])>
     ensures { IfSome result (λ b. read io_buffer bytes.now ≡ Ok (record { delay = Some b.0; bytes = b.1.now })) }
 {
-    let (first, Some(second)) = few_fields(bytes)? else {
+    let (from, to) = keyed_bytes(bytes, 0, DELAY)?;
+    let (start, end) = keyed_bytes(bytes, to, DATA)?;
+    if !is_end(bytes, end) {
         return None;
-    };
-    let (from, to) = range_of(first, 1)?;
-    let (start, end) = range_of(second, 2)?;
+    }
     let delay = plain_time(&bytes[from..to])?;
     Some((delay, &bytes[start..end]))
 }
@@ -40,71 +56,29 @@ pub fn plain_buffer(bytes: &[u8]) -> Option<(TimeSpec, &[u8])>
 fn plain_time(bytes: &[u8]) -> Option<TimeSpec>
     ensures { IfSome result (λ t. read time_spec bytes.now ≡ Ok t) }
 {
-    let (first, second) = few_fields(bytes)?;
-    let Some(second) = second else {
-        let nsec = int32_of(varint_of(first, 2)?);
+    let Some((sec, next)) = keyed_number(bytes, 0, SECONDS) else {
+        let nsec = int32_of(last_number(bytes, 0)?);
         return Some(TimeSpec { sec: 0, nsec });
     };
-    let sec = varint_of(first, 1)?.cast_signed();
-    let nsec = int32_of(varint_of(second, 2)?);
+    let sec = sec.cast_signed();
+    let nsec = int32_of(last_number(bytes, next)?);
     Some(TimeSpec { sec, nsec })
 }
 
-/// The number in a field of this number and of type 0.
+/// The number of the nanoseconds' field at a place, where no other field follows.
 #[inline(always)]
-fn varint_of(field: Field, number: u32) -> Option<u64>
-    ensures { IfSome result (λ n. field ≡ record { number = number; value = values.Varint n }) }
-{
-    match field.value {
-        FieldValue::Varint(n) if field.number == number => Some(n),
-        _ => None,
-    }
-}
-
-/// The places of the bytes in a field of this number and of type 2.
-#[inline(always)]
-fn range_of(field: Field, number: u32) -> Option<(usize, usize)>
-    ensures { IfSome result (λ r. field ≡ record { number = number; value = values.Range r.0 r.1 }) }
-{
-    match field.value {
-        FieldValue::Range(from, to) if field.number == number => Some((from, to)),
-        _ => None,
-    }
-}
-
-/// The one or two fields that these bytes are.
-#[inline(always)]
-fn few_fields(bytes: &[u8]) -> Option<(Field, Option<Field>)>
-    ensures fields { IfSome result (λ f. fields_of bytes.now ≡ record { fields = f.0 ∷ listed f.1; fault = None }) }
-    ensures first { IfSome result (λ f. IsWithin (length bytes.now) f.0.value) }
-    ensures second { IfSome result (λ f. IfSome f.1 (λ g. IsWithin (length bytes.now) g.value)) }
-{
-    let Ok(Some((first, next))) = read_field(bytes, 0) else {
-        return None;
-    };
-    if is_end(bytes, next) {
-        return Some((first, None));
-    }
-    let second = last_field(bytes, next)?;
-    Some((first, Some(second)))
-}
-
-/// The field at a place, where no other follows.
-#[inline(always)]
-fn last_field(bytes: &[u8], at: usize) -> Option<Field>
+fn last_number(bytes: &[u8], at: usize) -> Option<u64>
     requires { at ≤ length bytes.now }
-    ensures fields { IfSome result (λ f. fields_from bytes.now at ≡ record { fields = f ∷ []; fault = None }) }
-    ensures within { IfSome result (λ f. IsWithin (length bytes.now) f.value) }
+    ensures { IfSome result (λ n. fields_from bytes.now at ≡ record { fields = record { number = 2; value = values.Varint n } ∷ []; fault = None }) }
 {
-    let Ok(Some((field, next))) = read_field(bytes, at) else {
-        return None;
-    };
-    if !is_end(bytes, next) {
+    let (n, end) = keyed_number(bytes, at, NANOS)?;
+    if !is_end(bytes, end) {
         return None;
     }
-    Some(field)
+    Some(n)
 }
 
+/// Whether no field follows at a place.
 #[inline(always)]
 #[tactic(auto, using(crate::proofs::FewFields::none_at_end))]
 fn is_end(bytes: &[u8], at: usize) -> bool

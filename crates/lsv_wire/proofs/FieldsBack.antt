@@ -45,20 +45,20 @@ pub behind_part : (bytes part rest : List ℕ) (at : ℕ) → drop at bytes ≡ 
 behind_part bytes part rest at is = sym (drop-drop (length part) at bytes) ∙ ap (drop (length part)) is ∙ drop_at part rest (length part) refl
 
 -- the value of a field at a place
-record IsField (bytes : List ℕ) (at number : ℕ) (value : FieldValue × ℕ) : Type 0 where
-  next : next_field bytes at ≡ Ok (Some (record { number = number; value = value.0 }, value.1))
+pub record IsField (bytes : List ℕ) (at number : ℕ) (value : FieldValue × ℕ) : Type 0 where
+  pub next : next_field bytes at ≡ Ok (Some (record { number = number; value = value.0 }, value.1))
 
-read_typed : (bytes : List ℕ) (at key number type after : ℕ) (value : FieldValue × ℕ) → IsKey key number type → varint_at bytes at at ≡ Ok (key, after) → value_at type bytes at after ≡ Ok value → IsField bytes at number value
+pub read_typed : (bytes : List ℕ) (at key number type after : ℕ) (value : FieldValue × ℕ) → IsKey key number type → varint_at bytes at at ≡ Ok (key, after) → value_at type bytes at after ≡ Ok value → IsField bytes at number value
 read_typed bytes at key number type after value is e v =
     let f : field_at bytes at ≡ Ok (record { number = number; value = value.0 }, value.1) = field_at-typed bytes at key number type after is e ∙ ap (λ (r : Result (FieldValue × ℕ) WireFault). r >>= with_number number) v in
     let k = varint_at-forward bytes at at (key, after) e in
     record { next = next_field-there bytes at (record { number = number; value = value.0 }, value.1) (omega arith) f }
 
-value_at-number : (bytes : List ℕ) (key at n next : ℕ) → varint_at bytes key at ≡ Ok (n, next) → value_at 0 bytes key at ≡ Ok (Varint n, next)
+pub value_at-number : (bytes : List ℕ) (key at n next : ℕ) → varint_at bytes key at ≡ Ok (n, next) → value_at 0 bytes key at ≡ Ok (Varint n, next)
 unfolding value_at
 value_at-number bytes key at n next e = rw e refl
 
-value_at-bytes : (bytes : List ℕ) (key at n start : ℕ) → varint_at bytes key at ≡ Ok (n, start) → start + n ≤ length bytes → value_at 2 bytes key at ≡ Ok (Range start (start + n), start + n)
+pub value_at-bytes : (bytes : List ℕ) (key at n start : ℕ) → varint_at bytes key at ≡ Ok (n, start) → start + n ≤ length bytes → value_at 2 bytes key at ≡ Ok (Range start (start + n), start + n)
 unfolding value_at after_bytes
 value_at-bytes bytes key at n start e there = rw (e, le-ltb (length bytes) (start + n) there) refl
 

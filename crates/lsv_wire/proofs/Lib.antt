@@ -6,3 +6,4 @@ pub mod Writing
 pub mod Streams
 pub mod ReadBack
 pub mod FieldsBack
+pub mod Keyed

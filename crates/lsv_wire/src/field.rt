@@ -1,7 +1,8 @@
-ghost use Rattle.std.specs.Prelude.{◌≡◌, ◌≤◌, ◌<◌, ◌↔◌, [], ◌∷◌, length, MatchResult, MatchOption, IfOk, IfSome, Some, None, Ok};
+ghost use Rattle.std.specs.Prelude.{◌≡◌, ◌≤◌, ◌<◌, ◌/◌, ◌%◌, ◌↔◌, [], ◌∷◌, length, MatchResult, MatchOption, IfOk, IfSome, Some, None, Ok};
 ghost use Rattle.std.specs.Int.{w32, w64};
 ghost use Rattle.lsv_wire.specs.Fields as spelled;
 ghost use Rattle.lsv_wire.specs.Fields.{fixed_at, fields_from, with_field, IsWithin};
+ghost use Rattle.lsv_wire.specs.declared.field.FieldValue.TheVariants.{Varint, Range};
 
 use thiserror::Error;
 
@@ -59,6 +60,46 @@ pub fn read_field(bytes: &[u8], at: usize) -> Result<Option<(Field, usize)>, Wir
         (λ e. fields_from bytes.now at ≡ record { fields = []; fault = Some e }) }
 {
     next_field(bytes, at)
+}
+
+/// The places of the bytes of the field at a place, whose key is this one byte. None says nothing of what stands there.
+#[inline(always)]
+#[tactic(auto, using(crate::proofs::Keyed::keyed_bytes))]
+pub fn keyed_bytes(bytes: &[u8], at: usize, key: u8) -> Option<(usize, usize)>
+    requires place { at ≤ length bytes.now }
+    requires key { (8 ≤ key) × (key < 128) × (key % 8 ≡ 2) }
+    ensures fields { IfSome result (λ r. fields_from bytes.now at ≡ with_field (record { number = key / 8; value = Range r.0 r.1 }) (fields_from bytes.now r.1)) }
+    ensures within { IfSome result (λ r. (r.0 ≤ r.1) × (r.1 ≤ length bytes.now)) }
+{
+    if at == bytes.len() || bytes[at] != key {
+        return None;
+    }
+    let Ok((n, from)) = varint_at(bytes, at, at + 1) else {
+        return None;
+    };
+    if n > (bytes.len() - from) as u64 {
+        return None;
+    }
+    Some((from, from + n as usize))
+}
+
+/// The number in the field at a place, whose key is this one byte, and the place after it. None says nothing of what
+/// stands there.
+#[inline(always)]
+#[tactic(auto, using(crate::proofs::Keyed::keyed_number))]
+pub fn keyed_number(bytes: &[u8], at: usize, key: u8) -> Option<(u64, usize)>
+    requires place { at ≤ length bytes.now }
+    requires key { (8 ≤ key) × (key < 128) × (key % 8 ≡ 0) }
+    ensures fields { IfSome result (λ r. fields_from bytes.now at ≡ with_field (record { number = key / 8; value = Varint r.0 }) (fields_from bytes.now r.1)) }
+    ensures within { IfSome result (λ r. r.1 ≤ length bytes.now) }
+{
+    if at == bytes.len() || bytes[at] != key {
+        return None;
+    }
+    let Ok((n, next)) = varint_at(bytes, at, at + 1) else {
+        return None;
+    };
+    Some((n, next))
 }
 
 #[inline(always)]

@@ -7,7 +7,10 @@ mod framing;
 mod laws;
 mod writer;
 
-pub use field::{Field, FieldValue, LAST_FIELD_NUMBER, WireFault, read_field, varint_at};
+pub use field::{
+    Field, FieldValue, LAST_FIELD_NUMBER, WireFault, keyed_bytes, keyed_number, read_field,
+    varint_at,
+};
 pub use framer::Framer;
 pub use framing::{FRAME_LIMIT, FrameFault, frame};
 pub use laws::{

@@ -5,9 +5,9 @@ use Rattle.lsv_msg.proofs.plain.plain_time.Goals as goal
 
 pub returns-in_default : goal.returns-in_default
 returns-in_default c =
-    nanos_alone _ _ _ _ _ c.in_ok-first.ensures.fields c.in_default.is c.in_ok-varint_of.ensures (grind (arith, to_z-of_z, c.int32_of-nsec.ensures))
+    nanos_alone _ _ _ c.in_ok-last_number.ensures (grind (arith, to_z-of_z, c.int32_of-nsec.ensures))
 
 pub returns : goal.returns
 returns c =
-    seconds_and_nanos _ _ _ _ _ _ _ _ c.in_ok-first.ensures.fields c.in-Some.is c.in_ok-varint_of-2.ensures c.in_ok-varint_of-3.ensures
+    seconds_and_nanos _ _ _ _ _ _ c.in-Some.ensures.fields c.in_ok-last_number-2.ensures
     (grind (arith, to_z-of_z, c.cast_signed-sec.ensures)) (grind (arith, to_z-of_z, c.int32_of-nsec-2.ensures))
