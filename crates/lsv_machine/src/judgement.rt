@@ -28,6 +28,7 @@ impl Row {
 }
 
 /// Whether a message is allowed in this state.
+#[inline(always)]
 fn allows(message: &ClientMessage, state: ConnState) -> bool
     ensures { result ≡ allows message.now state }
 {
@@ -43,6 +44,7 @@ fn allows(message: &ClientMessage, state: ConnState) -> bool
 }
 
 /// A state, to be passed on twice.
+#[inline(always)]
 fn copied(state: &ConnState) -> ConnState
     ensures { result ≡ state.now }
 {
@@ -65,6 +67,7 @@ fn judged_accept(state: ConnState, message: ClientMessage) -> Result<Request, Re
 
 /// What a message asks of a session in this state, or the first refusal: its state, then its time, then its size, signal,
 /// identifier or amount of data, then its keys, which an accept alone has.
+#[inline(always)]
 #[tactic(auto, using(crate::proofs::JudgedLemmas::others_pass))]
 pub fn judged(state: ConnState, message: ClientMessage) -> Result<Request, Refusal>
     ensures { result ≡ judged state message }
@@ -79,6 +82,7 @@ pub fn judged(state: ConnState, message: ClientMessage) -> Result<Request, Refus
 }
 
 /// Whether this is an accept.
+#[inline(always)]
 fn is_accept(message: &ClientMessage) -> bool
     ensures { result ≡ is_accept message.now }
 {

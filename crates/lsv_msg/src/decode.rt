@@ -21,6 +21,7 @@ use std::alloc::Global;
 
 /// The message of a client that these bytes are. It takes one copy of a record's data and no other memory, and time
 /// and memory that grow with the bytes and no faster. No text in the message, nor a record's data, is longer than the bytes.
+#[inline(always)]
 pub fn decode_client(alloc: Global, b: &[u8]) -> Result<ClientMessage, MsgFault>
     ensures message { IfOk result (λ m. client_in b.now ≡ Ok m) }
     ensures fits { IfOk result FitsClient }
@@ -40,6 +41,7 @@ pub fn decode_server(alloc: Global, b: &[u8]) -> Result<ServerMessage, MsgFault>
     server_in(alloc, b)
 }
 
+#[inline(always)]
 fn client_in(alloc: Global, bytes: &[u8]) -> Result<ClientMessage, MsgFault>
     ensures { Gives (λ m. m) result (client_in bytes.now) }
 {
@@ -54,6 +56,7 @@ fn server_in(alloc: Global, bytes: &[u8]) -> Result<ServerMessage, MsgFault>
 
 /// A member of the client's messages, where the number is that of one. Data, which nearly all are, are read by a function
 /// of few values: whatever a function may hold is cleared where it begins.
+#[inline(always)]
 fn client_of(alloc: Global, bytes: &[u8], field: Field) -> Result<Option<ClientMessage>, MsgFault>
     requires { IsWithin (length bytes.now) field.value }
     ensures { Gives (λ m. m) result (client_message.take bytes.now 0 None field) }
@@ -153,6 +156,7 @@ impl Fields for ClientFields {
     }
 }
 
+#[inline(always)]
 fn read_client(alloc: Global, bytes: &[u8]) -> Result<Option<ClientMessage>, MsgFault>
     ensures { Gives (λ m. m) result (read client_message bytes.now) }
 {

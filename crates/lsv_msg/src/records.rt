@@ -48,6 +48,7 @@ impl Fields for IoBufferFields {
 }
 
 /// The data that these bytes are, of which a copy is made.
+#[inline(always)]
 pub fn read_buffer(alloc: Global, bytes: &[u8]) -> Result<IoBuffer, MsgFault>
     ensures { Gives (λ m. m) result (read io_buffer bytes.now) }
 {

@@ -20,6 +20,7 @@ const MOST_DATA: usize = 2_097_152;
 /// `BadSizeOrSignal` where a window's rows or columns are negative or a signal's name isn't 1 to 32 visible bytes,
 /// `MessageTooLarge` where a record has more than 2,097,152 bytes of data, and `NoSuchLog` where a restart's identifier isn't
 /// the six digits of a log number. No other refusal comes. The keys of an accept aren't judged.
+#[inline(always)]
 pub fn request_of(message: ClientMessage) -> Result<Request, Refusal>
     ensures { result ≡ request_of message }
 {
@@ -71,6 +72,7 @@ fn valid_time(time: Option<TimeSpec>) -> Result<TimeSpec, Refusal>
 }
 
 /// The nanoseconds since the record before.
+#[inline(always)]
 fn delay_in(time: Option<TimeSpec>) -> Result<u64, Refusal>
     ensures { result ≡ nanos_in time }
 {
@@ -89,6 +91,7 @@ fn point_in(time: Option<TimeSpec>) -> Result<Point, Refusal>
     }
 }
 
+#[inline(always)]
 fn data_of(stream: Stream, m: IoBuffer) -> Result<Record, Refusal>
     ensures { result ≡ data_of stream m }
 {
@@ -103,6 +106,8 @@ fn data_of(stream: Stream, m: IoBuffer) -> Result<Record, Refusal>
     })
 }
 
+#[cold]
+#[inline(never)]
 fn window_of(m: ChangeWindowSize) -> Result<Record, Refusal>
     ensures { result ≡ window_of m }
 {
@@ -117,6 +122,8 @@ fn window_of(m: ChangeWindowSize) -> Result<Record, Refusal>
     })
 }
 
+#[cold]
+#[inline(never)]
 fn suspend_of(m: CommandSuspend) -> Result<Record, Refusal>
     ensures { result ≡ suspend_of m }
 {
@@ -136,6 +143,8 @@ fn is_signal(text: &[u8]) -> bool
     lsv_record::is_signal(text)
 }
 
+#[cold]
+#[inline(never)]
 fn accept_of(m: AcceptMessage) -> Result<Accept, Refusal>
     ensures { result ≡ accept_of m }
 {
@@ -149,6 +158,8 @@ fn accept_of(m: AcceptMessage) -> Result<Accept, Refusal>
     })
 }
 
+#[cold]
+#[inline(never)]
 fn reject_of(m: RejectMessage) -> Result<Report, Refusal>
     ensures { result ≡ reject_of m }
 {
@@ -160,6 +171,8 @@ fn reject_of(m: RejectMessage) -> Result<Report, Refusal>
     })
 }
 
+#[cold]
+#[inline(never)]
 fn alert_of(m: AlertMessage) -> Result<Report, Refusal>
     ensures { result ≡ alert_of m }
 {
@@ -181,6 +194,8 @@ fn run_of(run: Option<TimeSpec>) -> Result<TimeSpec, Refusal>
     }
 }
 
+#[cold]
+#[inline(never)]
 fn exit_of(m: ExitMessage) -> Result<Exit, Refusal>
     ensures { result ≡ exit_of m }
 {
@@ -194,6 +209,8 @@ fn exit_of(m: ExitMessage) -> Result<Exit, Refusal>
     })
 }
 
+#[cold]
+#[inline(never)]
 fn restart_of(m: RestartMessage) -> Result<Restart, Refusal>
     ensures { result ≡ restart_of m }
 {
