@@ -45,8 +45,8 @@ with_keys_ok s (Ok (request.Accept accept)) asked e = go (is_running s || has_ke
 
 -- what asks for something else than an accept, or is refused, needs no keys
 needs_none : {A : Type 0} (s : ConnState) (ask : A → Request) → ((a : A) → with_keys s (passes (ask a)) ≡ passes (ask a)) → (w : Result A Refusal) → with_keys s (and_then w (λ a. passes (ask a))) ≡ and_then w (λ a. passes (ask a))
-needs_none s ask no (Ok a) = no a
-needs_none s ask no (Err why) = refl
+needs_none s ask passed (Ok a) = passed a
+needs_none s ask passed (Err why) = refl
 
 pub others_pass : (s : ConnState) (m : ClientMessage) → is_accept m ≡ false → with_keys s (request_of m) ≡ request_of m
 others_pass s (client.Hello m) e = refl

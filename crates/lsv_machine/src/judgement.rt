@@ -1,4 +1,4 @@
-ghost use Rattle.std.specs.Prelude.{◌≡◌};
+ghost use Rattle.std.specs.Prelude.{◌≡◌, Ok};
 ghost use Rattle.lsv_request.specs.Requests.{request_of};
 ghost use Rattle.lsv_machine.specs.Judgement.{allows, fault_refusal, is_accept, judged, row, with_keys};
 
@@ -51,18 +51,25 @@ fn copied(state: &ConnState) -> ConnState
     *state
 }
 
-/// What an accept asks, or that one that opens a session lacks its keys.
+/// What is asked, or that an accept that opens a session lacks its keys.
+fn with_keys(state: ConnState, asked: Request) -> Result<Request, Refusal>
+    ensures { result ≡ with_keys state (Ok asked) }
+{
+    match &asked {
+        Request::Accept(accept) if !is_running(state) && !has_keys(&accept.head.info) => {
+            Err(Refusal::MissingKey)
+        }
+        _ => Ok(asked),
+    }
+}
+
+/// What an accept asks, or why it is refused.
 #[cold]
 #[inline(never)]
 fn judged_accept(state: ConnState, message: ClientMessage) -> Result<Request, Refusal>
     ensures { result ≡ with_keys state (request_of message) }
 {
-    match request_of(message)? {
-        Request::Accept(accept) if !is_running(state) && !has_keys(&accept.head.info) => {
-            Err(Refusal::MissingKey)
-        }
-        asked => Ok(asked),
-    }
+    with_keys(state, request_of(message)?)
 }
 
 /// What a message asks of a session in this state, or the first refusal: its state, then its time, then its size, signal,
