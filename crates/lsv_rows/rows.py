@@ -262,15 +262,8 @@ def one_written(kinds, number, value):
 # ---- how values are shown
 
 
-IN_PLACE = 30
-
-
 def shown_bytes(b):
-    """Bytes are shown as they are kept: few of them in place, with zeros behind them."""
-    if len(b) > IN_PLACE:
-        return f"Bytes {{ alloc: Global, kept: Long([{', '.join(map(str, b))}]) }}"
-    place = list(b) + [0] * (IN_PLACE - len(b))
-    return f"Bytes {{ alloc: Global, kept: Short(Short {{ len: {len(b)}, bytes: [{', '.join(map(str, place))}] }}) }}"
+    return "Bytes { bytes: [" + ", ".join(str(x) for x in b) + "] }"
 
 
 def shown_list(items):

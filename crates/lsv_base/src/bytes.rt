@@ -3,19 +3,20 @@ ghost use Rattle.std.specs.Prelude.{◌≡◌, List, ℕ, [], ◌++◌, ◌≤�
 use crate::NoMem;
 use crate::short::Short;
 use std::alloc::Global;
+use std::fmt;
+use std::fmt::{Debug, Formatter};
 use std::marker::Model;
 
 /// A block of more bytes is let go once it holds none.
 const LARGE: usize = 1 << 16;
 
 /// Owned bytes. Contracts see the list of them. A few are kept in place, more take a block of memory.
-#[derive(Debug)]
 pub struct Bytes {
     alloc: Global,
     kept: Kept,
 }
 
-#[derive(Debug, Drop)]
+#[derive(Drop)]
 enum Kept {
     Short(Short),
     Long(Vec<u8>),
@@ -28,6 +29,15 @@ impl Model for Bytes {
     ghost Value = { List ℕ };
 
     ghost view = { λ b. elim b.kept [ Short few ↦ few | Long many ↦ many.items ] };
+}
+
+/// However they are kept.
+impl Debug for Bytes {
+    fn fmt<W: fmt::Write>(&self, f: &mut Formatter<W>) -> fmt::Result {
+        f.debug_struct("Bytes")
+            .field("bytes", &self.as_slice())
+            .finish()
+    }
 }
 
 /// By a call, so that who drops bytes needn't tell the two kinds apart.

@@ -9,7 +9,7 @@ use std::marker::Model;
 const SIZE: usize = 30;
 
 /// At most 30 bytes.
-#[derive(Debug, Drop)]
+#[derive(Drop)]
 pub struct Short {
     len: u8,
     bytes: [u8; SIZE],

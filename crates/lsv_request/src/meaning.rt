@@ -1,14 +1,15 @@
 //! What a message asks of a session, or why it is refused.
 
-ghost use Rattle.std.specs.Prelude.{◌≡◌, ◌≤◌};
-ghost use Rattle.lsv_request.specs.Requests.{accept_of, alert_of, data_of, exit_of, has_keys, head_of, is_signal, nanos_in, reject_of, request_of, restart_of, run_of, suspend_of, valid_time, window_of};
+ghost use Rattle.std.specs.Prelude.{◌≡◌, ◌≤◌, Ok};
+ghost use Rattle.lsv_request.specs.declared.request.Request.TheVariants as requests;
+ghost use Rattle.lsv_request.specs.Requests.{accept_of, alert_of, and_then, data_of, exit_of, has_keys, head_of, is_signal, nanos_in, reject_of, request_of, restart_of, run_of, suspend_of, valid_time, window_of};
 
 use crate::{Accept, Refusal, Report, Request, Restart};
 use lsv_base::{LogNo, Point, TimeSpec};
 use lsv_info::{Exit, Head, Info};
 use lsv_msg::{
-    AcceptMessage, AlertMessage, ChangeWindowSize, ClientMessage, CommandSuspend, ExitMessage,
-    IoBuffer, RejectMessage, RestartMessage,
+    AcceptMessage, AlertMessage, Boxed, ChangeWindowSize, ClientMessage, CommandSuspend,
+    ExitMessage, IoBuffer, RejectMessage, RestartMessage,
 };
 use lsv_record::{Record, Stream};
 
@@ -26,19 +27,83 @@ pub fn request_of(message: ClientMessage) -> Result<Request, Refusal>
 {
     match message {
         ClientMessage::Hello(_) => Ok(Request::Hello),
-        ClientMessage::Accept(m) => Ok(Request::Accept(accept_of(m.into_inner())?)),
-        ClientMessage::Reject(m) => Ok(Request::Reject(reject_of(m.into_inner())?)),
-        ClientMessage::Alert(m) => Ok(Request::Alert(alert_of(m.into_inner())?)),
-        ClientMessage::Restart(m) => Ok(Request::Restart(restart_of(m)?)),
-        ClientMessage::Exit(m) => Ok(Request::Exit(exit_of(m.into_inner())?)),
-        ClientMessage::Ttyin(m) => Ok(Request::Record(data_of(Stream::Ttyin, m)?)),
-        ClientMessage::Ttyout(m) => Ok(Request::Record(data_of(Stream::Ttyout, m)?)),
-        ClientMessage::Stdin(m) => Ok(Request::Record(data_of(Stream::Stdin, m)?)),
-        ClientMessage::Stdout(m) => Ok(Request::Record(data_of(Stream::Stdout, m)?)),
-        ClientMessage::Stderr(m) => Ok(Request::Record(data_of(Stream::Stderr, m)?)),
-        ClientMessage::Winsize(m) => Ok(Request::Record(window_of(m)?)),
-        ClientMessage::Suspend(m) => Ok(Request::Record(suspend_of(m)?)),
+        ClientMessage::Accept(m) => accept_request(m),
+        ClientMessage::Reject(m) => reject_request(m),
+        ClientMessage::Alert(m) => alert_request(m),
+        ClientMessage::Restart(m) => restart_request(m),
+        ClientMessage::Exit(m) => exit_request(m),
+        ClientMessage::Ttyin(m) => data_request(Stream::Ttyin, m),
+        ClientMessage::Ttyout(m) => data_request(Stream::Ttyout, m),
+        ClientMessage::Stdin(m) => data_request(Stream::Stdin, m),
+        ClientMessage::Stdout(m) => data_request(Stream::Stdout, m),
+        ClientMessage::Stderr(m) => data_request(Stream::Stderr, m),
+        ClientMessage::Winsize(m) => window_request(m),
+        ClientMessage::Suspend(m) => suspend_request(m),
     }
+}
+
+// Each of these stands apart, since whatever a function may hold is cleared where it begins.
+
+fn data_request(stream: Stream, m: IoBuffer) -> Result<Request, Refusal>
+    ensures { result ≡ and_then (data_of stream m) (λ r. Ok (requests.Record r)) }
+{
+    Ok(Request::Record(data_of(stream, m)?))
+}
+
+#[cold]
+#[inline(never)]
+fn accept_request(m: Boxed<AcceptMessage>) -> Result<Request, Refusal>
+    ensures { result ≡ and_then (accept_of m) (λ a. Ok (requests.Accept a)) }
+{
+    Ok(Request::Accept(accept_of(m.into_inner())?))
+}
+
+#[cold]
+#[inline(never)]
+fn reject_request(m: Boxed<RejectMessage>) -> Result<Request, Refusal>
+    ensures { result ≡ and_then (reject_of m) (λ r. Ok (requests.Reject r)) }
+{
+    Ok(Request::Reject(reject_of(m.into_inner())?))
+}
+
+#[cold]
+#[inline(never)]
+fn alert_request(m: Boxed<AlertMessage>) -> Result<Request, Refusal>
+    ensures { result ≡ and_then (alert_of m) (λ r. Ok (requests.Alert r)) }
+{
+    Ok(Request::Alert(alert_of(m.into_inner())?))
+}
+
+#[cold]
+#[inline(never)]
+fn restart_request(m: RestartMessage) -> Result<Request, Refusal>
+    ensures { result ≡ and_then (restart_of m) (λ r. Ok (requests.Restart r)) }
+{
+    Ok(Request::Restart(restart_of(m)?))
+}
+
+#[cold]
+#[inline(never)]
+fn exit_request(m: Boxed<ExitMessage>) -> Result<Request, Refusal>
+    ensures { result ≡ and_then (exit_of m) (λ e. Ok (requests.Exit e)) }
+{
+    Ok(Request::Exit(exit_of(m.into_inner())?))
+}
+
+#[cold]
+#[inline(never)]
+fn window_request(m: ChangeWindowSize) -> Result<Request, Refusal>
+    ensures { result ≡ and_then (window_of m) (λ r. Ok (requests.Record r)) }
+{
+    Ok(Request::Record(window_of(m)?))
+}
+
+#[cold]
+#[inline(never)]
+fn suspend_request(m: CommandSuspend) -> Result<Request, Refusal>
+    ensures { result ≡ and_then (suspend_of m) (λ r. Ok (requests.Record r)) }
+{
+    Ok(Request::Record(suspend_of(m)?))
 }
 
 /// The head of a session that an accept opens: `BadTime` is judged before `MissingKey`.

@@ -14,9 +14,8 @@ pub fn head(rt: &HostRuntime, digits: &str) -> Result<()> {
     let bytes = bytes_of(alloc, digits)?;
     match read_head(alloc, bytes.as_slice()) {
         Ok(head) => {
-            let copy = head.copy(alloc)?;
-            let line = write_head(alloc, &copy)?;
-            println!(rt; "{copy:?} {}", digits_of(alloc, &line)?)?;
+            let line = write_head(alloc, &head.copy(alloc)?)?;
+            println!(rt; "{head:?} {}", digits_of(alloc, &line)?)?;
         }
         Err(fault) => println!(rt; "{fault}")?,
     }
@@ -29,9 +28,8 @@ pub fn exit(rt: &HostRuntime, digits: &str) -> Result<()> {
     let bytes = bytes_of(alloc, digits)?;
     match read_exit(alloc, bytes.as_slice()) {
         Ok(exit) => {
-            let copy = exit.copy(alloc)?;
-            let line = write_exit(alloc, &copy)?;
-            println!(rt; "{copy:?} {}", digits_of(alloc, &line)?)?;
+            let line = write_exit(alloc, &exit.copy(alloc)?)?;
+            println!(rt; "{exit:?} {}", digits_of(alloc, &line)?)?;
         }
         Err(fault) => println!(rt; "{fault}")?,
     }
