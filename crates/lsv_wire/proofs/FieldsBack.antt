@@ -1,11 +1,12 @@
 -- A field that is written is read back, whatever follows it.
-use Rattle.std.proofs.Common.{◌≡◌, ℕ, ◌+◌, ◌-◌, ◌*◌, ◌/◌, ◌%◌, ◌^◌, ◌<◌, ◌≤◌, false, ltb, eqb, List, [], ◌++◌, length, take, drop, Some, None, Result, Ok, refl, sym, ap, subst, ◌∙◌, append_assoc, arith}
-use Rattle.std.proofs.lemmas.Bool.{le-ltb, lt-leb, ne_eqb}
+use Rattle.std.proofs.Common.{◌≡◌, ℕ, ◌+◌, ◌-◌, ◌*◌, ◌/◌, ◌%◌, ◌^◌, ◌<◌, ◌≤◌, false, ltb, eqb, List, [], ◌++◌, length, take, drop, Some, None, Result, Ok, Err, refl, sym, ap, subst, ◌∙◌, append_assoc, arith}
+use Rattle.std.proofs.lemmas.Bool.{le-ltb, lt-ltb, lt-leb, ne_eqb}
 use Rattle.std.proofs.lemmas.List.{take_at, drop_at, length-append, length-drop, drop-drop}
 use Rattle.lsv_wire.specs.declared.field.Field.{Field}
 use Rattle.lsv_wire.specs.declared.field.FieldValue.{FieldValue}
 use Rattle.lsv_wire.specs.declared.field.FieldValue.TheVariants.{Varint, Range}
 use Rattle.lsv_wire.specs.declared.field.WireFault.{WireFault}
+use Rattle.lsv_wire.specs.declared.field.WireFault.TheVariants.{Truncated}
 use Rattle.lsv_wire.specs.declared.field.TheConstants.{LAST_FIELD_NUMBER}
 use Rattle.lsv_wire.specs.Varint.{varint}
 use Rattle.lsv_wire.specs.Fields.{◌>>=◌, varint_at, after_bytes, value_at, field_at, next_field, with_field, step_within, fields_from, number_field, bytes_field}
@@ -40,6 +41,14 @@ next_field-there : (bytes : List ℕ) (at : ℕ) (f : Field × ℕ) → at < len
 unfolding next_field
 next_field-there bytes at f lt e = rw (lt-leb (length bytes) at lt, e) refl
 
+-- a value that can't be read is no field
+pub read_refused : (bytes : List ℕ) (at key number type after : ℕ) (fault : WireFault) → at < length bytes → IsKey key number type → varint_at bytes at at ≡ Ok (key, after) → value_at type bytes at after ≡ Err fault
+    → next_field bytes at ≡ Err fault
+unfolding next_field
+read_refused bytes at key number type after fault lt is e v =
+    let f : field_at bytes at ≡ Err fault = field_at-typed bytes at key number type after is e ∙ ap (λ (r : Result (FieldValue × ℕ) WireFault). r >>= with_number number) v in
+    rw (lt-leb (length bytes) at lt, f) refl
+
 -- what stands behind a part
 pub behind_part : (bytes part rest : List ℕ) (at : ℕ) → drop at bytes ≡ part ++ rest → drop (at + length part) bytes ≡ rest
 behind_part bytes part rest at is = sym (drop-drop (length part) at bytes) ∙ ap (drop (length part)) is ∙ drop_at part rest (length part) refl
@@ -57,6 +66,18 @@ read_typed bytes at key number type after value is e v =
 pub value_at-number : (bytes : List ℕ) (key at n next : ℕ) → varint_at bytes key at ≡ Ok (n, next) → value_at 0 bytes key at ≡ Ok (Varint n, next)
 unfolding value_at
 value_at-number bytes key at n next e = rw e refl
+
+pub value_at-no_number : (bytes : List ℕ) (key at : ℕ) (fault : WireFault) → varint_at bytes key at ≡ Err fault → value_at 0 bytes key at ≡ Err fault
+unfolding value_at
+value_at-no_number bytes key at fault e = rw e refl
+
+pub value_at-no_length : (bytes : List ℕ) (key at : ℕ) (fault : WireFault) → varint_at bytes key at ≡ Err fault → value_at 2 bytes key at ≡ Err fault
+unfolding value_at
+value_at-no_length bytes key at fault e = rw e refl
+
+pub value_at-cut_off : (bytes : List ℕ) (key at n start : ℕ) → varint_at bytes key at ≡ Ok (n, start) → length bytes < start + n → value_at 2 bytes key at ≡ Err (Truncated key)
+unfolding value_at after_bytes
+value_at-cut_off bytes key at n start e past = rw (e, lt-ltb (length bytes) (start + n) past) refl
 
 pub value_at-bytes : (bytes : List ℕ) (key at n start : ℕ) → varint_at bytes key at ≡ Ok (n, start) → start + n ≤ length bytes → value_at 2 bytes key at ≡ Ok (Range start (start + n), start + n)
 unfolding value_at after_bytes

@@ -1,4 +1,4 @@
-ghost use Rattle.std.specs.Prelude.{◌≡◌, ◌≤◌, ◌<◌, ◌/◌, ◌%◌, ◌↔◌, [], ◌∷◌, length, MatchResult, MatchOption, IfOk, IfSome, Some, None, Ok};
+ghost use Rattle.std.specs.Prelude.{◌≡◌, ◌≤◌, ◌<◌, ◌/◌, ◌%◌, ◌↔◌, [], ◌∷◌, length, get_or, MatchResult, MatchOption, IfOk, IfSome, IfNone, IsErr, Some, None, Ok};
 ghost use Rattle.std.specs.Int.{w32, w64};
 ghost use Rattle.lsv_wire.specs.Fields as spelled;
 ghost use Rattle.lsv_wire.specs.Fields.{fixed_at, fields_from, with_field, IsWithin};
@@ -62,13 +62,15 @@ pub fn read_field(bytes: &[u8], at: usize) -> Result<Option<(Field, usize)>, Wir
     next_field(bytes, at)
 }
 
-/// The places of the bytes of the field at a place, whose key is this one byte. None says nothing of what stands there.
+/// The places of the bytes of the field at a place, whose key is this one byte. None where the byte there is another one,
+/// at the end, and where the field is cut off or its length is no varint.
 #[inline(always)]
-#[tactic(auto, using(crate::proofs::Keyed::keyed_bytes))]
+#[tactic(auto, using(crate::proofs::Keyed::keyed_bytes, crate::proofs::Keyed::no_length, crate::proofs::Keyed::past_the_end))]
 pub fn keyed_bytes(bytes: &[u8], at: usize, key: u8) -> Option<(usize, usize)>
     requires place { at ≤ length bytes.now }
     requires key { (8 ≤ key) × (key < 128) × (key % 8 ≡ 2) }
     ensures fields { IfSome result (λ r. fields_from bytes.now at ≡ with_field (record { number = key / 8; value = Range r.0 r.1 }) (fields_from bytes.now r.1)) }
+    ensures none { IfNone result (get_or bytes.now at 0 ≡ key → IsErr (spelled.next_field bytes.now at)) }
     ensures within { IfSome result (λ r. (r.0 ≤ r.1) × (r.1 ≤ length bytes.now)) }
 {
     if at == bytes.len() || bytes[at] != key {
@@ -83,14 +85,15 @@ pub fn keyed_bytes(bytes: &[u8], at: usize, key: u8) -> Option<(usize, usize)>
     Some((from, from + n as usize))
 }
 
-/// The number in the field at a place, whose key is this one byte, and the place after it. None says nothing of what
-/// stands there.
+/// The number in the field at a place, whose key is this one byte, and the place after it. None where the byte there is
+/// another one, at the end, and where no varint follows it.
 #[inline(always)]
-#[tactic(auto, using(crate::proofs::Keyed::keyed_number))]
+#[tactic(auto, using(crate::proofs::Keyed::keyed_number, crate::proofs::Keyed::no_number))]
 pub fn keyed_number(bytes: &[u8], at: usize, key: u8) -> Option<(u64, usize)>
     requires place { at ≤ length bytes.now }
     requires key { (8 ≤ key) × (key < 128) × (key % 8 ≡ 0) }
     ensures fields { IfSome result (λ r. fields_from bytes.now at ≡ with_field (record { number = key / 8; value = Varint r.0 }) (fields_from bytes.now r.1)) }
+    ensures none { IfNone result (get_or bytes.now at 0 ≡ key → IsErr (spelled.next_field bytes.now at)) }
     ensures within { IfSome result (λ r. r.1 ≤ length bytes.now) }
 {
     if at == bytes.len() || bytes[at] != key {
