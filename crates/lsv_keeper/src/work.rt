@@ -30,13 +30,6 @@ use lsv_msg::ClientMessage;
 use lsv_request::Request;
 use lsv_session::{Body, ConnId, ConnState, Job, Reply};
 
-/// A state, to be passed on twice.
-fn copied(state: &ConnState) -> ConnState
-    ensures { result ≡ state.now }
-{
-    *state
-}
-
 impl<F: LineWriter, H: Search> Keeper<F, H> {
     /// A job is done, and its replies are put at the end, for which there is room.
     pub(crate) fn answer_job<D: Disk>(
@@ -127,7 +120,7 @@ impl<F: LineWriter, H: Search> Keeper<F, H> {
         ensures syncs { D.tells → (m : Machine) → Represents (view_of self.old) (D.view disk.old) m → Syncs (Restarts (bodies.Msg message)) (view_of self.old) (view_of self.new) (D.view disk.old) (D.view disk.new) }
     {
         windowed(&message);
-        match judged(copied(&state), message) {
+        match judged(state.copied(), message) {
             Ok(request) => self.work(disk, now, conn, state, request),
             Err(why) => self.refuse(disk, conn, why),
         }

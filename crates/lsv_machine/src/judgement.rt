@@ -43,14 +43,6 @@ fn allows(message: &ClientMessage, state: ConnState) -> bool
     }
 }
 
-/// A state, to be passed on twice.
-#[inline(always)]
-fn copied(state: &ConnState) -> ConnState
-    ensures { result ≡ state.now }
-{
-    *state
-}
-
 /// What is asked, or that an accept that opens a session lacks its keys.
 fn with_keys(state: ConnState, asked: Request) -> Result<Request, Refusal>
     ensures { result ≡ with_keys state (Ok asked) }
@@ -79,7 +71,7 @@ fn judged_accept(state: ConnState, message: ClientMessage) -> Result<Request, Re
 pub fn judged(state: ConnState, message: ClientMessage) -> Result<Request, Refusal>
     ensures { result ≡ judged state message }
 {
-    if !allows(&message, copied(&state)) {
+    if !allows(&message, state.copied()) {
         return Err(Refusal::UnexpectedMessage);
     }
     if is_accept(&message) {

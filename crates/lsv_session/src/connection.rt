@@ -1,3 +1,5 @@
+ghost use Rattle.std.specs.Prelude.{◌≡◌};
+
 use lsv_base::LogNo;
 
 /// A connection: the worker that serves it, and the worker's own count of connections. No worker gives a number twice.
@@ -20,4 +22,14 @@ pub enum ConnState {
     Running(Option<LogNo>),
     /// It was shut: what it still sends is dropped.
     Dead,
+}
+
+impl ConnState {
+    /// A copy, for a state that is passed on twice.
+    #[inline(always)]
+    pub fn copied(&self) -> ConnState
+        ensures { result ≡ self.now }
+    {
+        *self
+    }
 }

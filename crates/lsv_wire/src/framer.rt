@@ -1,7 +1,7 @@
 ghost use Rattle.std.specs.Prelude.{◌≡◌, ◌+◌, ◌≤◌, ◌<◌, ℕ, List, [], ◌++◌, length, drop, MatchOption, IfOk, IfErr, OnOk, OnErr};
 ghost use Rattle.lsv_wire.specs.Frame.{frame_of, IsMessage, IsPartial, IsTooLong};
 
-use crate::{FRAME_LIMIT, FrameFault};
+use crate::{FrameFault, first_message};
 use lsv_base::{Bytes, NoMem};
 use std::alloc::Global;
 use std::marker::Model;
@@ -70,22 +70,11 @@ impl Framer {
             (λ m. IsMessage m.now × (self.now ≡ frame_of m.now ++ drop (4 + length m.now) self.now))) }
         ensures too_large { IfErr result (IsTooLong self.now) }
     {
-        let held = self.held();
-        if held.len() < 4 {
-            return Ok(None);
-        }
-        let (stated, behind) = held.split_at(4);
-        let stated = u32::from_be_bytes([stated[0], stated[1], stated[2], stated[3]]);
-        if stated as usize > FRAME_LIMIT {
-            return Err(stated);
-        }
-        if behind.len() < stated as usize {
-            return Ok(None);
-        }
-        Ok(Some(behind.split_at(stated as usize).0))
+        first_message(self.held())
     }
 
-    fn held(&self) -> &[u8]
+    /// The bytes that were fed and not yet given.
+    pub fn held(&self) -> &[u8]
         ensures { result.now ≡ self.now }
     {
         &self.buffer[self.start..]

@@ -12,7 +12,7 @@ pub use field::{
     varint_at,
 };
 pub use framer::Framer;
-pub use framing::{FRAME_LIMIT, FrameFault, frame};
+pub use framing::{FRAME_LIMIT, FrameFault, first_message, frame, lacking};
 pub use laws::{
     a_stream_is_read_from_the_front, no_frame_begins_another, one_text_has_one_cutting,
     one_text_has_one_list_of_fields, what_is_written_is_read_back,
