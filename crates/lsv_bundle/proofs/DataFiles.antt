@@ -296,14 +296,41 @@ staged_either owner (file ∷ files) g = elim (staged_either owner files g) [
 prefix_same : (n m : ℕ) (all prefix more : List ℕ) → length prefix ≡ n → take (n + m) all ≡ prefix ++ more → take n all ≡ prefix
 prefix_same n m all prefix more long is = sym (take-take n (n + m) all (omega arith)) ∙ ap (take n) is ∙ take_at prefix more n long
 
--- all are written, and then synced
-module _ (owner : Owner) (files : List FileView) (old mid new : DiskView) (unchanged : Unchanged mid new)
-    (run : Throughout (IsAmong owner files) (λ image. Each (KeepsPrefix owner old image) files) old mid) where
-  pub synced_run : ((image : Image) → IsCrashImage mid image → mid.crash_images_at mid.moment image) → Throughout (IsAmong owner files) (λ image. Each (KeepsPrefix owner old image) files) old new
-  synced_run is_now = followed (IsAmong owner files) (λ image. Each (KeepsPrefix owner old image) files) old mid new run
-      (unchanged_throughout (IsAmong owner files) (λ image. Each (KeepsPrefix owner old image) files) mid new
-      (λ image is. run.each mid.moment image run.later (omega arith) (is_now image is)) unchanged)
+-- some calls, and then others that touch nothing
+pub then_unchanged : (Touched : FileId → Type 0) (P : Image → Type 0) (old mid new : DiskView) → ((image : Image) → IsCrashImage mid image → mid.crash_images_at mid.moment image) → Throughout Touched P old mid → Unchanged mid new → Throughout Touched P old new
+then_unchanged Touched P old mid new now run unchanged = followed Touched P old mid new run
+    (unchanged_throughout Touched P mid new (λ image is. run.each mid.moment image run.later (omega arith) (now image is)) unchanged)
 
+-- what was appended stays so where none of the files is touched
+pub appended_stays : (owner : Owner) (files : List FileView) (Touched : FileId → Type 0) (old mid new : DiskView) → Elsewhere Touched mid new → ((g : FileId) → IsAmong owner files g → Touched g → ⊥)
+    → Each (IsAppended owner old mid) files → Each (IsAppended owner old new) files
+appended_stays owner [] Touched old mid new elsewhere apart each = tt
+appended_stays owner (file ∷ files) Touched old mid new elsewhere apart each = (
+  record {
+    content = each.0.content;
+    there = elsewhere.same (file_of owner file.part) (apart (file_of owner file.part) (inl refl)) ∙ each.0.there;
+    enough = each.0.enough;
+    extended = prefix_stays Touched mid new (file_of owner file.part) (file.committed + length file.staged) elsewhere (apart (file_of owner file.part) (inl refl)) ∙ each.0.extended;
+    synced = λ none. synced_stays Touched mid new (file_of owner file.part) elsewhere (apart (file_of owner file.part) (inl refl)) (each.0.synced none);
+  },
+  appended_stays owner files Touched old mid new elsewhere (λ g among. apart g (inr among)) each.1,
+)
+
+-- calls that write files with staged bytes sync none
+pub none_synced : (owner : Owner) (files : List FileView) (old new : DiskView) → CallsAtMost 1 0 (IsStagedAmong owner files) old new → (g : FileId) → new.syncs g ≡ old.syncs g
+none_synced owner files old new calls = rose_nothing (IsStagedAmong owner files) old.syncs new.syncs (staged_either owner files) calls.syncs
+
+-- files that are synced once, between calls that sync none of them
+pub once_between : (owner : Owner) (files : List FileView) (old one two new : DiskView) → ((g : FileId) → one.syncs g ≡ old.syncs g) → ((g : FileId) → IsAmong owner files g → new.syncs g ≡ two.syncs g)
+    → Each (IsSyncedOnce owner one two) files → Each (IsSyncedOnce owner old new) files
+once_between owner [] old one two new before after once = tt
+once_between owner (file ∷ files) old one two new before after once = (
+  λ some. after (file_of owner file.part) (inl refl) ∙ once.0 some ∙ ap (λ (n : ℕ). n + 1) (before (file_of owner file.part)),
+  once_between owner files old one two new before (λ g among. after g (inr among)) once.1,
+)
+
+-- all are written, and then synced
+module _ (owner : Owner) (files : List FileView) (old mid new : DiskView) (unchanged : Unchanged mid new) where
   pub all_written : Each (IsDurableFile owner old) files → Each (IsAppended owner old mid) files → Each (IsSyncedFile owner new) files → Each (IsWritten owner new) files
   all_written durable appended synced = each_both (λ file. IsDurableFile owner old file × IsAppended owner old mid file) (IsSyncedFile owner new) (IsWritten owner new) files
       (λ file both sync.
@@ -323,7 +350,3 @@ module _ (owner : Owner) (files : List FileView) (old mid new : DiskView) (uncha
             (sym (prefix_same file.committed (length file.staged) (bytes_of (new.reads g)) (prefix_at old g file.committed) file.staged (length_prefix old g file.committed both.0) extended));
       })
       (each_both (IsDurableFile owner old) (IsAppended owner old mid) (λ file. IsDurableFile owner old file × IsAppended owner old mid file) files (λ file d a. (d, a)) durable appended) synced
-
-  pub all_once : CallsAtMost 1 0 (IsStagedAmong owner files) old mid → Each (IsSyncedOnce owner mid new) files → Each (IsSyncedOnce owner old new) files
-  all_once calls once = each_map (IsSyncedOnce owner mid new) (IsSyncedOnce owner old new) files
-      (λ file is some. is some ∙ ap (λ (n : ℕ). n + 1) (rose_nothing (IsStagedAmong owner files) old.syncs mid.syncs (staged_either owner files) calls.syncs (file_of owner file.part))) once

@@ -1,5 +1,5 @@
--- A flush: the data, the entry, and its selection, one after the other.
-use Rattle.std.proofs.Common.{◌≡◌, ◌≢◌, inl, inr, ℕ, List, ◌++◌, Option, Some, option_map, refl, sym, ◌∙◌, ap, subst, arith}
+-- A flush: the data and the entry are written, and then the entry is selected.
+use Rattle.std.proofs.Common.{◌≡◌, ◌≢◌, ◌⊎◌, inl, inr, ℕ, List, ◌++◌, Option, Some, option_map, refl, sym, ◌∙◌, ap, subst, arith}
 use Rattle.lsv_disk.specs.declared.file.FileId.{FileId}
 use Rattle.lsv_disk.specs.declared.file.Owner.{Owner}
 use Rattle.lsv_disk.specs.declared.file.Part.{Part}
@@ -9,7 +9,7 @@ use Rattle.lsv_disk.specs.Throughout.{Throughout, RoseAtMost, CallsAtMost}
 use Rattle.lsv_disk.proofs.Composition.{followed, widened}
 use Rattle.lsv_bundle.specs.declared.shape.Shape.{Shape}
 use Rattle.lsv_bundle.specs.declared.body.Body.{Body}
-use Rattle.lsv_bundle.specs.Shape.{IsPart, journal_of, IsDataFile, IsWritable}
+use Rattle.lsv_bundle.specs.Shape.{IsPart, journal_of, IsWritable}
 use Rattle.lsv_bundle.specs.Value.{BundleView, committed_length, staged, IsStagedFile, IsKept}
 use Rattle.lsv_bundle.specs.Committed.{Committed, HasPrefix, IsOwnImage, KeepsBytes, HoldsEntry, BundleHolds, IsBeforeOrAfter, KeepsCommitted, committed_bytes, committed, committed_as}
 use Rattle.lsv_bundle.specs.Represents.{Represents}
@@ -42,33 +42,11 @@ module _ (bundle : BundleView) (old new : DiskView) (below : (part : Part) → I
   pub same_keeps : (image : Image) → KeepsBytes bundle.owner bundle.shape (committed_bytes bundle new) image → KeepsBytes bundle.owner bundle.shape (committed_bytes bundle old) image
   same_keeps image keeps part is = subst (λ (l : List ℕ). HasPrefix l (image (file_of bundle.owner part))) (below part is) (keeps part is)
 
--- the data is written, and then the entry
-module _ (bundle : BundleView) (old one two : DiskView) (next : Option Committed)
-    (below : (part : Part) → IsPart bundle.shape part → committed_bytes bundle one part ≡ committed_bytes bundle old part)
-    (first : Throughout (IsDataFile bundle.owner bundle.shape) (KeepsCommitted bundle old) old one)
-    (second : Throughout (λ g. g ≡ journal_of bundle.owner) (KeepsCommitted bundle one) one two) where
-  abbrev Own : FileId → Type 0
-  Own = IsWritable bundle.owner bundle.shape
-
-  abbrev Either : Image → Type 0
-  Either = IsBeforeOrAfter bundle.owner bundle.shape (committed bundle old) next
-
-  abbrev Keeps : Image → Type 0
-  Keeps = KeepsBytes bundle.owner bundle.shape (committed_bytes bundle old)
-
-  pub two_either : Throughout Own Either old two
-  two_either = followed Own Either old one two
-      (widened (IsDataFile bundle.owner bundle.shape) Own (KeepsCommitted bundle old) Either old one (λ g is. inl is) (λ image has _. inl has.holds) first)
-      (widened (λ g. g ≡ journal_of bundle.owner) Own (KeepsCommitted bundle one) Either one two (λ g e. inr e)
-      (λ image has _. inl (subst (λ (c : Option Committed). BundleHolds bundle.owner bundle.shape c image) (same_committed bundle old one below) has.holds)) second)
-
-  pub two_keeps : Throughout Own Keeps old two
-  two_keeps = followed Own Keeps old one two
-      (widened (IsDataFile bundle.owner bundle.shape) Own (KeepsCommitted bundle old) Keeps old one (λ g is. inl is) (λ image has _. has.bytes) first)
-      (widened (λ g. g ≡ journal_of bundle.owner) Own (KeepsCommitted bundle one) Keeps one two (λ g e. inr e) (λ image has _. same_keeps bundle old one below image has.bytes) second)
-
-  pub two_below : (part : Part) → IsPart bundle.shape part → committed_bytes bundle two part ≡ committed_bytes bundle old part
-  two_below part is = data_stays bundle.owner bundle.shape one two second.elsewhere part (committed_length bundle part) is ∙ below part is
+-- the data and the entry are written
+pub written_either : (bundle : BundleView) (old two : DiskView) (next : Option Committed) → Throughout (IsWritable bundle.owner bundle.shape) (KeepsCommitted bundle old) old two
+    → Throughout (IsWritable bundle.owner bundle.shape) (IsBeforeOrAfter bundle.owner bundle.shape (committed bundle old) next) old two
+written_either bundle old two next run =
+    widened (IsWritable bundle.owner bundle.shape) (IsWritable bundle.owner bundle.shape) (KeepsCommitted bundle old) (IsBeforeOrAfter bundle.owner bundle.shape (committed bundle old) next) old two (λ g is. is) (λ image has _. inl has.holds) run
 
 -- and then it is selected
 module _ (bundle : BundleView) (old two new : DiskView) (body : Body)
@@ -105,28 +83,37 @@ module _ (bundle : BundleView) (old two new : DiskView) (body : Body)
 staged_not_journal : (bundle : BundleView) (g : FileId) → IsStagedFile bundle g → g ≢ journal_of bundle.owner
 staged_not_journal bundle g is e = part_not_journal bundle.owner bundle.shape is.0 is.1 (sym is.3 ∙ e)
 
-two_rose : (bundle : BundleView) (old one two : FileId → ℕ) → RoseAtMost 1 (IsStagedFile bundle) old one → RoseAtMost 1 (λ g. g ≡ journal_of bundle.owner) one two → RoseByFlush bundle old two
-two_rose bundle old one two first second = record {
+-- the data files of which something is staged, and the journal
+abbrev IsNext : BundleView → FileId → Type 0
+IsNext bundle g = IsStagedFile bundle g ⊎ (g ≡ journal_of bundle.owner)
+
+one_rose : (bundle : BundleView) (old two : FileId → ℕ) → RoseAtMost 1 (IsNext bundle) old two → RoseByFlush bundle old two
+one_rose bundle old two first = record {
+  never_fell = first.never_fell;
+  files = λ g is. first.own g (inl is);
+  journal = let n = first.own (journal_of bundle.owner) (inr refl) in omega (arith, n);
+  others = λ g other not_journal. first.others g (λ is. elim is [ inl staged ↦ other staged | inr e ↦ not_journal e ]);
+}
+
+pub one_calls : (bundle : BundleView) (old two : DiskView) → CallsAtMost 1 1 (IsNext bundle) old two → CallsOfFlush bundle old two
+one_calls bundle old two first = record { writes = one_rose bundle old.writes two.writes first.writes; syncs = one_rose bundle old.syncs two.syncs first.syncs }
+
+two_rose : (bundle : BundleView) (old two new : FileId → ℕ) → RoseAtMost 1 (IsNext bundle) old two → RoseAtMost 1 (λ g. g ≡ journal_of bundle.owner) two new → RoseByFlush bundle old new
+two_rose bundle old two new first second = record {
   never_fell = λ g. omega (arith, first.never_fell g, second.never_fell g);
-  files = λ g is. let e = second.others g (staged_not_journal bundle g is) in let n = first.own g is in omega (arith, e, n);
-  journal =
-      let e = first.others (journal_of bundle.owner) (λ is. staged_not_journal bundle (journal_of bundle.owner) is refl) in
-      let n = second.own (journal_of bundle.owner) refl in
-      omega (arith, e, n);
-  others = λ g other not_journal. second.others g not_journal ∙ first.others g other;
+  files = λ g is. let e = second.others g (staged_not_journal bundle g is) in let n = first.own g (inl is) in omega (arith, e, n);
+  journal = let n = first.own (journal_of bundle.owner) (inr refl) in let m = second.own (journal_of bundle.owner) refl in omega (arith, n, m);
+  others = λ g other not_journal. second.others g not_journal ∙ first.others g (λ is. elim is [ inl staged ↦ other staged | inr e ↦ not_journal e ]);
 }
 
-pub two_calls : (bundle : BundleView) (old one two : DiskView) → CallsAtMost 1 1 (IsStagedFile bundle) old one → CallsAtMost 1 1 (λ g. g ≡ journal_of bundle.owner) one two → CallsOfFlush bundle old two
-two_calls bundle old one two first second = record {
-  writes = two_rose bundle old.writes one.writes two.writes first.writes second.writes;
-  syncs = two_rose bundle old.syncs one.syncs two.syncs first.syncs second.syncs;
+pub two_calls : (bundle : BundleView) (old two new : DiskView) → CallsAtMost 1 1 (IsNext bundle) old two → CallsAtMost 1 1 (λ g. g ≡ journal_of bundle.owner) two new → CallsOfFlush bundle old new
+two_calls bundle old two new first second = record {
+  writes = two_rose bundle old.writes two.writes new.writes first.writes second.writes;
+  syncs = two_rose bundle old.syncs two.syncs new.syncs first.syncs second.syncs;
 }
 
-pub staged_stays : (bundle : BundleView) (old one two new : DiskView) → CallsAtMost 1 1 (λ g. g ≡ journal_of bundle.owner) one two → CallsAtMost 1 1 (λ g. g ≡ journal_of bundle.owner) two new → SyncsStaged bundle old one → SyncsStaged bundle old new
-staged_stays bundle old one two new second third once part is some =
-    third.syncs.others (file_of bundle.owner part) (part_not_journal bundle.owner bundle.shape part is)
-    ∙ second.syncs.others (file_of bundle.owner part) (part_not_journal bundle.owner bundle.shape part is)
-    ∙ once part is some
+pub staged_stays : (bundle : BundleView) (old two new : DiskView) → CallsAtMost 1 1 (λ g. g ≡ journal_of bundle.owner) two new → SyncsStaged bundle old two → SyncsStaged bundle old new
+staged_stays bundle old two new second once part is some = second.syncs.others (file_of bundle.owner part) (part_not_journal bundle.owner bundle.shape part is) ∙ once part is some
 
 -- what is committed is held
 pub acknowledge : (bundle next : BundleView) (disk : DiskView) (entry : Committed) → next.owner ≡ bundle.owner → next.shape ≡ bundle.shape → Represents next disk → committed next disk ≡ Some entry
@@ -137,31 +124,3 @@ acknowledge bundle next disk entry owner shape at is image own =
     (subst (λ (c : Option Committed). BundleHolds next.owner next.shape c image) is
     (at_holds next disk at image
     (subst (λ (o : Owner). IsOwnImage o next.shape disk image) (sym owner) (subst (λ (s : Shape). IsOwnImage bundle.owner s disk image) (sym shape) own)))))
-
--- the data alone is written
-pub one_either : (bundle : BundleView) (old one : DiskView) (next : Option Committed) → Throughout (IsDataFile bundle.owner bundle.shape) (KeepsCommitted bundle old) old one
-    → Throughout (IsWritable bundle.owner bundle.shape) (IsBeforeOrAfter bundle.owner bundle.shape (committed bundle old) next) old one
-one_either bundle old one next first =
-    widened (IsDataFile bundle.owner bundle.shape) (IsWritable bundle.owner bundle.shape) (KeepsCommitted bundle old) (IsBeforeOrAfter bundle.owner bundle.shape (committed bundle old) next) old one (λ g is. inl is) (λ image has _. inl has.holds) first
-
-three_rose : (bundle : BundleView) (old one two new : FileId → ℕ) → RoseAtMost 1 (IsStagedFile bundle) old one → RoseAtMost 1 (λ g. g ≡ journal_of bundle.owner) one two → RoseAtMost 1 (λ g. g ≡ journal_of bundle.owner) two new → RoseByFlush bundle old new
-three_rose bundle old one two new first second third = record {
-  never_fell = λ g. omega (arith, first.never_fell g, second.never_fell g, third.never_fell g);
-  files = λ g is.
-      let d = third.others g (staged_not_journal bundle g is) in
-      let e = second.others g (staged_not_journal bundle g is) in
-      let n = first.own g is in
-      omega (arith, d, e, n);
-  journal =
-      let e = first.others (journal_of bundle.owner) (λ is. staged_not_journal bundle (journal_of bundle.owner) is refl) in
-      let n = second.own (journal_of bundle.owner) refl in
-      let m = third.own (journal_of bundle.owner) refl in
-      omega (arith, e, n, m);
-  others = λ g other not_journal. third.others g not_journal ∙ second.others g not_journal ∙ first.others g other;
-}
-
-pub three_calls : (bundle : BundleView) (old one two new : DiskView) → CallsAtMost 1 1 (IsStagedFile bundle) old one → CallsAtMost 1 1 (λ g. g ≡ journal_of bundle.owner) one two → CallsAtMost 1 1 (λ g. g ≡ journal_of bundle.owner) two new → CallsOfFlush bundle old new
-three_calls bundle old one two new first second third = record {
-  writes = three_rose bundle old.writes one.writes two.writes new.writes first.writes second.writes third.writes;
-  syncs = three_rose bundle old.syncs one.syncs two.syncs new.syncs first.syncs second.syncs third.syncs;
-}

@@ -6,6 +6,7 @@ pub mod Laws
 pub mod Making
 pub mod Opening
 pub mod Prefixes
+pub mod Putting
 pub mod Reading
 pub mod Results
 pub mod Shapes

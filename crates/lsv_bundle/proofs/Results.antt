@@ -1,5 +1,5 @@
 -- What follows of results, from what is known of them.
-use Rattle.std.proofs.Common.{Result, Ok, Err, OnOk, OnErr, IfErr, IsErrAnd, is_err, true, false, ◌≡◌, sym, subst, ap, ◌∙◌}
+use Rattle.std.proofs.Common.{Result, Ok, Err, OnOk, OnErr, IfErr, IsErrAnd, IsErrOf, is_err, Bool, true, false, ◌↔◌, ◌≡◌, refl, sym, subst, ap, ◌∙◌}
 
 pub on_ok_both : {T E : Type 0} (r : Result T E) (A B C : Type 0) → (A → B → C) → OnOk r A → OnOk r B → OnOk r C
 on_ok_both (Ok x) A B C follows a b = follows a b
@@ -32,3 +32,8 @@ err_is {T} {E} (Err x) e is = ap (λ (y : E). let r : Result T E = Err y in r) i
 pub same_fault : {T E : Type 0} (r : Result T E) (e d : E) → IsErrAnd r (λ x. x ≡ e) → r ≡ Err d → e ≡ d
 same_fault (Ok x) e d is same = absurd is
 same_fault {T} {E} (Err x) e d is same = sym is ∙ (let h : x ≡ d = cc in h)
+
+-- what is refused with this error exactly where this is true, and isn't refused
+pub not_refused : {T E : Type 0} (r : Result T E) (e : E) (x : T) (b : Bool) → (IsErrOf r e ↔ (b ≡ true)) → r ≡ Ok x → b ≡ false
+not_refused r e x false refused good = refl
+not_refused r e x true refused good = absurd (let h : r ≡ Err e = refused.1 refl in let no : ⊥ = cc in no)

@@ -147,6 +147,11 @@ module _ (bundle : BundleView) (disk : DiskView) (at : Represents bundle disk) w
       subst (λ (f : FileId). Throughout (λ g. g ≡ f) (lasts.IsBeforeOrAfter 89 f (option_map encoded bundle.last) after) disk new) at.well_formed.at
       (subst (λ (o : Option (List ℕ)). Throughout (λ g. g ≡ journals.file bundle.journal) (lasts.IsBeforeOrAfter 89 (journals.file bundle.journal) o after) disk new) at.entry run)
 
+-- what was written of each file has its committed bytes
+pub written_durable : (owner : Owner) (files : List FileView) (disk : DiskView) → Each (IsWritten owner disk) files → Each (IsDurableFile owner disk) files
+written_durable owner files disk written = each_map (IsWritten owner disk) (IsDurableFile owner disk) files
+    (λ file is. record { content = is.durable.content; there = is.durable.there; enough = let e = is.durable.enough in omega (arith, e); synced = is.durable.synced }) written
+
 -- what is staged is written
 module _ (bundle : BundleView) (old mid : DiskView) (at : Represents bundle old)
     (run : Throughout (IsAmong bundle.owner bundle.files) (λ image. Each (KeepsPrefix bundle.owner old image) bundle.files) old mid) where
@@ -168,8 +173,7 @@ module _ (bundle : BundleView) (old mid : DiskView) (at : Represents bundle old)
     journal = represents_stays 89 bundle.journal (IsAmong bundle.owner bundle.files) old mid at.journal run.elsewhere
         (λ g own. own_not_among g (subst (λ (f : FileId). IsOwn f g) at.well_formed.at own));
     entry = at.entry;
-    files = each_map (IsWritten bundle.owner mid) (IsDurableFile bundle.owner mid) bundle.files
-        (λ file is. record { content = is.durable.content; there = is.durable.there; enough = let e = is.durable.enough in omega (arith, e); synced = is.durable.synced }) written;
+    files = written_durable bundle.owner bundle.files mid written;
     lengths = at.lengths;
   }
 

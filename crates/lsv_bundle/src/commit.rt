@@ -1,23 +1,62 @@
 ghost use Rattle.std.specs.Prelude.{◌≡◌, ◌⊎◌, ◌↔◌, ℕ, ◌+◌, ◌≤◌, true, false, Some, IsErr, IfErr, OnOk, IsErrOf, length, map, slice_index};
+ghost use Rattle.lsv_disk.specs.declared.file.FileId.{FileId};
 ghost use Rattle.lsv_disk.specs.declared.file.Part.{Part};
 ghost use Rattle.lsv_disk.specs.View.{Image, HasCause, HasOwnCause};
 ghost use Rattle.lsv_disk.specs.Throughout.{Throughout, CallsAtMost};
-ghost use Rattle.lsv_journal.specs.Last.{IsOwn};
+ghost use Rattle.lsv_journal.specs.Last.{IsOwn, JournalHolds};
+ghost use Rattle.lsv_journal.specs.Value as journals;
+ghost use Rattle.lsv_journal.specs.Represents as represents;
 ghost use Rattle.lsv_bundle.specs.declared.body.Body.{Body};
 ghost use Rattle.lsv_bundle.specs.declared.fault.BundleFault.{BundleFault};
 ghost use Rattle.lsv_bundle.specs.Shape.{IsPart, index_of, journal_of, IsDataFile, IsWritable, IsOwnFile};
 ghost use Rattle.lsv_bundle.specs.Value.{next_length, next_body, lengths_of, cut_body, IsStagedFile, NoneStaged, KeptAtError, IsEntryWritten, IsCommitted, IsPrepared};
 ghost use Rattle.lsv_bundle.specs.Committed.{KeepsBytes, IsOwnImage, HoldsEntry, IsBeforeOrAfter, KeepsCommitted, committed_bytes, committed, committed_as, committed_next, committed_cut};
-ghost use Rattle.lsv_bundle.specs.Represents.{Represents, DataIsWritten};
+ghost use Rattle.lsv_bundle.specs.Represents.{Each, IsDurableFile, IsWritten, Represents, DataIsWritten};
 ghost use Rattle.lsv_bundle.specs.Calls.{SyncsStaged, CallsOfFlush};
-ghost use Rattle.lsv_bundle.specs.InnerFiles.{commit_file, cut_to, with_files};
+ghost use Rattle.lsv_bundle.specs.InnerFiles.{IsAmong, IsStagedAmong, Differ, KeepsPrefix, IsSyncedOnce, commit_file, cut_to, with_files};
 
-use crate::data_file::{commit, cut, write_staged};
+use crate::data_file::{DataFile, commit, cut, sync_all, write_all, write_staged};
 use crate::{Body, Bundle, BundleFault};
-use lsv_disk::Disk;
+use lsv_disk::{Disk, Owner};
+use lsv_journal::{Journal, JournalFault};
 
 /// The kind of an entry by which the data files are cut.
 const CUT: u8 = 2;
+
+/// Writes of each file what is staged, and a body into the journal's free slot; then syncs each file of which something
+/// is staged, and the file of slots. All is written before the first sync, so that a file system with a journal takes
+/// the new lengths of all these files in one transaction.
+fn write_then_sync<D: Disk>(
+    disk: &mut D,
+    owner: Owner,
+    files: &[DataFile],
+    journal: &mut Journal<89>,
+    body: [u8; 89],
+) -> Result<(), JournalFault>
+    requires durable { D.tells → Each (IsDurableFile owner (D.view disk.old)) files.now }
+    requires differ { Differ files.now }
+    requires whole { journals.is_broken journal.old ≡ false }
+    requires represents { D.tells → represents.Represents journal.old (D.view disk.old) }
+    requires apart { (g : FileId) → IsAmong owner files.now g → IsOwn (journals.file journal.old) g → ⊥ }
+    ensures any_moment { D.tells → Throughout (λ g. IsAmong owner files.now g ⊎ (g ≡ journals.file journal.old))
+        (λ image. Each (KeepsPrefix owner (D.view disk.old) image) files.now × JournalHolds 89 (journals.file journal.old) (journals.last journal.old) image)
+        (D.view disk.old) (D.view disk.new) }
+    ensures written { D.tells → OnOk result (Each (IsWritten owner (D.view disk.new)) files.now) }
+    ensures once { D.tells → OnOk result (Each (IsSyncedOnce owner (D.view disk.old) (D.view disk.new)) files.now) }
+    ensures slots_once { D.tells → OnOk result ((D.view disk.new).syncs (journals.file journal.old) ≡ (D.view disk.old).syncs (journals.file journal.old) + 1) }
+    ensures calls { D.tells → CallsAtMost 1 1 (λ g. IsStagedAmong owner files.now g ⊎ (g ≡ journals.file journal.old)) (D.view disk.old) (D.view disk.new) }
+    ensures cause { HasOwnCause (λ g. IsAmong owner files.now g ⊎ IsOwn (journals.file journal.old) g) (IsErr result) (D.view disk.old) (D.view disk.new) }
+    ensures file { journals.file journal.new ≡ journals.file journal.old }
+    ensures last { journals.last journal.new ≡ journals.last journal.old }
+    ensures prepared { OnOk result (journals.prepared journal.new ≡ Some body) }
+    ensures still_whole { OnOk result (journals.is_broken journal.new ≡ false) }
+    ensures still_represented { D.tells → OnOk result (represents.Represents journal.new (D.view disk.new)) }
+{
+    write_all(disk, owner, files)?;
+    journal.put_slot(disk, body)?;
+    sync_all(disk, owner, files)?;
+    journal.sync_slot(disk)
+}
 
 impl Bundle {
     /// It didn't answer `Disk`.
@@ -46,8 +85,9 @@ impl Bundle {
         cut(&mut self.files, lengths);
     }
 
-    /// The first step of a flush: writes of each data file what is staged, and then syncs each of which something is.
-    /// Each crash image holds what was committed before. The faults of each step are those of `flush`.
+    /// The first of three steps that come to a flush, so that those of several bundles can go phase by phase: writes of
+    /// each data file what is staged, and then syncs each of which something is. Each crash image holds what was
+    /// committed before. The faults of each step are those of `flush`.
     pub fn write_data<D: Disk>(&mut self, disk: &mut D) -> Result<(), BundleFault>
         requires represents { D.tells → self.old.is_broken ≡ false → Represents self.old (D.view disk.old) }
         ensures same { OnOk result (self.new ≡ self.old) }
@@ -73,7 +113,7 @@ impl Bundle {
         Ok(())
     }
 
-    /// The second step of a flush: writes the next entry into the journal's free slot, and syncs. Each crash image
+    /// The second of the three steps: writes the next entry into the journal's free slot, and syncs. Each crash image
     /// holds what was committed before.
     pub fn write_entry<D: Disk>(
         &mut self,
@@ -106,7 +146,7 @@ impl Bundle {
         Ok(())
     }
 
-    /// The third step of a flush: selects the entry that was written, and syncs. Its lengths are those of what is
+    /// The last step of a flush: selects the entry that was written, and syncs. Its lengths are those of what is
     /// staged, and that is written. Each crash image holds what was committed before or what is committed with it,
     /// and after Ok the latter alone.
     pub fn select_entry<D: Disk>(&mut self, disk: &mut D) -> Result<(), BundleFault>
@@ -140,10 +180,50 @@ impl Bundle {
         Ok(())
     }
 
-    /// Commits what is staged, and adds one entry, also where nothing is staged: all data is written and synced, then
-    /// the entry is written, then it is selected. At every moment a crash leaves what was committed before or what is
-    /// committed now, and after Ok the latter alone. `Disk` only where a device call on a file of this bundle failed;
-    /// from then on `Broken`, until it is opened again. It takes no memory.
+    /// Writes of each data file what is staged, and the next entry into the journal's free slot; then syncs each data
+    /// file of which something is staged, and the journal. Each crash image holds what was committed before. The faults
+    /// are those of `flush`.
+    fn write_next<D: Disk>(
+        &mut self,
+        disk: &mut D,
+        kind: u8,
+        count: u64,
+        elapsed: u64,
+        extra: u64,
+    ) -> Result<(), BundleFault>
+        requires represents { D.tells → self.old.is_broken ≡ false → Represents self.old (D.view disk.old) }
+        ensures value { OnOk result (IsEntryWritten (next_body self.old kind count elapsed extra) self.old self.new) }
+        ensures any_moment { D.tells → self.old.is_broken ≡ false → Throughout (IsWritable self.old.owner self.old.shape) (KeepsCommitted self.old (D.view disk.old)) (D.view disk.old) (D.view disk.new) }
+        ensures written { D.tells → OnOk result (DataIsWritten self.new (D.view disk.new)) }
+        ensures below { D.tells → self.old.is_broken ≡ false → (part : Part) → IsPart self.old.shape part
+            → committed_bytes self.old (D.view disk.new) part ≡ committed_bytes self.old (D.view disk.old) part }
+        ensures represents { D.tells → self.new.is_broken ≡ false → Represents self.new (D.view disk.new) }
+        ensures synced { D.tells → OnOk result (SyncsStaged self.old (D.view disk.old) (D.view disk.new)) }
+        ensures journal_synced { D.tells → OnOk result ((D.view disk.new).syncs (journal_of self.old.owner) ≡ (D.view disk.old).syncs (journal_of self.old.owner) + 1) }
+        ensures calls { D.tells → CallsAtMost 1 1 (λ g. IsStagedFile self.old g ⊎ (g ≡ journal_of self.old.owner)) (D.view disk.old) (D.view disk.new) }
+        ensures disk { IsErrOf result BundleFault.Disk → self.new.is_broken ≡ true }
+        ensures fault { IfErr result (λ e. (e ≡ BundleFault.Disk) ⊎ (e ≡ BundleFault.Broken)) }
+        ensures cause { HasOwnCause (IsOwnFile self.old.owner self.old.shape) (IsErrOf result BundleFault.Disk) (D.view disk.old) (D.view disk.new) }
+        ensures broken { IsErrOf result BundleFault.Broken ↔ (self.old.is_broken ≡ true) }
+        ensures kept { KeptAtError (IsErr result) (IsErrOf result BundleFault.Broken) self.old self.new disk.old disk.new }
+    {
+        self.check_whole()?;
+        let body = self.next_body(kind, count, elapsed, extra);
+        let bytes = body.encode();
+        if write_then_sync(disk, self.owner, &self.files, &mut self.journal, bytes).is_err() {
+            self.is_broken = true;
+            return Err(BundleFault::Disk);
+        }
+        self.prepared = Some(body);
+        Ok(())
+    }
+
+    /// Commits what is staged, and adds one entry, also where nothing is staged: all data and the entry are written,
+    /// then all of that is synced, and only then is the entry selected, since a crash may leave any bytes of what isn't
+    /// synced. All is written before the first sync, so that a file system with a journal takes it in one transaction.
+    /// At every moment a crash leaves what was committed before or what is committed now, and after Ok the latter
+    /// alone. `Disk` only where a device call on a file of this bundle failed; from then on `Broken`, until it is
+    /// opened again. It takes no memory.
     pub fn flush<D: Disk>(
         &mut self,
         disk: &mut D,
@@ -174,8 +254,7 @@ impl Bundle {
         ensures broken { IsErrOf result BundleFault.Broken ↔ (self.old.is_broken ≡ true) }
         ensures kept { KeptAtError (IsErr result) (IsErrOf result BundleFault.Broken) self.old self.new disk.old disk.new }
     {
-        self.write_data(disk)?;
-        self.write_entry(disk, kind, count, elapsed, extra)?;
+        self.write_next(disk, kind, count, elapsed, extra)?;
         self.select_entry(disk)
     }
 

@@ -146,7 +146,11 @@ fn empty(buffer: &mut Vec<u8>)
 }
 
 /// Writes of each of the files what is staged.
-fn write_all<D: Disk>(disk: &mut D, owner: Owner, files: &[DataFile]) -> Result<(), DiskFault>
+pub(crate) fn write_all<D: Disk>(
+    disk: &mut D,
+    owner: Owner,
+    files: &[DataFile],
+) -> Result<(), DiskFault>
     requires durable { D.tells → Each (IsDurableFile owner (D.view disk.old)) files.now }
     requires differ { Differ files.now }
     ensures any_moment { D.tells → Throughout (IsAmong owner files.now) (λ image. Each (KeepsPrefix owner (D.view disk.old) image) files.now) (D.view disk.old) (D.view disk.new) }
@@ -162,7 +166,11 @@ fn write_all<D: Disk>(disk: &mut D, owner: Owner, files: &[DataFile]) -> Result<
 }
 
 /// Syncs each of the files of which something is staged.
-fn sync_all<D: Disk>(disk: &mut D, owner: Owner, files: &[DataFile]) -> Result<(), DiskFault>
+pub(crate) fn sync_all<D: Disk>(
+    disk: &mut D,
+    owner: Owner,
+    files: &[DataFile],
+) -> Result<(), DiskFault>
     requires differ { Differ files.now }
     ensures durable { D.tells → OnOk result (Each (IsSyncedFile owner (D.view disk.new)) files.now) }
     ensures unchanged { D.tells → Unchanged (D.view disk.old) (D.view disk.new) }

@@ -9,11 +9,11 @@ use Rattle.lsv_disk.proofs.Composition.{followed, widened}
 use Rattle.lsv_journal.specs.declared.slot.Slot.{Slot}
 use Rattle.lsv_journal.specs.declared.slot.Slot.TheVariants.{First}
 use Rattle.lsv_journal.specs.Slots.{entry_of}
-use Rattle.lsv_journal.specs.Represents.{free_slot, free, Stands, IsReady, IsPrepared}
-use Rattle.lsv_journal.specs.Writing.{Keeps, Selects}
+use Rattle.lsv_journal.specs.Represents.{free_slot, free, Stands, IsReady, IsPrepared, Keeps}
+use Rattle.lsv_journal.specs.Writing.{Selects}
 use Rattle.lsv_journal.proofs.Slots.{closed_none}
 use Rattle.lsv_journal.proofs.Overwriting.{reaches_by, torn_bytes, written_bytes}
-use Rattle.lsv_journal.proofs.Writing.{free_reaches, torn_first, prepared_first, torn_other, prepared_other, torn_gate, selected_gate, torn_selector, selected_selector}
+use Rattle.lsv_journal.proofs.Writing.{free_reaches, prepared_first, prepared_other, torn_gate, selected_gate, torn_selector, selected_selector}
 
 -- a write of a file, whose bytes each crash image has torn
 pub torn_run : (f : FileId) (at m : ℕ) (P : List ℕ → Type 0) (old new : DiskView) → ((bytes : List ℕ) → TornBytes at m (bytes_of (old.reads f)) bytes → P bytes)
@@ -24,12 +24,6 @@ torn_run f at m P old new follows run = widened (λ g. g ≡ f) (λ g. g ≡ f) 
 -- a write into the first slot of a file without an entry
 pub first_place : (n : ℕ) (file : Option (List ℕ)) → Stands n (bytes_of file) None → Reaches file 1
 first_place n file stands = reaches_by 1 file stands.0 (omega (arith, stands.0))
-
-pub first_run : (f : FileId) (n m : ℕ) (old new : DiskView) → Stands n (bytes_of (old.reads f)) None → m ≡ n + 1 → Throughout (λ g. g ≡ f) (λ image. Torn 1 m (old.reads f) (image f)) old new
-    → Throughout (λ g. g ≡ f) (λ image. Keeps n None (bytes_of (old.reads f)) (bytes_of (image f))) old new
-first_run f n m old new stands long run =
-    torn_run f 1 m (λ bytes. Keeps n None (bytes_of (old.reads f)) bytes) old new
-    (λ bytes torn. torn_first n (bytes_of (old.reads f)) stands bytes (subst (λ (k : ℕ). TornBytes 1 k (bytes_of (old.reads f)) bytes) long torn)) run
 
 pub first_prepared : (n : ℕ) (old new : Option (List ℕ)) → Stands n (bytes_of old) None → (buf body : List ℕ) → length body ≡ n → buf ≡ 0 ∷ body → new ≡ written 1 buf old → IsPrepared n (bytes_of new) None (Some body)
 first_prepared n old new stands buf body long is wrote =
@@ -45,12 +39,6 @@ module _ (n : ℕ) (slot : Slot) where
   other_prepared old new stands at is body long wrote =
       prepared_other n slot (bytes_of old) stands body (bytes_of new) long
       (written_bytes at body old new (other_place old stands at is) wrote ∙ ap (λ (k : ℕ). overwritten k body (bytes_of old)) is)
-
-pub other_run : (f : FileId) (n : ℕ) (slot : Slot) (old new : DiskView) → Stands n (bytes_of (old.reads f)) (Some slot) → (at : ℕ) → at ≡ free n (Some slot) → Throughout (λ g. g ≡ f) (λ image. Torn at n (old.reads f) (image f)) old new
-    → Throughout (λ g. g ≡ f) (λ image. Keeps n (Some slot) (bytes_of (old.reads f)) (bytes_of (image f))) old new
-other_run f n slot old new stands at is run =
-    torn_run f at n (λ bytes. Keeps n (Some slot) (bytes_of (old.reads f)) bytes) old new
-    (λ bytes torn. torn_other n slot (bytes_of (old.reads f)) stands bytes (subst (λ (k : ℕ). TornBytes k n (bytes_of (old.reads f)) bytes) is torn)) run
 
 -- a write of the gate, or of the selector
 pub there_reaches : (at : ℕ) (file : Option (List ℕ)) → 2 ≤ length (bytes_of file) → at ≤ 1 → Reaches file at

@@ -11,6 +11,7 @@ use Rattle.lsv_journal.specs.Slots.{entry_of}
 use Rattle.lsv_journal.specs.Last.{old_file, last_gated, IsOwn, IsAbsent, LastAt, JournalHolds, MayBeMade}
 use Rattle.lsv_journal.specs.Represents.{Stands, IsPrepared, Represents}
 use Rattle.lsv_disk.proofs.Same.{same_is, same_itself}
+use Rattle.lsv_journal.proofs.Leaving.{leaves_still}
 use Rattle.lsv_journal.proofs.Appending as Appending
 use Rattle.lsv_journal.proofs.Slots.{empty_none}
 use Rattle.lsv_journal.proofs.Making as Making
@@ -44,8 +45,7 @@ of_run Touched P old new itself now run = Appending.reads_of_run Touched P old n
 -- a crash leaves a journal's last entry
 pub crash_holds : (n : ℕ) (journal : Journal n) (disk : DiskView) → Represents journal disk → (image : Image) → ((g : FileId) → IsOwn journal.file g → disk.crash_states g (image g)) → JournalHolds n journal.file journal.last image
 crash_holds n journal disk at image left =
-    let same : image journal.file ≡ disk.reads journal.file = at.synced (image journal.file) (left journal.file (Words.own_itself journal.file)) in
-    Words.holds_by n journal.file journal.last image (ap (λ (c : Option (List ℕ)). entry_of n (bytes_of c)) same ∙ at.last_entry) (λ none. at.no_old none (image (old_file journal.file)) (left (old_file journal.file) (Words.own_old journal.file)))
+    Words.holds_by n journal.file journal.last image ((at.leaves (image journal.file) (left journal.file (Words.own_itself journal.file))).entry ∙ at.last_entry) (λ none. at.no_old none (image (old_file journal.file)) (left (old_file journal.file) (Words.own_old journal.file)))
 
 -- a journal stays represented where its own files are untouched
 pub represents_stays : (n : ℕ) (journal : Journal n) (Touched : FileId → Type 0) (old new : DiskView) → Represents journal old → Elsewhere Touched old new → ((g : FileId) → IsOwn journal.file g → Touched g → ⊥) → Represents journal new
@@ -54,10 +54,13 @@ represents_stays n journal Touched old new at elsewhere apart =
     let same : new.reads journal.file ≡ old.reads journal.file = elsewhere.same journal.file (apart journal.file (Words.own_itself journal.file)) in
     record {
       part = at.part;
-      synced = λ c left. at.synced c (elsewhere.crash journal.file (apart journal.file (Words.own_itself journal.file)) c left) ∙ sym same;
+      leaves = leaves_still n journal.selected journal.file old new same (elsewhere.crash journal.file (apart journal.file (Words.own_itself journal.file))) at.leaves;
+      synced = λ none c left. at.synced none c (elsewhere.crash journal.file (apart journal.file (Words.own_itself journal.file)) c left) ∙ sym same;
       last_entry = ap (λ (c : Option (List ℕ)). entry_of n (bytes_of c)) same ∙ at.last_entry;
       stands = subst (λ (c : Option (List ℕ)). Stands n (bytes_of c) journal.selected) (sym same) at.stands;
+      written = subst (λ (c : Option (List ℕ)). IsPrepared n (bytes_of c) journal.selected journal.written) (sym same) at.written;
       prepared = subst (λ (c : Option (List ℕ)). IsPrepared n (bytes_of c) journal.selected journal.prepared) (sym same) at.prepared;
+      one = at.one;
       no_old = λ none. Words.no_old_stays n journal.file Touched old new elsewhere (apart (old_file journal.file) (Words.own_old journal.file)) (at.no_old none);
     }
 

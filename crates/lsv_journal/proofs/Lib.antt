@@ -3,6 +3,7 @@ pub mod Fronts
 pub mod Slots
 pub mod Overwriting
 pub mod Writing
+pub mod Leaving
 pub mod Appending
 pub mod Making
 pub mod Words

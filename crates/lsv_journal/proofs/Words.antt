@@ -13,11 +13,11 @@ use Rattle.lsv_disk.proofs.Composition.{followed, widened, unchanged_throughout,
 use Rattle.lsv_journal.specs.declared.slot.Slot.{Slot}
 use Rattle.lsv_journal.specs.declared.slot.Slot.TheVariants.{First, Second}
 use Rattle.lsv_journal.specs.declared.journal.Journal.{Journal}
-use Rattle.lsv_journal.specs.Slots.{entry_of}
+use Rattle.lsv_journal.specs.Slots.{entry_of, SelectsAsBefore}
 use Rattle.lsv_journal.specs.Last.{old_file, IsOwn, IsAbsent, slots_last, last_gated, LastAt, JournalHolds, IsBeforeOrAfter, SameJournal, IsSomeCrashOf, HasSlotsEntry, HasNoOldEntry, MayBeMade, KeepsSelected, SelectsSame, IsNoLonger}
-use Rattle.lsv_journal.specs.Represents.{free, IsReady, IsPrepared, Represents}
+use Rattle.lsv_journal.specs.Represents.{free, IsReady, IsPrepared, Represents, Keeps}
 use Rattle.lsv_journal.specs.Reading.{IsEmptyOrAsBefore}
-use Rattle.lsv_journal.specs.Writing.{Keeps, Selects}
+use Rattle.lsv_journal.specs.Writing.{Selects}
 use Rattle.lsv_journal.proofs.Slots.{empty_none}
 use Rattle.lsv_journal.proofs.Counting.{count_short}
 use Rattle.lsv_journal.proofs.Appending.{reads_of_run}
@@ -140,6 +140,11 @@ module _ (n k : ℕ) (f : FileId) (slot : Option Slot) (old new : DiskView) (lon
   unfolding SelectsSame
   kept_slot itself now = (kept_now itself now).selects
 
+-- the same slot is selected where the file reads the same
+pub slot_stays : (n : ℕ) (f : FileId) (was image other : Image) → other f ≡ image f → SelectsSame n f was image → SelectsSame n f was other
+unfolding SelectsSame
+slot_stays n f was image other same selects = subst (λ (c : Option (List ℕ)). SelectsAsBefore n (bytes_of (was f)) (bytes_of c)) (sym same) selects
+
 -- a selection of the free slot
 module _ (n : ℕ) (f : FileId) (slot : Option Slot) (old new : DiskView) (ran : Throughout (λ g. g ≡ f) (λ image. Selects n slot (bytes_of (old.reads f)) (bytes_of (image f))) old new) where
   abbrev SelectsAt : Image → Type 0
@@ -159,6 +164,10 @@ module _ (n : ℕ) (f : FileId) (slot : Option Slot) (old new : DiskView) (ran :
 
   pub selects_length : Throughout (λ g. g ≡ f) (IsNoLonger n f old.reads) old new
   selects_length = widened (λ g. g ≡ f) (λ g. g ≡ f) SelectsAt (IsNoLonger n f old.reads) old new (λ g own. own) (λ image selects _. selects.no_longer) ran
+
+-- where a body is prepared none is written that isn't synced
+pub none_written : (written prepared : Option (List ℕ)) → (written ≡ None) ⊎ (prepared ≡ None) → prepared ≢ None → written ≡ None
+none_written written prepared one some = elim one [ inl none ↦ none | inr lacks ↦ absurd (some lacks) ]
 
 -- what is prepared is ready to be selected
 pub ready_of : (n : ℕ) (bytes : List ℕ) (slot : Option Slot) (prepared : Option (List ℕ)) → prepared ≢ None → IsPrepared n bytes slot prepared → IsReady n bytes slot × (Some (piece bytes (free n slot) n) ≡ prepared)

@@ -7,8 +7,8 @@ use Rattle.lsv_disk.specs.Bytes.{overwritten, TornBytes}
 use Rattle.lsv_journal.specs.declared.slot.Slot.{Slot}
 use Rattle.lsv_journal.specs.declared.slot.Slot.TheVariants.{First, Second}
 use Rattle.lsv_journal.specs.Slots.{selected, has_entry, entry_of}
-use Rattle.lsv_journal.specs.Represents.{begin, free_slot, free, Stands, IsReady, IsPrepared}
-use Rattle.lsv_journal.specs.Writing.{Keeps, Selects}
+use Rattle.lsv_journal.specs.Represents.{begin, free_slot, free, Stands, IsReady, IsPrepared, Keeps}
+use Rattle.lsv_journal.specs.Writing.{Selects}
 use Rattle.lsv_journal.proofs.Slots.{selected_first, selected_either, selected_same, has_by, gate_of, room_of, entry_by, closed_none}
 use Rattle.lsv_journal.proofs.Overwriting.{from_there, over_part, over_reaches, over_torn, over_byte, byte_before, byte_after, piece_before, piece_after}
 

@@ -11,7 +11,11 @@ file journal = journal.file
 abbrev pub last : {n : ℕ} → Journal n → Option (List ℕ)
 last journal = journal.last
 
--- the body that stands in the free slot, and is not selected yet
+-- the body that was written into the free slot, and is not synced yet
+abbrev pub written : {n : ℕ} → Journal n → Option (List ℕ)
+written journal = journal.written
+
+-- the body that stands in the free slot, synced, and is not selected yet
 abbrev pub prepared : {n : ℕ} → Journal n → Option (List ℕ)
 prepared journal = journal.prepared
 

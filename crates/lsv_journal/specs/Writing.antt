@@ -1,17 +1,9 @@
--- What a step of an append leaves of the bytes of a file, wherever a crash comes in it.
+-- What a selection leaves of the bytes of a file, wherever a crash comes in it, and what is found there.
 use Rattle.std.specs.Prelude.{◌≡◌, ◌⊎◌, ℕ, List, Option, Some, None}
 use Rattle.lsv_words.specs.Pieces.{piece}
 use Rattle.lsv_journal.specs.declared.slot.Slot.{Slot}
-use Rattle.lsv_journal.specs.Slots.{entry_of, KeepsSlot, SelectsAsBefore, StaysWithin}
+use Rattle.lsv_journal.specs.Slots.{entry_of, KeepsSlot, StaysWithin}
 use Rattle.lsv_journal.specs.Represents.{free, Stands}
-
--- of a write into the free slot: the entry is the same, in the same slot
-pub record Keeps (n : ℕ) (slot : Option Slot) (old new : List ℕ) : Type 0 where
-  pub stands : Stands n new slot
-  pub entry : entry_of n new ≡ entry_of n old
-  pub keeps : KeepsSlot n old new
-  pub selects : SelectsAsBefore n old new
-  pub no_longer : StaysWithin n old new
 
 -- of a write of the gate or the selector: the entry is the same, or it is the body in the free slot
 pub record Selects (n : ℕ) (slot : Option Slot) (old new : List ℕ) : Type 0 where

@@ -5,8 +5,8 @@ ghost use Rattle.lsv_disk.specs.Bytes.{bytes_of};
 ghost use Rattle.lsv_disk.specs.View.{IsSynced, HasCause};
 ghost use Rattle.lsv_disk.specs.Throughout.{Throughout, CallsAtMost};
 ghost use Rattle.lsv_journal.specs.Slots.{entry_of};
-ghost use Rattle.lsv_journal.specs.Represents.{free, free_slot, Stands, IsReady, IsPrepared};
-ghost use Rattle.lsv_journal.specs.Writing.{Keeps, Selects};
+ghost use Rattle.lsv_journal.specs.Represents.{free, free_slot, Stands, IsReady, IsPrepared, Keeps, LeavesEntry};
+ghost use Rattle.lsv_journal.specs.Writing.{Selects};
 
 use crate::slot::{FIRST, OPEN, Slot};
 use lsv_disk::{Disk, DiskFault, FileId, write_synced};
@@ -21,6 +21,21 @@ fn with_selector(body: &[u8]) -> [u8; 121]
     bytes
 }
 
+/// Writes the selector of the first slot and a body there.
+fn put_first<D: Disk>(disk: &mut D, f: FileId, body: &[u8]) -> Result<(), DiskFault>
+    requires size { (0 < length body.now) × (length body.now ≤ 120) }
+    requires stands { D.tells → Stands (length body.now) (bytes_of ((D.view disk.old).reads f)) None }
+    requires leaves { D.tells → LeavesEntry (length body.now) None (D.view disk.old) f }
+    ensures prepared { D.tells → OnOk result (IsPrepared (length body.now) (bytes_of ((D.view disk.new).reads f)) None (Some body.now)) }
+    ensures leaves { D.tells → LeavesEntry (length body.now) None (D.view disk.new) f }
+    ensures any_moment { D.tells → Throughout (λ g. g ≡ f) (λ image. Keeps (length body.now) None (bytes_of ((D.view disk.old).reads f)) (bytes_of (image f))) (D.view disk.old) (D.view disk.new) }
+    ensures calls { D.tells → CallsAtMost 1 0 (λ g. g ≡ f) (D.view disk.old) (D.view disk.new) }
+    ensures cause { HasCause f (IsErr result) (D.view disk.old) (D.view disk.new) }
+{
+    let bytes = with_selector(body);
+    disk.write_at(f, 1, &bytes[..body.len() + 1])
+}
+
 /// Writes the selector of the first slot and a body there, and syncs.
 fn write_first<D: Disk>(disk: &mut D, f: FileId, body: &[u8]) -> Result<(), DiskFault>
     requires size { (0 < length body.now) × (length body.now ≤ 120) }
@@ -30,54 +45,47 @@ fn write_first<D: Disk>(disk: &mut D, f: FileId, body: &[u8]) -> Result<(), Disk
     ensures durable { D.tells → OnOk result (IsSynced (D.view disk.new) f) }
     ensures any_moment { D.tells → Throughout (λ g. g ≡ f) (λ image. Keeps (length body.now) None (bytes_of ((D.view disk.old).reads f)) (bytes_of (image f))) (D.view disk.old) (D.view disk.new) }
     ensures calls { D.tells → CallsAtMost 1 1 (λ g. g ≡ f) (D.view disk.old) (D.view disk.new) }
-    ensures synced { D.tells → OnOk result ((D.view disk.new).syncs f ≡ (D.view disk.old).syncs f + 1) }
     ensures cause { HasCause f (IsErr result) (D.view disk.old) (D.view disk.new) }
 {
-    let bytes = with_selector(body);
-    write_synced(disk, f, 1, &bytes[..body.len() + 1])
+    put_first(disk, f, body)?;
+    disk.sync(f)
 }
 
-/// Writes a body into the slot that isn't selected, and syncs.
-fn write_other<D: Disk>(
-    disk: &mut D,
-    f: FileId,
-    selected: Slot,
-    body: &[u8],
-) -> Result<(), DiskFault>
+/// Writes a body into the slot that isn't selected.
+fn put_other<D: Disk>(disk: &mut D, f: FileId, selected: Slot, body: &[u8]) -> Result<(), DiskFault>
     requires size { (0 < length body.now) × (length body.now ≤ 120) }
-    requires synced_before { D.tells → IsSynced (D.view disk.old) f }
     requires stands { D.tells → Stands (length body.now) (bytes_of ((D.view disk.old).reads f)) (Some selected) }
+    requires leaves { D.tells → LeavesEntry (length body.now) (Some selected) (D.view disk.old) f }
     ensures prepared { D.tells → OnOk result (IsPrepared (length body.now) (bytes_of ((D.view disk.new).reads f)) (Some selected) (Some body.now)) }
-    ensures durable { D.tells → OnOk result (IsSynced (D.view disk.new) f) }
+    ensures leaves { D.tells → LeavesEntry (length body.now) (Some selected) (D.view disk.new) f }
     ensures any_moment { D.tells → Throughout (λ g. g ≡ f) (λ image. Keeps (length body.now) (Some selected) (bytes_of ((D.view disk.old).reads f)) (bytes_of (image f))) (D.view disk.old) (D.view disk.new) }
-    ensures calls { D.tells → CallsAtMost 1 1 (λ g. g ≡ f) (D.view disk.old) (D.view disk.new) }
-    ensures synced { D.tells → OnOk result ((D.view disk.new).syncs f ≡ (D.view disk.old).syncs f + 1) }
+    ensures calls { D.tells → CallsAtMost 1 0 (λ g. g ≡ f) (D.view disk.old) (D.view disk.new) }
     ensures cause { HasCause f (IsErr result) (D.view disk.old) (D.view disk.new) }
 {
     let at = Slot::free(Some(selected)).begin(body.len());
-    write_synced(disk, f, at, body)
+    disk.write_at(f, at, body)
 }
 
-/// Writes a body into the free slot, and syncs.
-pub(crate) fn write_free<D: Disk>(
+/// Writes a body into the free slot, without a sync. A body that stands there already, also one that isn't synced, is
+/// written over.
+pub(crate) fn put_free<D: Disk>(
     disk: &mut D,
     f: FileId,
     selected: Option<Slot>,
     body: &[u8],
 ) -> Result<(), DiskFault>
     requires size { (0 < length body.now) × (length body.now ≤ 120) }
-    requires synced_before { D.tells → IsSynced (D.view disk.old) f }
     requires stands { D.tells → Stands (length body.now) (bytes_of ((D.view disk.old).reads f)) selected }
+    requires leaves { D.tells → LeavesEntry (length body.now) selected (D.view disk.old) f }
     ensures prepared { D.tells → OnOk result (IsPrepared (length body.now) (bytes_of ((D.view disk.new).reads f)) selected (Some body.now)) }
-    ensures durable { D.tells → OnOk result (IsSynced (D.view disk.new) f) }
+    ensures leaves { D.tells → LeavesEntry (length body.now) selected (D.view disk.new) f }
     ensures any_moment { D.tells → Throughout (λ g. g ≡ f) (λ image. Keeps (length body.now) selected (bytes_of ((D.view disk.old).reads f)) (bytes_of (image f))) (D.view disk.old) (D.view disk.new) }
-    ensures calls { D.tells → CallsAtMost 1 1 (λ g. g ≡ f) (D.view disk.old) (D.view disk.new) }
-    ensures synced { D.tells → OnOk result ((D.view disk.new).syncs f ≡ (D.view disk.old).syncs f + 1) }
+    ensures calls { D.tells → CallsAtMost 1 0 (λ g. g ≡ f) (D.view disk.old) (D.view disk.new) }
     ensures cause { HasCause f (IsErr result) (D.view disk.old) (D.view disk.new) }
 {
     match selected {
-        None => write_first(disk, f, body),
-        Some(slot) => write_other(disk, f, slot, body),
+        None => put_first(disk, f, body),
+        Some(slot) => put_other(disk, f, slot, body),
     }
 }
 
@@ -116,6 +124,6 @@ pub(crate) fn add_first<D: Disk>(disk: &mut D, f: FileId, body: &[u8]) -> Result
     ensures calls { D.tells → CallsAtMost 2 2 (λ g. g ≡ f) (D.view disk.old) (D.view disk.new) }
     ensures cause { HasCause f (IsErr result) (D.view disk.old) (D.view disk.new) }
 {
-    write_free(disk, f, None, body)?;
+    write_first(disk, f, body)?;
     select_free(disk, f, None)
 }

@@ -1,7 +1,7 @@
 ghost use Rattle.std.specs.Prelude.{◌≡◌, ◌≢◌, ◌⊎◌, ◌↔◌, ℕ, ◌+◌, ◌≤◌, ◌<◌, true, false, Option, Some, None, IfOk, IfErr, IfSome, IsErr, OnOk, IsErrOf};
 
 use crate::JournalFault;
-use crate::append::{select_free, write_free};
+use crate::append::{put_free, select_free};
 use crate::create::{close_gate, make};
 use crate::gates::last_gated;
 use crate::open::{find, is_absent, old_file, settle, sync_both};
@@ -15,7 +15,9 @@ use lsv_disk::{Disk, DiskFault, FileId, Part};
 pub struct Journal<const N: usize> {
     file: FileId,
     last: Option<[u8; N]>,
-    /// The body in the free slot, which one byte more selects.
+    /// The body that was written into the free slot and isn't synced.
+    written: Option<[u8; N]>,
+    /// The synced body in the free slot, which one byte more selects.
     prepared: Option<[u8; N]>,
     /// The slot with the last entry, none where there is no entry.
     selected: Option<Slot>,
@@ -26,9 +28,9 @@ impl<const N: usize> Journal<N> {
     ghost use Rattle.lsv_disk.specs.declared.file.FileId.{FileId};
     ghost use Rattle.lsv_disk.specs.declared.file.Part.{Part};
     ghost use Rattle.lsv_disk.specs.View.{HasCause, Image, IsCrashImage, IsSynced, HasOwnCause};
-    ghost use Rattle.lsv_disk.specs.Throughout.{Throughout, OnlyReads, CallsAtMost};
+    ghost use Rattle.lsv_disk.specs.Throughout.{Throughout, Unchanged, OnlyReads, CallsAtMost};
     ghost use Rattle.lsv_journal.specs.Last.{IsOwn, IsAbsent, LastAt, JournalHolds, IsBeforeOrAfter, SameJournal, IsSomeCrashOf, OpeningCalls, MayBeMade, KeepsSelected, SelectsSame, IsNoLonger};
-    ghost use Rattle.lsv_journal.specs.Value.{file, last, prepared, is_broken, KeptAtError};
+    ghost use Rattle.lsv_journal.specs.Value.{file, last, written, prepared, is_broken, KeptAtError};
     ghost use Rattle.lsv_journal.specs.Represents.{Represents};
 
     /// Makes a journal without an entry, at a file that is absent or has no entry: what a making that a crash or a
@@ -78,11 +80,12 @@ impl<const N: usize> Journal<N> {
 
     /// The value of a journal without an entry.
     fn without_entry(f: FileId) -> Journal<N>
-        ensures { result ≡ record { file = f; last = None; prepared = None; selected = None; broken = false } }
+        ensures { result ≡ record { file = f; last = None; written = None; prepared = None; selected = None; broken = false } }
     {
         Journal {
             file: f,
             last: None,
+            written: None,
             prepared: None,
             selected: None,
             broken: false,
@@ -118,6 +121,7 @@ impl<const N: usize> Journal<N> {
         Ok(Some(Journal {
             file: f,
             last: found.last,
+            written: None,
             prepared: None,
             selected: found.selected,
             broken: false,
@@ -155,6 +159,75 @@ impl<const N: usize> Journal<N> {
         self.file
     }
 
+    /// Writes a body into the free slot, without a sync, so that other files can be written before one is synced: no
+    /// crash leaves it as the last entry, and the one before stays. What was written or prepared before isn't any more.
+    /// `Disk` only where a device call on its file failed; from then on `Broken`, until it is opened again.
+    pub fn put_slot<D: Disk>(&mut self, disk: &mut D, body: [u8; N]) -> Result<(), JournalFault>
+        requires size { (0 < N) × (N ≤ 120) }
+        requires represents { D.tells → is_broken self.old ≡ false → Represents self.old (D.view disk.old) }
+        ensures last { last self.new ≡ last self.old }
+        ensures written { OnOk result (written self.new ≡ Some body.entry) }
+        ensures prepared { OnOk result (prepared self.new ≡ None) }
+        ensures whole { OnOk result (is_broken self.new ≡ false) }
+        ensures represents { D.tells → is_broken self.new ≡ false → Represents self.new (D.view disk.new) }
+        ensures any_moment { D.tells → is_broken self.old ≡ false → Throughout (λ g. g ≡ file self.old) (JournalHolds N (file self.old) (last self.old)) (D.view disk.old) (D.view disk.new) }
+        ensures keeps { D.tells → is_broken self.old ≡ false → Throughout (λ g. g ≡ file self.old) (KeepsSelected N (file self.old) (D.view disk.old).reads) (D.view disk.old) (D.view disk.new) }
+        ensures slot { D.tells → is_broken self.old ≡ false → SelectsSame N (file self.old) (D.view disk.old).reads (D.view disk.new).reads }
+        ensures length { D.tells → is_broken self.old ≡ false → Throughout (λ g. g ≡ file self.old) (IsNoLonger N (file self.old) (D.view disk.old).reads) (D.view disk.old) (D.view disk.new) }
+        ensures calls { D.tells → CallsAtMost 1 0 (λ g. g ≡ file self.old) (D.view disk.old) (D.view disk.new) }
+        ensures fault { IsErrOf result JournalFault.Disk → is_broken self.new ≡ true }
+        ensures cause { HasOwnCause (IsOwn (file self.old)) (IsErrOf result JournalFault.Disk) (D.view disk.old) (D.view disk.new) }
+        ensures blame { HasCause (file self.old) (IsErrOf result JournalFault.Disk) (D.view disk.old) (D.view disk.new) }
+        ensures broken { IsErrOf result JournalFault.Broken ↔ (is_broken self.old ≡ true) }
+        ensures kept { KeptAtError (IsErr result) (IsErrOf result JournalFault.Broken) self.old self.new disk.old disk.new }
+    {
+        if self.broken {
+            return Err(JournalFault::Broken);
+        }
+        if put_free(disk, self.file, self.selected, &body).is_err() {
+            self.broken = true;
+            return Err(JournalFault::Disk);
+        }
+        self.written = Some(body);
+        self.prepared = None;
+        Ok(())
+    }
+
+    /// Syncs the body that `put_slot` wrote, so that it may be selected; nothing reads otherwise than before. `Disk`
+    /// only where a device call on its file failed; from then on `Broken`, until it is opened again.
+    pub fn sync_slot<D: Disk>(&mut self, disk: &mut D) -> Result<(), JournalFault>
+        requires represents { D.tells → is_broken self.old ≡ false → Represents self.old (D.view disk.old) }
+        requires written { is_broken self.old ≡ false → written self.old ≢ None }
+        ensures last { last self.new ≡ last self.old }
+        ensures written { OnOk result (written self.new ≡ None) }
+        ensures prepared { OnOk result (prepared self.new ≡ written self.old) }
+        ensures whole { OnOk result (is_broken self.new ≡ false) }
+        ensures represents { D.tells → is_broken self.new ≡ false → Represents self.new (D.view disk.new) }
+        ensures unchanged { D.tells → is_broken self.old ≡ false → Unchanged (D.view disk.old) (D.view disk.new) }
+        ensures any_moment { D.tells → is_broken self.old ≡ false → Throughout (λ g. g ≡ file self.old) (JournalHolds N (file self.old) (last self.old)) (D.view disk.old) (D.view disk.new) }
+        ensures keeps { D.tells → is_broken self.old ≡ false → Throughout (λ g. g ≡ file self.old) (KeepsSelected N (file self.old) (D.view disk.old).reads) (D.view disk.old) (D.view disk.new) }
+        ensures slot { D.tells → is_broken self.old ≡ false → SelectsSame N (file self.old) (D.view disk.old).reads (D.view disk.new).reads }
+        ensures length { D.tells → is_broken self.old ≡ false → Throughout (λ g. g ≡ file self.old) (IsNoLonger N (file self.old) (D.view disk.old).reads) (D.view disk.old) (D.view disk.new) }
+        ensures synced { D.tells → OnOk result ((D.view disk.new).syncs (file self.old) ≡ (D.view disk.old).syncs (file self.old) + 1) }
+        ensures calls { D.tells → CallsAtMost 0 1 (λ g. g ≡ file self.old) (D.view disk.old) (D.view disk.new) }
+        ensures fault { IsErrOf result JournalFault.Disk → is_broken self.new ≡ true }
+        ensures cause { HasOwnCause (IsOwn (file self.old)) (IsErrOf result JournalFault.Disk) (D.view disk.old) (D.view disk.new) }
+        ensures blame { HasCause (file self.old) (IsErrOf result JournalFault.Disk) (D.view disk.old) (D.view disk.new) }
+        ensures broken { IsErrOf result JournalFault.Broken ↔ (is_broken self.old ≡ true) }
+        ensures kept { KeptAtError (IsErr result) (IsErrOf result JournalFault.Broken) self.old self.new disk.old disk.new }
+    {
+        if self.broken {
+            return Err(JournalFault::Broken);
+        }
+        if disk.sync(self.file).is_err() {
+            self.broken = true;
+            return Err(JournalFault::Disk);
+        }
+        self.prepared = self.written;
+        self.written = None;
+        Ok(())
+    }
+
     /// Writes a body into the free slot, and syncs: no crash leaves it as the last entry yet, and the one before
     /// stays. `Disk` only where a device call on its file failed; from then on `Broken`, until it is opened again.
     pub fn write_slot<D: Disk>(&mut self, disk: &mut D, body: [u8; N]) -> Result<(), JournalFault>
@@ -176,15 +249,8 @@ impl<const N: usize> Journal<N> {
         ensures broken { IsErrOf result JournalFault.Broken ↔ (is_broken self.old ≡ true) }
         ensures kept { KeptAtError (IsErr result) (IsErrOf result JournalFault.Broken) self.old self.new disk.old disk.new }
     {
-        if self.broken {
-            return Err(JournalFault::Broken);
-        }
-        if write_free(disk, self.file, self.selected, &body).is_err() {
-            self.broken = true;
-            return Err(JournalFault::Disk);
-        }
-        self.prepared = Some(body);
-        Ok(())
+        self.put_slot(disk, body)?;
+        self.sync_slot(disk)
     }
 
     /// Selects the slot with the prepared body, and syncs: from then on that one is the last entry. `Disk` only where

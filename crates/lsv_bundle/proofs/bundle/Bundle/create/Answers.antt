@@ -1,5 +1,5 @@
 -- Making the files together, and then beginning the journal.
-use Rattle.std.proofs.Common.{◌≡◌, ◌⊎◌, List, [], map, None, Some, refl, sym, subst, ◌∙◌, ap}
+use Rattle.std.proofs.Common.{◌≡◌, ◌⊎◌, List, map, None, Some, refl, sym, subst, ◌∙◌, ap}
 use Rattle.lsv_disk.specs.declared.file.FileId.{FileId}
 use Rattle.lsv_disk.specs.declared.file.Part.{Part}
 use Rattle.lsv_disk.specs.Files.{file_of, IsOneOf, IsNew}

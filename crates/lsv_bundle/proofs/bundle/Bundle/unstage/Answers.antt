@@ -6,6 +6,22 @@ use Rattle.lsv_bundle.proofs.Staging.{staged_here, staged_there, bare_same, inde
 use Rattle.lsv_bundle.proofs.Undoing.{bundle_same, parts_as}
 use Rattle.lsv_bundle.proofs.bundle.Bundle.unstage.Goals as goal
 
+-- its files are of the same parts
+pub invariant_of-self : goal.invariant_of-self
+invariant_of-self c =
+    let files : List FileView = c.self.inside.files.items in
+    let with_files : List FileView → BundleView =
+    λ (fs : List FileView). record { owner = c.self.inside.owner; shape = c.self.inside.shape; last = c.self.inside.last; prepared = c.self.inside.prepared; files = fs; is_broken = c.self.inside.is_broken; journal = c.self.inside.journal } in
+    let bare = ap with_files (bare_same files c.index_of.result c.index_mut.result.now c.unstage.new.self (take c.args.keep) c.index_mut.ensures.value c.unstage.ensures) in
+    record {
+      parts = parts_as (with_files (slice_set files c.index_of.result c.unstage.new.self)) (with_files files) bare c.self.invariant.parts;
+      at = c.self.invariant.at;
+      whole = c.self.invariant.whole;
+      last_body = c.self.invariant.last_body;
+      prepared = c.self.invariant.prepared;
+      prepared_body = c.self.invariant.prepared_body;
+    }
+
 pub returns-clause-value : goal.returns-clause-value
 returns-clause-value c = record {
   staged_is =

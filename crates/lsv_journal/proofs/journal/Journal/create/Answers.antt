@@ -1,6 +1,7 @@
-use Rattle.std.proofs.Common.{◌≡◌, refl, sym, subst}
+use Rattle.std.proofs.Common.{◌≡◌, None, inl, refl, sym, subst}
 use Rattle.lsv_journal.specs.declared.journal.Journal.{Journal}
 use Rattle.lsv_journal.specs.Represents.{Represents}
+use Rattle.lsv_journal.proofs.Leaving.{synced_leaves}
 use Rattle.lsv_journal.proofs.Words.{made_slots, made_old, may_be_made, made_run, no_old_stays, old_other, rose_at, own_itself}
 use Rattle.lsv_journal.proofs.journal.Journal.create.Goals as goal
 
@@ -28,10 +29,13 @@ returns-clause-represents g c told =
     let none = made_slots g.row.N c.args.f old (c.requires.may_be_made told) in
     subst (λ (j : Journal g.row.N). Represents j new) (sym c.without_entry.ensures) (record {
       part = c.requires.slots;
-      synced = c.in_ok-make.ensures.durable told;
+      leaves = synced_leaves g.row.N None new c.args.f (c.in_ok-make.ensures.stands told g.row.N none) (c.in_ok-make.ensures.durable told);
+      synced = λ _. c.in_ok-make.ensures.durable told;
       last_entry = c.make.ensures.none told g.row.N none;
       stands = c.in_ok-make.ensures.stands told g.row.N none;
+      written = tt;
       prepared = tt;
+      one = inl refl;
       no_old = λ _. no_old_stays g.row.N c.args.f (λ h. h ≡ c.args.f) old new (c.make.ensures.any_moment told g.row.N none).elsewhere (old_other c.args.f c.requires.slots) (made_old g.row.N c.args.f old (c.requires.may_be_made told));
     })
 

@@ -1,6 +1,7 @@
-use Rattle.std.proofs.Common.{refl, sym, ◌∙◌}
+use Rattle.std.proofs.Common.{inl, refl, sym, ◌∙◌}
 use Rattle.lsv_disk.proofs.Composition.{unchanged_trans, unchanged_reads}
 use Rattle.lsv_journal.specs.Last.{old_file, IsAbsent}
+use Rattle.lsv_journal.proofs.Leaving.{synced_leaves}
 use Rattle.lsv_journal.proofs.Laws.{reads_absent_may_be_made}
 use Rattle.lsv_journal.proofs.Words.{unchanged_crashes, unchanged_last, opening_run, opened_same, opened_no_old, opening_calls, opening_unwritten, syncing_calls, entry_stays, may_be_made}
 use Rattle.lsv_journal.proofs.journal.Journal.open.Goals as goal
@@ -94,10 +95,13 @@ returns-clause-represents g c told =
     let new = g.D.Disk.view c.settle.new.disk in
     record {
       part = c.requires.slots;
-      synced = c.in_ok-found.ensures.durable told;
+      leaves = synced_leaves g.row.N c.in_ok-found.found.selected new c.args.f (c.in_ok-found.ensures.stands told) (c.in_ok-found.ensures.durable told);
+      synced = λ _. c.in_ok-found.ensures.durable told;
       last_entry = c.in_ok-found.ensures.entry told;
       stands = c.in_ok-found.ensures.stands told;
+      written = tt;
       prepared = tt;
+      one = inl refl;
       no_old = λ none. opened_no_old g.row.N c.args.f mid new (c.settle.ensures.any_moment told) c.requires.slots (c.in_ok-sync_both.ensures.old told) (sym (c.in_ok-found.ensures.last told) ∙ none);
     }
 

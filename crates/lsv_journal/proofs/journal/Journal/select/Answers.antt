@@ -1,8 +1,9 @@
-use Rattle.std.proofs.Common.{rules, Some, ◌∙◌, sym, subst}
+use Rattle.std.proofs.Common.{rules, ℕ, List, Option, Some, inr, ◌∙◌, refl, sym, subst}
 use Rattle.lsv_disk.specs.Bytes.{bytes_of}
 use Rattle.lsv_journal.specs.declared.slot.Slot.{Slot}
-use Rattle.lsv_journal.specs.Represents.{Stands}
-use Rattle.lsv_journal.proofs.Words.{ok_of, ready_of, ready_there, selects_holds, selects_selected, selects_length, own_cause}
+use Rattle.lsv_journal.specs.Represents.{Stands, IsPrepared}
+use Rattle.lsv_journal.proofs.Leaving.{synced_leaves}
+use Rattle.lsv_journal.proofs.Words.{ok_of, none_written, ready_of, ready_there, selects_holds, selects_selected, selects_length, own_cause}
 use Rattle.lsv_journal.proofs.journal.Journal.select.Goals as goal
 
 pub select_free-requires-clause-there : goal.select_free-requires-clause-there
@@ -11,6 +12,11 @@ select_free-requires-clause-there g c told =
     let bytes = bytes_of ((g.D.Disk.view c.args.disk.now).reads c.args.self.now.file) in
     let ready = ready_of g.row.N bytes c.args.self.now.selected c.args.self.now.prepared (c.requires.prepared whole) (c.requires.represents told whole).prepared in
     ready_there g.row.N bytes c.args.self.now.selected ready.0
+
+pub select_free-requires-clause-synced_before : goal.select_free-requires-clause-synced_before
+select_free-requires-clause-synced_before g c told =
+    let r = c.requires.represents told c.if-self.false in
+    r.synced (none_written c.args.self.now.written c.args.self.now.prepared r.one (c.requires.prepared c.if-self.false))
 
 pub returns-then-is_err-clause-any_moment : goal.returns-then-is_err-clause-any_moment
 returns-then-is_err-clause-any_moment g c told whole =
@@ -79,12 +85,17 @@ returns-clause-represents g c told whole =
     let ready = ready_of g.row.N (bytes_of (old.reads f)) slot c.args.self.now.prepared (c.requires.prepared whole) r.prepared in
     let no_error = sym c.is_err.ensures.value ∙ c.if-is_err.false in
     let done = ok_of c.select_free.result _ no_error (c.select_free.ensures.selected told) g.row.N r.stands ready.0 in
+    let durable = ok_of c.select_free.result _ no_error (c.select_free.ensures.durable told) in
+    let stands : Stands g.row.N (bytes_of (new.reads f)) (Some c.free.result) = subst (λ (s : Slot). Stands g.row.N (bytes_of (new.reads f)) (Some s)) (sym c.free.ensures) done.0 in
     record {
       part = r.part;
-      synced = ok_of c.select_free.result _ no_error (c.select_free.ensures.durable told);
+      leaves = synced_leaves g.row.N (Some c.free.result) new f stands durable;
+      synced = λ _. durable;
       last_entry = done.1 ∙ ready.1;
-      stands = subst (λ (s : Slot). Stands g.row.N (bytes_of (new.reads f)) (Some s)) (sym c.free.ensures) done.0;
+      stands = stands;
+      written = subst (λ (o : Option (List ℕ)). IsPrepared g.row.N (bytes_of (new.reads f)) (Some c.free.result) o) (sym (none_written c.args.self.now.written c.args.self.now.prepared r.one (c.requires.prepared whole))) tt;
       prepared = tt;
+      one = inr refl;
       no_old = λ none. absurd (c.requires.prepared whole none);
     }
 

@@ -1,75 +1,30 @@
-use Rattle.std.proofs.Common.{◌≡◌, rules, length, Some, ℕ, ◌∙◌, sym, subst}
-use Rattle.lsv_disk.specs.Bytes.{bytes_of}
-use Rattle.lsv_journal.specs.Represents.{IsPrepared}
-use Rattle.lsv_journal.proofs.Words.{ok_of, kept_now, kept_holds, kept_selected, kept_length, kept_slot, own_cause, no_old_stays, old_other}
+-- A body is written, and then synced, which changes nothing.
+use Rattle.std.proofs.Common.{◌≡◌}
+use Rattle.lsv_disk.proofs.Composition.{unchanged_reads}
+use Rattle.lsv_journal.specs.Last.{KeepsSelected, IsNoLonger}
+use Rattle.lsv_journal.proofs.Leaving.{then_unchanged}
+use Rattle.lsv_journal.proofs.Words.{slot_stays}
 use Rattle.lsv_journal.proofs.journal.Journal.write_slot.Goals as goal
-
-pub returns-then-is_err-clause-any_moment : goal.returns-then-is_err-clause-any_moment
-returns-then-is_err-clause-any_moment g c told whole =
-    let long : length c.args.body ≡ g.row.N = search rules in
-    let r = c.requires.represents told whole in
-    kept_holds g.row.N (length c.args.body) c.args.self.now.file c.args.self.now.selected (g.D.Disk.view c.args.disk.now) (g.D.Disk.view c.write_free.new.disk) long (c.write_free.ensures.any_moment told) r.part c.args.self.now.last r.last_entry r.no_old
-
-pub returns-then-is_err-clause-keeps : goal.returns-then-is_err-clause-keeps
-returns-then-is_err-clause-keeps g c told whole =
-    let long : length c.args.body ≡ g.row.N = search rules in
-    kept_selected g.row.N (length c.args.body) c.args.self.now.file c.args.self.now.selected (g.D.Disk.view c.args.disk.now) (g.D.Disk.view c.write_free.new.disk) long (c.write_free.ensures.any_moment told)
-
-pub returns-then-is_err-clause-length : goal.returns-then-is_err-clause-length
-returns-then-is_err-clause-length g c told whole =
-    let long : length c.args.body ≡ g.row.N = search rules in
-    kept_length g.row.N (length c.args.body) c.args.self.now.file c.args.self.now.selected (g.D.Disk.view c.args.disk.now) (g.D.Disk.view c.write_free.new.disk) long (c.write_free.ensures.any_moment told)
-
-pub returns-then-is_err-clause-slot : goal.returns-then-is_err-clause-slot
-returns-then-is_err-clause-slot g c told whole =
-    let long : length c.args.body ≡ g.row.N = search rules in
-    kept_slot g.row.N (length c.args.body) c.args.self.now.file c.args.self.now.selected (g.D.Disk.view c.args.disk.now) (g.D.Disk.view c.write_free.new.disk) long (c.write_free.ensures.any_moment told) (g.met.D.Disk.reads_itself told c.write_free.new.disk) (g.met.D.Disk.is_now told c.write_free.new.disk)
-
-pub returns-then-is_err-clause-cause : goal.returns-then-is_err-clause-cause
-returns-then-is_err-clause-cause g c = own_cause c.args.self.now.file _ (g.D.Disk.view c.args.disk.now) (g.D.Disk.view c.write_free.new.disk) (record { monotone = c.write_free.ensures.cause.monotone; risen = λ _. c.write_free.ensures.cause.risen (search rules) })
-
-pub returns-clause-any_moment : goal.returns-clause-any_moment
-returns-clause-any_moment g c told whole =
-    let long : length c.args.body ≡ g.row.N = search rules in
-    let r = c.requires.represents told whole in
-    kept_holds g.row.N (length c.args.body) c.args.self.now.file c.args.self.now.selected (g.D.Disk.view c.args.disk.now) (g.D.Disk.view c.write_free.new.disk) long (c.write_free.ensures.any_moment told) r.part c.args.self.now.last r.last_entry r.no_old
 
 pub returns-clause-keeps : goal.returns-clause-keeps
 returns-clause-keeps g c told whole =
-    let long : length c.args.body ≡ g.row.N = search rules in
-    kept_selected g.row.N (length c.args.body) c.args.self.now.file c.args.self.now.selected (g.D.Disk.view c.args.disk.now) (g.D.Disk.view c.write_free.new.disk) long (c.write_free.ensures.any_moment told)
-
-pub returns-clause-length : goal.returns-clause-length
-returns-clause-length g c told whole =
-    let long : length c.args.body ≡ g.row.N = search rules in
-    kept_length g.row.N (length c.args.body) c.args.self.now.file c.args.self.now.selected (g.D.Disk.view c.args.disk.now) (g.D.Disk.view c.write_free.new.disk) long (c.write_free.ensures.any_moment told)
+    let f = c.args.self.now.file in
+    let old = g.D.Disk.view c.args.disk.now in
+    let mid = g.D.Disk.view c.put_slot.new.disk in
+    then_unchanged (λ h. h ≡ f) (KeepsSelected g.row.N f old.reads) old mid (g.D.Disk.view c.sync_slot.new.disk) (g.met.D.Disk.is_now told c.put_slot.new.disk)
+    (c.put_slot.ensures.keeps told whole) (c.sync_slot.ensures.unchanged told c.in_ok-put_slot.ensures.whole)
 
 pub returns-clause-slot : goal.returns-clause-slot
 returns-clause-slot g c told whole =
-    let long : length c.args.body ≡ g.row.N = search rules in
-    kept_slot g.row.N (length c.args.body) c.args.self.now.file c.args.self.now.selected (g.D.Disk.view c.args.disk.now) (g.D.Disk.view c.write_free.new.disk) long (c.write_free.ensures.any_moment told) (g.met.D.Disk.reads_itself told c.write_free.new.disk) (g.met.D.Disk.is_now told c.write_free.new.disk)
-
-pub returns-clause-cause : goal.returns-clause-cause
-returns-clause-cause g c = own_cause c.args.self.now.file _ (g.D.Disk.view c.args.disk.now) (g.D.Disk.view c.write_free.new.disk) (record { monotone = c.write_free.ensures.cause.monotone; risen = λ none. absurd (let no : ⊥ = search rules in no) })
-
-pub returns-clause-represents : goal.returns-clause-represents
-returns-clause-represents g c told whole =
-    let long : length c.args.body ≡ g.row.N = search rules in
-    let r = c.requires.represents told whole in
     let f = c.args.self.now.file in
-    let slot = c.args.self.now.selected in
-    let old = g.D.Disk.view c.args.disk.now in
-    let new = g.D.Disk.view c.write_free.new.disk in
-    let no_error = sym c.is_err.ensures.value ∙ c.if-is_err.false in
-    let keeps = kept_now g.row.N (length c.args.body) f slot old new long (c.write_free.ensures.any_moment told) (g.met.D.Disk.reads_itself told c.write_free.new.disk) (g.met.D.Disk.is_now told c.write_free.new.disk) in
-    record {
-      part = r.part;
-      synced = ok_of c.write_free.result _ no_error (c.write_free.ensures.durable told);
-      last_entry = keeps.entry ∙ r.last_entry;
-      stands = keeps.stands;
-      prepared = subst (λ (m : ℕ). IsPrepared m (bytes_of (new.reads f)) slot (Some c.args.body)) long (ok_of c.write_free.result _ no_error (c.write_free.ensures.prepared told));
-      no_old = λ none. no_old_stays g.row.N f (λ h. h ≡ f) old new (c.write_free.ensures.any_moment told).elsewhere (old_other f r.part) (r.no_old none);
-    }
+    let mid = g.D.Disk.view c.put_slot.new.disk in
+    let new = g.D.Disk.view c.sync_slot.new.disk in
+    slot_stays g.row.N f (g.D.Disk.view c.args.disk.now).reads mid.reads new.reads (unchanged_reads mid new (c.sync_slot.ensures.unchanged told c.in_ok-put_slot.ensures.whole) f) (c.put_slot.ensures.slot told whole)
 
-pub returns-then-is_err-clause-blame : goal.returns-then-is_err-clause-blame
-returns-then-is_err-clause-blame g c = record { monotone = c.write_free.ensures.cause.monotone; risen = λ _. c.write_free.ensures.cause.risen (search rules) }
+pub returns-clause-length : goal.returns-clause-length
+returns-clause-length g c told whole =
+    let f = c.args.self.now.file in
+    let old = g.D.Disk.view c.args.disk.now in
+    let mid = g.D.Disk.view c.put_slot.new.disk in
+    then_unchanged (λ h. h ≡ f) (IsNoLonger g.row.N f old.reads) old mid (g.D.Disk.view c.sync_slot.new.disk) (g.met.D.Disk.is_now told c.put_slot.new.disk)
+    (c.put_slot.ensures.length told whole) (c.sync_slot.ensures.unchanged told c.in_ok-put_slot.ensures.whole)
