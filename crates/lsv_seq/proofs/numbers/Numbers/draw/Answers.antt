@@ -35,3 +35,9 @@ returns-clause-few g c told none =
     let now = g.D.Disk.view c.write.new.disk in
     subst (λ disk. CallsAtMost 2 2 (λ f. f ≡ numbers_file (lane_of c.args.self.now)) (g.D.Disk.view disk) now) (c.settle.ensures.untouched none)
     (subst (λ lane. CallsAtMost 2 2 (λ f. f ≡ numbers_file lane) (g.D.Disk.view c.settle.new.disk) now) c.settle.ensures.lane.lane_is (c.write.ensures.calls told))
+
+pub returns-in_err-write-clause-few : goal.returns-in_err-write-clause-few
+returns-in_err-write-clause-few g c told none =
+    let now = g.D.Disk.view c.write.new.disk in
+    subst (λ disk. CallsAtMost 2 2 (λ f. f ≡ numbers_file (lane_of c.args.self.now)) (g.D.Disk.view disk) now) (c.settle.ensures.untouched none)
+    (subst (λ lane. CallsAtMost 2 2 (λ f. f ≡ numbers_file lane) (g.D.Disk.view c.settle.new.disk) now) c.settle.ensures.lane.lane_is (c.write.ensures.calls told))

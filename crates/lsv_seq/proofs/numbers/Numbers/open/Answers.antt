@@ -1,8 +1,16 @@
-use Rattle.std.proofs.Common.{sym, ap, subst, ◌∙◌, refl}
+use Rattle.std.proofs.Common.{ℕ, Result, Ok, Err, IfOk, sym, ap, subst, ◌∙◌, refl}
+use Rattle.lsv_disk.specs.View.{Image, DiskView, IsCrashImage}
+use Rattle.lsv_seq.specs.declared.entry.Entry.{Entry}
+use Rattle.lsv_seq.specs.declared.fault.SeqFault.{SeqFault}
+use Rattle.lsv_seq.specs.declared.numbers.Numbers.{Numbers}
+use Rattle.lsv_seq.specs.Drawn.{LastDrawn}
+use Rattle.lsv_seq.specs.Value.{last_of}
+use Rattle.lsv_seq.specs.Represents.{Represents}
 use Rattle.std.specs.Option.{option_map}
 use Rattle.lsv_journal.specs.Last.{IsOwn, OpeningCalls}
 use Rattle.lsv_seq.specs.Entry.{entry_in}
-use Rattle.lsv_seq.specs.Inner.{last_in}
+use Rattle.lsv_seq.specs.Inner.{last_in, IsOpened}
+use Rattle.lsv_seq.proofs.Images.{last_now}
 use Rattle.lsv_seq.proofs.Openings.{made_reads, kept_moments, made_moments, opened_moments, opened_calls, resumed_represents}
 use Rattle.lsv_seq.proofs.Runs.{draw_calls, reopened_entry}
 use Rattle.lsv_seq.proofs.numbers.Numbers.open.Goals as goal
@@ -83,3 +91,12 @@ returns-in_default-last-clause-opened g c told some =
 pub returns-clause-opened : goal.returns-clause-opened
 returns-clause-opened g c told some =
     subst (λ h. OpeningCalls 12 h (IsOwn h) (g.D.Disk.view c.args.disk.now) (g.D.Disk.view c.open.new.disk)) c.numbers_file.ensures (c.open.ensures.calls told)
+
+-- a crash leaves the last number of numbers that were made
+fresh_durable : (lane lanes : ℕ) (disk : DiskView) (r : Result Numbers SeqFault) → IfOk r (IsOpened lane lanes 0) → IfOk r (λ n. Represents n disk) → IfOk r (λ n. (image : Image) → IsCrashImage disk image → LastDrawn lane lanes (last_of n) image)
+fresh_durable lane lanes disk (Ok n) is at = λ image crash. subst (λ (e : Entry). LastDrawn e.lane e.lanes (last_of n) image) is.kept_is (last_now n disk at is.pending_is image crash)
+fresh_durable lane lanes disk (Err e) is at = tt
+
+pub returns-in_default-last-clause-durable : goal.returns-in_default-last-clause-durable
+returns-in_default-last-clause-durable g c told =
+    fresh_durable c.args.lane c.args.lanes (g.D.Disk.view c.fresh-in_default-last.new.disk) c.fresh-in_default-last.result c.fresh-in_default-last.ensures.opened (c.fresh-in_default-last.ensures.represents told)
