@@ -57,6 +57,12 @@ pub record Takes (piece : List ℕ) (over : Bool) (unread : List ℕ) (jobs : Li
   pub goes : (read : List ℕ) (said : List Body) → Cuts over read said unread → Cuts over' (read ++ piece) (said ++ bodies) unread'
   pub all : (read : List ℕ) (said : List Body) → Cuts over read said unread → AreJobs (read ++ piece) (said ++ bodies)
 
+-- the same, and they were put behind others
+pub record TakesOn (piece : List ℕ) (jobs : List Job) (over : Bool) (unread : List ℕ) (jobs' : List Job) (over' : Bool) (unread' : List ℕ) : Type 0 where
+  pub more : List Job
+  pub are : jobs' ≡ jobs ++ more
+  pub takes : Takes piece over unread more over' unread'
+
 -- ---- Turns
 
 -- a turn was made of these jobs
