@@ -147,6 +147,34 @@ impl<F: LineWriter, H: Search> Keeper<F, H> {
         ensures syncs { D.tells → (m : Machine) → Represents (view_of self.old) (D.view disk.old) m → Syncs (GoesOnWith request) (view_of self.old) (view_of self.new) (D.view disk.old) (D.view disk.new) }
     {
         match request {
+            Request::Record(r) => self.record(disk, conn, state, r),
+            other => self.work_apart(disk, now, conn, state, other),
+        }
+    }
+
+    /// The same of a request that is rarer than a record: what a function may hold is cleared where it begins.
+    #[cold]
+    #[inline(never)]
+    fn work_apart<D: Disk>(
+        &mut self,
+        disk: &mut D,
+        now: TimeSpec,
+        conn: ConnId,
+        state: ConnState,
+        request: Request,
+    ) -> Told
+        requires timed { IsSome (nanos_of now) }
+        requires state { state ≡ (sessions_of (view_of self.old)).states conn }
+        requires asked { (message : ClientMessage) × IsWindowFit message × (judged state message ≡ Ok request) }
+        requires stands { D.tells → (m : Machine) × Represents (view_of self.old) (D.view disk.old) m }
+        requires room { 1 ≤ room (view_of self.old) }
+        ensures keeps { Keeps (view_of self.old) (view_of self.new) }
+        ensures told { IsTold result }
+        ensures row { D.tells → (m : Machine) (job : Job) → Represents (view_of self.old) (D.view disk.old) m → job.conn ≡ conn → AsksFor (m.states conn) job.body request
+            → RowGives (view_of self.old) now job result m (view_of self.new) (D.view disk.old) (D.view disk.new) }
+        ensures syncs { D.tells → (m : Machine) → Represents (view_of self.old) (D.view disk.old) m → Syncs (GoesOnWith request) (view_of self.old) (view_of self.new) (D.view disk.old) (D.view disk.new) }
+    {
+        match request {
             Request::Hello => self.greet(disk, conn),
             Request::Accept(accept) => self.accept(disk, now, conn, state, accept),
             Request::Reject(report) => self.reject(disk, now, conn, state, report),

@@ -1,6 +1,6 @@
 -- The messages of sudo_logsrv.proto(5): each table has the rows of the manual page, in the order of their numbers.
 use Rattle.lsv_msg.specs.declared.fault.MsgFault.{MsgFault}
-use Rattle.std.specs.Prelude.{ℕ, ℤ, List, [], ◌∷◌, Option, Some, None, Result, Bool}
+use Rattle.std.specs.Prelude.{ℕ, ℤ, List, [], ◌∷◌, Option, Some, None, Result, Bool, if◌then◌else◌, ◌==◌}
 use Rattle.lsv_base.specs.declared.time.TimeSpec.{TimeSpec}
 use Rattle.lsv_info.specs.declared.info.Entry.{Entry}
 use Rattle.lsv_info.specs.declared.info.Value.{Value}
@@ -206,6 +206,10 @@ client_members =
 
 abbrev pub client_message : Format (Option ClientMessage) (Option ClientMessage)
 client_message = oneof client_members
+
+-- the message with that number of a record's data, where it has one
+abbrev pub data_message : ℕ → IoBuffer → ClientMessage
+data_message number buffer = if number == 6 then client.Ttyin buffer else if number == 7 then client.Ttyout buffer else if number == 8 then client.Stdin buffer else if number == 9 then client.Stdout buffer else client.Stderr buffer
 
 -- the message of a client that these bytes are, or why they are none
 abbrev pub client_in : List ℕ → Result ClientMessage MsgFault

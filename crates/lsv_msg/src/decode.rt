@@ -1,20 +1,20 @@
 //! Messages are read in place, from front to back.
 
-ghost use Rattle.std.specs.Prelude.{◌≡◌, ◌≢◌, ◌⊎◌, ◌≤◌, ◌<◌, length, None, Ok, Err, IfOk, IfErr};
+ghost use Rattle.std.specs.Prelude.{◌≡◌, ◌≢◌, ◌≤◌, length, None, Ok, Err, IfOk, IfErr};
 ghost use Rattle.lsv_wire.specs.Fields.{IsWithin};
 ghost use Rattle.lsv_msg.specs.declared.fault.MsgFault.TheVariants as faults;
 ghost use Rattle.lsv_msg.specs.Fitting.{FitsClient, FitsServer, ClientWithin, ServerWithin};
 ghost use Rattle.lsv_msg.specs.Format.{Gives, read};
-ghost use Rattle.lsv_msg.specs.Messages.{client_in, client_message, server_in, server_message};
+ghost use Rattle.lsv_msg.specs.Messages.{client_in, client_message, data_message, server_in, server_message};
 
 use crate::commands::{read_accept, read_alert, read_exit, read_reject};
 use crate::fields::{Fields, take_all};
 use crate::hellos::{read_client_hello, read_restart, read_server_hello};
-use crate::plain::one_field;
+use crate::plain::plain_record;
 use crate::records::{read_buffer, read_size, read_suspend};
 use crate::rows::{bytes_of, no_second};
 use crate::time::read_time;
-use crate::{Boxed, ClientMessage, MsgFault, ServerMessage};
+use crate::{Boxed, ClientMessage, IoBuffer, MsgFault, ServerMessage};
 use lsv_base::Bytes;
 use lsv_wire::Field;
 use std::alloc::Global;
@@ -41,11 +41,42 @@ pub fn decode_server(alloc: Global, b: &[u8]) -> Result<ServerMessage, MsgFault>
     server_in(alloc, b)
 }
 
+/// A plain record of data, which nearly all messages are, is read by a function of few values: whatever a function may
+/// hold is cleared where it begins.
 #[inline(always)]
+#[tactic(auto, using(crate::proofs::FewFields::plain_member))]
 fn client_in(alloc: Global, bytes: &[u8]) -> Result<ClientMessage, MsgFault>
     ensures { Gives (λ m. m) result (client_in bytes.now) }
 {
+    if let Some((number, delay, data)) = plain_record(bytes) {
+        let bytes = Bytes::of(alloc, data)?;
+        let delay = Some(delay);
+        return Ok(data_message(number, IoBuffer { delay, bytes }));
+    }
+    any_client_in(alloc, bytes)
+}
+
+#[cold]
+#[inline(never)]
+fn any_client_in(alloc: Global, bytes: &[u8]) -> Result<ClientMessage, MsgFault>
+    ensures { Gives (λ m. m) result (client_in bytes.now) }
+{
     read_client(alloc, bytes)?.ok_or(MsgFault::Untyped)
+}
+
+/// The message with this number whose data these are.
+#[inline(always)]
+fn data_message(number: u8, buffer: IoBuffer) -> ClientMessage
+    requires { (6 ≤ number) × (number ≤ 10) }
+    ensures { result ≡ data_message number buffer }
+{
+    match number {
+        6 => ClientMessage::Ttyin(buffer),
+        7 => ClientMessage::Ttyout(buffer),
+        8 => ClientMessage::Stdin(buffer),
+        9 => ClientMessage::Stdout(buffer),
+        _ => ClientMessage::Stderr(buffer),
+    }
 }
 
 fn server_in(alloc: Global, bytes: &[u8]) -> Result<ServerMessage, MsgFault>
@@ -54,48 +85,9 @@ fn server_in(alloc: Global, bytes: &[u8]) -> Result<ServerMessage, MsgFault>
     read_server(alloc, bytes)?.ok_or(MsgFault::Untyped)
 }
 
-/// A member of the client's messages, where the number is that of one. Data, which nearly all are, are read by a function
-/// of few values: whatever a function may hold is cleared where it begins.
-#[inline(always)]
+/// A member of the client's messages, where the number is that of one.
 fn client_of(alloc: Global, bytes: &[u8], field: Field) -> Result<Option<ClientMessage>, MsgFault>
     requires { IsWithin (length bytes.now) field.value }
-    ensures { Gives (λ m. m) result (client_message.take bytes.now 0 None field) }
-{
-    if field.number < 6 || field.number > 10 {
-        return other_client(alloc, bytes, field);
-    }
-    data_client(alloc, bytes, field)
-}
-
-/// A message of data.
-#[inline(always)]
-fn data_client(alloc: Global, bytes: &[u8], field: Field) -> Result<Option<ClientMessage>, MsgFault>
-    requires within { IsWithin (length bytes.now) field.value }
-    requires least { 6 ≤ field.number }
-    requires most { field.number ≤ 10 }
-    ensures { Gives (λ m. m) result (client_message.take bytes.now 0 None field) }
-{
-    let data = read_buffer(alloc, bytes_of(bytes, field)?)?;
-    match field.number {
-        6 => Ok(Some(ClientMessage::Ttyin(data))),
-        7 => Ok(Some(ClientMessage::Ttyout(data))),
-        8 => Ok(Some(ClientMessage::Stdin(data))),
-        9 => Ok(Some(ClientMessage::Stdout(data))),
-        10 => Ok(Some(ClientMessage::Stderr(data))),
-        _ => Ok(None),
-    }
-}
-
-/// A message that isn't data, where the number is that of one.
-#[cold]
-#[inline(never)]
-fn other_client(
-    alloc: Global,
-    bytes: &[u8],
-    field: Field,
-) -> Result<Option<ClientMessage>, MsgFault>
-    requires within { IsWithin (length bytes.now) field.value }
-    requires number { (field.number < 6) ⊎ (10 < field.number) }
     ensures { Gives (λ m. m) result (client_message.take bytes.now 0 None field) }
 {
     match field.number {
@@ -116,6 +108,11 @@ fn other_client(
             alloc,
             read_alert(alloc, bytes_of(bytes, field)?)?,
         )?))),
+        6 => Ok(Some(ClientMessage::Ttyin(read_buffer(alloc, bytes_of(bytes, field)?)?))),
+        7 => Ok(Some(ClientMessage::Ttyout(read_buffer(alloc, bytes_of(bytes, field)?)?))),
+        8 => Ok(Some(ClientMessage::Stdin(read_buffer(alloc, bytes_of(bytes, field)?)?))),
+        9 => Ok(Some(ClientMessage::Stdout(read_buffer(alloc, bytes_of(bytes, field)?)?))),
+        10 => Ok(Some(ClientMessage::Stderr(read_buffer(alloc, bytes_of(bytes, field)?)?))),
         11 => Ok(Some(ClientMessage::Winsize(read_size(alloc, bytes_of(bytes, field)?)?))),
         12 => Ok(Some(ClientMessage::Suspend(read_suspend(alloc, bytes_of(bytes, field)?)?))),
         13 => Ok(Some(ClientMessage::Hello(read_client_hello(alloc, bytes_of(bytes, field)?)?))),
@@ -156,20 +153,8 @@ impl Fields for ClientFields {
     }
 }
 
-#[inline(always)]
-fn read_client(alloc: Global, bytes: &[u8]) -> Result<Option<ClientMessage>, MsgFault>
-    ensures { Gives (λ m. m) result (read client_message bytes.now) }
-{
-    match one_field(bytes) {
-        Some(field) => client_of(alloc, bytes, field),
-        None => any_client(alloc, bytes),
-    }
-}
-
-#[cold]
-#[inline(never)]
 #[tactic(auto, unfolding(crate::specs::Format::read))]
-fn any_client(alloc: Global, bytes: &[u8]) -> Result<Option<ClientMessage>, MsgFault>
+fn read_client(alloc: Global, bytes: &[u8]) -> Result<Option<ClientMessage>, MsgFault>
     ensures { Gives (λ m. m) result (read client_message bytes.now) }
 {
     let mut fields = ClientFields { message: None };

@@ -1,45 +1,55 @@
-//! Plain forms, which nearly all messages have: one field or two, in order. They are tried before the fields are
-//! taken one after another, and where bytes aren't in such a form, that says nothing about them.
+//! The plain form of a record of data, which nearly all messages have. It is tried before fields are taken one after
+//! another, and where bytes aren't in it, that says nothing about them.
 
-ghost use Rattle.std.specs.Prelude.{◌≡◌, ◌≤◌, [], ◌∷◌, length, Some, None, Ok, IfSome};
+ghost use Rattle.std.specs.Prelude.{◌≡◌, ◌≤◌, ℕ, [], ◌∷◌, length, Some, None, Ok, IfSome, slice_range};
 ghost use Rattle.std.specs.Bool.{OnTrue};
 ghost use Rattle.lsv_wire.specs.declared.field.FieldValue.TheVariants as values;
-ghost use Rattle.lsv_wire.specs.Fields.{IsWithin, fields_from, fields_of};
+ghost use Rattle.lsv_wire.specs.Fields.{fields_from, fields_of};
 ghost use Rattle.lsv_msg.specs.Format.{read};
 ghost use Rattle.lsv_msg.specs.Messages.{time_spec, io_buffer};
 
 use crate::rows::int32_of;
 use lsv_base::TimeSpec;
-use lsv_wire::{Field, keyed_bytes, keyed_number, read_field};
+use lsv_wire::{keyed_bytes, keyed_number};
 
 /// The keys of a record's delay and data, and of a time's seconds and nanoseconds: the field's number times 8, and its type.
 const DELAY: u8 = 0x0a;
 
 const DATA: u8 = 0x12;
 
+/// The keys of the first and the last message of data, 6 and 10.
+const FIRST_DATA: u8 = 0x32;
+
+const LAST_DATA: u8 = 0x52;
+
 const SECONDS: u8 = 0x08;
 
 const NANOS: u8 = 0x10;
 
-/// The one field that these bytes are.
+/// The number, the delay and the data of a message of data that is one field, in which these two are.
 #[inline(always)]
-pub fn one_field(bytes: &[u8]) -> Option<Field>
-    ensures fields { IfSome result (λ f. fields_of bytes.now ≡ record { fields = f ∷ []; fault = None }) }
-    ensures within { IfSome result (λ f. IsWithin (length bytes.now) f.value) }
+#[tactic(auto, using(crate::proofs::FewFields::one_part))]
+pub fn plain_record(bytes: &[u8]) -> Option<(u8, TimeSpec, &[u8])>
+    ensures number { IfSome result (λ r. (6 ≤ r.0) × (r.0 ≤ 10)) }
+    ensures message { IfSome result (λ r. (from : ℕ) × (to : ℕ) × (fields_of bytes.now ≡ record { fields = record { number = r.0; value = values.Range from to } ∷ []; fault = None })
+        × (read io_buffer (slice_range bytes.now from to) ≡ Ok (record { delay = Some r.1; bytes = r.2.now }))) }
 {
-    let Ok(Some((field, next))) = read_field(bytes, 0) else {
-        return None;
-    };
-    if !is_end(bytes, next) {
+    let key = *bytes.first()?;
+    if key % 8 != 2 || key < FIRST_DATA || key > LAST_DATA {
         return None;
     }
-    Some(field)
+    let (from, to) = keyed_bytes(bytes, 0, key)?;
+    if !is_end(bytes, to) {
+        return None;
+    }
+    let (delay, data) = plain_buffer(&bytes[from..to])?;
+    Some((key / 8, delay, data))
 }
 
 /// The delay and the data of a record that has these two fields and no other.
 #[inline(always)]
 #[tactic(auto, using(crate::proofs::FewFields::delay_and_data))]
-pub fn plain_buffer(bytes: &[u8]) -> Option<(TimeSpec, &[u8])>
+fn plain_buffer(bytes: &[u8]) -> Option<(TimeSpec, &[u8])>
     ensures { IfSome result (λ b. read io_buffer bytes.now ≡ Ok (record { delay = Some b.0; bytes = b.1.now })) }
 {
     let (from, to) = keyed_bytes(bytes, 0, DELAY)?;

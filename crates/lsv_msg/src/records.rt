@@ -5,7 +5,6 @@ ghost use Rattle.lsv_msg.specs.Format.{Gives, read};
 ghost use Rattle.lsv_msg.specs.Messages.{io_buffer, change_window_size, command_suspend};
 
 use crate::fields::{Fields, take_all};
-use crate::plain::plain_buffer;
 use crate::rows::{set_int32, set_text, set_time, text_or_empty};
 use crate::{ChangeWindowSize, CommandSuspend, IoBuffer, MsgFault};
 use lsv_base::{Bytes, TimeSpec};
@@ -48,23 +47,8 @@ impl Fields for IoBufferFields {
 }
 
 /// The data that these bytes are, of which a copy is made.
-#[inline(always)]
-pub fn read_buffer(alloc: Global, bytes: &[u8]) -> Result<IoBuffer, MsgFault>
-    ensures { Gives (λ m. m) result (read io_buffer bytes.now) }
-{
-    if let Some((delay, data)) = plain_buffer(bytes) {
-        return Ok(IoBuffer {
-            delay: Some(delay),
-            bytes: Bytes::of(alloc, data)?,
-        });
-    }
-    any_buffer(alloc, bytes)
-}
-
-#[cold]
-#[inline(never)]
 #[tactic(auto, unfolding(crate::specs::Format::read))]
-fn any_buffer(alloc: Global, bytes: &[u8]) -> Result<IoBuffer, MsgFault>
+pub fn read_buffer(alloc: Global, bytes: &[u8]) -> Result<IoBuffer, MsgFault>
     ensures { Gives (λ m. m) result (read io_buffer bytes.now) }
 {
     let mut fields = IoBufferFields {

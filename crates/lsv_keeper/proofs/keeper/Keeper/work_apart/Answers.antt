@@ -1,0 +1,36 @@
+use Rattle.std.proofs.Common.{◌≡◌, Ok, subst}
+use Rattle.lsv_request.specs.declared.request.Request.{Request}
+use Rattle.lsv_machine.specs.Judgement.{judged}
+use Rattle.lsv_keeper.specs.Syncing.{GoesOnWith}
+use Rattle.lsv_keeper.specs.Views.{view_of}
+use Rattle.lsv_keeper.proofs.Requests.{valid_record}
+use Rattle.lsv_keeper.proofs.Syncing.{of_none, wider}
+use Rattle.lsv_keeper.proofs.keeper.Keeper.work_apart.Goals as goal
+
+pub record-requires-clause-valid : goal.record-requires-clause-valid
+record-requires-clause-valid g c =
+    let (message, fits, asked) = c.requires.asked in
+    valid_record c.args.state message c.in-Record.r fits (subst (λ (x : Request). judged c.args.state message ≡ Ok x) c.in-Record.is asked)
+
+pub returns-in-Hello-clause-syncs : goal.returns-in-Hello-clause-syncs
+returns-in-Hello-clause-syncs g c told m at = of_none (GoesOnWith c.args.request) (view_of c.args.self.now) (view_of c.greet.new.self) (g.D.Disk.view c.args.disk.now) (g.D.Disk.view c.greet.new.disk) (c.greet.ensures.syncs told m at)
+
+pub returns-in-Accept-clause-syncs : goal.returns-in-Accept-clause-syncs
+returns-in-Accept-clause-syncs g c told m at = of_none (GoesOnWith c.args.request) (view_of c.args.self.now) (view_of c.accept.new.self) (g.D.Disk.view c.args.disk.now) (g.D.Disk.view c.accept.new.disk) (c.accept.ensures.syncs told m at)
+
+pub returns-in-Reject-clause-syncs : goal.returns-in-Reject-clause-syncs
+returns-in-Reject-clause-syncs g c told m at = of_none (GoesOnWith c.args.request) (view_of c.args.self.now) (view_of c.reject.new.self) (g.D.Disk.view c.args.disk.now) (g.D.Disk.view c.reject.new.disk) (c.reject.ensures.syncs told m at)
+
+pub returns-in-Alert-clause-syncs : goal.returns-in-Alert-clause-syncs
+returns-in-Alert-clause-syncs g c told m at = of_none (GoesOnWith c.args.request) (view_of c.args.self.now) (view_of c.alert.new.self) (g.D.Disk.view c.args.disk.now) (g.D.Disk.view c.alert.new.disk) (c.alert.ensures.syncs told m at)
+
+pub returns-in-Record-clause-syncs : goal.returns-in-Record-clause-syncs
+returns-in-Record-clause-syncs g c told m at = of_none (GoesOnWith c.args.request) (view_of c.args.self.now) (view_of c.record.new.self) (g.D.Disk.view c.args.disk.now) (g.D.Disk.view c.record.new.disk) (c.record.ensures.syncs told m at)
+
+pub returns-in-Exit-clause-syncs : goal.returns-in-Exit-clause-syncs
+returns-in-Exit-clause-syncs g c told m at = of_none (GoesOnWith c.args.request) (view_of c.args.self.now) (view_of c.exit.new.self) (g.D.Disk.view c.args.disk.now) (g.D.Disk.view c.exit.new.disk) (c.exit.ensures.syncs told m at)
+
+pub returns-in-Restart-clause-syncs : goal.returns-in-Restart-clause-syncs
+returns-in-Restart-clause-syncs g c told m at =
+    wider (λ n. n ≡ c.in-Restart.restart.log) (GoesOnWith c.args.request) (view_of c.args.self.now) (view_of c.restart.new.self) (g.D.Disk.view c.args.disk.now) (g.D.Disk.view c.restart.new.disk)
+    (λ n e. (c.in-Restart.restart, c.in-Restart.is, e)) (c.restart.ensures.syncs told m at)
