@@ -59,6 +59,9 @@ impl Folders {
 
     /// Makes a folder and those above it that are not there. Their names are on the disk once `sync_names` was called.
     pub fn make(&mut self, folder: &str) -> io::Result<()> {
+        if self.make_in_synced(folder)? {
+            return Ok(());
+        }
         let mut made = String::new(self.alloc);
         for name in folder.split('/') {
             if !name.is_empty() {
@@ -71,16 +74,40 @@ impl Folders {
         Ok(())
     }
 
+    /// Makes a folder at once whose parent was synced in this run, so that none above is looked up: the folders of logs
+    /// are made so. False where it isn't there afterwards, since the parent wasn't synced, or is gone.
+    fn make_in_synced(&mut self, folder: &str) -> io::Result<bool> {
+        let Some((parent, _)) = folder.rsplit_once('/') else {
+            return Ok(false);
+        };
+        if !self.synced.contains(parent) {
+            return Ok(false);
+        }
+        match self.make_in(folder, parent) {
+            Ok(()) => Ok(true),
+            Err(e) if e.kind() == ErrorKind::NotFound => Ok(false),
+            Err(e) => Err(e),
+        }
+    }
+
     /// Makes a folder that isn't there, and none in a parent that may not be opened, and so not be synced.
     fn make_one(&mut self, folder: &str, parent: &str) -> io::Result<()> {
         if fs::exists(&self.rt, folder)? {
             return Ok(());
         }
         let _ = File::open(&self.rt, parent)?;
+        // Another server, which wants the same store, may be faster.
         self.change(parent);
+        self.make_in(folder, parent)
+    }
+
+    /// Makes a folder, where it isn't there, in a parent that may be synced.
+    fn make_in(&mut self, folder: &str, parent: &str) -> io::Result<()> {
         match DirBuilder::new().mode(MODE).create(&self.rt, folder) {
-            Ok(()) => self.set_mode(folder),
-            // Another server, which wants the same store, was faster.
+            Ok(()) => {
+                self.change(parent);
+                self.set_mode(folder)
+            }
             Err(e) if e.kind() == ErrorKind::AlreadyExists => Ok(()),
             Err(e) => Err(e),
         }

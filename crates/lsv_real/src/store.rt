@@ -123,13 +123,20 @@ impl Store {
         self.sync_made(folder.as_str(), owner, parts)
     }
 
-    /// Makes empty files, with the folders that are lacking.
+    /// Makes empty files, with the folders that are lacking. A file of slots is made first: so its inode stands beside the
+    /// head's, mostly in one block, which the first flush of both writes once.
     fn make_empty(&mut self, folder: &str, owner: Owner, parts: &[Part]) -> io::Result<()> {
         self.lacking = None;
         self.folders.make(folder)?;
         self.folders.change(folder);
+        let mut modes = Modes::new();
+        if parts.contains(&Part::Slots) {
+            self.make_one(FileId::new(owner, Part::Slots), &mut modes)?;
+        }
         for part in parts {
-            self.make_one(FileId::new(owner, *part))?;
+            if *part != Part::Slots {
+                self.make_one(FileId::new(owner, *part), &mut modes)?;
+            }
         }
         Ok(())
     }
@@ -155,9 +162,10 @@ impl Store {
         Ok(())
     }
 
-    fn make_one(&mut self, f: FileId) -> io::Result<()> {
+    fn make_one(&mut self, f: FileId, modes: &mut Modes) -> io::Result<()> {
         let place = self.place_of(f)?;
         let file = make_file(&self.rt, place.path.as_str())?;
+        modes.set(&file)?;
         self.keep(f, file)
     }
 
@@ -305,16 +313,39 @@ fn take_lock(rt: &HostRuntime, alloc: Global, dir: &str) -> Result<File, StoreFa
     }
 }
 
-/// Makes an empty file, which nobody else may read, whatever the umask.
+/// Makes an empty file, which nobody else may read.
 fn make_file(rt: &HostRuntime, path: &str) -> io::Result<File> {
-    let file = OpenOptions::new()
+    OpenOptions::new()
         .read(true)
         .write(true)
         .create_new(true)
         .mode(MODE)
-        .open(rt, path)?;
-    if file.metadata()?.permissions().mode() & ALL_BITS != MODE {
-        file.set_permissions(Permissions::from_mode(MODE))?;
+        .open(rt, path)
+}
+
+/// The modes of files that are made together in one folder. The system gives each of them the same, so what it made of
+/// the first one's is looked at, and where that isn't `MODE`, whatever took bits away, all get theirs.
+#[derive(Drop)]
+struct Modes {
+    are_right: Option<bool>,
+}
+
+impl Modes {
+    /// Of no file yet.
+    fn new() -> Self {
+        Modes { are_right: None }
     }
-    Ok(file)
+
+    /// Sees that the next of the files has its mode.
+    fn set(&mut self, file: &File) -> io::Result<()> {
+        let is_right = match self.are_right {
+            Some(is_right) => is_right,
+            None => file.metadata()?.permissions().mode() & ALL_BITS == MODE,
+        };
+        self.are_right = Some(is_right);
+        if is_right {
+            return Ok(());
+        }
+        file.set_permissions(Permissions::from_mode(MODE))
+    }
 }

@@ -120,6 +120,26 @@ fn files_that_are_made_together_are_empty_but_for_the_gate_of_slots(
 }
 
 #[test]
+fn a_folder_that_is_gone_is_made_again(rt: HostRuntime) -> Result<(), Fail> {
+    let alloc = rt.alloc();
+    let own = own_folder(&rt, "gone")?;
+    let mut disk = FileDisk::new(rt, "test");
+    disk.root(own.as_str(), "events");
+    disk.create_all(Owner::Log(1), &[Part::Head])?;
+    // One beside it is made without a look at those above.
+    disk.create_all(Owner::Log(2), &[Part::Head])?;
+    let above = format!(in alloc; "{own}/00")?;
+    fs::remove_dir_all(&rt, above.as_str())?;
+    disk.create_all(Owner::Log(3), &[Part::Head])?;
+    for (name, want) in [("02", false), ("03", true)] {
+        let head = format!(in alloc; "{own}/00/00/{name}/log.json")?;
+        assert_eq!(rt; fs::exists(&rt, head.as_str())?, want, "{name}");
+    }
+    fs::remove_dir_all(&rt, own.as_str())?;
+    Ok(())
+}
+
+#[test]
 fn a_store_has_one_server(rt: HostRuntime) -> Result<(), Fail> {
     let own = own_folder(&rt, "lock")?;
     let mut first = FileDisk::new(rt, "first");
