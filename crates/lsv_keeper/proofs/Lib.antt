@@ -11,6 +11,7 @@ pub mod Leaving
 pub mod Drawing
 pub mod Beginning
 pub mod Opens
+pub mod Placing
 pub mod Masking
 pub mod Sizes
 pub mod Recording

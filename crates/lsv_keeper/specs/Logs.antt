@@ -1,5 +1,5 @@
 -- Open logs by number, and what becomes of one where a record comes or where it is flushed.
-use Rattle.std.specs.Prelude.{ℕ, ◌≡◌, ◌⊎◌, ◌≤◌, ◌<◌, ◌+◌, ◌^◌, ◌==◌, nat_eq, true, false, if◌then◌else◌, List, [], ◌∷◌, ◌++◌, Option, Some, None}
+use Rattle.std.specs.Prelude.{ℕ, ◌≡◌, ◌⊎◌, ◌≤◌, ◌<◌, ◌+◌, ◌^◌, ◌==◌, nat_eq, slice_get, true, false, if◌then◌else◌, List, [], ◌∷◌, ◌++◌, Option, Some, None}
 use Rattle.std.specs.HashMap as hash
 use Rattle.std.specs.Prelude.{FitsSigned}
 use Rattle.std.specs.Int.{w32}
@@ -29,6 +29,10 @@ use Rattle.lsv_keeper.specs.declared.logs.OpenLogs.{OpenLogs}
 -- the open log of a number
 abbrev pub open_logs : OpenLogs → ℕ → Option OpenLog
 open_logs logs n = hash.get nat_eq logs.map n
+
+-- the log of a number is open, and stands at this place
+abbrev pub IsAt : ℕ → ℕ → OpenLogs → Type 0
+IsAt n place logs = (its : OpenLog) × (slice_get logs.map.entries place ≡ Some (n, its))
 
 -- for how many further open logs there is room
 abbrev pub spare_logs : OpenLogs → ℕ

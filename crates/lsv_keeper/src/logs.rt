@@ -1,13 +1,15 @@
 //! The logs that connections write.
 
-ghost use Rattle.std.specs.Prelude.{◌≡◌, ◌≤◌, ℕ, false, Some, None, OnOk, IfErr};
+ghost use Rattle.std.specs.Prelude.{◌≡◌, ◌≤◌, ℕ, false, Some, None, OnOk, IfErr, IfSome, IfNone};
+ghost use Rattle.std.specs.Bool.{OnTrue};
 ghost use Rattle.lsv_iolog.specs.Represents.{Represents};
 ghost use Rattle.lsv_iolog.specs.Value.{LogValue, is_complete};
 ghost use Rattle.lsv_record.specs.Records.{IsValid};
-ghost use Rattle.lsv_keeper.specs.Logs.{Appends, Covers, Flushes, RefusesRecord, TakesRecord, log_refusal, open_logs, spare_logs, with_open};
+ghost use Rattle.lsv_keeper.specs.Logs.{Appends, Covers, Flushes, IsAt, RefusesRecord, TakesRecord, log_refusal, open_logs, spare_logs, with_open};
 ghost use Rattle.lsv_keeper.specs.declared.logs.Appended.{Appended};
 ghost use Rattle.lsv_keeper.specs.declared.logs.OpenLog.{OpenLog};
 
+use indexmap::IndexMap;
 use lsv_base::{Bytes, List, LogNo, NoMem, Point};
 use lsv_disk::Disk;
 use lsv_iolog::{IoLog, LogFault};
@@ -15,7 +17,6 @@ use lsv_mask::{Mask, Prompt, Search};
 use lsv_record::Record;
 use lsv_request::Refusal;
 use std::alloc::{AllocError, Global};
-use std::collections::HashMap;
 
 /// A log that a connection writes, and the mask behind its records.
 #[derive(Drop)]
@@ -38,7 +39,9 @@ pub enum Appended {
 /// Open logs, by number. A look-up takes the same time however many there are.
 #[derive(Drop)]
 pub struct OpenLogs {
-    map: HashMap<u32, OpenLog>,
+    map: IndexMap<u32, OpenLog>,
+    /// Where the log of the last record stood: mostly the next one is of the same log.
+    last: usize,
 }
 
 /// How a connection is refused for a fault of its log.
@@ -58,7 +61,8 @@ impl OpenLogs {
         ensures { open_logs result ≡ (λ n. None) }
     {
         OpenLogs {
-            map: HashMap::new(alloc),
+            map: IndexMap::new(alloc),
+            last: 0,
         }
     }
 
@@ -86,7 +90,37 @@ impl OpenLogs {
         ensures rest { open_logs self.new ≡ with_open log None (open_logs self.old) }
         ensures room { spare_logs self.old ≤ spare_logs self.new }
     {
-        self.map.remove(&log.get())
+        self.map.swap_remove(&log.get())
+    }
+
+    /// Where the log of a number stands. The place of the last record's is looked at first, which takes no hash.
+    fn place(&self, log: LogNo) -> Option<usize>
+        ensures found { IfSome result (λ at. IsAt log at self.now) }
+        ensures none { IfNone result (open_logs self.now log ≡ None) }
+    {
+        if self.is_at(self.last, log) {
+            return Some(self.last);
+        }
+        self.find(log)
+    }
+
+    /// The same by the hash, apart from the other way, so that nothing is cleared for it there.
+    #[inline(never)]
+    fn find(&self, log: LogNo) -> Option<usize>
+        ensures found { IfSome result (λ at. IsAt log at self.now) }
+        ensures none { IfNone result (open_logs self.now log ≡ None) }
+    {
+        self.map.get_index_of(&log.get())
+    }
+
+    /// Whether the log of a number stands there.
+    fn is_at(&self, at: usize, log: LogNo) -> bool
+        ensures { OnTrue result (IsAt log at self.now) }
+    {
+        match self.map.get_index(at) {
+            Some((number, _)) => *number == log.get(),
+            None => false,
+        }
     }
 
     /// Covers a valid record as the log's mask of these texts says, and stages it.
@@ -100,7 +134,11 @@ impl OpenLogs {
         requires valid { IsValid r }
         ensures { Appends log texts.now r result (open_logs self.old) (open_logs self.new) }
     {
-        let Some(its) = self.map.get_mut(&log.get()) else {
+        let Some(at) = self.place(log) else {
+            return Appended::NotOpen;
+        };
+        self.last = at;
+        let Some(its) = self.map.get_index_mut(at) else {
             return Appended::NotOpen;
         };
         if its.log.is_complete() {
@@ -144,23 +182,22 @@ impl OpenLog {
         ensures staged { OnOk result (TakesRecord texts.now self.old r self.new) }
         ensures refused { IfErr result (λ fault. RefusesRecord texts.now self.old r fault self.new) }
     {
-        let r = self.covered(prompt, texts, r);
+        let mut r = r;
+        self.cover(prompt, texts, &mut r);
         match self.log.append(&r) {
             Ok(_) => Ok(()),
             Err(fault) => Err(fault),
         }
     }
 
-    /// A record as the mask of these texts covers it. Without texts it stays as it is, and the mask looks at nothing.
-    fn covered<H: Search>(&mut self, prompt: &Prompt<H>, texts: &List<Bytes>, r: Record) -> Record
-        ensures covers { Covers texts.now self.old.mask r result self.new.mask }
+    /// Covers a record as the mask of these texts says. Without texts it stays as it is, and the mask looks at nothing.
+    fn cover<H: Search>(&mut self, prompt: &Prompt<H>, texts: &List<Bytes>, r: &mut Record)
+        ensures covers { Covers texts.now self.old.mask r.old r.new self.new.mask }
         ensures log { self.new.log ≡ self.old.log }
     {
         if texts.as_slice().is_empty() {
-            return r;
+            return;
         }
-        let mut r = r;
-        self.mask.cover(prompt, &mut r);
-        r
+        self.mask.cover(prompt, r);
     }
 }

@@ -53,7 +53,8 @@ impl Incoming {
         Ok(jobs)
     }
 
-    /// Puts the jobs at the end that a piece completes behind what is kept.
+    /// Puts the jobs at the end that a piece completes behind what is kept. It stands apart from the reading in place, so that
+    /// nothing is cleared for it there.
     #[inline(never)]
     fn take_front(&mut self, piece: &[u8], jobs: &mut Vec<Job>) -> Result<(), NoMem>
         requires { self.old.is_over ≡ false }

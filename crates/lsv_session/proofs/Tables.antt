@@ -21,6 +21,10 @@ unwrap_or-cond : {X : Type 0} (b : Bool) (s d : X) (o : Option X) → unwrap_or 
 unwrap_or-cond true s d o = refl
 unwrap_or-cond false s d o = refl
 
+unwrap_or-none : {X : Type 0} (b : Bool) (d : X) (o : Option X) → unwrap_or (cond b None o) d ≡ cond b d (unwrap_or o d)
+unwrap_or-none true d o = refl
+unwrap_or-none false d o = refl
+
 -- the states where they stayed
 pub states_kept : (f g : ConnId → Option ConnState) → ((q : ConnId) → g q ≡ f q) → (k : ConnId) → unwrap_or (g k) Fresh ≡ unwrap_or (f k) Fresh
 states_kept f g e k = ap (λ o. unwrap_or o Fresh) (e k)
@@ -29,6 +33,11 @@ states_kept f g e k = ap (λ o. unwrap_or o Fresh) (e k)
 pub states_put : (f g : ConnId → Option ConnState) (c : ConnId) (s : ConnState) → ((q : ConnId) → g q ≡ cond (same c q) (Some s) (f q))
     → (k : ConnId) → unwrap_or (g k) Fresh ≡ cond (same k c) s (unwrap_or (f k) Fresh)
 states_put f g c s e k = ap (λ o. unwrap_or o Fresh) (e k) ∙ unwrap_or-cond (same c k) s Fresh (f k) ∙ ap (λ b. cond b s (unwrap_or (f k) Fresh)) (same-flip c k)
+
+-- the states where one connection isn't known any more
+pub states_gone : (f g : ConnId → Option ConnState) (c : ConnId) → ((q : ConnId) → g q ≡ cond (same c q) None (f q))
+    → (k : ConnId) → unwrap_or (g k) Fresh ≡ cond (same k c) Fresh (unwrap_or (f k) Fresh)
+states_gone f g c e k = ap (λ o. unwrap_or o Fresh) (e k) ∙ unwrap_or-none (same c k) Fresh (f k) ∙ ap (λ b. cond b Fresh (unwrap_or (f k) Fresh)) (same-flip c k)
 
 -- the owners where one log has another owner or none
 pub owners_put : (f g : ℕ → Option ConnId) (key log : ℕ) (o : Option ConnId) → key ≡ log → ((q : ℕ) → g q ≡ cond (nat_eq key q) o (f q))

@@ -5,6 +5,7 @@ ghost use Rattle.lsv_session.specs.declared.connection.ConnId.{ConnId};
 ghost use Rattle.lsv_session.specs.declared.connection.ConnState.TheVariants as states;
 
 use crate::{ConnId, ConnState};
+use indexmap::IndexMap;
 use lsv_base::{LogNo, NoMem};
 use std::alloc::{AllocError, AllocFailed, Global};
 use std::collections::HashMap;
@@ -14,8 +15,10 @@ use thiserror::Error;
 /// are.
 #[derive(Debug, Drop)]
 pub struct Table {
-    states: HashMap<ConnId, ConnState>,
+    states: IndexMap<ConnId, ConnState>,
     owners: HashMap<u32, ConnId>,
+    /// Where the connection stood whose state was set last: while one session runs, each message is of that one.
+    last: usize,
 }
 
 /// Why a log isn't claimed.
@@ -34,13 +37,26 @@ impl Table {
         ensures { sessions result ≡ record { states = λ _. states.Fresh; owner = λ _. None } }
     {
         Table {
-            states: HashMap::new(alloc),
+            states: IndexMap::new(alloc),
             owners: HashMap::new(alloc),
+            last: 0,
         }
     }
 
-    /// What a connection is doing: `Fresh` where it isn't known.
+    /// What a connection is doing: `Fresh` where it isn't known. The one whose state was set last is looked at first,
+    /// which takes no hash.
     pub fn state(&self, conn: ConnId) -> ConnState
+        ensures { result ≡ (sessions self.now).states conn }
+    {
+        match self.states.get_index(self.last) {
+            Some((known, state)) if *known == conn => *state,
+            _ => self.look_up(conn),
+        }
+    }
+
+    /// The same by the hash, apart from the other way, so that nothing is cleared for it there.
+    #[inline(never)]
+    fn look_up(&self, conn: ConnId) -> ConnState
         ensures { result ≡ (sessions self.now).states conn }
     {
         match self.states.get(&conn) {
@@ -114,10 +130,23 @@ impl Table {
         }
         if let Some(known) = self.states.get_mut(&conn) {
             *known = state;
+            self.expect(conn);
             return Ok(());
         }
         self.states.insert(conn, state)?;
+        self.expect(conn);
         Ok(())
+    }
+
+    /// A connection is looked at first from now on.
+    fn expect(&mut self, conn: ConnId)
+        ensures same { sessions self.new ≡ sessions self.old }
+        ensures spare { spare self.new ≡ spare self.old }
+        ensures owners { spare_owners self.new ≡ spare_owners self.old }
+    {
+        if let Some(at) = self.states.get_index_of(&conn) {
+            self.last = at;
+        }
     }
 
     /// A connection isn't known any more. What it owns stays.
@@ -126,7 +155,7 @@ impl Table {
         ensures spare { spare self.old ≤ spare self.new }
         ensures owners { spare_owners self.new ≡ spare_owners self.old }
     {
-        self.states.remove(&conn);
+        self.states.swap_remove(&conn);
     }
 
     /// Nobody writes a log any more.

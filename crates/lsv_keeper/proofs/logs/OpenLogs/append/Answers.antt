@@ -1,16 +1,33 @@
-use Rattle.std.proofs.Common.{◌≡◌, ◌∙◌, ℕ, nat_eq, Option, Some, ap, sym, rules}
-use Rattle.std.specs.HashMap as hash
-use Rattle.lsv_keeper.specs.Logs.{open_logs, with_open}
+use Rattle.std.proofs.Common.{◌≡◌, ◌∙◌, Some, sym, ap, slice_get}
+use Rattle.lsv_iolog.specs.Value.{is_complete}
 use Rattle.lsv_keeper.specs.declared.logs.OpenLog.{OpenLog}
-use Rattle.lsv_keeper.proofs.Opens.{put_at}
+use Rattle.lsv_keeper.proofs.Opens.{one_open}
+use Rattle.lsv_keeper.specs.Logs.{open_logs}
+use Rattle.lsv_keeper.proofs.Placing.{entry_is, is_open, written_again, written_at}
 use Rattle.lsv_keeper.proofs.logs.OpenLogs.append.Goals as goal
 
 pub returns-in-Err : goal.returns-in-Err
 returns-in-Err g c =
-    let n = c.args.log in
-    let old : ℕ → Option OpenLog = open_logs c.args.self.now in
-    let after = c.append.new.self in
-    let here : old n ≡ Some c.in-Some.its.now = ap (λ (k : ℕ). hash.get nat_eq c.args.self.now.map k) (sym c.get.ensures.value) ∙ sym c.in-Some.ensures.value in
-    let mid : hash.get nat_eq (c.get_mut.follows.lender after) ≡ with_open n (Some after) old =
-    put_at old (hash.get nat_eq (c.get_mut.follows.lender after)) c.get.result n (Some after) c.get.ensures.value ((c.get_mut.follows.holds after).3 (search rules)).0 in
-    (c.in-Some.its.now, after, here, c.in-Err.ensures.refused, mid)
+    let m = c.args.self.now.map in
+    let its : OpenLog = c.in-Some-get_index_mut.its.now in
+    let here : slice_get m.entries c.in-Some.at ≡ Some (c.args.log, its) = entry_is m.entries c.in-Some.at c.args.log its c.in-Some.ensures.found c.in-Some-get_index_mut.ensures.value in
+    let unique = c.in-Some-get_index_mut.ensures.unique in
+    (its, c.append.new.self, is_open m c.in-Some.at c.args.log its unique here, c.in-Err.ensures.refused, written_at m c.in-Some.at c.args.log its unique here c.append.new.self)
+
+pub returns-in-Ok : goal.returns-in-Ok
+returns-in-Ok g c =
+    let m = c.args.self.now.map in
+    let its : OpenLog = c.in-Some-get_index_mut.its.now in
+    let here : slice_get m.entries c.in-Some.at ≡ Some (c.args.log, its) = entry_is m.entries c.in-Some.at c.args.log its c.in-Some.ensures.found c.in-Some-get_index_mut.ensures.value in
+    let unique = c.in-Some-get_index_mut.ensures.unique in
+    (its, c.append.new.self, is_open m c.in-Some.at c.args.log its unique here, c.in-Ok.ensures.staged, written_at m c.in-Some.at c.args.log its unique here c.append.new.self)
+
+pub returns-then-is_complete : goal.returns-then-is_complete
+returns-then-is_complete g c =
+    let m = c.args.self.now.map in
+    let its : OpenLog = c.in-Some-get_index_mut.its.now in
+    let here : slice_get m.entries c.in-Some.at ≡ Some (c.args.log, its) = entry_is m.entries c.in-Some.at c.args.log its c.in-Some.ensures.found c.in-Some-get_index_mut.ensures.value in
+    let unique = c.in-Some-get_index_mut.ensures.unique in (
+      λ other it. ap (λ (o : OpenLog). is_complete o.log) (one_open (open_logs c.args.self.now) c.args.log other its it (is_open m c.in-Some.at c.args.log its unique here)) ∙ (sym c.is_complete.ensures ∙ c.if-is_complete.true),
+      written_again m c.in-Some.at c.args.log its unique here,
+    )

@@ -4,4 +4,4 @@ use Rattle.lsv_keeper.proofs.Opens.{put_at}
 use Rattle.lsv_keeper.proofs.logs.OpenLogs.take.Goals as goal
 
 pub returns-clause-rest : goal.returns-clause-rest
-returns-clause-rest c = put_at (hash.get nat_eq c.args.self.now.map) (hash.get nat_eq c.remove.new.self) c.get.result c.args.log None c.get.ensures.value c.remove.ensures.updates.0
+returns-clause-rest c = put_at (hash.get nat_eq c.args.self.now.map) (hash.get nat_eq c.swap_remove.new.self) c.get.result c.args.log None c.get.ensures.value c.swap_remove.ensures.updates.0
