@@ -21,6 +21,8 @@ pub struct Folders {
     rt: HostRuntime,
     alloc: Global,
     synced: HashSet<String>,
+    /// In which folder the last one was made that got its mode by its making.
+    plain: String,
 }
 
 impl Folders {
@@ -30,6 +32,7 @@ impl Folders {
             rt,
             alloc,
             synced: HashSet::new(alloc),
+            plain: String::new(alloc),
         }
     }
 
@@ -106,16 +109,21 @@ impl Folders {
         match DirBuilder::new().mode(MODE).create(&self.rt, folder) {
             Ok(()) => {
                 self.change(parent);
-                self.set_mode(folder)
+                self.set_mode(folder, parent)
             }
             Err(e) if e.kind() == ErrorKind::AlreadyExists => Ok(()),
             Err(e) => Err(e),
         }
     }
 
-    /// Gives a folder its mode, where the mask of the process or the folder above left it another.
-    fn set_mode(&self, folder: &str) -> io::Result<()> {
+    /// Gives a folder its mode, where the mask of the process or the folder above left it another. Those that are made in one
+    /// folder get the same, so it is looked at once for many.
+    fn set_mode(&mut self, folder: &str, parent: &str) -> io::Result<()> {
+        if self.plain.as_str() == parent {
+            return Ok(());
+        }
         if fs::metadata(&self.rt, folder)?.permissions().mode() & ALL_BITS == MODE {
+            self.plain = String::from_str(self.alloc, parent)?;
             return Ok(());
         }
         fs::set_permissions(&self.rt, folder, Permissions::from_mode(MODE))

@@ -16,12 +16,13 @@ pub struct Handle {
 }
 
 impl Handle {
-    /// A file with what was written to it and not synced, before it was closed.
-    pub fn new(file: File, unsynced: Unsynced) -> Self {
+    /// A file with what was written to it and not synced, before it was closed. It is named where its folder was synced in
+    /// this run with it, or is about to be.
+    pub fn new(file: File, unsynced: Unsynced, is_named: bool) -> Self {
         Handle {
             file,
             unsynced,
-            is_named: false,
+            is_named,
         }
     }
 
@@ -30,9 +31,9 @@ impl Handle {
         self.is_named
     }
 
-    /// Its folder was synced.
-    pub fn set_named(&mut self) {
-        self.is_named = true;
+    /// Its folder was synced, or wasn't.
+    pub fn set_named(&mut self, is_named: bool) {
+        self.is_named = is_named;
     }
 
     /// How many bytes it has.

@@ -58,8 +58,8 @@ pub struct Store {
     handles: LruCache<FileId, Handle>,
     /// What was written to files that are closed, and could not be synced.
     left: HashMap<FileId, Unsynced>,
-    /// Whose folder isn't there, by the last calls, which all asked for lengths of files in it.
-    lacking: Option<Owner>,
+    /// Whose folder was looked for, and whether it is there, by the last calls, which all asked for lengths.
+    looked: Option<(Owner, bool)>,
     limit: SizeLimit,
     _lock: File,
 }
@@ -87,7 +87,7 @@ impl Store {
             folders,
             handles,
             left: HashMap::new(alloc),
-            lacking: None,
+            looked: None,
             limit: SizeLimit::now(),
             _lock: lock,
         })
@@ -104,8 +104,8 @@ impl Store {
     /// Makes an empty file, and waits until its folder is on the disk with it.
     pub fn make(&mut self, f: FileId) -> io::Result<()> {
         let folder = self.place_of(f)?.folder;
-        self.make_empty(folder.as_str(), f.owner, &[f.part])?;
-        self.sync_made(folder.as_str(), f.owner, &[f.part])
+        let made = self.make_and_sync(folder.as_str(), f.owner, &[f.part], false);
+        self.seen_through(f.owner, &[f.part], made)
     }
 
     /// Makes files of one owner, which all stand in one folder, and waits until that folder is on the disk with them.
@@ -116,17 +116,49 @@ impl Store {
             return Ok(());
         };
         let folder = self.place_of(FileId::new(owner, *first))?.folder;
-        self.make_empty(folder.as_str(), owner, parts)?;
-        if parts.contains(&Part::Slots) {
+        let begins = parts.contains(&Part::Slots);
+        let made = self.make_and_sync(folder.as_str(), owner, parts, begins);
+        self.seen_through(owner, parts, made)
+    }
+
+    /// Makes empty files, and gives that of slots its gate where a journal begins. None that is empty is synced itself: it is
+    /// there once its folder was synced after it was made.
+    fn make_and_sync(
+        &mut self,
+        folder: &str,
+        owner: Owner,
+        parts: &[Part],
+        begins: bool,
+    ) -> io::Result<()> {
+        self.make_empty(folder, owner, parts)?;
+        if begins {
             self.close_gate(FileId::new(owner, Part::Slots))?;
         }
-        self.sync_made(folder.as_str(), owner, parts)
+        self.folders.sync(folder)?;
+        self.folders.sync_names(folder)
+    }
+
+    /// What came of a making. Where it failed, the folder is synced again with each of its files.
+    fn seen_through(
+        &mut self,
+        owner: Owner,
+        parts: &[Part],
+        made: io::Result<()>,
+    ) -> io::Result<()> {
+        if made.is_err() {
+            for part in parts {
+                if let Some(handle) = self.handles.get_mut(&FileId::new(owner, *part)) {
+                    handle.set_named(false);
+                }
+            }
+        }
+        made
     }
 
     /// Makes empty files, with the folders that are lacking. A file of slots is made first: so its inode stands beside the
     /// head's, mostly in one block, which the first flush of both writes once.
     fn make_empty(&mut self, folder: &str, owner: Owner, parts: &[Part]) -> io::Result<()> {
-        self.lacking = None;
+        self.looked = None;
         self.folders.make(folder)?;
         self.folders.change(folder);
         let mut modes = Modes::new();
@@ -153,53 +185,47 @@ impl Store {
         }
     }
 
-    /// Waits until the folder of new files is on the disk with them. None that is empty is synced itself: it is there
-    /// once its folder was synced after it was made.
-    fn sync_made(&mut self, folder: &str, owner: Owner, parts: &[Part]) -> io::Result<()> {
-        self.folders.sync(folder)?;
-        self.folders.sync_names(folder)?;
-        self.set_named(owner, parts);
-        Ok(())
-    }
-
     fn make_one(&mut self, f: FileId, modes: &mut Modes) -> io::Result<()> {
         let place = self.place_of(f)?;
         let file = make_file(&self.rt, place.path.as_str())?;
         modes.set(&file)?;
-        self.keep(f, file)
+        self.keep(f, file, true)
     }
 
-    /// The folder of these files was synced since they were made.
-    fn set_named(&mut self, owner: Owner, parts: &[Part]) {
-        for part in parts {
-            if let Some(handle) = self.handles.get_mut(&FileId::new(owner, *part)) {
-                handle.set_named();
-            }
-        }
-    }
-
-    /// How many bytes a file has, None where there is none. Where its folder isn't there, that is remembered until
-    /// something else than a length is asked for: who makes a log asks for each of its files first.
+    /// How many bytes a file has, None where there is none. Its folder is looked for first, and that is remembered until
+    /// something else than a length is asked for: who makes a log asks for each of its files, and none is there.
     pub fn length(&mut self, f: FileId) -> io::Result<Option<u64>> {
-        if self.lacking == Some(f.owner) {
+        if !self.handles.contains(&f) && !self.has_folder(f)? {
             return Ok(None);
         }
-        self.lacking = None;
-        if let Some(handle) = self.handle(f)? {
-            return Ok(Some(handle.length()?));
+        match self.handle(f)? {
+            Some(handle) => Ok(Some(handle.length()?)),
+            None => Ok(None),
         }
+    }
+
+    /// Whether the folder of a file is there.
+    fn has_folder(&mut self, f: FileId) -> io::Result<bool> {
+        let looked = self.looked;
+        match looked {
+            Some((owner, is_there)) if owner == f.owner => Ok(is_there),
+            _ => self.look(f),
+        }
+    }
+
+    /// Looks for the folder of a file.
+    fn look(&mut self, f: FileId) -> io::Result<bool> {
         let folder = self.place_of(f)?.folder;
-        if !fs::exists(&self.rt, folder.as_str())? {
-            self.lacking = Some(f.owner);
-        }
-        Ok(None)
+        let is_there = fs::exists(&self.rt, folder.as_str())?;
+        self.looked = Some((f.owner, is_there));
+        Ok(is_there)
     }
 
     /// Reads as many bytes as there are and as the buffer takes.
     pub fn read(&mut self, f: FileId, at: u64, buf: &mut [u8]) -> io::Result<usize>
         ensures { IfOk result (λ n. n ≤ length buf.old) }
     {
-        self.lacking = None;
+        self.looked = None;
         match self.handle(f)? {
             Some(handle) => handle.read(at, buf),
             None => Ok(0),
@@ -208,7 +234,7 @@ impl Store {
 
     /// Writes, and remembers what is to be synced.
     pub fn write(&mut self, f: FileId, at: u64, bytes: &[u8]) -> io::Result<()> {
-        self.lacking = None;
+        self.looked = None;
         self.limit.check(at, bytes.len())?;
         match self.handle(f)? {
             Some(handle) => handle.write(at, bytes),
@@ -219,7 +245,7 @@ impl Store {
     /// Waits until what was written is on the disk. A file that wasn't made in this run may have been made by a
     /// program that was killed, so its folder is synced with it, once.
     pub fn sync(&mut self, f: FileId) -> io::Result<()> {
-        self.lacking = None;
+        self.looked = None;
         match self.handle(f)? {
             Some(handle) if handle.is_named() => return handle.sync(),
             Some(_) => {}
@@ -229,7 +255,7 @@ impl Store {
         self.folders.sync_once(folder.as_str())?;
         match self.handle(f)? {
             Some(handle) => {
-                handle.set_named();
+                handle.set_named(true);
                 handle.sync()
             }
             None => Err(ErrorKind::NotFound.into()),
@@ -253,7 +279,7 @@ impl Store {
             .open(&self.rt, place.path.as_str());
         match opened {
             Ok(file) => {
-                self.keep(f, file)?;
+                self.keep(f, file, false)?;
                 Ok(true)
             }
             Err(e) if e.kind() == ErrorKind::NotFound => Ok(false),
@@ -262,7 +288,7 @@ impl Store {
     }
 
     /// Keeps a file open, in the place of the one that was not used for longest where there are too many.
-    fn keep(&mut self, f: FileId, file: File) -> io::Result<()> {
+    fn keep(&mut self, f: FileId, file: File, is_named: bool) -> io::Result<()> {
         if self.handles.len() >= MOST_OPEN {
             self.close_oldest()?;
         }
@@ -270,9 +296,11 @@ impl Store {
             Some(unsynced) => *unsynced,
             None => Unsynced::new(),
         };
-        match self.handles.put(f, Handle::new(file, unsynced)) {
+        match self.handles.put(f, Handle::new(file, unsynced, is_named)) {
             Ok(_) => {
-                let _ = self.left.remove(&f);
+                if !unsynced.is_empty() {
+                    let _ = self.left.remove(&f);
+                }
                 Ok(())
             }
             Err(_) => Err(ErrorKind::OutOfMemory.into()),
