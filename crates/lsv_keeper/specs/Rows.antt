@@ -47,6 +47,11 @@ IsTold (told.Finished point) = Unit {0}
 IsTold told.Shut = Unit {0}
 IsTold told.Farewell = Unit {0}
 
+-- what is told where a log took a record, or why it refused it
+abbrev pub told_of : Option Refusal → Told
+told_of None = told.Nothing
+told_of (Some why) = told.Refused why
+
 -- ---- A row
 
 -- a job with these answers is a step of the machine, and the keeper and its disk then stand for its end

@@ -11,7 +11,7 @@ ghost use Rattle.lsv_machine.specs.Machine.{Machine, is_dead, log_of};
 ghost use Rattle.lsv_keeper.specs.Logs.{IsWindowFit};
 ghost use Rattle.lsv_keeper.specs.Represents.{Represents};
 ghost use Rattle.lsv_keeper.specs.Moved.{MaskMoved};
-ghost use Rattle.lsv_keeper.specs.Rows.{IsTold, Left, RowGives};
+ghost use Rattle.lsv_keeper.specs.Rows.{IsTold, Left, RowGives, told_of};
 ghost use Rattle.lsv_keeper.specs.Value.{Keeps, KeeperView, room, sessions_of};
 ghost use Rattle.lsv_keeper.specs.declared.logs.OpenLog.{OpenLog};
 ghost use Rattle.lsv_session.specs.declared.connection.ConnState.TheVariants.{Dead};
@@ -20,7 +20,7 @@ ghost use Rattle.lsv_keeper.specs.Syncing.{NoLog, Syncs};
 
 use crate::Keeper;
 use crate::logs::{Appended, log_refusal};
-use crate::told::Told;
+use crate::told::{Told, told_of};
 use lsv_base::LogNo;
 use lsv_disk::Disk;
 use lsv_hook::LineWriter;
@@ -44,6 +44,7 @@ pub(crate) fn windowed(message: &ClientMessage)
 impl<F: LineWriter, H: Search> Keeper<F, H> {
     /// A valid record goes to the log that the connection writes, masked as it is behind the others, and the log waits for
     /// its commit point. A log that doesn't take it is let go, and so is one for which memory runs out.
+    #[inline(always)]
     pub(crate) fn record<D: Disk>(
         &mut self,
         disk: &mut D,
@@ -67,31 +68,37 @@ impl<F: LineWriter, H: Search> Keeper<F, H> {
         if self.waiting.reserve(1).is_err() {
             return self.want_memory(disk, conn);
         }
-        self.take_record(disk, conn, log, r)
+        told_of(self.take_record(disk, conn, log, r))
     }
 
-    /// A valid record goes to this log, which waits for its commit point then: there is room for it among the waiting.
-    fn take_record<D: Disk>(&mut self, disk: &mut D, conn: ConnId, log: LogNo, r: Record) -> Told
+    /// A valid record goes to this log, which waits for its commit point then: there is room for it among the waiting. A reason
+    /// alone comes back, since all that may be told is large to move.
+    fn take_record<D: Disk>(
+        &mut self,
+        disk: &mut D,
+        conn: ConnId,
+        log: LogNo,
+        r: Record,
+    ) -> Option<Refusal>
         requires stands { D.tells → (m : Machine) × Represents (view_of self.old) (D.view disk.old) m }
         requires room { 1 ≤ room (view_of self.old) }
         requires waiting { vec_len self.old.waiting < vec_capacity self.old.waiting }
         requires valid { IsValid r }
         ensures keeps { Keeps (view_of self.old) (view_of self.new) }
-        ensures told { IsTold result }
         ensures row { D.tells → (m : Machine) (job : Job) (now : TimeSpec) → Represents (view_of self.old) (D.view disk.old) m → job.conn ≡ conn → log_of (m.states conn) ≡ Some log → AsksFor (m.states conn) job.body (request.Record r)
-            → RowGives (view_of self.old) now job result m (view_of self.new) (D.view disk.old) (D.view disk.new) }
+            → RowGives (view_of self.old) now job (told_of result) m (view_of self.new) (D.view disk.old) (D.view disk.new) }
         ensures syncs { D.tells → (m : Machine) → Represents (view_of self.old) (D.view disk.old) m → log_of (m.states conn) ≡ Some log → Syncs NoLog (view_of self.old) (view_of self.new) (D.view disk.old) (D.view disk.new) }
     {
         match self.logs.append(log, &self.prompt, &self.texts, r) {
             Appended::Staged => {
                 let _ = insert_once(&mut self.waiting, log);
-                Told::Nothing
+                None
             }
             Appended::Refused(fault) => {
                 self.let_refused(disk, conn, log);
-                Told::Refused(log_refusal(fault))
+                Some(log_refusal(fault))
             }
-            Appended::NotOpen => Told::Nothing,
+            Appended::NotOpen => None,
         }
     }
 

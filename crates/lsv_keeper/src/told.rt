@@ -5,7 +5,7 @@ ghost use Rattle.lsv_session.specs.declared.reply.ReplyBody.TheVariants as body;
 ghost use Rattle.lsv_machine.specs.Answers.{Answer, CommitPoint, refusal, reply_of, say};
 ghost use Rattle.lsv_machine.specs.Failures.{WantsMemory};
 ghost use Rattle.lsv_keeper.specs.Replies.{room_in};
-ghost use Rattle.lsv_keeper.specs.Rows.{IsTold, Tells};
+ghost use Rattle.lsv_keeper.specs.Rows.{IsTold, Tells, told_of};
 
 use lsv_base::{Bytes, LogNo, Point};
 use lsv_msg::ServerMessage;
@@ -27,6 +27,18 @@ pub enum Told {
     Shut,
     /// The connection went.
     Farewell,
+}
+
+/// What is told where a log took a record, or why it refused it.
+#[inline(always)]
+pub(crate) fn told_of(refused: Option<Refusal>) -> Told
+    ensures is { result ≡ told_of refused }
+    ensures told { IsTold result }
+{
+    match refused {
+        None => Told::Nothing,
+        Some(why) => Told::Refused(why),
+    }
 }
 
 /// Puts a reply at the end, for which there is room.

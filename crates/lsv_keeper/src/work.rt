@@ -99,8 +99,71 @@ impl<F: LineWriter, H: Search> Keeper<F, H> {
         }
     }
 
-    /// A message of a connection that wasn't shut is judged, and then worked on or refused.
+    /// A message of a connection that wasn't shut is judged, and then worked on or refused. Each kind of data is judged by
+    /// itself, so that its record is made where it is used, and not moved as one of all requests.
     fn hear<D: Disk>(
+        &mut self,
+        disk: &mut D,
+        now: TimeSpec,
+        conn: ConnId,
+        state: ConnState,
+        message: ClientMessage,
+    ) -> Told
+        requires timed { IsSome (nanos_of now) }
+        requires state { state ≡ (sessions_of (view_of self.old)).states conn }
+        requires alive { is_dead ((sessions_of (view_of self.old)).states conn) ≡ false }
+        requires stands { D.tells → (m : Machine) × Represents (view_of self.old) (D.view disk.old) m }
+        requires room { 1 ≤ room (view_of self.old) }
+        ensures keeps { Keeps (view_of self.old) (view_of self.new) }
+        ensures told { IsTold result }
+        ensures row { D.tells → (m : Machine) (job : Job) → Represents (view_of self.old) (D.view disk.old) m → job.conn ≡ conn → job.body ≡ bodies.Msg message
+            → RowGives (view_of self.old) now job result m (view_of self.new) (D.view disk.old) (D.view disk.new) }
+        ensures syncs { D.tells → (m : Machine) → Represents (view_of self.old) (D.view disk.old) m → Syncs (Restarts (bodies.Msg message)) (view_of self.old) (view_of self.new) (D.view disk.old) (D.view disk.new) }
+    {
+        match message {
+            ClientMessage::Ttyin(m) => self.judge(disk, now, conn, state, ClientMessage::Ttyin(m)),
+            ClientMessage::Ttyout(m) => {
+                self.judge(disk, now, conn, state, ClientMessage::Ttyout(m))
+            }
+            ClientMessage::Stdin(m) => self.judge(disk, now, conn, state, ClientMessage::Stdin(m)),
+            ClientMessage::Stdout(m) => {
+                self.judge(disk, now, conn, state, ClientMessage::Stdout(m))
+            }
+            ClientMessage::Stderr(m) => {
+                self.judge(disk, now, conn, state, ClientMessage::Stderr(m))
+            }
+            other => self.hear_apart(disk, now, conn, state, other),
+        }
+    }
+
+    /// The same of a message that is rarer than data.
+    #[cold]
+    #[inline(never)]
+    fn hear_apart<D: Disk>(
+        &mut self,
+        disk: &mut D,
+        now: TimeSpec,
+        conn: ConnId,
+        state: ConnState,
+        message: ClientMessage,
+    ) -> Told
+        requires timed { IsSome (nanos_of now) }
+        requires state { state ≡ (sessions_of (view_of self.old)).states conn }
+        requires alive { is_dead ((sessions_of (view_of self.old)).states conn) ≡ false }
+        requires stands { D.tells → (m : Machine) × Represents (view_of self.old) (D.view disk.old) m }
+        requires room { 1 ≤ room (view_of self.old) }
+        ensures keeps { Keeps (view_of self.old) (view_of self.new) }
+        ensures told { IsTold result }
+        ensures row { D.tells → (m : Machine) (job : Job) → Represents (view_of self.old) (D.view disk.old) m → job.conn ≡ conn → job.body ≡ bodies.Msg message
+            → RowGives (view_of self.old) now job result m (view_of self.new) (D.view disk.old) (D.view disk.new) }
+        ensures syncs { D.tells → (m : Machine) → Represents (view_of self.old) (D.view disk.old) m → Syncs (Restarts (bodies.Msg message)) (view_of self.old) (view_of self.new) (D.view disk.old) (D.view disk.new) }
+    {
+        self.judge(disk, now, conn, state, message)
+    }
+
+    /// A message is judged, and then worked on or refused.
+    #[inline(always)]
+    fn judge<D: Disk>(
         &mut self,
         disk: &mut D,
         now: TimeSpec,
@@ -127,6 +190,7 @@ impl<F: LineWriter, H: Search> Keeper<F, H> {
     }
 
     /// A request that its judgement lets through is worked on.
+    #[inline(always)]
     fn work<D: Disk>(
         &mut self,
         disk: &mut D,

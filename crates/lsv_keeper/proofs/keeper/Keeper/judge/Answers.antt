@@ -13,7 +13,7 @@ use Rattle.lsv_keeper.specs.Syncs.{IsRestartOf, Restarts}
 use Rattle.lsv_keeper.proofs.Judging.{judged_fair, message_refused}
 use Rattle.lsv_keeper.proofs.Requests.{restart_named}
 use Rattle.lsv_keeper.proofs.Syncing.{of_none, wider}
-use Rattle.lsv_keeper.proofs.keeper.Keeper.hear.Goals as goal
+use Rattle.lsv_keeper.proofs.keeper.Keeper.judge.Goals as goal
 
 pub returns-in-Err-clause-row : goal.returns-in-Err-clause-row
 returns-in-Err-clause-row g c told m job at conn is =
