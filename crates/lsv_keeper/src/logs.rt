@@ -123,16 +123,16 @@ impl OpenLogs {
         }
     }
 
-    /// Covers a valid record as the log's mask of these texts says, and stages it.
+    /// Covers a valid record where it stands, as the log's mask of these texts says, and stages it.
     pub fn append<H: Search>(
         &mut self,
         log: LogNo,
         prompt: &Prompt<H>,
         texts: &List<Bytes>,
-        r: Record,
+        r: &mut Record,
     ) -> Appended
-        requires valid { IsValid r }
-        ensures { Appends log texts.now r result (open_logs self.old) (open_logs self.new) }
+        requires valid { IsValid r.old }
+        ensures { Appends log texts.now r.old result (open_logs self.old) (open_logs self.new) }
     {
         let Some(at) = self.place(log) else {
             return Appended::NotOpen;
@@ -169,22 +169,21 @@ impl OpenLogs {
 }
 
 impl OpenLog {
-    /// Covers a valid record as the mask of these texts says, and stages it in a log that isn't complete. Where the log
+    /// Covers a valid record where it stands, as the mask of these texts says, and stages it in a log that isn't complete. Where the log
     /// refuses it, its mask alone has moved on.
     fn append<H: Search>(
         &mut self,
         prompt: &Prompt<H>,
         texts: &List<Bytes>,
-        r: Record,
+        r: &mut Record,
     ) -> Result<(), LogFault>
-        requires valid { IsValid r }
+        requires valid { IsValid r.old }
         requires going { is_complete self.old.log ≡ false }
-        ensures staged { OnOk result (TakesRecord texts.now self.old r self.new) }
-        ensures refused { IfErr result (λ fault. RefusesRecord texts.now self.old r fault self.new) }
+        ensures staged { OnOk result (TakesRecord texts.now self.old r.old self.new) }
+        ensures refused { IfErr result (λ fault. RefusesRecord texts.now self.old r.old fault self.new) }
     {
-        let mut r = r;
-        self.cover(prompt, texts, &mut r);
-        match self.log.append(&r) {
+        self.cover(prompt, texts, r);
+        match self.log.append(r) {
             Ok(_) => Ok(()),
             Err(fault) => Err(fault),
         }

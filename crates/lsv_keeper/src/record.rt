@@ -73,6 +73,7 @@ impl<F: LineWriter, H: Search> Keeper<F, H> {
 
     /// A valid record goes to this log, which waits for its commit point then: there is room for it among the waiting. A reason
     /// alone comes back, since all that may be told is large to move.
+    #[inline(always)]
     fn take_record<D: Disk>(
         &mut self,
         disk: &mut D,
@@ -89,7 +90,8 @@ impl<F: LineWriter, H: Search> Keeper<F, H> {
             → RowGives (view_of self.old) now job (told_of result) m (view_of self.new) (D.view disk.old) (D.view disk.new) }
         ensures syncs { D.tells → (m : Machine) → Represents (view_of self.old) (D.view disk.old) m → log_of (m.states conn) ≡ Some log → Syncs NoLog (view_of self.old) (view_of self.new) (D.view disk.old) (D.view disk.new) }
     {
-        match self.logs.append(log, &self.prompt, &self.texts, r) {
+        let mut r = r;
+        match self.logs.append(log, &self.prompt, &self.texts, &mut r) {
             Appended::Staged => {
                 let _ = insert_once(&mut self.waiting, log);
                 None

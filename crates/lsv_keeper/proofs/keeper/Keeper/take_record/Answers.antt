@@ -59,11 +59,11 @@ returns-in-Refused-clause-row g c told_is m job now at is state asks =
     (subst (λ (k : ConnId). AsksFor (m.states k) job.body (request.Record c.args.r)) (sym is) asks) (subst (λ (k : ConnId). log_of (m.states k) ≡ Some c.args.log) (sym is) state) here no_room
     (subst (λ (k : ConnId). Left k Dead v m v' old new) (sym is) left))
 
-pub returns-in-NotOpen-clause-keeps : goal.returns-in-NotOpen-clause-keeps
-returns-in-NotOpen-clause-keeps g c = keeps_same (view_of c.args.self.now) c.append.new.self
+pub returns-clause-keeps : goal.returns-clause-keeps
+returns-clause-keeps g c = keeps_same (view_of c.args.self.now) c.append.new.self
 
-pub returns-in-NotOpen-clause-row : goal.returns-in-NotOpen-clause-row
-returns-in-NotOpen-clause-row g c told_is m job now at is state asks =
+pub returns-clause-row : goal.returns-clause-row
+returns-clause-row g c told_is m job now at is state asks =
     absurd (written_open (view_of c.args.self.now) (g.D.Disk.view c.args.disk.now) m c.args.conn c.args.log at state c.in-NotOpen.ensures.0)
 
 pub returns-in-Staged-clause-syncs : goal.returns-in-Staged-clause-syncs
@@ -75,5 +75,5 @@ returns-in-Refused-clause-syncs g c told_is m at state =
     let (was, its, here, no_room, put) = c.in-Refused.ensures in
     c.let_refused.ensures.syncs told_is v its m (refused_moved v c.append.new.self c.args.log c.args.r was its c.in-Refused.fault here no_room put) at state
 
-pub returns-in-NotOpen-clause-syncs : goal.returns-in-NotOpen-clause-syncs
-returns-in-NotOpen-clause-syncs g c told_is m at state = nothing NoLog (view_of c.args.self.now) _ (g.D.Disk.view c.args.disk.now) refl refl
+pub returns-clause-syncs : goal.returns-clause-syncs
+returns-clause-syncs g c told_is m at state = nothing NoLog (view_of c.args.self.now) _ (g.D.Disk.view c.args.disk.now) refl refl

@@ -15,8 +15,8 @@ returns-in-Ok-clause-staged g c = record {
   room = subst (λ (l : IoLogView). IsRoomFor l.bundle c.cover.new.r) c.cover.ensures.log c.in-Ok.ensures.room.1;
 }
 
-pub returns-clause-refused : goal.returns-clause-refused
-returns-clause-refused g c = record {
+pub returns-in-Err-clause-refused : goal.returns-in-Err-clause-refused
+returns-in-Err-clause-refused g c = record {
   going = c.requires.going;
   stored = c.cover.new.r;
   covers = c.cover.ensures.covers;
