@@ -19,7 +19,7 @@ import sys
 import tempfile
 import time
 
-LOADS = [(1_000_000, 10, 0.2), (100_000, 1_000, 1.0)]
+LOADS = [(1_000_000, 10, 0.15), (100_000, 1_000, 1.0)]
 RUNS = 5
 LARGEST = 2_097_152
 BATCH = 100
