@@ -4,7 +4,11 @@ ghost use Rattle.std.specs.Prelude.{◌≤◌, IfOk, length};
 use crate::unsynced::Unsynced;
 use std::fs::File;
 use std::io;
+use std::os::fd::AsRawFd;
 use std::os::unix::fs::FileExt;
+
+/// The bytes of the system's smallest page.
+const PAGE: usize = 4096;
 
 /// A file that is kept open.
 #[derive(Drop)]
@@ -48,10 +52,31 @@ impl Handle {
         read_from(&self.file, at, buf)
     }
 
-    /// Writes, and remembers what is to be synced.
+    /// Writes, and remembers what is to be synced. What is written sets out for the disk at once, but a single byte, which is
+    /// a gate or a selector, and is synced next.
     pub fn write(&mut self, at: u64, bytes: &[u8]) -> io::Result<()> {
         self.unsynced.note(at, bytes.len());
-        self.file.write_all_at(bytes, at)
+        self.file.write_all_at(bytes, at)?;
+        if bytes.len() > 1 {
+            self.set_out(at, bytes.len());
+        }
+        Ok(())
+    }
+
+    /// Has the system begin to bring a small write to the disk: of several files that are written and then synced, one after
+    /// the other, the later ones are there when their syncs are asked for. It is a hint, whose answer doesn't matter: the
+    /// sync waits for the write, and tells what failed.
+    pub fn set_out(&self, at: u64, count: usize) {
+        // The hint would have the system let go a whole page, and takes a page that is named up to the file's end for one.
+        // So the byte behind the write is named too, and what may fill a page isn't.
+        if count >= PAGE - 1 {
+            return;
+        }
+        let Ok(at) = i64::try_from(at) else {
+            return;
+        };
+        let named = count as i64 + 1;
+        let _ = libc::posix_fadvise(self.file.as_raw_fd(), at, named, libc::POSIX_FADV_DONTNEED);
     }
 
     /// Waits until what was written is on the disk.

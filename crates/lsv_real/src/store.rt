@@ -130,9 +130,9 @@ impl Store {
         parts: &[Part],
         begins: bool,
     ) -> io::Result<()> {
-        self.make_empty(folder, owner, parts)?;
+        self.make_files(folder, owner, parts, begins)?;
         if begins {
-            self.close_gate(FileId::new(owner, Part::Slots))?;
+            self.sync_gate(FileId::new(owner, Part::Slots))?;
         }
         self.folders.sync(folder)?;
         self.folders.sync_names(folder)
@@ -155,15 +155,26 @@ impl Store {
         made
     }
 
-    /// Makes empty files, with the folders that are lacking. A file of slots is made first: so its inode stands beside the
-    /// head's, mostly in one block, which the first flush of both writes once.
-    fn make_empty(&mut self, folder: &str, owner: Owner, parts: &[Part]) -> io::Result<()> {
+    /// Makes files, with the folders that are lacking. A file of slots is made first: so its inode stands beside the
+    /// head's, mostly in one block, which the first flush of both writes once, and its gate is on its way to the disk while
+    /// the others are made.
+    fn make_files(
+        &mut self,
+        folder: &str,
+        owner: Owner,
+        parts: &[Part],
+        begins: bool,
+    ) -> io::Result<()> {
         self.looked = None;
         self.folders.make(folder)?;
         self.folders.change(folder);
         let mut modes = Modes::new();
         if parts.contains(&Part::Slots) {
-            self.make_one(FileId::new(owner, Part::Slots), &mut modes)?;
+            let slots = FileId::new(owner, Part::Slots);
+            self.make_one(slots, &mut modes)?;
+            if begins {
+                self.write_gate(slots)?;
+            }
         }
         for part in parts {
             if *part != Part::Slots {
@@ -173,14 +184,23 @@ impl Store {
         Ok(())
     }
 
-    /// Writes the gate of a file of slots that was just made, and waits until it is on the disk.
-    fn close_gate(&mut self, f: FileId) -> io::Result<()> {
+    /// Writes the gate of a file of slots that was just made, and has it set out for the disk.
+    fn write_gate(&mut self, f: FileId) -> io::Result<()> {
         self.limit.check(0, CLOSED_GATE.len())?;
         match self.handles.get_mut(&f) {
             Some(handle) => {
                 handle.write(0, CLOSED_GATE)?;
-                handle.sync()
+                handle.set_out(0, CLOSED_GATE.len());
+                Ok(())
             }
+            None => Err(ErrorKind::NotFound.into()),
+        }
+    }
+
+    /// Waits until the gate is on the disk.
+    fn sync_gate(&mut self, f: FileId) -> io::Result<()> {
+        match self.handles.get_mut(&f) {
+            Some(handle) => handle.sync(),
             None => Err(ErrorKind::NotFound.into()),
         }
     }
