@@ -3,6 +3,7 @@ ghost use Rattle.lsv_disk.specs.declared.file.FileId.{FileId};
 ghost use Rattle.lsv_disk.specs.declared.file.Part.{Part};
 ghost use Rattle.lsv_disk.specs.View.{Image, HasCause, HasOwnCause};
 ghost use Rattle.lsv_disk.specs.Throughout.{Throughout, CallsAtMost};
+ghost use Rattle.lsv_journal.specs.declared.fault.JournalFault.{JournalFault};
 ghost use Rattle.lsv_journal.specs.Last.{IsOwn, JournalHolds};
 ghost use Rattle.lsv_journal.specs.Value as journals;
 ghost use Rattle.lsv_journal.specs.Represents as represents;
@@ -45,6 +46,7 @@ fn write_then_sync<D: Disk>(
     ensures once { D.tells → OnOk result (Each (IsSyncedOnce owner (D.view disk.old) (D.view disk.new)) files.now) }
     ensures slots_once { D.tells → OnOk result ((D.view disk.new).syncs (journals.file journal.old) ≡ (D.view disk.old).syncs (journals.file journal.old) + 1) }
     ensures calls { D.tells → CallsAtMost 1 1 (λ g. IsStagedAmong owner files.now g ⊎ (g ≡ journals.file journal.old)) (D.view disk.old) (D.view disk.new) }
+    ensures fault { IfErr result (λ e. e ≡ JournalFault.Disk) }
     ensures cause { HasOwnCause (λ g. IsAmong owner files.now g ⊎ IsOwn (journals.file journal.old) g) (IsErr result) (D.view disk.old) (D.view disk.new) }
     ensures file { journals.file journal.new ≡ journals.file journal.old }
     ensures last { journals.last journal.new ≡ journals.last journal.old }
