@@ -1,7 +1,7 @@
 # `make` proves and builds the programs, `make run` lets `serve` store the session in examples/ over a socket, and plays it,
 # `make test` is the gate's proofs and tests, `make wrong-bodies` tries the wrong bodies that the gate leaves out,
 # `make bench` measures, also beside sudo's own server where it is installed, `make interop` tries the programs with sudo's own clients, `make drill` kills the server N times
-# under load and reads the store after each. `make install` installs what was built, and proves nothing, `make uninstall`
+# under load and reads the store after each, `make power` does so on file systems whose power it cuts, as root. `make install` installs what was built, and proves nothing, `make uninstall`
 # takes it away, `make installed` tries an installed tree, `make dist` makes a tarball, `make pages` looks up the manual pages.
 
 VERSION = 0.1.0
@@ -42,7 +42,7 @@ INSTALLED = \
 	$(MANDIR)/man8/$(FRONT)sudoreplay.8 \
 	$(MANDIR)/man5/$(FRONT)sudo_logsrvd.conf.5
 
-.PHONY: all build run test wrong-bodies bench interop drill install uninstall installed pages dist clean
+.PHONY: all build run test wrong-bodies bench interop drill power install uninstall installed pages dist clean
 
 all: build
 
@@ -72,6 +72,9 @@ interop: build
 
 drill: build
 	python3 interop/drill.py --server $(PROGRAM) --as $(AS) --kills $(N)
+
+power: build
+	CUTS=$(N) bash interop/run power
 
 # Copies what `make` built. The settings are put in place where there are none, and are never overwritten.
 install:

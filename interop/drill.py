@@ -1,7 +1,7 @@
 #!/usr/bin/env python3
 """Kills a server with -9 at random moments, under load, and starts it again on the same store.
 
-usage: drill.py --server PROGRAM [--as serve|once] [--kills N] [--clients N] [--seed N] [--fault NAME]
+usage: drill.py --server PROGRAM [--as serve|once] [--kills N] [--clients N] [--seed N] [--fault NAME] [--power KIND]
 
 Clients open logs, send records and exits, read commit points, are cut off with the server or close by themselves, and resume
 at their last commit point with records that they make anew. After each kill, before the next start, store.py reads the store:
@@ -12,8 +12,10 @@ at their last commit point with records that they make anew. After each kill, be
 - the accept of each log that a client was told of has just one event line, an exit with its commit point too.
 
 A restart must be accepted wherever the log isn't complete. `once` has one client, on a pair of sockets, and a process for each
-connection. --fault is handed to model.py, the wrong server by which the drill is tried. It ends with 1 where something differs; ended
-by SIGTERM it tells what was found until then.
+connection. With --power the store stands on a file system of that kind whose power is cut after each kill (power.py), so
+that what was not synced is gone; root alone may do that, and where the machine lacks the kind it ends with 3. --fault is
+handed to model.py, the wrong server by which the drill is tried. It ends with 1 where something differs; ended by SIGTERM it
+tells what was found until then.
 """
 import argparse
 import json
@@ -26,6 +28,7 @@ import threading
 import time
 
 import client
+import power
 import servers
 import store
 import tap
@@ -126,7 +129,8 @@ class Drill:
 
     def __init__(self, args):
         self.rng = random.Random(args.seed)
-        self.place = servers.Place(parent=args.folder)
+        self.disk = power.Disk(args.power) if args.power else None
+        self.place = servers.Place(parent=args.folder, disk=self.disk and self.disk.mounted)
         kind = servers.Once if args.kind == "once" else servers.Serve
         self.server = kind(os.path.realpath(args.server), self.place, ["--fault", args.fault] if args.fault else [])
         self.clients = 1 if self.server.is_alone() else args.clients
@@ -328,7 +332,7 @@ class Drill:
         if not self.server.is_alone() and self.rng.random() < 0.1:
             self.server.spawn()
             time.sleep(self.rng.random() * 0.05)
-            self.server.kill()
+            self.kill()
         self.server.start()
         self.dead = False
         self.greeted.clear()
@@ -344,11 +348,20 @@ class Drill:
             self.sending.wait(1)
             time.sleep(self.rng.random() * 0.003)
         self.dead = True
-        self.server.kill()
+        self.kill()
         for thread in threads:
             thread.join()
         if not self.wrong:
             self.check()
+
+    def kill(self):
+        """Ends the server at once, and with it the power of its disk."""
+        self.server.kill()
+        if self.disk:
+            try:
+                self.disk.cut()
+            except power.Failed as fault:
+                self.wrong.append(str(fault))
 
     def check(self, whole=False):
         """Reads the store, while no server runs: the logs that were written in this life and some of the others, or all."""
@@ -366,7 +379,7 @@ class Drill:
                 raise Wrong(f"the number {store.digits_of(told)} was told, and the last drawn one is {last}")
             self.check_events()
             self.before = last
-        except (Wrong, store.Damaged) as fault:
+        except (Wrong, store.Damaged, OSError) as fault:
             self.wrong.append(str(fault))
 
     def check_events(self):
@@ -418,9 +431,14 @@ def main():
     words.add_argument("--seed", type=int, default=int(time.time()))
     words.add_argument("--folder", help="where the store is made, by default a temporary folder")
     words.add_argument("--fault")
+    words.add_argument("--power", choices=list(power.KINDS))
     args = words.parse_args()
-    print(f"drill.py: {args.kind}, seed {args.seed}", flush=True)
-    drill, kills, stopped = Drill(args), 0, []
+    print(f"drill.py: {args.kind}, seed {args.seed}{', cuts of the power of ' + args.power if args.power else ''}", flush=True)
+    try:
+        drill, kills, stopped = Drill(args), 0, []
+    except power.Lacking as fault:
+        print(f"drill.py: {fault}")
+        return 3
     signal.signal(signal.SIGTERM, lambda *_: stopped.append(True))
     while (kills < args.kills or drill.lacks() and kills < 10 * args.kills) and not drill.wrong and not stopped:
         drill.life(drill.rng.choice([0.01, 0.05, 0.15, 0.3]) * (0.5 + drill.rng.random()))
@@ -433,8 +451,10 @@ def main():
         print(f"drill.py: {fault}")
     print(f"drill.py: {kills} kills{' until it was ended' * bool(stopped)}, " + ", ".join(f"{number} {what}" for what, number in drill.count.items()))
     if drill.wrong:
-        print(f"drill.py: the store is left in {drill.place.folder}")
+        print(f"drill.py: the store is left in {os.path.dirname(drill.place.store)}")
         return 1
+    if drill.disk:
+        drill.disk.end()
     shutil.rmtree(drill.place.folder)
     return 0
 

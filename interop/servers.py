@@ -56,16 +56,18 @@ class Failed(Exception):
 
 
 class Place:
-    """A folder with the settings, the store and the event log of a server, and what it said on standard error."""
+    """A folder with the settings, the store and the event log of a server, and what it said on standard error. The store and the
+    event log may stand on another disk."""
 
-    def __init__(self, form=OURS, parent=None):
+    def __init__(self, form=OURS, parent=None, disk=None):
         self.folder = tempfile.mkdtemp(prefix="interop", dir=parent)
-        self.store, self.events = os.path.join(self.folder, "store"), os.path.join(self.folder, "events")
+        disk = disk or self.folder
+        self.store, self.events = os.path.join(disk, "store"), os.path.join(disk, "events")
         self.errors = os.path.join(self.folder, "errors")
         self.conf = os.path.join(self.folder, "conf")
         self.port = free_port()
         with open(self.conf, "w", encoding="utf-8") as file:
-            file.write(form.format(port=self.port, folder=self.folder))
+            file.write(form.format(port=self.port, folder=disk))
 
     def said(self):
         with open(self.errors, encoding="utf-8", errors="replace") as file:

@@ -111,7 +111,9 @@ def body_of(text):
 
 
 def committed(path, length):
-    """The first bytes of a data file, as many as are committed."""
+    """The first bytes of a data file, as many as are committed. The file is there, also where that is none."""
+    if not os.path.exists(path):
+        raise Damaged(f"{path} isn't there")
     text = contents(path)
     if len(text) < length:
         raise Damaged(f"{path} has {len(text)} bytes of {length}")

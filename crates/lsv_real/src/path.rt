@@ -62,7 +62,7 @@ impl Places {
         let Some(name) = name else {
             return Ok(None);
         };
-        let path = format!(in alloc; "{folder}/{name}")?;
+        let path = joined(alloc, folder.as_str(), name)?;
         Ok(Some(Place { folder, path }))
     }
 
@@ -80,6 +80,20 @@ impl Places {
         let folder = format!(in alloc; "{dir}/{a}{b}/{c}{d}/{e}{f}")?;
         Ok(Some(folder))
     }
+}
+
+/// The path of a name in a folder.
+pub fn joined(alloc: Global, folder: &str, name: &str) -> Result<String, AllocError>
+    ensures { IfOk result (λ path. string_bytes path ≡ folder.now ++ codes "/" ++ name.now) }
+{
+    let mut path = String::with_capacity(
+        alloc,
+        folder.len().saturating_add(name.len()).saturating_add(1),
+    )?;
+    path.push_str(folder)?;
+    path.push('/')?;
+    path.push_str(name)?;
+    Ok(path)
 }
 
 /// The name of a file of a log, None where a log has no such file.

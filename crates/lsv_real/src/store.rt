@@ -4,7 +4,7 @@ ghost use Rattle.std.specs.Prelude.{◌≤◌, IfOk, length};
 use crate::folders::Folders;
 use crate::handle::Handle;
 use crate::limit::SizeLimit;
-use crate::path::{Place, Places};
+use crate::path::{Place, Places, joined, log_name};
 use crate::unsynced::Unsynced;
 use lru::LruCache;
 use lsv_disk::{FileId, Owner, Part};
@@ -171,14 +171,14 @@ impl Store {
         let mut modes = Modes::new();
         if parts.contains(&Part::Slots) {
             let slots = FileId::new(owner, Part::Slots);
-            self.make_one(slots, &mut modes)?;
+            self.make_one(folder, slots, &mut modes)?;
             if begins {
                 self.write_gate(slots)?;
             }
         }
         for part in parts {
             if *part != Part::Slots {
-                self.make_one(FileId::new(owner, *part), &mut modes)?;
+                self.make_one(folder, FileId::new(owner, *part), &mut modes)?;
             }
         }
         Ok(())
@@ -205,11 +205,20 @@ impl Store {
         }
     }
 
-    fn make_one(&mut self, f: FileId, modes: &mut Modes) -> io::Result<()> {
-        let place = self.place_of(f)?;
-        let file = make_file(&self.rt, place.path.as_str())?;
+    /// Makes a file in its folder.
+    fn make_one(&mut self, folder: &str, f: FileId, modes: &mut Modes) -> io::Result<()> {
+        let path = self.path_in(folder, f)?;
+        let file = make_file(&self.rt, path.as_str())?;
         modes.set(&file)?;
         self.keep(f, file, true)
+    }
+
+    /// The path of a file in its folder: of a log's without that its number is written once more.
+    fn path_in(&self, folder: &str, f: FileId) -> io::Result<String> {
+        match (f.owner, log_name(f.part)) {
+            (Owner::Log(_), Some(name)) => Ok(joined(self.alloc, folder, name)?),
+            _ => Ok(self.place_of(f)?.path),
+        }
     }
 
     /// How many bytes a file has, None where there is none. Its folder is looked for first, and that is remembered until

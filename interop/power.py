@@ -1,0 +1,108 @@
+"""File systems whose power is cut: each in an image of its own, over a loop device. Only root may mount them.
+
+At a cut the image is taken as its device holds it, without what the system keeps in memory, checked as at a start, and mounted
+in the old one's place. What a device loses of its own cache at a cut isn't tried: the image has each write that reached it.
+"""
+import os
+import shutil
+import subprocess
+import tempfile
+import time
+
+SIZE = 320 * 2**20
+# all is laid out at once, so that the system writes nothing of its own later
+EXT4 = ("mkfs.ext4", "-q", "-F", "-N", "65536", "-E", "lazy_itable_init=0,lazy_journal_init=0")
+CHECK = ("e2fsck", "-fy")
+# how each kind is made, and the program by which it is checked at a start, if any is
+KINDS = {
+    "ext4": (EXT4 + ("-b", "4096"), CHECK),
+    "ext4-small-blocks": (EXT4 + ("-b", "1024"), CHECK),
+    "xfs": (("mkfs.xfs", "-q", "-f"), None),
+    "btrfs": (("mkfs.btrfs", "-q", "-f"), None),
+    # what was synced may be lost on it: its sync of one file writes the inodes of others, whose blocks may not be there yet
+    "ext4-no-journal": (EXT4 + ("-b", "4096", "-O", "^has_journal"), CHECK),
+}
+
+
+class Lacking(Exception):
+    """The machine has no such file system, or doesn't let this process mount it."""
+
+
+class Failed(Exception):
+    """A file system couldn't be brought back."""
+
+
+def run(*words):
+    """Runs a program of the system. Gives its status, and what it said."""
+    try:
+        child = subprocess.run(words, capture_output=True, text=True, timeout=120)
+    except FileNotFoundError as fault:
+        raise Lacking(f"{words[0]} isn't there") from fault
+    return child.returncode, child.stdout + child.stderr
+
+
+class Disk:
+    """A mounted file system of this kind, in a folder of its own."""
+
+    def __init__(self, kind):
+        self.make, self.check = KINDS[kind]
+        self.folder = tempfile.mkdtemp(prefix="power", dir="/dev/shm" if os.path.isdir("/dev/shm") else None)
+        self.image, self.mounted = os.path.join(self.folder, "image"), os.path.join(self.folder, "mounted")
+        self.cuts = 0
+        os.mkdir(self.mounted)
+        with open(self.image, "wb") as file:
+            file.truncate(SIZE)
+        try:
+            self.wanted(*self.make, self.image)
+            self.mount()
+        except Lacking:
+            shutil.rmtree(self.folder)
+            raise
+
+    def wanted(self, *words):
+        status, said = run(*words)
+        if status:
+            raise Lacking(f"{' '.join(words)}: {said.strip()}")
+
+    def mount(self):
+        self.wanted("mount", "-o", "loop", self.image, self.mounted)
+
+    def cut(self):
+        """All is as the device holds it now."""
+        left = self.held()
+        self.unmount()
+        os.replace(left, self.image)
+        if self.check:
+            status, said = run(*self.check, self.image)
+            with open(os.path.join(self.folder, "checked"), "a", encoding="utf-8") as file:
+                file.write(f"cut {self.cuts + 1}\n{said}\n")
+            # 1: it was mended, 2: so that a start should follow
+            if status not in (0, 1, 2):
+                raise Failed(f"{' '.join(self.check)}: {said[-500:]}")
+        self.mount()
+        self.cuts += 1
+
+    def held(self):
+        """A copy of the image as it was at one moment: it is copied until two copies are the same."""
+        one, two = self.image + ".1", self.image + ".2"
+        copy = ("cp", "--sparse=always", self.image)
+        run(*copy, one)
+        for _ in range(100):
+            run(*copy, two)
+            if run("cmp", "-s", one, two)[0] == 0:
+                os.remove(two)
+                return one
+            one, two = two, one
+        raise Failed("the image changes all the time")
+
+    def unmount(self):
+        for _ in range(100):
+            status, said = run("umount", self.mounted)
+            if status == 0:
+                return
+            time.sleep(0.05)
+        raise Failed(f"umount: {said}")
+
+    def end(self):
+        self.unmount()
+        shutil.rmtree(self.folder)
