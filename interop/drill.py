@@ -360,7 +360,7 @@ class Drill:
         if self.disk:
             try:
                 self.disk.cut()
-            except power.Failed as fault:
+            except (power.Failed, power.Lacking) as fault:
                 self.wrong.append(str(fault))
 
     def check(self, whole=False):

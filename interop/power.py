@@ -34,11 +34,19 @@ class Failed(Exception):
 
 def run(*words):
     """Runs a program of the system. Gives its status, and what it said."""
+    env = {**os.environ, "PATH": os.environ.get("PATH", "") + ":/usr/sbin:/sbin"}
     try:
-        child = subprocess.run(words, capture_output=True, text=True, timeout=120)
+        child = subprocess.run(words, capture_output=True, text=True, timeout=120, env=env)
     except FileNotFoundError as fault:
         raise Lacking(f"{words[0]} isn't there") from fault
     return child.returncode, child.stdout + child.stderr
+
+
+def memory():
+    """The folder of a file system in memory, where it has room for an image and its copies; else the one for temporary files."""
+    folder = "/dev/shm"
+    has_room = os.path.isdir(folder) and shutil.disk_usage(folder).free > 4 * SIZE
+    return folder if has_room else None
 
 
 class Disk:
@@ -46,7 +54,7 @@ class Disk:
 
     def __init__(self, kind):
         self.make, self.check = KINDS[kind]
-        self.folder = tempfile.mkdtemp(prefix="power", dir="/dev/shm" if os.path.isdir("/dev/shm") else None)
+        self.folder = tempfile.mkdtemp(prefix="power", dir=memory())
         self.image, self.mounted = os.path.join(self.folder, "image"), os.path.join(self.folder, "mounted")
         self.cuts = 0
         os.mkdir(self.mounted)
@@ -85,15 +93,19 @@ class Disk:
     def held(self):
         """A copy of the image as it was at one moment: it is copied until two copies are the same."""
         one, two = self.image + ".1", self.image + ".2"
-        copy = ("cp", "--sparse=always", self.image)
-        run(*copy, one)
+        self.copy(one)
         for _ in range(100):
-            run(*copy, two)
+            self.copy(two)
             if run("cmp", "-s", one, two)[0] == 0:
                 os.remove(two)
                 return one
             one, two = two, one
         raise Failed("the image changes all the time")
+
+    def copy(self, path):
+        status, said = run("cp", "--sparse=always", self.image, path)
+        if status:
+            raise Failed(f"cp: {said.strip()}")
 
     def unmount(self):
         for _ in range(100):
