@@ -359,7 +359,7 @@ class Drill:
         self.server.kill()
         if self.disk:
             try:
-                self.disk.cut()
+                self.disk.cut(self.rng)
             except (power.Failed, power.Lacking) as fault:
                 self.wrong.append(str(fault))
 

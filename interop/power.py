@@ -1,7 +1,8 @@
 """File systems whose power is cut: each in an image of its own, over a loop device. Only root may mount them.
 
 At a cut the image is taken as its device holds it, without what the system keeps in memory, checked as at a start, and mounted
-in the old one's place. What a device loses of its own cache at a cut isn't tried: the image has each write that reached it.
+in the old one's place. What wasn't synced is gone then, or there for some of the files. What a device loses of its own cache at
+a cut isn't tried: the image has each write that reached it.
 """
 import os
 import shutil
@@ -75,8 +76,10 @@ class Disk:
     def mount(self):
         self.wanted("mount", "-o", "loop", self.image, self.mounted)
 
-    def cut(self):
-        """All is as the device holds it now."""
+    def cut(self, rng=None):
+        """All is as the device holds it now, and where numbers are given by which to draw, some of what wasn't synced besides."""
+        if rng:
+            self.spill(rng)
         left = self.held()
         self.unmount()
         os.replace(left, self.image)
@@ -89,6 +92,17 @@ class Disk:
                 raise Failed(f"{' '.join(self.check)}: {said[-500:]}")
         self.mount()
         self.cuts += 1
+
+    def spill(self, rng):
+        """Some of the files that were written last go to the device without a sync, as the system may do at any time."""
+        since = time.time() - 2
+        for folder, _, names in os.walk(self.mounted):
+            for name in names:
+                path = os.path.join(folder, name)
+                if os.path.getmtime(path) > since and rng.random() < 0.5:
+                    file = os.open(path, os.O_RDONLY)
+                    os.posix_fadvise(file, 0, 0, os.POSIX_FADV_DONTNEED)
+                    os.close(file)
 
     def held(self):
         """A copy of the image as it was at one moment: it is copied until two copies are the same."""
