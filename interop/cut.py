@@ -45,10 +45,12 @@ def left_by(kind, of, program, form, read):
     """How many records of a session are left after the cut, and whether its exit is."""
     disk = power.Disk(kind)
     place = servers.Place(form, disk=disk.mounted)
+    server = of(program, place)
     try:
-        server = of(program, place).start()
-        log_id = session(server)
-        server.kill()
+        try:
+            log_id = session(server.start())
+        finally:
+            server.kill()
         disk.cut()
         return read(place, log_id)
     finally:
@@ -56,20 +58,23 @@ def left_by(kind, of, program, form, read):
         shutil.rmtree(place.folder)
 
 
+def first(records):
+    """How many of the session's records these begin with."""
+    pairs = zip(records, RECORDS)
+    return next((at for at, (is_, sent) in enumerate(pairs) if is_ != sent), min(len(records), len(RECORDS)))
+
+
 def ours(place, log_id):
-    try:
-        log = store.read_log(place.store, log_id)
-    except store.Damaged:
-        return 0, False
-    return (len(log.records), log.is_complete()) if log else (0, False)
+    log = store.read_log(place.store, log_id)
+    return (first(log.records), log.is_complete()) if log else (0, False)
 
 
 def sudos(place, log_id):
     try:
         found = peer.read_session(os.path.join(place.store, os.path.relpath(log_id, place.store)))
-    except (ValueError, OSError):
+    except (ValueError, IndexError, KeyError, OSError):
         return 0, False
-    return (len(found[1]), found[2]) if found else (0, False)
+    return (first(found[1]), found[2]) if found else (0, False)
 
 
 def shown(name, left):
@@ -77,24 +82,38 @@ def shown(name, left):
     return f"of {name} {count} of {len(RECORDS)} records{' and the exit' * is_whole}"
 
 
+def is_kept(kind, program):
+    """Shows what is left of both, where the machine has this kind. False where this server's store lacks something."""
+    try:
+        left = left_by(kind, servers.Serve, program, servers.OURS, ours)
+    except power.Lacking as fault:
+        print(f"cut.py: {kind} is skipped: {fault}")
+        return True
+    except (Lost, servers.Failed, power.Failed, store.Damaged, client.Closed, OSError) as fault:
+        print(f"cut.py: {kind}: {fault}")
+        return False
+    told = [shown("serve", left)]
+    if servers.tool("sudo_logsrvd"):
+        told.append(sudo_shown(kind))
+    print(f"cut.py: {kind}: a cut behind the last commit point leaves {', '.join(told)}")
+    return left == (len(RECORDS), True)
+
+
+def sudo_shown(kind):
+    """The same of sudo's own server, whatever becomes of it."""
+    try:
+        return shown("sudo's own", left_by(kind, servers.Sudo, servers.tool("sudo_logsrvd"), servers.SUDO, sudos))
+    except (Lost, servers.Failed, power.Failed, power.Lacking, client.Closed, OSError) as fault:
+        return f"of sudo's own nothing is known: {fault}"
+
+
 def main():
     words = argparse.ArgumentParser(description=__doc__)
     words.add_argument("--server", required=True)
     words.add_argument("kinds", metavar="KIND", nargs="+", choices=list(power.KINDS))
     args = words.parse_args()
-    bad = 0
-    for kind in args.kinds:
-        try:
-            kept = left_by(kind, servers.Serve, os.path.realpath(args.server), servers.OURS, ours)
-            told = [shown("serve", kept)]
-            if servers.tool("sudo_logsrvd"):
-                told.append(shown("sudo's own", left_by(kind, servers.Sudo, servers.tool("sudo_logsrvd"), servers.SUDO, sudos)))
-        except power.Lacking as fault:
-            print(f"cut.py: {kind} is skipped: {fault}")
-            continue
-        print(f"cut.py: {kind}: a cut behind the last commit point leaves {', '.join(told)}")
-        bad += kept != (len(RECORDS), True)
-    return 1 if bad else 0
+    kept = [is_kept(kind, os.path.realpath(args.server)) for kind in args.kinds]
+    return 0 if all(kept) else 1
 
 
 if __name__ == "__main__":

@@ -13,7 +13,7 @@ at their last commit point with records that they make anew. After each kill, be
 
 A restart must be accepted wherever the log isn't complete. `once` has one client, on a pair of sockets, and a process for each
 connection. With --power the store stands on a file system of that kind whose power is cut after each kill (power.py), so
-that what was not synced is gone; root alone may do that, and where the machine lacks the kind it ends with 3. --fault is
+that what did not reach the device is gone; root alone may do that, and where the machine lacks the kind it ends with 3. --fault is
 handed to model.py, the wrong server by which the drill is tried. It ends with 1 where something differs; ended by SIGTERM it
 tells what was found until then.
 """
@@ -333,7 +333,11 @@ class Drill:
             self.server.spawn()
             time.sleep(self.rng.random() * 0.05)
             self.kill()
-        self.server.start()
+        try:
+            self.server.start()
+        except servers.Failed as fault:
+            self.wrong.append(str(fault))
+            return
         self.dead = False
         self.greeted.clear()
         threads = [threading.Thread(target=self.run_client, args=(random.Random(self.rng.random()),)) for _ in range(self.clients)]
@@ -451,7 +455,8 @@ def main():
         print(f"drill.py: {fault}")
     print(f"drill.py: {kills} kills{' until it was ended' * bool(stopped)}, " + ", ".join(f"{number} {what}" for what, number in drill.count.items()))
     if drill.wrong:
-        print(f"drill.py: the store is left in {os.path.dirname(drill.place.store)}")
+        told = f"what was said in {drill.place.errors}, " if drill.disk else ""
+        print(f"drill.py: {told}the store is left in {os.path.dirname(drill.place.store)}")
         return 1
     if drill.disk:
         drill.disk.end()

@@ -1,8 +1,9 @@
 """File systems whose power is cut: each in an image of its own, over a loop device. Only root may mount them.
 
 At a cut the image is taken as its device holds it, without what the system keeps in memory, checked as at a start, and mounted
-in the old one's place. What wasn't synced is gone then, or there for some of the files. What a device loses of its own cache at
-a cut isn't tried: the image has each write that reached it.
+in the old one's place. What wasn't synced is gone then, or there for some of the files: a sync of one file may bring others with
+it, on ext4 and xfs mostly, so that there a sync that is lacking is found by chance, and on btrfs at once. What a device loses of
+its own cache at a cut isn't tried: the image has each write that reached it.
 """
 import os
 import shutil
@@ -19,7 +20,7 @@ KINDS = {
     "ext4": (EXT4 + ("-b", "4096"), CHECK),
     "ext4-small-blocks": (EXT4 + ("-b", "1024"), CHECK),
     "xfs": (("mkfs.xfs", "-q", "-f"), None),
-    "btrfs": (("mkfs.btrfs", "-q", "-f"), None),
+    "btrfs": (("mkfs.btrfs", "-q", "-f", "--mixed"), None),
     # what was synced may be lost on it: its sync of one file writes the inodes of others, whose blocks may not be there yet
     "ext4-no-journal": (EXT4 + ("-b", "4096", "-O", "^has_journal"), CHECK),
 }
