@@ -3,6 +3,7 @@ import os
 import re
 import resource
 import shutil
+import stat
 import subprocess
 
 import client
@@ -87,6 +88,26 @@ def part_broken_standard_error(trial):
     with Fresh(trial, before=broken_pipe, probe=True, settings="[server]\ntimeout = 5\n") as fresh:
         fresh.session()
         fresh.session()
+
+
+def modes(place):
+    """The modes of the folders of a store, and of its files."""
+    tree = list(os.walk(place.store))
+    folders = [folder for folder, _, _ in tree]
+    files = [os.path.join(folder, name) for folder, _, names in tree for name in names] + [place.events, place.events + ".slots"]
+    return tuple({stat.S_IMODE(os.stat(path).st_mode) for path in paths} for paths in (folders, files))
+
+
+@only("serve", "once")
+def part_modes(trial):
+    """Whatever the umask: the folders of the store have mode 0700, its files 0600, and the next server finds them so."""
+    for mask in (0, 0o22, 0o777):
+        with Fresh(trial, before=lambda mask=mask: os.umask(mask)) as fresh:
+            fresh.session()
+            same(f"modes at umask {mask:o}", modes(fresh.place), ({0o700}, {0o600}))
+            fresh.server.kill()
+            fresh.server.start()
+            fresh.session()
 
 
 def small_files():

@@ -9,6 +9,7 @@ mod foreign;
 mod handle;
 mod limit;
 mod log_path;
+mod made;
 mod opened;
 mod path;
 mod port;

@@ -4,13 +4,14 @@ ghost use Rattle.std.specs.Prelude.{◌≤◌, IfOk, length};
 use crate::folders::Folders;
 use crate::handle::Handle;
 use crate::limit::SizeLimit;
+use crate::made::Made;
 use crate::path::{Place, Places, joined, log_name};
 use crate::unsynced::Unsynced;
 use lru::LruCache;
 use lsv_disk::{FileId, Owner, Part};
 use std::alloc::{AllocError, Global};
 use std::collections::HashMap;
-use std::fs::{File, OpenOptions, Permissions, TryLockError};
+use std::fs::{File, Metadata, OpenOptions, Permissions, TryLockError};
 use std::io::ErrorKind;
 use std::num::NonZeroUsize;
 use std::os::unix::fs::{OpenOptionsExt, PermissionsExt};
@@ -108,8 +109,8 @@ impl Store {
         self.seen_through(f.owner, &[f.part], made)
     }
 
-    /// Makes files of one owner, which all stand in one folder, and waits until that folder is on the disk with them.
-    /// A file of slots begins with its gate, and is synced first: where a file system has a journal, one transaction
+    /// Makes files of one owner, which all stand in one folder, and waits until they and that folder are on the disk. A file
+    /// of slots begins with its gate. Files are synced before the folder: where a file system has a journal, one transaction
     /// takes all of it then, and the syncs of folders behind it find nothing to write.
     pub fn make_all(&mut self, owner: Owner, parts: &[Part]) -> io::Result<()> {
         let [first, ..] = parts else {
@@ -121,8 +122,8 @@ impl Store {
         self.seen_through(owner, parts, made)
     }
 
-    /// Makes empty files, and gives that of slots its gate where a journal begins. None that is empty is synced itself: it is
-    /// there once its folder was synced after it was made.
+    /// Makes empty files, and gives that of slots its gate where a journal begins. Each is on the disk then, by its own
+    /// sync, or by that of a file or the folder whose inode stands in the same block.
     fn make_and_sync(
         &mut self,
         folder: &str,
@@ -130,9 +131,8 @@ impl Store {
         parts: &[Part],
         begins: bool,
     ) -> io::Result<()> {
-        self.make_files(folder, owner, parts, begins)?;
-        if begins {
-            self.sync_gate(FileId::new(owner, Part::Slots))?;
+        for f in self.make_files(folder, owner, parts, begins)? {
+            self.sync_made(f)?;
         }
         self.folders.sync(folder)?;
         self.folders.sync_names(folder)
@@ -155,33 +155,27 @@ impl Store {
         made
     }
 
-    /// Makes files, with the folders that are lacking. A file of slots is made first: so its inode stands beside the
-    /// head's, mostly in one block, which the first flush of both writes once, and its gate is on its way to the disk while
-    /// the others are made.
+    /// Makes files, with the folders that are lacking, and gives those to sync. A gate is on its way to the disk while the
+    /// files behind it are made.
     fn make_files(
         &mut self,
         folder: &str,
         owner: Owner,
         parts: &[Part],
         begins: bool,
-    ) -> io::Result<()> {
+    ) -> io::Result<Vec<FileId>> {
         self.looked = None;
         self.folders.make(folder)?;
         self.folders.change(folder);
-        let mut modes = Modes::new();
-        if parts.contains(&Part::Slots) {
-            let slots = FileId::new(owner, Part::Slots);
-            self.make_one(folder, slots, &mut modes)?;
-            if begins {
-                self.write_gate(slots)?;
+        let mut made = Made::new(self.alloc, &fs::metadata(&self.rt, folder)?)?;
+        for part in made.in_order(self.alloc, parts)? {
+            let f = FileId::new(owner, part);
+            self.make_one(folder, f, &mut made)?;
+            if begins && part == Part::Slots {
+                self.write_gate(f)?;
             }
         }
-        for part in parts {
-            if *part != Part::Slots {
-                self.make_one(folder, FileId::new(owner, *part), &mut modes)?;
-            }
-        }
-        Ok(())
+        Ok(made.to_sync())
     }
 
     /// Writes the gate of a file of slots that was just made, and has it set out for the disk.
@@ -197,8 +191,8 @@ impl Store {
         }
     }
 
-    /// Waits until the gate is on the disk.
-    fn sync_gate(&mut self, f: FileId) -> io::Result<()> {
+    /// Waits until a file that was just made is on the disk, with its gate where it has one.
+    fn sync_made(&mut self, f: FileId) -> io::Result<()> {
         match self.handles.get_mut(&f) {
             Some(handle) => handle.sync(),
             None => Err(ErrorKind::NotFound.into()),
@@ -206,10 +200,12 @@ impl Store {
     }
 
     /// Makes a file in its folder.
-    fn make_one(&mut self, folder: &str, f: FileId, modes: &mut Modes) -> io::Result<()> {
+    fn make_one(&mut self, folder: &str, f: FileId, made: &mut Made) -> io::Result<()> {
         let path = self.path_in(folder, f)?;
         let file = make_file(&self.rt, path.as_str())?;
-        modes.set(&file)?;
+        let metadata = file.metadata()?;
+        set_mode(&file, &metadata)?;
+        made.note(f, &metadata)?;
         self.keep(f, file, true)
     }
 
@@ -302,11 +298,7 @@ impl Store {
     /// Opens a file. False where it is not there.
     fn open_file(&mut self, f: FileId) -> io::Result<bool> {
         let place = self.place_of(f)?;
-        let opened = OpenOptions::new()
-            .read(true)
-            .write(true)
-            .open(&self.rt, place.path.as_str());
-        match opened {
+        match open_file(&self.rt, place.path.as_str()) {
             Ok(file) => {
                 self.keep(f, file, false)?;
                 Ok(true)
@@ -357,17 +349,29 @@ impl Store {
 /// Takes the lock of a store, which the system lets go when the program ends.
 fn take_lock(rt: &HostRuntime, alloc: Global, dir: &str) -> Result<File, StoreFault> {
     let path = format!(in alloc; "{dir}/lock")?;
-    let lock = OpenOptions::new()
-        .read(true)
-        .write(true)
-        .create(true)
-        .mode(MODE)
-        .open(rt, path.as_str())?;
+    let lock = open_lock(rt, path.as_str())?;
     match lock.try_lock() {
         Ok(()) => Ok(lock),
         Err(TryLockError::WouldBlock) => Err(StoreFault::InUse),
         Err(TryLockError::Error(e)) => Err(StoreFault::Io(e)),
     }
+}
+
+/// Opens the file of the lock, and makes it where it isn't there.
+fn open_lock(rt: &HostRuntime, path: &str) -> io::Result<File> {
+    match make_file(rt, path) {
+        Ok(lock) => {
+            set_mode(&lock, &lock.metadata()?)?;
+            Ok(lock)
+        }
+        Err(e) if e.kind() == ErrorKind::AlreadyExists => open_file(rt, path),
+        Err(e) => Err(e),
+    }
+}
+
+/// Opens a file that is there.
+fn open_file(rt: &HostRuntime, path: &str) -> io::Result<File> {
+    OpenOptions::new().read(true).write(true).open(rt, path)
 }
 
 /// Makes an empty file, which nobody else may read.
@@ -380,29 +384,10 @@ fn make_file(rt: &HostRuntime, path: &str) -> io::Result<File> {
         .open(rt, path)
 }
 
-/// The modes of files that are made together in one folder. The system gives each of them the same, so what it made of
-/// the first one's is looked at, and where that isn't `MODE`, whatever took bits away, all get theirs.
-#[derive(Drop)]
-struct Modes {
-    are_right: Option<bool>,
-}
-
-impl Modes {
-    /// Of no file yet.
-    fn new() -> Self {
-        Modes { are_right: None }
+/// Gives a file that was just made its mode, where the system left it another: a umask takes bits away.
+fn set_mode(file: &File, metadata: &Metadata) -> io::Result<()> {
+    if metadata.permissions().mode() & ALL_BITS == MODE {
+        return Ok(());
     }
-
-    /// Sees that the next of the files has its mode.
-    fn set(&mut self, file: &File) -> io::Result<()> {
-        let is_right = match self.are_right {
-            Some(is_right) => is_right,
-            None => file.metadata()?.permissions().mode() & ALL_BITS == MODE,
-        };
-        self.are_right = Some(is_right);
-        if is_right {
-            return Ok(());
-        }
-        file.set_permissions(Permissions::from_mode(MODE))
-    }
+    file.set_permissions(Permissions::from_mode(MODE))
 }
