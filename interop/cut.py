@@ -1,17 +1,24 @@
 #!/usr/bin/env python3
-"""What a cut of the power leaves of logs whose identifiers their clients read, and of a session whose last commit point its client
-read: of this server, and of sudo's own.
+"""What a cut of the power leaves of what was told: by this server, and of a session by sudo's own.
 
-usage: cut.py --server PROGRAM KIND ...
+usage: cut.py --server PROGRAM [--maker PROGRAM] KIND ...
 
-Each server has a file system of its own (power.py). Some times it begins a log, and at last it takes a whole session; each time it
-is killed, with the power of its disk, once the client has the identifier, or the commit point behind the exit. It ends with 1 where
-this server's store lacks one of the logs, a file of it, a record or the exit then; sudo's own, which syncs nothing, is shown beside
-it, where Debian's package is there. Root alone may do that.
+On file systems of their own, of each kind (power.py), the power is cut, each time at once:
+
+- when the files of a log were made by the call that the server makes, sixteen times, where the maker (lsv_bench) is given: all nine
+  must be there;
+- when a client has the identifier of a log that it began, sixteen times: the log must be there, with all its files;
+- when a client has the commit point behind the exit of a session: all its records and the exit must be there. This is shown of
+  sudo's own server too, which syncs nothing, where Debian's package is there.
+
+Without a journal what was synced may be lost later, so there the session is shown and not judged. It ends with 1 where something is
+lacking. Root alone may do that.
 """
 import argparse
+import contextlib
 import os
 import shutil
+import subprocess
 import sys
 
 import client
@@ -23,64 +30,101 @@ import store
 SECOND = 10**9
 INFO = {"command": "/usr/bin/vi", "runargv": ["vi", "/etc/motd"], "runuser": "root", "submituser": "ann", "submithost": "web1", "submitcwd": "/"}
 RECORDS = [(SECOND // 10, "ttyout", b"%d\r\n" % number) for number in range(40)]
-# so many that the inodes of a log's files begin at each place of a block of the inode table, and some stand in two blocks
-BEGUN = 8
+TIMES = 16
 
 
 class Lost(Exception):
-    """The client wasn't told that its session is stored."""
+    """The client wasn't told what it waits for."""
 
 
-def opened(server):
-    """A session is begun. Gives its connection, and the log's identifier."""
-    link = server.connect()
-    link.send(client.hello(), client.accept(SECOND, INFO))
-    link.read()
-    _, log_id = link.read()
-    return link, log_id
+def numbers(disk):
+    """As many numbers as there are cuts. A log takes ten inodes with its folder, so eight logs begin at each second place of a
+    block of sixteen; one file more between them, and the next eight begin at the others."""
+    for number in range(1, TIMES + 1):
+        if number == TIMES // 2 + 1:
+            with open(os.path.join(disk.mounted, "one-more"), "xb"):
+                pass
+        yield number
 
 
-def begin(server):
-    """A session is begun, and left. Gives the log's identifier."""
-    link, log_id = opened(server)
-    link.close()
-    return log_id
+def files_left(kind, maker):
+    """How many of the logs whose files were made have all of them: that of slots with its gate."""
+    disk = power.Disk(kind)
+    try:
+        for number in numbers(disk):
+            subprocess.run([maker, "files", str(number)], cwd=disk.mounted, capture_output=True, timeout=20, check=True)
+            disk.cut()
+        folders = [store.folder_of(os.path.join(disk.mounted, "store"), store.digits_of(it)) for it in range(1, TIMES + 1)]
+        return sum(map(is_made, folders))
+    finally:
+        disk.end()
 
 
-def session(server):
-    """A session is sent, and the commit point behind its exit is read. Gives the log's identifier."""
-    link, log_id = opened(server)
-    link.send(*map(client.record, RECORDS), client.exited(5 * SECOND))
-    points = [told for name, told in link.rest() if name == "commit_point"]
-    link.close()
-    if points[-1:] != [sum(record[0] for record in RECORDS)]:
-        raise Lost(f"{server.name}: the commit points {points} came")
-    return log_id
+def is_made(folder):
+    are_there = all(os.path.exists(os.path.join(folder, name)) for name in store.PARTS)
+    return are_there and store.contents(os.path.join(folder, "slots")) == b"\0"
+
+
+@contextlib.contextmanager
+def stage(kind, of, program, form):
+    """A server whose store lies on a file system of its own."""
+    disk = power.Disk(kind)
+    place = servers.Place(form, disk=disk.mounted)
+    try:
+        yield disk, place, of(program, place)
+    finally:
+        disk.end()
+        shutil.rmtree(place.folder)
 
 
 def before_a_cut(disk, server, work):
     """The server runs until its client has what it waits for. Gives the log's identifier."""
     try:
-        log_id = work(server.start())
+        link, log_id = work(server.start())
     finally:
         server.kill()
+    link.close()
     disk.cut()
     return log_id
 
 
-def left_by(kind, of, program, form, read):
-    """How many logs are left of those that were begun, how many records of the session, and whether its exit is."""
-    disk = power.Disk(kind)
-    place = servers.Place(form, disk=disk.mounted)
-    server = of(program, place)
-    try:
-        log_ids = [before_a_cut(disk, server, begin) for _ in range(BEGUN)]
+def begin(server):
+    """A session is begun. Gives its connection, and the log's identifier."""
+    link = server.connect()
+    link.send(client.hello(), client.accept(SECOND, INFO))
+    told = [link.read(), link.read()]
+    if [name for name, _ in told] != ["hello", "log_id"]:
+        raise Lost(f"{server.name}: {told} came for an accept")
+    return link, told[1][1]
+
+
+def session(server):
+    """A session is sent, and the commit point behind its exit is read."""
+    link, log_id = begin(server)
+    link.send(*map(client.record, RECORDS), client.exited(5 * SECOND))
+    points = [told for name, told in link.rest() if name == "commit_point"]
+    if points[-1:] != [sum(record[0] for record in RECORDS)]:
+        raise Lost(f"{server.name}: the commit points {points} came")
+    return link, log_id
+
+
+def logs_left(kind, program):
+    """How many of the logs that were begun are there, each right behind the cut."""
+    seen, left = set(), 0
+    with stage(kind, servers.Serve, program, servers.OURS) as (disk, place, server):
+        for _ in numbers(disk):
+            log_id = before_a_cut(disk, server, begin)
+            left += log_id not in seen and store.read_log(place.store, log_id) is not None
+            seen.add(log_id)
+    return left
+
+
+def session_left(kind, of, program, form, read):
+    """How many records of the session are left, and whether its exit is."""
+    with stage(kind, of, program, form) as (disk, place, server):
         log_id = before_a_cut(disk, server, session)
-        there = [one for one in log_ids if read(place, one) is not None]
-        return len(there), *(read(place, log_id) or (0, False))
-    finally:
-        disk.end()
-        shutil.rmtree(place.folder)
+        found = read(place, log_id)
+        return (first(found[0]), found[1]) if found else (0, False)
 
 
 def first(records):
@@ -90,56 +134,62 @@ def first(records):
 
 
 def ours(place, log_id):
-    """How many of the session's records one log of this server has, and whether it has the exit; None where it isn't there."""
+    """The records of a log of this server, and whether it has its exit."""
     log = store.read_log(place.store, log_id)
-    return log and (first(log.records), log.is_complete())
+    return log and (log.records, log.is_complete())
 
 
 def sudos(place, log_id):
-    """The same of sudo's own, None where it can't be read."""
+    """The same of sudo's own, as far as it can be read."""
     try:
         found = peer.read_session(os.path.join(place.store, os.path.relpath(log_id, place.store)))
     except (ValueError, IndexError, KeyError, OSError):
         return None
-    return found and (first(found[1]), found[2])
+    return found and found[1:]
 
 
 def shown(name, left):
-    logs, count, is_whole = left
-    return f"of {name} {logs} of {BEGUN} begun logs, {count} of {len(RECORDS)} records{' and the exit' * is_whole}"
+    count, is_whole = left
+    return f"of {name} {count} of {len(RECORDS)} records{' and the exit' * is_whole}"
 
 
-def is_kept(kind, program):
-    """Shows what is left of both, where the machine has this kind. False where this server's store lacks something."""
+def is_kept(kind, program, maker):
+    """Shows what is left, where the machine has this kind. False where something of this server is lacking."""
     try:
-        left = left_by(kind, servers.Serve, program, servers.OURS, ours)
+        files = files_left(kind, maker) if maker else None
+        logs = logs_left(kind, program)
+        left = session_left(kind, servers.Serve, program, servers.OURS, ours)
     except power.Lacking as fault:
         print(f"cut.py: {kind} is skipped: {fault}")
         return True
-    except (Lost, servers.Failed, power.Failed, store.Damaged, client.Closed, OSError) as fault:
+    except (Lost, servers.Failed, power.Failed, store.Damaged, client.Closed, subprocess.SubprocessError, OSError) as fault:
         print(f"cut.py: {kind}: {fault}")
         return False
+    makings = "" if files is None else f"of {TIMES} makings {files} whole, "
     told = [shown("serve", left)]
     if servers.tool("sudo_logsrvd"):
         told.append(sudo_shown(kind))
-    print(f"cut.py: {kind}: a cut behind the last commit point leaves {'; '.join(told)}")
-    return left == (BEGUN, len(RECORDS), True)
+    print(f"cut.py: {kind}: a cut leaves {makings}of {TIMES} begun logs {logs}, and behind the last commit point {', '.join(told)}")
+    is_judged = kind not in power.WITHOUT_JOURNAL
+    return files in (None, TIMES) and logs == TIMES and (left == (len(RECORDS), True) or not is_judged)
 
 
 def sudo_shown(kind):
-    """The same of sudo's own server, whatever becomes of it."""
+    """The session of sudo's own server, whatever becomes of it."""
     try:
-        return shown("sudo's own", left_by(kind, servers.Sudo, servers.tool("sudo_logsrvd"), servers.SUDO, sudos))
+        return shown("sudo's own", session_left(kind, servers.Sudo, servers.tool("sudo_logsrvd"), servers.SUDO, sudos))
     except (Lost, servers.Failed, power.Failed, power.Lacking, client.Closed, OSError) as fault:
         return f"of sudo's own nothing is known: {fault}"
 
 
 def main():
-    words = argparse.ArgumentParser(description=__doc__)
+    words = argparse.ArgumentParser(description=__doc__, formatter_class=argparse.RawDescriptionHelpFormatter)
     words.add_argument("--server", required=True)
+    words.add_argument("--maker")
     words.add_argument("kinds", metavar="KIND", nargs="+", choices=list(power.KINDS))
     args = words.parse_args()
-    kept = [is_kept(kind, os.path.realpath(args.server)) for kind in args.kinds]
+    maker = args.maker and os.path.realpath(args.maker)
+    kept = [is_kept(kind, os.path.realpath(args.server), maker) for kind in args.kinds]
     return 0 if all(kept) else 1
 
 

@@ -21,9 +21,12 @@ KINDS = {
     "ext4-small-blocks": (EXT4 + ("-b", "1024"), CHECK),
     "xfs": (("mkfs.xfs", "-q", "-f"), None),
     "btrfs": (("mkfs.btrfs", "-q", "-f", "--mixed"), None),
-    # what was synced may be lost on it: its sync of one file writes the inodes of others, whose blocks may not be there yet
+    # a sync of one file writes the inodes of others, whose blocks may not be there yet
     "ext4-no-journal": (EXT4 + ("-b", "4096", "-O", "^has_journal"), CHECK),
+    "ext4-no-journal-small-blocks": (EXT4 + ("-b", "1024", "-O", "^has_journal"), CHECK),
 }
+# what was synced may be lost on these
+WITHOUT_JOURNAL = tuple(kind for kind in KINDS if "no-journal" in kind)
 
 
 class Lacking(Exception):
@@ -58,7 +61,7 @@ class Disk:
         self.make, self.check = KINDS[kind]
         self.folder = tempfile.mkdtemp(prefix="power", dir=memory())
         self.image, self.mounted = os.path.join(self.folder, "image"), os.path.join(self.folder, "mounted")
-        self.cuts = 0
+        self.cuts, self.is_mounted = 0, False
         os.mkdir(self.mounted)
         with open(self.image, "wb") as file:
             file.truncate(SIZE)
@@ -76,6 +79,7 @@ class Disk:
 
     def mount(self):
         self.wanted("mount", "-o", "loop", self.image, self.mounted)
+        self.is_mounted = True
 
     def cut(self, rng=None):
         """All is as the device holds it now, and where numbers are given by which to draw, some of what wasn't synced besides."""
@@ -126,10 +130,12 @@ class Disk:
         for _ in range(100):
             status, said = run("umount", self.mounted)
             if status == 0:
+                self.is_mounted = False
                 return
             time.sleep(0.05)
         raise Failed(f"umount: {said}")
 
     def end(self):
-        self.unmount()
+        if self.is_mounted:
+            self.unmount()
         shutil.rmtree(self.folder)

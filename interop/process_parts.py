@@ -100,7 +100,7 @@ def modes(place):
 
 @only("serve", "once")
 def part_modes(trial):
-    """Whatever the umask: the folders of the store have mode 0700, its files 0600, and the next server finds them so."""
+    """Whatever the umask: the folders of the store have mode 0700, its files 0600, and a second server can use them."""
     for mask in (0, 0o22, 0o777):
         with Fresh(trial, before=lambda mask=mask: os.umask(mask)) as fresh:
             fresh.session()
@@ -108,6 +108,7 @@ def part_modes(trial):
             fresh.server.kill()
             fresh.server.start()
             fresh.session()
+            same(f"modes behind a second start at umask {mask:o}", modes(fresh.place), ({0o700}, {0o600}))
 
 
 def small_files():

@@ -118,7 +118,9 @@ class Serve:
         return client.connect(self.port, timeout)
 
     def kill(self):
-        """Ends it at once."""
+        """Ends it at once, where it was started."""
+        if self.process is None:
+            return
         if self.process.poll() is not None:
             raise Failed(f"{self.program} has ended by itself: status {self.process.returncode}: {self.place.said()[-500:]}")
         self.process.send_signal(signal.SIGKILL)

@@ -13,7 +13,7 @@ use lines::{cover_other_all, cover_output_all, json_lines_all, sudo_lines_all};
 use logs::{filled, opened, short_logs};
 use lsv_base::{Bytes, List};
 use lsv_record::{Record, Stream, lay, read_log};
-use makes::makes;
+use makes::{files, makes};
 use messages::{decode_large_all, decode_small_all, encode_all, lines_all, points_all};
 use std::alloc::Global;
 use std::env;
@@ -71,11 +71,12 @@ fn measured(rt: &HostRuntime, word: &str) -> Option<u64> {
     }
 }
 
-/// The measure on the disk that a word asks for, so often.
+/// The measure on the disk that a word asks for, so often, or the files of the log of that number.
 fn measured_often(rt: &HostRuntime, word: &str, times: u32) -> Option<u64> {
     match word {
         "flush" => flushes(*rt, times),
         "make" => makes(*rt, times),
+        "files" => files(*rt, times),
         "fill" => filled(*rt, b"0123456789", times),
         "fill-large" => filled(*rt, &[b'x'; 1_000], times),
         "short-logs" => short_logs(*rt, times),

@@ -113,3 +113,12 @@ pub fn makes(rt: HostRuntime, count: u32) -> Option<u64> {
     let _ = eprintln!(rt; "{together} {alone}");
     Some(u64::from(count))
 }
+
+/// Makes the nine files of the log of this number, in a store in this folder, and no entry, so that interop/cut.py can cut
+/// the power behind it. Gives the number.
+pub fn files(rt: HostRuntime, number: u32) -> Option<u64> {
+    let mut disk = FileDisk::new(rt, "lsv_bench");
+    disk.root("store", "store/events");
+    let _bundle = Bundle::create(rt.alloc(), &mut disk, Owner::Log(number), Shape::Log).ok()?;
+    Some(u64::from(number))
+}

@@ -56,7 +56,7 @@ impl<const N: usize> Journal<N> {
     }
 
     /// Makes a journal without an entry at a file that is there and was synced, and may be made: as `create`, with one
-    /// sync fewer. So a file that was made with others, by one sync of their folder, isn't synced again.
+    /// sync fewer. So a file that was made with others isn't synced again.
     pub fn begin<D: Disk>(disk: &mut D, f: FileId) -> Result<Journal<N>, JournalFault>
         requires size { (0 < N) × (N ≤ 120) }
         requires slots { f.part ≡ Part.Slots }

@@ -3,18 +3,50 @@ ghost use Rattle.std.specs.Prelude.{◌≤◌};
 
 use lsv_disk::{FileId, Part};
 use std::alloc::{AllocError, Global};
-use std::fs::Metadata;
-use std::os::unix::fs::MetadataExt;
 
-/// The bytes of an inode in the table of a file system that was made with no other size.
+/// The bytes of an inode where a file system was made with no other size.
 const INODE: u64 = 256;
 
-/// The bytes of a block of the table, where those of a file aren't fewer.
-const BLOCK: u64 = 4096;
+/// The bytes of a page, by which the system writes the table of inodes at most.
+const PAGE: u64 = 4096;
 
-/// The files that are made together in one folder, and those of them that are to be synced. Where a file system has no
-/// journal, the sync of a folder brings names to the disk, and a new file is there once the block of the inode table is
-/// in which its own inode stands. A sync of any file of the block brings it; the folder's sync brings the folder's.
+/// Where the inode of a file stands.
+#[derive(Clone, Copy)]
+pub struct Inode {
+    /// Its number; the first one in the table has 1.
+    pub number: u64,
+    /// The bytes of a block of its file system.
+    pub block_length: u64,
+}
+
+impl Inode {
+    /// The block of the table in which it stands.
+    fn block(self) -> u64 {
+        self.index() / self.in_block()
+    }
+
+    /// How many inodes stand behind it in its block.
+    fn behind(self) -> usize {
+        let count = self.in_block();
+        (count - 1 - self.index() % count) as usize
+    }
+
+    /// How many stand before it in the table.
+    fn index(self) -> u64 {
+        self.number.saturating_sub(1)
+    }
+
+    /// How many inodes a block has.
+    fn in_block(self) -> u64
+        ensures { 1 ≤ result }
+    {
+        (self.block_length.min(PAGE) / INODE).max(1)
+    }
+}
+
+/// The files that are made together in one folder, and those of them that are to be synced. A file system without a
+/// journal brings names to the disk by a sync of their folder, and an inode by a sync of any file whose inode stands in
+/// the same block of the table. So the first file of each block is synced; the folder's own sync brings its block.
 #[derive(Drop)]
 pub struct Made {
     /// The blocks that the syncs bring, the folder's first.
@@ -25,20 +57,21 @@ pub struct Made {
 }
 
 impl Made {
-    /// No file yet, in this folder.
-    pub fn new(alloc: Global, folder: &Metadata) -> Result<Self, AllocError> {
+    /// No file yet, in a folder of this inode.
+    pub fn new(alloc: Global, folder: Inode) -> Result<Self, AllocError> {
         let mut blocks = Vec::new(alloc);
-        blocks.push(block_of(folder))?;
+        blocks.push(folder.block())?;
         Ok(Made {
             blocks,
-            beside: inodes_behind(folder),
+            beside: folder.behind(),
             to_sync: Vec::new(alloc),
         })
     }
 
-    /// The order in which the files are made: mostly their inodes follow on the folder's. That of slots is synced in any
-    /// case, so where not all of them have room in the folder's block it is made as the first of the next one. The head is
-    /// made last, so that it mostly shares a block with the slots, which the first flush of both writes once.
+    /// The order in which files are made: mostly their inodes follow on the folder's. That of slots is synced for its
+    /// gate, so where not all of them have room in the folder's block, it is made as the first of the next one. The head
+    /// is made last, so that it stands in the block of the slots where that has room, and the first flush of both writes
+    /// that block once.
     pub fn in_order(&self, alloc: Global, parts: &[Part]) -> Result<Vec<Part>, AllocError> {
         let mut order = Vec::with_capacity(alloc, parts.len())?;
         for part in parts.iter().rev() {
@@ -57,40 +90,26 @@ impl Made {
         Ok(order)
     }
 
-    /// The next file was made. It is to be synced where it is the first of its block, and where it is that of slots, which
-    /// may have its gate.
-    pub fn note(&mut self, f: FileId, file: &Metadata) -> Result<(), AllocError> {
-        let block = block_of(file);
-        let is_first = !self.blocks.contains(&block);
-        if is_first {
+    /// Notes that a file was made with this inode: it is to be synced where it is the first of its block.
+    pub fn note(&mut self, f: FileId, inode: Inode) -> Result<(), AllocError> {
+        let block = inode.block();
+        if !self.blocks.contains(&block) {
             self.blocks.push(block)?;
-        }
-        if is_first || f.part == Part::Slots {
             self.to_sync.push(f)?;
         }
         Ok(())
     }
 
-    /// The files to sync; the folder is synced behind them.
+    /// Notes that the file that was made last was written to: it is to be synced in any case.
+    pub fn note_written(&mut self, f: FileId) -> Result<(), AllocError> {
+        if self.to_sync.last() != Some(&f) {
+            self.to_sync.push(f)?;
+        }
+        Ok(())
+    }
+
+    /// The files to sync, each once.
     pub fn to_sync(self) -> Vec<FileId> {
         self.to_sync
     }
-}
-
-/// The block of the inode table in which the inode of a file stands: they are counted from 1.
-fn block_of(file: &Metadata) -> u64 {
-    file.ino().saturating_sub(1) / inodes_in_block(file)
-}
-
-/// How many inodes stand behind a file's in its block.
-fn inodes_behind(file: &Metadata) -> usize {
-    let count = inodes_in_block(file);
-    (count - 1 - file.ino().saturating_sub(1) % count) as usize
-}
-
-/// How many inodes a block has.
-fn inodes_in_block(file: &Metadata) -> u64
-    ensures { 1 ≤ result }
-{
-    (file.blksize().min(BLOCK) / INODE).max(1)
 }

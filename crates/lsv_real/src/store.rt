@@ -4,7 +4,7 @@ ghost use Rattle.std.specs.Prelude.{◌≤◌, IfOk, length};
 use crate::folders::Folders;
 use crate::handle::Handle;
 use crate::limit::SizeLimit;
-use crate::made::Made;
+use crate::made::{Inode, Made};
 use crate::path::{Place, Places, joined, log_name};
 use crate::unsynced::Unsynced;
 use lru::LruCache;
@@ -14,7 +14,7 @@ use std::collections::HashMap;
 use std::fs::{File, Metadata, OpenOptions, Permissions, TryLockError};
 use std::io::ErrorKind;
 use std::num::NonZeroUsize;
-use std::os::unix::fs::{OpenOptionsExt, PermissionsExt};
+use std::os::unix::fs::{MetadataExt, OpenOptionsExt, PermissionsExt};
 use std::{fs, io};
 
 /// So many files are kept open: a log has nine, and a process has 1,024 descriptors by default.
@@ -102,7 +102,7 @@ impl Store {
         }
     }
 
-    /// Makes an empty file, and waits until its folder is on the disk with it.
+    /// Makes an empty file, and waits until it and its folder are on the disk.
     pub fn make(&mut self, f: FileId) -> io::Result<()> {
         let folder = self.place_of(f)?.folder;
         let made = self.make_and_sync(folder.as_str(), f.owner, &[f.part], false);
@@ -167,12 +167,13 @@ impl Store {
         self.looked = None;
         self.folders.make(folder)?;
         self.folders.change(folder);
-        let mut made = Made::new(self.alloc, &fs::metadata(&self.rt, folder)?)?;
+        let mut made = Made::new(self.alloc, inode_of(&fs::metadata(&self.rt, folder)?))?;
         for part in made.in_order(self.alloc, parts)? {
             let f = FileId::new(owner, part);
             self.make_one(folder, f, &mut made)?;
             if begins && part == Part::Slots {
                 self.write_gate(f)?;
+                made.note_written(f)?;
             }
         }
         Ok(made.to_sync())
@@ -205,7 +206,7 @@ impl Store {
         let file = make_file(&self.rt, path.as_str())?;
         let metadata = file.metadata()?;
         set_mode(&file, &metadata)?;
-        made.note(f, &metadata)?;
+        made.note(f, inode_of(&metadata))?;
         self.keep(f, file, true)
     }
 
@@ -357,7 +358,7 @@ fn take_lock(rt: &HostRuntime, alloc: Global, dir: &str) -> Result<File, StoreFa
     }
 }
 
-/// Opens the file of the lock, and makes it where it isn't there.
+/// Opens the file of the lock, and makes it where it isn't there: one that is there keeps its mode.
 fn open_lock(rt: &HostRuntime, path: &str) -> io::Result<File> {
     match make_file(rt, path) {
         Ok(lock) => {
@@ -382,6 +383,14 @@ fn make_file(rt: &HostRuntime, path: &str) -> io::Result<File> {
         .create_new(true)
         .mode(MODE)
         .open(rt, path)
+}
+
+/// Where the inode of a file stands.
+fn inode_of(file: &Metadata) -> Inode {
+    Inode {
+        number: file.ino(),
+        block_length: file.blksize(),
+    }
 }
 
 /// Gives a file that was just made its mode, where the system left it another: a umask takes bits away.

@@ -14,6 +14,8 @@ mod disk;
 #[cfg(test)]
 mod journal;
 #[cfg(test)]
+mod made;
+#[cfg(test)]
 mod port;
 #[cfg(test)]
 mod real;
