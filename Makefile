@@ -42,7 +42,7 @@ INSTALLED = \
 	$(MANDIR)/man8/$(FRONT)sudoreplay.8 \
 	$(MANDIR)/man5/$(FRONT)sudo_logsrvd.conf.5
 
-.PHONY: all build run test wrong-bodies bench interop drill power install uninstall installed pages dist clean
+.PHONY: all build run test wrong-bodies measures bench interop drill power install uninstall installed pages dist clean
 
 all: build
 
@@ -61,8 +61,10 @@ test:
 wrong-bodies:
 	bash tools/wrong-bodies
 
-bench: build
+measures:
 	cd $(MEASURES) && rt run -- decode >/dev/null
+
+bench: build measures
 	python3 bench/bench.py $(PROGRAM) $(MEASURES)/out/lsv_bench
 	python3 bench/replay.py $(REPLAY)
 	python3 bench/serve.py $(PROGRAM)
@@ -73,7 +75,7 @@ interop: build
 drill: build
 	python3 interop/drill.py --server $(PROGRAM) --as $(AS) --kills $(N)
 
-power: build
+power: build measures
 	CUTS=$(N) bash interop/run power
 
 # Copies what `make` built. The settings are put in place where there are none, and are never overwritten.

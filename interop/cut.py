@@ -6,8 +6,8 @@ usage: cut.py --server PROGRAM [--maker PROGRAM] KIND ...
 On file systems of their own, of each kind (power.py), the power is cut, each time at once:
 
 - when the files of a log were made by the call that the server makes, sixteen times, where the maker (lsv_bench) is given: all nine
-  must be there;
-- when a client has the identifier of a log that it began, sixteen times: the log must be there, with all its files;
+  must be there, at last;
+- when a client has the identifier of a log that it began, sixteen times: the log must be there with all its files, at once;
 - when a client has the commit point behind the exit of a session: all its records and the exit must be there. This is shown of
   sudo's own server too, which syncs nothing, where Debian's package is there.
 
@@ -18,6 +18,7 @@ import argparse
 import contextlib
 import os
 import shutil
+import signal
 import subprocess
 import sys
 
@@ -37,25 +38,37 @@ class Lost(Exception):
     """The client wasn't told what it waits for."""
 
 
-def numbers(disk):
-    """As many numbers as there are cuts. A log takes ten inodes with its folder, so eight logs begin at each second place of a
-    block of sixteen; one file more between them, and the next eight begin at the others."""
+FAULTS = (Lost, servers.Failed, power.Failed, power.Lacking, store.Damaged, client.Closed, subprocess.SubprocessError, OSError)
+
+
+def numbers(folder):
+    """As many numbers as there are cuts. A log takes ten inodes with its own folder, and one file more before each makes it eleven,
+    so that logs begin at each place of a block, which has sixteen inodes or four."""
     for number in range(1, TIMES + 1):
-        if number == TIMES // 2 + 1:
-            with open(os.path.join(disk.mounted, "one-more"), "xb"):
-                pass
+        if number > 1:
+            make_more(folder, f"more{number}")
         yield number
+
+
+def make_more(folder, name):
+    """One file more, which is on the disk."""
+    for place, flags in ((os.path.join(folder, name), os.O_CREAT | os.O_EXCL), (folder, os.O_RDONLY)):
+        file = os.open(place, flags)
+        os.fsync(file)
+        os.close(file)
 
 
 def files_left(kind, maker):
     """How many of the logs whose files were made have all of them: that of slots with its gate."""
     disk = power.Disk(kind)
+    folder = os.path.join(disk.mounted, "store")
     try:
-        for number in numbers(disk):
-            subprocess.run([maker, "files", str(number)], cwd=disk.mounted, capture_output=True, timeout=20, check=True)
+        for number in numbers(folder):
+            child = subprocess.run([maker, "files", str(number)], cwd=disk.mounted, capture_output=True, text=True, timeout=20, check=False)
+            if child.returncode:
+                raise Lost(f"{maker}: status {child.returncode}: {child.stderr}")
             disk.cut()
-        folders = [store.folder_of(os.path.join(disk.mounted, "store"), store.digits_of(it)) for it in range(1, TIMES + 1)]
-        return sum(map(is_made, folders))
+        return sum(is_made(store.folder_of(folder, store.digits_of(it))) for it in range(1, TIMES + 1))
     finally:
         disk.end()
 
@@ -68,17 +81,16 @@ def is_made(folder):
 @contextlib.contextmanager
 def stage(kind, of, program, form):
     """A server whose store lies on a file system of its own."""
-    disk = power.Disk(kind)
-    place = servers.Place(form, disk=disk.mounted)
-    try:
+    with contextlib.ExitStack() as ends:
+        disk = power.Disk(kind)
+        ends.callback(disk.end)
+        place = servers.Place(form, disk=disk.mounted)
+        ends.callback(shutil.rmtree, place.folder)
         yield disk, place, of(program, place)
-    finally:
-        disk.end()
-        shutil.rmtree(place.folder)
 
 
-def before_a_cut(disk, server, work):
-    """The server runs until its client has what it waits for. Gives the log's identifier."""
+def behind_a_cut(disk, server, work):
+    """The server runs until its client has what it waits for, and the power is cut. Gives the log's identifier."""
     try:
         link, log_id = work(server.start())
     finally:
@@ -112,8 +124,8 @@ def logs_left(kind, program):
     """How many of the logs that were begun are there, each right behind the cut."""
     seen, left = set(), 0
     with stage(kind, servers.Serve, program, servers.OURS) as (disk, place, server):
-        for _ in numbers(disk):
-            log_id = before_a_cut(disk, server, begin)
+        for _ in numbers(place.store):
+            log_id = behind_a_cut(disk, server, begin)
             left += log_id not in seen and store.read_log(place.store, log_id) is not None
             seen.add(log_id)
     return left
@@ -122,7 +134,7 @@ def logs_left(kind, program):
 def session_left(kind, of, program, form, read):
     """How many records of the session are left, and whether its exit is."""
     with stage(kind, of, program, form) as (disk, place, server):
-        log_id = before_a_cut(disk, server, session)
+        log_id = behind_a_cut(disk, server, session)
         found = read(place, log_id)
         return (first(found[0]), found[1]) if found else (0, False)
 
@@ -148,9 +160,14 @@ def sudos(place, log_id):
     return found and found[1:]
 
 
-def shown(name, left):
-    count, is_whole = left
-    return f"of {name} {count} of {len(RECORDS)} records{' and the exit' * is_whole}"
+def is_lacking(kind):
+    """Whether the machine has no such file system, which is told."""
+    try:
+        power.Disk(kind).end()
+        return False
+    except power.Lacking as fault:
+        print(f"cut.py: {kind} is skipped: {fault}")
+        return True
 
 
 def is_kept(kind, program, maker):
@@ -158,28 +175,24 @@ def is_kept(kind, program, maker):
     try:
         files = files_left(kind, maker) if maker else None
         logs = logs_left(kind, program)
-        left = session_left(kind, servers.Serve, program, servers.OURS, ours)
-    except power.Lacking as fault:
-        print(f"cut.py: {kind} is skipped: {fault}")
-        return True
-    except (Lost, servers.Failed, power.Failed, store.Damaged, client.Closed, subprocess.SubprocessError, OSError) as fault:
+    except FAULTS as fault:
         print(f"cut.py: {kind}: {fault}")
         return False
     makings = "" if files is None else f"of {TIMES} makings {files} whole, "
-    told = [shown("serve", left)]
+    told, is_whole = session_shown("serve", kind, servers.Serve, program, servers.OURS, ours)
     if servers.tool("sudo_logsrvd"):
-        told.append(sudo_shown(kind))
-    print(f"cut.py: {kind}: a cut leaves {makings}of {TIMES} begun logs {logs}, and behind the last commit point {', '.join(told)}")
-    is_judged = kind not in power.WITHOUT_JOURNAL
-    return files in (None, TIMES) and logs == TIMES and (left == (len(RECORDS), True) or not is_judged)
+        told += ", " + session_shown("sudo's own", kind, servers.Sudo, servers.tool("sudo_logsrvd"), servers.SUDO, sudos)[0]
+    print(f"cut.py: {kind}: a cut leaves {makings}of {TIMES} begun logs {logs}, and behind the last commit point {told}")
+    return files in (None, TIMES) and logs == TIMES and (is_whole or kind in power.WITHOUT_JOURNAL)
 
 
-def sudo_shown(kind):
-    """The session of sudo's own server, whatever becomes of it."""
+def session_shown(name, kind, of, program, form, read):
+    """What is left of the session, in words, and whether that is all of it."""
     try:
-        return shown("sudo's own", session_left(kind, servers.Sudo, servers.tool("sudo_logsrvd"), servers.SUDO, sudos))
-    except (Lost, servers.Failed, power.Failed, power.Lacking, client.Closed, OSError) as fault:
-        return f"of sudo's own nothing is known: {fault}"
+        count, is_whole = session_left(kind, of, program, form, read)
+    except FAULTS as fault:
+        return f"of {name} nothing that is known: {fault}", False
+    return f"of {name} {count} of {len(RECORDS)} records{' and the exit' * is_whole}", (count, is_whole) == (len(RECORDS), True)
 
 
 def main():
@@ -189,7 +202,8 @@ def main():
     words.add_argument("kinds", metavar="KIND", nargs="+", choices=list(power.KINDS))
     args = words.parse_args()
     maker = args.maker and os.path.realpath(args.maker)
-    kept = [is_kept(kind, os.path.realpath(args.server), maker) for kind in args.kinds]
+    signal.signal(signal.SIGTERM, lambda *_: sys.exit(1))
+    kept = [is_lacking(kind) or is_kept(kind, os.path.realpath(args.server), maker) for kind in args.kinds]
     return 0 if all(kept) else 1
 
 

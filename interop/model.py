@@ -403,6 +403,7 @@ def locked(folder):
 def main():
     while os.open("/dev/null", os.O_RDWR) < 3:
         pass
+    os.umask(0o077)
     words = sys.argv[1:]
     value = {word: words[at + 1] for at, word in enumerate(words[:-1])}
     settings = Settings(value["-f"])

@@ -68,7 +68,7 @@ class Disk:
         try:
             self.wanted(*self.make, self.image)
             self.mount()
-        except Lacking:
+        except BaseException:
             shutil.rmtree(self.folder)
             raise
 
@@ -95,7 +95,10 @@ class Disk:
             # 1: it was mended, 2: so that a start should follow
             if status not in (0, 1, 2):
                 raise Failed(f"{' '.join(self.check)}: {said[-500:]}")
-        self.mount()
+        try:
+            self.mount()
+        except Lacking as fault:
+            raise Failed(str(fault)) from fault
         self.cuts += 1
 
     def spill(self, rng):

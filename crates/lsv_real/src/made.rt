@@ -7,8 +7,9 @@ use std::alloc::{AllocError, Global};
 /// The bytes of an inode where a file system was made with no other size.
 const INODE: u64 = 256;
 
-/// The bytes of a page, by which the system writes the table of inodes at most.
-const PAGE: u64 = 4096;
+/// The longest block that is reckoned with: a file may tell of a longer one than the table of inodes is written by, and a
+/// shorter one costs a sync more at most.
+const LONGEST: u64 = 4096;
 
 /// Where the inode of a file stands.
 #[derive(Clone, Copy)]
@@ -40,7 +41,7 @@ impl Inode {
     fn in_block(self) -> u64
         ensures { 1 ≤ result }
     {
-        (self.block_length.min(PAGE) / INODE).max(1)
+        (self.block_length.min(LONGEST) / INODE).max(1)
     }
 }
 
@@ -69,9 +70,9 @@ impl Made {
     }
 
     /// The order in which files are made: mostly their inodes follow on the folder's. That of slots is synced for its
-    /// gate, so where not all of them have room in the folder's block, it is made as the first of the next one. The head
-    /// is made last, so that it stands in the block of the slots where that has room, and the first flush of both writes
-    /// that block once.
+    /// gate. Where all have room in the folder's block it is made first, so that its gate sets out while the others are
+    /// made; else it is made as the first of the next block, whose sync is its own then. The head is made last of the
+    /// others, mostly in that block too, which the first flush of both then writes once.
     pub fn in_order(&self, alloc: Global, parts: &[Part]) -> Result<Vec<Part>, AllocError> {
         let mut order = Vec::with_capacity(alloc, parts.len())?;
         for part in parts.iter().rev() {

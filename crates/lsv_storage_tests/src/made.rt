@@ -1,4 +1,4 @@
-// Which of the files that are made together the real disk syncs.
+// Which of the files that are made together the real disk syncs, and in which order it makes them.
 use lsv_disk::{FileId, Owner, Part};
 use lsv_real::{Inode, Made};
 use std::alloc::Global;
@@ -17,38 +17,48 @@ const PARTS: [Part; 9] = [
     Part::Slots,
 ];
 
-/// The files of a log that were made in a folder: the number of each one's inode, and whether it is synced.
+/// A file of a log.
+fn file(part: Part) -> FileId {
+    FileId::new(Owner::Log(1), part)
+}
+
+/// An inode of a file system with blocks of 4,096 bytes.
+fn inode(number: u64) -> Inode {
+    Inode {
+        number,
+        block_length: 4096,
+    }
+}
+
+/// The files of a log that were made in a folder, with the numbers of their inodes.
 #[derive(Drop)]
 struct Making {
     folder: u64,
-    files: Vec<(Part, u64, bool)>,
+    files: Vec<(Part, u64)>,
+    to_sync: Vec<FileId>,
 }
 
 /// Makes the files in a folder of this inode with these, one after the other, and writes a gate.
-fn make(alloc: Global, folder: u64, files: &[u64], block_length: u64) -> Result<Making, Fail> {
+fn make(alloc: Global, folder: u64, numbers: &[u64], block_length: u64) -> Result<Making, Fail> {
     let inode = |number| Inode {
         number,
         block_length,
     };
     let mut made = Made::new(alloc, inode(folder))?;
     let order = made.in_order(alloc, &PARTS)?;
-    for (part, number) in order.iter().zip(files.iter()) {
-        let f = FileId::new(Owner::Log(1), *part);
-        made.note(f, inode(*number))?;
+    let mut files = Vec::new(alloc);
+    for (part, number) in order.iter().zip(numbers.iter()) {
+        made.note(file(*part), inode(*number))?;
         if *part == Part::Slots {
-            made.note_written(f)?;
+            made.note_written(file(*part))?;
         }
+        files.push((*part, *number))?;
     }
-    let to_sync = made.to_sync();
-    let mut log = Making {
+    Ok(Making {
         folder,
-        files: Vec::new(alloc),
-    };
-    for (part, number) in order.iter().zip(files.iter()) {
-        let is_synced = to_sync.contains(&FileId::new(Owner::Log(1), *part));
-        log.files.push((*part, *number, is_synced))?;
-    }
-    Ok(log)
+        files,
+        to_sync: made.to_sync(),
+    })
 }
 
 /// In which block of the table an inode stands, where a block has so many.
@@ -57,27 +67,48 @@ fn block(number: u64, in_block: u64) -> Option<u64> {
 }
 
 impl Making {
+    /// Whether a file is synced.
+    fn syncs(&self, part: Part) -> bool {
+        self.to_sync.contains(&file(part))
+    }
+
+    /// Whether a file that is synced stands in this block.
+    fn syncs_in(&self, wanted: Option<u64>, in_block: u64) -> bool {
+        self.files.iter().any(|(part, number)| self.syncs(*part)
+            && block(*number, in_block) == wanted)
+    }
+
     /// Whether the block of each file is the folder's, or that of a file that is synced.
     fn is_brought(&self, in_block: u64) -> bool {
-        self.files.iter().all(|(_, number, _)| {
-            let of_file = block(*number, in_block);
-            of_file == block(self.folder, in_block)
-                || self.files.iter().any(|(_, other, synced)| *synced
-                    && block(*other, in_block) == of_file)
+        self.files.iter().all(|(_, number)| {
+            let its = block(*number, in_block);
+            its == block(self.folder, in_block) || self.syncs_in(its, in_block)
         })
     }
+}
 
-    /// How many files are synced.
-    fn synced(&self) -> usize {
-        self.files.iter().filter(|(_, _, synced)| *synced).count()
+/// The nine numbers behind one.
+fn behind(folder: u64) -> [u64; 9] {
+    let mut numbers = [0; 9];
+    let mut number: u64 = folder;
+    for next in &mut numbers {
+        number = number.saturating_add(1);
+        *next = number;
     }
+    numbers
+}
 
-    /// Whether the file of slots is synced.
-    fn has_its_gate(&self) -> bool {
-        self.files
-            .iter()
-            .any(|(part, _, synced)| *part == Part::Slots && *synced)
+/// Whether of logs in folders at each place of a block, with the inodes behind the folder's, all files are brought to the
+/// disk, and at most so many are synced.
+fn are_brought(alloc: Global, block_length: u64, in_block: u64, most: usize) -> Result<bool, Fail> {
+    for folder in 1..40 {
+        let log = make(alloc, folder, &behind(folder), block_length)?;
+        let is_whole = log.files.len() == PARTS.len() && log.syncs(Part::Slots);
+        if !is_whole || !log.is_brought(in_block) || log.to_sync.len() > most {
+            return Ok(false);
+        }
     }
+    Ok(true)
 }
 
 #[test]
@@ -91,18 +122,8 @@ fn files_whose_inodes_follow_on_the_folders_are_brought_to_the_disk(
         (1024, 4, 3),
         (512, 2, 5),
     ] {
-        for folder in 1..40 {
-            let mut files = [0; 9];
-            let mut number: u64 = folder;
-            for file in &mut files {
-                number = number.saturating_add(1);
-                *file = number;
-            }
-            let log = make(rt.alloc(), folder, &files, block_length)?;
-            assert!(rt; log.is_brought(in_block), "{folder} of {block_length}");
-            assert!(rt; log.has_its_gate(), "{folder} of {block_length}");
-            assert!(rt; log.synced() <= most, "{folder} of {block_length}");
-        }
+        let are_brought = are_brought(rt.alloc(), block_length, in_block, most)?;
+        assert!(rt; are_brought, "{block_length}");
     }
     Ok(())
 }
@@ -110,28 +131,65 @@ fn files_whose_inodes_follow_on_the_folders_are_brought_to_the_disk(
 #[test]
 fn files_whose_inodes_are_scattered_are_brought_to_the_disk(rt: HostRuntime) -> Result<(), Fail> {
     // In blocks of 16: one in the folder's, three in each of two others, and two in a third; slots are none of the first.
-    let files = [33, 3, 90, 4, 91, 17, 18, 5, 92];
-    let log = make(rt.alloc(), 40, &files, 4096)?;
+    let numbers = [33, 3, 90, 4, 91, 17, 18, 5, 92];
+    let log = make(rt.alloc(), 40, &numbers, 4096)?;
     assert!(rt; log.is_brought(16));
-    assert!(rt; log.has_its_gate());
-    assert_eq!(rt; log.synced(), 4);
+    assert!(rt; log.syncs(Part::Slots));
+    assert_eq!(rt; log.to_sync.len(), 4);
     Ok(())
 }
 
 #[test]
 fn a_file_that_is_written_to_is_synced_once(rt: HostRuntime) -> Result<(), Fail> {
-    let f = FileId::new(Owner::Log(1), Part::Slots);
     for (number, is_written, want) in [(2, false, 0), (2, true, 1), (17, false, 1), (17, true, 1)] {
-        let inode = |number| Inode {
-            number,
-            block_length: 4096,
-        };
         let mut made = Made::new(rt.alloc(), inode(1))?;
-        made.note(f, inode(number))?;
+        made.note(file(Part::Slots), inode(number))?;
         if is_written {
-            made.note_written(f)?;
+            made.note_written(file(Part::Slots))?;
         }
         assert_eq!(rt; made.to_sync().len(), want, "{number}");
+    }
+    Ok(())
+}
+
+/// Each part is made once, slots at this place, and the head behind all others but them.
+fn is_order(parts: &[Part], order: &[Part], slots_at: usize) -> bool {
+    let mut others = order.iter().filter(|part| **part != Part::Slots);
+    order.len() == parts.len()
+        && parts.iter().all(|part| order.contains(part))
+        && order.get(slots_at) == Some(&Part::Slots)
+        && others.next_back() == Some(&Part::Head)
+}
+
+#[test]
+fn slots_are_first_or_the_first_of_the_next_block(rt: HostRuntime) -> Result<(), Fail> {
+    for (folder, slots_at) in [
+        (1, 0),
+        (6, 0),
+        (7, 0),
+        (8, 8),
+        (9, 7),
+        (15, 1),
+        (16, 0),
+        (17, 0),
+    ] {
+        let made = Made::new(rt.alloc(), inode(folder))?;
+        let order = made.in_order(rt.alloc(), &PARTS)?;
+        assert!(rt; is_order(&PARTS, order.as_slice(), slots_at), "{folder}");
+    }
+    Ok(())
+}
+
+#[test]
+fn files_without_slots_are_made_too(rt: HostRuntime) -> Result<(), Fail> {
+    for folder in [1, 8, 16] {
+        let made = Made::new(rt.alloc(), inode(folder))?;
+        let lines = made.in_order(rt.alloc(), &[Part::Lines])?;
+        assert_eq!(rt; lines.as_slice(), [Part::Lines].as_slice());
+        let both = made.in_order(rt.alloc(), &[Part::Head, Part::Timing])?;
+        assert_eq!(rt; both.as_slice(), [Part::Timing, Part::Head].as_slice());
+        let slots = made.in_order(rt.alloc(), &[Part::Slots])?;
+        assert_eq!(rt; slots.as_slice(), [Part::Slots].as_slice());
     }
     Ok(())
 }
