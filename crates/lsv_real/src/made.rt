@@ -7,8 +7,8 @@ use std::alloc::{AllocError, Global};
 /// The bytes of an inode where a file system was made with no other size.
 const INODE: u64 = 256;
 
-/// The longest block that is reckoned with: a file may tell of a longer one than the table of inodes is written by, and a
-/// shorter one costs a sync more at most.
+/// The longest block that is reckoned with: a file may tell of a longer one than the table of inodes is written by, and
+/// where fewer inodes are taken for a block, files are synced that needn't be, and none is left out.
 const LONGEST: u64 = 4096;
 
 /// Where the inode of a file stands.
