@@ -1,3 +1,4 @@
 pub mod Untold
 pub mod Places
 pub mod UntoldPort
+pub mod Made

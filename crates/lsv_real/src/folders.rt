@@ -37,19 +37,30 @@ impl Folders {
     }
 
     /// Something is about to be made in a folder: a sync before it says nothing of that.
-    pub fn change(&mut self, folder: &str) {
+    fn change(&mut self, folder: &str) {
         let _ = self.synced.remove(folder);
     }
 
-    /// Waits until what was made or named in a folder is on the disk.
-    pub fn sync(&mut self, folder: &str) -> io::Result<()> {
+    /// Opens a folder in which something is about to be made, so that it can be synced then.
+    pub fn open(&mut self, folder: &str) -> io::Result<File> {
         self.change(folder);
-        File::open(&self.rt, folder)?.sync_all()?;
+        File::open(&self.rt, folder)
+    }
+
+    /// Waits until what was made or named in a folder since it was opened is on the disk.
+    pub fn sync_opened(&mut self, folder: &str, opened: &File) -> io::Result<()> {
+        opened.sync_all()?;
         if self.synced.len() >= MOST_REMEMBERED {
             self.synced.clear();
         }
         self.synced.insert(String::from_str(self.alloc, folder)?)?;
         Ok(())
+    }
+
+    /// Waits until what was made or named in a folder is on the disk.
+    pub fn sync(&mut self, folder: &str) -> io::Result<()> {
+        let opened = self.open(folder)?;
+        self.sync_opened(folder, &opened)
     }
 
     /// The same of a folder in which this run made nothing since it synced it.

@@ -4,7 +4,7 @@ ghost use Rattle.std.specs.Prelude.{◌≤◌, IfOk, length};
 use crate::folders::Folders;
 use crate::handle::Handle;
 use crate::limit::SizeLimit;
-use crate::made::{Inode, Made};
+use crate::made::{Inode, Made, NewFile};
 use crate::path::{Place, Places, joined, log_name};
 use crate::unsynced::Unsynced;
 use lru::LruCache;
@@ -131,10 +131,14 @@ impl Store {
         parts: &[Part],
         begins: bool,
     ) -> io::Result<()> {
-        for f in self.make_files(folder, owner, parts, begins)? {
-            self.sync_made(f)?;
+        self.looked = None;
+        self.folders.make(folder)?;
+        let opened = self.folders.open(folder)?;
+        let made = self.make_files(folder, &opened, owner, parts, begins)?;
+        for file in made.to_sync() {
+            self.sync_made(file.id)?;
         }
-        self.folders.sync(folder)?;
+        self.folders.sync_opened(folder, &opened)?;
         self.folders.sync_names(folder)
     }
 
@@ -155,28 +159,26 @@ impl Store {
         made
     }
 
-    /// Makes files, with the folders that are lacking, and gives those to sync. A gate is on its way to the disk while the
-    /// files behind it are made.
+    /// Makes files in a folder, and says which are to be synced. A gate is on its way to the disk while the files behind it
+    /// are made.
     fn make_files(
         &mut self,
         folder: &str,
+        opened: &File,
         owner: Owner,
         parts: &[Part],
         begins: bool,
-    ) -> io::Result<Vec<FileId>> {
-        self.looked = None;
-        self.folders.make(folder)?;
-        self.folders.change(folder);
-        let mut made = Made::new(self.alloc, inode_of(&fs::metadata(&self.rt, folder)?))?;
+    ) -> io::Result<Made> {
+        let mut made = Made::new(self.alloc, inode_of(&opened.metadata()?));
         for part in made.in_order(self.alloc, parts)? {
-            let f = FileId::new(owner, part);
-            self.make_one(folder, f, &mut made)?;
-            if begins && part == Part::Slots {
-                self.write_gate(f)?;
-                made.note_written(f)?;
+            let file = self.make_one(folder, FileId::new(owner, part))?;
+            let has_gate = begins && part == Part::Slots;
+            if has_gate {
+                self.write_gate(file.id)?;
             }
+            made.note(file, has_gate)?;
         }
-        Ok(made.to_sync())
+        Ok(made)
     }
 
     /// Writes the gate of a file of slots that was just made, and has it set out for the disk.
@@ -201,13 +203,14 @@ impl Store {
     }
 
     /// Makes a file in its folder.
-    fn make_one(&mut self, folder: &str, f: FileId, made: &mut Made) -> io::Result<()> {
-        let path = self.path_in(folder, f)?;
+    fn make_one(&mut self, folder: &str, id: FileId) -> io::Result<NewFile> {
+        let path = self.path_in(folder, id)?;
         let file = make_file(&self.rt, path.as_str())?;
         let metadata = file.metadata()?;
         set_mode(&file, &metadata)?;
-        made.note(f, inode_of(&metadata))?;
-        self.keep(f, file, true)
+        self.keep(id, file, true)?;
+        let inode = inode_of(&metadata);
+        Ok(NewFile { id, inode })
     }
 
     /// The path of a file in its folder: of a log's without that its number is written once more.

@@ -1,6 +1,6 @@
 // Which of the files that are made together the real disk syncs, and in which order it makes them.
 use lsv_disk::{FileId, Owner, Part};
-use lsv_real::{Inode, Made};
+use lsv_real::{Inode, Made, NewFile};
 use std::alloc::Global;
 use std::test::Fail;
 
@@ -44,20 +44,25 @@ fn make(alloc: Global, folder: u64, numbers: &[u64], block_length: u64) -> Resul
         number,
         block_length,
     };
-    let mut made = Made::new(alloc, inode(folder))?;
+    let mut made = Made::new(alloc, inode(folder));
     let order = made.in_order(alloc, &PARTS)?;
     let mut files = Vec::new(alloc);
     for (part, number) in order.iter().zip(numbers.iter()) {
-        made.note(file(*part), inode(*number))?;
-        if *part == Part::Slots {
-            made.note_written(file(*part))?;
-        }
+        let new = NewFile {
+            id: file(*part),
+            inode: inode(*number),
+        };
+        made.note(new, *part == Part::Slots)?;
         files.push((*part, *number))?;
+    }
+    let mut to_sync = Vec::new(alloc);
+    for new in made.to_sync() {
+        to_sync.push(new.id)?;
     }
     Ok(Making {
         folder,
         files,
-        to_sync: made.to_sync(),
+        to_sync,
     })
 }
 
@@ -142,11 +147,12 @@ fn files_whose_inodes_are_scattered_are_brought_to_the_disk(rt: HostRuntime) -> 
 #[test]
 fn a_file_that_is_written_to_is_synced_once(rt: HostRuntime) -> Result<(), Fail> {
     for (number, is_written, want) in [(2, false, 0), (2, true, 1), (17, false, 1), (17, true, 1)] {
-        let mut made = Made::new(rt.alloc(), inode(1))?;
-        made.note(file(Part::Slots), inode(number))?;
-        if is_written {
-            made.note_written(file(Part::Slots))?;
-        }
+        let mut made = Made::new(rt.alloc(), inode(1));
+        let new = NewFile {
+            id: file(Part::Slots),
+            inode: inode(number),
+        };
+        made.note(new, is_written)?;
         assert_eq!(rt; made.to_sync().len(), want, "{number}");
     }
     Ok(())
@@ -173,7 +179,7 @@ fn slots_are_first_or_the_first_of_the_next_block(rt: HostRuntime) -> Result<(),
         (16, 0),
         (17, 0),
     ] {
-        let made = Made::new(rt.alloc(), inode(folder))?;
+        let made = Made::new(rt.alloc(), inode(folder));
         let order = made.in_order(rt.alloc(), &PARTS)?;
         assert!(rt; is_order(&PARTS, order.as_slice(), slots_at), "{folder}");
     }
@@ -183,7 +189,7 @@ fn slots_are_first_or_the_first_of_the_next_block(rt: HostRuntime) -> Result<(),
 #[test]
 fn files_without_slots_are_made_too(rt: HostRuntime) -> Result<(), Fail> {
     for folder in [1, 8, 16] {
-        let made = Made::new(rt.alloc(), inode(folder))?;
+        let made = Made::new(rt.alloc(), inode(folder));
         let lines = made.in_order(rt.alloc(), &[Part::Lines])?;
         assert_eq!(rt; lines.as_slice(), [Part::Lines].as_slice());
         let both = made.in_order(rt.alloc(), &[Part::Head, Part::Timing])?;
