@@ -23,7 +23,7 @@ fn read_scripts(rt: &HostRuntime) -> Result<Vec<Script>> {
             Some(("script", name)) => scripts.push(Script::new(alloc, name)?)?,
             _ => {
                 let script = scripts.last_mut().ok_or(anyhow!("a heading"))?;
-                script.lines.push(line)?;
+                script.add(line)?;
             }
         }
     }

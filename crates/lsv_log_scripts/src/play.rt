@@ -1,12 +1,13 @@
 //! A script that is played over a hostile disk, up to the step that fails.
 
 ghost use Rattle.lsv_base.specs.Time.{nanos_of};
-ghost use Rattle.std.specs.Prelude.{IsSome};
+ghost use Rattle.std.specs.Prelude.{IsSome, ◌≤◌, length};
 
-use crate::script::{Script, point_of, record_of};
+use crate::script::{File, Script, file_of, point_of, record_of};
 use crate::shown::number;
 use anyhow::{Result, anyhow};
-use lsv_base::{Bytes, List, LogNo, NoMem, Point};
+use lsv_base::{Bytes, List, LogNo, Point};
+use lsv_disk::{Disk, DiskFault, FileId, Owner};
 use lsv_hostile_disk::{Hostile, Plan};
 use lsv_info::{Exit, Head, Info};
 use lsv_iolog::{IoLog, LogFault};
@@ -45,6 +46,16 @@ fn exit(alloc: Global, at: Point) -> Exit
     }
 }
 
+/// Makes a file of the log with these bytes, and syncs it.
+fn put(disk: &mut Hostile, number: LogNo, file: &File) -> Result<(), DiskFault>
+    requires { length file.now.bytes.items ≤ 2097152 }
+{
+    let f = FileId::new(Owner::Log(number.get()), file.part);
+    disk.create(f)?;
+    disk.write_at(f, 0, &file.bytes)?;
+    disk.sync(f)
+}
+
 /// Whether a step was done, or failed by the disk; any other fault is the script's.
 fn done(answer: Result<(), LogFault>) -> Result<bool> {
     match answer {
@@ -55,13 +66,26 @@ fn done(answer: Result<(), LogFault>) -> Result<bool> {
 }
 
 impl Play {
-    /// Nothing is played, on an empty disk that this befalls.
-    pub fn new(alloc: Global, plan: Plan) -> Result<Self, NoMem> {
-        Ok(Play {
+    /// Nothing is played, on a disk with the script's files, which this befalls behind their making.
+    pub fn new(alloc: Global, script: &Script, plan: Plan) -> Result<Self> {
+        let mut play = Play {
             alloc,
             disk: Hostile::new(alloc, plan)?,
             log: None,
-        })
+        };
+        for line in &script.files {
+            play.hold(line.as_str())?;
+        }
+        Ok(play)
+    }
+
+    /// Gives the disk the file of this line.
+    fn hold(&mut self, line: &str) -> Result<()> {
+        let file = file_of(self.alloc, line)?;
+        match put(&mut self.disk, number()?, &file) {
+            Ok(()) => Ok(()),
+            Err(DiskFault) => Err(anyhow!("a file that isn't there")),
+        }
     }
 
     /// Plays the steps, and says how many were done.

@@ -12,7 +12,11 @@ pub fn number() -> Result<LogNo> {
     LogNo::new(1296).ok_or(anyhow!("a number"))
 }
 
+/// Adds the bytes of a file, where it has some.
 fn add_text(alloc: Global, text: &mut String, name: &str, bytes: &Bytes) -> Result<()> {
+    if bytes.as_slice().is_empty() {
+        return Ok(());
+    }
     let digits = hex::encode(alloc, bytes.as_slice())?;
     text.push_str(format!(in alloc; " {name} {digits}")?.as_str())?;
     Ok(())

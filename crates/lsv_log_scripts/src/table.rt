@@ -9,8 +9,8 @@ use lsv_hostile_disk::{FILLS, Plan};
 use lsv_iolog::IoLog;
 use std::alloc::Global;
 
-/// So many calls of an opening are stopped behind.
-const REOPENING: u64 = 24;
+/// An opening is cut off behind each of fewer calls than these, and the last of these openings makes all of its calls.
+const REOPENING: u64 = 32;
 
 /// What was looked at.
 #[derive(Clone, Copy)]
@@ -32,7 +32,7 @@ struct Table<'s> {
 
 /// What is read of the log after each number of steps, of the disk as it is; it is the same of what a crash leaves.
 fn texts_of(alloc: Global, script: &Script) -> Result<Vec<String>> {
-    let mut play = Play::new(alloc, Plan::Whole)?;
+    let mut play = Play::new(alloc, script, Plan::Whole)?;
     let mut texts = Vec::new(alloc);
     texts.push(settled(alloc, &play)?)?;
     for line in &script.lines {
@@ -57,11 +57,26 @@ fn settled(alloc: Global, play: &Play) -> Result<String> {
     Ok(text)
 }
 
-/// How many calls are made where nothing fails, and how many lengths are asked for.
-fn calls_of(alloc: Global, script: &Script) -> Result<(u64, u64)> {
-    let mut play = Play::new(alloc, Plan::Whole)?;
+/// The calls of a script where nothing fails.
+#[derive(Clone, Copy)]
+struct Calls {
+    /// How many the files take that are there before.
+    before: u64,
+    /// How many there are with them.
+    all: u64,
+    /// How many lengths are asked for.
+    lengths: u64,
+}
+
+fn calls_of(alloc: Global, script: &Script) -> Result<Calls> {
+    let mut play = Play::new(alloc, script, Plan::Whole)?;
+    let before = play.disk.calls();
     play.play(script)?;
-    Ok((play.disk.calls(), play.disk.lengths()))
+    Ok(Calls {
+        before,
+        all: play.disk.calls(),
+        lengths: play.disk.lengths(),
+    })
 }
 
 impl<'s> Table<'s> {
@@ -87,7 +102,7 @@ impl<'s> Table<'s> {
 
     /// A play that this befalls. It gives what a crash leaves, in each fill, to be looked at.
     fn case(&mut self, rt: &HostRuntime, plan: Plan) -> Result<()> {
-        let mut play = Play::new(self.alloc, plan)?;
+        let mut play = Play::new(self.alloc, self.script, plan)?;
         let done = play.play(self.script)?;
         self.counts.plays = self.counts.plays.saturating_add(1);
         for fill in FILLS {
@@ -117,7 +132,7 @@ impl<'s> Table<'s> {
         Ok(())
     }
 
-    /// Opens what a crash leaves; the opening is cut off, and what a crash leaves then is as before.
+    /// Opens what a crash leaves; the opening is cut off, but for the last, and what a crash leaves then is as before.
     fn reopen(
         &mut self,
         rt: &HostRuntime,
@@ -128,6 +143,9 @@ impl<'s> Table<'s> {
     ) -> Result<()> {
         let mut image = play.disk.image(self.alloc, fill, stop)?;
         let opened = IoLog::open(self.alloc, &mut image, number()?).is_ok();
+        if image.was_cut() && stop == Plan::Stop(REOPENING - 1) {
+            self.breach(rt, stop, "an opening has more calls")?;
+        }
         if !image.was_cut() && !opened && !is_absent(self.alloc, before)? {
             self.breach(rt, stop, "it isn't opened")?;
         }
@@ -146,9 +164,10 @@ impl<'s> Table<'s> {
         Ok(())
     }
 
-    /// Each call fails, or is the last one.
-    fn all_calls(&mut self, rt: &HostRuntime, calls: u64) -> Result<()> {
-        for number in 1..=calls {
+    /// There is a crash before the first call of the steps; and each call fails, or is the last one.
+    fn all_calls(&mut self, rt: &HostRuntime, before: u64, all: u64) -> Result<()> {
+        self.case(rt, Plan::Stop(before))?;
+        for number in before.saturating_add(1)..=all {
             self.case(rt, Plan::Call(number))?;
             self.case(rt, Plan::Stop(number))?;
         }
@@ -159,6 +178,18 @@ impl<'s> Table<'s> {
     fn all_lengths(&mut self, rt: &HostRuntime, lengths: u64) -> Result<()> {
         for number in 1..=lengths {
             self.case(rt, Plan::Length(number))?;
+        }
+        Ok(())
+    }
+
+    /// Prints what is read where nothing fails: before the first step, and behind each that changes it.
+    fn print_texts(&self, rt: &HostRuntime) -> Result<()> {
+        let mut last = "";
+        for (done, text) in self.texts.iter().enumerate() {
+            if text.as_str() != last {
+                println!(rt; "{done}: {text}")?;
+            }
+            last = text.as_str();
         }
         Ok(())
     }
@@ -185,10 +216,10 @@ impl<'s> Table<'s> {
 /// Tries one script in each way.
 pub fn try_script(rt: &HostRuntime, script: &Script) -> Result<()> {
     let alloc = rt.alloc();
-    let (calls, lengths) = calls_of(alloc, script)?;
+    let calls = calls_of(alloc, script)?;
     let mut table = Table::new(alloc, script)?;
-    table.case(rt, Plan::Stop(0))?;
-    table.all_calls(rt, calls)?;
-    table.all_lengths(rt, lengths)?;
-    table.print(rt)
+    table.all_calls(rt, calls.before, calls.all)?;
+    table.all_lengths(rt, calls.lengths)?;
+    table.print(rt)?;
+    table.print_texts(rt)
 }
