@@ -5,7 +5,7 @@ use crate::script::Script;
 use crate::shown::{is_absent, number, shown};
 use anyhow::{Result, anyhow};
 use lsv_disk::Fill;
-use lsv_hostile_disk::{FILLS, Plan};
+use lsv_hostile_disk::{FILLS, Hostile, Plan};
 use lsv_iolog::IoLog;
 use std::alloc::Global;
 
@@ -132,7 +132,8 @@ impl<'s> Table<'s> {
         Ok(())
     }
 
-    /// Opens what a crash leaves; the opening is cut off, but for the last, and what a crash leaves then is as before.
+    /// Opens what a crash leaves; the opening is cut off, but for the last, and what a crash leaves then, in each fill, is
+    /// as before.
     fn reopen(
         &mut self,
         rt: &HostRuntime,
@@ -149,9 +150,24 @@ impl<'s> Table<'s> {
         if !image.was_cut() && !opened && !is_absent(self.alloc, before)? {
             self.breach(rt, stop, "it isn't opened")?;
         }
-        let mut left = image.image(self.alloc, fill, Plan::Whole)?;
-        let text = shown(self.alloc, &mut left)?;
         self.counts.reopenings = self.counts.reopenings.saturating_add(1);
+        for second in FILLS {
+            self.look_again(rt, &image, stop, second, before)?;
+        }
+        Ok(())
+    }
+
+    /// What a crash leaves of an opening, in this fill, is as before.
+    fn look_again(
+        &mut self,
+        rt: &HostRuntime,
+        opened: &Hostile,
+        stop: Plan,
+        fill: Fill,
+        before: &str,
+    ) -> Result<()> {
+        let mut left = opened.image(self.alloc, fill, Plan::Whole)?;
+        let text = shown(self.alloc, &mut left)?;
         if text.as_str() != before {
             self.breach(rt, stop, text.as_str())?;
         }
