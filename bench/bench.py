@@ -14,6 +14,7 @@ it is run in. The syncs of a log are counted by strace, where it is there.
 import os
 import resource
 import shutil
+import statistics
 import subprocess
 import sys
 import tempfile
@@ -23,6 +24,9 @@ LOADS = [(1_000_000, 10, 0.15), (100_000, 1_000, 1.0)]
 RUNS = 5
 LARGEST = 2_097_152
 BATCH = 100
+# logs of a run, and runs of each way, where their making is measured
+MADE = 40
+MAKINGS = 12
 CROWDS = [("empty entries", b"\x12\0"), ("entries of the number 0", b"\x12\x02\x10\0")]
 
 # Settings whose store stands where the program runs.
@@ -190,17 +194,36 @@ def measure_flushes(messages):
     print(f"flushes of 100 bytes on /dev/shm: {flushing / count / 1e3:.2f} us each (at most 3)")
 
 
+def making(messages, word):
+    """The microseconds of one log, of so many that are made in a new folder. The folder stays until all are measured: a mass
+    delete on a disk makes the next files slow."""
+    folder = tempfile.mkdtemp(dir=".")
+    child = subprocess.run([messages, word, str(MADE)], cwd=folder, capture_output=True, text=True)
+    if child.returncode != 0:
+        sys.exit(f"bench: {word} ended with status {child.returncode}")
+    return folder, int(child.stderr) / MADE / 1e3
+
+
 def measure_making(messages):
-    # a mass delete on a disk makes the next files slow, so what a run made stands until the last one is done
-    folders = [tempfile.mkdtemp(dir=".") for _ in range(RUNS)]
+    """Each way by itself, in runs that take turns: where one process makes a log each way in turn, ours are dearer by a tenth,
+    and no server does so. Between runs the disk gets a rest, since it may hold back who syncs some hundred times in a row."""
+    words = ("make", "make-first")
+    took, folders = {word: [] for word in words}, []
+    os.sync()
+    time.sleep(2)
     try:
-        runs = [told(folder, messages, "make", "200") for folder in folders]
+        for turn in range(MAKINGS):
+            for word in words if turn % 2 else reversed(words):
+                folder, each = making(messages, word)
+                folders.append(folder)
+                took[word].append(each)
+                time.sleep(0.4)
     finally:
         for folder in folders:
             shutil.rmtree(folder)
-    together, alone, count = min(r[0] for r in runs), min(r[1] for r in runs), runs[0][2]
-    print(f"making the nine files of a log and its first entry on disk: {together / count / 1e3:.0f} us, "
-          f"{together / alone:.2f} of the time that the first version's calls take, with 35 syncs (at most 0.33)")
+    ours, first = (statistics.median(took[word]) for word in words)
+    print(f"making the nine files of a log and its first entry on disk: {ours:.0f} us, "
+          f"{ours / first:.2f} of the time that the first version's calls take, with 35 syncs (at most 0.33)")
 
 
 def measure_appending(messages):

@@ -13,7 +13,7 @@ use lines::{cover_other_all, cover_output_all, json_lines_all, sudo_lines_all};
 use logs::{filled, opened, short_logs};
 use lsv_base::{Bytes, List};
 use lsv_record::{Record, Stream, lay, read_log};
-use makes::{files, makes};
+use makes::{files, makes, makes_one_by_one};
 use messages::{decode_large_all, decode_small_all, encode_all, lines_all, points_all};
 use std::alloc::Global;
 use std::env;
@@ -76,6 +76,7 @@ fn measured_often(rt: &HostRuntime, word: &str, times: u32) -> Option<u64> {
     match word {
         "flush" => flushes(*rt, times),
         "make" => makes(*rt, times),
+        "make-first" => makes_one_by_one(*rt, times),
         "files" => files(*rt, times),
         "fill" => filled(*rt, b"0123456789", times),
         "fill-large" => filled(*rt, &[b'x'; 1_000], times),

@@ -95,22 +95,31 @@ fn make_one_by_one(rt: &HostRuntime, kept: &mut Vec<File>, number: u32) -> io::R
     write_alone(kept, 0, 0, &[1])
 }
 
-/// Makes so many logs each way, in turn, in folders of their own in this one. Says on standard error how many
-/// nanoseconds each way took.
+/// Makes so many logs in a store in this folder. Says on standard error how many nanoseconds that took.
 pub fn makes(rt: HostRuntime, count: u32) -> Option<u64> {
     let mut disk = FileDisk::new(rt, "lsv_bench");
     disk.root("store", "store/events");
-    let mut kept = Vec::new(rt.alloc());
-    let (mut together, mut alone) = (0, 0);
+    let mut took = 0;
     for i in 0..count {
         let start = Instant::now(&rt).ok()?;
         make_together(rt.alloc(), &mut disk, 1 + i % 1_000_000).ok()?;
-        together = start.elapsed(&rt).ok()?.as_nanos().saturating_add(together);
+        took = start.elapsed(&rt).ok()?.as_nanos().saturating_add(took);
+    }
+    let _ = eprintln!(rt; "{took}");
+    Some(u64::from(count))
+}
+
+/// Makes so many as the first version did, in folders of their own in this one. Says on standard error how many
+/// nanoseconds that took.
+pub fn makes_one_by_one(rt: HostRuntime, count: u32) -> Option<u64> {
+    let mut kept = Vec::new(rt.alloc());
+    let mut took = 0;
+    for i in 0..count {
         let start = Instant::now(&rt).ok()?;
         make_one_by_one(&rt, &mut kept, i).ok()?;
-        alone = start.elapsed(&rt).ok()?.as_nanos().saturating_add(alone);
+        took = start.elapsed(&rt).ok()?.as_nanos().saturating_add(took);
     }
-    let _ = eprintln!(rt; "{together} {alone}");
+    let _ = eprintln!(rt; "{took}");
     Some(u64::from(count))
 }
 

@@ -108,6 +108,8 @@ impl Disk for FileDisk {
     ghost only_now = { λ told. absurd told };
 
     fn root(&mut self, dir: &str, events: &str) {
+        // An earlier store lets go of its lock, also where there is no other.
+        self.store = None;
         let program = self.program;
         if is_foreign(&self.rt, program, dir, events) {
             return;

@@ -24,7 +24,7 @@ mod unsynced;
 
 pub use clock::WallClock;
 pub use disk::FileDisk;
-pub use made::{Inode, Made, NewFile};
+pub use made::{InodeTable, Made, NewFile};
 pub use port::MioPort;
 pub use read_only::ReadOnlyDisk;
 pub use standard::open_standard;

@@ -1,7 +1,7 @@
 // Which of the files that are made together are synced, so that all of them are on the disk.
 ghost use Rattle.std.specs.Prelude.{◌≡◌, ◌≤◌, ◌<◌, ◌-◌, ◌||◌, [], ℕ, true, not, length, if◌then◌else◌, IfOk, OnOk, OnErr};
 ghost use Rattle.std.specs.List.Sorted.{IsPermutation};
-ghost use Rattle.lsv_real.specs.Made.{brings, block_of, in_block, syncs, with_synced};
+ghost use Rattle.lsv_real.specs.Made.{block_of, brings, brings_inode, in_block, syncs, with_synced};
 
 use lsv_disk::{FileId, Part};
 use std::alloc::{AllocError, Global};
@@ -14,37 +14,27 @@ const INODE: u64 = 256;
 /// where fewer inodes are taken for a block, files are synced that needn't be, and none is left out.
 const LONGEST: u64 = 4096;
 
-/// Where the inode of a file stands.
+/// The table of inodes of a file system, by the length of its blocks in bytes, as the system tells it.
 #[derive(Clone, Copy)]
-pub struct Inode {
-    /// Its number; the first one in the table has 1.
-    pub number: u64,
-    /// The bytes of a block of its file system.
+pub struct InodeTable {
     pub block_length: u64,
 }
 
-impl Inode {
-    /// The block of the table in which it stands.
-    fn block(self) -> u64
-        ensures { result ≡ block_of self }
+impl InodeTable {
+    /// The block in which the inode of this number stands; the first one has 1.
+    fn block_of(self, number: u64) -> u64
+        ensures { result ≡ block_of self.block_length number }
     {
-        self.index() / self.in_block()
+        number.saturating_sub(1) / self.in_block()
     }
 
-    /// How many inodes stand behind it in its block.
-    fn behind(self) -> usize {
+    /// How many inodes stand behind this one in its block.
+    fn behind(self, number: u64) -> usize {
         let count = self.in_block();
-        (count - 1 - self.index() % count) as usize
+        (count - 1 - number.saturating_sub(1) % count) as usize
     }
 
-    /// How many stand before it in the table.
-    fn index(self) -> u64
-        ensures { result ≡ self.number - 1 }
-    {
-        self.number.saturating_sub(1)
-    }
-
-    /// How many inodes a block has.
+    /// How many inodes a block is taken to have.
     fn in_block(self) -> u64
         ensures count { result ≡ in_block self.block_length }
         ensures some { 1 ≤ result }
@@ -53,11 +43,11 @@ impl Inode {
     }
 }
 
-/// A file that was just made, and where its inode stands.
+/// A file that was just made, and the number of its inode.
 #[derive(Clone, Copy)]
 pub struct NewFile {
     pub id: FileId,
-    pub inode: Inode,
+    pub inode: u64,
 }
 
 /// The files that are made together in one folder, and those of them that are to be synced. A file system without a
@@ -65,7 +55,8 @@ pub struct NewFile {
 /// the same block of the table. So the first file of each block is synced; the folder's own sync brings its block.
 #[derive(Drop)]
 pub struct Made {
-    folder: Inode,
+    table: InodeTable,
+    folder: u64,
     to_sync: Vec<NewFile>,
 }
 
@@ -74,15 +65,16 @@ impl Model for Made {
 
     ghost Value = { MadeView };
 
-    ghost view = { λ made. record { folder = made.folder; to_sync = made.to_sync.items } };
+    ghost view = { λ made. record { table = made.table; folder = made.folder; to_sync = made.to_sync.items } };
 }
 
 impl Made {
-    /// No file yet, in a folder of this inode.
-    pub fn new(alloc: Global, folder: Inode) -> Self
-        ensures { result ≡ record { folder = folder; to_sync = [] } }
+    /// No file yet, in a folder whose inode has this number.
+    pub fn new(alloc: Global, table: InodeTable, folder: u64) -> Self
+        ensures { result ≡ record { table = table; folder = folder; to_sync = [] } }
     {
         Made {
+            table,
             folder,
             to_sync: Vec::new(alloc),
         }
@@ -106,19 +98,19 @@ impl Made {
 
     /// Behind how many of so many files that of slots is made.
     fn place_of_slots(&self, count: usize) -> usize {
-        let beside = self.folder.behind();
+        let beside = self.table.behind(self.folder);
         if count <= beside { 0 } else { beside }
     }
 
-    /// Notes a file that was made, and maybe written to. It is to be synced where it was, and where no sync brings its
-    /// block yet. Where it fails nothing was noted.
+    /// Notes a file that was made. It is to be synced if it was written to, or if no sync brings its block yet. Where that
+    /// fails nothing was noted.
     pub fn note(&mut self, file: NewFile, is_written: bool) -> Result<(), AllocError>
-        ensures brought { OnOk result (brings self.new (block_of file.inode) ≡ true) }
-        ensures stays { (block : ℕ) → brings self.old block ≡ true → brings self.new block ≡ true }
-        ensures noted { OnOk result (self.new ≡ (if is_written || not (brings self.old (block_of file.inode)) then with_synced self.old file else self.old)) }
+        ensures brought { OnOk result (brings_inode self.new file.inode ≡ true) }
+        ensures stays { (inode : ℕ) → brings_inode self.old inode ≡ true → brings_inode self.new inode ≡ true }
+        ensures noted { OnOk result (self.new ≡ (if is_written || not (brings_inode self.old file.inode) then with_synced self.old file else self.old)) }
         ensures err { OnErr result (self.new ≡ self.old) }
     {
-        if is_written || !self.brings(file.inode.block()) {
+        if is_written || !self.brings(self.table.block_of(file.inode)) {
             self.to_sync.push(file)?;
         }
         Ok(())
@@ -128,17 +120,20 @@ impl Made {
     fn brings(&self, block: u64) -> bool
         ensures { result ≡ brings self.now block }
     {
-        self.folder.block() == block || self.syncs(block)
+        self.table.block_of(self.folder) == block || self.syncs(block)
     }
 
     /// Whether a file that is to be synced stands in a block.
     fn syncs(&self, block: u64) -> bool
         ensures { result ≡ syncs self.now block }
     {
-        self.to_sync.iter().any(|file| file.inode.block() == block)
+        let table = self.table;
+        self.to_sync
+            .iter()
+            .any(|file| table.block_of(file.inode) == block)
     }
 
-    /// The files to sync, each once.
+    /// The files to sync, in the order in which they were noted; each once where each was noted once.
     pub fn to_sync(&self) -> &[NewFile]
         ensures { result.now ≡ self.now.to_sync }
     {

@@ -113,6 +113,7 @@ impl Disk for ReadOnlyDisk {
     ghost only_now = { λ told. absurd told };
 
     fn root(&mut self, dir: &str, events: &str) {
+        self.store = None;
         let program = self.program;
         if let Ok(Some(Foreign::Logs)) = foreign_at(&self.rt, self.rt.alloc(), dir, events) {
             let _ = eprintln!(self.rt;

@@ -22,6 +22,17 @@ impl Span {
         }
     }
 
+    /// All bytes of a file.
+    pub fn whole() -> Self
+        ensures ordered { result.from ≤ result.to }
+    {
+        Span {
+            from: 0,
+            to: u64::MAX,
+            failed: false,
+        }
+    }
+
     /// Both, and what lies between.
     pub fn with(self, other: Span) -> Self
         ensures from { result.from ≡ min self.from other.from }

@@ -4,7 +4,7 @@ ghost use Rattle.std.specs.Prelude.{◌≤◌, IfOk, length};
 use crate::folders::Folders;
 use crate::handle::Handle;
 use crate::limit::SizeLimit;
-use crate::made::{Inode, Made, NewFile};
+use crate::made::{InodeTable, Made, NewFile};
 use crate::path::{Place, Places, joined, log_name};
 use crate::unsynced::Unsynced;
 use lru::LruCache;
@@ -169,7 +169,11 @@ impl Store {
         parts: &[Part],
         begins: bool,
     ) -> io::Result<Made> {
-        let mut made = Made::new(self.alloc, inode_of(&opened.metadata()?));
+        let metadata = opened.metadata()?;
+        let table = InodeTable {
+            block_length: metadata.blksize(),
+        };
+        let mut made = Made::new(self.alloc, table, metadata.ino());
         for part in made.in_order(self.alloc, parts)? {
             let file = self.make_one(folder, FileId::new(owner, part))?;
             let has_gate = begins && part == Part::Slots;
@@ -209,7 +213,7 @@ impl Store {
         let metadata = file.metadata()?;
         set_mode(&file, &metadata)?;
         self.keep(id, file, true)?;
-        let inode = inode_of(&metadata);
+        let inode = metadata.ino();
         Ok(NewFile { id, inode })
     }
 
@@ -272,7 +276,7 @@ impl Store {
     }
 
     /// Waits until what was written is on the disk. A file that wasn't made in this run may have been made by a
-    /// program that was killed, so its folder is synced with it, once.
+    /// program that was killed, so its folder is synced with it, and the names of that and those above, once.
     pub fn sync(&mut self, f: FileId) -> io::Result<()> {
         self.looked = None;
         match self.handle(f)? {
@@ -282,6 +286,7 @@ impl Store {
         }
         let folder = self.place_of(f)?.folder;
         self.folders.sync_once(folder.as_str())?;
+        self.folders.sync_names(folder.as_str())?;
         match self.handle(f)? {
             Some(handle) => {
                 handle.set_named(true);
@@ -386,14 +391,6 @@ fn make_file(rt: &HostRuntime, path: &str) -> io::Result<File> {
         .create_new(true)
         .mode(MODE)
         .open(rt, path)
-}
-
-/// Where the inode of a file stands.
-fn inode_of(file: &Metadata) -> Inode {
-    Inode {
-        number: file.ino(),
-        block_length: file.blksize(),
-    }
 }
 
 /// Gives a file that was just made its mode, where the system left it another: a umask takes bits away.

@@ -36,7 +36,7 @@ impl SyncedFile for File {
     }
 }
 
-/// Which bytes of a file were written since its last sync that succeeded.
+/// Which bytes of a file were written since its last sync that succeeded, or may be unsynced since one failed.
 #[derive(Clone, Copy)]
 pub struct Unsynced {
     span: Option<Span>,
@@ -48,7 +48,7 @@ impl Unsynced {
         Unsynced { span: None }
     }
 
-    /// Whether nothing was written since.
+    /// Whether nothing was written since, and no sync failed.
     pub fn is_empty(&self) -> bool {
         self.span.is_none()
     }
@@ -71,12 +71,21 @@ impl Unsynced {
                 Ok(())
             }
             Err(e) => {
-                if let Some(span) = &mut self.span {
-                    span.failed = true;
-                }
+                self.fail();
                 Err(e)
             }
         }
+    }
+
+    /// Remembers that a sync failed. Where nothing was written since the last one, what a program before left is unsynced,
+    /// and no more is known of it: then all of the file is.
+    fn fail(&mut self) {
+        let mut span = match self.span {
+            Some(span) => span,
+            None => Span::whole(),
+        };
+        span.failed = true;
+        self.span = Some(span);
     }
 }
 

@@ -1,6 +1,6 @@
 // Which of the files that are made together the real disk syncs, and in which order it makes them.
 use lsv_disk::{FileId, Owner, Part};
-use lsv_real::{Inode, Made, NewFile};
+use lsv_real::{InodeTable, Made, NewFile};
 use std::alloc::Global;
 use std::test::Fail;
 
@@ -22,13 +22,8 @@ fn file(part: Part) -> FileId {
     FileId::new(Owner::Log(1), part)
 }
 
-/// An inode of a file system with blocks of 4,096 bytes.
-fn inode(number: u64) -> Inode {
-    Inode {
-        number,
-        block_length: 4096,
-    }
-}
+/// The table of a file system with blocks of 4,096 bytes.
+const TABLE: InodeTable = InodeTable { block_length: 4096 };
 
 /// The files of a log that were made in a folder, with the numbers of their inodes.
 #[derive(Drop)]
@@ -40,17 +35,13 @@ struct Making {
 
 /// Makes the files in a folder of this inode with these, one after the other, and writes a gate.
 fn make(alloc: Global, folder: u64, numbers: &[u64], block_length: u64) -> Result<Making, Fail> {
-    let inode = |number| Inode {
-        number,
-        block_length,
-    };
-    let mut made = Made::new(alloc, inode(folder));
+    let mut made = Made::new(alloc, InodeTable { block_length }, folder);
     let order = made.in_order(alloc, &PARTS)?;
     let mut files = Vec::new(alloc);
     for (part, number) in order.iter().zip(numbers.iter()) {
         let new = NewFile {
             id: file(*part),
-            inode: inode(*number),
+            inode: *number,
         };
         made.note(new, *part == Part::Slots)?;
         files.push((*part, *number))?;
@@ -147,10 +138,10 @@ fn files_whose_inodes_are_scattered_are_brought_to_the_disk(rt: HostRuntime) -> 
 #[test]
 fn a_file_that_is_written_to_is_synced_once(rt: HostRuntime) -> Result<(), Fail> {
     for (number, is_written, want) in [(2, false, 0), (2, true, 1), (17, false, 1), (17, true, 1)] {
-        let mut made = Made::new(rt.alloc(), inode(1));
+        let mut made = Made::new(rt.alloc(), TABLE, 1);
         let new = NewFile {
             id: file(Part::Slots),
-            inode: inode(number),
+            inode: number,
         };
         made.note(new, is_written)?;
         assert_eq!(rt; made.to_sync().len(), want, "{number}");
@@ -179,7 +170,7 @@ fn slots_are_first_or_the_first_of_the_next_block(rt: HostRuntime) -> Result<(),
         (16, 0),
         (17, 0),
     ] {
-        let made = Made::new(rt.alloc(), inode(folder));
+        let made = Made::new(rt.alloc(), TABLE, folder);
         let order = made.in_order(rt.alloc(), &PARTS)?;
         assert!(rt; is_order(&PARTS, order.as_slice(), slots_at), "{folder}");
     }
@@ -189,7 +180,7 @@ fn slots_are_first_or_the_first_of_the_next_block(rt: HostRuntime) -> Result<(),
 #[test]
 fn files_without_slots_are_made_too(rt: HostRuntime) -> Result<(), Fail> {
     for folder in [1, 8, 16] {
-        let made = Made::new(rt.alloc(), inode(folder));
+        let made = Made::new(rt.alloc(), TABLE, folder);
         let lines = made.in_order(rt.alloc(), &[Part::Lines])?;
         assert_eq!(rt; lines.as_slice(), [Part::Lines].as_slice());
         let both = made.in_order(rt.alloc(), &[Part::Head, Part::Timing])?;

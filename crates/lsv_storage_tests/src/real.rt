@@ -145,6 +145,9 @@ fn a_store_has_one_server(rt: HostRuntime) -> Result<(), Fail> {
     let mut first = FileDisk::new(rt, "first");
     first.root(own.as_str(), "events");
     assert_eq!(rt; first.create(OUTPUT), Ok(()));
+    // A disk that is given its places again lets go of its own lock before.
+    first.root(own.as_str(), "events");
+    assert_eq!(rt; first.length(OUTPUT), Ok(Some(0)));
 
     let mut second = FileDisk::new(rt, "second");
     assert!(rt; second.length(OUTPUT).is_err());
@@ -156,6 +159,8 @@ fn a_store_has_one_server(rt: HostRuntime) -> Result<(), Fail> {
     drop(first);
     second.root(own.as_str(), "events");
     assert_eq!(rt; second.length(OUTPUT), Ok(Some(0)));
+    second.root("/dev/null/store", "events");
+    assert!(rt; second.length(OUTPUT).is_err());
     fs::remove_dir_all(&rt, own.as_str())?;
     Ok(())
 }
@@ -211,15 +216,16 @@ impl SyncedFile for Failing {
 }
 
 /// Whether three syncs in a row succeed of which the first ones fail, how many bytes were written again after each,
-/// and whether nothing is unsynced at last.
-fn syncs(fails: u32) -> ([(bool, usize); 3], bool) {
+/// and whether nothing is unsynced at last, where these many bytes were written at these offsets.
+fn syncs(fails: u32, writes: &[(u64, usize)]) -> ([(bool, usize); 3], bool) {
     let file = Failing {
         fails: Cell::new(fails),
         written: Cell::new(0),
     };
     let mut unsynced = Unsynced::new();
-    unsynced.note(1, 2);
-    unsynced.note(4, 9);
+    for (at, count) in writes {
+        unsynced.note(*at, *count);
+    }
     let mut seen = [(false, 0); 3];
     for told in &mut seen {
         let synced = unsynced.sync(&file).is_ok();
@@ -236,7 +242,21 @@ fn bytes_whose_sync_failed_are_written_again(rt: HostRuntime) -> Result<(), Fail
         (2, ([(false, 0), (false, 5), (true, 10)], true)),
         (3, ([(false, 0), (false, 5), (false, 10)], false)),
     ] {
-        assert_eq!(rt; syncs(fails), want, "{fails} faults");
+        assert_eq!(rt; syncs(fails, &[(1, 2), (4, 9)]), want, "{fails} faults");
+    }
+    Ok(())
+}
+
+#[test]
+fn a_file_that_a_program_before_left_unsynced_is_written_again(
+    rt: HostRuntime,
+) -> Result<(), Fail> {
+    for (fails, want) in [
+        (0, ([(true, 0), (true, 0), (true, 0)], true)),
+        (1, ([(false, 0), (true, 6), (true, 6)], true)),
+        (3, ([(false, 0), (false, 6), (false, 12)], false)),
+    ] {
+        assert_eq!(rt; syncs(fails, &[]), want, "{fails} faults");
     }
     Ok(())
 }
