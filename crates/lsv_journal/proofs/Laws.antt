@@ -8,7 +8,7 @@ use Rattle.lsv_disk.specs.View.{Image, DiskView, IsCrashImage, Elsewhere}
 use Rattle.lsv_disk.specs.Throughout.{Throughout}
 use Rattle.lsv_journal.specs.declared.journal.Journal.{Journal}
 use Rattle.lsv_journal.specs.Slots.{entry_of}
-use Rattle.lsv_journal.specs.Last.{old_file, last_gated, IsOwn, IsAbsent, LastAt, JournalHolds, MayBeMade}
+use Rattle.lsv_journal.specs.Last.{old_file, last_gated, IsOwn, IsAbsent, LastAt, JournalHolds, IsSomeCrashOf, MayBeMade}
 use Rattle.lsv_journal.specs.Represents.{Stands, IsPrepared, Represents}
 use Rattle.lsv_disk.proofs.Same.{same_is, same_itself}
 use Rattle.lsv_journal.proofs.Leaving.{leaves_still}
@@ -100,14 +100,27 @@ absent_may_be_made n f disk itself absent = may_be_made_by n f disk (absent disk
 abbrev pub AbsentOrEmpty : DiskView → Type 0
 AbsentOrEmpty disk = (g : FileId) (content : Option (List ℕ)) → disk.reads g ≡ None → disk.crash_states g content → (content ≡ None) ⊎ (content ≡ Some [])
 
+-- an old file that is absent or empty has no entry
+absent_or_empty_gated : (n : ℕ) (content : Option (List ℕ)) → (content ≡ None) ⊎ (content ≡ Some []) → last_gated n content ≡ None
+absent_or_empty_gated n content (inl none) = Words.absent_gated n content none
+absent_or_empty_gated n content (inr empty) = ap (last_gated n) empty ∙ Words.absent_gated n None refl
+
 -- a journal of which neither file is there may be made
 pub reads_absent_may_be_made : (n : ℕ) (f : FileId) (disk : DiskView) → AbsentOrEmpty disk → IsAbsent f disk.reads → MayBeMade n f disk
 reads_absent_may_be_made n f disk leaves absent = Words.may_be_made n f disk (Words.absent_entry n (disk.reads f) absent.0) old where
   old : (content : Option (List ℕ)) → disk.crash_states (old_file f) content → last_gated n content ≡ None
-  old content left = elim (leaves (old_file f) content absent.1 left) [
-    | inl none ↦ Words.absent_gated n content none
-    | inr empty ↦ ap (last_gated n) empty ∙ Words.absent_gated n None refl
-  ]
+  old content left = absent_or_empty_gated n content (leaves (old_file f) content absent.1 left)
+
+-- an image in which each of its files is absent or empty has no entry
+pub absent_or_empty_last : (n : ℕ) (f : FileId) (image : Image) → (image f ≡ None) ⊎ (image f ≡ Some []) → (image (old_file f) ≡ None) ⊎ (image (old_file f) ≡ Some []) → LastAt n f image ≡ None
+absent_or_empty_last n f image slots old = Words.last_old n f image (Making.short_file n (image f) slots) ∙ absent_or_empty_gated n (image (old_file f)) old
+
+-- a journal of which neither file was there has no entry in any crash image, where calls left what a crash could leave before
+pub still_absent_last : (n : ℕ) (f : FileId) (old new : DiskView) → AbsentOrEmpty old → IsAbsent f old.reads → ((image : Image) → IsCrashImage new image → new.crash_images_at new.moment image)
+    → Throughout (λ g. g ≡ f) (IsSomeCrashOf n f old) old new → (image : Image) → IsCrashImage new image → LastAt n f image ≡ None
+still_absent_last n f old new leaves absent is_now run image left =
+    let crash : IsSomeCrashOf n f old image = run.each new.moment image run.later (omega arith) (is_now image left) in
+    crash.2 ∙ absent_or_empty_last n f crash.0 (leaves f (crash.0 f) absent.0 (crash.1 f)) (leaves (old_file f) (crash.0 (old_file f)) absent.1 (crash.1 (old_file f)))
 
 -- a new file has no entry
 new_none : (n : ℕ) (f : FileId) (content : Option (List ℕ)) → IsNew f content → entry_of n (bytes_of content) ≡ None

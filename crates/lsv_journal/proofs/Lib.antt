@@ -6,5 +6,6 @@ pub mod Writing
 pub mod Leaving
 pub mod Appending
 pub mod Making
+pub mod Lengths
 pub mod Words
 pub mod Laws

@@ -83,3 +83,7 @@ SelectsSame n f was image = SelectsAsBefore n (bytes_of (was f)) (bytes_of (imag
 -- the file of slots ends at the end of the second slot at most, or where it ended in that image
 abbrev pub IsNoLonger : ℕ → FileId → Image → Image → Type 0
 IsNoLonger n f was image = StaysWithin n (bytes_of (was f)) (bytes_of (image f))
+
+-- the same against some crash image of that disk
+abbrev pub IsNoLongerThanSome : ℕ → FileId → DiskView → Image → Type 0
+IsNoLongerThanSome n f disk image = (was : Image) × IsCrashImage disk was × IsNoLonger n f was image

@@ -1,5 +1,5 @@
 -- What is read of an old file of gates at a time, and what a making leaves.
-use Rattle.std.specs.Prelude.{◌≡◌, ◌⊎◌, ℕ, ◌<◌, true, false, List, None}
+use Rattle.std.specs.Prelude.{◌≡◌, ◌⊎◌, ℕ, ◌<◌, ◌≤◌, max, true, false, List, length, None}
 use Rattle.lsv_disk.specs.declared.file.FileId.{FileId}
 use Rattle.lsv_disk.specs.Bytes.{bytes_of}
 use Rattle.lsv_disk.specs.View.{Image, DiskView}
@@ -16,3 +16,11 @@ pub record IsMore (n : ℕ) (bytes : List ℕ) (more : ℕ) : Type 0 where
 -- of an image that a making may leave: the file is as that disk could leave it, or has no entry
 abbrev pub IsEmptyOrAsBefore : ℕ → FileId → DiskView → Image → Type 0
 IsEmptyOrAsBefore n f disk image = disk.crash_states f (image f) ⊎ (entry_of n (bytes_of (image f)) ≡ None)
+
+-- it ends behind the gate at most, or where it ended before
+abbrev pub EndsAtGate : List ℕ → List ℕ → Type 0
+EndsAtGate old new = length new ≤ max 1 (length old)
+
+-- of an image that a making may leave: the file is as that disk could leave it, or ends behind its gate at most, or where it reads to
+abbrev pub IsShortOrAsBefore : FileId → DiskView → Image → Type 0
+IsShortOrAsBefore f disk image = disk.crash_states f (image f) ⊎ EndsAtGate (bytes_of (disk.reads f)) (bytes_of (image f))

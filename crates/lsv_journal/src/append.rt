@@ -4,7 +4,7 @@ ghost use Rattle.lsv_disk.specs.declared.file.FileId.{FileId};
 ghost use Rattle.lsv_disk.specs.Bytes.{bytes_of};
 ghost use Rattle.lsv_disk.specs.View.{IsSynced, HasCause};
 ghost use Rattle.lsv_disk.specs.Throughout.{Throughout, CallsAtMost};
-ghost use Rattle.lsv_journal.specs.Slots.{entry_of};
+ghost use Rattle.lsv_journal.specs.Slots.{entry_of, StaysWithin};
 ghost use Rattle.lsv_journal.specs.Represents.{free, free_slot, Stands, IsReady, IsPrepared, Keeps, LeavesEntry};
 ghost use Rattle.lsv_journal.specs.Writing.{Selects};
 
@@ -121,6 +121,7 @@ pub(crate) fn add_first<D: Disk>(disk: &mut D, f: FileId, body: &[u8]) -> Result
     ensures added { D.tells → OnOk result (Stands (length body.now) (bytes_of ((D.view disk.new).reads f)) (Some Slot.First) × (entry_of (length body.now) (bytes_of ((D.view disk.new).reads f)) ≡ Some body.now)) }
     ensures durable { D.tells → OnOk result (IsSynced (D.view disk.new) f) }
     ensures any_moment { D.tells → Throughout (λ g. g ≡ f) (λ image. (entry_of (length body.now) (bytes_of (image f)) ≡ None) ⊎ (entry_of (length body.now) (bytes_of (image f)) ≡ Some body.now)) (D.view disk.old) (D.view disk.new) }
+    ensures length { D.tells → Throughout (λ g. g ≡ f) (λ image. StaysWithin (length body.now) (bytes_of ((D.view disk.old).reads f)) (bytes_of (image f))) (D.view disk.old) (D.view disk.new) }
     ensures calls { D.tells → CallsAtMost 2 2 (λ g. g ≡ f) (D.view disk.old) (D.view disk.new) }
     ensures cause { HasCause f (IsErr result) (D.view disk.old) (D.view disk.new) }
 {

@@ -5,7 +5,7 @@ ghost use Rattle.lsv_disk.specs.View.{IsSynced, OneRead, HasCause};
 ghost use Rattle.lsv_disk.specs.Throughout.{Throughout, CallsAtMost};
 ghost use Rattle.lsv_journal.specs.Slots.{entry_of};
 ghost use Rattle.lsv_journal.specs.Represents.{Stands};
-ghost use Rattle.lsv_journal.specs.Reading.{IsEmptyOrAsBefore};
+ghost use Rattle.lsv_journal.specs.Reading.{IsEmptyOrAsBefore, EndsAtGate, IsShortOrAsBefore};
 
 use crate::slot::{CLOSED, OPEN};
 use lsv_disk::{Disk, DiskFault, FileId, write_synced};
@@ -28,6 +28,8 @@ fn make_new<D: Disk>(disk: &mut D, f: FileId) -> Result<(), DiskFault>
     ensures stands { D.tells → OnOk result ((n : ℕ) → Stands n (bytes_of ((D.view disk.new).reads f)) None) }
     ensures none { D.tells → (n : ℕ) → entry_of n (bytes_of ((D.view disk.new).reads f)) ≡ None }
     ensures any_moment { D.tells → (n : ℕ) → Throughout (λ g. g ≡ f) (IsEmptyOrAsBefore n f (D.view disk.old)) (D.view disk.old) (D.view disk.new) }
+    ensures length { D.tells → Throughout (λ g. g ≡ f) (IsShortOrAsBefore f (D.view disk.old)) (D.view disk.old) (D.view disk.new) }
+    ensures ends { D.tells → EndsAtGate (bytes_of ((D.view disk.old).reads f)) (bytes_of ((D.view disk.new).reads f)) }
     ensures calls { D.tells → CallsAtMost 1 1 (λ g. g ≡ f) (D.view disk.old) (D.view disk.new) }
     ensures cause { HasCause f (IsErr result) (D.view disk.old) (D.view disk.new) }
 {
@@ -43,6 +45,8 @@ pub(crate) fn close_gate<D: Disk>(disk: &mut D, f: FileId) -> Result<(), DiskFau
     ensures stands { D.tells → OnOk result ((n : ℕ) → entry_of n (bytes_of ((D.view disk.old).reads f)) ≡ None → Stands n (bytes_of ((D.view disk.new).reads f)) None) }
     ensures none { D.tells → (n : ℕ) → entry_of n (bytes_of ((D.view disk.old).reads f)) ≡ None → entry_of n (bytes_of ((D.view disk.new).reads f)) ≡ None }
     ensures any_moment { D.tells → (n : ℕ) → entry_of n (bytes_of ((D.view disk.old).reads f)) ≡ None → Throughout (λ g. g ≡ f) (IsEmptyOrAsBefore n f (D.view disk.old)) (D.view disk.old) (D.view disk.new) }
+    ensures length { D.tells → Throughout (λ g. g ≡ f) (IsShortOrAsBefore f (D.view disk.old)) (D.view disk.old) (D.view disk.new) }
+    ensures ends { D.tells → EndsAtGate (bytes_of ((D.view disk.old).reads f)) (bytes_of ((D.view disk.new).reads f)) }
     ensures calls { D.tells → CallsAtMost 1 1 (λ g. g ≡ f) (D.view disk.old) (D.view disk.new) }
     ensures cause { HasCause f (IsErr result) (D.view disk.old) (D.view disk.new) }
 {
@@ -59,6 +63,8 @@ fn make_again<D: Disk>(disk: &mut D, f: FileId) -> Result<(), DiskFault>
     ensures stands { D.tells → OnOk result ((n : ℕ) → entry_of n (bytes_of ((D.view disk.old).reads f)) ≡ None → Stands n (bytes_of ((D.view disk.new).reads f)) None) }
     ensures none { D.tells → (n : ℕ) → entry_of n (bytes_of ((D.view disk.old).reads f)) ≡ None → entry_of n (bytes_of ((D.view disk.new).reads f)) ≡ None }
     ensures any_moment { D.tells → (n : ℕ) → entry_of n (bytes_of ((D.view disk.old).reads f)) ≡ None → Throughout (λ g. g ≡ f) (IsEmptyOrAsBefore n f (D.view disk.old)) (D.view disk.old) (D.view disk.new) }
+    ensures length { D.tells → Throughout (λ g. g ≡ f) (IsShortOrAsBefore f (D.view disk.old)) (D.view disk.old) (D.view disk.new) }
+    ensures ends { D.tells → EndsAtGate (bytes_of ((D.view disk.old).reads f)) (bytes_of ((D.view disk.new).reads f)) }
     ensures calls { D.tells → CallsAtMost 1 2 (λ g. g ≡ f) (D.view disk.old) (D.view disk.new) }
     ensures cause { HasCause f (IsErr result) (D.view disk.old) (D.view disk.new) }
 {
@@ -73,6 +79,8 @@ pub(crate) fn make<D: Disk>(disk: &mut D, f: FileId) -> Result<(), DiskFault>
     ensures stands { D.tells → OnOk result ((n : ℕ) → entry_of n (bytes_of ((D.view disk.old).reads f)) ≡ None → Stands n (bytes_of ((D.view disk.new).reads f)) None) }
     ensures none { D.tells → (n : ℕ) → entry_of n (bytes_of ((D.view disk.old).reads f)) ≡ None → entry_of n (bytes_of ((D.view disk.new).reads f)) ≡ None }
     ensures any_moment { D.tells → (n : ℕ) → entry_of n (bytes_of ((D.view disk.old).reads f)) ≡ None → Throughout (λ g. g ≡ f) (IsEmptyOrAsBefore n f (D.view disk.old)) (D.view disk.old) (D.view disk.new) }
+    ensures length { D.tells → Throughout (λ g. g ≡ f) (IsShortOrAsBefore f (D.view disk.old)) (D.view disk.old) (D.view disk.new) }
+    ensures ends { D.tells → EndsAtGate (bytes_of ((D.view disk.old).reads f)) (bytes_of ((D.view disk.new).reads f)) }
     ensures calls { D.tells → CallsAtMost 1 2 (λ g. g ≡ f) (D.view disk.old) (D.view disk.new) }
     ensures cause { HasCause f (IsErr result) (D.view disk.old) (D.view disk.new) }
 {

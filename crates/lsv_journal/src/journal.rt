@@ -29,13 +29,13 @@ impl<const N: usize> Journal<N> {
     ghost use Rattle.lsv_disk.specs.declared.file.Part.{Part};
     ghost use Rattle.lsv_disk.specs.View.{HasCause, Image, IsCrashImage, IsSynced, HasOwnCause};
     ghost use Rattle.lsv_disk.specs.Throughout.{Throughout, Unchanged, OnlyReads, CallsAtMost};
-    ghost use Rattle.lsv_journal.specs.Last.{IsOwn, IsAbsent, LastAt, JournalHolds, IsBeforeOrAfter, SameJournal, IsSomeCrashOf, OpeningCalls, MayBeMade, KeepsSelected, SelectsSame, IsNoLonger};
+    ghost use Rattle.lsv_journal.specs.Last.{IsOwn, IsAbsent, LastAt, JournalHolds, IsBeforeOrAfter, SameJournal, IsSomeCrashOf, OpeningCalls, MayBeMade, KeepsSelected, SelectsSame, IsNoLonger, IsNoLongerThanSome};
     ghost use Rattle.lsv_journal.specs.Value.{file, last, written, prepared, is_broken, KeptAtError};
     ghost use Rattle.lsv_journal.specs.Represents.{Represents};
 
     /// Makes a journal without an entry, at a file that is absent or has no entry: what a making that a crash or a
-    /// fault ended has left is made again. `Disk` only where a device call on its files failed; then too it has no
-    /// entry.
+    /// fault ended has left is made again. `Disk` only where a device call on its file of slots failed; then too it has
+    /// no entry. The file ends then at the end of the second slot at most, or where it ended before.
     pub fn create<D: Disk>(disk: &mut D, f: FileId) -> Result<Journal<N>, JournalFault>
         requires size { (0 < N) × (N ≤ 120) }
         requires slots { f.part ≡ Part.Slots }
@@ -47,9 +47,12 @@ impl<const N: usize> Journal<N> {
         ensures represents { D.tells → IfOk result (λ j. Represents j (D.view disk.new)) }
         ensures again { D.tells → MayBeMade N f (D.view disk.new) }
         ensures any_moment { D.tells → Throughout (λ g. g ≡ f) (λ image. IsSomeCrashOf N f (D.view disk.old) image ⊎ JournalHolds N f None image) (D.view disk.old) (D.view disk.new) }
+        ensures length { D.tells → Throughout (λ g. g ≡ f) (IsNoLongerThanSome N f (D.view disk.old)) (D.view disk.old) (D.view disk.new) }
+        ensures ends { D.tells → IsNoLonger N f (D.view disk.old).reads (D.view disk.new).reads }
         ensures calls { D.tells → CallsAtMost 1 2 (λ g. g ≡ f) (D.view disk.old) (D.view disk.new) }
         ensures fault { IfErr result (λ e. e ≡ JournalFault.Disk) }
         ensures cause { HasOwnCause (IsOwn f) (IsErr result) (D.view disk.old) (D.view disk.new) }
+        ensures blame { HasCause f (IsErr result) (D.view disk.old) (D.view disk.new) }
     {
         make(disk, f)?;
         Ok(Journal::without_entry(f))
@@ -70,9 +73,12 @@ impl<const N: usize> Journal<N> {
         ensures represents { D.tells → IfOk result (λ j. Represents j (D.view disk.new)) }
         ensures again { D.tells → MayBeMade N f (D.view disk.new) }
         ensures any_moment { D.tells → Throughout (λ g. g ≡ f) (λ image. IsSomeCrashOf N f (D.view disk.old) image ⊎ JournalHolds N f None image) (D.view disk.old) (D.view disk.new) }
+        ensures length { D.tells → Throughout (λ g. g ≡ f) (IsNoLongerThanSome N f (D.view disk.old)) (D.view disk.old) (D.view disk.new) }
+        ensures ends { D.tells → IsNoLonger N f (D.view disk.old).reads (D.view disk.new).reads }
         ensures calls { D.tells → CallsAtMost 1 1 (λ g. g ≡ f) (D.view disk.old) (D.view disk.new) }
         ensures fault { IfErr result (λ e. e ≡ JournalFault.Disk) }
         ensures cause { HasOwnCause (IsOwn f) (IsErr result) (D.view disk.old) (D.view disk.new) }
+        ensures blame { HasCause f (IsErr result) (D.view disk.old) (D.view disk.new) }
     {
         close_gate(disk, f)?;
         Ok(Journal::without_entry(f))
@@ -94,7 +100,8 @@ impl<const N: usize> Journal<N> {
 
     /// Syncs both files, and reads the last entry: a crash leaves that one. None exactly where both are absent. Where
     /// the slots have no entry their file is made again, and the last body of the old file is taken over into it;
-    /// the old file is never written. `Disk` only where a device call on its files failed.
+    /// the old file is never written. The file of slots ends then at the end of the second slot at most, or where it
+    /// ended before. `Disk` only where a device call on its files failed.
     pub fn open<D: Disk>(disk: &mut D, f: FileId) -> Result<Option<Journal<N>>, JournalFault>
         requires size { (0 < N) × (N ≤ 120) }
         requires slots { f.part ≡ Part.Slots }
@@ -109,6 +116,8 @@ impl<const N: usize> Journal<N> {
         ensures absent_may_be_made { D.tells → IfOk result (λ o. o ≡ None → MayBeMade N f (D.view disk.new)) }
         ensures reads { D.tells → SameJournal N f (D.view disk.old).reads (D.view disk.new).reads }
         ensures any_moment { D.tells → Throughout (λ g. g ≡ f) (IsSomeCrashOf N f (D.view disk.old)) (D.view disk.old) (D.view disk.new) }
+        ensures length { D.tells → Throughout (λ g. g ≡ f) (IsNoLongerThanSome N f (D.view disk.old)) (D.view disk.old) (D.view disk.new) }
+        ensures ends { D.tells → IsNoLonger N f (D.view disk.old).reads (D.view disk.new).reads }
         ensures calls { D.tells → OpeningCalls N f (IsOwn f) (D.view disk.old) (D.view disk.new) }
         ensures fault { IfErr result (λ e. e ≡ JournalFault.Disk) }
         ensures cause { HasOwnCause (IsOwn f) (IsErr result) (D.view disk.old) (D.view disk.new) }

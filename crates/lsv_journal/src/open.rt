@@ -5,7 +5,7 @@ ghost use Rattle.lsv_disk.specs.Bytes.{bytes_of};
 ghost use Rattle.lsv_disk.specs.View.{IsSynced, HasOwnCause, HasCause};
 ghost use Rattle.lsv_disk.specs.Throughout.{Throughout, Unchanged, OnlyReads, CallsAtMost};
 ghost use Rattle.lsv_journal.specs.Slots.{entry_of};
-ghost use Rattle.lsv_journal.specs.Last.{IsOwn, IsAbsent, LastAt, JournalHolds, HasSlotsEntry, old_file};
+ghost use Rattle.lsv_journal.specs.Last.{IsOwn, IsAbsent, LastAt, JournalHolds, HasSlotsEntry, IsNoLonger, old_file};
 ghost use Rattle.lsv_journal.specs.Represents.{Stands};
 ghost use Rattle.lsv_journal.specs.Writing.{IsFound};
 
@@ -90,6 +90,7 @@ fn take_over<D: Disk, const N: usize>(disk: &mut D, f: FileId) -> Result<Found<N
     ensures stands { D.tells → IfOk result (λ found. Stands N (bytes_of ((D.view disk.new).reads f)) found.selected) }
     ensures durable { D.tells → OnOk result (IsSynced (D.view disk.new) f) }
     ensures any_moment { D.tells → Throughout (λ g. g ≡ f) (JournalHolds N f (LastAt N f (D.view disk.old).reads)) (D.view disk.old) (D.view disk.new) }
+    ensures length { D.tells → Throughout (λ g. g ≡ f) (IsNoLonger N f (D.view disk.old).reads) (D.view disk.old) (D.view disk.new) }
     ensures calls { D.tells → CallsAtMost 3 4 (λ g. g ≡ f) (D.view disk.old) (D.view disk.new) }
     ensures cause { HasOwnCause (IsOwn f) (IsErr result) (D.view disk.old) (D.view disk.new) }
 {
@@ -122,6 +123,7 @@ pub(crate) fn settle<D: Disk, const N: usize>(
     ensures stands { D.tells → IfOk result (λ found. Stands N (bytes_of ((D.view disk.new).reads f)) found.selected) }
     ensures durable { D.tells → OnOk result (IsSynced (D.view disk.new) f) }
     ensures any_moment { D.tells → Throughout (λ g. g ≡ f) (JournalHolds N f (LastAt N f (D.view disk.old).reads)) (D.view disk.old) (D.view disk.new) }
+    ensures length { D.tells → Throughout (λ g. g ≡ f) (IsNoLonger N f (D.view disk.old).reads) (D.view disk.old) (D.view disk.new) }
     ensures calls { D.tells → CallsAtMost 3 4 (λ g. g ≡ f) (D.view disk.old) (D.view disk.new) }
     ensures unwritten { D.tells → HasSlotsEntry N f (D.view disk.old).reads → (g : FileId) → (D.view disk.new).writes g ≡ (D.view disk.old).writes g }
     ensures cause { HasOwnCause (IsOwn f) (IsErr result) (D.view disk.old) (D.view disk.new) }

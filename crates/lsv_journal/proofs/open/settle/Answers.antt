@@ -1,5 +1,6 @@
 use Rattle.std.proofs.Common.{refl, sym, ◌∙◌}
 use Rattle.lsv_journal.proofs.Words.{rose_at, own_itself, last_found, if_ok_weaker, reads_hold, settled_run, unchanged_last, slots_entry, none_found}
+use Rattle.lsv_journal.proofs.Lengths.{reads_length, settled_length}
 use Rattle.lsv_journal.proofs.open.settle.Goals as goal
 
 pub returns-in_err-found-clause-any_moment : goal.returns-in_err-found-clause-any_moment
@@ -34,3 +35,13 @@ pub returns-clause-unwritten : goal.returns-clause-unwritten
 returns-clause-unwritten g c told has f =
     absurd (slots_entry g.row.N c.args.f ((g.D.Disk.view c.args.disk.now).reads) has
     (sym (c.in_ok-found.ensures.last told) ∙ none_found c.in_ok-found.found.last (sym c.is_some.ensures ∙ c.if-is_some.false)))
+
+pub returns-in_err-found-clause-length : goal.returns-in_err-found-clause-length
+returns-in_err-found-clause-length g c told = reads_length g.row.N c.args.f (g.D.Disk.view c.args.disk.now) (c.requires.synced_before told) (g.D.Disk.view c.find.new.disk) (c.find.ensures.reads told).unchanged
+
+pub returns-then-is_some-clause-length : goal.returns-then-is_some-clause-length
+returns-then-is_some-clause-length g c told = reads_length g.row.N c.args.f (g.D.Disk.view c.args.disk.now) (c.requires.synced_before told) (g.D.Disk.view c.find.new.disk) (c.find.ensures.reads told).unchanged
+
+pub returns-clause-length : goal.returns-clause-length
+returns-clause-length g c told =
+    settled_length g.row.N c.args.f (g.D.Disk.view c.args.disk.now) (c.requires.synced_before told) (g.D.Disk.view c.find.new.disk) (g.D.Disk.view c.take_over.new.disk) (c.find.ensures.reads told).unchanged (c.take_over.ensures.length told)

@@ -5,6 +5,7 @@ use Rattle.lsv_disk.proofs.Composition.{cause_second, unchanged_reads}
 use Rattle.lsv_journal.specs.Slots.{entry_of}
 use Rattle.lsv_journal.specs.Last.{IsOwn, last_gated}
 use Rattle.lsv_journal.proofs.Words.{rose_at, own_itself, own_by, last_old, reads_hold, make_holds, add_holds}
+use Rattle.lsv_journal.proofs.Lengths.{reads_length, made_length, added_length}
 use Rattle.lsv_journal.proofs.open.take_over.Goals as goal
 
 pub returns-in_err-last-clause-any_moment : goal.returns-in_err-last-clause-any_moment
@@ -87,3 +88,32 @@ returns-clause-any_moment g c told =
     add_holds g.row.N c.args.f old c.requires.slots (c.requires.synced_before told) (c.requires.old_synced told) (c.requires.none told) (length c.in-Some.body) c.in-Some.body made (g.D.Disk.view c.add_first.new.disk) long body
     (make_holds g.row.N c.args.f old c.requires.slots (c.requires.synced_before told) (c.requires.old_synced told) (c.requires.none told) mid made unchanged (c.make.ensures.any_moment told g.row.N none))
     (c.add_first.ensures.any_moment told)
+
+pub returns-in_err-last-clause-length : goal.returns-in_err-last-clause-length
+returns-in_err-last-clause-length g c told = reads_length g.row.N c.args.f (g.D.Disk.view c.args.disk.now) (c.requires.synced_before told) (g.D.Disk.view c.last_gated.new.disk) (c.last_gated.ensures.reads told).unchanged
+
+pub returns-in_err-make-clause-length : goal.returns-in_err-make-clause-length
+returns-in_err-make-clause-length g c told =
+    made_length g.row.N c.args.f (g.D.Disk.view c.args.disk.now) (c.requires.synced_before told) (g.D.Disk.view c.last_gated.new.disk) (g.D.Disk.view c.make.new.disk) (c.last_gated.ensures.reads told).unchanged (c.make.ensures.length told)
+
+pub returns-in_default-clause-length : goal.returns-in_default-clause-length
+returns-in_default-clause-length g c told =
+    made_length g.row.N c.args.f (g.D.Disk.view c.args.disk.now) (c.requires.synced_before told) (g.D.Disk.view c.last_gated.new.disk) (g.D.Disk.view c.make.new.disk) (c.last_gated.ensures.reads told).unchanged (c.make.ensures.length told)
+
+pub returns-in_err-add_first-clause-length : goal.returns-in_err-add_first-clause-length
+returns-in_err-add_first-clause-length g c told =
+    let long : length c.in-Some.body ≡ g.row.N = search rules in
+    let old = g.D.Disk.view c.args.disk.now in
+    let made = g.D.Disk.view c.make.new.disk in
+    added_length g.row.N c.args.f old (length c.in-Some.body) made (g.D.Disk.view c.add_first.new.disk) long (g.met.D.Disk.reads_itself told c.make.new.disk) (g.met.D.Disk.is_now told c.make.new.disk)
+    (made_length g.row.N c.args.f old (c.requires.synced_before told) (g.D.Disk.view c.last_gated.new.disk) made (c.last_gated.ensures.reads told).unchanged (c.make.ensures.length told))
+    (c.add_first.ensures.length told)
+
+pub returns-clause-length : goal.returns-clause-length
+returns-clause-length g c told =
+    let long : length c.in-Some.body ≡ g.row.N = search rules in
+    let old = g.D.Disk.view c.args.disk.now in
+    let made = g.D.Disk.view c.make.new.disk in
+    added_length g.row.N c.args.f old (length c.in-Some.body) made (g.D.Disk.view c.add_first.new.disk) long (g.met.D.Disk.reads_itself told c.make.new.disk) (g.met.D.Disk.is_now told c.make.new.disk)
+    (made_length g.row.N c.args.f old (c.requires.synced_before told) (g.D.Disk.view c.last_gated.new.disk) made (c.last_gated.ensures.reads told).unchanged (c.make.ensures.length told))
+    (c.add_first.ensures.length told)

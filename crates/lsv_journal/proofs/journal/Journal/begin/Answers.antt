@@ -3,6 +3,8 @@ use Rattle.lsv_journal.specs.declared.journal.Journal.{Journal}
 use Rattle.lsv_journal.specs.Represents.{Represents}
 use Rattle.lsv_journal.proofs.Leaving.{synced_leaves}
 use Rattle.lsv_journal.proofs.Words.{made_slots, made_old, may_be_made, made_run, no_old_stays, old_other, rose_at, own_itself}
+use Rattle.lsv_disk.specs.Bytes.{bytes_of}
+use Rattle.lsv_journal.proofs.Lengths.{making_length, ends_within}
 use Rattle.lsv_journal.proofs.journal.Journal.begin.Goals as goal
 
 pub returns-in_err-close_gate-clause-again : goal.returns-in_err-close_gate-clause-again
@@ -52,3 +54,17 @@ returns-clause-any_moment g c told =
     let old = g.D.Disk.view c.args.disk.now in
     let none = made_slots g.row.N c.args.f old (c.requires.may_be_made told) in
     made_run g.row.N c.args.f old (g.D.Disk.view c.close_gate.new.disk) c.requires.slots (made_old g.row.N c.args.f old (c.requires.may_be_made told)) (c.close_gate.ensures.any_moment told g.row.N none)
+
+pub returns-in_err-close_gate-clause-length : goal.returns-in_err-close_gate-clause-length
+returns-in_err-close_gate-clause-length g c told =
+    making_length g.row.N c.args.f (g.D.Disk.view c.args.disk.now) (g.D.Disk.view c.close_gate.new.disk) (g.met.D.Disk.reads_itself told c.args.disk.now) (c.close_gate.ensures.length told)
+
+pub returns-in_err-close_gate-clause-ends : goal.returns-in_err-close_gate-clause-ends
+returns-in_err-close_gate-clause-ends g c told = ends_within g.row.N (bytes_of ((g.D.Disk.view c.args.disk.now).reads c.args.f)) (bytes_of ((g.D.Disk.view c.close_gate.new.disk).reads c.args.f)) (c.close_gate.ensures.ends told)
+
+pub returns-clause-length : goal.returns-clause-length
+returns-clause-length g c told =
+    making_length g.row.N c.args.f (g.D.Disk.view c.args.disk.now) (g.D.Disk.view c.close_gate.new.disk) (g.met.D.Disk.reads_itself told c.args.disk.now) (c.close_gate.ensures.length told)
+
+pub returns-clause-ends : goal.returns-clause-ends
+returns-clause-ends g c told = ends_within g.row.N (bytes_of ((g.D.Disk.view c.args.disk.now).reads c.args.f)) (bytes_of ((g.D.Disk.view c.close_gate.new.disk).reads c.args.f)) (c.close_gate.ensures.ends told)

@@ -4,6 +4,7 @@ use Rattle.lsv_journal.specs.Last.{old_file, IsAbsent}
 use Rattle.lsv_journal.proofs.Leaving.{synced_leaves}
 use Rattle.lsv_journal.proofs.Laws.{reads_absent_may_be_made}
 use Rattle.lsv_journal.proofs.Words.{unchanged_crashes, unchanged_last, opening_run, opened_same, opened_no_old, opening_calls, opening_unwritten, syncing_calls, entry_stays, may_be_made}
+use Rattle.lsv_journal.proofs.Lengths.{opening_unchanged, same_length, opening_length, opening_ends}
 use Rattle.lsv_journal.proofs.journal.Journal.open.Goals as goal
 
 pub returns-in_err-is_absent-clause-any_moment : goal.returns-in_err-is_absent-clause-any_moment
@@ -144,3 +145,63 @@ returns-in_err-sync_both-clause-calls g c told = record {
       opening_unwritten c.args.f (g.D.Disk.view c.args.disk.now) (g.D.Disk.view c.is_absent.new.disk) new new
       (c.is_absent.ensures.reads told).counts (c.sync_both.ensures.calls told c.requires.slots) f refl;
 }
+
+pub returns-in_err-is_absent-clause-length : goal.returns-in_err-is_absent-clause-length
+returns-in_err-is_absent-clause-length g c told = opening_unchanged g.row.N c.args.f (g.D.Disk.view c.args.disk.now) (g.D.Disk.view c.is_absent.new.disk) (c.is_absent.ensures.reads told).unchanged
+
+pub returns-in_err-is_absent-clause-ends : goal.returns-in_err-is_absent-clause-ends
+returns-in_err-is_absent-clause-ends g c told =
+    let old = g.D.Disk.view c.args.disk.now in
+    let new = g.D.Disk.view c.is_absent.new.disk in
+    same_length g.row.N c.args.f old new.reads (unchanged_reads old new (c.is_absent.ensures.reads told).unchanged c.args.f)
+
+pub returns-then-branch-clause-length : goal.returns-then-branch-clause-length
+returns-then-branch-clause-length g c told = opening_unchanged g.row.N c.args.f (g.D.Disk.view c.args.disk.now) (g.D.Disk.view c.is_absent.new.disk) (c.is_absent.ensures.reads told).unchanged
+
+pub returns-then-branch-clause-ends : goal.returns-then-branch-clause-ends
+returns-then-branch-clause-ends g c told =
+    let old = g.D.Disk.view c.args.disk.now in
+    let new = g.D.Disk.view c.is_absent.new.disk in
+    same_length g.row.N c.args.f old new.reads (unchanged_reads old new (c.is_absent.ensures.reads told).unchanged c.args.f)
+
+pub returns-in_err-sync_both-clause-length : goal.returns-in_err-sync_both-clause-length
+returns-in_err-sync_both-clause-length g c told =
+    let old = g.D.Disk.view c.args.disk.now in
+    let mid = g.D.Disk.view c.sync_both.new.disk in
+    let unchanged = unchanged_trans old (g.D.Disk.view c.is_absent.new.disk) mid (c.is_absent.ensures.reads told).unchanged (c.sync_both.ensures.unchanged told) in
+    opening_unchanged g.row.N c.args.f old mid unchanged
+
+pub returns-in_err-sync_both-clause-ends : goal.returns-in_err-sync_both-clause-ends
+returns-in_err-sync_both-clause-ends g c told =
+    let old = g.D.Disk.view c.args.disk.now in
+    let mid = g.D.Disk.view c.sync_both.new.disk in
+    let unchanged = unchanged_trans old (g.D.Disk.view c.is_absent.new.disk) mid (c.is_absent.ensures.reads told).unchanged (c.sync_both.ensures.unchanged told) in
+    same_length g.row.N c.args.f old mid.reads (unchanged_reads old mid unchanged c.args.f)
+
+pub returns-in_err-found-clause-length : goal.returns-in_err-found-clause-length
+returns-in_err-found-clause-length g c told =
+    let old = g.D.Disk.view c.args.disk.now in
+    let mid = g.D.Disk.view c.sync_both.new.disk in
+    let unchanged = unchanged_trans old (g.D.Disk.view c.is_absent.new.disk) mid (c.is_absent.ensures.reads told).unchanged (c.sync_both.ensures.unchanged told) in
+    opening_length g.row.N c.args.f old mid (g.D.Disk.view c.settle.new.disk) unchanged (c.settle.ensures.length told) (g.met.D.Disk.reads_itself told c.args.disk.now)
+
+pub returns-in_err-found-clause-ends : goal.returns-in_err-found-clause-ends
+returns-in_err-found-clause-ends g c told =
+    let old = g.D.Disk.view c.args.disk.now in
+    let mid = g.D.Disk.view c.sync_both.new.disk in
+    let unchanged = unchanged_trans old (g.D.Disk.view c.is_absent.new.disk) mid (c.is_absent.ensures.reads told).unchanged (c.sync_both.ensures.unchanged told) in
+    opening_ends g.row.N c.args.f old mid (g.D.Disk.view c.settle.new.disk) unchanged (c.settle.ensures.length told) (g.met.D.Disk.reads_itself told c.settle.new.disk) (g.met.D.Disk.is_now told c.settle.new.disk)
+
+pub returns-clause-length : goal.returns-clause-length
+returns-clause-length g c told =
+    let old = g.D.Disk.view c.args.disk.now in
+    let mid = g.D.Disk.view c.sync_both.new.disk in
+    let unchanged = unchanged_trans old (g.D.Disk.view c.is_absent.new.disk) mid (c.is_absent.ensures.reads told).unchanged (c.sync_both.ensures.unchanged told) in
+    opening_length g.row.N c.args.f old mid (g.D.Disk.view c.settle.new.disk) unchanged (c.settle.ensures.length told) (g.met.D.Disk.reads_itself told c.args.disk.now)
+
+pub returns-clause-ends : goal.returns-clause-ends
+returns-clause-ends g c told =
+    let old = g.D.Disk.view c.args.disk.now in
+    let mid = g.D.Disk.view c.sync_both.new.disk in
+    let unchanged = unchanged_trans old (g.D.Disk.view c.is_absent.new.disk) mid (c.is_absent.ensures.reads told).unchanged (c.sync_both.ensures.unchanged told) in
+    opening_ends g.row.N c.args.f old mid (g.D.Disk.view c.settle.new.disk) unchanged (c.settle.ensures.length told) (g.met.D.Disk.reads_itself told c.settle.new.disk) (g.met.D.Disk.is_now told c.settle.new.disk)
