@@ -1,7 +1,6 @@
 -- Opening a bundle: its journal is opened, its data files are synced, and their lengths are looked at.
 use Rattle.std.proofs.Common.{◌≡◌, ◌⊎◌, inl, inr, ℕ, zero, suc, List, [], ◌∷◌, length, take, map, Option, Some, None, option_map, refl, sym, ◌∙◌, ap, subst, arith}
 use Rattle.std.specs.Prelude.{slice_index, slice_index_or}
-use Rattle.std.specs.Option.{option_or}
 use Rattle.std.proofs.lemmas.Bool.{cases_lt}
 use Rattle.lsv_disk.specs.declared.file.FileId.{FileId}
 use Rattle.lsv_disk.specs.declared.file.Owner.{Owner}
@@ -11,10 +10,8 @@ use Rattle.lsv_disk.specs.Files.{file_of, IsOneOf}
 use Rattle.lsv_disk.specs.View.{Image, DiskView, IsCrashImage}
 use Rattle.lsv_disk.specs.Throughout.{Throughout, Unchanged}
 use Rattle.lsv_disk.proofs.Composition.{followed, unchanged_throughout}
-use Rattle.lsv_journal.specs.Last.{LastAt, IsAbsent, SameJournal, IsSomeCrashOf, old_file, slots_last, old_last}
-use Rattle.lsv_journal.specs.Gates.{count, last_of}
-use Rattle.lsv_journal.specs.Slots.{entry_of}
-use Rattle.lsv_journal.proofs.Laws.{AbsentOrEmpty, absent_last, own_alone}
+use Rattle.lsv_journal.specs.Last.{SameJournal, IsSomeCrashOf}
+use Rattle.lsv_journal.proofs.Laws.{own_alone}
 use Rattle.lsv_bundle.specs.declared.shape.Shape.{Shape}
 use Rattle.lsv_bundle.specs.declared.body.Body.{Body}
 use Rattle.lsv_bundle.specs.Shape.{parts_of, IsPart, index_of, journal_of}
@@ -111,26 +108,3 @@ pub fresh_staged : (lengths : List ℕ) (parts : List Part) (i : ℕ) → slice_
 fresh_staged lengths [] i = refl
 fresh_staged lengths (part ∷ parts) zero = refl
 fresh_staged lengths (part ∷ parts) (suc i) = fresh_staged lengths parts i
-
--- ---- without an entry
-
-bytes_of_none : (content : Option (List ℕ)) → (content ≡ None) ⊎ (content ≡ Some []) → bytes_of content ≡ []
-bytes_of_none content (inl e) = ap bytes_of e
-bytes_of_none content (inr e) = ap bytes_of e
-
--- an image in which both files of a journal are absent or empty has no entry, as one where they are absent
-empty_last : (f : FileId) (image absent : Image) → IsAbsent f absent → bytes_of (image f) ≡ [] → bytes_of (image (old_file f)) ≡ [] → LastAt 89 f image ≡ LastAt 89 f absent
-unfolding LastAt
-empty_last f image absent none slots old =
-    let first : slots_last 89 f image ≡ slots_last 89 f absent = ap (entry_of 89) (slots ∙ sym (ap bytes_of none.0)) in
-    let second : old_last 89 f image ≡ old_last 89 f absent = ap (λ (b : List ℕ). last_of 89 b (count 89 b)) (old ∙ sym (ap bytes_of none.1)) in
-    ap (λ (o : Option (List ℕ)). option_or o (old_last 89 f image)) first ∙ ap (option_or (slots_last 89 f absent)) second
-
--- a journal that was opened where its files are absent has no entry in any image
-pub absent_images : (f : FileId) (old new : DiskView) → AbsentOrEmpty old → IsAbsent f old.reads → ((image : Image) → IsCrashImage new image → new.crash_images_at new.moment image)
-    → Throughout (λ g. g ≡ f) (IsSomeCrashOf 89 f old) old new → (image : Image) → IsCrashImage new image → LastAt 89 f image ≡ None
-absent_images f old new leaves absent is_now run image left =
-    let crash : IsSomeCrashOf 89 f old image = run.each new.moment image run.later (omega arith) (is_now image left) in
-    crash.2 ∙ empty_last f crash.0 old.reads absent
-    (bytes_of_none (crash.0 f) (leaves f (crash.0 f) absent.0 (crash.1 f)))
-    (bytes_of_none (crash.0 (old_file f)) (leaves (old_file f) (crash.0 (old_file f)) absent.1 (crash.1 (old_file f)))) ∙ absent_last 89 f old.reads absent

@@ -182,33 +182,38 @@ module _ (bundle : BundleView) (well : WellFormed bundle) (files : List FileView
   pub next_written : Each (IsWritten bundle.owner new) files → DataIsWritten bundle new
   next_written written = subst (λ (fs : List FileView). Each (IsWritten bundle.owner new) fs) same written
 
+  abbrev Here : FileId → Type 0
+  Here g = IsStagedAmong bundle.owner files g ⊎ (g ≡ journals.file bundle.journal)
+
+  abbrev There : FileId → Type 0
+  There g = IsStagedFile bundle g ⊎ (g ≡ journal_of bundle.owner)
+
+  to : (g : FileId) → Here g → There g
+  to g is = elim is [
+    | inl staged ↦ inl (staged_is_data bundle.owner bundle.shape bundle.files well.parts g (subst (λ (fs : List FileView). IsStagedAmong bundle.owner fs g) same staged))
+    | inr e ↦ inr (e ∙ well.at)
+  ]
+
+  from : (g : FileId) → There g → Here g
+  from g is = elim is [
+    | inl staged ↦ inl (subst (λ (fs : List FileView). IsStagedAmong bundle.owner fs g) (sym same)
+        (subst (λ (h : FileId). IsStagedAmong bundle.owner bundle.files h) (sym staged.3) (data_is_staged bundle.owner bundle.shape bundle.files well.parts staged.0 staged.1 staged.2)))
+    | inr e ↦ inr (e ∙ sym well.at)
+  ]
+
   pub next_calls : CallsAtMost 1 1 (λ g. IsStagedAmong bundle.owner files g ⊎ (g ≡ journals.file bundle.journal)) old new → CallsAtMost 1 1 (λ g. IsStagedFile bundle g ⊎ (g ≡ journal_of bundle.owner)) old new
   next_calls calls = record {
     writes = rose_of 1 Here There old.writes new.writes to from calls.writes;
     syncs = rose_of 1 Here There old.syncs new.syncs to from calls.syncs;
-  } where
-    Here : FileId → Type 0
-    Here g = IsStagedAmong bundle.owner files g ⊎ (g ≡ journals.file bundle.journal)
+  }
 
-    There : FileId → Type 0
-    There g = IsStagedFile bundle g ⊎ (g ≡ journal_of bundle.owner)
+  -- the files that a fault of such calls may come from, and all files of the bundle
+  pub next_blame : (failed wider : Type 0) → (wider → failed) → HasOwnCause (λ g. IsStagedAmong bundle.owner files g ⊎ (g ≡ journals.file bundle.journal)) failed old new → HasOwnCause (λ g. IsStagedFile bundle g ⊎ (g ≡ journal_of bundle.owner)) wider old new
+  next_blame failed wider fails cause = cause_widened Here There failed wider old new to fails cause
 
-    to : (g : FileId) → Here g → There g
-    to g is = elim is [
-      | inl staged ↦ inl (staged_is_data bundle.owner bundle.shape bundle.files well.parts g (subst (λ (fs : List FileView). IsStagedAmong bundle.owner fs g) same staged))
-      | inr e ↦ inr (e ∙ well.at)
-    ]
-
-    from : (g : FileId) → There g → Here g
-    from g is = elim is [
-      | inl staged ↦ inl (subst (λ (fs : List FileView). IsStagedAmong bundle.owner fs g) (sym same)
-          (subst (λ (h : FileId). IsStagedAmong bundle.owner bundle.files h) (sym staged.3) (data_is_staged bundle.owner bundle.shape bundle.files well.parts staged.0 staged.1 staged.2)))
-      | inr e ↦ inr (e ∙ sym well.at)
-    ]
-
-  pub next_cause : (failed wider : Type 0) → (wider → failed) → HasOwnCause (λ g. IsAmong bundle.owner files g ⊎ IsOwn (journals.file bundle.journal) g) failed old new → HasOwnCause (IsOwnFile bundle.owner bundle.shape) wider old new
-  next_cause failed wider fails cause = cause_widened (λ g. IsAmong bundle.owner files g ⊎ IsOwn (journals.file bundle.journal) g) (IsOwnFile bundle.owner bundle.shape) failed wider old new
-      (λ g is. elim is [ inl among ↦ inl (among_data g among) | inr own ↦ inr (subst (λ (f : FileId). IsOwn f g) well.at own) ]) fails cause
+  pub next_cause : (failed wider : Type 0) → (wider → failed) → HasOwnCause (λ g. IsStagedAmong bundle.owner files g ⊎ (g ≡ journals.file bundle.journal)) failed old new → HasOwnCause (IsOwnFile bundle.owner bundle.shape) wider old new
+  next_cause failed wider fails cause = cause_widened Here (IsOwnFile bundle.owner bundle.shape) failed wider old new
+      (λ g is. elim (to g is) [ inl staged ↦ inl (staged.0, staged.1, staged.3) | inr e ↦ inr (subst (λ (h : FileId). IsOwn (journal_of bundle.owner) h) (sym e) (own_itself (journal_of bundle.owner))) ]) fails cause
 
   module _ (at : Represents bundle old) where
     pub next_run : Throughout (λ g. IsAmong bundle.owner files g ⊎ (g ≡ journals.file bundle.journal))

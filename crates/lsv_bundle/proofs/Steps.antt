@@ -314,10 +314,14 @@ module _ (bundle : BundleView) (owner : Owner) (files : List FileView) (owner_is
   bundle_calls parts calls = staged_calls bundle parts 1 1 old new
       (subst (λ (o : Owner). CallsAtMost 1 1 (IsStagedAmong o bundle.files) old new) owner_is (subst (λ (fs : List FileView). CallsAtMost 1 1 (IsStagedAmong owner fs) old new) files_are calls))
 
-  pub bundle_cause : (failed wider : Type 0) → map (λ f. f.part) bundle.files ≡ parts_of bundle.shape → (wider → failed) → HasOwnCause (IsAmong owner files) failed old new → HasOwnCause (IsDataFile bundle.owner bundle.shape) wider old new
-  bundle_cause failed wider parts fails cause = cause_widened (IsAmong owner files) (IsDataFile bundle.owner bundle.shape) failed wider old new
-      (λ g among. among_is_data bundle.owner bundle.shape bundle.files parts g
-      (subst (λ (o : Owner). IsAmong o bundle.files g) owner_is (subst (λ (fs : List FileView). IsAmong owner fs g) files_are among))) fails cause
+  pub bundle_blame : (failed wider : Type 0) → map (λ f. f.part) bundle.files ≡ parts_of bundle.shape → (wider → failed) → HasOwnCause (IsStagedAmong owner files) failed old new → HasOwnCause (IsStagedFile bundle) wider old new
+  bundle_blame failed wider parts fails cause = cause_widened (IsStagedAmong owner files) (IsStagedFile bundle) failed wider old new
+      (λ g staged. staged_is_data bundle.owner bundle.shape bundle.files parts g
+      (subst (λ (o : Owner). IsStagedAmong o bundle.files g) owner_is (subst (λ (fs : List FileView). IsStagedAmong owner fs g) files_are staged))) fails cause
+
+  pub bundle_cause : (failed wider : Type 0) → map (λ f. f.part) bundle.files ≡ parts_of bundle.shape → (wider → failed) → HasOwnCause (IsStagedAmong owner files) failed old new → HasOwnCause (IsDataFile bundle.owner bundle.shape) wider old new
+  bundle_cause failed wider parts fails cause = cause_widened (IsStagedFile bundle) (IsDataFile bundle.owner bundle.shape) failed wider old new (λ g staged. (staged.0, staged.1, staged.3)) fails
+      (bundle_blame failed failed parts (λ is. is) cause)
 
 -- what is staged is committed with this entry
 module _ (bundle : BundleView) (old : DiskView) (at : Represents bundle old) (written : DataIsWritten bundle old) (body : Body) (lens : body.lens ≡ eight bundle.shape (next_length bundle)) where

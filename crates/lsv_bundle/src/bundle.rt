@@ -5,7 +5,7 @@ ghost use Rattle.lsv_disk.specs.declared.file.Part.{Part};
 ghost use Rattle.lsv_disk.specs.Files.{file_of};
 ghost use Rattle.lsv_disk.specs.View.{IsSynced, HasCause, HasOwnCause};
 ghost use Rattle.lsv_disk.specs.Throughout.{Throughout, OnlyReads, CallsAtMost, WritesOneOf};
-ghost use Rattle.lsv_journal.specs.Last.{IsOwn, IsSomeCrashOf, JournalHolds, MayBeMade};
+ghost use Rattle.lsv_journal.specs.Last.{IsSomeCrashOf, JournalHolds, MayBeMade};
 ghost use Rattle.lsv_journal.specs.Value as journals;
 ghost use Rattle.lsv_journal.specs.Represents as represents;
 ghost use Rattle.lsv_bundle.specs.declared.fault.BundleFault.{BundleFault};
@@ -82,7 +82,7 @@ fn begin_journal<D: Disk>(disk: &mut D, owner: Owner) -> Result<Journal<89>, Bun
     ensures any_moment { D.tells → Throughout (λ g. g ≡ journal_of owner) (λ image. IsSomeCrashOf 89 (journal_of owner) (D.view disk.old) image ⊎ JournalHolds 89 (journal_of owner) None image) (D.view disk.old) (D.view disk.new) }
     ensures calls { D.tells → CallsAtMost 1 1 (λ g. g ≡ journal_of owner) (D.view disk.old) (D.view disk.new) }
     ensures fault { IfErr result (λ e. e ≡ BundleFault.Disk) }
-    ensures cause { HasOwnCause (IsOwn (journal_of owner)) (IsErr result) (D.view disk.old) (D.view disk.new) }
+    ensures cause { HasCause (journal_of owner) (IsErr result) (D.view disk.old) (D.view disk.new) }
 {
     let Ok(journal) = Journal::begin(disk, FileId::new(owner, Part::Slots)) else {
         return Err(BundleFault::Disk);
@@ -92,8 +92,8 @@ fn begin_journal<D: Disk>(disk: &mut D, owner: Owner) -> Result<Journal<89>, Bun
 
 impl Bundle {
     /// Makes a bundle without an entry, where its journal may be made: what a making that a crash or a fault ended has
-    /// left is made again, and whatever its data files have then isn't committed. `Disk` only where a device call on a
-    /// file of this bundle failed; then too it has no entry.
+    /// left is made again, and whatever its data files have then isn't committed. `Disk` only where a device call on one
+    /// of its data files or on its journal's file of slots failed; then too it has no entry.
     pub fn create<D: Disk>(
         alloc: Global,
         disk: &mut D,
@@ -110,6 +110,7 @@ impl Bundle {
         ensures calls { D.tells → WritesOneOf (journal_of owner) 1 2 (IsWritable owner shape) (D.view disk.old) (D.view disk.new) }
         ensures fault { IfErr result (λ e. (e ≡ BundleFault.Disk) ⊎ (e ≡ BundleFault.NoMem)) }
         ensures cause { HasOwnCause (IsOwnFile owner shape) (IsErrOf result BundleFault.Disk) (D.view disk.old) (D.view disk.new) }
+        ensures blame { HasOwnCause (IsWritable owner shape) (IsErrOf result BundleFault.Disk) (D.view disk.old) (D.view disk.new) }
     {
         let files = data_files(alloc, shape, &NO_BODY.lens)?;
         make_files(disk, owner, shape.all_parts())?;

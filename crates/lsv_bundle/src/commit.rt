@@ -47,7 +47,7 @@ fn write_then_sync<D: Disk>(
     ensures slots_once { D.tells → OnOk result ((D.view disk.new).syncs (journals.file journal.old) ≡ (D.view disk.old).syncs (journals.file journal.old) + 1) }
     ensures calls { D.tells → CallsAtMost 1 1 (λ g. IsStagedAmong owner files.now g ⊎ (g ≡ journals.file journal.old)) (D.view disk.old) (D.view disk.new) }
     ensures fault { IfErr result (λ e. e ≡ JournalFault.Disk) }
-    ensures cause { HasOwnCause (λ g. IsAmong owner files.now g ⊎ IsOwn (journals.file journal.old) g) (IsErr result) (D.view disk.old) (D.view disk.new) }
+    ensures cause { HasOwnCause (λ g. IsStagedAmong owner files.now g ⊎ (g ≡ journals.file journal.old)) (IsErr result) (D.view disk.old) (D.view disk.new) }
     ensures file { journals.file journal.new ≡ journals.file journal.old }
     ensures last { journals.last journal.new ≡ journals.last journal.old }
     ensures prepared { OnOk result (journals.prepared journal.new ≡ Some body) }
@@ -104,6 +104,7 @@ impl Bundle {
         ensures disk { IsErrOf result BundleFault.Disk → self.new.is_broken ≡ true }
         ensures fault { IfErr result (λ e. (e ≡ BundleFault.Disk) ⊎ (e ≡ BundleFault.Broken)) }
         ensures cause { HasOwnCause (IsDataFile self.old.owner self.old.shape) (IsErrOf result BundleFault.Disk) (D.view disk.old) (D.view disk.new) }
+        ensures blame { HasOwnCause (IsStagedFile self.old) (IsErrOf result BundleFault.Disk) (D.view disk.old) (D.view disk.new) }
         ensures broken { IsErrOf result BundleFault.Broken ↔ (self.old.is_broken ≡ true) }
         ensures kept { KeptAtError (IsErr result) (IsErrOf result BundleFault.Broken) self.old self.new disk.old disk.new }
     {
@@ -135,6 +136,7 @@ impl Bundle {
         ensures disk { IsErrOf result BundleFault.Disk → self.new.is_broken ≡ true }
         ensures fault { IfErr result (λ e. (e ≡ BundleFault.Disk) ⊎ (e ≡ BundleFault.Broken)) }
         ensures cause { HasOwnCause (IsOwn (journal_of self.old.owner)) (IsErrOf result BundleFault.Disk) (D.view disk.old) (D.view disk.new) }
+        ensures blame { HasCause (journal_of self.old.owner) (IsErrOf result BundleFault.Disk) (D.view disk.old) (D.view disk.new) }
         ensures broken { IsErrOf result BundleFault.Broken ↔ (self.old.is_broken ≡ true) }
         ensures kept { KeptAtError (IsErr result) (IsErrOf result BundleFault.Broken) self.old self.new disk.old disk.new }
     {
@@ -168,6 +170,7 @@ impl Bundle {
         ensures disk { IsErrOf result BundleFault.Disk → self.new.is_broken ≡ true }
         ensures fault { IfErr result (λ e. (e ≡ BundleFault.Disk) ⊎ (e ≡ BundleFault.Broken)) }
         ensures cause { HasOwnCause (IsOwn (journal_of self.old.owner)) (IsErrOf result BundleFault.Disk) (D.view disk.old) (D.view disk.new) }
+        ensures blame { HasCause (journal_of self.old.owner) (IsErrOf result BundleFault.Disk) (D.view disk.old) (D.view disk.new) }
         ensures broken { IsErrOf result BundleFault.Broken ↔ (self.old.is_broken ≡ true) }
         ensures kept { KeptAtError (IsErr result) (IsErrOf result BundleFault.Broken) self.old self.new disk.old disk.new }
     {
@@ -206,6 +209,7 @@ impl Bundle {
         ensures disk { IsErrOf result BundleFault.Disk → self.new.is_broken ≡ true }
         ensures fault { IfErr result (λ e. (e ≡ BundleFault.Disk) ⊎ (e ≡ BundleFault.Broken)) }
         ensures cause { HasOwnCause (IsOwnFile self.old.owner self.old.shape) (IsErrOf result BundleFault.Disk) (D.view disk.old) (D.view disk.new) }
+        ensures blame { HasOwnCause (λ g. IsStagedFile self.old g ⊎ (g ≡ journal_of self.old.owner)) (IsErrOf result BundleFault.Disk) (D.view disk.old) (D.view disk.new) }
         ensures broken { IsErrOf result BundleFault.Broken ↔ (self.old.is_broken ≡ true) }
         ensures kept { KeptAtError (IsErr result) (IsErrOf result BundleFault.Broken) self.old self.new disk.old disk.new }
     {
@@ -224,8 +228,8 @@ impl Bundle {
     /// then all of that is synced, and only then is the entry selected, since a crash may leave any bytes of what isn't
     /// synced. All is written before the first sync, so that a file system with a journal takes it in one transaction.
     /// At every moment a crash leaves what was committed before or what is committed now, and after Ok the latter
-    /// alone. `Disk` only where a device call on a file of this bundle failed; from then on `Broken`, until it is
-    /// opened again. It takes no memory.
+    /// alone. `Disk` only where a device call on a data file of which something is staged, or on the journal's file of
+    /// slots, failed; from then on `Broken`, until it is opened again. It takes no memory.
     pub fn flush<D: Disk>(
         &mut self,
         disk: &mut D,
@@ -253,6 +257,7 @@ impl Bundle {
         ensures disk { IsErrOf result BundleFault.Disk → self.new.is_broken ≡ true }
         ensures fault { IfErr result (λ e. (e ≡ BundleFault.Disk) ⊎ (e ≡ BundleFault.Broken)) }
         ensures cause { HasOwnCause (IsOwnFile self.old.owner self.old.shape) (IsErrOf result BundleFault.Disk) (D.view disk.old) (D.view disk.new) }
+        ensures blame { HasOwnCause (λ g. IsStagedFile self.old g ⊎ (g ≡ journal_of self.old.owner)) (IsErrOf result BundleFault.Disk) (D.view disk.old) (D.view disk.new) }
         ensures broken { IsErrOf result BundleFault.Broken ↔ (self.old.is_broken ≡ true) }
         ensures kept { KeptAtError (IsErr result) (IsErrOf result BundleFault.Broken) self.old self.new disk.old disk.new }
     {
@@ -262,8 +267,8 @@ impl Bundle {
 
     /// Adds one entry, of kind 2, that commits so many bytes of each data file, none more than before, and writes to
     /// no data file. Nothing is staged. At every moment a crash leaves what was committed before or what is now, and
-    /// after Ok the latter alone. The faults are those of `flush`, `Disk` only where a device call on a file of the
-    /// journal failed. It takes no memory.
+    /// after Ok the latter alone. The faults are those of `flush`, `Disk` only where a device call on the journal's
+    /// file of slots failed. It takes no memory.
     pub fn cut<D: Disk>(
         &mut self,
         disk: &mut D,

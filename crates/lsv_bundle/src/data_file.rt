@@ -1,7 +1,7 @@
 ghost use Rattle.std.specs.Prelude.{◌≡◌, ◌≢◌, ◌↔◌, ◌⊎◌, ℕ, ◌+◌, ◌-◌, ◌≤◌, ◌<◌, ◌^◌, List, [], ◌++◌, Option, length, take, map, slice_index, IsErr, IfOk, IfErr, OnOk, OnErr};
 ghost use Rattle.lsv_disk.specs.declared.file.FileId.{FileId};
 ghost use Rattle.lsv_disk.specs.Files.{file_of};
-ghost use Rattle.lsv_disk.specs.View.{HasCause, HasOwnCause};
+ghost use Rattle.lsv_disk.specs.View.{HasOwnCause};
 ghost use Rattle.lsv_disk.specs.Throughout.{Throughout, Unchanged, CallsAtMost};
 ghost use Rattle.lsv_bundle.specs.declared.fault.BundleFault.{BundleFault};
 ghost use Rattle.lsv_bundle.specs.Shape.{parts_of, index_of};
@@ -110,7 +110,7 @@ impl DataFile {
         ensures crash { D.tells → (c : Option (List ℕ)) → (D.view disk.new).crash_states (file_of owner self.now.part) c → HasPrefix (prefix_at (D.view disk.old) (file_of owner self.now.part) self.now.committed) c }
         ensures appended { D.tells → OnOk result (IsAppended owner (D.view disk.old) (D.view disk.new) self.now) }
         ensures calls { D.tells → CallsAtMost 1 0 (λ g. (g ≡ file_of owner self.now.part) × (self.now.staged ≢ [])) (D.view disk.old) (D.view disk.new) }
-        ensures cause { HasCause (file_of owner self.now.part) (IsErr result) (D.view disk.old) (D.view disk.new) }
+        ensures cause { HasOwnCause (λ g. (g ≡ file_of owner self.now.part) × (self.now.staged ≢ [])) (IsErr result) (D.view disk.old) (D.view disk.new) }
     {
         if self.staged.is_empty() {
             return Ok(());
@@ -124,7 +124,7 @@ impl DataFile {
         ensures unchanged { D.tells → Unchanged (D.view disk.old) (D.view disk.new) }
         ensures once { D.tells → OnOk result (IsSyncedOnce owner (D.view disk.old) (D.view disk.new) self.now) }
         ensures calls { D.tells → CallsAtMost 0 1 (λ g. (g ≡ file_of owner self.now.part) × (self.now.staged ≢ [])) (D.view disk.old) (D.view disk.new) }
-        ensures cause { HasCause (file_of owner self.now.part) (IsErr result) (D.view disk.old) (D.view disk.new) }
+        ensures cause { HasOwnCause (λ g. (g ≡ file_of owner self.now.part) × (self.now.staged ≢ [])) (IsErr result) (D.view disk.old) (D.view disk.new) }
     {
         if self.staged.is_empty() {
             return Ok(());
@@ -156,7 +156,7 @@ pub(crate) fn write_all<D: Disk>(
     ensures any_moment { D.tells → Throughout (IsAmong owner files.now) (λ image. Each (KeepsPrefix owner (D.view disk.old) image) files.now) (D.view disk.old) (D.view disk.new) }
     ensures appended { D.tells → OnOk result (Each (IsAppended owner (D.view disk.old) (D.view disk.new)) files.now) }
     ensures calls { D.tells → CallsAtMost 1 0 (IsStagedAmong owner files.now) (D.view disk.old) (D.view disk.new) }
-    ensures cause { HasOwnCause (IsAmong owner files.now) (IsErr result) (D.view disk.old) (D.view disk.new) }
+    ensures cause { HasOwnCause (IsStagedAmong owner files.now) (IsErr result) (D.view disk.old) (D.view disk.new) }
 {
     let [first, rest @ ..] = files else {
         return Ok(());
@@ -176,7 +176,7 @@ pub(crate) fn sync_all<D: Disk>(
     ensures unchanged { D.tells → Unchanged (D.view disk.old) (D.view disk.new) }
     ensures once { D.tells → OnOk result (Each (IsSyncedOnce owner (D.view disk.old) (D.view disk.new)) files.now) }
     ensures calls { D.tells → CallsAtMost 0 1 (IsStagedAmong owner files.now) (D.view disk.old) (D.view disk.new) }
-    ensures cause { HasOwnCause (IsAmong owner files.now) (IsErr result) (D.view disk.old) (D.view disk.new) }
+    ensures cause { HasOwnCause (IsStagedAmong owner files.now) (IsErr result) (D.view disk.old) (D.view disk.new) }
 {
     let [first, rest @ ..] = files else {
         return Ok(());
@@ -197,7 +197,7 @@ pub(crate) fn write_staged<D: Disk>(
     ensures written { D.tells → OnOk result (Each (IsWritten owner (D.view disk.new)) files.now) }
     ensures once { D.tells → OnOk result (Each (IsSyncedOnce owner (D.view disk.old) (D.view disk.new)) files.now) }
     ensures calls { D.tells → CallsAtMost 1 1 (IsStagedAmong owner files.now) (D.view disk.old) (D.view disk.new) }
-    ensures cause { HasOwnCause (IsAmong owner files.now) (IsErr result) (D.view disk.old) (D.view disk.new) }
+    ensures cause { HasOwnCause (IsStagedAmong owner files.now) (IsErr result) (D.view disk.old) (D.view disk.new) }
 {
     write_all(disk, owner, files)?;
     sync_all(disk, owner, files)

@@ -2,11 +2,10 @@
 use Rattle.std.proofs.Common.{rules, false, ◌≡◌, ◌≢◌, ◌⊎◌, inl, inr, ◌+◌, List, Err, is_err, refl, sym, ◌∙◌, ap, subst, arith}
 use Rattle.std.proofs.lemmas.Bool.{false≢true}
 use Rattle.lsv_disk.specs.declared.file.FileId.{FileId}
-use Rattle.lsv_disk.specs.View.{HasOwnCause}
+use Rattle.lsv_disk.specs.View.{HasCause}
 use Rattle.lsv_disk.specs.Throughout.{CallsAtMost}
-use Rattle.lsv_disk.proofs.Composition.{cause_second, cause_widened}
+use Rattle.lsv_disk.proofs.Composition.{cause_second, cause_widened, cause_of_file}
 use Rattle.lsv_journal.specs.declared.fault.JournalFault.TheVariants as faults
-use Rattle.lsv_journal.specs.Last.{IsOwn}
 use Rattle.lsv_journal.specs.Value as journals
 use Rattle.lsv_journal.specs.Represents as represents
 use Rattle.lsv_journal.proofs.Laws.{represents_stays}
@@ -188,8 +187,8 @@ returns-in_err-write_all-clause-cause g c =
     let journal = c.args.journal.now in
     let old = g.D.Disk.view c.args.disk.now in
     let one = g.D.Disk.view c.write_all.new.disk in
-    let Own : FileId → Type 0 = λ h. IsAmong owner files h ⊎ IsOwn (journals.file journal) h in
-    cause_widened (IsAmong owner files) Own _ _ old one (λ h among. inl among) (λ _. refl) c.in_err-write_all.ensures.cause
+    let Own : FileId → Type 0 = λ h. IsStagedAmong owner files h ⊎ (h ≡ journals.file journal) in
+    cause_widened (IsStagedAmong owner files) Own _ _ old one (λ h staged. inl staged) (λ _. refl) c.in_err-write_all.ensures.cause
 
 pub returns-in_err-put_slot-clause-cause : goal.returns-in_err-put_slot-clause-cause
 returns-in_err-put_slot-clause-cause g c =
@@ -199,9 +198,10 @@ returns-in_err-put_slot-clause-cause g c =
     let old = g.D.Disk.view c.args.disk.now in
     let one = g.D.Disk.view c.write_all.new.disk in
     let two = g.D.Disk.view c.put_slot.new.disk in
-    let Own : FileId → Type 0 = λ h. IsAmong owner files h ⊎ IsOwn (journals.file journal) h in
+    let Own : FileId → Type 0 = λ h. IsStagedAmong owner files h ⊎ (h ≡ journals.file journal) in
     cause_second Own _ old one two c.write_all.ensures.cause.monotone
-    (cause_widened (IsOwn (journals.file journal)) Own _ _ one two (λ h is. inr is) (λ _. disk_failed c.put_slot.result (λ broken. false≢true (sym c.requires.whole ∙ c.put_slot.ensures.broken.0 broken)) (ap is_err c.in_err-put_slot.was)) c.put_slot.ensures.cause)
+    (cause_widened (λ h. h ≡ journals.file journal) Own _ _ one two (λ h is. inr is) (λ _. disk_failed c.put_slot.result (λ broken. false≢true (sym c.requires.whole ∙ c.put_slot.ensures.broken.0 broken)) (ap is_err c.in_err-put_slot.was))
+    (cause_of_file (λ h. h ≡ journals.file journal) (journals.file journal) _ one two refl c.put_slot.ensures.blame))
 
 pub returns-in_err-sync_all-clause-cause : goal.returns-in_err-sync_all-clause-cause
 returns-in_err-sync_all-clause-cause g c =
@@ -212,9 +212,9 @@ returns-in_err-sync_all-clause-cause g c =
     let one = g.D.Disk.view c.write_all.new.disk in
     let two = g.D.Disk.view c.put_slot.new.disk in
     let three = g.D.Disk.view c.sync_all.new.disk in
-    let Own : FileId → Type 0 = λ h. IsAmong owner files h ⊎ IsOwn (journals.file journal) h in
+    let Own : FileId → Type 0 = λ h. IsStagedAmong owner files h ⊎ (h ≡ journals.file journal) in
     cause_second Own _ old two three (λ h. omega (arith, c.write_all.ensures.cause.monotone h, c.put_slot.ensures.cause.monotone h))
-    (cause_widened (IsAmong owner files) Own _ _ two three (λ h among. inl among) (λ _. refl) c.in_err-sync_all.ensures.cause)
+    (cause_widened (IsStagedAmong owner files) Own _ _ two three (λ h staged. inl staged) (λ _. refl) c.in_err-sync_all.ensures.cause)
 
 pub returns-clause-cause : goal.returns-clause-cause
 returns-clause-cause g c =
@@ -226,10 +226,10 @@ returns-clause-cause g c =
     let two = g.D.Disk.view c.put_slot.new.disk in
     let three = g.D.Disk.view c.sync_all.new.disk in
     let four = g.D.Disk.view c.sync_slot.new.disk in
-    let Own : FileId → Type 0 = λ h. IsAmong owner files h ⊎ IsOwn (journals.file journal) h in
+    let Own : FileId → Type 0 = λ h. IsStagedAmong owner files h ⊎ (h ≡ journals.file journal) in
     cause_second Own _ old three four (λ h. omega (arith, c.write_all.ensures.cause.monotone h, c.put_slot.ensures.cause.monotone h, c.sync_all.ensures.cause.monotone h))
-    (cause_widened (IsOwn (journals.file journal)) Own _ _ three four (λ h is. inr is) (disk_failed c.sync_slot.result (λ broken. false≢true (sym c.in_ok-put_slot.ensures.whole ∙ c.sync_slot.ensures.broken.0 broken)))
-    (subst (λ (f : FileId). HasOwnCause (IsOwn f) (c.sync_slot.result ≡ Err faults.Disk) three four) c.put_slot.ensures.kept.file_is c.sync_slot.ensures.cause))
+    (cause_widened (λ h. h ≡ journals.file journal) Own _ _ three four (λ h is. inr is) (disk_failed c.sync_slot.result (λ broken. false≢true (sym c.in_ok-put_slot.ensures.whole ∙ c.sync_slot.ensures.broken.0 broken)))
+    (cause_of_file (λ h. h ≡ journals.file journal) (journals.file journal) _ three four refl (subst (λ (f : FileId). HasCause f (c.sync_slot.result ≡ Err faults.Disk) three four) c.put_slot.ensures.kept.file_is c.sync_slot.ensures.blame)))
 
 pub returns-clause-prepared : goal.returns-clause-prepared
 returns-clause-prepared g c =

@@ -2,9 +2,8 @@ use Rattle.std.proofs.Common.{◌≡◌, subst}
 use Rattle.lsv_disk.specs.declared.file.FileId.{FileId}
 use Rattle.lsv_disk.specs.Throughout.{Throughout}
 use Rattle.lsv_journal.specs.Last.{IsAbsent, IsSomeCrashOf, MayBeMade}
-use Rattle.lsv_journal.proofs.Laws.{absent_last}
+use Rattle.lsv_journal.proofs.Laws.{absent_last, still_absent_last}
 use Rattle.lsv_bundle.specs.Shape.{journal_of}
-use Rattle.lsv_bundle.proofs.Opening.{absent_images}
 use Rattle.lsv_bundle.proofs.open.open_journal.Goals as goal
 
 pub returns-in_default-opened-clause-none : goal.returns-in_default-opened-clause-none
@@ -16,7 +15,7 @@ pub returns-in_default-opened-clause-no_entry : goal.returns-in_default-opened-c
 returns-in_default-opened-clause-no_entry g c told _ =
     let old = g.D.Disk.view c.args.disk.now in
     let new = g.D.Disk.view c.open.new.disk in
-    absent_images (journal_of c.args.owner) old new (g.met.D.Disk.absent_or_empty told c.args.disk.now)
+    still_absent_last 89 (journal_of c.args.owner) old new (g.met.D.Disk.absent_or_empty told c.args.disk.now)
     (subst (λ (f : FileId). IsAbsent f old.reads) c.new.ensures ((c.in-Ok.ensures.absent told).0 c.in_default-opened.is))
     (g.met.D.Disk.is_now told c.open.new.disk)
     (subst (λ (f : FileId). Throughout (λ h. h ≡ f) (IsSomeCrashOf 89 f old) old new) c.new.ensures (c.open.ensures.any_moment told))

@@ -1,11 +1,11 @@
 -- Making the files together, and then beginning the journal.
-use Rattle.std.proofs.Common.{◌≡◌, ◌⊎◌, List, map, None, Some, refl, sym, subst, ◌∙◌, ap}
+use Rattle.std.proofs.Common.{◌≡◌, ◌⊎◌, inr, List, map, None, Some, refl, sym, subst, ◌∙◌, ap}
 use Rattle.lsv_disk.specs.declared.file.FileId.{FileId}
 use Rattle.lsv_disk.specs.declared.file.Part.{Part}
 use Rattle.lsv_disk.specs.Files.{file_of, IsOneOf, IsNew}
 use Rattle.lsv_disk.specs.Throughout.{Throughout, CallsAtMost}
-use Rattle.lsv_disk.proofs.Composition.{cause_widened}
-use Rattle.lsv_bundle.specs.Shape.{parts_of, IsOwnFile}
+use Rattle.lsv_disk.proofs.Composition.{cause_second, cause_of_file, cause_widened}
+use Rattle.lsv_bundle.specs.Shape.{parts_of, journal_of, IsWritable, IsOwnFile}
 use Rattle.lsv_bundle.specs.Value.{FileView}
 use Rattle.lsv_bundle.specs.Represents.{IsDurable}
 use Rattle.lsv_bundle.specs.InnerFiles.{all_parts_of, EachPart}
@@ -51,6 +51,14 @@ returns-in_err-make_files-clause-cause g c =
     let s = c.args.shape in
     cause_widened (IsOneOf owner c.all_parts.result.now) (IsOwnFile owner s) _ _ (g.D.Disk.view c.args.disk.now) (g.D.Disk.view c.make_files.new.disk)
     (λ f one. writable_own owner s f (made_is_writable owner s f (subst (λ (ps : List Part). IsOneOf owner ps f) c.all_parts.ensures one)))
+    (λ _. refl) c.in_err-make_files.ensures.cause
+
+pub returns-in_err-make_files-clause-blame : goal.returns-in_err-make_files-clause-blame
+returns-in_err-make_files-clause-blame g c =
+    let owner = c.args.owner in
+    let s = c.args.shape in
+    cause_widened (IsOneOf owner c.all_parts.result.now) (IsWritable owner s) _ _ (g.D.Disk.view c.args.disk.now) (g.D.Disk.view c.make_files.new.disk)
+    (λ f one. made_is_writable owner s f (subst (λ (ps : List Part). IsOneOf owner ps f) c.all_parts.ensures one))
     (λ _. refl) c.in_err-make_files.ensures.cause
 
 pub begin_journal-requires : goal.begin_journal-requires
@@ -154,3 +162,14 @@ returns-clause-represents g c told =
           (each_made (λ part. IsDurable mid (file_of owner part) 0) s each).0;
       lengths = λ body e. cc;
     }
+
+pub returns-in_err-journal-clause-cause : goal.returns-in_err-journal-clause-cause
+returns-in_err-journal-clause-cause g c =
+    let owner = c.args.owner in
+    let s = c.args.shape in
+    let old = g.D.Disk.view c.args.disk.now in
+    let mid = g.D.Disk.view c.make_files.new.disk in
+    let new = g.D.Disk.view c.begin_journal.new.disk in
+    cause_second (IsOwnFile owner s) _ old mid new c.make_files.ensures.cause.monotone
+    (cause_widened (λ h. h ≡ journal_of owner) (IsOwnFile owner s) _ _ mid new (λ h is. writable_own owner s h (inr is)) (λ _. refl)
+    (cause_of_file (λ h. h ≡ journal_of owner) (journal_of owner) _ mid new refl c.in_err-journal.ensures.cause))

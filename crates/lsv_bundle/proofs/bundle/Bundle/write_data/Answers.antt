@@ -5,7 +5,7 @@ use Rattle.lsv_bundle.specs.Represents.{WellFormed}
 use Rattle.lsv_bundle.specs.InnerFiles.{Differ}
 use Rattle.lsv_bundle.proofs.Results.{on_ok_of}
 use Rattle.lsv_bundle.proofs.Shapes.{shape_differs}
-use Rattle.lsv_bundle.proofs.Steps.{data_run, written_at, run_below, run_bytes, bundle_run, bundle_written, bundle_once, bundle_calls, bundle_cause}
+use Rattle.lsv_bundle.proofs.Steps.{data_run, written_at, run_below, run_bytes, bundle_run, bundle_written, bundle_once, bundle_calls, bundle_cause, bundle_blame}
 use Rattle.lsv_bundle.proofs.bundle.Bundle.write_data.Goals as goal
 
 pub write_staged-requires-clause-differ : goal.write_staged-requires-clause-differ
@@ -51,6 +51,16 @@ returns-then-is_err-clause-cause g c =
     let files : c.deref.result.now ≡ now.files = c.deref.ensures.value ∙ ap (λ (b : BundleView). b.files) c.self.view_is in
     let well : WellFormed now = subst WellFormed c.self.view_is c.self.invariant in
     bundle_cause now c.self.inside.owner c.deref.result.now owner files old new _ _ well.parts (λ _. sym c.is_err.ensures.value ∙ c.if-is_err.true) c.write_staged.ensures.cause
+
+pub returns-then-is_err-clause-blame : goal.returns-then-is_err-clause-blame
+returns-then-is_err-clause-blame g c =
+    let now : BundleView = c.args.self.now in
+    let old = g.D.Disk.view c.args.disk.now in
+    let new = g.D.Disk.view c.write_staged.new.disk in
+    let owner : c.self.inside.owner ≡ now.owner = ap (λ (b : BundleView). b.owner) c.self.view_is in
+    let files : c.deref.result.now ≡ now.files = c.deref.ensures.value ∙ ap (λ (b : BundleView). b.files) c.self.view_is in
+    let well : WellFormed now = subst WellFormed c.self.view_is c.self.invariant in
+    bundle_blame now c.self.inside.owner c.deref.result.now owner files old new _ _ well.parts (λ _. sym c.is_err.ensures.value ∙ c.if-is_err.true) c.write_staged.ensures.cause
 
 pub returns-clause-any_moment : goal.returns-clause-any_moment
 returns-clause-any_moment g c told whole =

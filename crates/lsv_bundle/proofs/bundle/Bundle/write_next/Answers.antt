@@ -13,7 +13,7 @@ use Rattle.lsv_bundle.specs.InnerFiles.{Differ}
 use Rattle.lsv_bundle.proofs.Results.{on_ok_of}
 use Rattle.lsv_bundle.proofs.Shapes.{shape_differs}
 use Rattle.lsv_bundle.proofs.Steps.{run_below, run_bytes}
-use Rattle.lsv_bundle.proofs.Putting.{next_apart, next_once, next_written, next_calls, next_cause, next_run, next_at}
+use Rattle.lsv_bundle.proofs.Putting.{next_apart, next_once, next_written, next_calls, next_cause, next_blame, next_run, next_at}
 use Rattle.lsv_bundle.proofs.bundle.Bundle.write_next.Goals as goal
 
 pub write_then_sync-requires-clause-differ : goal.write_then_sync-requires-clause-differ
@@ -102,6 +102,16 @@ returns-then-is_err-clause-cause g c =
     let new = g.D.Disk.view c.write_then_sync.new.disk in
     subst (λ (b : BundleView). HasOwnCause (IsOwnFile b.owner b.shape) _ old new) c.self.view_is
     (next_cause seen well files c.deref.ensures.value old new _ _ (λ _. sym c.is_err.ensures.value ∙ c.if-is_err.true) c.write_then_sync.ensures.cause)
+
+pub returns-then-is_err-clause-blame : goal.returns-then-is_err-clause-blame
+returns-then-is_err-clause-blame g c =
+    let seen : BundleView = record { owner = c.self.inside.owner; shape = c.self.inside.shape; last = c.self.inside.last; prepared = c.self.inside.prepared; files = c.self.inside.files.items; is_broken = c.self.inside.is_broken; journal = c.self.inside.journal } in
+    let well : WellFormed seen = c.self.invariant in
+    let files : List FileView = c.deref.result.now in
+    let old = g.D.Disk.view c.args.disk.now in
+    let new = g.D.Disk.view c.write_then_sync.new.disk in
+    subst (λ (b : BundleView). HasOwnCause (λ g. IsStagedFile b g ⊎ (g ≡ journal_of b.owner)) _ old new) c.self.view_is
+    (next_blame seen well files c.deref.ensures.value old new _ _ (λ _. sym c.is_err.ensures.value ∙ c.if-is_err.true) c.write_then_sync.ensures.cause)
 
 pub returns-clause-written : goal.returns-clause-written
 returns-clause-written g c told =
