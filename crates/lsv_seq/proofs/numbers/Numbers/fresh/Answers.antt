@@ -1,7 +1,7 @@
 use Rattle.std.proofs.Common.{ap, ◌∙◌, Some}
 use Rattle.lsv_journal.specs.Value as journals
 use Rattle.lsv_seq.proofs.Images.{represents_settled}
-use Rattle.lsv_seq.proofs.Openings.{first_sound, first_moments}
+use Rattle.lsv_seq.proofs.Openings.{first_sound, created_moments, first_moments}
 use Rattle.lsv_seq.proofs.numbers.Numbers.fresh.Goals as goal
 
 pub returns-in_err-append-clause-any_moment : goal.returns-in_err-append-clause-any_moment
@@ -26,3 +26,7 @@ returns-clause-any_moment g c told =
     first_moments c.args.lane c.args.lanes c.numbers_file.result c.numbers_file.ensures (g.D.Disk.view c.args.disk.now) (g.D.Disk.view c.create.new.disk) (g.D.Disk.view c.append.new.disk)
     (journals.file j) (journals.last j) c.encode.result c.in_ok-journal.ensures.file c.in_ok-journal.ensures.last c.encode.ensures c.requires.lane c.requires.lanes
     (c.create.ensures.any_moment told) (c.append.ensures.any_moment told c.in_ok-journal.ensures.whole)
+
+pub returns-in_err-journal-clause-any_moment : goal.returns-in_err-journal-clause-any_moment
+returns-in_err-journal-clause-any_moment g c told =
+    created_moments c.args.lane c.args.lanes c.numbers_file.result c.numbers_file.ensures (g.D.Disk.view c.args.disk.now) (g.D.Disk.view c.create.new.disk) (c.create.ensures.any_moment told)
