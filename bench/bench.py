@@ -195,13 +195,13 @@ def measure_flushes(messages):
 
 
 def making(messages, word):
-    """The microseconds of one log, of so many that are made in a new folder. The folder stays until all are measured: a mass
-    delete on a disk makes the next files slow."""
+    """The microseconds of the log in the middle, of so many that are made in a new folder. The folder stays until all are
+    measured: a mass delete on a disk makes the next files slow."""
     folder = tempfile.mkdtemp(dir=".")
     child = subprocess.run([messages, word, str(MADE)], cwd=folder, capture_output=True, text=True)
     if child.returncode != 0:
         sys.exit(f"bench: {word} ended with status {child.returncode}")
-    return folder, int(child.stderr) / MADE / 1e3
+    return folder, int(child.stderr) / 1e3
 
 
 def measure_making(messages):

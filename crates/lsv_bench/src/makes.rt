@@ -95,32 +95,38 @@ fn make_one_by_one(rt: &HostRuntime, kept: &mut Vec<File>, number: u32) -> io::R
     write_alone(kept, 0, 0, &[1])
 }
 
-/// Makes so many logs in a store in this folder. Says on standard error how many nanoseconds that took.
+/// Says on standard error how many nanoseconds the one in the middle took, of so many that are ordered by that: of many
+/// makings a few wait for what the file system does beside them. Gives how many there were.
+fn tell_middle(rt: &HostRuntime, mut took: Vec<u128>) -> Option<u64> {
+    took.sort_unstable();
+    let middle = took.get(took.len() / 2)?;
+    let _ = eprintln!(rt; "{middle}");
+    Some(took.len() as u64)
+}
+
+/// Makes so many logs in a store in this folder, and tells what one takes.
 pub fn makes(rt: HostRuntime, count: u32) -> Option<u64> {
     let mut disk = FileDisk::new(rt, "lsv_bench");
     disk.root("store", "store/events");
-    let mut took = 0;
+    let mut took = Vec::new(rt.alloc());
     for i in 0..count {
         let start = Instant::now(&rt).ok()?;
         make_together(rt.alloc(), &mut disk, 1 + i % 1_000_000).ok()?;
-        took = start.elapsed(&rt).ok()?.as_nanos().saturating_add(took);
+        took.push(start.elapsed(&rt).ok()?.as_nanos()).ok()?;
     }
-    let _ = eprintln!(rt; "{took}");
-    Some(u64::from(count))
+    tell_middle(&rt, took)
 }
 
-/// Makes so many as the first version did, in folders of their own in this one. Says on standard error how many
-/// nanoseconds that took.
+/// Makes so many as the first version did, in folders of their own in this one, and tells what one takes.
 pub fn makes_one_by_one(rt: HostRuntime, count: u32) -> Option<u64> {
     let mut kept = Vec::new(rt.alloc());
-    let mut took = 0;
+    let mut took = Vec::new(rt.alloc());
     for i in 0..count {
         let start = Instant::now(&rt).ok()?;
         make_one_by_one(&rt, &mut kept, i).ok()?;
-        took = start.elapsed(&rt).ok()?.as_nanos().saturating_add(took);
+        took.push(start.elapsed(&rt).ok()?.as_nanos()).ok()?;
     }
-    let _ = eprintln!(rt; "{took}");
-    Some(u64::from(count))
+    tell_middle(&rt, took)
 }
 
 /// Makes the nine files of the log of this number, in a store in this folder, and no entry, so that interop/cut.py can cut
