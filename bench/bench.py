@@ -200,6 +200,7 @@ def making(messages, word):
     folder = tempfile.mkdtemp(dir=".")
     child = subprocess.run([messages, word, str(MADE)], cwd=folder, capture_output=True, text=True)
     if child.returncode != 0:
+        shutil.rmtree(folder)
         sys.exit(f"bench: {word} ended with status {child.returncode}")
     return folder, int(child.stderr) / 1e3
 
