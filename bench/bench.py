@@ -206,8 +206,8 @@ def making(messages, word):
 
 
 def measure_making(messages):
-    """Each way by itself, in runs that take turns: where one process makes a log each way in turn, ours are dearer by a tenth,
-    and no server does so. Between runs the disk gets a rest, since it may hold back who syncs some hundred times in a row."""
+    """Each way by itself, in runs that take turns, since no server makes logs both ways. Measure on an idle machine: what others
+    write makes a round worth nothing. Between runs the disk gets a rest, since it may hold back who syncs some hundred times in a row."""
     words = ("make", "make-first")
     took, folders = {word: [] for word in words}, []
     os.sync()
