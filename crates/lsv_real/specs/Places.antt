@@ -1,5 +1,5 @@
 -- Which files the store has, and their names.
-use Rattle.std.specs.Prelude.{ℕ, List, Option, Some, None, Bool, true, false, ◌&&◌, ◌++◌, is_some, nat_eq, nat_le, nat_lt, codes, if◌then◌else◌}
+use Rattle.std.specs.Prelude.{◌≡◌, ◌≢◌, ◌⊎◌, ℕ, ◌<◌, List, [], ◌∷◌, Option, Some, None, Bool, true, false, ◌&&◌, ◌++◌, is_some, nat_eq, nat_le, nat_lt, codes, if◌then◌else◌, length, get_or}
 use Rattle.std.specs.Fmt.{decimal}
 use Rattle.lsv_disk.specs.declared.file.FileId.{FileId}
 use Rattle.lsv_disk.specs.declared.file.Owner.{Owner}
@@ -58,3 +58,43 @@ abbrev pub events_path : List ℕ → Part → List ℕ
 events_path path Commit = path ++ codes ".commit"
 events_path path Slots = path ++ codes ".slots"
 events_path path _ = path
+
+-- no byte of a text is a slash
+abbrev pub HasNoSlash : List ℕ → Type 0
+HasNoSlash text = (i : ℕ) → i < length text → get_or text i 0 ≢ 47
+
+-- the folder that a path names before its last slash: the one at the top where nothing stands there
+abbrev pub folder_before : List ℕ → List ℕ
+folder_before [] = codes "/"
+folder_before (b ∷ bs) = b ∷ bs
+
+-- a folder is that in which the file of a path stands: the one before its last slash, or the process's own where it has none
+abbrev pub IsFolderOf : List ℕ → List ℕ → Type 0
+IsFolderOf path folder = (HasNoSlash path × (folder ≡ codes ".")) ⊎ ((before after : List ℕ) × (path ≡ before ++ 47 ∷ after) × HasNoSlash after × (folder ≡ folder_before before))
+
+-- a path is that of this name in a folder, where there is a name
+abbrev pub IsNamed : List ℕ → Option (List ℕ) → List ℕ → Type 0
+IsNamed folder None path = ⊥
+IsNamed folder (Some name) path = path ≡ folder ++ codes "/" ++ name
+
+-- the name of a file that has the log numbers, on lane 0, where there is such a file
+abbrev pub numbers_name : Part → Option (List ℕ)
+numbers_name Commit = Some (codes "seq")
+numbers_name Slots = Some (codes "seq2")
+numbers_name _ = None
+
+-- a path is that of a lane's file of this name in a folder, where there is a name
+abbrev pub IsOfLane : ℕ → List ℕ → Option (List ℕ) → List ℕ → Type 0
+IsOfLane lane folder None path = ⊥
+IsOfLane lane folder (Some name) path = path ≡ lane_path (folder ++ codes "/" ++ name) lane
+
+-- a file of this owner stands in a folder, at a path, where the logs have one place and the event log another
+abbrev pub OwnerStands : List ℕ → List ℕ → Owner → Part → List ℕ → List ℕ → Type 0
+OwnerStands dir events (Log n) part folder path = IsNamed folder (log_name part) path
+OwnerStands dir events (Relay n) part folder path = IsNamed folder (relay_name part) path
+OwnerStands dir events (Numbers lane) part folder path = (folder ≡ dir) × IsOfLane lane dir (numbers_name part) path
+OwnerStands dir events (Events lane) part folder path = IsFolderOf (lane_path events lane) folder × (path ≡ events_path (lane_path events lane) part)
+
+-- a file stands in a folder, at a path
+abbrev pub Stands : List ℕ → List ℕ → FileId → List ℕ → List ℕ → Type 0
+Stands dir events f folder path = OwnerStands dir events f.owner f.part folder path

@@ -1,8 +1,9 @@
 // Folders that a new file needs, made so that a crash leaves them.
+use lru::LruCache;
 use std::alloc::Global;
-use std::collections::HashSet;
 use std::fs::{DirBuilder, File, Permissions};
 use std::io::ErrorKind;
+use std::num::NonZeroUsize;
 use std::os::unix::fs::{DirBuilderExt, PermissionsExt};
 use std::{fs, io};
 
@@ -12,7 +13,7 @@ const MODE: u32 = 0o700;
 /// The bits of a mode, those that a folder takes over from the one above too.
 const ALL_BITS: u32 = 0o7777;
 
-/// So many folders are remembered as synced at most.
+/// So many folders are remembered as synced at most, those that were asked for last.
 const MOST_REMEMBERED: usize = 1024;
 
 /// The folders that were synced in this run.
@@ -20,25 +21,32 @@ const MOST_REMEMBERED: usize = 1024;
 pub struct Folders {
     rt: HostRuntime,
     alloc: Global,
-    synced: HashSet<String>,
+    synced: LruCache<String, ()>,
     /// In which folder the last one was made that got its mode by its making.
     plain: String,
 }
 
 impl Folders {
-    pub fn new(rt: HostRuntime) -> Self {
+    /// None is remembered as synced yet.
+    pub fn new(rt: HostRuntime) -> io::Result<Self> {
         let alloc = rt.alloc();
-        Folders {
+        let Some(most) = NonZeroUsize::new(MOST_REMEMBERED) else {
+            return Err(ErrorKind::InvalidInput.into());
+        };
+        let Ok(synced) = LruCache::new(alloc, most) else {
+            return Err(ErrorKind::OutOfMemory.into());
+        };
+        Ok(Folders {
             rt,
             alloc,
-            synced: HashSet::new(alloc),
+            synced,
             plain: String::new(alloc),
-        }
+        })
     }
 
     /// Something is about to be made in a folder: a sync before it says nothing of that.
     fn change(&mut self, folder: &str) {
-        let _ = self.synced.remove(folder);
+        let _ = self.synced.pop(folder);
     }
 
     /// Opens a folder in which something is about to be made, so that it can be synced then.
@@ -50,11 +58,10 @@ impl Folders {
     /// Waits until what was made or named in a folder since it was opened is on the disk.
     pub fn sync_opened(&mut self, folder: &str, opened: &File) -> io::Result<()> {
         opened.sync_all()?;
-        if self.synced.len() >= MOST_REMEMBERED {
-            self.synced.clear();
+        match self.synced.put(String::from_str(self.alloc, folder)?, ()) {
+            Ok(_) => Ok(()),
+            Err(_) => Err(ErrorKind::OutOfMemory.into()),
         }
-        self.synced.insert(String::from_str(self.alloc, folder)?)?;
-        Ok(())
     }
 
     /// Waits until what was made or named in a folder is on the disk.
@@ -65,7 +72,7 @@ impl Folders {
 
     /// The same of a folder in which this run made nothing since it synced it.
     pub fn sync_once(&mut self, folder: &str) -> io::Result<()> {
-        if self.synced.contains(folder) {
+        if self.synced.get(folder).is_some() {
             return Ok(());
         }
         self.sync(folder)
@@ -141,7 +148,8 @@ impl Folders {
     }
 
     /// Waits until the names of a folder and of those above it are on the disk, also of those that were there, since
-    /// they may have been made by a program that was killed before it synced. Each parent is synced once.
+    /// they may have been made by a program that was killed before it synced. Each parent is synced once: of those that are
+    /// asked for at each making none is forgotten.
     pub fn sync_names(&mut self, folder: &str) -> io::Result<()> {
         let mut path = String::new(self.alloc);
         for name in folder.split('/') {

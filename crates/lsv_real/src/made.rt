@@ -82,8 +82,9 @@ impl Made {
 
     /// The order in which files are made: mostly their inodes follow on the folder's. That of slots is synced for its
     /// gate. Where all have room in the folder's block it is made first, so that its gate sets out while the others are
-    /// made; else it is made as the first of the next block, whose sync is its own then. The head, the first of the parts,
-    /// is made last of the others, mostly in that block too, which the first flush of both then writes once.
+    /// made; else it is made as the first of the next block, whose sync is its own then. The first of the parts, which is
+    /// the head where all of a log are made, is made last of the others, mostly in that block too, which the first flush of
+    /// both then writes once.
     pub fn in_order(&self, alloc: Global, parts: &[Part]) -> Result<Vec<Part>, AllocError>
         ensures { IfOk result (λ order. IsPermutation parts.now order.items) }
     {

@@ -1,6 +1,6 @@
 // Where the files of the store stand.
-ghost use Rattle.std.specs.Prelude.{◌≡◌, ◌&&◌, ◌++◌, IfOk, is_some, option_map, codes, string_bytes};
-ghost use Rattle.lsv_real.specs.Places.{has_place, is_log_number, lane_path, events_path, log_name, relay_name};
+ghost use Rattle.std.specs.Prelude.{◌≡◌, ◌&&◌, ◌++◌, IfOk, IfSome, is_some, option_map, codes, string_bytes};
+ghost use Rattle.lsv_real.specs.Places.{has_place, is_log_number, lane_path, events_path, log_name, relay_name, IsFolderOf, IsNamed, Stands};
 
 use lsv_base::LogNo;
 use lsv_disk::{FileId, Owner, Part};
@@ -34,7 +34,8 @@ impl Places {
 
     /// None where the store has no such file: its owner has none of that part, or its number is that of no log.
     pub fn place_of(&self, alloc: Global, f: FileId) -> Result<Option<Place>, AllocError>
-        ensures { IfOk result (λ place. is_some place ≡ has_place f) }
+        ensures has { IfOk result (λ place. is_some place ≡ has_place f) }
+        ensures stands { IfOk result (λ place. IfSome place (λ p. Stands (string_bytes self.now.dir) (string_bytes self.now.events) f (string_bytes p.folder) (string_bytes p.path))) }
     {
         match (f.owner, f.part) {
             (Owner::Log(n), part) => self.in_log(alloc, n, log_name(part)),
@@ -54,7 +55,8 @@ impl Places {
     }
 
     fn in_log(&self, alloc: Global, n: u32, name: Option<&str>) -> Result<Option<Place>, AllocError>
-        ensures { IfOk result (λ place. is_some place ≡ (is_log_number n && is_some name.entry)) }
+        ensures has { IfOk result (λ place. is_some place ≡ (is_log_number n && is_some name.entry)) }
+        ensures named { IfOk result (λ place. IfSome place (λ p. IsNamed (string_bytes p.folder) (option_map (λ it. it.now) name.entry) (string_bytes p.path))) }
     {
         let Some(folder) = self.log_folder(alloc, n)? else {
             return Ok(None);
@@ -139,7 +141,8 @@ fn lane_path(alloc: Global, path: &str, lane: u32) -> Result<String, AllocError>
 }
 
 fn numbers_place(alloc: Global, dir: &str, name: &str, lane: u32) -> Result<Place, AllocError>
-    ensures { IfOk result (λ p. string_bytes p.path ≡ lane_path (dir.now ++ codes "/" ++ name.now) lane) }
+    ensures path { IfOk result (λ p. string_bytes p.path ≡ lane_path (dir.now ++ codes "/" ++ name.now) lane) }
+    ensures folder { IfOk result (λ p. string_bytes p.folder ≡ dir.now) }
 {
     let numbers = format!(in alloc; "{dir}/{name}")?;
     let path = lane_path(alloc, numbers.as_str(), lane)?;
@@ -147,14 +150,22 @@ fn numbers_place(alloc: Global, dir: &str, name: &str, lane: u32) -> Result<Plac
     Ok(Place { folder, path })
 }
 
-fn events_place(alloc: Global, text: String, part: Part) -> Result<Place, AllocError>
-    ensures { IfOk result (λ p. string_bytes p.path ≡ events_path (string_bytes text) part) }
+/// The folder in which the file of a path stands.
+fn folder_of(path: &str) -> &str
+    ensures { IsFolderOf path.now result.now }
 {
-    let folder = match text.as_str().rsplit_once('/') {
-        Some(("", _)) => String::from_str(alloc, "/")?,
-        Some((folder, _)) => String::from_str(alloc, folder)?,
-        None => String::from_str(alloc, ".")?,
-    };
+    match path.rsplit_once('/') {
+        Some(("", _)) => "/",
+        Some((folder, _)) => folder,
+        None => ".",
+    }
+}
+
+fn events_place(alloc: Global, text: String, part: Part) -> Result<Place, AllocError>
+    ensures path { IfOk result (λ p. string_bytes p.path ≡ events_path (string_bytes text) part) }
+    ensures folder { IfOk result (λ p. IsFolderOf (string_bytes text) (string_bytes p.folder)) }
+{
+    let folder = String::from_str(alloc, folder_of(text.as_str()))?;
     let path = match part {
         Part::Commit => format!(in alloc; "{text}.commit")?,
         Part::Slots => format!(in alloc; "{text}.slots")?,

@@ -1,6 +1,7 @@
 ghost use Rattle.std.specs.Prelude.{◌≡◌, ◌≤◌, min, max};
 
-/// The bytes of a file, from one offset to another, that were written since its last sync that succeeded.
+/// The bytes of a file, from one offset to another, that may not be on the disk: what was written since its last sync that
+/// succeeded, or all of it.
 #[derive(Clone, Copy)]
 pub struct Span {
     pub from: u64,

@@ -70,7 +70,7 @@ impl Store {
     pub fn open(rt: HostRuntime, dir: &str, events: &str) -> Result<Store, StoreFault> {
         let alloc = rt.alloc();
         let places = Places::new(alloc, dir, events)?;
-        let mut folders = Folders::new(rt);
+        let mut folders = Folders::new(rt)?;
         folders.make(dir)?;
         folders.sync_names(dir)?;
         let lock = take_lock(&rt, alloc, dir)?;
@@ -317,14 +317,16 @@ impl Store {
         }
     }
 
-    /// Keeps a file open, in the place of the one that was not used for longest where there are too many.
+    /// Keeps a file open, in the place of the one that was not used for longest where there are too many. It is named where it
+    /// was just made, and else it was found.
     fn keep(&mut self, f: FileId, file: File, is_named: bool) -> io::Result<()> {
         if self.handles.len() >= MOST_OPEN {
             self.close_oldest()?;
         }
         let unsynced = match self.left.get(&f) {
             Some(unsynced) => *unsynced,
-            None => Unsynced::new(),
+            None if is_named => Unsynced::new(),
+            None => Unsynced::found(),
         };
         match self.handles.put(f, Handle::new(file, unsynced, is_named)) {
             Ok(_) => {

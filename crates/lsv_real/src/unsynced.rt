@@ -36,16 +36,30 @@ impl SyncedFile for File {
     }
 }
 
-/// Which bytes of a file were written since its last sync that succeeded, or may be unsynced since one failed.
+/// Which bytes of a file may not be on the disk.
 #[derive(Clone, Copy)]
 pub struct Unsynced {
+    /// What was written since the last sync that succeeded, or may be unsynced since one failed.
     span: Option<Span>,
+    /// It was there when it was opened, and no sync of it succeeded since: what a program before wrote may be unsynced too.
+    is_found: bool,
 }
 
 impl Unsynced {
-    /// Nothing was written.
+    /// Nothing was written to a file that was just made.
     pub fn new() -> Self {
-        Unsynced { span: None }
+        Unsynced {
+            span: None,
+            is_found: false,
+        }
+    }
+
+    /// Nothing was written yet to a file that was there.
+    pub fn found() -> Self {
+        Unsynced {
+            span: None,
+            is_found: true,
+        }
     }
 
     /// Whether nothing was written since, and no sync failed.
@@ -67,7 +81,7 @@ impl Unsynced {
     pub fn sync<F: SyncedFile>(&mut self, file: &F) -> io::Result<()> {
         match sync_again(file, self.span) {
             Ok(()) => {
-                self.span = None;
+                *self = Unsynced::new();
                 Ok(())
             }
             Err(e) => {
@@ -77,15 +91,15 @@ impl Unsynced {
         }
     }
 
-    /// Remembers that a sync failed. Where nothing was written since the last one, what a program before left is unsynced,
-    /// and no more is known of it: then all of the file is.
+    /// Remembers that a sync failed. Of a file that was found all bytes may be unsynced, since nothing tells which of them a
+    /// program before left so.
     fn fail(&mut self) {
-        let mut span = match self.span {
-            Some(span) => span,
-            None => Span::whole(),
-        };
-        span.failed = true;
-        self.span = Some(span);
+        if self.is_found {
+            self.span = Some(Span::whole());
+        }
+        if let Some(span) = &mut self.span {
+            span.failed = true;
+        }
     }
 }
 

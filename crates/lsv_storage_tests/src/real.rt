@@ -154,6 +154,13 @@ fn a_store_has_one_server(rt: HostRuntime) -> Result<(), Fail> {
     second.root(own.as_str(), "events");
     assert!(rt; second.length(OUTPUT).is_err());
     assert!(rt; second.create(LINES).is_err());
+    assert!(rt;
+        second
+            .create_all(Owner::Events(0), &[Part::Lines, Part::Slots])
+            .is_err()
+    );
+    assert!(rt; second.read_at(OUTPUT, 0, &mut [0]).is_err());
+    assert!(rt; second.write_at(OUTPUT, 0, b"none").is_err());
     assert!(rt; second.sync(OUTPUT).is_err());
 
     drop(first);
@@ -216,13 +223,16 @@ impl SyncedFile for Failing {
 }
 
 /// Whether three syncs in a row succeed of which the first ones fail, how many bytes were written again after each,
-/// and whether nothing is unsynced at last, where these many bytes were written at these offsets.
-fn syncs(fails: u32, writes: &[(u64, usize)]) -> ([(bool, usize); 3], bool) {
+/// and whether nothing is unsynced at last, where these many bytes were written at these offsets of such a file.
+fn syncs(
+    mut unsynced: Unsynced,
+    fails: u32,
+    writes: &[(u64, usize)],
+) -> ([(bool, usize); 3], bool) {
     let file = Failing {
         fails: Cell::new(fails),
         written: Cell::new(0),
     };
-    let mut unsynced = Unsynced::new();
     for (at, count) in writes {
         unsynced.note(*at, *count);
     }
@@ -242,8 +252,19 @@ fn bytes_whose_sync_failed_are_written_again(rt: HostRuntime) -> Result<(), Fail
         (2, ([(false, 0), (false, 5), (true, 10)], true)),
         (3, ([(false, 0), (false, 5), (false, 10)], false)),
     ] {
-        assert_eq!(rt; syncs(fails, &[(1, 2), (4, 9)]), want, "{fails} faults");
+        assert_eq!(rt;
+            syncs(Unsynced::new(), fails, &[(1, 2), (4, 9)]),
+            want,
+            "{fails} faults"
+        );
     }
+    Ok(())
+}
+
+#[test]
+fn where_nothing_was_written_nothing_is_written_again(rt: HostRuntime) -> Result<(), Fail> {
+    let want = ([(false, 0), (true, 0), (true, 0)], true);
+    assert_eq!(rt; syncs(Unsynced::new(), 1, &[]), want);
     Ok(())
 }
 
@@ -256,7 +277,32 @@ fn a_file_that_a_program_before_left_unsynced_is_written_again(
         (1, ([(false, 0), (true, 6), (true, 6)], true)),
         (3, ([(false, 0), (false, 6), (false, 12)], false)),
     ] {
-        assert_eq!(rt; syncs(fails, &[]), want, "{fails} faults");
+        assert_eq!(rt;
+            syncs(Unsynced::found(), fails, &[]),
+            want,
+            "{fails} faults"
+        );
+        assert_eq!(rt;
+            syncs(Unsynced::found(), fails, &[(1, 2)]),
+            want,
+            "{fails} faults, one write"
+        );
     }
+    Ok(())
+}
+
+#[test]
+fn a_found_file_that_was_synced_is_known(rt: HostRuntime) -> Result<(), Fail> {
+    let file = Failing {
+        fails: Cell::new(0),
+        written: Cell::new(0),
+    };
+    let mut unsynced = Unsynced::found();
+    assert!(rt; unsynced.sync(&file).is_ok());
+    file.fails.set(1);
+    unsynced.note(1, 2);
+    assert!(rt; unsynced.sync(&file).is_err());
+    assert!(rt; unsynced.sync(&file).is_ok());
+    assert_eq!(rt; file.written.get(), 2);
     Ok(())
 }
