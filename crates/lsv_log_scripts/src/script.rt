@@ -53,6 +53,7 @@ pub struct File {
     pub bytes: Vec<u8>,
 }
 
+/// The file of a log that a word names.
 fn part_of(word: &str) -> Result<Part> {
     match word {
         "head" => Ok(Part::Head),

@@ -68,6 +68,7 @@ struct Calls {
     lengths: u64,
 }
 
+/// Plays a script with no fault, and tells its calls.
 fn calls_of(alloc: Global, script: &Script) -> Result<Calls> {
     let mut play = Play::new(alloc, script, Plan::Whole)?;
     let before = play.disk.calls();
