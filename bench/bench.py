@@ -24,9 +24,9 @@ LOADS = [(1_000_000, 10, 0.15), (100_000, 1_000, 1.0)]
 RUNS = 5
 LARGEST = 2_097_152
 BATCH = 100
-# logs of a run, and runs of each way, where their making is measured
+# logs of a run, and runs of each way, where their making is measured: medians of 12 runs differ by a tenth
 MADE = 40
-MAKINGS = 12
+MAKINGS = 60
 CROWDS = [("empty entries", b"\x12\0"), ("entries of the number 0", b"\x12\x02\x10\0")]
 
 # Settings whose store stands where the program runs.
