@@ -1,9 +1,9 @@
 // Folders that a new file needs, made so that a crash leaves them.
+use crate::bounded::bounded;
 use lru::LruCache;
 use std::alloc::Global;
 use std::fs::{DirBuilder, File, Permissions};
 use std::io::ErrorKind;
-use std::num::NonZeroUsize;
 use std::os::unix::fs::{DirBuilderExt, PermissionsExt};
 use std::{fs, io};
 
@@ -30,16 +30,10 @@ impl Folders {
     /// None is remembered as synced yet.
     pub fn new(rt: HostRuntime) -> io::Result<Self> {
         let alloc = rt.alloc();
-        let Some(most) = NonZeroUsize::new(MOST_REMEMBERED) else {
-            return Err(ErrorKind::InvalidInput.into());
-        };
-        let Ok(synced) = LruCache::new(alloc, most) else {
-            return Err(ErrorKind::OutOfMemory.into());
-        };
         Ok(Folders {
             rt,
             alloc,
-            synced,
+            synced: bounded(alloc, MOST_REMEMBERED)?,
             plain: String::new(alloc),
         })
     }

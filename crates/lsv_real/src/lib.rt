@@ -1,6 +1,7 @@
 //! The trusted edge: the real disk, text files, the port of sockets, standard input and standard output. They tell no content, and count their faults.
 #![tactic(auto)]
 
+mod bounded;
 mod call;
 mod clock;
 mod disk;

@@ -1,6 +1,7 @@
 // The files of a store, behind its lock.
 ghost use Rattle.std.specs.Prelude.{◌≤◌, IfOk, length};
 
+use crate::bounded::bounded;
 use crate::folders::Folders;
 use crate::handle::Handle;
 use crate::limit::SizeLimit;
@@ -13,7 +14,6 @@ use std::alloc::{AllocError, Global};
 use std::collections::HashMap;
 use std::fs::{File, Metadata, OpenOptions, Permissions, TryLockError};
 use std::io::ErrorKind;
-use std::num::NonZeroUsize;
 use std::os::unix::fs::{MetadataExt, OpenOptionsExt, PermissionsExt};
 use std::{fs, io};
 
@@ -74,19 +74,12 @@ impl Store {
         folders.make(dir)?;
         folders.sync_names(dir)?;
         let lock = take_lock(&rt, alloc, dir)?;
-        let Some(most) = NonZeroUsize::new(MOST_OPEN) else {
-            return Err(StoreFault::Io(ErrorKind::InvalidInput.into()));
-        };
-        let handles = match LruCache::new(alloc, most) {
-            Ok(handles) => handles,
-            Err(_) => return Err(StoreFault::Io(ErrorKind::OutOfMemory.into())),
-        };
         Ok(Store {
             rt,
             alloc,
             places,
             folders,
-            handles,
+            handles: bounded(alloc, MOST_OPEN)?,
             left: HashMap::new(alloc),
             looked: None,
             limit: SizeLimit::now(),
