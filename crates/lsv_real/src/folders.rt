@@ -16,12 +16,20 @@ const ALL_BITS: u32 = 0o7777;
 /// So many folders are remembered as synced at most, those that were asked for last.
 const MOST_REMEMBERED: usize = 1024;
 
+/// Of so many folders it is remembered at most that a sync failed.
+const MOST_FAILED: usize = 64;
+
 /// The folders that were synced in this run.
 #[derive(Drop)]
 pub struct Folders {
     rt: HostRuntime,
     alloc: Global,
     synced: LruCache<String, ()>,
+    /// Those whose sync failed. What was made in them can't be made once more, and the next sync may say Ok without it: so
+    /// each is a fault from then on.
+    failed: Vec<String>,
+    /// A sync failed of a folder that could not be remembered, so each is one.
+    all_failed: bool,
     /// In which folder the last one was made that got its mode by its making.
     plain: String,
 }
@@ -34,6 +42,8 @@ impl Folders {
             rt,
             alloc,
             synced: bounded(alloc, MOST_REMEMBERED)?,
+            failed: Vec::new(alloc),
+            all_failed: false,
             plain: String::new(alloc),
         })
     }
@@ -49,13 +59,34 @@ impl Folders {
         File::open(&self.rt, folder)
     }
 
-    /// Waits until what was made or named in a folder since it was opened is on the disk.
+    /// Waits until what was made or named in a folder since it was opened is on the disk. Where a sync of it failed in this
+    /// run, so does this one.
     pub fn sync_opened(&mut self, folder: &str, opened: &File) -> io::Result<()> {
-        opened.sync_all()?;
+        if self.has_failed(folder) {
+            return Err(ErrorKind::Other.into());
+        }
+        if let Err(e) = opened.sync_all() {
+            self.all_failed = self.note_failed(folder).is_err();
+            return Err(e);
+        }
         match self.synced.put(String::from_str(self.alloc, folder)?, ()) {
             Ok(_) => Ok(()),
             Err(_) => Err(ErrorKind::OutOfMemory.into()),
         }
+    }
+
+    /// Whether a sync of a folder failed in this run, or may have.
+    fn has_failed(&self, folder: &str) -> bool {
+        self.all_failed || self.failed.iter().any(|failed| failed.as_str() == folder)
+    }
+
+    /// Remembers that a sync of a folder failed.
+    fn note_failed(&mut self, folder: &str) -> io::Result<()> {
+        if self.failed.len() >= MOST_FAILED {
+            return Err(ErrorKind::OutOfMemory.into());
+        }
+        self.failed.push(String::from_str(self.alloc, folder)?)?;
+        Ok(())
     }
 
     /// Waits until what was made or named in a folder is on the disk.

@@ -4,6 +4,7 @@ ghost use Rattle.std.specs.Prelude.{◌≤◌, IfOk, length};
 use crate::span::Span;
 use std::fs::File;
 use std::io;
+use std::io::ErrorKind;
 use std::os::unix::fs::FileExt;
 
 /// So many bytes are written again at a time.
@@ -20,6 +21,9 @@ pub trait SyncedFile {
 
     /// Waits until what was written is on the disk.
     fn sync_written(&self) -> io::Result<()>;
+
+    /// The same, and until all of its inode is.
+    fn sync_with_inode(&self) -> io::Result<()>;
 }
 
 impl SyncedFile for File {
@@ -34,12 +38,17 @@ impl SyncedFile for File {
     fn sync_written(&self) -> io::Result<()> {
         self.sync_data()
     }
+
+    fn sync_with_inode(&self) -> io::Result<()> {
+        self.sync_all()
+    }
 }
 
 /// Which bytes of a file may not be on the disk.
 #[derive(Clone, Copy)]
 pub struct Unsynced {
-    /// What was written since the last sync that succeeded, or may be unsynced since one failed.
+    /// What was written since the last sync that succeeded, or may be unsynced since one failed: no byte where nothing was
+    /// written.
     span: Option<Span>,
     /// It was there when it was opened, and no sync of it succeeded since: what a program before wrote may be unsynced too.
     is_found: bool,
@@ -77,7 +86,8 @@ impl Unsynced {
     }
 
     /// Syncs the file. After a sync that failed the system may have let the bytes go and say Ok to the next one, so
-    /// they are read and written once more before it: the disk then takes them, or says why not.
+    /// they are read and written once more before it: the disk then takes them, or says why not. Where there are none, it
+    /// stays a fault: nothing would bring the inode to the disk.
     pub fn sync<F: SyncedFile>(&mut self, file: &F) -> io::Result<()> {
         match sync_again(file, self.span) {
             Ok(()) => {
@@ -94,25 +104,28 @@ impl Unsynced {
     /// Remembers that a sync failed. Of a file that was found all bytes may be unsynced, since nothing tells which of them a
     /// program before left so.
     fn fail(&mut self) {
-        if self.is_found {
-            self.span = Some(Span::whole());
-        }
-        if let Some(span) = &mut self.span {
-            span.failed = true;
-        }
+        let mut span = match self.span {
+            Some(written) if !self.is_found => written,
+            None if !self.is_found => Span::of(0, 0),
+            _ => Span::whole(),
+        };
+        span.failed = true;
+        self.span = Some(span);
     }
 }
 
-/// Syncs a file; where a sync of these bytes failed before, they are written once more first.
+/// Syncs a file; where a sync of these bytes failed before, they are written once more first, and its inode goes along.
 fn sync_again<F: SyncedFile>(file: &F, span: Option<Span>) -> io::Result<()> {
     match span {
-        Some(span) if span.failed => write_again(file, span)?,
-        _ => {}
+        Some(span) if span.failed => {
+            write_again(file, span)?;
+            file.sync_with_inode()
+        }
+        _ => file.sync_written(),
     }
-    file.sync_written()
 }
 
-/// Writes what a file reads over itself.
+/// Writes what a file reads over itself. It fails where that is nothing.
 fn write_again<F: SyncedFile>(file: &F, span: Span) -> io::Result<()> {
     let mut piece = [0; PIECE];
     let mut at = span.from;
@@ -120,10 +133,13 @@ fn write_again<F: SyncedFile>(file: &F, span: Span) -> io::Result<()> {
         let most = (span.to - at).min(PIECE as u64) as usize;
         let count = file.read_piece(&mut piece[..most], at)?;
         if count == 0 {
-            return Ok(());
+            break;
         }
         file.write_piece(&piece[..count], at)?;
         at += count as u64;
+    }
+    if at == span.from {
+        return Err(ErrorKind::Other.into());
     }
     Ok(())
 }

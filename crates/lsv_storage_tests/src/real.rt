@@ -162,6 +162,10 @@ fn a_store_has_one_server(rt: HostRuntime) -> Result<(), Fail> {
     assert!(rt; second.read_at(OUTPUT, 0, &mut [0]).is_err());
     assert!(rt; second.write_at(OUTPUT, 0, b"none").is_err());
     assert!(rt; second.sync(OUTPUT).is_err());
+    // Nothing is made where a path without its store would lead.
+    for path in ["/00", "00", "/events.1", "events.1"] {
+        assert!(rt; !fs::exists(&rt, path)?, "{path}");
+    }
 
     drop(first);
     second.root(own.as_str(), "events");
@@ -220,6 +224,10 @@ impl SyncedFile for Failing {
         self.fails.set(left - 1);
         Err(ErrorKind::Other.into())
     }
+
+    fn sync_with_inode(&self) -> io::Result<()> {
+        self.sync_written()
+    }
 }
 
 /// Whether three syncs in a row succeed of which the first ones fail, how many bytes were written again after each,
@@ -262,9 +270,22 @@ fn bytes_whose_sync_failed_are_written_again(rt: HostRuntime) -> Result<(), Fail
 }
 
 #[test]
-fn where_nothing_was_written_nothing_is_written_again(rt: HostRuntime) -> Result<(), Fail> {
-    let want = ([(false, 0), (true, 0), (true, 0)], true);
+fn where_nothing_was_written_a_failed_sync_stays_a_fault(rt: HostRuntime) -> Result<(), Fail> {
+    let want = ([(false, 0), (false, 0), (false, 0)], false);
     assert_eq!(rt; syncs(Unsynced::new(), 1, &[]), want);
+
+    let file = Failing {
+        fails: Cell::new(1),
+        written: Cell::new(0),
+    };
+    let mut unsynced = Unsynced::new();
+    assert!(rt; unsynced.sync(&file).is_err());
+    assert!(rt; unsynced.sync(&file).is_err());
+    // A write brings the inode along.
+    unsynced.note(1, 2);
+    assert!(rt; unsynced.sync(&file).is_ok());
+    assert_eq!(rt; file.written.get(), 3);
+    assert!(rt; unsynced.is_empty());
     Ok(())
 }
 

@@ -2,7 +2,7 @@ use Rattle.std.proofs.Common.{◌≡◌, ◌≢◌, inl, inr, refl, sym, ap, ◌
 use Rattle.std.proofs.Math.ListN.{take, drop}
 use Rattle.std.proofs.lemmas.List.{take-append-drop}
 use Rattle.std.proofs.lemmas.Str.Pattern.{NoCharPasses-char, drop_at_char}
-use Rattle.lsv_real.specs.Places.{IsFolderOf, folder_before}
+use Rattle.lsv_real.specs.Places.{folder_before}
 use Rattle.lsv_real.proofs.path.folder_of.Goals as goal
 
 split_there : (path : List ℕ) (i j : ℕ) → drop i path ≡ 47 ∷ drop j path → path ≡ take i path ++ 47 ∷ drop j path
