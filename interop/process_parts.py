@@ -136,7 +136,8 @@ def part_limit_of_files(trial):
 
 @only("serve")
 def part_faults_of_many(trial):
-    """Several logs pass the limit at once, with many records behind: each is told by one line, with its file."""
+    """Several logs pass the limit at once, with many records behind: each is told by one line, with the program, its file,
+    the call and the system's error."""
     with Fresh(trial, before=small_files) as fresh:
         links, logs = [fresh.server.connect() for _ in range(6)], []
         for link in links:
@@ -154,7 +155,9 @@ def part_faults_of_many(trial):
         lines = fresh.place.said().splitlines()
         for log in logs:
             folder = store.folder_of(fresh.place.store, log) + "/"
-            same(f"lines of the log {log}", len([line for line in lines if folder in line]), 1)
+            told = [line for line in lines if folder in line]
+            form = re.compile(re.escape(f"sudo_logsrvd: {folder}") + r"ttyout: write: [a-z ]+")
+            same(f"lines of the log {log}", [bool(form.fullmatch(line)) for line in told], [True])
 
 
 def smaller_files():
