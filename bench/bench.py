@@ -11,7 +11,6 @@ message a million times, lays a million records and reads them back, masks them,
 an event, and flushes a bundle and makes, fills, opens and finishes logs in a store in the folder that
 it is run in. The syncs of a log are counted by strace, where it is there.
 """
-import contextlib
 import os
 import resource
 import shutil
@@ -186,25 +185,12 @@ def timed_flushes(messages, word, times, place):
         shutil.rmtree(folder)
 
 
-@contextlib.contextmanager
-def on_one_processor():
-    """Programs that are started meanwhile stay on one processor. Where nothing waits for a device, one that is moved between
-    those of a virtual machine takes up to twice as long in some of its runs."""
-    processors = os.sched_getaffinity(0)
-    os.sched_setaffinity(0, {max(processors)})
-    try:
-        yield
-    finally:
-        os.sched_setaffinity(0, processors)
-
-
 def measure_flushes(messages):
     runs = [timed_flushes(messages, "flush", 2_000, ".") for _ in range(RUNS)]
     flushing, writing, count = min(r[0] for r in runs), min(r[1] for r in runs), runs[0][2]
     print(f"flushes of two data files on disk: {count / flushing * 1e9:.0f} a second, {writing / flushing:.2f} of the rate "
           f"of their four writes and syncs alone, {count / writing * 1e9:.0f} a second (at least 0.95)")
-    with on_one_processor():
-        flushing, writing, count = min(timed_flushes(messages, "flush", 100_000, "/dev/shm") for _ in range(RUNS))
+    flushing, writing, count = min(timed_flushes(messages, "flush", 100_000, "/dev/shm") for _ in range(RUNS))
     print(f"flushes of 100 bytes on /dev/shm: {flushing / count / 1e3:.2f} us each (at most 3), "
           f"and the calls of each alone {writing / count / 1e3:.2f}")
 
