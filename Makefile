@@ -25,7 +25,7 @@ CRATE = crates/sudo_logsrvd
 PROGRAM = $(CRATE)/out/sudo_logsrvd
 REPLAY_CRATE = crates/sudoreplay
 REPLAY = $(REPLAY_CRATE)/out/sudoreplay
-MEASURES = crates/lsv_bench
+MEASURES = crates/lsvt_bench
 
 # how often the drill kills, and what: `serve`, or `once` with a process for each connection
 N ?= 50
@@ -65,7 +65,7 @@ measures:
 	cd $(MEASURES) && rt run -- decode >/dev/null
 
 bench: build measures
-	python3 bench/bench.py $(PROGRAM) $(MEASURES)/out/lsv_bench
+	python3 bench/bench.py $(PROGRAM) $(MEASURES)/out/lsvt_bench
 	python3 bench/replay.py $(REPLAY)
 	python3 bench/serve.py $(PROGRAM)
 

@@ -6,7 +6,7 @@ usage: bench.py PROGRAM MESSAGES
 For each load it prints the processor time a message, the bytes of input a second, and the peak of
 memory. A tenth of each load is run too: the ratio of the
 processor times shows that the cost is linear. Then come messages of the greatest size that hold as
-many parts as fit, with one of half the size beside each. MESSAGES (lsv_bench) reads and writes one
+many parts as fit, with one of half the size beside each. MESSAGES (lsvt_bench) reads and writes one
 message a million times, lays a million records and reads them back, masks them, writes the lines of
 an event, and flushes a bundle and makes, fills, opens and finishes logs in a store in the folder that
 it is run in. The syncs of a log are counted by strace, where it is there.

@@ -5,7 +5,7 @@ usage: cut.py --server PROGRAM [--maker PROGRAM] KIND ...
 
 On file systems of their own, of each kind (power.py), the power is cut, each time at once:
 
-- when the files of a log were made by the call that the server makes, sixteen times, where the maker (lsv_bench) is given: all nine
+- when the files of a log were made by the call that the server makes, sixteen times, where the maker (lsvt_bench) is given: all nine
   must be there, at last;
 - when a client has the identifier of a log that it began, sixteen times: the log must be there with all its files, at once;
 - when a client has the commit point behind the exit of a session: all its records and the exit must be there. This is shown of

@@ -1,7 +1,0 @@
-use Rattle.std.proofs.Common.{◌≡◌, drop}
-use Rattle.lsv_model.specs.Inner.{connection_place}
-use Rattle.lsv_model.proofs.TableLemmas.{later}
-use Rattle.lsv_model.proofs.connections.place_of.Given as goal
-
-abbrev pub invariant-loop-place : goal.invariant-loop-place
-invariant-loop-place l = later l.place (connection_place (drop l.place l.connections) l.id) ≡ connection_place l.connections l.id

@@ -1,0 +1,6 @@
+use Rattle.lsv_keeper.specs.Value.{IsResting}
+use Rattle.lsv_keeper.specs.Views.{view_of}
+use Rattle.lsvt_conversations.proofs.converse.Given as goal
+
+abbrev pub invariant-loop-line : goal.invariant-loop-line
+invariant-loop-line l = IsResting (view_of l.servers.keeper)

@@ -1,0 +1,30 @@
+use Rattle.std.proofs.Common.{◌≡◌, ◌<◌, ℕ, [], ◌∷◌, length, Some, sym, ap, subst, ◌∙◌, arith}
+use Rattle.std.specs.Prelude.{slice_get}
+use Rattle.std.proofs.Math.ListN.{get_or}
+use Rattle.std.proofs.lemmas.Option.{get_or_from_slice_get, slice_get_within}
+use Rattle.lsv_port.specs.Ledger.{PortLedger}
+use Rattle.lsv_port.specs.Port.{PortState}
+use Rattle.lsv_port.specs.Memory.Value.{port_ledger, port_state}
+use Rattle.lsv_post.specs.InnerPost.{IsMade}
+use Rattle.lsv_post.specs.Ports.{view_by}
+use Rattle.lsv_post.specs.declared.post.WorkerPost.{WorkerPost}
+use Rattle.lsvt_doubles.specs.declared.watched.Watched.{Watched}
+use Rattle.lsvt_tests_connection.proofs.served.serve_one.Goals as goal
+
+-- the one of a list of one
+only : {A : Type 0} (x : A) (i : ℕ) (y : A) → slice_get (x ∷ []) i ≡ Some y → x ≡ y
+only x i y e =
+    let within : i < length (x ∷ []) = slice_get_within (x ∷ []) i y e in
+    let first : i ≡ 0 = omega (arith, within) in
+    sym (ap (λ (k : ℕ). get_or (x ∷ []) k x) first) ∙ get_or_from_slice_get (x ∷ []) i y x e
+
+-- what a watched port is seen as
+abbrev state : Watched → PortState
+state p = port_state p.port
+
+abbrev ledger : Watched → PortLedger
+ledger p = port_ledger p.port
+
+pub serve-requires-clause-posts : goal.serve-requires-clause-posts
+serve-requires-clause-posts c =
+    (λ i. view_by state ledger c.args.port, λ i post e. subst (λ (y : WorkerPost Watched). IsMade ⊥ state ledger (view_by state ledger c.args.port) y [] []) (only c.in_ok-new.field-0 i post e) c.in_ok-new.ensures.made)
