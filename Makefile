@@ -1,8 +1,5 @@
-# `make` proves and builds the programs, `make run` lets `serve` store the session in examples/ over a socket, and plays it,
-# `make test` is the gate's proofs and tests, `make wrong-bodies` tries the wrong bodies that the gate leaves out,
-# `make bench` measures, also beside sudo's own server where it is installed, `make interop` tries the programs with sudo's own clients, `make drill` kills the server N times
-# under load and reads the store after each, `make power` does so on file systems whose power it cuts, as root. `make install` installs what was built, and proves nothing, `make uninstall`
-# takes it away, `make installed` tries an installed tree, `make dist` makes a tarball, `make pages` looks up the manual pages.
+# `make help` lists the targets. `make run` shows the programs in minutes, unproved; `make` proves and builds them;
+# `make install` installs what `make` built, and proves nothing.
 
 VERSION = 0.1.0
 NAME = lithiumfinch
@@ -17,8 +14,8 @@ DOCDIR ?= $(PREFIX)/share/doc/$(NAME)
 UNITDIR ?= $(PREFIX)/lib/systemd/system
 SYSUSERSDIR ?= $(PREFIX)/lib/sysusers.d
 
-# What stands before the names of programs and pages. Below /usr the names are those of Debian's package sudo, which isn't
-# overwritten unless it is told so, as by `make install PREFIX=/usr FRONT=`.
+# The prefix of programs and pages. Below /usr the names are those of Debian's package sudo, so there a prefix keeps
+# them apart, unless FRONT is empty on purpose: `make install PREFIX=/usr FRONT=`.
 FRONT ?= $(if $(filter /usr,$(abspath $(PREFIX))),$(NAME)-)
 
 CRATE = crates/sudo_logsrvd
@@ -27,7 +24,11 @@ REPLAY_CRATE = crates/sudoreplay
 REPLAY = $(REPLAY_CRATE)/out/sudoreplay
 MEASURES = crates/lsvt_bench
 
-# how often the drill kills, and what: `serve`, or `once` with a process for each connection
+# Programs that were built without a proof, for a first look: `make run` alone uses them.
+QUICK = out/quick
+SOURCES = crates.txt $(shell find crates -name out -prune -o -name '*.rt' -print)
+
+# How often the drill kills, and what: `serve`, or `once` with a process for each connection.
 N ?= 50
 AS ?= serve
 
@@ -42,46 +43,69 @@ INSTALLED = \
 	$(MANDIR)/man8/$(FRONT)sudoreplay.8 \
 	$(MANDIR)/man5/$(FRONT)sudo_logsrvd.conf.5
 
-.PHONY: all build run test wrong-bodies measures bench interop drill power install uninstall installed pages dist clean
+PAGES = README.md CHANGELOG.md LICENSE $(addprefix docs/,ARCHITECTURE.md DECISIONS.md FORMATS.md OPERATIONS.md PROOFS.md SETTINGS.md SPEC.md TRUST.md)
 
-all: build
+.PHONY: all help prove build run run-proved test check wrong-bodies measures bench interop drill power install uninstall installed pages dist clean
 
-# `rt run` proves what is not proved yet, builds, and runs the program: the server on an empty input, with a store in the
-# crate's folder, and sudoreplay on the store in its data/.
-build:
-	cd $(CRATE) && rt run -- once -f data/conf </dev/null >/dev/null
-	cd $(REPLAY_CRATE) && rt run -- -d store -l >/dev/null
+all: prove
 
-run: build
+help: ## list these targets
+	@sed -n 's/^\([a-z][a-z -]*\):.*## /\1\t/p' $(firstword $(MAKEFILE_LIST)) | expand -t 15
+
+prove build: ## prove and build both programs (an hour or more at first)
+	@bash tools/prove sudo_logsrvd once -f data/conf
+	@bash tools/prove sudoreplay -d store -l
+
+$(QUICK)/sudo_logsrvd: $(SOURCES) tools/quick-build
+	@bash tools/quick-build $(QUICK) sudo_logsrvd sudoreplay
+
+run: ## show a session with programs that aren't proved (minutes)
+	@echo "This build is not proved: 'make prove' proves the programs, and builds those that 'make install' installs."
+	@$(MAKE) -s $(QUICK)/sudo_logsrvd
+	bash examples/run $(QUICK)/sudo_logsrvd $(QUICK)/sudoreplay
+	@echo
+	@echo "These programs, in $(QUICK), are not proved. 'make prove' proves and builds the ones to install."
+
+run-proved: build ## show the same session with the proved programs
 	bash examples/run $(PROGRAM) $(REPLAY)
 
-test:
+test: ## the merge gate's proofs, wrong bodies, tests and programs: rt ci
 	rt ci
 
-wrong-bodies:
-	bash tools/wrong-bodies
+check: ## the whole merge gate, exactly as it runs: .ci/run
+	bash .ci/run
+
+# Words after `wrong-bodies` are names of crates, and no targets.
+ifeq (wrong-bodies,$(firstword $(MAKECMDGOALS)))
+CRATES = $(wordlist 2,$(words $(MAKECMDGOALS)),$(MAKECMDGOALS))
+.PHONY: $(CRATES)
+$(CRATES): ; @:
+endif
+
+wrong-bodies: ## try the wrong bodies that the gate leaves out; with names of crates, theirs alone
+	bash tools/wrong-bodies $(CRATES)
 
 measures:
 	cd $(MEASURES) && rt run -- decode >/dev/null
 
-bench: build measures
+bench: build measures ## measure, also beside sudo's own server if it is installed
 	python3 bench/bench.py $(PROGRAM) $(MEASURES)/out/lsvt_bench
 	python3 bench/replay.py $(REPLAY)
 	python3 bench/serve.py $(PROGRAM)
 
-interop: build
+interop: build ## try the programs with sudo's own clients
 	bash interop/run once serve
 
-drill: build
+drill: build ## kill the server N times under load, and read the store after each
 	python3 interop/drill.py --server $(PROGRAM) --as $(AS) --kills $(N)
 
-power: build measures
+power: build measures ## the same on file systems whose power is cut, as root
 	CUTS=$(N) bash interop/run power
 
-# Copies what `make` built. The settings are put in place where there are none, and are never overwritten.
-install:
+# The settings are put in place if there are none, and are never overwritten.
+install: ## install what `make` proved and built; it proves nothing
 	@for program in $(PROGRAM) $(REPLAY); do \
-	  [ -x $$program ] || { echo "make install: $$program isn't built: run make first, as another user than root" >&2; exit 1; }; \
+	  [ -x $$program ] || { echo "make install: $$program is missing: run make first, as another user than root. Programs of 'make run' are not proved, and are not installed." >&2; exit 1; }; \
 	done
 	install -D -m 755 $(PROGRAM) $(DESTDIR)$(SBINDIR)/$(FRONT)sudo_logsrvd
 	install -D -m 755 $(REPLAY) $(DESTDIR)$(BINDIR)/$(FRONT)sudoreplay
@@ -91,7 +115,8 @@ install:
 	install -D -m 644 man/sudoreplay.8 $(DESTDIR)$(MANDIR)/man8/$(FRONT)sudoreplay.8
 	install -D -m 644 man/sudo_logsrvd.conf.5 $(DESTDIR)$(MANDIR)/man5/$(FRONT)sudo_logsrvd.conf.5
 	install -d $(DESTDIR)$(DOCDIR)/examples
-	install -m 644 README.md docs/FORMATS.md docs/OPERATIONS.md docs/SETTINGS.md docs/TRUST.md $(DESTDIR)$(DOCDIR)
+	install -m 644 $(PAGES) $(DESTDIR)$(DOCDIR)
+	sed -i 's#](docs/#](#g' $(DESTDIR)$(DOCDIR)/README.md $(DESTDIR)$(DOCDIR)/CHANGELOG.md
 	install -m 644 etc/sudo_logsrvd.conf etc/tmpfiles etc/proxy.socket $(DESTDIR)$(DOCDIR)/examples
 	for sample in logrotate proxy.service; do \
 	  sed -e 's#\(systemctl .*\|=\)\bsudo_logsrvd\b#\1$(FRONT)sudo_logsrvd#' etc/$$sample >$(DESTDIR)$(DOCDIR)/examples/$$sample && \
@@ -109,19 +134,18 @@ install:
 	  install -D -m 644 etc/sudo_logsrvd.conf $(DESTDIR)$(SYSCONFDIR)/sudo_logsrvd.conf; \
 	fi
 
-# Takes away what `make install` with the same words put in place, but for the settings. No store is touched.
-uninstall:
+uninstall: ## remove what `make install` put in place, but the settings; no store is touched
 	rm -f $(addprefix $(DESTDIR),$(INSTALLED))
 	rm -rf $(DESTDIR)$(DOCDIR)
 
-installed:
+installed: ## try an installed tree, in a folder of its own
 	bash interop/installed $(PROGRAM) $(REPLAY)
 
-pages:
+pages: ## check the manual pages against what the programs take and say
 	python3 interop/pages.py $(PROGRAM) $(REPLAY)
 
-# A tarball of what is committed; in an unpacked tarball, of what is there but what was built.
-dist:
+# Of what is committed; in an unpacked tarball, of what is there without what was built.
+dist: ## make a tarball in out/
 	mkdir -p out
 	if [ -e .git ]; then \
 	  git archive --prefix=$(NAME)-$(VERSION)/ -o out/$(NAME)-$(VERSION).tar.gz HEAD; \
@@ -129,5 +153,5 @@ dist:
 	  tar --exclude=./out --exclude='./crates/*/out' --transform='s#^\.#$(NAME)-$(VERSION)#' -czf out/$(NAME)-$(VERSION).tar.gz .; \
 	fi
 
-clean:
+clean: ## remove all that was built
 	rm -rf crates/*/out out
