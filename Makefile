@@ -1,6 +1,9 @@
 # `make help` lists the targets. `make run` shows the programs in minutes, unproved; `make` proves and builds them;
 # `make install` installs what `make` built, and proves nothing.
 
+# the scripts of bench/ and interop/ find oracle/ by it
+export PYTHONPATH = $(CURDIR)
+
 VERSION = 0.1.0
 NAME = lithiumfinch
 

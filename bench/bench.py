@@ -11,6 +11,8 @@ message a million times, lays a million records and reads them back, masks them,
 an event, and flushes a bundle and makes, fills, opens and finishes logs in a store in the folder that
 it is run in. The syncs of a log are counted by strace, where it is there.
 """
+from __future__ import annotations
+
 import os
 import resource
 import shutil
@@ -19,10 +21,13 @@ import subprocess
 import sys
 import tempfile
 import time
+from collections.abc import Iterable, Iterator
+
+from oracle import messages
+from oracle.wire import LARGEST, field, frame
 
 LOADS = [(1_000_000, 10, 0.15), (100_000, 1_000, 1.0)]
 RUNS = 5
-LARGEST = 2_097_152
 BATCH = 100
 # logs of a run, and runs of each way, where their making is measured: medians of 12 runs differ by a tenth
 MADE = 40
@@ -33,47 +38,29 @@ CROWDS = [("empty entries", b"\x12\0"), ("entries of the number 0", b"\x12\x02\x
 CONF = os.path.join(os.path.dirname(os.path.abspath(__file__)), "../crates/sudo_logsrvd/data/conf")
 
 
-def varint(n):
-    out = bytearray()
-    while n >= 128:
-        out.append(n % 128 + 128)
-        n //= 128
-    out.append(n)
-    return bytes(out)
+INFO = {"command": "/bin/ls", "runuser": "root", "submituser": "ann", "submithost": "web1"}
 
 
-def field(number, value):
-    return varint(number * 8 + 2) + varint(len(value)) + value
-
-
-def frame(message):
-    return len(message).to_bytes(4, "big") + message
-
-
-KEYS = [(b"command", b"/bin/ls"), (b"runuser", b"root"), (b"submituser", b"ann"), (b"submithost", b"web1")]
-
-
-def session(count, size):
+def session(count: int, size: int) -> Iterator[bytes]:
     """The client's bytes of a session with so many records of terminal output of so many bytes."""
-    entries = b"".join(field(2, field(1, key) + field(3, text)) for key, text in KEYS)
-    yield frame(field(13, field(1, b"sudo")))
-    yield frame(field(1, field(1, b"") + entries + b"\x18\x01"))
-    record = frame(field(7, field(1, b"\x10" + varint(1_000_000)) + field(2, b"x" * size)))
+    yield frame(messages.hello("sudo"))
+    yield frame(messages.accept(0, INFO))
+    record = frame(messages.record((1_000_000, "ttyout", b"x" * size)))
     batch = 10_000
     for _ in range(count // batch):
         yield record * batch
     yield record * (count % batch)
-    yield frame(field(3, field(1, b"")))
+    yield frame(messages.exited(0))
 
 
-def watched(pid):
-    """The peak memory in bytes, as the system last told it before the end, the status, and the usage of a process.
-    The peak that the usage tells is also that of the Python process which started it."""
+def watched(pid: int) -> tuple[int, int, resource.struct_rusage]:
+    """The peak memory in bytes, as the system showed it last before the end, the status, and the usage of a process.
+    The peak of the usage is also that of the Python process which started it."""
     peak = 0
     while True:
         try:
-            with open(f"/proc/{pid}/status") as told:
-                peak = max([peak] + [int(line.split()[1]) * 1024 for line in told if line.startswith("VmHWM")])
+            with open(f"/proc/{pid}/status") as file:
+                peak = max([peak] + [int(line.split()[1]) * 1024 for line in file if line.startswith("VmHWM")])
         except OSError:
             pass
         done, status, usage = os.wait4(pid, os.WNOHANG)
@@ -82,7 +69,7 @@ def watched(pid):
         time.sleep(0.001)
 
 
-def run(program, path):
+def run(program: str, path: str) -> tuple[float, int]:
     """The processor seconds and the peak memory in bytes of one run."""
     folder = tempfile.mkdtemp(dir="/dev/shm")
     try:
@@ -96,7 +83,7 @@ def run(program, path):
         shutil.rmtree(folder)
 
 
-def measured(program, parts, runs=RUNS):
+def measured(program: str, parts: Iterable[bytes], runs: int = RUNS) -> tuple[float, int, int]:
     """The least processor seconds, the greatest peak of memory, and the bytes of the input."""
     with tempfile.NamedTemporaryFile(dir="/dev/shm") as source:
         for part in parts:
@@ -107,13 +94,14 @@ def measured(program, parts, runs=RUNS):
     return min(r[0] for r in results), max(r[1] for r in results), length
 
 
-def crowded(part, size):
+def crowded(part: bytes, size: int) -> Iterator[bytes]:
     """An accept of at most so many bytes, which holds this part as often as it fits."""
     room = size - len(field(1, b"x" * size)) + size
     yield frame(field(1, part * (room // len(part))))
 
 
-def measure_sessions(program):
+def measure_sessions(program: str) -> None:
+    """Sessions of small and of large records."""
     for count, size, most in LOADS:
         small, _, _ = measured(program, session(count // 10, size))
         seconds, memory, length = measured(program, session(count, size))
@@ -123,7 +111,8 @@ def measure_sessions(program):
               f"a tenth of them takes 1/{seconds / small:.1f} of the time")
 
 
-def measure_crowds(program):
+def measure_crowds(program: str) -> None:
+    """Messages of many parts."""
     for what, part in CROWDS:
         half, half_memory, _ = measured(program, crowded(part, LARGEST // 2))
         seconds, memory, length = measured(program, crowded(part, LARGEST))
@@ -131,7 +120,8 @@ def measure_crowds(program):
               f"half of it takes {half * 1e3:.1f} ms, {half_memory / 2**20:.1f} MiB")
 
 
-def measure_messages(messages):
+def measure_messages(meter: str) -> None:
+    """Single messages, lines and masks."""
     measures = [
         ("decode", "reading terminal output of 10 bytes", 0.09),
         ("decode-large", "reading terminal output of 1,000 bytes", 0.15),
@@ -146,7 +136,7 @@ def measure_messages(messages):
     for word, what, most in measures:
         times = []
         for _ in range(RUNS):
-            child = subprocess.Popen([messages, word], stdout=subprocess.DEVNULL)
+            child = subprocess.Popen([meter, word], stdout=subprocess.DEVNULL)
             _, status, usage = os.wait4(child.pid, 0)
             if status != 0:
                 sys.exit(f"bench: {word} ended with status {status}")
@@ -154,10 +144,11 @@ def measure_messages(messages):
         print(f"{what}: {min(times):.3f} us" + (f" (at most {most})" if most else ""))
 
 
-def measure_records(messages):
+def measure_records(meter: str) -> None:
+    """Records that are laid and read."""
     laying, reading = [], []
     for _ in range(RUNS):
-        child = subprocess.run([messages, "records"], stdout=subprocess.DEVNULL, stderr=subprocess.PIPE, text=True)
+        child = subprocess.run([meter, "records"], stdout=subprocess.DEVNULL, stderr=subprocess.PIPE, text=True)
         if child.returncode != 0:
             sys.exit(f"bench: records ended with status {child.returncode}")
         laid, read = (int(it) for it in child.stderr.split())
@@ -167,7 +158,7 @@ def measure_records(messages):
           f"{min(reading) / 1e9:.3f} us a record to read them (at most 0.2)")
 
 
-def told(folder, *words):
+def numbers_of(folder: str, *words: str) -> tuple[int, int, int]:
     """The two numbers that a program in this folder says on standard error, and the one that it prints."""
     child = subprocess.run(words, cwd=folder, capture_output=True, text=True)
     if child.returncode != 0:
@@ -176,76 +167,144 @@ def told(folder, *words):
     return first, second, int(child.stdout)
 
 
-def timed_flushes(messages, word, times, place):
+def timed_flushes(meter: str, word: str, times: int, place: str) -> tuple[int, int, int]:
     """The nanoseconds of all flushes, those beside them, and how many flushes there were."""
     folder = tempfile.mkdtemp(dir=place)
     try:
-        return told(folder, messages, word, str(times))
+        return numbers_of(folder, meter, word, str(times))
     finally:
         shutil.rmtree(folder)
 
 
-def measure_flushes(messages):
-    runs = [timed_flushes(messages, "flush", 2_000, ".") for _ in range(RUNS)]
+def measure_flushes(meter: str) -> None:
+    """Flushes on disk and in memory."""
+    runs = [timed_flushes(meter, "flush", 2_000, ".") for _ in range(RUNS)]
     flushing, writing, count = min(r[0] for r in runs), min(r[1] for r in runs), runs[0][2]
-    print(f"flushes of two data files on disk: {count / flushing * 1e9:.0f} a second, {writing / flushing:.2f} of the rate "
-          f"of their four writes and syncs alone, {count / writing * 1e9:.0f} a second (at least 0.95)")
-    flushing, writing, count = min(timed_flushes(messages, "flush", 100_000, "/dev/shm") for _ in range(RUNS))
+    print(f"flushes of two data files on disk: {count / flushing * 1e9:.0f} a second, "
+          f"{writing / flushing:.2f} of the rate of their four writes and syncs alone, "
+          f"{count / writing * 1e9:.0f} a second (at least 0.95)")
+    flushing, writing, count = min(timed_flushes(meter, "flush", 100_000, "/dev/shm") for _ in range(RUNS))
     print(f"flushes of 100 bytes on /dev/shm: {flushing / count / 1e3:.2f} us each (at most 3), "
           f"and the calls of each alone {writing / count / 1e3:.2f}")
 
 
-def making(messages, word):
-    """The microseconds of the log in the middle, of so many that are made in a new folder. The folder stays until all are
-    measured: a mass delete on a disk makes the next files slow."""
+def making(meter: str) -> tuple[str, float]:
+    """The microseconds of the log in the middle, of so many that are made in a new folder.
+
+    The folder stays until all are measured: a mass delete on a disk makes the next files slow.
+    """
     folder = tempfile.mkdtemp(dir=".")
-    child = subprocess.run([messages, word, str(MADE)], cwd=folder, capture_output=True, text=True)
+    child = subprocess.run([meter, "make", str(MADE)], cwd=folder, capture_output=True, text=True)
     if child.returncode != 0:
         shutil.rmtree(folder)
-        sys.exit(f"bench: {word} ended with status {child.returncode}")
+        sys.exit(f"bench: make ended with status {child.returncode}")
     return folder, int(child.stderr) / 1e3
 
 
-def measure_making(messages):
-    """Each way by itself, in runs that take turns, since no server makes logs both ways. Measure on an idle machine: what others
-    write makes a round worth nothing. Between runs the disk gets a rest, since it may hold back who syncs some hundred times in a row."""
-    words = ("make", "make-first")
-    took, folders = {word: [] for word in words}, []
+def sync_folder(path: str) -> None:
+    """Syncs a folder."""
+    opened = os.open(path, os.O_RDONLY)
+    os.fsync(opened)
+    os.close(opened)
+
+
+def make_folders(root: str, number: int) -> str:
+    """The folder of a log, and those above it, each with a sync of the one that it is in."""
+    folder = root
+    for name in ("alone", "a", "b", str(number)):
+        above, folder = folder, os.path.join(folder, name)
+        try:
+            os.mkdir(folder)
+        except FileExistsError:
+            pass
+        sync_folder(above)
+    return folder
+
+
+def make_alone(root: str, number: int, kept: list[int]) -> None:
+    """The nine files of a log in a folder of their own, with a sync of each thing, as this store's first version did.
+
+    It synced four folders above, each file and the folder after it, and four writes. That is 26 syncs, and 9 more once
+    it had more files than the 64 that it kept open, since each that it closed was synced.
+    """
+    folder = make_folders(root, number)
+    for name in ("log.json", "exit.json", "timing", "stdin", "stdout", "stderr", "ttyin", "ttyout", "slots"):
+        path = os.path.join(folder, name)
+        if os.path.exists(path):
+            sys.exit(f"bench: {path} is there")
+        kept.append(os.open(path, os.O_CREAT | os.O_EXCL | os.O_RDWR, 0o666))
+        os.fsync(kept[-1])
+        sync_folder(folder)
+        if len(kept) > 64:
+            os.fdatasync(kept[0])
+            os.close(kept.pop(0))
+    for file, at, text in ((-1, 0, b"\0"), (-9, 0, b"x" * 277), (-1, 1, bytes(90)), (-1, 0, b"\1")):
+        os.pwrite(kept[file], text, at)
+        os.fdatasync(kept[file])
+
+
+def making_first() -> tuple[str, float]:
+    """The same of logs that are made as the first version did.
+
+    The calls are made here: what Python adds to 35 syncs is little.
+    """
+    folder, took = tempfile.mkdtemp(dir="."), []
+    kept: list[int] = []
+    for number in range(MADE):
+        start = time.perf_counter_ns()
+        make_alone(folder, number, kept)
+        took.append(time.perf_counter_ns() - start)
+    for file in kept:
+        os.close(file)
+    return folder, sorted(took)[MADE // 2] / 1e3
+
+
+def measure_making(meter: str) -> None:
+    """Each way by itself, in runs that take turns, since no server makes logs both ways.
+
+    Measure on an idle machine: what others write makes a round worth nothing. Between runs the disk gets a rest,
+    since it may hold back who syncs some hundred times in a row.
+    """
+    ways = {"ours": lambda: making(meter), "first": making_first}
+    took, folders = {way: [] for way in ways}, []
     os.sync()
     time.sleep(2)
     try:
         for turn in range(MAKINGS):
-            for word in words if turn % 2 else reversed(words):
-                folder, each = making(messages, word)
+            for way in ways if turn % 2 else reversed(ways):
+                folder, each = ways[way]()
                 folders.append(folder)
-                took[word].append(each)
+                took[way].append(each)
                 time.sleep(0.4)
     finally:
         for folder in folders:
             shutil.rmtree(folder)
-    ours, first = (statistics.median(took[word]) for word in words)
+    ours, first = (statistics.median(took[way]) for way in ways)
     print(f"making the nine files of a log and its first entry on disk: {ours:.0f} us, "
           f"{ours / first:.2f} of the time that the first version's calls take, with 35 syncs (at most 0.33)")
 
 
-def measure_appending(messages):
+def measure_appending(meter: str) -> None:
+    """Records that are appended."""
     for word, size, most, times in [("fill", 10, 0.06, 10_000), ("fill-large", 1_000, 0.12, 1_000)]:
         for place, where in [("/dev/shm", "/dev/shm"), (".", "disk")]:
-            runs = [timed_flushes(messages, word, times // (1 if where != "disk" else 10), place) for _ in range(RUNS)]
+            runs = [timed_flushes(meter, word, times // (1 if where != "disk" else 10), place) for _ in range(RUNS)]
             appending = min(it[0] / it[2] for it in runs) / BATCH / 1e3
             flushing = min(it[1] / it[2] for it in runs) / 1e3
-            print(f"a record of {size} bytes, appended to a log on {where}: {appending:.3f} us beside its flush (at most {most}); "
-                  f"a flush of {BATCH} of them {flushing:.2f} us" + (" (at most 4)" if (where, size) == ("/dev/shm", 10) else ""))
+            print(f"a record of {size} bytes, appended to a log on {where}: {appending:.3f} us beside its flush "
+                  f"(at most {most}); "
+                  f"a flush of {BATCH} of them {flushing:.2f} us" + (" (at most 4)" if (where, size) == ("/dev/shm",
+                      10) else ""))
 
 
-def measure_opening(messages):
+def measure_opening(meter: str) -> None:
     """A log is filled in one process and opened in others, whose peak of memory is their own."""
     seen = []
     for count in [BATCH, 100_000, 1_000_000]:
         folder = tempfile.mkdtemp(dir="/dev/shm")
         try:
-            told(folder, messages, "fill", str(count // BATCH))
-            runs = [told(folder, messages, "open") for _ in range(RUNS)]
+            numbers_of(folder, meter, "fill", str(count // BATCH))
+            runs = [numbers_of(folder, meter, "open") for _ in range(RUNS)]
         finally:
             shutil.rmtree(folder)
         seen.append((min(it[0] for it in runs), max(it[1] for it in runs), count))
@@ -254,13 +313,13 @@ def measure_opening(messages):
           f"{(peak - base) / 1024:.2f} MiB above a log of {BATCH} (at most 1)")
 
 
-def syncs_of(messages, times):
+def syncs_of(meter: str, times: int) -> int:
     """How many syncs reach the device where so many short logs are made in a new store on disk."""
     folder = os.path.abspath(tempfile.mkdtemp(dir="."))
     try:
         trace = os.path.join(folder, "trace")
         words = ["strace", "-f", "-qq", "-e", "trace=fsync,fdatasync", "-e", "signal=none", "-o", trace]
-        child = subprocess.run(words + [messages, "short-logs", str(times)], cwd=folder, capture_output=True)
+        child = subprocess.run(words + [meter, "short-logs", str(times)], cwd=folder, capture_output=True)
         if child.returncode != 0:
             sys.exit(f"bench: short-logs ended with status {child.returncode}")
         with open(trace) as lines:
@@ -269,26 +328,28 @@ def syncs_of(messages, times):
         shutil.rmtree(folder)
 
 
-def measure_syncs(messages):
+def measure_syncs(meter: str) -> None:
+    """The syncs of a log, counted."""
     if shutil.which("strace") is None:
         print("the syncs of a log of three records: strace, which counts them, isn't there")
         return
-    first, both = syncs_of(messages, 1), syncs_of(messages, 2)
+    first, both = syncs_of(meter, 1), syncs_of(meter, 2)
     print(f"making, filling and finishing a log of three records on disk: {both - first} syncs (at most 14), "
           f"of the first log of a store {first}")
 
 
-def main():
-    program, messages = (os.path.abspath(it) for it in sys.argv[1:3])
+def main() -> None:
+    """All measures."""
+    program, meter = (os.path.abspath(it) for it in sys.argv[1:3])
     measure_sessions(program)
     measure_crowds(program)
-    measure_messages(messages)
-    measure_records(messages)
-    measure_flushes(messages)
-    measure_making(messages)
-    measure_appending(messages)
-    measure_opening(messages)
-    measure_syncs(messages)
+    measure_messages(meter)
+    measure_records(meter)
+    measure_flushes(meter)
+    measure_making(meter)
+    measure_appending(meter)
+    measure_opening(meter)
+    measure_syncs(meter)
 
 
 if __name__ == "__main__":

@@ -3,33 +3,39 @@
 
 usage: replay.py PROGRAM [PEER]
 
-It prints the processor time a log of a listing of 10,000 logs, and a record of a session of 1,000,000 records of ten bytes
-that is played without waits, the peak of memory of each, and the ratio of the times to those of a tenth of each load,
-which shows that the cost is linear. PEER is sudo's own sudoreplay, by default that of Debian's package sudo, over its own
-store: its listings and ours run in turns, the least time of each counts, and the ratio of ours to its stands behind them.
+It prints the processor time a log of a listing of 10,000 logs, and a record of a session of 1,000,000 records of ten
+bytes that is played without waits, the peak of memory of each, and the ratio of the times to those of a tenth of
+each load, which shows that the cost is linear. PEER is sudo's own sudoreplay, by default that of Debian's package
+sudo, over its own store: its listings and ours run in turns, the least time of each counts, and the ratio of ours to
+its stands behind them.
 """
+from __future__ import annotations
+
 import os
 import shutil
 import subprocess
 import sys
 import tempfile
+from collections.abc import Callable, Sequence
 
-sys.path.insert(0, os.path.join(os.path.dirname(os.path.abspath(__file__)), "..", "interop"))
-import replay as interop  # noqa: E402
-import servers  # noqa: E402
-import stores  # noqa: E402
-from bench import watched  # noqa: E402
+from bench import watched
+from interop import servers
+from oracle import lines, store
+from oracle.records import SECOND
+from oracle.sudo import write_session
 
+SUBMIT = 1_700_000_000 * SECOND
 LOGS = 10_000
 RECORDS = 1_000_000
 RUNS = 9
 INFO = {
-    "columns": 80, "command": "/usr/bin/id", "lines": 24, "runargv": ["id", "-u"], "rungid": 0, "rungroup": "root", "runuid": 0,
+    "columns": 80, "command": "/usr/bin/id", "lines": 24, "runargv": ["id", "-u"], "rungid": 0, "rungroup": "root",
+    "runuid": 0,
     "runuser": "root", "submitcwd": "/home/ann", "submithost": "web1", "submituser": "ann", "ttyname": "/dev/pts/0",
 }
 
 
-def run(program, words):
+def run(program: str, words: Sequence[str]) -> tuple[float, int]:
     """The processor seconds and the peak memory in bytes of one run, whose output is dropped."""
     child = subprocess.Popen([program, *words], stdin=subprocess.DEVNULL, stdout=subprocess.DEVNULL)
     peak, status, usage = watched(child.pid)
@@ -38,32 +44,33 @@ def run(program, words):
     return usage.ru_utime + usage.ru_stime, peak
 
 
-def best(runners):
-    """The least processor time of some runs of each of these programs with its words, in turns, and the peaks of memory."""
+def best(runners: Sequence[tuple[str, Sequence[str]]]) -> tuple[list[float], list[int]]:
+    """The least processor time of some runs of each program with its words, in turns, and the peaks of memory."""
     runs = [[run(program, words) for program, words in runners] for _ in range(RUNS)]
-    return [min(seconds for seconds, _ in kept) for kept in zip(*runs)], [max(peak for _, peak in kept) for kept in zip(*runs)]
+    return [min(seconds for seconds, _ in kept) for kept in zip(*runs)], [max(peak for _,
+        peak in kept) for kept in zip(*runs)]
 
 
-def many_logs(folder, count, peer):
+def many_logs(folder: str, count: int, peer: bool) -> None:
     """A store of so many small sessions."""
-    head = stores.head_text((1700000000, 0), INFO)
+    head, ended = lines.head(SUBMIT, INFO), lines.exit_line(SECOND, 0)
     records = [(1, "ttyout", b"0\r\n")]
     for number in range(1, count + 1):
         if peer:
-            interop.write_peer(folder, number, 1700000000, INFO, records)
+            write_session(store.folder_of(folder, store.digits_of(number)), SUBMIT, INFO, records)
         else:
-            stores.write_log(folder, number, head, records, stores.exit_text((1, 0), 0))
-    stores.write_numbers(folder, count)
+            store.write_log(folder, number, head, records, ended)
+    store.write_numbers(folder, count)
 
 
-def many_records(folder, count):
+def many_records(folder: str, count: int) -> None:
     """A store of one session of so many records."""
     records = [(1_000_000, "ttyout", b"0123456789")] * count
-    stores.write_log(folder, 1, stores.head_text((1700000000, 0), INFO), records, stores.exit_text((1, 0), 0))
-    stores.write_numbers(folder, 1)
+    store.write_log(folder, 1, lines.head(SUBMIT, INFO), records, lines.exit_line(SECOND, 0))
+    store.write_numbers(folder, 1)
 
 
-def measure(name, program, fill, count, words):
+def measure(name: str, program: str, fill: Callable[[str, int], None], count: int, words: Sequence[str]) -> None:
     """Prints the cost of each of so many."""
     times = []
     for size in (count // 10, count):
@@ -72,10 +79,11 @@ def measure(name, program, fill, count, words):
         (seconds,), (peak,) = best([(program, ["-d", folder, *words])])
         times.append(seconds)
         shutil.rmtree(folder)
-    print(f"{name}: {times[1] / count * 1e6:.2f} µs, {times[1] / times[0]:.1f} times that of a tenth, {peak / 2**20:.1f} MB", flush=True)
+    each, ratio = times[1] / count * 1e6, times[1] / times[0]
+    print(f"{name}: {each:.2f} µs, {ratio:.1f} times that of a tenth, {peak / 2**20:.1f} MB", flush=True)
 
 
-def beside(name, program, peer, words):
+def beside(name: str, program: str, peer: str, words: Sequence[str]) -> None:
     """Prints the cost of each log beside that of the peer."""
     stored = [(it, tempfile.mkdtemp(dir="/dev/shm")) for it in (program, peer)]
     for it, folder in stored:
@@ -83,14 +91,17 @@ def beside(name, program, peer, words):
     (ours, its), _ = best([(it, ["-d", folder, *words]) for it, folder in stored])
     for _, folder in stored:
         shutil.rmtree(folder)
-    print(f"{name}, in turns with sudo's own: {ours / LOGS * 1e6:.2f} µs to {its / LOGS * 1e6:.2f} µs, ratio {ours / its:.2f}", flush=True)
+    both = f"{ours / LOGS * 1e6:.2f} µs to {its / LOGS * 1e6:.2f} µs"
+    print(f"{name}, in turns with sudo's own: {both}, ratio {ours / its:.2f}", flush=True)
 
 
-def main():
+def main() -> None:
+    """All measures."""
     program = os.path.realpath(sys.argv[1])
     peer = sys.argv[2] if len(sys.argv) > 2 else servers.tool("sudoreplay")
     measure("a log of a listing", program, lambda folder, n: many_logs(folder, n, False), LOGS, ["-l"])
-    measure("a log of a search by command", program, lambda folder, n: many_logs(folder, n, False), LOGS, ["-l", "command", "^/bin"])
+    measure("a log of a search by command", program, lambda folder, n: many_logs(folder, n, False), LOGS,
+        ["-l", "command", "^/bin"])
     measure("a record that is played", program, many_records, RECORDS, ["-m", "0", "000001"])
     if peer:
         beside("a log of a listing", program, peer, ["-l"])

@@ -3,11 +3,13 @@
 
 usage: serve.py PROGRAM [--peer PEER] [--disk FOLDER] [--share S] [--only WORD]
 
-PEER is by default the sudo_logsrvd of Debian's package sudo, which never syncs; where it isn't installed, and no WORD is given,
-nothing is measured. Each figure is the least of some runs, and behind it stands that of the peer and the ratio of both.
-Processor time is that of the server alone, without its start. S makes the loads smaller (0.01), to try the script. WORD is one of
-loads, memory, commits and load, or peer, which measures the peer alone.
+PEER is by default the sudo_logsrvd of Debian's package sudo, which never syncs; where it isn't installed, and no
+WORD is given, nothing is measured. Each figure is the least of some runs, and behind it stands that of the peer and
+the ratio of both. Processor time is that of the server alone, without its start. S makes the loads smaller (0.01),
+to try the script. WORD is one of loads, memory, commits and load, or peer, which measures the peer alone.
 """
+from __future__ import annotations
+
 import argparse
 import os
 import selectors
@@ -18,18 +20,18 @@ import sys
 import tempfile
 import threading
 import time
+from collections.abc import Callable, Iterable, Sequence
 
-sys.path.insert(0, os.path.join(os.path.dirname(os.path.abspath(__file__)), "..", "interop"))
-import client  # noqa: E402
-import servers  # noqa: E402
+from interop import client, servers
+from oracle.records import SECOND
 
-SECOND = 10**9
-INFO = {"command": "/bin/ls", "runargv": ["ls", "-l"], "runuser": "root", "submituser": "ann", "submithost": "web1", "submitcwd": "/", "ttyname": "/dev/pts/1", "lines": 24, "columns": 80}
+INFO = {"command": "/bin/ls", "runargv": ["ls", "-l"], "runuser": "root", "submituser": "ann", "submithost": "web1",
+    "submitcwd": "/", "ttyname": "/dev/pts/1", "lines": 24, "columns": 80}
 RUNS = 3
 SYNCS = 4
 
 
-def conversation(count, size):
+def conversation(count: int, size: int) -> bytes:
     """The client's bytes of a whole session with so many records of so many bytes."""
     record = client.record((1000, "ttyout", b"x" * size))
     return client.hello() + client.accept(1_700_000_000 * SECOND, INFO) + record * count + client.exited(count * 1000)
@@ -38,12 +40,13 @@ def conversation(count, size):
 class Crowd:
     """Connections that are served at the same time; each sends its bytes and reads until the server ends it."""
 
-    def __init__(self, port, texts, most):
+    def __init__(self, port: int, texts: Iterable[bytes], most: int) -> None:
+        """At most so many connections at the same time, each with one of the texts."""
         self.port, self.texts, self.most = port, iter(texts), most
         self.poll, self.open, self.over = selectors.DefaultSelector(), 0, 0
         self.bytes = 0
 
-    def more(self):
+    def more(self) -> None:
         """Opens connections up to the greatest number."""
         while self.open < self.most:
             text = next(self.texts, None)
@@ -54,7 +57,8 @@ class Crowd:
             self.poll.register(link, selectors.EVENT_READ | selectors.EVENT_WRITE, [memoryview(text), b""])
             self.open += 1
 
-    def run(self):
+    def run(self) -> int:
+        """Serves all texts. Gives how many sessions are over."""
         self.more()
         while self.open:
             for key, events in self.poll.select(30):
@@ -64,13 +68,15 @@ class Crowd:
                     self.read(key)
         return self.over
 
-    def write(self, key):
+    def write(self, key: selectors.SelectorKey) -> None:
+        """Sends more of a text."""
         sent = key.fileobj.send(key.data[0])
         key.data[0] = key.data[0][sent:]
         if not key.data[0]:
             self.poll.modify(key.fileobj, selectors.EVENT_READ, key.data)
 
-    def read(self, key):
+    def read(self, key: selectors.SelectorKey) -> None:
+        """Reads answers, and ends what is over."""
         piece = key.fileobj.recv(65536)
         self.bytes += len(piece)
         if piece:
@@ -89,14 +95,16 @@ class Crowd:
 class Side:
     """One of the two servers."""
 
-    def __init__(self, program, kind):
+    def __init__(self, program: str, kind: type[servers.Serve]) -> None:
+        """A program, and how it is run."""
         self.program, self.kind = program, kind
         self.idle = None
 
-    def place(self, parent):
+    def place(self, parent: str) -> servers.Place:
+        """The folder of a server, with its settings."""
         return servers.Place(servers.SUDO if self.kind is servers.Sudo else servers.OURS, parent)
 
-    def served(self, parent, texts, most):
+    def served(self, parent: str, texts: Sequence[bytes], most: int) -> tuple[float, float]:
         """Processor and wall seconds of a server that serves these sessions, and no more."""
         place = self.place(parent)
         server = self.kind(self.program, place).start()
@@ -109,14 +117,14 @@ class Side:
             shutil.rmtree(place.folder)
         return used, wall
 
-    def start_time(self):
+    def start_time(self) -> float:
         """Processor seconds of a start and an end."""
         if self.idle is None:
             self.idle = min(self.served("/dev/shm", [], 1)[0] for _ in range(RUNS))
         return self.idle
 
 
-def interleaved(sides, measure):
+def interleaved(sides: Sequence[Side], measure: Callable[[Side], tuple[float, ...]]) -> list[tuple[float, ...]]:
     """The least results of some runs of each side, one after the other."""
     results = [[] for _ in sides]
     for _ in range(RUNS):
@@ -125,14 +133,15 @@ def interleaved(sides, measure):
     return [tuple(map(min, zip(*kept))) for kept in results]
 
 
-def told(name, unit, figures):
+def show(name: str, unit: str, figures: Sequence[float]) -> None:
     """Prints the figure of each side, and the ratio of the first to the second."""
     text = " to ".join(f"{it:.3g}" for it in figures)
     ratio = f", ratio {figures[0] / figures[1]:.2f}" if len(figures) == 2 and figures[1] else ""
     print(f"{name}: {text}{' ' * bool(unit)}{unit}{ratio}", flush=True)
 
 
-def measure_loads(sides, places, share):
+def measure_loads(sides: Sequence[Side], places: Sequence[tuple[str, str]], share: float) -> None:
+    """Records and logs, in memory and on disk."""
     loads = [
         ("a record of 10 bytes, 8 connections", 8, 8, int(25_000 * share), 10, "records"),
         ("a record of 1,000 bytes, 8 connections", 8, 8, int(2_500 * share), 1_000, "records"),
@@ -143,16 +152,18 @@ def measure_loads(sides, places, share):
             text = conversation(count, size)
             number = sessions * (count if what == "records" else 1)
             results = interleaved(sides, lambda side: side.served(place, [text] * sessions, most))
-            told(f"{name}, {where}, processor time", "us", [max(0, used - side.start_time()) / number * 1e6 for (used, _), side in zip(results, sides)])
-            told(f"{name}, {where}, {what} a second", "", [number / wall for _, wall in results])
+            show(f"{name}, {where}, processor time", "us",
+                [max(0, used - side.start_time()) / number * 1e6 for (used, _), side in zip(results, sides)])
+            show(f"{name}, {where}, {what} a second", "", [number / wall for _, wall in results])
 
 
-def memory(process, key):
+def memory(process: subprocess.Popen[bytes], key: str) -> int:
+    """A line of a process' status, in bytes."""
     with open(f"/proc/{process.pid}/status", encoding="ascii") as file:
         return next(int(line.split()[1]) * 1024 for line in file if line.startswith(key))
 
 
-def measure_memory(sides, share):
+def measure_memory(sides: Sequence[Side], share: float) -> None:
     """Peak with 64 open sessions, and what is added from the first logs to the last."""
     peaks, grown = [], []
     for side in sides:
@@ -160,7 +171,8 @@ def measure_memory(sides, share):
         server = side.kind(side.program, place).start()
         links = [client.connect(place.port) for _ in range(64)]
         for link in links:
-            link.send(client.hello(), client.accept(5 * SECOND, INFO), *[client.record((1000, "ttyout", b"0123456789"))] * 100)
+            link.send(client.hello(), client.accept(5 * SECOND, INFO),
+                *[client.record((1000, "ttyout", b"0123456789"))] * 100)
         for link in links:
             while link.read()[0] != "log_id":
                 pass
@@ -175,11 +187,11 @@ def measure_memory(sides, share):
         grown.append((memory(server.process, "VmRSS") - first) / 2**20)
         server.stop()
         shutil.rmtree(place.folder)
-    told("peak of memory with 64 open sessions", "MiB", peaks)
-    told(f"memory added over {logs} logs", "MiB", grown)
+    show("peak of memory with 64 open sessions", "MiB", peaks)
+    show(f"memory added over {logs} logs", "MiB", grown)
 
 
-def measure_hostile(side):
+def measure_hostile(side: Side) -> None:
     """Peak while 128 clients send accepts of 2 MiB with some 350,000 empty entries at once."""
     place = side.place("/dev/shm")
     server = side.kind(side.program, place).start()
@@ -193,19 +205,21 @@ def measure_hostile(side):
             pass
     for thread in threads:
         thread.join()
-    told("peak of memory with 128 clients that send accepts of 350,000 empty entries", "MiB", [memory(server.process, "VmHWM") / 2**20])
+    show("peak of memory with 128 clients that send accepts of 350,000 empty entries", "MiB",
+        [memory(server.process, "VmHWM") / 2**20])
     for link in links:
         link.close()
     server.stop()
     shutil.rmtree(place.folder)
 
 
-def syncs_alone(folder, times, logs):
-    """How often a second the two data files and twice the journal of a log can be written and synced, of so many logs in turn."""
+def syncs_alone(folder: str, times: int, logs: int) -> float:
+    """How often a second two data files and twice the journal can be written and synced, of so many logs in turn."""
     files = []
     for log in range(logs):
         place = tempfile.mkdtemp(dir=folder)
-        files.append([os.open(os.path.join(place, name), os.O_RDWR | os.O_CREAT, 0o600) for name in ("timing", "ttyout", "slots")])
+        files.append([os.open(os.path.join(place, name), os.O_RDWR | os.O_CREAT, 0o600) for name in ("timing", "ttyout",
+            "slots")])
         for file in files[-1]:
             os.pwrite(file, b"x" * 200, 0)
             os.fsync(file)
@@ -227,7 +241,7 @@ def syncs_alone(folder, times, logs):
     return times / took
 
 
-def commits(side, folder, connections, seconds):
+def commits(side: Side, folder: str, connections: int, seconds: float) -> float:
     """Commit points a second, where each connection sends a record once it has the commit point of the one before."""
     place = side.place(folder)
     server = side.kind(side.program, place).start()
@@ -257,22 +271,24 @@ def commits(side, folder, connections, seconds):
     return count / took
 
 
-def measure_commits(ours, folder, share):
-    """Beside their writes and syncs alone, since the peer's commit points are told by a timer and synced by nobody."""
+def measure_commits(ours: Side, folder: str, share: float) -> None:
+    """Beside their writes and syncs alone, since the peer's commit points come by a timer and synced by nobody."""
     for connections in (1, 64):
         alone, made = [], []
         for _ in range(RUNS):
             alone.append(syncs_alone(folder, int(2_000 * share) + 10, connections))
             made.append(commits(ours, folder, connections, 2 * share + 0.5))
-        print(f"commit points a second on disk, {connections} {'connection' if connections == 1 else 'connections'}: {max(made):.0f}, "
-              f"{max(made) / max(alone):.2f} of the rate of their {SYNCS} writes and syncs alone, {max(alone):.0f} a second", flush=True)
+        what = f"{connections} {'connection' if connections == 1 else 'connections'}"
+        rate = f"{max(made) / max(alone):.2f} of the rate of their {SYNCS} writes and syncs alone"
+        print(f"commit points a second on disk, {what}: {max(made):.0f}, {rate}, {max(alone):.0f} a second", flush=True)
 
 
-def load_time(program, count):
+def load_time(program: str, count: int) -> float | None:
     """Processor seconds a log of `load`."""
     place = servers.Place(parent="/dev/shm")
     with open(place.errors, "wb") as errors:
-        child = subprocess.Popen([program, "load", "-f", place.conf, str(count)], stdout=subprocess.DEVNULL, stderr=errors)
+        child = subprocess.Popen([program, "load", "-f", place.conf, str(count)], stdout=subprocess.DEVNULL,
+            stderr=errors)
     _, status, usage = os.wait4(child.pid, 0)
     child.returncode = status
     if status != 0:
@@ -282,7 +298,8 @@ def load_time(program, count):
     return (usage.ru_utime + usage.ru_stime) / count
 
 
-def measure_linear(program):
+def measure_linear(program: str) -> None:
+    """The load's time a log, of few and of many."""
     times = {}
     for _ in range(RUNS):
         for count in (1_000, 10_000):
@@ -290,10 +307,12 @@ def measure_linear(program):
             if used is None:
                 return
             times[count] = min(used, times.get(count, used))
-    print(f"load 10000: {times[10_000] * 1e6:.1f} us a log, {times[10_000] / times[1_000]:.3f} times that of load 1000 (at most 1.05)")
+    ratio = times[10_000] / times[1_000]
+    print(f"load 10000: {times[10_000] * 1e6:.1f} us a log, {ratio:.3f} times that of load 1000 (at most 1.05)")
 
 
-def main():
+def main() -> None:
+    """All measures that are asked for."""
     words = argparse.ArgumentParser(description=__doc__)
     words.add_argument("program")
     words.add_argument("--peer", default=servers.tool("sudo_logsrvd"))

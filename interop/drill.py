@@ -3,20 +3,24 @@
 
 usage: drill.py --server PROGRAM [--as serve|once] [--kills N] [--clients N] [--seed N] [--fault NAME] [--power KIND]
 
-Clients open logs, send records and exits, read commit points, are cut off with the server or close by themselves, and resume
-at their last commit point with records that they make anew. After each kill, before the next start, store.py reads the store:
+Clients open logs, send records and exits, read commit points, are cut off with the server or close by themselves, and
+resume at their last commit point with records that they make anew. After each kill, before the next start, store.py
+reads the store:
 
 - each log has its records through the last commit point that its client read, and further ones only as they were sent;
 - an exit whose commit point was read is there, and a complete log has all of its records;
-- no number was told twice, none is above the number file, and those of a later life are above those of the earlier ones;
-- the accept of each log that a client was told of has just one event line, an exit with its commit point too.
+- no number was given twice, none is above the number file, and those of a later life are above those of the earlier
+ones;
+- the accept of each log that a client knows has just one event line, an exit with its commit point too.
 
-A restart must be accepted wherever the log isn't complete. `once` has one client, on a pair of sockets, and a process for each
-connection. With --power the store stands on a file system of that kind whose power is cut after each kill (power.py), so
-that what did not reach the device is gone; root alone may do that, and where the machine lacks the kind it ends with 3. --fault is
-handed to model.py, the wrong server by which the drill is tried. It ends with 1 where something differs; ended by SIGTERM it
-tells what was found until then.
+A restart must be accepted wherever the log isn't complete. `once` has one client, on a pair of sockets, and a
+process for each connection. With --power the store stands on a file system of that kind whose power is cut after
+each kill (power.py), so that what did not reach the device is gone; root alone may do that, and where the machine
+lacks the kind it ends with 3. --fault is handed to model.py, the wrong server by which the drill is tried. It ends
+with 1 where something differs; ended by SIGTERM it says what was found until then.
 """
+from __future__ import annotations
+
 import argparse
 import json
 import os
@@ -26,15 +30,19 @@ import signal
 import sys
 import threading
 import time
+from collections.abc import Sequence
+from typing import Any
 
 import client
 import power
 import servers
 import store
-import tap
-
-SECOND = 10**9
-INFO = {"command": "/usr/bin/vi", "runargv": ["vi", "/etc/motd"], "runuser": "root", "submituser": "ann", "submithost": "web1", "submitcwd": "/"}
+from oracle import lines
+from oracle.connection import Closed, Connection
+from oracle.messages import Info
+from oracle.records import SECOND, STREAMS, Record, cut_at, elapsed
+INFO = {"command": "/usr/bin/vi", "runargv": ["vi", "/etc/motd"], "runuser": "root", "submituser": "ann",
+    "submithost": "web1", "submitcwd": "/"}
 
 
 class Wrong(Exception):
@@ -44,75 +52,81 @@ class Wrong(Exception):
 class Session:
     """A log as its clients know it.
 
-    `kept` are the records that a commit point promised. Behind them stands one of `tails`: what was sent on each connection
-    since, of which the server may have any first part. `ended` has the exits that were sent, by the number of their tail.
+    `kept` are the records that a commit point promised. Behind them stands one of `tails`: what was sent on each
+    connection since, of which the server may have any first part. `ended` has the exits that were sent, by the
+    number of their tail.
     """
 
-    def __init__(self, digits, info):
+    def __init__(self, digits: str, info: Info) -> None:
+        """A log that was just begun."""
         self.digits, self.info = digits, info
         self.kept, self.tails, self.ended = [], [[]], {}
         self.point, self.complete = None, False
         # what was read while no server ran, until a restart is sent: nobody may change it
         self.at_rest = None
 
-    def sent(self, record):
+    def sent(self, record: Record) -> None:
+        """A record was sent on the present connection."""
         self.tails[-1].append(record)
 
-    def sent_exit(self, value):
+    def sent_exit(self, value: int) -> None:
+        """An exit was sent on the present connection."""
         self.ended[len(self.tails) - 1] = value
 
-    def committed(self, point):
+    def committed(self, point: int) -> None:
         """A commit point came on the present connection: of that tail the first record that ends there is kept."""
         tail = self.tails[-1]
         if point == (self.point or 0) and not (self.point is None and tail):
             return
-        base = sum(record[0] for record in self.kept)
+        base = elapsed(self.kept)
         if point < base:
             raise Wrong(f"log {self.digits}: a commit point of {point} after one of {base}")
-        taken = tap.cut_at(tail, point - base) if point > base or self.point is None else []
+        taken = cut_at(tail, point - base) if point > base or self.point is None else []
         if taken is None:
             raise Wrong(f"log {self.digits}: a commit point of {point}, where no record ends")
         exits = self.ended.get(len(self.tails) - 1)
         self.kept, self.tails, self.point = self.kept + taken, [tail[len(taken):]], point
         self.ended = {} if exits is None else {0: exits}
 
-    def accepted(self):
+    def accepted(self) -> None:
         """A restart was accepted, so what was sent on the earlier connections behind the point is gone."""
         self.tails, self.ended = [self.tails[-1]], {}
 
-    def finished(self):
+    def finished(self) -> None:
         """The commit point of the exit came: all that was sent is kept."""
         self.kept, self.complete = self.kept + self.tails[-1], True
         self.ended = {0: self.ended[len(self.tails) - 1]}
         self.tails = [[]]
 
-    def resumed(self):
+    def resumed(self) -> None:
         """A restart at the last commit point is sent: what is stored may be cut there, or not yet."""
         self.tails.append([])
         self.at_rest = None
 
-    def check(self, log):
+    def check(self, log: store.Log | None) -> None:
         """The log as it is read is one that the promises allow."""
         if log is None:
             raise Wrong(f"log {self.digits} isn't there")
         if log.info != self.info:
-            raise Wrong(f"log {self.digits} tells {log.info} for {self.info}")
+            raise Wrong(f"log {self.digits} has {log.info} for {self.info}")
         if self.at_rest not in (None, (log.records, log.exit)):
             raise Wrong(f"log {self.digits} has changed, and nobody wrote to it")
         count = len(self.kept)
         if log.records[:count] != self.kept:
-            raise Wrong(f"log {self.digits} has {len(log.records)} records, and {count} were committed through {self.point}")
+            promised = f"{count} were committed through {self.point}"
+            raise Wrong(f"log {self.digits} has {len(log.records)} records, and {promised}")
         rest = log.records[count:]
         if not any(rest == tail[:len(rest)] for tail in self.tails):
-            raise Wrong(f"log {self.digits}: the {len(rest)} records behind the commit point {self.point} are no first part of what was sent")
+            after = f"the {len(rest)} records after the commit point {self.point}"
+            raise Wrong(f"log {self.digits}: {after} are no first part of what was sent")
         if self.complete and not log.is_complete():
             raise Wrong(f"log {self.digits}: the exit was committed, and the log isn't complete")
         if log.is_complete():
-            allowed = [tap.exit_members(exit_of(value)) for at, value in self.ended.items() if rest == self.tails[at]]
+            allowed = [lines.exit_of(exit_of(value)) for at, value in self.ended.items() if rest == self.tails[at]]
             if log.exit not in allowed:
                 raise Wrong(f"log {self.digits} is complete with {log.exit}, which wasn't sent behind these records")
 
-    def settle(self, log):
+    def settle(self, log: store.Log) -> None:
         """What is stored while no server runs is all that there is."""
         self.at_rest = log.records, log.exit
         self.tails = [log.records[len(self.kept):]]
@@ -120,14 +134,16 @@ class Session:
         self.ended = {0: log.exit["exit_value"]} if log.is_complete() else {}
 
 
-def exit_of(value):
+def exit_of(value: int) -> dict[str, Any]:
+    """The exit that a client sends with a value."""
     return {"run_time": value * SECOND, "exit_value": value, "dumped_core": False, "signal": "", "error": ""}
 
 
 class Drill:
     """What all clients know, and the server."""
 
-    def __init__(self, args):
+    def __init__(self, args: argparse.Namespace) -> None:
+        """Nothing was sent yet."""
         self.rng = random.Random(args.seed)
         self.disk = power.Disk(args.power) if args.power else None
         self.place = servers.Place(parent=args.folder, disk=self.disk and self.disk.mounted)
@@ -139,25 +155,28 @@ class Drill:
         # what the event log has: its lines, the accept and the exit of each log, and how many rejects
         self.lines, self.accepts, self.ended, self.rejects = [], {}, {}, 0
         self.before, self.dead = 0, False
-        self.count = dict.fromkeys(("logs", "records", "commit points", "exits", "resumed", "cut off", "complete already", "refusals"), 0)
+        self.count = dict.fromkeys(("logs", "records", "commit points", "exits", "resumed", "cut off",
+            "complete already", "refusals"), 0)
 
-    def add(self, what, number=1):
+    def add(self, what: str, number: int = 1) -> None:
+        """Counts what has happened."""
         with self.lock:
             self.count[what] += number
 
-    def lacks(self):
+    def lacks(self) -> list[str]:
         """What hasn't happened yet, without which the drill says nothing."""
         return [what for what in ("logs", "commit points", "exits", "resumed", "cut off") if self.count[what] == 0]
 
-    def connection(self):
+    def connection(self) -> Connection:
+        """A connection whose hello came."""
         link = self.server.connect(timeout=60)
-        name, told = link.read()
+        name, content = link.read()
         if name != "hello":
-            raise Wrong(f"{name} {told} for a hello")
+            raise Wrong(f"{name} {content} for a hello")
         self.greeted.set()
         return link
 
-    def new_session(self, link, rng):
+    def new_session(self, link: Connection, rng: random.Random) -> Session:
         """Opens a log."""
         info = {**INFO, "lines": rng.randrange(100), "submitcwd": f"/{rng.random()}"}
         link.send(client.hello(), client.accept(rng.randrange(2**31) * SECOND, info))
@@ -166,97 +185,103 @@ class Drill:
             raise Wrong(f"{name} {digits} for a log_id")
         with self.lock:
             if digits in self.sessions:
-                raise Wrong(f"the number {digits} was told twice")
+                raise Wrong(f"the number {digits} was given twice")
             if store.number_of(digits) <= self.before:
-                raise Wrong(f"the number {digits} was told after {store.digits_of(self.before)}, in an earlier life")
+                raise Wrong(f"the number {digits} was given after {store.digits_of(self.before)}, in an earlier life")
             session = self.sessions[digits] = Session(digits, info)
         self.add("logs")
         return session
 
-    def old_session(self, link, session, rng):
+    def old_session(self, link: Connection, session: Session, rng: random.Random) -> Session | bool | None:
         """Resumes a log at its last commit point; None where it is complete already."""
         session.resumed()
         first = record_of(rng)
         session.sent(first)
         link.send(client.hello(), client.restart(session.digits, session.point), client.record(first))
-        name, told = link.read()
+        name, content = link.read()
         if name == "commit_point":
             session.accepted()
-            session.committed(told)
+            session.committed(content)
             self.add("resumed")
             return session
         session.tails.pop()
-        if told == "log in use":
+        if content == "log in use":
             return False
-        if told == "log complete" and session.ended:
+        if content == "log complete" and session.ended:
             session.complete = True
             self.add("complete already")
             return None
-        raise Wrong(f"log {session.digits}: a restart at {session.point} was answered by {name} {told}")
+        raise Wrong(f"log {session.digits}: a restart at {session.point} was answered by {name} {content}")
 
-    def hear(self, link, session, wait=False):
+    def take_points(self, link: Connection, session: Session, wait: bool = False) -> None:
         """Takes the commit points that came by now."""
-        for name, told in [link.read()] if wait else link.waiting():
+        for name, content in [link.read()] if wait else link.waiting():
             if name != "commit_point":
-                raise Wrong(f"log {session.digits}: {name} {told} for a commit point")
-            session.committed(told)
+                raise Wrong(f"log {session.digits}: {name} {content} for a commit point")
+            session.committed(content)
             self.add("commit points")
 
-    def serve_session(self, link, session, rng):
+    def serve_session(self, link: Connection, session: Session, rng: random.Random) -> bool:
         """Sends records and perhaps the exit. True where the session is over."""
         for _ in range(rng.choice([1, 5, 20, 60])):
             self.send_records(link, session, [record_of(rng) for _ in range(rng.choice([1, 1, 2, 10, 50]))])
-            self.hear(link, session, rng.random() < 0.5)
+            self.take_points(link, session, rng.random() < 0.5)
             if rng.random() < 0.03:
                 # the client goes away by itself, and comes back later
                 return False
         self.end_session(link, session, rng)
         return True
 
-    def send_records(self, link, session, records):
+    def send_records(self, link: Connection, session: Session, records: Sequence[Record]) -> None:
+        """Sends records."""
         for record in records:
             session.sent(record)
         link.send(*map(client.record, records))
         self.sending.set()
         self.add("records", len(records))
 
-    def end_session(self, link, session, rng):
-        """Sends the exit, and waits for its commit point. The last record alone ends at the last point, so that one commit
-        point there is that of the record, or of both, and a second one that of the exit."""
+    def end_session(self, link: Connection, session: Session, rng: random.Random) -> None:
+        """Sends the exit, and waits for its commit point.
+
+        The last record alone ends at the last point, so that one commit point there is that of the record, or of
+        both, and a second one that of the exit.
+        """
         self.send_records(link, session, [(rng.randrange(1, 10**6), "stdout", b"the last one")])
-        end = sum(record[0] for record in session.kept + session.tails[-1])
+        end = elapsed(session.kept + session.tails[-1])
         seen = 0
         if rng.random() < 0.5:
             while session.point != end:
-                self.hear(link, session, True)
+                self.take_points(link, session, True)
             seen = 1
         value = rng.randrange(100)
         session.sent_exit(value)
         link.send(client.exited(value * SECOND, value))
         heard = link.rest()
         by_itself = not self.dead
-        for name, told in heard:
+        for name, content in heard:
             if name != "commit_point":
-                raise Wrong(f"log {session.digits}: {name} {told} behind the exit")
-            session.committed(told)
+                raise Wrong(f"log {session.digits}: {name} {content} behind the exit")
+            session.committed(content)
         if by_itself and heard[-1:] != [("commit_point", end)]:
             raise Wrong(f"log {session.digits}: the exit was answered by {heard}, and the last record ends at {end}")
         if seen + heard.count(("commit_point", end)) < 2 and not by_itself:
-            raise client.Closed("before the commit point of the exit was known")
+            raise Closed("before the commit point of the exit was known")
         session.finished()
         with self.lock:
             self.exits[session.digits] = value
         self.add("exits")
 
-    def refused_session(self, link, rng):
-        """An alert and a reject, of which nothing is told to the client but the end."""
-        link.send(client.hello(), client.refusal("alert", 5 * SECOND, "beware", INFO), client.refusal("reject", 6 * SECOND, "no", INFO))
+    def refused_session(self, link: Connection, rng: random.Random) -> None:
+        """An alert and a reject, after which the client gets nothing but the end."""
+        link.send(client.hello(), client.refusal("alert", 5 * SECOND, "beware", INFO),
+            client.refusal("reject", 6 * SECOND, "no", INFO))
         if link.rest():
             raise Wrong("a reject was answered")
         if not self.dead:
             self.add("refusals")
 
-    def run_client(self, rng):
+    def run_client(self, rng: random.Random) -> None:
+        """One client: a connection after the other, until the server is dead."""
         session = None
         while not self.dead and not self.wrong:
             link = None
@@ -264,7 +289,7 @@ class Drill:
                 link = self.connection()
                 resumed, session = session, None
                 session = self.next_session(link, resumed, rng)
-            except (client.Closed, ConnectionError) as fault:
+            except (Closed, ConnectionError) as fault:
                 self.cut_off(link, fault)
             except TimeoutError as fault:
                 self.wrong.append(f"no answer: {fault}")
@@ -276,7 +301,7 @@ class Drill:
         if session:
             self.give_back(session)
 
-    def cut_off(self, link, fault):
+    def cut_off(self, link: Connection | None, fault: Exception) -> None:
         """A connection ended: by the kill, or the server is at fault."""
         if self.dead:
             self.add("cut off")
@@ -288,7 +313,7 @@ class Drill:
         if not self.dead:
             self.wrong.append(f"the server ended a connection: {fault}; it said {said}; {self.place.said()[-300:]}")
 
-    def next_session(self, link, session, rng):
+    def next_session(self, link: Connection, session: Session | None, rng: random.Random) -> Session | None:
         """One connection. Gives the session that is to be resumed, or None."""
         if session is None:
             with self.lock:
@@ -301,11 +326,12 @@ class Drill:
         session = self.new_session(link, rng)
         return self.go_on(link, session, rng)
 
-    def resume(self, link, session, rng):
+    def resume(self, link: Connection, session: Session, rng: random.Random) -> Session | None:
+        """One connection that goes on with a log. Gives the session that is to be resumed, or None."""
         found = False
         try:
             found = self.old_session(link, session, rng)
-        except (client.Closed, ConnectionError):
+        except (Closed, ConnectionError):
             self.give_back(session)
             raise
         if found is False:
@@ -313,21 +339,23 @@ class Drill:
             return session
         return self.go_on(link, session, rng) if found else None
 
-    def go_on(self, link, session, rng):
+    def go_on(self, link: Connection, session: Session, rng: random.Random) -> Session | None:
+        """Serves a session, which another client may resume if the server ends the connection."""
         try:
             over = self.serve_session(link, session, rng)
-        except (client.Closed, ConnectionError):
+        except (Closed, ConnectionError):
             self.give_back(session)
             raise
         # without a commit point there is nothing to resume at
         return None if over or session.point is None else session
 
-    def give_back(self, session):
+    def give_back(self, session: Session) -> None:
+        """Another client may resume the log, if it has a commit point."""
         if session.point is not None:
             with self.lock:
                 self.open.append(session)
 
-    def life(self, seconds):
+    def life(self, seconds: float) -> None:
         """The server runs for so long under load, and is killed; at times while it still opens its store."""
         if not self.server.is_alone() and self.rng.random() < 0.1:
             self.server.spawn()
@@ -340,7 +368,8 @@ class Drill:
             return
         self.dead = False
         self.greeted.clear()
-        threads = [threading.Thread(target=self.run_client, args=(random.Random(self.rng.random()),)) for _ in range(self.clients)]
+        threads = [threading.Thread(target=self.run_client,
+            args=(random.Random(self.rng.random()),)) for _ in range(self.clients)]
         for thread in threads:
             thread.start()
         if self.rng.random() < 0.9:
@@ -358,7 +387,7 @@ class Drill:
         if not self.wrong:
             self.check()
 
-    def kill(self):
+    def kill(self) -> None:
         """Ends the server at once, and with it the power of its disk."""
         self.server.kill()
         if self.disk:
@@ -367,8 +396,8 @@ class Drill:
             except (power.Failed, power.Lacking) as fault:
                 self.wrong.append(str(fault))
 
-    def check(self, whole=False):
-        """Reads the store, while no server runs: the logs that were written in this life and some of the others, or all."""
+    def check(self, whole: bool = False) -> None:
+        """Reads the store while no server runs: the logs that were written in this life and some others, or all."""
         try:
             found = store.numbers(self.place.store)
             last = found[0] if found else 0
@@ -378,33 +407,35 @@ class Drill:
                 log = store.read_log(self.place.store, session.digits)
                 session.check(log)
                 session.settle(log)
-            told = max(map(store.number_of, self.sessions), default=0)
-            if told > last:
-                raise Wrong(f"the number {store.digits_of(told)} was told, and the last drawn one is {last}")
+            highest = max(map(store.number_of, self.sessions), default=0)
+            if highest > last:
+                raise Wrong(f"the number {store.digits_of(highest)} was given, and the last drawn one is {last}")
             self.check_events()
             self.before = last
         except (Wrong, store.Damaged, OSError) as fault:
             self.wrong.append(str(fault))
 
-    def check_events(self):
-        """The event log begins with the lines that it had, and has one accept of each log that was told, and one of each exit."""
-        lines = store.lines(self.place.events) or []
-        if lines[:len(self.lines)] != self.lines:
+    def check_events(self) -> None:
+        """The event log begins with the lines that it had, and has one accept of each log and one line of each exit."""
+        found = store.lines(self.place.events) or []
+        if found[: len(self.lines)] != self.lines:
             raise Wrong("lines of the event log have changed")
-        for line in lines[len(self.lines):]:
+        for line in found[len(self.lines) :]:
             ((name, members),) = json.loads(line).items()
             self.take_event(name, members)
-        self.lines = lines
+        self.lines = found
         for digits, session in self.sessions.items():
             if self.accepts.get(digits) != session.info:
-                raise Wrong(f"log {digits} was told, and its accept in the event log is {self.accepts.get(digits)}")
+                raise Wrong(f"log {digits} was given, and its accept in the event log is {self.accepts.get(digits)}")
         for digits, value in self.exits.items():
             if self.ended.get(digits) != value:
-                raise Wrong(f"log {digits} has ended with {value}, and its exit in the event log is {self.ended.get(digits)}")
+                shown = self.ended.get(digits)
+                raise Wrong(f"log {digits} has ended with {value}, and its exit in the event log is {shown}")
         if self.rejects < self.count["refusals"]:
             raise Wrong(f"{self.rejects} rejects are in the event log of {self.count['refusals']}")
 
-    def take_event(self, name, members):
+    def take_event(self, name: str, members: dict[str, Any]) -> None:
+        """An event line that is new."""
         kept = {"accept": self.accepts, "exit": self.ended}.get(name)
         if kept is None:
             self.rejects += name == "reject"
@@ -415,7 +446,7 @@ class Drill:
         kept[digits] = members["info"] if name == "accept" else members["exit_value"]
 
 
-def record_of(rng):
+def record_of(rng: random.Random) -> Record:
     """A record; one of ten has no delay."""
     delay = 0 if rng.random() < 0.1 else rng.randrange(1, 10**7)
     kind = rng.random()
@@ -423,10 +454,11 @@ def record_of(rng):
         return delay, "winsize", rng.randrange(1, 99), rng.randrange(1, 300)
     if kind < 0.08:
         return delay, "suspend", rng.choice(["TSTP", "CONT"])
-    return delay, rng.choice(client.STREAMS), rng.randbytes(rng.choice([0, 1, 10, 10, 100, 3000]))
+    return delay, rng.choice(STREAMS), rng.randbytes(rng.choice([0, 1, 10, 10, 100, 3000]))
 
 
-def main():
+def main() -> int:
+    """Kills the server as often as asked for."""
     words = argparse.ArgumentParser(description=__doc__)
     words.add_argument("--server", required=True)
     words.add_argument("--as", dest="kind", choices=["serve", "once"], default="serve")
@@ -437,7 +469,8 @@ def main():
     words.add_argument("--fault")
     words.add_argument("--power", choices=list(power.KINDS))
     args = words.parse_args()
-    print(f"drill.py: {args.kind}, seed {args.seed}{', cuts of the power of ' + args.power if args.power else ''}", flush=True)
+    print(f"drill.py: {args.kind}, seed {args.seed}{', cuts of the power of ' + args.power if args.power else ''}",
+        flush=True)
     try:
         drill, kills, stopped = Drill(args), 0, []
     except power.Lacking as fault:
@@ -453,10 +486,11 @@ def main():
         drill.wrong.append(f"nothing was tried of: {', '.join(drill.lacks())}")
     for fault in drill.wrong:
         print(f"drill.py: {fault}")
-    print(f"drill.py: {kills} kills{' until it was ended' * bool(stopped)}, " + ", ".join(f"{number} {what}" for what, number in drill.count.items()))
+    print(f"drill.py: {kills} kills{' until it was ended' * bool(stopped)}, " + ", ".join(f"{number} {what}" for what,
+        number in drill.count.items()))
     if drill.wrong:
-        told = f"what was said in {drill.place.errors}, " if drill.disk else ""
-        print(f"drill.py: {told}the store is left in {os.path.dirname(drill.place.store)}")
+        where = f"what was said in {drill.place.errors}, " if drill.disk else ""
+        print(f"drill.py: {where}the store is left in {os.path.dirname(drill.place.store)}")
         return 1
     if drill.disk:
         drill.disk.end()

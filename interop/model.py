@@ -4,46 +4,43 @@
 usage: model.py once|serve -f CONF [--stop-after N] [--fault NAME]
 
 It syncs nothing, so it promises nothing over a power cut. A fault makes it wrong in a way that the drill must find:
-    early   commit points are told a turn before their records are written
+    early   commit points are sent a turn before their records are written
     reuse   numbers are drawn without being written
     uncut   a restart drops no record
     longer  a restart keeps all records at its point, and not the first alone
     silent  event lines are written a turn late
 """
+from __future__ import annotations
+
 import fcntl
-import json
 import os
 import selectors
 import socket
 import sys
 import time
+from collections.abc import Callable, Sequence
+from typing import Any
 
 import client
 import store
+from oracle import lines, messages, wire
+from oracle.lines import stamp
+from oracle.records import SECOND, SIGNAL, STREAMS, Record, cut_at, elapsed, ends, stream_of, timing_of
+from oracle.store import COMPLETE, CUT, FLUSHED, MADE, log_body, numbers_body
+from oracle.wire import LARGEST, frame
 
-SECOND = 10**9
 KEYS = ("command", "runuser", "submituser", "submithost")
-
-
-LARGEST = 2_097_152
 
 
 class Refused(Exception):
     """The error that a client gets."""
 
 
-def compact(value):
-    return (json.dumps(value, sort_keys=True, separators=(",", ":"), ensure_ascii=False) + "\n").encode("utf-8", "replace")
-
-
-def stamp(nanoseconds):
-    return {"nanoseconds": nanoseconds % SECOND, "seconds": nanoseconds // SECOND}
-
-
 class Journal:
     """A journal of two slots, opened or made."""
 
-    def __init__(self, path, size):
+    def __init__(self, path: str, size: int) -> None:
+        """The journal at a path, whose bodies have a size in bytes."""
         os.makedirs(os.path.dirname(path), exist_ok=True)
         self.file = os.open(path, os.O_RDWR | os.O_CREAT, 0o600)
         self.size = size
@@ -53,7 +50,8 @@ class Journal:
         if self.body is None:
             os.pwrite(self.file, b"\0", 0)
 
-    def append(self, body):
+    def append(self, body: bytes) -> None:
+        """An entry."""
         if self.body is None:
             os.pwrite(self.file, b"\0" + body, 1)
             os.pwrite(self.file, b"\1", 0)
@@ -67,37 +65,29 @@ class Journal:
 class OpenLog:
     """A log that a connection writes."""
 
-    def __init__(self, folder, kind, records, head, cuts):
+    def __init__(self, folder: str, kind: int, records: Sequence[Record], head: bytes, cuts: int) -> None:
+        """The log in a folder, with an entry of this kind."""
         self.journal = Journal(os.path.join(folder, "slots"), store.LOG_BODY)
         self.files = [os.open(os.path.join(folder, part), os.O_RDWR | os.O_CREAT, 0o600) for part in store.PARTS]
         self.head, self.records, self.cuts, self.staged = head, records, cuts, False
         self.flush(kind, None)
 
-    def flush(self, kind, ended):
-        texts = [self.head, ended or b"", b"".join(map(timing_line, self.records))]
-        texts += [b"".join(r[2] for r in self.records if r[1] == name) for name in store.STREAMS]
+    def flush(self, kind: int, ended: bytes | None) -> int:
+        """Writes all, and an entry. Gives the elapsed time in nanoseconds."""
+        texts = [self.head, ended or b"", timing_of(self.records)]
+        texts += [stream_of(self.records, name) for name in STREAMS]
         # written whole each time, but for what stands there already
         for file, text in zip(self.files, texts):
             length = os.fstat(file).st_size
             if os.pread(file, length, 0)[:len(text)] != text and os.pwrite(file, text, 0) < len(text):
                 raise OSError("a part alone was written")
-        elapsed = sum(r[0] for r in self.records)
-        numbers = [len(self.records), elapsed] + [len(text) for text in texts] + [self.cuts]
-        self.journal.append(bytes([kind]) + b"".join(n.to_bytes(8, "big") for n in numbers))
+        point = elapsed(self.records)
+        self.journal.append(log_body(kind, len(self.records), point, [len(text) for text in texts], self.cuts))
         self.staged = False
-        return elapsed
+        return point
 
 
-def timing_line(record):
-    delay, event, *rest = record
-    if event in store.STREAMS:
-        number, tail = store.STREAMS.index(event), str(len(rest[0]))
-    else:
-        number, tail = (5, f"{rest[0]} {rest[1]}") if event == "winsize" else (7, rest[0])
-    return f"{number} {delay // SECOND}.{delay % SECOND:09} {tail}\n".encode()
-
-
-def is_time(name, at):
+def is_time(name: str, at: wire.Value | None) -> bool:
     """Whether the time of a message is there and valid. An exit needs none, and a hello has none."""
     if name == "hello" or (name == "exit" and at is None):
         return True
@@ -108,30 +98,34 @@ def is_time(name, at):
     return seconds >= 0 and 0 <= nanoseconds < SECOND and seconds * SECOND + nanoseconds < 2**63
 
 
-def is_record(name, told):
+def is_record(name: str, content: Any) -> bool:
     """Whether a window's size and a signal are such."""
     if name == "winsize":
-        return told[2] >= 0 and told[3] >= 0
-    return name != "suspend" or store.SIGNAL.fullmatch(told[2].encode()) is not None
+        return content[2] >= 0 and content[3] >= 0
+    return name != "suspend" or SIGNAL.fullmatch(content[2].encode()) is not None
 
 
 class Settings:
-    def __init__(self, path):
-        told = {}
+    """The settings of a file, as far as the model has them."""
+
+    def __init__(self, path: str) -> None:
+        """The settings of a file."""
+        content = {}
         with open(path, encoding="utf-8") as file:
             for line in file:
                 key, sign, value = line.split("#")[0].partition("=")
                 if sign:
-                    told[key.strip()] = value.strip()
-        self.port = int(told.get("listen_address", "*:30343").rpartition(":")[2])
-        self.folder, self.events = told["iolog_dir"], told["path"]
-        self.exits = told.get("log_exit") == "true"
+                    content[key.strip()] = value.strip()
+        self.port = int(content.get("listen_address", "*:30343").rpartition(":")[2])
+        self.folder, self.events = content["iolog_dir"], content["path"]
+        self.exits = content.get("log_exit") == "true"
 
 
 class Server:
     """The store and the sessions. Event lines are JSON."""
 
-    def __init__(self, settings, fault):
+    def __init__(self, settings: Settings, fault: str | None) -> None:
+        """The store of these settings."""
         self.settings, self.fault = settings, fault
         self.numbers = Journal(os.path.join(settings.folder, "seq2"), store.NUMBERS_BODY)
         self.last = int.from_bytes((self.numbers.body or bytes(4))[:4], "big")
@@ -143,26 +137,28 @@ class Server:
         self.new, self.owned, self.late = [], {}, []
         self.flush_events()
 
-    def draw(self, step):
+    def draw(self, step: int) -> str:
+        """The digits of the next number, or with no step of the last one."""
         self.last += step
         if self.fault != "reuse" or self.last % 8 == 0:
-            self.numbers.append(b"".join(n.to_bytes(4, "big") for n in (self.last, 0, 1)))
+            self.numbers.append(numbers_body(self.last))
         return store.digits_of(self.last)
 
-    def flush_events(self):
+    def flush_events(self) -> None:
+        """The new event lines are committed."""
         text = b"".join(self.new)
         os.pwrite(self.event_file, text, self.length)
         self.length, self.count = self.length + len(text), self.count + len(self.new)
-        numbers = [self.count, 0, self.length] + [0] * 8
-        self.lines.append(bytes([1]) + b"".join(n.to_bytes(8, "big") for n in numbers))
+        self.lines.append(log_body(FLUSHED, self.count, 0, [self.length]))
         self.new = []
 
-    def event(self, session, name, members):
-        told = {**members, "peer": session.peer, "server_time": stamp(time.time_ns())}
+    def event(self, session: Session, name: str, members: dict[str, Any]) -> None:
+        """A new event line."""
+        content = {**members, "peer": session.peer, "server_time": stamp(time.time_ns())}
         named = {"iolog": session.digits} if session.digits and name in ("accept", "exit") else {}
-        self.new.append(compact({name: {**told, **named}}))
+        self.new.append(lines.line_of({name: {**content, **named}}))
 
-    def tail(self):
+    def tail(self) -> None:
         """What is done at the end of a turn: the event lines, then the logs with staged records."""
         if self.fault == "silent":
             self.late, self.new = self.new, self.late
@@ -172,62 +168,67 @@ class Server:
             if not log.staged:
                 continue
             if self.fault == "early":
-                session.say(2, client.timespec(sum(r[0] for r in log.records)))
+                session.say("commit_point", client.timespec(elapsed(log.records)))
                 if len(log.records) % 5:
                     continue
             try:
-                point = log.flush(1, None)
+                point = log.flush(FLUSHED, None)
             except OSError:
                 log.staged = False
-                session.say(4, b"device fault")
+                session.say("error", "device fault")
                 session.release()
                 continue
             if self.fault != "early":
-                session.say(2, client.timespec(point))
+                session.say("commit_point", client.timespec(point))
 
 
 class Session:
     """A connection's state, and what it is to be answered."""
 
-    def __init__(self, server, peer):
+    def __init__(self, server: Server, peer: str) -> None:
+        """A new connection, which gets a hello."""
         self.server, self.peer = server, peer
         self.state, self.digits, self.log = "fresh", None, None
         self.frames, self.out, self.over = client.Frames(), [], False
-        self.out.append(client.frame(client.field(1, client.field(1, "lsv 1") + client.scalar(4, 1))))
+        self.out.append(frame(messages.server_hello("lsv 1")))
 
-    def say(self, number, body):
-        body = body.encode() if isinstance(body, str) else body
-        self.out.append(client.frame(client.field(number, body)))
+    def say(self, name: str, content: str | bytes) -> None:
+        """A message is to be sent."""
+        self.out.append(frame(messages.server(name, content)))
 
-    def release(self):
+    def release(self) -> None:
+        """The log is released, and the connection is over."""
         if self.log:
             if self.log.staged:
-                self.log.flush(1, None)
+                self.log.flush(FLUSHED, None)
             self.server.owned.pop(self.digits, None)
             for file in self.log.files + [self.log.journal.file]:
                 os.close(file)
             self.log = None
         self.over = True
 
-    def feed(self, piece):
+    def feed(self, piece: bytes) -> None:
+        """Bytes came."""
         for message in self.frames.feed(piece):
             self.take(lambda: self.turn(*self.read(message)))
-        if int.from_bytes(self.frames.rest[:4].ljust(4, b"\0"), "big") > LARGEST:
+        if self.frames.length() > LARGEST:
             self.take(self.too_large)
 
-    def too_large(self):
+    def too_large(self) -> None:
+        """The next message is larger than any may be."""
         raise Refused("message too large")
 
-    def take(self, work):
+    def take(self, work: Callable[[], None]) -> None:
+        """Works, and ends the connection by an error if it is refused."""
         if self.over:
             return
         try:
             work()
         except Refused as error:
-            self.say(4, str(error))
+            self.say("error", str(error))
             self.release()
 
-    def read(self, message):
+    def read(self, message: bytes) -> tuple[str, Any, str | None]:
         """A message, and what is wrong with its time, its size or its signal."""
         try:
             (number, body), = client.fields(message)
@@ -236,57 +237,67 @@ class Session:
             single = [number for number, _ in found if number != again]
             if len(set(single)) < len(single):
                 raise client.Malformed("a field comes twice")
-            told = client.read_client(message)[1]
+            content = client.read_client(message)[1]
         except (client.Malformed, ValueError, KeyError, TypeError) as fault:
             raise Refused("malformed message") from fault
         at = client.one(found, 2 if name == "restart" else 1, None)
-        bad = "bad time" if not is_time(name, at) else "bad size or signal" if not is_record(name, told) else None
-        return name, told, bad
+        bad = "bad time" if not is_time(name, at) else "bad size or signal" if not is_record(name, content) else None
+        return name, content, bad
 
-    def turn(self, name, told, bad):
+    def turn(self, name: str, content: Any, bad: str | None) -> None:
+        """Does what a message asks for."""
         wanted = {"hello": ["fresh"], "restart": ["fresh", "greeted"], "exit": ["running", "logging"]}
-        usual = ["logging"] if name in client.STREAMS + ("winsize", "suspend") else ["fresh", "greeted", "alerted", "running", "logging"]
+        usual = ["logging"] if name in STREAMS + ("winsize", "suspend") else ["fresh", "greeted", "alerted", "running",
+            "logging"]
         if self.state not in wanted.get(name, usual):
             raise Refused("unexpected message")
         if bad:
             raise Refused(bad)
         if name in ("accept", "reject", "alert", "hello", "restart", "exit"):
-            getattr(self, "on_" + name)(told)
+            getattr(self, "on_" + name)(content)
         else:
-            self.log.records.append(told)
+            self.log.records.append(content)
             self.log.staged = True
 
-    def on_hello(self, _):
+    def on_hello(self, _: str) -> None:
+        """A hello."""
         self.state = "greeted"
 
-    def on_alert(self, told):
-        self.server.event(self, "alert", {"alert_time": stamp(told["time"]), "info": told["info"], "reason": told["reason"]})
+    def on_alert(self, content: dict[str, Any]) -> None:
+        """An alert."""
+        self.server.event(self, "alert",
+            {"alert_time": stamp(content["time"]), "info": content["info"], "reason": content["reason"]})
         self.state = self.state if self.state in ("running", "logging") else "alerted"
 
-    def on_reject(self, told):
-        self.server.event(self, "reject", {"info": told["info"], "reason": told["reason"], "submit_time": stamp(told["time"])})
+    def on_reject(self, content: dict[str, Any]) -> None:
+        """A reject."""
+        self.server.event(self, "reject",
+            {"info": content["info"], "reason": content["reason"], "submit_time": stamp(content["time"])})
         if self.state not in ("running", "logging"):
             self.release()
 
-    def on_accept(self, told):
+    def on_accept(self, content: dict[str, Any]) -> None:
+        """An accept, which begins a session if there is none."""
         if self.state not in ("running", "logging"):
-            if any(not isinstance(told["info"].get(key), str) for key in KEYS):
+            if any(not isinstance(content["info"].get(key), str) for key in KEYS):
                 raise Refused("missing key")
             self.state = "running"
-            if told["expect_iobufs"]:
-                self.open(told)
-        self.server.event(self, "accept", {"info": told["info"], "submit_time": stamp(told["time"])})
+            if content["expect_iobufs"]:
+                self.open(content)
+        self.server.event(self, "accept", {"info": content["info"], "submit_time": stamp(content["time"])})
 
-    def open(self, told):
+    def open(self, content: dict[str, Any]) -> None:
+        """A log is begun."""
         self.digits, self.state = self.server.draw(1), "logging"
         folder = store.folder_of(self.server.settings.folder, self.digits)
         os.makedirs(folder, exist_ok=True)
-        self.log = OpenLog(folder, 0, [], compact({"info": told["info"], "submit_time": stamp(told["time"])}), 0)
+        self.log = OpenLog(folder, MADE, [], lines.head(content["time"], content["info"]), 0)
         self.server.owned[self.digits] = (self, self.log)
-        self.say(3, self.digits)
+        self.say("log_id", self.digits)
 
-    def on_restart(self, told):
-        digits, point = told
+    def on_restart(self, content: tuple[str, int]) -> None:
+        """A restart."""
+        digits, point = content
         if digits in self.server.owned:
             raise Refused("log in use")
         found = store.read_log(self.server.settings.folder, digits)
@@ -294,36 +305,35 @@ class Session:
             raise Refused("no such log")
         if found.is_complete():
             raise Refused("log complete")
-        ends, sum_so_far = [], 0
-        for record in found.records:
-            sum_so_far += record[0]
-            ends.append(sum_so_far)
-        if point not in ends:
-            raise Refused("no such resume point")
-        keep = ends.index(point) + 1
-        if self.server.fault == "longer":
-            keep = len(ends) - ends[::-1].index(point)
-        if self.server.fault == "uncut":
-            keep = len(ends)
+        kept = self.kept(found.records, point)
         folder = store.folder_of(self.server.settings.folder, digits)
         head = store.contents(os.path.join(folder, "log.json"))[:found.body.lengths[0]]
         self.digits, self.state = digits, "logging"
-        self.log = OpenLog(folder, 2, found.records[:keep], head, found.body.extra + (keep < len(ends)))
+        self.log = OpenLog(folder, CUT, kept, head, found.body.extra + (len(kept) < len(found.records)))
         self.server.owned[digits] = (self, self.log)
 
-    def on_exit(self, told):
-        ended = {"dumped_core": told["dumped_core"], "exit_value": told["exit_value"], "run_time": stamp(told["run_time"])}
-        ended.update({key: told[key] for key in ("signal", "error") if told[key]})
+    def kept(self, records: list[Record], point: int) -> list[Record]:
+        """The records that a restart at a point keeps, unless the server has a fault."""
+        kept = cut_at(records, point)
+        if kept is None:
+            raise Refused("no such resume point")
+        if self.server.fault == "longer":
+            return records[: len(records) - ends(records)[::-1].index(point)]
+        return records if self.server.fault == "uncut" else list(kept)
+
+    def on_exit(self, content: dict[str, Any]) -> None:
+        """The session is over."""
+        ended = lines.exit_of(content)
         if self.log:
-            point = self.log.flush(3, compact(ended))
+            point = self.log.flush(COMPLETE, lines.line_of(ended))
         if self.server.settings.exits:
             self.server.event(self, "exit", ended)
         if self.log:
-            self.say(2, client.timespec(point))
+            self.say("commit_point", client.timespec(point))
         self.release()
 
 
-def once(server, _):
+def once(server: Server, _: int) -> int:
     """Gives the exit status: 0, or 6 where the answers couldn't be put."""
     session, link = Session(server, "0.1"), socket.socket(fileno=os.dup(0))
     status = 0
@@ -342,18 +352,20 @@ def once(server, _):
         server.tail()
 
 
-def tell(text):
+def report(text: str) -> None:
+    """A line on standard error."""
     try:
         os.write(2, f"model: {text}\n".encode())
     except OSError:
         pass
 
 
-def serve(server, stop_after):
+def serve(server: Server, stop_after: int) -> None:
+    """Serves connections until so many came and went."""
     listener = socket.create_server(("127.0.0.1", server.settings.port), backlog=128)
     poll, count = selectors.DefaultSelector(), 0
     poll.register(listener, selectors.EVENT_READ, None)
-    tell(f"127.0.0.1:{server.settings.port}, {server.settings.folder}, last number {server.last}")
+    report(f"127.0.0.1:{server.settings.port}, {server.settings.folder}, last number {server.last}")
     while count < stop_after or len(poll.get_map()) > 1:
         busy = []
         for key, _ in poll.select(0.01):
@@ -377,7 +389,7 @@ def serve(server, stop_after):
             answer(poll, link, session)
 
 
-def answer(poll, link, session):
+def answer(poll: selectors.BaseSelector, link: socket.socket, session: Session) -> None:
     """Puts what a session is answered, and closes it where it is over."""
     try:
         if session.out and link.fileno() >= 0:
@@ -390,7 +402,7 @@ def answer(poll, link, session):
         link.close()
 
 
-def locked(folder):
+def locked(folder: str) -> bool:
     """Whether this is the only server on the store. The lock goes with the process."""
     os.makedirs(folder, exist_ok=True)
     try:
@@ -400,7 +412,8 @@ def locked(folder):
         return False
 
 
-def main():
+def main() -> None:
+    """Runs a command."""
     while os.open("/dev/null", os.O_RDWR) < 3:
         pass
     os.umask(0o077)
@@ -408,7 +421,7 @@ def main():
     value = {word: words[at + 1] for at, word in enumerate(words[:-1])}
     settings = Settings(value["-f"])
     if not locked(settings.folder):
-        tell("another server uses this store")
+        report("another server uses this store")
         sys.exit(4)
     server = Server(settings, value.get("--fault"))
     sys.exit((once if words[0] == "once" else serve)(server, int(value.get("--stop-after", 2**63))))

@@ -3,67 +3,83 @@
 
 usage: pages.py PROGRAM REPLAY
 
-PROGRAM is sudo_logsrvd, REPLAY sudoreplay. Each option that a page shows must be taken, and no other letter; each setting of
-sudo_logsrvd.conf(5) must be known with its default, and each key that the page says is passed over must be told as that. The
-sample in etc/ must hold each setting with its default. The numbers and texts of the statuses, and the texts that a client gets,
-are compared with the sources. It ends with 1 where something differs.
+PROGRAM is sudo_logsrvd, REPLAY sudoreplay. Each option that a page shows must be taken, and no other letter; each
+setting of sudo_logsrvd.conf(5) must be known with its default, and each key that the page says is passed over must
+be reported as that. The sample in etc/ must hold each setting with its default. The numbers and texts of the
+statuses, and the texts that a client gets, are compared with the sources. It ends with 1 where something differs.
 """
+from __future__ import annotations
+
 import os
 import re
 import string
 import subprocess
 import sys
 import tempfile
+from collections.abc import Sequence
+from typing import Any
 
 ROOT = os.path.join(os.path.dirname(os.path.abspath(__file__)), "..")
 DIFFERENCES = "DIFFERENCES FROM SUDO'S OWN"
 
 
-def text_of(path):
+def text_of(path: str) -> str:
+    """The text of a file of the repository."""
     with open(os.path.join(ROOT, path), encoding="utf-8") as file:
         return file.read()
 
 
-def sections(page):
+def sections(page: str) -> dict[str, str]:
     """The sections of a page, by their names."""
     parts = re.split(r"^\.Sh (.*)$", text_of(page), flags=re.M)
     return dict(zip(parts[1::2], parts[2::2]))
 
 
 class Pages:
-    def __init__(self, program, replay):
+    """The programs whose pages are read, and how often they were asked and differed."""
+
+    def __init__(self, program: str, replay: str) -> None:
+        """Nothing was asked yet."""
         self.program, self.replay = os.path.realpath(program), os.path.realpath(replay)
         self.folder = tempfile.mkdtemp()
         self.asked = self.differ = 0
+        self.unknown: set[str] | None = None
         self.conf = os.path.join(self.folder, "conf")
         self.places = f"\n[iolog]\niolog_dir = {self.folder}/store\n[logfile]\npath = {self.folder}/events\n"
 
-    def same(self, what, one, other):
+    def same(self, what: str, one: Any, other: Any) -> None:
+        """Asks once, and prints what differs."""
         self.asked += 1
         if one != other:
             self.differ += 1
             print(f"{what}: {one!r} for {other!r}"[:1000])
 
-    def run(self, program, *words):
-        return subprocess.run([program, *words], stdin=subprocess.DEVNULL, capture_output=True, cwd=self.folder, check=False, timeout=60)
+    def run(self, program: str, *words: str) -> subprocess.CompletedProcess[bytes]:
+        """Runs a program in the temporary folder."""
+        return subprocess.run([program, *words], stdin=subprocess.DEVNULL, capture_output=True, cwd=self.folder,
+            check=False, timeout=60)
 
-    def read(self, settings):
+    def read(self, settings: str) -> tuple[list[str], int]:
         """What the server says of settings, line by line, and how it ends."""
         with open(self.conf, "w", encoding="utf-8") as file:
             file.write(settings)
         answer = self.run(self.program, "once", "-f", self.conf)
         return answer.stderr.decode().splitlines(), answer.returncode
 
-    def options(self):
+    def options(self) -> None:
         """Letters that a program takes, with a value or without one, and those of its page."""
+        # a store without a log: its number file has no entry
         os.makedirs(self.folder + "/empty", exist_ok=True)
+        with open(self.folder + "/empty/seq2", "wb"):
+            pass
         values = {"d": "empty", "f": "stdout"}
         shown = set(re.findall(r"^\.It Fl (\w)", sections("man/sudoreplay.8")["DESCRIPTION"], flags=re.M))
         taken = set()
         for letter in string.ascii_letters + string.digits:
             front = [] if letter == "d" else ["-d", "empty"]
             for value in ([], [values.get(letter, "1")]):
-                if self.run(self.replay, *front, "-" + letter, *value, *([] if letter == "l" else ["000001"])).returncode in (0, 8):
+                if self.run(self.replay, *front, "-" + letter, *value,
+                    *([] if letter == "l" else ["000001"])).returncode in (0, 8):
                     taken.add(letter)
         self.same("options of sudoreplay", sorted(taken), sorted(shown))
         # a settings file that is refused ends a command whose words are taken at once, and it touches nothing
@@ -71,11 +87,13 @@ class Pages:
             file.write("wrong\n")
         page = sections("man/sudo_logsrvd.8")["DESCRIPTION"]
         shown = set(re.findall(r"^\.It Cm (\w+)$", page, flags=re.M))
-        taken = {word for word in ("once", "serve", "relay", "load", "send") if 3 in [self.run(self.program, word, "-f", "wrong", *behind).returncode for behind in ([], ["1"])]}
+        taken = {word for word in ("once", "serve", "relay", "load",
+            "send") if 3 in [self.run(self.program, word, "-f", "wrong", *behind).returncode for behind in ([], ["1"])]}
         self.same("commands", taken, shown)
         taken_commands = taken
         shown = set(re.findall(r"^\.It Fl (\S+)", page, flags=re.M))
-        letters = list(string.ascii_letters + string.digits) + ["-" + name for name in ("lanes", "stop-after", "help", "version", "conf", "count")]
+        letters = list(string.ascii_letters + string.digits) + ["-" + name for name in ("lanes", "stop-after", "help",
+            "version", "conf", "count")]
         taken = set()
         for letter in letters:
             for command in sorted(taken_commands):
@@ -89,7 +107,7 @@ class Pages:
                 self.same(f"status of {words}", self.run(program, *words).returncode, 2)
         self.same("status of help", self.run(self.program, "help").returncode, 2)
 
-    def script(self):
+    def script(self) -> None:
         """The options of sudo-layout, as of the programs."""
         out = self.folder + "/out"
         shown = set(re.findall(r"^\.It Fl (\w)", sections("man/sudo-layout.1")["DESCRIPTION"], flags=re.M))
@@ -101,18 +119,20 @@ class Pages:
                 taken.add(letter)
         self.same("options of sudo-layout", sorted(taken), sorted(shown))
 
-    def forms(self):
+    def forms(self) -> None:
         """The lines behind a usage error show what the synopsis does: of the server one for each command."""
         for program, name in ((self.program, "sudo_logsrvd"), (self.replay, "sudoreplay")):
-            front, *forms = self.run(program, "--none").stderr.decode().splitlines()
+            reason, front, *forms = self.run(program, "--none").stderr.decode().splitlines()
+            self.same(f"reason of a usage error of {name}", reason.split("--none")[0], f"{name}: ")
             synopsis = sections(f"man/{name}.8")["SYNOPSIS"]
             wanted = len(re.findall(r"^\.Cm \w+$", synopsis, flags=re.M)) or 1
             self.same(f"lines of a usage error of {name}", (front, len(forms)), (f"{name}: usage", wanted))
             letters = sorted(re.findall(r"Fl (\S+)", synopsis))
             shown = [word.removeprefix("-") for word in re.findall(r"(?<![\w-])-([\w-]+)", " ".join(forms))]
-            self.same(f"options of the forms of {name}", sorted(shown), sorted(letter.removeprefix("-") for letter in letters))
+            self.same(f"options of the forms of {name}", sorted(shown),
+                sorted(letter.removeprefix("-") for letter in letters))
 
-    def settings(self):
+    def settings(self) -> None:
         """Each setting of the page is known, with its default, and the sample has it."""
         page = sections("man/sudo_logsrvd.conf.5")
         parts = re.split(r"^\.Ss (\w+)$", page["DESCRIPTION"], flags=re.M)
@@ -138,79 +158,93 @@ class Pages:
                 continue
             self.same(f"sample of {key}", sampled[section, key], default)
             self.same(f"default of {key}", self.read(f"[{section}]\n{key} = {default}\n{self.places}"), ([], 0))
-        for whole in (text_of("etc/sudo_logsrvd.conf"), re.sub(r"^#(\w+ = )", r"\1", text_of("etc/sudo_logsrvd.conf"), flags=re.M)):
+        for whole in (text_of("etc/sudo_logsrvd.conf"),
+            re.sub(r"^#(\w+ = )", r"\1", text_of("etc/sudo_logsrvd.conf"), flags=re.M)):
             self.same("sample", self.read(whole + self.places), ([], 0))
 
-    def candidates(self):
+    def candidates(self) -> list[tuple[str, str]]:
         """Keys of this repository's and of sudo's own documents, in each section."""
-        keys = {key for text in ("man/sudo_logsrvd.conf.5", "etc/sudo_logsrvd.conf") for key in re.findall(r"\b[a-z]+_[a-z]+\b|^\.(?:It Cm|Ql) (\w+)", text_of(text)) if key}
+        keys = {key for text in ("man/sudo_logsrvd.conf.5",
+            "etc/sudo_logsrvd.conf") for key in re.findall(r"\b[a-z]+_[a-z]+\b|^\.(?:It Cm|Ql) (\w+)",
+            text_of(text)) if key}
         keys |= {"prompts", "path"} | set(re.findall(r"\b[a-z]+_[a-z_]*[a-z]\b", text_of("docs/SETTINGS.md")))
         if os.path.exists("/etc/sudo_logsrvd.conf"):
             keys |= set(re.findall(r"^#?(\w+) = ", text_of("/etc/sudo_logsrvd.conf"), flags=re.M))
-        return [(section, key) for section in ("server", "relay", "iolog", "eventlog", "logfile", "syslog") for key in sorted(keys)]
+        return [(section, key) for section in ("server", "relay", "iolog", "eventlog", "logfile",
+            "syslog") for key in sorted(keys)]
 
-    def is_known(self, section, key):
-        """A known key isn't told as passed over, whatever its value."""
+    def is_known(self, section: str, key: str) -> bool:
+        """A known key isn't reported as passed over, whatever its value."""
         wanted = f"{section} {key}"
-        if not hasattr(self, "told"):
+        if self.unknown is None:
             lines = [f"[{s}]\n{k} = on" for s, k in self.candidates()]
-            self.told = self.passed_over(lines)
-        return wanted not in self.told
+            self.unknown = self.passed_over(lines)
+        return wanted not in self.unknown
 
-    def passed_over(self, lines):
-        """The settings that are told as passed over. A refused line ends the reading, so it is taken out."""
+    def passed_over(self, lines: Sequence[str]) -> set[str]:
+        """The settings that are reported as passed over. A refused line ends the reading, so it is taken out."""
         lines = list(lines)
         while True:
-            told, status = self.read("\n".join(lines) + self.places)
-            refused = [int(number) for number in re.findall(r":(\d+): the line is refused", "\n".join(told))]
+            said, status = self.read("\n".join(lines) + self.places)
+            front = r":(\d+): (?:the line is refused|\w+ can't be)"
+            refused = [int(number) for number in re.findall(front, "\n".join(said))]
             if status != 3 or not refused:
                 break
             del lines[(refused[0] - 1) // 2]
         passed = set()
-        for number, key in re.findall(r":(\d+): warning: (\w+) is passed over", "\n".join(told)):
+        for number, key in re.findall(r":(\d+): warning: (\w+) is passed over", "\n".join(said)):
             section = lines[(int(number) - 1) // 2].split("]")[0].strip("[")
             passed.add(f"{section} {key}")
         return passed
 
-    def passed(self):
+    def passed(self) -> None:
         """What the page says is passed over is."""
         item = sections("man/sudo_logsrvd.conf.5")[DIFFERENCES].split("and those of the section")[0]
-        keys = [key for key in re.findall(r"^\.Ql (\w+)", item, flags=re.M) if not key.startswith("tls_")] + ["tls_cert"]
+        keys = [key for key in re.findall(r"^\.Ql (\w+)", item,
+            flags=re.M) if not key.startswith("tls_")] + ["tls_cert"]
         for key in keys:
-            told, status = self.read(f"[server]\n{key} = x\n{self.places}")
-            self.same(f"passed over {key}", (told, status), ([f"sudo_logsrvd: {self.conf}:2: warning: {key} is passed over"], 0))
+            said, status = self.read(f"[server]\n{key} = x\n{self.places}")
+            self.same(f"passed over {key}", (said, status),
+                ([f"sudo_logsrvd: {self.conf}:2: warning: {key} is passed over"], 0))
 
-    def refused(self):
+    def refused(self) -> None:
         """The reasons of refused lines are those of the page."""
         reasons = re.findall(r"^\.It Sy (.*)$", sections("man/sudo_logsrvd.conf.5")["DIAGNOSTICS"], flags=re.M)
         found = []
-        for line in (b"\xff", b"key", b"key = 1", b"[iolog]\nlog_passwords = perhaps", b"[iolog]\n= 1", b"[server]\nlisten_address = *:30344(tls)"):
+        for line in (b"\xff", b"key", b"key = 1", b"[iolog]\nlog_passwords = perhaps", b"[iolog]\n= 1",
+            b"[server]\nlisten_address = *:30344(tls)"):
             with open(self.conf, "wb") as file:
                 file.write(line + b"\n")
             answer = self.run(self.program, "once", "-f", self.conf)
-            told = answer.stderr.decode().splitlines()
+            said = answer.stderr.decode().splitlines()
             number = line.count(b"\n") + 1
-            front = f"sudo_logsrvd: {self.conf}:{number}: the line is refused: "
-            self.same(f"refusal of {line}", (answer.returncode, told[0].startswith(front), told[1]), (3, True, f"sudo_logsrvd: settings line {number}"))
-            found.append(told[0].removeprefix(front).replace("`[section]`", "`[section]'").replace("`key = value`", "`key = value'"))
+            front = f"sudo_logsrvd: {self.conf}:{number}: "
+            self.same(f"refusal of {line}", (answer.returncode, said[0].startswith(front), said[1]),
+                (3, True, f"sudo_logsrvd: settings line {number}"))
+            reason = said[0].removeprefix(front).removeprefix("the line is refused: ")
+            reason = re.sub(r"""^\w+ can't be ".*": it takes .*$""", """KEY can't be "VALUE": it takes WHAT""", reason)
+            found.append(reason.replace("`[section]`", "`[section]'").replace("`key = value`", "`key = value'"))
         self.same("reasons", sorted(set(found)), sorted(reasons))
 
-    def statuses(self):
+    def statuses(self) -> None:
         """Numbers and texts of the statuses, as the sources have them, and texts that a client gets."""
-        for page, source in (("man/sudo_logsrvd.8", "crates/lsv_serve/src/status.rt"), ("man/sudoreplay.8", "crates/lsv_replay/src/status.rt")):
+        for page, source in (("man/sudo_logsrvd.8", "crates/lsv_serve/src/status.rt"),
+            ("man/sudoreplay.8", "crates/lsv_replay/src/status.rt")):
             code = text_of(source)
             numbers = dict(re.findall(r"\w*Status::(\w+)(?:\(_\))? => (\d+),", code))
             texts = dict(re.findall(r'\w*Status::(\w+)(?:\(_\))? => (?:Bytes::of\(alloc, b)?"([a-z ]+)"', code))
             wanted = sorted((number, texts.get(name)) for name, number in numbers.items())
-            shown = re.findall(r"^\.It (\d+)\n(?:\.Sy ([a-z ]+?)(?: n)? ?[.:]$)?", sections(page)["EXIT STATUS"], flags=re.M)
+            shown = re.findall(r"^\.It (\d+)\n(?:\.Sy ([a-z ]+?)(?: n)? ?[.:]$)?", sections(page)["EXIT STATUS"],
+                flags=re.M)
             self.same(f"statuses of {page}", sorted(number for number, _ in shown), sorted(numbers.values()))
-            told = {number: text for number, text in shown if text}
-            self.same(f"texts of {page}", {number: told.get(number) for number, text in wanted if text}, {number: text for number, text in wanted if text})
+            named = {number: text for number, text in shown if text}
+            self.same(f"texts of {page}", {number: named.get(number) for number, text in wanted if text},
+                {number: text for number, text in wanted if text})
         code = re.findall(r'Refusal::\w+ => "([a-z ]+)"', text_of("crates/lsv_request/src/refusal.rt"))
         shown = re.findall(r"^\.It Sy (.*)$", text_of("man/sudo_logsrvd.8").split(".Ss To the client")[1], flags=re.M)
         self.same("texts for clients", shown, code)
 
-    def sudoreplays(self):
+    def sudoreplays(self) -> None:
         """Names of searches and streams of the page."""
         page = sections("man/sudoreplay.8")["DESCRIPTION"]
         names = re.findall(r"^\.It Cm (\w+) Ar", page, flags=re.M)
@@ -222,9 +256,11 @@ class Pages:
             self.same(f"stream {name}", self.run(self.replay, "-d", "empty", "-f", name, "000001").returncode, 8)
 
 
-def main():
+def main() -> int:
+    """Reads all pages."""
     pages = Pages(*sys.argv[1:3])
-    for step in (pages.options, pages.script, pages.forms, pages.settings, pages.passed, pages.refused, pages.statuses, pages.sudoreplays):
+    for step in (pages.options, pages.script, pages.forms, pages.settings, pages.passed, pages.refused, pages.statuses,
+        pages.sudoreplays):
         step()
     print(f"{pages.asked} asked, {pages.differ} differ")
     return 1 if pages.differ else 0

@@ -1,11 +1,15 @@
 """File systems whose power is cut: each in an image of its own, over a loop device. Only root may mount them.
 
-At a cut the image is taken as its device holds it, without what the system keeps in memory, checked as at a start, and mounted
-in the old one's place. What wasn't synced is gone then, or there for some of the files: a sync of one file may bring others with
-it, on ext4 and xfs mostly, so that there a sync that is lacking is found by chance, and on btrfs at once. What a device loses of
-its own cache at a cut isn't tried: the image has each write that reached it.
+At a cut the image is taken as its device holds it, without what the system keeps in memory, checked as at a start,
+and mounted in the old one's place. What wasn't synced is gone then, or there for some of the files: a sync of one
+file may bring others with it, on ext4 and xfs mostly, so that there a sync that is lacking is found by chance, and
+on btrfs at once. What a device loses of its own cache at a cut isn't tried: the image has each write that reached
+it.
 """
+from __future__ import annotations
+
 import os
+import random
 import shutil
 import subprocess
 import tempfile
@@ -37,7 +41,7 @@ class Failed(Exception):
     """A file system couldn't be brought back."""
 
 
-def run(*words):
+def run(*words: str) -> tuple[int, str]:
     """Runs a program of the system. Gives its status, and what it said."""
     env = {**os.environ, "PATH": os.environ.get("PATH", "") + ":/usr/sbin:/sbin"}
     try:
@@ -47,8 +51,8 @@ def run(*words):
     return child.returncode, child.stdout + child.stderr
 
 
-def memory():
-    """The folder of a file system in memory, where it has room for an image and its copies; else the one for temporary files."""
+def memory() -> str | None:
+    """The folder of a file system in memory, if it has room for an image and its copies; else None."""
     folder = "/dev/shm"
     has_room = os.path.isdir(folder) and shutil.disk_usage(folder).free > 4 * SIZE
     return folder if has_room else None
@@ -57,7 +61,8 @@ def memory():
 class Disk:
     """A mounted file system of this kind, in a folder of its own."""
 
-    def __init__(self, kind):
+    def __init__(self, kind: str) -> None:
+        """Makes the file system, and mounts it."""
         self.make, self.check = KINDS[kind]
         self.folder = tempfile.mkdtemp(prefix="power", dir=memory())
         self.image, self.mounted = os.path.join(self.folder, "image"), os.path.join(self.folder, "mounted")
@@ -72,17 +77,19 @@ class Disk:
             shutil.rmtree(self.folder)
             raise
 
-    def wanted(self, *words):
+    def wanted(self, *words: str) -> None:
+        """Runs a program without which there is no such file system."""
         status, said = run(*words)
         if status:
             raise Lacking(f"{' '.join(words)}: {said.strip()}")
 
-    def mount(self):
+    def mount(self) -> None:
+        """Mounts the image."""
         self.wanted("mount", "-o", "loop", self.image, self.mounted)
         self.is_mounted = True
 
-    def cut(self, rng=None):
-        """All is as the device holds it now, and where numbers are given by which to draw, some of what wasn't synced besides."""
+    def cut(self, rng: random.Random | None = None) -> None:
+        """All is as the device holds it now. With `rng` some of what wasn't synced is there too."""
         if rng:
             self.spill(rng)
         left = self.held()
@@ -101,8 +108,8 @@ class Disk:
             raise Failed(str(fault)) from fault
         self.cuts += 1
 
-    def spill(self, rng):
-        """Some of the files that were written last go to the device without a sync, as the system may do at any time."""
+    def spill(self, rng: random.Random) -> None:
+        """Some of the files that were written last go to the device without a sync, as may happen at any time."""
         since = time.time() - 2
         for folder, _, names in os.walk(self.mounted):
             for name in names:
@@ -112,7 +119,7 @@ class Disk:
                     os.posix_fadvise(file, 0, 0, os.POSIX_FADV_DONTNEED)
                     os.close(file)
 
-    def held(self):
+    def held(self) -> str:
         """A copy of the image as it was at one moment: it is copied until two copies are the same."""
         one, two = self.image + ".1", self.image + ".2"
         self.copy(one)
@@ -124,12 +131,14 @@ class Disk:
             one, two = two, one
         raise Failed("the image changes all the time")
 
-    def copy(self, path):
+    def copy(self, path: str) -> None:
+        """Copies the image."""
         status, said = run("cp", "--sparse=always", self.image, path)
         if status:
             raise Failed(f"cp: {said.strip()}")
 
-    def unmount(self):
+    def unmount(self) -> None:
+        """Unmounts the image, once nobody uses it."""
         for _ in range(100):
             status, said = run("umount", self.mounted)
             if status == 0:
@@ -138,7 +147,8 @@ class Disk:
             time.sleep(0.05)
         raise Failed(f"umount: {said}")
 
-    def end(self):
+    def end(self) -> None:
+        """Nothing stays of it."""
         if self.is_mounted:
             self.unmount()
         shutil.rmtree(self.folder)

@@ -1,24 +1,29 @@
 """What is tried of the process itself: its first line, its descriptors, its limits, a second one on the same store."""
+from __future__ import annotations
+
 import os
 import re
 import resource
 import shutil
 import stat
 import subprocess
+from collections.abc import Callable
 
 import client
 import servers
 import store
 from protocol_parts import ACCEPT, INFO, whole
-from trial import SECOND, Differs, only, same
+from trial import SECOND, Differs, Trial, only, same
 
 LIMIT = 300_000
+Before = Callable[[], object] | None
 
 
 class Fresh:
     """A server of its own, started otherwise than the one that all parts share."""
 
-    def __init__(self, trial, before=None, probe=False, settings=""):
+    def __init__(self, trial: Trial, before: Before = None, probe: bool = False, settings: str = "") -> None:
+        """`before` is done in the process before it becomes the server."""
         self.place = servers.Place()
         if settings:
             with open(self.place.conf, "a", encoding="utf-8") as file:
@@ -26,27 +31,30 @@ class Fresh:
         self.server = (servers.Serve if trial.kind == "serve" else servers.Once)(trial.program, self.place)
         self.server.before, self.server.probe = before, probe
 
-    def __enter__(self):
+    def __enter__(self) -> Fresh:
+        """Starts it."""
         self.server.start()
         return self
 
-    def __exit__(self, *_):
+    def __exit__(self, *_: object) -> None:
+        """Ends it, and nothing stays."""
         self.server.kill()
         shutil.rmtree(self.place.folder)
 
-    def session(self):
+    def session(self) -> str:
         """A whole session is served and stored."""
         records = [(5, "ttyout", b"abc"), (6, "ttyin", b"def")]
         digits = whole(self.server.connect(), SECOND, INFO, records)
         same("records", store.read_log(self.place.store, digits).records, records)
         return digits
 
-    def last_line(self):
+    def last_line(self) -> str:
+        """The last line that has its port."""
         return [line for line in self.place.said().splitlines() if f":{self.place.port}" in line][-1]
 
 
 @only("serve")
-def part_first_line(trial):
+def part_first_line(trial: Trial) -> None:
     """One line tells the address, the store and its last number, at each start."""
     with Fresh(trial) as fresh:
         for wanted in ("0|000000", "1|000001", "2|000002"):
@@ -59,7 +67,7 @@ def part_first_line(trial):
 
 
 @only("serve")
-def part_closed_descriptors(trial):
+def part_closed_descriptors(trial: Trial) -> None:
     """Without standard input, output and error: no file of the store takes their numbers."""
     with Fresh(trial, before=lambda: [os.close(it) for it in (0, 1, 2)], probe=True) as fresh:
         fresh.session()
@@ -69,12 +77,13 @@ def part_closed_descriptors(trial):
 
 
 @only("once")
-def part_closed_standard_error(trial):
+def part_closed_standard_error(trial: Trial) -> None:
+    """Without standard error."""
     with Fresh(trial, before=lambda: os.close(2)) as fresh:
         fresh.session()
 
 
-def broken_pipe():
+def broken_pipe() -> None:
     """Standard error is a pipe that nobody reads."""
     near, far = os.pipe()
     os.dup2(far, 2)
@@ -83,23 +92,24 @@ def broken_pipe():
 
 
 @only("serve", "once")
-def part_broken_standard_error(trial):
-    """What is told goes into a pipe that nobody reads, and SIGPIPE ends nothing."""
+def part_broken_standard_error(trial: Trial) -> None:
+    """What is sent goes into a pipe that nobody reads, and SIGPIPE ends nothing."""
     with Fresh(trial, before=broken_pipe, probe=True, settings="[server]\ntimeout = 5\n") as fresh:
         fresh.session()
         fresh.session()
 
 
-def modes(place):
+def modes(place: servers.Place) -> tuple[set[int], ...]:
     """The modes of the folders of a store, and of its files."""
     tree = list(os.walk(place.store))
     folders = [folder for folder, _, _ in tree]
-    files = [os.path.join(folder, name) for folder, _, names in tree for name in names] + [place.events, place.events + ".slots"]
+    files = [os.path.join(folder, name) for folder, _, names in tree for name in names] + [place.events,
+        place.events + ".slots"]
     return tuple({stat.S_IMODE(os.stat(path).st_mode) for path in paths} for paths in (folders, files))
 
 
 @only("serve", "once")
-def part_modes(trial):
+def part_modes(trial: Trial) -> None:
     """Whatever the umask: the folders of the store have mode 0700, its files 0600, and a second server can use them."""
     for mask in (0, 0o22, 0o777):
         with Fresh(trial, before=lambda mask=mask: os.umask(mask)) as fresh:
@@ -111,12 +121,13 @@ def part_modes(trial):
             same(f"modes behind a second start at umask {mask:o}", modes(fresh.place), ({0o700}, {0o600}))
 
 
-def small_files():
+def small_files() -> None:
+    """Files have at most so many bytes."""
     resource.setrlimit(resource.RLIMIT_FSIZE, (LIMIT, LIMIT))
 
 
 @only("serve", "once")
-def part_limit_of_files(trial):
+def part_limit_of_files(trial: Trial) -> None:
     """A log that would pass the limit of the size of files is refused, and SIGXFSZ ends nothing."""
     with Fresh(trial, before=small_files) as fresh:
         link = fresh.server.connect()
@@ -127,7 +138,7 @@ def part_limit_of_files(trial):
             heard.append(link.read())
         link.close()
         same("last answer", heard[-1], ("error", "device fault"))
-        points = [told for name, told in heard if name == "commit_point"]
+        points = [point for name, point in heard if name == "commit_point"]
         fresh.session()
         log = store.read_log(fresh.place.store, heard[1][1])
         if points and log.body.elapsed < points[-1]:
@@ -135,9 +146,11 @@ def part_limit_of_files(trial):
 
 
 @only("serve")
-def part_faults_of_many(trial):
-    """Several logs pass the limit at once, with many records behind: each is told by one line, with the program, its file,
-    the call and the system's error."""
+def part_faults_of_many(trial: Trial) -> None:
+    """Several logs pass the limit at once, with many records after it: each is reported by one line.
+
+    The line has the program, its file, the call and the system's error.
+    """
     with Fresh(trial, before=small_files) as fresh:
         links, logs = [fresh.server.connect() for _ in range(6)], []
         for link in links:
@@ -155,18 +168,19 @@ def part_faults_of_many(trial):
         lines = fresh.place.said().splitlines()
         for log in logs:
             folder = store.folder_of(fresh.place.store, log) + "/"
-            told = [line for line in lines if folder in line]
+            sent = [line for line in lines if folder in line]
             form = re.compile(re.escape(f"sudo_logsrvd: {folder}") + r"ttyout: write: [a-z ]+")
-            same(f"lines of the log {log}", [bool(form.fullmatch(line)) for line in told], [True])
+            same(f"lines of the log {log}", [bool(form.fullmatch(line)) for line in sent], [True])
 
 
-def smaller_files():
+def smaller_files() -> None:
+    """Files have at most 20,000 bytes."""
     resource.setrlimit(resource.RLIMIT_FSIZE, (20_000, 20_000))
 
 
 @only("serve")
-def part_faults_of_the_event_log(trial):
-    """Where the event log is full, each connection whose event it doesn't take is told by a line."""
+def part_faults_of_the_event_log(trial: Trial) -> None:
+    """If the event log is full, each connection whose event it doesn't take is reported by a line."""
     accept = client.accept(SECOND, {**INFO, "further": "x" * 6_000})
     with Fresh(trial, before=smaller_files) as fresh:
         refused = 0
@@ -181,13 +195,14 @@ def part_faults_of_the_event_log(trial):
         same("connections that were refused, and lines of the event log", (refused, len(lines)), (4, 4))
 
 
-def little_memory():
+def little_memory() -> None:
+    """The process has 28 MiB of addresses."""
     resource.setrlimit(resource.RLIMIT_AS, (28 << 20, 28 << 20))
 
 
 @only("serve")
-def part_want_of_memory(trial):
-    """A message whose reading wants more memory than there is: its client is told so and shut, and nobody else."""
+def part_want_of_memory(trial: Trial) -> None:
+    """A message that takes more memory than there is: its client gets an error and is shut, and nobody else."""
     with Fresh(trial, before=little_memory) as fresh:
         beside = fresh.server.connect()
         beside.send(client.hello(), ACCEPT)
@@ -206,20 +221,21 @@ def part_want_of_memory(trial):
 
 
 @only("serve")
-def part_second_server(trial):
+def part_second_server(trial: Trial) -> None:
     """Another server on the same store ends with status 4, and the first goes on."""
     with Fresh(trial) as fresh:
         text = servers.OURS.format(port=servers.free_port(), folder=fresh.place.folder)
         path = os.path.join(fresh.place.folder, "second")
         with open(path, "w", encoding="utf-8") as file:
             file.write(text)
-        child = subprocess.run([trial.program, "serve", "-f", path], stdin=subprocess.DEVNULL, capture_output=True, timeout=20, check=False)
+        child = subprocess.run([trial.program, "serve", "-f", path], stdin=subprocess.DEVNULL, capture_output=True,
+            timeout=20, check=False)
         same(f"status, {child.stderr}", child.returncode, 4)
         fresh.session()
 
 
 @only("serve")
-def part_stop_after(trial):
+def part_stop_after(trial: Trial) -> None:
     """With --stop-after 3 the server ends with 0 once three connections came and went."""
     place = servers.Place()
     server = servers.Serve(trial.program, place, ["--stop-after", "3"]).start()

@@ -1,10 +1,17 @@
-"""What is tried with our own client: each error, the limits, information of all kinds, restarts, many connections at once."""
+"""What is tried with our own client: each error, the limits, information of all kinds, restarts, many connections at
+once.
+"""
+from __future__ import annotations
+
 import random
+from collections.abc import Sequence
 
 import client
 import store
-import tap
-from trial import SECOND, Differs, only, same
+from oracle.connection import Connection
+from oracle.messages import Info
+from oracle.records import Record, cut_at, elapsed
+from trial import SECOND, Differs, Trial, only, same
 
 INFO = {"command": "/bin/ls", "runuser": "root", "submituser": "ann", "submithost": "web1"}
 LARGEST = 2_097_152
@@ -12,16 +19,18 @@ ACCEPT = client.accept(SECOND, INFO)
 OUTPUT = client.record((5, "ttyout", b"abc"))
 
 
-def message(name, *fields):
+def message(name: str, *parts: bytes) -> bytes:
     """A message of parts that needn't fit."""
-    return client.frame(client.field(client.NUMBER[name], b"".join(fields)))
+    return client.frame(client.field(client.NUMBER[name], b"".join(parts)))
 
 
-def time_of(seconds, nanoseconds):
+def time_of(seconds: int, nanoseconds: int) -> bytes:
+    """A first field of a time, which may be none."""
     return client.field(1, client.scalar(1, seconds) + client.scalar(2, nanoseconds))
 
 
-def keys(number=2):
+def keys(number: int = 2) -> bytes:
+    """The fields of the information."""
     return b"".join(client.field(number, client.entry(*it)) for it in INFO.items())
 
 
@@ -60,7 +69,7 @@ ERRORS = [
 
 
 @only("serve", "once")
-def part_errors(trial):
+def part_errors(trial: Trial) -> None:
     """Each error comes as the last message, and the connection ends."""
     for text, sent in ERRORS:
         link = trial.direct(timeout=5)
@@ -74,36 +83,40 @@ def part_errors(trial):
         same(f"answer to {b''.join(sent)[-60:]!r}", heard[-1:], [("error", text)])
 
 
-def whole(link, submit, info, records, value=0):
+def whole(link: Connection, submit: int, info: Info, records: Sequence[Record], value: int = 0) -> str:
     """A whole session: its log."""
-    link.send(client.hello(), client.accept(submit, info), *map(client.record, records), client.exited(SECOND + 1, value))
+    link.send(client.hello(), client.accept(submit, info), *map(client.record, records),
+        client.exited(SECOND + 1, value))
     heard = link.rest()
     link.close()
     same("answers", [name for name, _ in heard[:2]], ["hello", "log_id"])
-    same("last answer", heard[-1], ("commit_point", sum(record[0] for record in records)))
+    same("last answer", heard[-1], ("commit_point", elapsed(records)))
     return heard[1][1]
 
 
-def compared(trial, count=1):
-    trial.store.compare(trial.told(count))
+def compared(trial: Trial, count: int = 1) -> None:
+    """The last connections are compared with the store."""
+    trial.store.compare(trial.sent(count))
 
 
 @only("serve", "once")
-def part_values(trial):
+def part_values(trial: Trial) -> None:
     """Information of all kinds, and an exit of all kinds."""
     info = {
-        **INFO, "numbers": [1, -1, 2**63 - 1, -(2**63)], "negative": -5, "empty": [], "text": 'a "quoted" \\ text\n\t\x01\x7f', "ä": "öß€𝄞", "none": "",
+        **INFO, "numbers": [1, -1, 2**63 - 1, -(2**63)], "negative": -5, "empty": [],
+        "text": 'a "quoted" \\ text\n\t\x01\x7f', "ä": "öß€𝄞", "none": "",
         "argv": ["", "a", "ä"], "bytes": b"\xff\xfea", "zero": 0,
     }
     link = trial.connect()
-    link.send(client.hello(), client.accept(2**31 * SECOND + 999_999_999, info), client.exited(3 * SECOND, -1, True, "SEGV", 'an "error"'))
+    link.send(client.hello(), client.accept(2**31 * SECOND + 999_999_999, info),
+        client.exited(3 * SECOND, -1, True, "SEGV", 'an "error"'))
     link.rest()
     link.close()
     compared(trial)
 
 
 @only("serve", "once")
-def part_limits(trial):
+def part_limits(trial: Trial) -> None:
     """A message of the greatest size, records without bytes, and one long delay."""
     record = (5, "ttyout", b"")
     spent = len(client.record(record)) - 4
@@ -117,7 +130,8 @@ def part_limits(trial):
 
 
 @only("serve", "once")
-def part_byte_by_byte(trial):
+def part_byte_by_byte(trial: Trial) -> None:
+    """A session whose bytes come one by one."""
     link = trial.connect()
     for byte in client.hello() + ACCEPT + OUTPUT * 3 + client.exited(5):
         link.send(bytes([byte]))
@@ -127,7 +141,7 @@ def part_byte_by_byte(trial):
 
 
 @only("serve", "once")
-def part_no_records(trial):
+def part_no_records(trial: Trial) -> None:
     """An accept without records, and one whose log stays empty."""
     for expects in (False, True):
         link = trial.connect()
@@ -138,20 +152,21 @@ def part_no_records(trial):
 
 
 @only("serve", "once")
-def part_events_of_a_session(trial):
+def part_events_of_a_session(trial: Trial) -> None:
     """Accepts, alerts and rejects within a session are event lines, and the session goes on."""
     link = trial.connect()
-    further = [client.accept(2 * SECOND, {**INFO, "command": "/bin/sub"}, False), client.refusal("reject", 3 * SECOND, "no", INFO), client.refusal("alert", 4 * SECOND, "beware", INFO)]
+    further = [client.accept(2 * SECOND, {**INFO, "command": "/bin/sub"}, False),
+        client.refusal("reject", 3 * SECOND, "no", INFO), client.refusal("alert", 4 * SECOND, "beware", INFO)]
     link.send(client.hello(), ACCEPT, OUTPUT, *further, OUTPUT, client.exited(5))
     link.rest()
     link.close()
-    (told,) = trial.told(1)
-    same("events", [name for name, _ in told.events], ["accept", "accept", "reject", "alert", "exit"])
-    trial.store.compare([told])
+    (sent,) = trial.sent(1)
+    same("events", [name for name, _ in sent.events], ["accept", "accept", "reject", "alert", "exit"])
+    trial.store.compare([sent])
 
 
 @only("serve", "once")
-def part_refusals(trial):
+def part_refusals(trial: Trial) -> None:
     """A reject, and an alert before one, without a session."""
     for alerts in ([], [client.refusal("alert", 4 * SECOND, "beware", INFO)]):
         link = trial.connect()
@@ -162,18 +177,18 @@ def part_refusals(trial):
 
 
 @only("serve", "once")
-def part_resumed_otherwise(trial):
+def part_resumed_otherwise(trial: Trial) -> None:
     """A client that resumes and sends other records than before, three times; the journal counts the cuts."""
     rng = random.Random(5)
     link = trial.connect()
     first = [output(rng, at, "ttyout") for at in range(50)]
     link.send(client.hello(), ACCEPT, *map(client.record, first))
     heard = [link.read(), link.read()]
-    end = sum(record[0] for record in first)
+    end = elapsed(first)
     while heard[-1] != ("commit_point", end):
         heard.append(link.read())
     link.close()
-    trial.told(1)
+    trial.sent(1)
     digits, records = heard[1][1], first
     for count in (1, 2, 3):
         records = other_end(trial, digits, records, rng)
@@ -183,31 +198,35 @@ def part_resumed_otherwise(trial):
     same("complete", log.is_complete(), False)
 
 
-def output(rng, at, stream):
+def output(rng: random.Random, at: int, stream: str) -> Record:
     """A record; two of three have no delay."""
     return 0 if at % 3 else rng.randrange(1, 10**6), stream, rng.randbytes(30)
 
 
-def other_end(trial, digits, records, rng):
-    """Drops some third of a log, and sends others. Of the records that end at the point the first alone stays. Gives its records."""
+def other_end(trial: Trial, digits: str, records: Sequence[Record], rng: random.Random) -> list[Record]:
+    """Drops some third of a log, and sends others.
+
+    Of the records that end at the point the first alone stays. Gives its records.
+    """
     keep = len(records) * 2 // 3
     while records[keep - 1][0] == 0:
         keep -= 1
-    point = sum(record[0] for record in records[:keep])
+    point = elapsed(records[:keep])
     new = [output(rng, at, "ttyin") for at in range(9)]
     link = trial.connect()
     link.send(client.restart(digits, point), *map(client.record, new))
-    end = point + sum(record[0] for record in new)
+    end = point + elapsed(new)
     while link.read() != ("commit_point", end):
         pass
     link.close()
-    (told,) = trial.told(1)
-    same("errors", told.errors, [])
+    (sent,) = trial.sent(1)
+    same("errors", sent.errors, [])
     return records[:keep] + new
 
 
 @only("serve", "once")
-def part_restarts_refused(trial):
+def part_restarts_refused(trial: Trial) -> None:
+    """Restarts of a log that is complete, that another writes, or that has no such point."""
     digits = whole(trial.connect(), SECOND, INFO, [(5, "ttyout", b"abc")])
     compared(trial)
     link = trial.direct()
@@ -220,7 +239,7 @@ def part_restarts_refused(trial):
     refused(trial, digits, 5, "log complete")
 
 
-def refused(trial, digits, point, text):
+def refused(trial: Trial, digits: str, point: int, text: str) -> None:
     """A restart is refused; while the server hasn't yet seen that the writer is gone, another error may come."""
     for _ in range(100):
         link = trial.direct()
@@ -235,7 +254,7 @@ def refused(trial, digits, point, text):
 
 
 @only("serve")
-def part_many_at_once(trial):
+def part_many_at_once(trial: Trial) -> None:
     """64 sessions at the same time, a record of each in turn."""
     rng = random.Random(6)
     links = [trial.connect() for _ in range(64)]
@@ -243,7 +262,8 @@ def part_many_at_once(trial):
         link.send(client.hello(), client.accept(number * SECOND, {**INFO, "number": number}))
     for _ in range(30):
         for link in links:
-            link.send(client.record((rng.randrange(10**6), rng.choice(client.STREAMS), rng.randbytes(rng.randrange(300)))))
+            link.send(client.record((rng.randrange(10**6), rng.choice(client.STREAMS),
+                rng.randbytes(rng.randrange(300)))))
             link.waiting()
     for number, link in enumerate(links):
         link.send(client.exited(SECOND, number))
@@ -254,7 +274,7 @@ def part_many_at_once(trial):
 
 
 @only("serve")
-def part_a_client_that_reads_nothing(trial):
+def part_a_client_that_reads_nothing(trial: Trial) -> None:
     """It is held up, and nobody else."""
     lazy = trial.direct()
     lazy.link.settimeout(0.2)
@@ -265,14 +285,14 @@ def part_a_client_that_reads_nothing(trial):
     except TimeoutError:
         pass
     digits = whole(trial.connect(), SECOND, INFO, [(5, "ttyout", b"abc")])
-    (told,) = trial.told(1)
-    same("log", told.log_ids, [digits])
-    trial.store.log(told, None)
+    (sent,) = trial.sent(1)
+    same("log", sent.log_ids, [digits])
+    trial.store.log(sent, None)
     lazy.close()
 
 
 @only("serve")
-def part_gone_in_the_middle(trial):
+def part_gone_in_the_middle(trial: Trial) -> None:
     """Clients that vanish with answers unread, in the middle of a frame: the others go on."""
     for cut in (0, 3, 7, 40, 200, 1_000):
         link = trial.direct()
@@ -280,7 +300,7 @@ def part_gone_in_the_middle(trial):
         link.link.setsockopt(1, 13, b"\1\0\0\0\0\0\0\0")
         link.close()
     digits = whole(trial.connect(), SECOND, INFO, [(5, "ttyout", b"abc")])
-    told = trial.told(1)
-    same("log", told[0].digits(), digits)
-    trial.store.log(told[0], None)
-    same("kept", tap.cut_at(told[0].records, 5), told[0].records)
+    sent = trial.sent(1)
+    same("log", sent[0].digits(), digits)
+    trial.store.log(sent[0], None)
+    same("kept", cut_at(sent[0].records, 5), sent[0].records)

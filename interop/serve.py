@@ -3,17 +3,20 @@
 
 usage: serve.py --server PROGRAM [--as serve|once|sudo] [--only WORD]
 
-PROGRAM is run as `serve` of this repository, as its `once` behind a port with a process for each connection, or as sudo's
-own server, by which the script itself is tried. Between client and server stands a port that keeps all bytes: the messages
-are decoded here, and the logs read by store.py (of sudo's server by peer.py). The clients are `sudo_sendlog`; as root `sudo`,
-with a sudoers of its own in a mount namespace of its own, so that nothing of the machine is changed; and client.py. What
-can't be tried is told. It ends with 1 where something differs.
+PROGRAM is run as `serve` of this repository, as its `once` behind a port with a process for each connection, or as
+sudo's own server, by which the script itself is tried. Between client and server stands a port that keeps all bytes:
+the messages are decoded here, and the logs read by store.py (of sudo's server by peer.py). The clients are
+`sudo_sendlog`; as root `sudo`, with a sudoers of its own in a mount namespace of its own, so that nothing of the
+machine is changed; and client.py. What can't be tried is printed. It ends with 1 where something differs.
 """
+from __future__ import annotations
+
 import argparse
 import os
 import subprocess
 import sys
 import traceback
+from collections.abc import Callable
 
 import process_parts
 import protocol_parts
@@ -22,10 +25,12 @@ import store
 import sudo_parts
 import trial
 
-PARTS = [(module, name[5:], part) for module in (sudo_parts, protocol_parts, process_parts) for name, part in vars(module).items() if name.startswith("part_")]
+Part = Callable[[trial.Trial], None]
+PARTS: list[tuple[object, str, Part]] = [(module, name[5:], part) for module in (sudo_parts, protocol_parts,
+    process_parts) for name, part in vars(module).items() if name.startswith("part_")]
 
 
-def lacks(name):
+def lacks(name: str) -> str | None:
     """Why a part can't be tried here, or None."""
     if name.startswith("sendlog_") and not servers.tool("sudo_sendlog"):
         return "without sudo_sendlog (Debian's package sudo)"
@@ -36,12 +41,12 @@ def lacks(name):
     return None
 
 
-def is_for(part, kind):
+def is_for(part: Part, kind: str) -> bool:
     """Whether a part is for this kind of server: one that names none is for all."""
     return kind in getattr(part, "kinds", ("serve", "once", "sudo"))
 
 
-def tried(part, on):
+def tried(part: Part, on: trial.Trial) -> str | None:
     """Why the part differs, or None."""
     try:
         part(on)
@@ -52,14 +57,15 @@ def tried(part, on):
     return None
 
 
-def main():
+def main() -> int:
+    """Tries all parts."""
     words = argparse.ArgumentParser(description=__doc__, formatter_class=argparse.RawDescriptionHelpFormatter)
     words.add_argument("--server", required=True)
     words.add_argument("--as", dest="kind", choices=["serve", "once", "sudo"], default="serve")
     words.add_argument("--only", default="")
     args = words.parse_args()
     on = trial.Trial(os.path.realpath(args.server), args.kind)
-    count, differ, left = 0, 0, {}
+    count, differ, left = 0, 0, dict[str, int]()
     for _, name, part in PARTS:
         if args.only not in name or not is_for(part, args.kind):
             continue
@@ -77,7 +83,8 @@ def main():
             print(f"{name}: the server has ended: {on.place.said()[-1000:]}")
             return 1
     on.end()
-    print(f"serve.py: {on.server.name}: {count} tried, {differ} differ" + "".join(f"; {number} skipped, {why}" for why, number in left.items()))
+    print(f"serve.py: {on.server.name}: {count} tried, {differ} differ" + "".join(f"; {number} skipped, {why}" for why,
+        number in left.items()))
     return 1 if differ else 0
 
 

@@ -1,4 +1,8 @@
-"""Servers that the scripts of this folder start: this repository's, as `serve` or as `once`, and sudo's own beside it."""
+"""Servers that the scripts of this folder start: this repository's, as `serve` or as `once`, and sudo's own beside
+it.
+"""
+from __future__ import annotations
+
 import os
 import signal
 import socket
@@ -6,8 +10,10 @@ import subprocess
 import tempfile
 import threading
 import time
+from collections.abc import Callable, Sequence
+from typing import Self
 
-import client
+from oracle.connection import Connection, connect
 
 OURS = """[server]
 listen_address = 127.0.0.1:{port}
@@ -20,8 +26,8 @@ log_exit = true
 path = {folder}/events
 """
 
-# Sudo's own server: the same, without what it else would do on the machine, and without lines of exits, since sudo 1.9.13p3
-# refuses an exit that has no run time, as sudo_sendlog sends it, where it is to log it
+# Sudo's own server: the same, without what it else would do on the machine, and without lines of exits: sudo 1.9.13p3
+# refuses an exit that has no run time, as sudo_sendlog sends it, if it is to log it
 SUDO = """[server]
 listen_address = 127.0.0.1:{port}
 pid_file =
@@ -40,12 +46,13 @@ path = {folder}/events
 BINS = ("/usr/sbin", "/usr/bin", "/sbin", "/bin")
 
 
-def tool(name):
+def tool(name: str) -> str | None:
     """The path of a program of the system, or None."""
     return next((os.path.join(folder, name) for folder in BINS if os.access(os.path.join(folder, name), os.X_OK)), None)
 
 
-def free_port():
+def free_port() -> int:
+    """A port of 127.0.0.1 that nobody uses."""
     with socket.socket() as link:
         link.bind(("127.0.0.1", 0))
         return link.getsockname()[1]
@@ -56,10 +63,13 @@ class Failed(Exception):
 
 
 class Place:
-    """A folder with the settings, the store and the event log of a server, and what it said on standard error. The store and the
-    event log may stand on another disk."""
+    """A folder with the settings, the store and the event log of a server, and what it said on standard error.
 
-    def __init__(self, form=OURS, parent=None, disk=None):
+    The store and the event log may stand on another disk.
+    """
+
+    def __init__(self, form: str = OURS, parent: str | None = None, disk: str | None = None) -> None:
+        """Writes the settings by a form."""
         self.folder = tempfile.mkdtemp(prefix="interop", dir=parent)
         disk = disk or self.folder
         self.store, self.events = os.path.join(disk, "store"), os.path.join(disk, "events")
@@ -69,7 +79,8 @@ class Place:
         with open(self.conf, "w", encoding="utf-8") as file:
             file.write(form.format(port=self.port, folder=disk))
 
-    def said(self):
+    def said(self) -> str:
+        """What the server said on standard error."""
         with open(self.errors, encoding="utf-8", errors="replace") as file:
             return file.read()
 
@@ -80,64 +91,72 @@ class Serve:
     words = ("serve", "-f")
     name = "serve"
 
-    def __init__(self, program, place, further=()):
+    def __init__(self, program: str, place: Place, further: Sequence[str] = ()) -> None:
+        """`further` are words behind the settings."""
         self.program, self.place, self.further = program, place, further
         self.port = place.port
-        self.process = None
+        self.process: subprocess.Popen[bytes] | None = None
         # what the process does before it becomes the server; whether it is asked by a connection if it listens
-        self.before, self.probe = None, False
+        self.before: Callable[[], object] | None = None
+        self.probe = False
 
-    def spawn(self):
+    def spawn(self) -> int:
         """Starts it, and doesn't wait. Gives how much was said before."""
-        told = os.path.getsize(self.place.errors) if os.path.exists(self.place.errors) else 0
+        offset = os.path.getsize(self.place.errors) if os.path.exists(self.place.errors) else 0
         with open(self.place.errors, "ab") as errors:
             words = [self.program, *self.words, self.place.conf, *self.further]
-            self.process = subprocess.Popen(words, stdin=subprocess.DEVNULL, stdout=subprocess.DEVNULL, stderr=errors, preexec_fn=self.before)
-        return told
+            self.process = subprocess.Popen(words, stdin=subprocess.DEVNULL, stdout=subprocess.DEVNULL, stderr=errors,
+                preexec_fn=self.before)
+        return offset
 
-    def start(self, seconds=20):
-        told = self.spawn()
+    def start(self, seconds: float = 20) -> Self:
+        """Starts it, and waits until it listens."""
+        offset = self.spawn()
         end = time.monotonic() + seconds
-        while not self.listens(told):
+        while not self.listens(offset):
             if self.process.poll() is not None or time.monotonic() > end:
-                raise Failed(f"{self.program} {' '.join(self.words)}: status {self.process.poll()}: {self.place.said()[-500:]}")
+                words = " ".join(self.words)
+                raise Failed(f"{self.program} {words}: status {self.process.poll()}: {self.place.said()[-500:]}")
             time.sleep(0.002)
         return self
 
-    def listens(self, told):
+    def listens(self, offset: int) -> bool:
         """The server says its address in a line, once it listens."""
         if not self.probe:
-            return f":{self.port}" in self.place.said()[told:]
+            return f":{self.port}" in self.place.said()[offset:]
         try:
             socket.create_connection(("127.0.0.1", self.port), timeout=1).close()
             return True
         except OSError:
             return False
 
-    def connect(self, timeout=30):
-        return client.connect(self.port, timeout)
+    def connect(self, timeout: float = 30) -> Connection:
+        """A connection to it."""
+        return connect(self.port, timeout)
 
-    def kill(self):
+    def kill(self) -> None:
         """Ends it at once, where it was started."""
         if self.process is None:
             return
         if self.process.poll() is not None:
-            raise Failed(f"{self.program} has ended by itself: status {self.process.returncode}: {self.place.said()[-500:]}")
+            how = f"status {self.process.returncode}: {self.place.said()[-500:]}"
+            raise Failed(f"{self.program} has ended by itself: {how}")
         self.process.send_signal(signal.SIGKILL)
         self.process.wait()
 
-    def stop(self):
+    def stop(self) -> float:
         """Ends it, and gives the processor seconds that it took."""
         self.process.terminate()
         _, _, usage = os.wait4(self.process.pid, 0)
         self.process.returncode = 0
         return usage.ru_utime + usage.ru_stime
 
-    def has_ended(self):
+    def has_ended(self) -> bool:
         """Whether it ended by itself."""
         return self.process.poll() is not None
 
-    def is_alone(self):
+    def is_alone(self) -> bool:
+        """Whether it serves one connection at a time."""
         return False
 
 
@@ -147,7 +166,8 @@ class Sudo(Serve):
     words = ("-n", "-f")
     name = "sudo"
 
-    def __init__(self, program, place, further=()):
+    def __init__(self, program: str, place: Place, further: Sequence[str] = ()) -> None:
+        """It is asked by a connection if it listens."""
         super().__init__(program, place, further)
         self.probe = True
 
@@ -157,22 +177,28 @@ class Once:
 
     name = "once"
 
-    def __init__(self, program, place, further=()):
+    def __init__(self, program: str, place: Place, further: Sequence[str] = ()) -> None:
+        """`further` are words behind the settings."""
         self.program, self.place, self.further = program, place, further
-        self.process, self.up, self.lock = None, False, threading.Lock()
-        self.before, self.probe = None, False
+        self.process: subprocess.Popen[bytes] | None = None
+        self.up, self.lock = False, threading.Lock()
+        self.before: Callable[[], object] | None = None
+        self.probe = False
 
-    def start(self):
+    def start(self) -> Self:
+        """From now on connections are served."""
         self.up = True
         return self
 
-    def spawn(self, link):
+    def spawn(self, link: socket.socket) -> subprocess.Popen[bytes]:
         """The process that serves this end of a connection."""
         with open(self.place.errors, "ab") as errors:
             words = [self.program, "once", "-f", self.place.conf, *self.further]
-            return subprocess.Popen(words, stdin=link.fileno(), stdout=link.fileno(), stderr=errors, preexec_fn=self.before)
+            return subprocess.Popen(words, stdin=link.fileno(), stdout=link.fileno(), stderr=errors,
+                preexec_fn=self.before)
 
-    def connect(self, timeout=30):
+    def connect(self, timeout: float = 30) -> Connection:
+        """A connection, after the end of the process of the one before."""
         self.end()
         ours, theirs = socket.socketpair()
         with self.lock, theirs:
@@ -180,28 +206,32 @@ class Once:
                 ours.close()
                 raise ConnectionRefusedError("no server runs")
             self.process = self.spawn(theirs)
-        return client.Connection(ours, timeout)
+        return Connection(ours, timeout)
 
-    def end(self):
+    def end(self) -> None:
         """Waits for the process of the connection before, which ends once that one is closed."""
         if self.process and self.process.wait(30) not in (0, -signal.SIGKILL, 5, 6):
             raise Failed(f"{self.program} once: status {self.process.returncode}: {self.place.said()[-500:]}")
 
-    def kill(self):
+    def kill(self) -> None:
+        """Ends the process at once."""
         with self.lock:
             self.up = False
             if self.process:
                 self.process.send_signal(signal.SIGKILL)
                 self.process.wait()
 
-    def stop(self):
+    def stop(self) -> float:
+        """Waits for the last process."""
         self.end()
         return 0
 
-    def has_ended(self):
+    def has_ended(self) -> bool:
+        """There is no server that could have ended."""
         return False
 
-    def is_alone(self):
+    def is_alone(self) -> bool:
+        """One connection is served at a time."""
         return True
 
 
@@ -210,14 +240,16 @@ class Listener(Once):
 
     name = "once behind a port"
 
-    def start(self):
+    def start(self) -> Self:
+        """Listens on the port."""
         self.listener = socket.create_server(("127.0.0.1", self.place.port), backlog=64)
         self.port = self.place.port
-        self.statuses = []
+        self.statuses: list[int] = []
         threading.Thread(target=self.run, daemon=True).start()
         return self
 
-    def run(self):
+    def run(self) -> None:
+        """Serves connections until the port is closed."""
         while True:
             try:
                 link, _ = self.listener.accept()
@@ -227,7 +259,8 @@ class Listener(Once):
                 process = self.spawn(link)
             self.statuses.append(process.wait())
 
-    def stop(self):
+    def stop(self) -> float:
+        """Closes the port. No process may have ended with an unknown status."""
         self.listener.close()
         wrong = [status for status in self.statuses if status not in (0, 5, 6)]
         if wrong:
