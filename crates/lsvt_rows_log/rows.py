@@ -3,105 +3,139 @@
 
 usage: rows.py FOLDER
 
-It is a program of its own: it writes the files of a log by bench/stores.py, and works out slots, cuts and windows by the
-sentences of docs/FORMATS.md. It knows nothing of what the crates answer. The lengths and bytes that stand in it as literals
-were reckoned apart from it.
+It is a program of its own: it writes the files of a log by oracle/store.py, and works out slots, cuts and windows by
+the sentences of docs/FORMATS.md. It knows nothing of what the crates answer. The lengths and bytes that stand in it
+as literals were worked out apart from it.
 """
-import os
+from __future__ import annotations
+
 import sys
+from collections.abc import Iterable, Sequence
+from typing import Any
 
-sys.path.insert(0, os.path.join(os.path.dirname(os.path.abspath(__file__)), "..", "..", "bench"))
-import stores  # noqa: E402
+import faults
+from oracle import lines, store
+from oracle.records import SECOND, STREAMS, Record, cut_at, elapsed, line_of
+from oracle.rows import Rows
+from oracle.store import COMPLETE, CUT, FLUSHED, MADE, PARTS, body_text, files_of
 
-FILES = stores.PARTS + ("slots", "commit")
+FILES = PARTS + ("slots", "commit")
 WINDOW = 65536
-cases = []
-wanted = []
-
-
-def case(line, *printed):
-    cases.append(line)
-    wanted.extend(printed)
-
-
-def title(text):
-    case(f"# {text}", f"# {text}")
+SUBMIT = 1_700_000_000 * SECOND
+Entry = tuple[str, str, str]
+Files = dict[str, bytes]
+ROWS = Rows()
+case, title = ROWS.case, ROWS.title
 
 
 class Log:
     """A log that is made, filled, cut and finished, with the journal's two slots."""
 
-    def __init__(self, number, submit, info, entries):
-        self.number, self.head, self.records, self.staged, self.exit, self.cuts = number, stores.head_text((submit, 0), info), [], [], None, 0
-        self.slots, self.selected = [b"", b""], 1
+    def __init__(self, number: int, submit: int, info: dict[str, Any], entries: Iterable[Entry]) -> None:
+        """The log is made, by a case for each entry."""
+        self.number, self.head = number, lines.head(submit, info)
+        self.records: list[Record] = []
+        self.staged: list[Record] = []
+        self.exit: bytes | None = None
+        self.cuts, self.slots, self.selected = 0, [b"", b""], 1
         for key, kind, value in entries:
             case(f"entry {key} {kind} {value}")
-        case(f"create {number} {submit * 10**9}")
-        self.enter(0)
+        case(f"create {number} {submit}")
+        self.enter(MADE)
 
-    def files(self):
-        return stores.files_of(self.head, self.records, self.exit)
+    def files(self) -> Files:
+        """The data files."""
+        return files_of(self.head, self.records, self.exit)
 
-    def elapsed(self):
-        return sum(r[0] for r in self.records)
-
-    def enter(self, kind):
+    def enter(self, kind: int) -> None:
         """The slot that isn't selected gets the entry, and is selected."""
         self.selected = 1 - self.selected
-        self.slots[self.selected] = stores.body_of(kind, self.records, self.files(), self.cuts)
+        self.slots[self.selected] = body_text(kind, self.records, self.files(), self.cuts)
 
-    def append(self, *records):
+    def append(self, *records: Record) -> None:
+        """Records are staged."""
         for delay, event, *rest in records:
-            case(f"append {delay} {event} " + (rest[0].hex() if event in stores.STREAMS else f"{rest[0]} {rest[1]}"))
+            words = rest[0].hex() if event in STREAMS else f"{rest[0]} {rest[1]}"
+            case(f"append {delay} {event} {words}")
         self.staged += records
 
-    def commit(self, kind):
+    def commit(self, kind: int) -> str:
+        """What is staged is committed. Gives what is printed."""
         self.records, self.staged = self.records + self.staged, []
         self.enter(kind)
-        return f"to {self.elapsed()}"
+        return f"to {elapsed(self.records)}"
 
-    def flush(self):
-        case("flush", self.commit(1))
+    def flush(self) -> None:
+        """What is staged is committed."""
+        case("flush", self.commit(FLUSHED))
 
-    def finish(self, run, value):
-        self.exit = stores.exit_text(divmod(run, 10**9), value)
-        case(f"finish {run} {value}", self.commit(3))
+    def finish(self, run: int, value: int) -> None:
+        """What is staged is committed with the exit."""
+        self.exit = lines.exit_line(run, value)
+        case(f"finish {run} {value}", self.commit(COMPLETE))
 
-    def cut(self, point):
-        """The records through the first that ends at the point stay; the bytes of the others stay too, and don't count."""
-        ends = [sum(r[0] for r in self.records[:n + 1]) for n in range(len(self.records))]
-        kept = ends.index(point) + 1
-        self.left, self.cuts = self.files(), self.cuts + (kept < len(self.records))
-        self.records = self.records[:kept]
-        case(f"cut {point}", f"to {point}")
-        self.enter(2)
+    def cut(self, point: int) -> None:
+        """The records through the first that ends at the point stay; the bytes of the others are committed no more."""
+        kept = list(cut_at(self.records, point) or [])
+        self.cuts += len(kept) < len(self.records)
+        self.records = kept
+        case(f"cut {self.number} {point}", f"to {point}")
+        self.enter(CUT)
 
-    def journal(self):
+    def journal(self) -> bytes:
+        """The text of slots."""
         return bytes([1, self.selected]) + b"".join(self.slots)
 
-    def show(self, **lengths):
+    def show(self, **lengths: int) -> None:
         """The nine files, byte for byte."""
         files = dict(self.files(), slots=self.journal())
         for name, length in lengths.items():
             assert len(files[name.replace("_json", ".json")]) == length, (name, length)
-        case(f"show {self.number}", *(f"{name} {files[name].hex()}" for name in FILES if name in files))
+        case(f"show {self.number}", *shown(files))
 
-    def view(self):
-        case(f"view {self.number}", f"{len(self.records)} records to {self.elapsed()}, {self.cuts} cuts, " + ("exit 0" if self.exit else "no exit"))
+    def view(self) -> None:
+        """What is read of the log."""
+        ended = "exit 0" if self.exit else "no exit"
+        case(
+            f"view {self.number}",
+            f"{len(self.records)} records to {elapsed(self.records)}, {self.cuts} cuts, {ended}",
+        )
 
-    def open(self):
-        case(f"open {self.number}", f"to {self.elapsed()}")
+    def open(self) -> None:
+        """The log is opened."""
+        case(f"open {self.number}", f"to {elapsed(self.records)}")
 
 
-INFO = {
-    "columns": 80, "command": "/usr/bin/id", "lines": 24, "runargv": ["id", "-u"], "rungid": 0, "rungroup": "root", "runuid": 0,
+def shown(files: Files) -> list[str]:
+    """The files as they are printed."""
+    return [f"{name} {files[name].hex()}" for name in FILES if name in files]
+
+
+def given(files: Files) -> None:
+    """A store that has these files of log 1."""
+    case("store")
+    for name in FILES:
+        if name in files:
+            case(f"file 1 {name} {files[name].hex()}".rstrip())
+
+
+def bodies_of(head: bytes, turns: Iterable[tuple[int, Sequence[Record], bytes | None]]) -> list[bytes]:
+    """The bodies of a journal's entries: each has a kind, records and perhaps an exit."""
+    return [body_text(kind, records, files_of(head, records, ended)) for kind, records, ended in turns]
+
+
+INFO: dict[str, Any] = {
+    "columns": 80, "command": "/usr/bin/id", "lines": 24, "runargv": ["id", "-u"], "rungid": 0, "rungroup": "root",
+    "runuid": 0,
     "runuser": "root", "submitcwd": "/home/ann", "submithost": "web1", "submituser": "ann", "ttyname": "/dev/pts/0",
 }
 # As sudo sends them: in another order than that of the file.
-ORDER = ("command", "runargv", "runuser", "runuid", "rungid", "rungroup", "submituser", "submithost", "submitcwd", "ttyname", "lines", "columns")
+ORDER = ("command", "runargv", "runuser", "runuid", "rungid", "rungroup", "submituser", "submithost", "submitcwd",
+    "ttyname", "lines", "columns")
 
 
-def entry(key):
+def entry(key: str) -> Entry:
+    """An entry of INFO: its key, its kind, and its value in words."""
     value = INFO[key]
     if isinstance(value, int):
         return key, "number", str(value)
@@ -110,13 +144,14 @@ def entry(key):
     return key, "text", value.encode().hex()
 
 
-def session():
+def session() -> Log:
+    """A log in an empty store."""
     case("store")
-    return Log(1, 1700000000, INFO, [entry(key) for key in ORDER])
+    return Log(1, SUBMIT, INFO, [entry(key) for key in ORDER])
 
 
-FIRST = [(500000000, "ttyout", b"# "), (1000000000, "ttyout", b"id -u"), (0, "ttyout", b"\r\n0\r\n")]
-LAST = [(2000000000, "winsize", 30, 100)]
+FIRST: list[Record] = [(500000000, "ttyout", b"# "), (1000000000, "ttyout", b"id -u"), (0, "ttyout", b"\r\n0\r\n")]
+LAST: list[Record] = [(2000000000, "winsize", 30, 100)]
 
 title("the files of a whole session")
 log = session()
@@ -125,7 +160,8 @@ log.flush()
 log.append(*LAST)
 log.finish(3600000000, 0)
 log.show(log_json=277, exit_json=86, timing=69, ttyout=12, slots=180)
-assert log.journal()[:2] == b"\x01\x00" and log.journal().hex().startswith("01000300000000000000040000" + "0000d09dc300000000000000011500000000000000560000000000000045")
+BEGIN = "01000300000000000000040000" + "0000d09dc300000000000000011500000000000000560000000000000045"
+assert log.journal()[:2] == b"\x01\x00" and log.journal().hex().startswith(BEGIN)
 log.view()
 
 title("the files of a session without a record")
@@ -155,27 +191,15 @@ OLD_NUMBERS = bytes.fromhex("010000000000000000000000010100000001000000000000000
 TAKEN_OVER = bytes.fromhex("0100000000010000000000000001")
 
 
-def old_journal(bodies):
-    """Each entry is a gate that is 1 and a body; the gate behind the last one is 0."""
-    return b"".join(b"\x01" + body for body in bodies) + b"\x00"
-
-
-def old_store():
+def old_store() -> tuple[Files, list[bytes]]:
     """The files of the whole session, with the journal of gates of its three turns."""
-    head, exit = stores.head_text((1700000000, 0), INFO), stores.exit_text((3, 600000000), 0)
-    bodies = [stores.body_of(kind, records, stores.files_of(head, records, end)) for kind, records, end in ((0, [], None), (1, FIRST, None), (3, FIRST + LAST, exit))]
-    files = dict(stores.files_of(head, FIRST + LAST, exit), commit=old_journal(bodies))
+    head, ended = lines.head(SUBMIT, INFO), lines.exit_line(3_600_000_000, 0)
+    bodies = bodies_of(head, ((MADE, [], None), (FLUSHED, FIRST, None), (COMPLETE, FIRST + LAST, ended)))
+    files = dict(files_of(head, FIRST + LAST, ended), commit=store.old_journal(bodies))
     assert len(files["commit"]) == 271
-    case("store")
-    for name in FILES:
-        if name in files:
-            case(f"file 1 {name} {files[name].hex()}".rstrip())
+    given(files)
     case(f"file lane.0 commit {OLD_NUMBERS.hex()}")
     return files, bodies
-
-
-def shown(files):
-    return [f"{name} {files[name].hex()}" for name in FILES if name in files]
 
 
 title("a log of an older store is read, and no file changes")
@@ -185,7 +209,7 @@ case("show 1", *shown(files))
 
 title("it is taken over where it is opened: its last entry stands in the first slot, and the older journal stays")
 case("open 1", "to 3500000000")
-taken = dict(files, slots=b"\x01\x00" + bodies[2])
+taken = dict(files, slots=store.slots_text(bodies[2]))
 assert len(taken["slots"]) == 91 and taken["slots"][:3] == b"\x01\x00\x03"
 case("show 1", *shown(taken))
 case("view 1", "4 records to 3500000000, 0 cuts, exit 0")
@@ -196,28 +220,26 @@ case("show lane.0", f"commit {OLD_NUMBERS.hex()}")
 case("numbers 0 1")
 case("show lane.0", f"slots {TAKEN_OVER.hex()}", f"commit {OLD_NUMBERS.hex()}")
 case("draw", "number 2")
-drawn = TAKEN_OVER[:1] + b"\x01" + TAKEN_OVER[2:] + b"".join(n.to_bytes(4, "big") for n in (2, 0, 1))
+drawn = TAKEN_OVER[:1] + b"\x01" + TAKEN_OVER[2:] + store.numbers_body(2)
 assert len(drawn) == 26
 case("show lane.0", f"slots {drawn.hex()}", f"commit {OLD_NUMBERS.hex()}")
 
 title("an older log that goes on is cut, with its first count of cuts")
-head = stores.head_text((1700000000, 0), INFO)
-bodies = [stores.body_of(kind, records, stores.files_of(head, records, None)) for kind, records in ((0, []), (1, FIRST))]
-files = dict(stores.files_of(head, FIRST, None), commit=old_journal(bodies))
-case("store")
-for name in FILES:
-    if name in files:
-        case(f"file 1 {name} {files[name].hex()}".rstrip())
+head = lines.head(SUBMIT, INFO)
+bodies = bodies_of(head, ((MADE, [], None), (FLUSHED, FIRST, None)))
+files = dict(files_of(head, FIRST, None), commit=store.old_journal(bodies))
+given(files)
 case("open 1", "to 1500000000")
-case("cut 500000000", "to 500000000")
-slots = b"\x01\x01" + bodies[1] + stores.body_of(2, FIRST[:1], stores.files_of(head, FIRST[:1], None), 1)
+case("cut 1 500000000", "to 500000000")
+slots = b"\x01\x01" + bodies[1] + body_text(CUT, FIRST[:1], files_of(head, FIRST[:1], None), 1)
 case("show 1", *shown(dict(files, slots=slots)))
 case("view 1", "1 records to 500000000, 1 cuts, no exit")
 
 
 # ---- how much is read at once
 
-def longest(timing, streams=0):
+def longest(timing: int, streams: int = 0) -> str:
+    """What is printed of the longest reads, in bytes."""
     return f"longest reads: timing {min(timing, WINDOW)}, streams {streams}, other files within 65536 true"
 
 
@@ -227,12 +249,12 @@ case("store")
 case("create 1 0", )
 case(f"many {LINES} 1000 ttyout {DATA.hex()}")
 case("flush", f"to {LINES * 1000}")
-line = stores.line_of((1000, "ttyout", DATA))
+line = line_of((1000, "ttyout", DATA))
 case("longest")
-wanted.append(longest(0))
+ROWS.wanted.append(longest(0))
 case("open 1", f"to {LINES * 1000}")
 case("longest", longest(LINES * len(line)))
-case(f"cut {LINES // 2 * 1000}", f"to {LINES // 2 * 1000}")
+case(f"cut 1 {LINES // 2 * 1000}", f"to {LINES // 2 * 1000}")
 case("longest", longest(LINES * len(line)))
 case("view 1", f"{LINES // 2} records to {LINES // 2 * 1000}, 1 cuts, no exit")
 case("longest", longest(LINES // 2 * len(line), len(DATA)))
@@ -245,8 +267,13 @@ case("longest", longest(0))
 log.open()
 case("longest", longest(48))
 
+
+# ---- scripts with each device call failing, and a crash behind each
+
+title("what a fault or a crash leaves of a log is what stood before the step, or what stands after it")
+for script, printed in faults.scripts():
+    ROWS.cases.extend(script)
+    ROWS.wanted.extend(printed)
+
 if __name__ == "__main__":
-    folder = sys.argv[1]
-    for name, lines in (("stdin", cases), ("stdout", wanted)):
-        with open(os.path.join(folder, name), "w") as file:
-            file.write("".join(line + "\n" for line in lines))
+    ROWS.write(sys.argv[1])

@@ -7,77 +7,101 @@ It is a program of its own: it reads and writes the messages by the tables of su
 timing as docs/FORMATS.md has them, and knows nothing of what the crates answer. Where a row has its answer beside
 it, that answer was worked out apart from this program too, and both must agree.
 """
+from __future__ import annotations
+
 import json
 import random
 import re
-import struct
 import sys
+from collections.abc import Callable, Iterable, Iterator, Mapping, Sequence
+from typing import Any
 
-I64, I32, FLAG, TEXT, TEXTS = "int64", "int32", "bool", "text", "texts"
-LIMIT = 2_097_152
+import events
+from oracle import lines, records, wire
+from oracle.lines import Members, shown as lossy
+from oracle.records import Record
+from oracle.rows import Rows
+from oracle.store import number_of
+from oracle.wire import LARGEST, Frames, field, frame, number as number_field, signed, text as text_field, varint
+
+I64, I32, FLAG, TEXT, TEXTS, INFO = "int64", "int32", "bool", "text", "texts", "info"
 
 # ---- messages: number, name, kind
 
 
 class Message:
-    def __init__(self, name, fields):
-        self.name, self.fields = name, dict((f[0], f[1:]) for f in fields)
+    """A message: its name, and of each field's number the name and the kind."""
+
+    def __init__(self, name: str, fields: Iterable[tuple[int, str, Kind]]) -> None:
+        """The fields are triples of a number, a name and a kind."""
+        self.name = name
+        self.fields = {number: (word, kind) for number, word, kind in fields}
+
+
+Kind = str | Message
+Kinds = Mapping[int, tuple[str, Kind]]
+Span = int | tuple[int, int]
+Value = tuple[int, Any]
+Entries = Sequence[tuple[bytes, Value]]
 
 
 TIME = Message("TimeSpec", [(1, "sec", I64), (2, "nsec", I32)])
 BUFFER = Message("IoBuffer", [(1, "delay", TIME), (2, "bytes", TEXT)])
 SIZE = Message("ChangeWindowSize", [(1, "delay", TIME), (2, "rows", I32), (3, "cols", I32)])
 SUSPEND = Message("CommandSuspend", [(1, "delay", TIME), (2, "signal", TEXT)])
-ACCEPT = Message("AcceptMessage", [(1, "submit_time", TIME), (2, "info_msgs", "info"), (3, "expect_iobufs", FLAG)])
-REJECT = Message("RejectMessage", [(1, "submit_time", TIME), (2, "reason", TEXT), (3, "info_msgs", "info")])
-ALERT = Message("AlertMessage", [(1, "alert_time", TIME), (2, "reason", TEXT), (3, "info_msgs", "info")])
-EXIT = Message("ExitMessage", [(1, "run_time", TIME), (2, "exit_value", I32), (3, "dumped_core", FLAG), (4, "signal", TEXT), (5, "error", TEXT)])
+ACCEPT = Message("AcceptMessage", [(1, "submit_time", TIME), (2, "info_msgs", INFO), (3, "expect_iobufs", FLAG)])
+REJECT = Message("RejectMessage", [(1, "submit_time", TIME), (2, "reason", TEXT), (3, "info_msgs", INFO)])
+ALERT = Message("AlertMessage", [(1, "alert_time", TIME), (2, "reason", TEXT), (3, "info_msgs", INFO)])
+EXIT = Message("ExitMessage",
+    [(1, "run_time", TIME), (2, "exit_value", I32), (3, "dumped_core", FLAG), (4, "signal", TEXT), (5, "error", TEXT)])
 RESTART = Message("RestartMessage", [(1, "log_id", TEXT), (2, "resume_point", TIME)])
 CLIENT_HELLO = Message("ClientHello", [(1, "client_id", TEXT)])
-SERVER_HELLO = Message("ServerHello", [(1, "server_id", TEXT), (2, "redirect", TEXT), (3, "servers", TEXTS), (4, "subcommands", FLAG)])
-OF_CLIENT = {
+SERVER_HELLO = Message("ServerHello",
+    [(1, "server_id", TEXT), (2, "redirect", TEXT), (3, "servers", TEXTS), (4, "subcommands", FLAG)])
+OF_CLIENT: Kinds = {
     1: ("Accept", ACCEPT), 2: ("Reject", REJECT), 3: ("Exit", EXIT), 4: ("Restart", RESTART), 5: ("Alert", ALERT),
     6: ("Ttyin", BUFFER), 7: ("Ttyout", BUFFER), 8: ("Stdin", BUFFER), 9: ("Stdout", BUFFER), 10: ("Stderr", BUFFER),
     11: ("Winsize", SIZE), 12: ("Suspend", SUSPEND), 13: ("Hello", CLIENT_HELLO),
 }
-OF_SERVER = {1: ("Hello", SERVER_HELLO), 2: ("CommitPoint", TIME), 3: ("LogId", TEXT), 4: ("Error", TEXT), 5: ("Abort", TEXT)}
+OF_SERVER: Kinds = {1: ("Hello", SERVER_HELLO), 2: ("CommitPoint", TIME), 3: ("LogId", TEXT), 4: ("Error", TEXT),
+    5: ("Abort", TEXT)}
 ON_HEAP = {"Accept", "Reject", "Exit", "Alert"}
 VALUES = {2: "Num", 3: "Text", 4: "Texts", 5: "Nums"}
 
 
 class Fault(Exception):
-    pass
+    """Bytes that aren't what they should be, and why."""
 
 
-def varint_at(b, key, at):
-    value = 0
-    for i in range(10):
-        if at + i >= len(b):
-            raise Fault(f"the bytes end inside the field at offset {key}")
-        value |= (b[at + i] & 127) << (7 * i)
-        if b[at + i] < 128:
-            return value % 2**64, at + i + 1
-    raise Fault(f"a varint of the field at offset {key} has more than ten bytes")
+def varint_at(b: bytes, key: int, at: int) -> tuple[int, int]:
+    """The varint at an offset, of a field whose key is at another."""
+    try:
+        return wire.read_varint(b, at)
+    except wire.CutShort as fault:
+        raise Fault(f"the bytes end inside the field at offset {key}") from fault
+    except wire.TooLong as fault:
+        raise Fault(f"a varint of the field at offset {key} has more than ten bytes") from fault
 
 
-def fixed_at(b, key, at, n):
+def fixed_at(b: bytes, key: int, at: int, n: int) -> tuple[int, int]:
+    """The number of n bytes at an offset, the lowest first."""
     if len(b) - at < n:
         raise Fault(f"the bytes end inside the field at offset {key}")
     return int.from_bytes(b[at:at + n], "little"), at + n
 
 
-def field_at(b, at):
-    """The number, the type and the value of a field, and the offset behind it."""
+def field_at(b: bytes, at: int) -> tuple[int, int, Span, int]:
+    """The number, the type and the value of a field, and the offset after it."""
     key, after = varint_at(b, at, at)
     number, kind = key >> 3, key & 7
     if not 1 <= number < 2**29:
         raise Fault(f"no key of a field stands at offset {at}")
     if kind == 0:
-        return (number, 0) + varint_at(b, at, after)
+        return number, 0, *varint_at(b, at, after)
     if kind == 1:
-        return (number, 1) + fixed_at(b, at, after, 8)
+        return number, 1, *fixed_at(b, at, after, 8)
     if kind == 5:
-        return (number, 5) + fixed_at(b, at, after, 4)
+        return number, 5, *fixed_at(b, at, after, 4)
     if kind == 2:
         length, start = varint_at(b, at, after)
         if length > len(b) - start:
@@ -86,7 +110,8 @@ def field_at(b, at):
     raise Fault(f"no key of a field stands at offset {at}")
 
 
-def fields_of(b):
+def fields_of(b: bytes) -> Iterator[tuple[int, int, int, Span]]:
+    """The offset, the number, the type and the value of each field."""
     at = 0
     while at < len(b):
         number, kind, value, after = field_at(b, at)
@@ -94,48 +119,51 @@ def fields_of(b):
         at = after
 
 
-def signed(n, bits):
-    n %= 2**bits
-    return n - 2**bits if n >= 2**(bits - 1) else n
-
-
-def number_in(number, kind, value):
-    if kind != 0:
+def number_in(number: int, kind: int, value: Span) -> int:
+    """The value of a field that must be a varint."""
+    if kind != 0 or not isinstance(value, int):
         raise Fault(f"field {number} has another type")
     return value
 
 
-def bytes_in(b, number, kind, value):
-    if kind != 2:
+def bytes_in(b: bytes, number: int, kind: int, value: Span) -> bytes:
+    """The bytes of a field that must have some."""
+    if kind != 2 or isinstance(value, int):
         raise Fault(f"field {number} has another type")
     return b[value[0]:value[1]]
 
 
-def numbers_read(b):
+def numbers_read(b: bytes) -> list[int]:
+    """The numbers of a list, packed or not."""
     numbers = []
     for key, number, kind, value in fields_of(b):
         if number != 1:
             continue
         if kind == 0:
-            numbers.append(signed(value, 64))
-        elif kind == 2:
-            at = 0
-            packed = b[value[0]:value[1]]
-            while at < len(packed):
-                n, at = varint_at(packed, key, at)
-                numbers.append(signed(n, 64))
+            numbers.append(signed(number_in(number, kind, value)))
         else:
-            raise Fault("field 1 has another type")
+            numbers += packed_numbers(bytes_in(b, number, kind, value), key)
     return numbers
 
 
-def texts_read(b):
+def packed_numbers(packed: bytes, key: int) -> list[int]:
+    """The numbers of a packed field whose key is at an offset."""
+    at, numbers = 0, []
+    while at < len(packed):
+        n, at = varint_at(packed, key, at)
+        numbers.append(signed(n))
+    return numbers
+
+
+def texts_read(b: bytes) -> list[bytes]:
+    """The texts of a list."""
     return [bytes_in(b, n, k, v) for _, n, k, v in fields_of(b) if n == 1]
 
 
-def entry_read(b):
-    """A key and a value, of which there may be none."""
-    key = value = None
+def entry_read(b: bytes) -> tuple[bytes, Value | None]:
+    """A key and a value, if it has one."""
+    key: bytes | None = None
+    value: Value | None = None
     for _, number, kind, v in fields_of(b):
         if number == 1:
             if key is not None:
@@ -152,45 +180,44 @@ def entry_read(b):
     return key or b"", value
 
 
-def message_read(m, b):
-    out = {}
-    entries, texts = [], []
-    for _, number, kind, v in fields_of(b):
+def message_read(m: Message, b: bytes) -> Members:
+    """A message, by the names of its fields."""
+    out: Members = {}
+    lists: dict[str, list[Any]] = {name: [] for name, what in m.fields.values() if what in (INFO, TEXTS)}
+    for _, number, kind, value in fields_of(b):
         if number not in m.fields:
             continue
         name, what = m.fields[number]
-        if what == "info":
-            key, value = entry_read(bytes_in(b, number, kind, v))
-            if value is not None:
-                entries.append((key, value))
-            continue
-        if what == TEXTS:
-            texts.append(bytes_in(b, number, kind, v))
-            continue
-        if name in out:
-            raise Fault(f"field {number} comes twice")
-        if what == I64:
-            out[name] = signed(number_in(number, kind, v), 64)
-        elif what == I32:
-            out[name] = signed(number_in(number, kind, v), 32)
-        elif what == FLAG:
-            out[name] = number_in(number, kind, v) != 0
-        elif what == TEXT:
-            out[name] = bytes_in(b, number, kind, v)
-        else:
-            out[name] = message_read(what, bytes_in(b, number, kind, v))
-    for name, what in m.fields.values():
-        if what == "info":
-            out[name] = entries
+        if what == INFO:
+            key, content = entry_read(bytes_in(b, number, kind, value))
+            lists[name] += [] if content is None else [(key, content)]
         elif what == TEXTS:
-            out[name] = texts
+            lists[name].append(bytes_in(b, number, kind, value))
+        elif name in out:
+            raise Fault(f"field {number} comes twice")
         else:
-            absent = None if isinstance(what, Message) else b"" if what == TEXT else False if what == FLAG else 0
-            out.setdefault(name, absent)
+            out[name] = value_read(what, b, number, kind, value)
+    for name, what in m.fields.values():
+        out.setdefault(name, lists[name] if name in lists else absent(what))
     return out
 
 
-def one_read(kinds, b):
+def value_read(what: Kind, b: bytes, number: int, kind: int, value: Span) -> Any:
+    """The value of a field that comes once."""
+    if what in (I64, I32):
+        return signed(number_in(number, kind, value), 64 if what == I64 else 32)
+    if what == FLAG:
+        return number_in(number, kind, value) != 0
+    text = bytes_in(b, number, kind, value)
+    return message_read(what, text) if isinstance(what, Message) else text
+
+
+def absent(what: Kind) -> Any:
+    """The value of a field that doesn't come."""
+    return None if isinstance(what, Message) else b"" if what == TEXT else False if what == FLAG else 0
+
+
+def one_read(kinds: Kinds, b: bytes) -> Value:
     """The member of a oneof that bytes are, and its content."""
     found = None
     for _, number, kind, v in fields_of(b):
@@ -200,81 +227,68 @@ def one_read(kinds, b):
             raise Fault(f"field {number} comes twice")
         text = bytes_in(b, number, kind, v)
         what = kinds[number][1]
-        found = number, text if what == TEXT else message_read(what, text)
+        found = number, message_read(what, text) if isinstance(what, Message) else text
     if found is None:
         raise Fault("the message is of no known type")
     return found
 
 
-def varint(n):
-    out = bytearray()
-    n %= 2**64
-    while n >= 128:
-        out.append(n % 128 + 128)
-        n //= 128
-    out.append(n)
-    return bytes(out)
-
-
-def number_field(number, n):
-    return varint(number << 3) + varint(n)
-
-
-def bytes_field(number, b):
-    return varint(number << 3 | 2) + varint(len(b)) + b
-
-
-def entry_written(key, value):
+def entry_written(key: bytes, value: Value) -> bytes:
+    """A key and a value."""
     number, v = value
-    out = bytes_field(1, key) if key else b""
+    out = text_field(1, key)
     if number == 2:
         return out + number_field(2, v)
     if number == 3:
-        return out + bytes_field(3, v)
+        return out + field(3, v)
     if number == 4:
-        return out + bytes_field(4, b"".join(bytes_field(1, t) for t in v))
-    return out + bytes_field(5, bytes_field(1, b"".join(varint(n) for n in v)) if v else b"")
+        return out + field(4, b"".join(field(1, t) for t in v))
+    return out + field(5, text_field(1, b"".join(varint(n) for n in v)))
 
 
-def message_written(m, value):
-    out = b""
-    for number in sorted(m.fields):
-        name, what = m.fields[number]
-        v = value[name]
-        if what == "info":
-            out += b"".join(bytes_field(number, entry_written(*e)) for e in v)
-        elif what == TEXTS:
-            out += b"".join(bytes_field(number, t) for t in v)
-        elif isinstance(what, Message):
-            out += bytes_field(number, message_written(what, v)) if v is not None else b""
-        elif what == TEXT:
-            out += bytes_field(number, v) if v else b""
-        else:
-            out += number_field(number, int(v)) if v else b""
-    return out
+def message_written(m: Message, value: Members) -> bytes:
+    """The canonical bytes of a message."""
+    return b"".join(value_written(*m.fields[number], number, value) for number in sorted(m.fields))
 
 
-def one_written(kinds, number, value):
+def value_written(name: str, what: Kind, number: int, value: Members) -> bytes:
+    """The bytes of one field."""
+    v = value[name]
+    if what == INFO:
+        return b"".join(field(number, entry_written(*e)) for e in v)
+    if what == TEXTS:
+        return b"".join(field(number, t) for t in v)
+    if isinstance(what, Message):
+        return field(number, message_written(what, v)) if v is not None else b""
+    return text_field(number, v) if what == TEXT else wire.scalar(number, v)
+
+
+def one_written(kinds: Kinds, number: int, value: Any) -> bytes:
+    """The bytes of a oneof whose member has a number."""
     what = kinds[number][1]
-    return bytes_field(number, value if what == TEXT else message_written(what, value))
+    return field(number, message_written(what, value) if isinstance(what, Message) else value)
 
 
 # ---- how values are shown
 
 
-def shown_bytes(b):
+def shown_bytes(b: bytes) -> str:
+    """Bytes."""
     return "Bytes { bytes: [" + ", ".join(str(x) for x in b) + "] }"
 
 
-def shown_list(items):
+def shown_list(items: Iterable[str]) -> str:
+    """A list of what is shown."""
     return "List { items: [" + ", ".join(items) + "] }"
 
 
-def shown_time(t):
+def shown_time(t: Members) -> str:
+    """A time."""
     return f"TimeSpec {{ sec: {t['sec']}, nsec: {t['nsec']} }}"
 
 
-def shown_info(entries):
+def shown_info(entries: Entries) -> str:
+    """An information."""
     out = []
     for key, (number, v) in entries:
         inner = (str(v) if number == 2 else shown_bytes(v) if number == 3
@@ -283,14 +297,15 @@ def shown_info(entries):
     return f"Info {{ entries: {shown_list(out)} }}"
 
 
-def shown_message(m, value):
+def shown_message(m: Message, value: Members) -> str:
+    """A message."""
     if m is TIME:
         return shown_time(value)
     parts = []
     for number in sorted(m.fields):
         name, what = m.fields[number]
         v = value[name]
-        if what == "info":
+        if what == INFO:
             s = shown_info(v)
         elif what == TEXTS:
             s = shown_list(shown_bytes(t) for t in v)
@@ -304,41 +319,52 @@ def shown_message(m, value):
     return f"{m.name} {{ " + ", ".join(parts) + " }"
 
 
-def shown_one(kinds, number, value):
+def shown_one(kinds: Kinds, number: int, value: Any) -> str:
+    """A oneof whose member has a number."""
     name, what = kinds[number]
-    s = shown_bytes(value) if what == TEXT else shown_message(what, value)
+    s = shown_message(what, value) if isinstance(what, Message) else shown_bytes(value)
     if name in ON_HEAP or what is SERVER_HELLO:
         s = f"Boxed {{ inner: {s} }}"
     return f"{name}({s})"
 
 
-def digits(b):
+def digits(b: bytes) -> str:
+    """Bytes in hexadecimal digits."""
     return b.hex() or "-"
 
 
 # ---- what a message asks for
 
 STREAMS = ["Stdin", "Stdout", "Stderr", "Ttyin", "Ttyout"]
+SECOND = records.SECOND
 
 
-def nanos(t):
+def nanos(t: Members | None) -> int | None:
     """The nanoseconds of a valid time."""
     if t is None or t["sec"] < 0 or not 0 <= t["nsec"] < 10**9 or t["sec"] * 10**9 + t["nsec"] >= 2**63:
         return None
     return t["sec"] * 10**9 + t["nsec"]
 
 
-def is_signal(b):
+def is_signal(b: bytes) -> bool:
+    """Whether a signal may have this name."""
     return 1 <= len(b) <= 32 and all(0x21 <= x <= 0x7e for x in b)
 
 
-def log_number(b):
-    if not re.fullmatch(rb"[0-9A-Z]{6}", b) or int(b, 36) == 0:
+def log_number(b: bytes) -> int | None:
+    """The number of a log's identifier."""
+    if not re.fullmatch(rb"[0-9A-Z]{6}", b) or number_of(b.decode()) == 0:
         return None
-    return int(b, 36)
+    return number_of(b.decode())
 
 
-def requested(number, v):
+def shown_exit(run: Members, value: int, dumped: bool, signal: bytes, error: bytes) -> str:
+    """An exit."""
+    first = f"Exit {{ run: {shown_time(run)}, value: {value}, dumped: {str(dumped).lower()}"
+    return f"{first}, signal: {shown_bytes(signal)}, error: {shown_bytes(error)} }}"
+
+
+def requested(number: int, v: Members) -> str:
     """The shown request of a message, or the text of its refusal."""
     name = OF_CLIENT[number][0]
     if name == "Hello":
@@ -347,8 +373,7 @@ def requested(number, v):
         run = v["run_time"] if v["run_time"] is not None else {"sec": 0, "nsec": 0}
         if nanos(run) is None:
             return "bad time"
-        return (f"Exit(Exit {{ run: {shown_time(run)}, value: {v['exit_value']}, dumped: {str(v['dumped_core']).lower()}, "
-                f"signal: {shown_bytes(v['signal'])}, error: {shown_bytes(v['error'])} }})")
+        return f"Exit({shown_exit(run, v['exit_value'], v['dumped_core'], v['signal'], v['error'])})"
     t = v.get("submit_time", v.get("alert_time", v.get("delay", v.get("resume_point"))))
     if nanos(t) is None:
         return "bad time"
@@ -356,7 +381,8 @@ def requested(number, v):
         return (f"Accept(Accept {{ head: Head {{ submit: {shown_time(t)}, info: {shown_info(v['info_msgs'])} }}, "
                 f"expect_iobufs: {str(v['expect_iobufs']).lower()} }})")
     if name in ("Reject", "Alert"):
-        return f"{name}(Report {{ time: {shown_time(t)}, reason: {shown_bytes(v['reason'])}, info: {shown_info(v['info_msgs'])} }})"
+        reason, info = shown_bytes(v["reason"]), shown_info(v["info_msgs"])
+        return f"{name}(Report {{ time: {shown_time(t)}, reason: {reason}, info: {info} }})"
     if name == "Restart":
         log = log_number(v["log_id"])
         if log is None:
@@ -376,63 +402,61 @@ def requested(number, v):
 # ---- JSON
 
 
-def line_of(value):
-    return (json.dumps(value, ensure_ascii=False, sort_keys=True, separators=(",", ":")) + "\n").encode()
-
-
-def lossy(b):
-    return b.decode("utf-8", "replace")
-
-
-def time_json(t):
+def time_json(t: Members) -> Members:
+    """A time."""
     return {"nanoseconds": t["nsec"], "seconds": t["sec"]}
 
 
-def head_line(submit, entries):
+def head_line(submit: Members, entries: Entries) -> bytes:
+    """log.json."""
     info = {}
     for key, (number, v) in entries:
         info[lossy(key)] = lossy(v) if number == 3 else [lossy(t) for t in v] if number == 4 else v
-    return line_of({"info": info, "submit_time": time_json(submit)})
+    return lines.line_of({"info": info, "submit_time": time_json(submit)})
 
 
-def exit_line(run, value, dumped, signal, error):
-    out = {"dumped_core": dumped, "exit_value": value, "run_time": time_json(run)}
-    if signal:
-        out["signal"] = lossy(signal)
-    if error:
-        out["error"] = lossy(error)
-    return line_of(out)
+def exit_line(run: Members, value: int, dumped: bool, signal: bytes, error: bytes) -> bytes:
+    """exit.json."""
+    return lines.exit_line(run["sec"] * SECOND + run["nsec"], value, dumped, lossy(signal), lossy(error))
 
 
-def json_read(b):
-    def whole(text):
+def json_read(b: bytes) -> Any:
+    """The value of a text."""
+
+    def whole(text: str) -> float | int:
+        """-0 is no whole number."""
         return float(text) if text == "-0" else int(text)
 
-    def refuse(text):
+    def refuse(text: str) -> None:
+        """NaN and its like are refused."""
         raise ValueError(text)
 
     try:
         return json.loads(b.decode("utf-8"), parse_int=whole, parse_constant=refuse)
-    except (ValueError, RecursionError):
-        raise Fault("no JSON")
+    except (ValueError, RecursionError) as fault:
+        raise Fault("no JSON") from fault
 
 
-def amiss(key):
+def amiss(key: str) -> Fault:
+    """What is said of a member."""
     return Fault(f"the member `{key}` is missing or has another form")
 
 
-def is_number(v, bits):
+def is_number(v: Any, bits: int) -> bool:
+    """Whether a value is a whole number of so many bits."""
     return type(v) is int and -2**(bits - 1) <= v < 2**(bits - 1)
 
 
-def time_in(v):
+def time_in(v: Any) -> Members | None:
+    """A valid time."""
     if not isinstance(v, dict) or not is_number(v.get("seconds"), 64) or not is_number(v.get("nanoseconds"), 32):
         return None
     t = {"sec": v["seconds"], "nsec": v["nanoseconds"]}
     return t if nanos(t) is not None else None
 
 
-def entry_value(v):
+def entry_value(v: Any) -> Value | None:
+    """The value of an entry, with its field's number."""
     if is_number(v, 64):
         return 2, v
     if isinstance(v, str):
@@ -445,7 +469,8 @@ def entry_value(v):
     return None
 
 
-def head_read(b):
+def head_read(b: bytes) -> str:
+    """The shown head of a log.json, and its canonical text."""
     v = json_read(b)
     if not isinstance(v, dict) or not isinstance(v.get("info"), dict):
         raise amiss("info")
@@ -461,7 +486,8 @@ def head_read(b):
     return f"Head {{ submit: {shown_time(submit)}, info: {shown_info(entries)} }} {digits(head_line(submit, entries))}"
 
 
-def exit_read(b):
+def exit_read(b: bytes) -> str:
+    """The shown exit of an exit.json, and its canonical text."""
     v = json_read(b)
     v = v if isinstance(v, dict) else {}
     if type(v.get("dumped_core")) is not bool:
@@ -477,34 +503,36 @@ def exit_read(b):
         raise amiss("signal")
     signal, error = v.get("signal", "").encode(), v.get("error", "").encode()
     line = exit_line(run, v["exit_value"], v["dumped_core"], signal, error)
-    return (f"Exit {{ run: {shown_time(run)}, value: {v['exit_value']}, dumped: {str(v['dumped_core']).lower()}, "
-            f"signal: {shown_bytes(signal)}, error: {shown_bytes(error)} }} {digits(line)}")
+    return f"{shown_exit(run, v['exit_value'], v['dumped_core'], signal, error)} {digits(line)}"
 
 
 # ---- records: (event, delay, data | (rows, columns) | signal)
 
+Row = tuple[int, int, Any]
 
-def timing_line(r):
+
+def record_of(r: Row) -> Record:
+    """A record as lines of timing have it."""
     event, delay, rest = r
-    tail = str(len(rest)).encode() if event < 5 else b"%d %d" % rest if event == 5 else rest
-    return b"%d %d.%09d %s\n" % (event, delay // 10**9, delay % 10**9, tail)
+    if event == 5:
+        return delay, "winsize", *rest
+    return (delay, "suspend", rest.decode()) if event == 7 else (delay, STREAMS[event].lower(), rest)
 
 
-def laid(records):
-    texts = [b""] * 6
-    for r in records:
-        texts[0] += timing_line(r)
-        if r[0] < 5:
-            texts[1 + r[0]] += r[2]
-    return texts
+def laid(session: Sequence[Row]) -> list[bytes]:
+    """The texts of timing and of the five streams."""
+    named = [record_of(r) for r in session]
+    return [records.timing_of(named)] + [records.stream_of(named, stream) for stream in records.STREAMS]
 
 
-def record_word(r):
+def record_word(r: Row) -> str:
+    """A record as a word of a case."""
     event, delay, rest = r
     return f"{event}:{delay}:" + ("%d:%d" % rest if event == 5 else digits(rest))
 
 
-def shown_record(r):
+def shown_record(r: Row) -> str:
+    """A record."""
     event, delay, rest = r
     if event == 5:
         return f"Winsize {{ delay: {delay}, rows: {rest[0]}, cols: {rest[1]} }}"
@@ -513,56 +541,52 @@ def shown_record(r):
     return f"Io {{ delay: {delay}, stream: {STREAMS[event]}, bytes: {shown_bytes(rest)} }}"
 
 
-PLAIN = rb"(0|[1-9][0-9]{0,9})"
-LINE = re.compile(rb"([0123457]) " + PLAIN + rb"\.([0-9]{9}) ([^\n]*)\n")
+def shown_shape(r: Row) -> str:
+    """A line of timing, with the number of a stream's bytes."""
+    event, delay, rest = r
+    if event == 5:
+        return f"Winsize({delay}, {rest[0]}, {rest[1]})"
+    return f"Suspend({delay}, {shown_bytes(rest)})" if event == 7 else f"Io({delay}, {STREAMS[event]}, {rest})"
 
 
-def below(text, limit):
-    return int(text) if re.fullmatch(PLAIN, text) and int(text) < limit else None
-
-
-def line_at(timing, at):
-    """What the line at an offset tells: event, delay and rest, and its length."""
-    m = LINE.match(timing, at)
-    if not m or int(m[2]) * 10**9 + int(m[3]) >= 2**63:
+def line_at(timing: bytes, at: int) -> tuple[Row, int] | None:
+    """The record of the line at an offset, of a stream the number of its bytes, and the line's length."""
+    end = timing.find(b"\n", at)
+    record = records.read_line(timing[at:end]) if end >= 0 else None
+    if record is None:
         return None
-    event, delay, rest = int(m[1]), int(m[2]) * 10**9 + int(m[3]), m[4]
-    if event < 5:
-        told = below(rest, LIMIT + 1)
-    elif event == 5:
-        parts = [below(p, 2**31) for p in rest.split(b" ")]
-        told = tuple(parts) if len(parts) == 2 and None not in parts else None
-    else:
-        told = rest if is_signal(rest) else None
-    return None if told is None else (event, delay, told, m.end() - at)
+    delay, event, *rest = record
+    row = records.EVENTS[event], delay, rest[0] if event in records.STREAMS else tuple(rest)
+    return (row if event != "suspend" else (7, delay, rest[0].encode())), end + 1 - at
 
 
-def read_back(texts):
+def read_back(texts: Sequence[bytes]) -> str:
+    """The shown records of the texts of timing and of the five streams."""
     at = elapsed = 0
-    taken, records = [0] * 5, []
+    taken, found = [0] * 5, []
     while at < len(texts[0]):
         line = line_at(texts[0], at)
         if line is None:
             raise Fault(f"no line of timing stands at offset {at}")
-        event, delay, told, length = line
+        (event, delay, rest), length = line
         elapsed += delay
         if elapsed >= 2**63:
             raise Fault("the elapsed time reaches 2^63 nanoseconds")
         if event < 5:
-            data = texts[1 + event][taken[event]:taken[event] + told]
-            if len(data) < told:
+            data = texts[1 + event][taken[event] : taken[event] + rest]
+            if len(data) < rest:
                 raise Fault(f"{STREAMS[event]} has fewer bytes than the timing tells")
-            taken[event] += told
-            told = data
-        records.append((event, delay, told))
+            taken[event] += rest
+            rest = data
+        found.append((event, delay, rest))
         at += length
-    return shown_list(shown_record(r) for r in records)
+    return shown_list(shown_record(r) for r in found)
 
 
-def masked(prompts, records):
-    """What is stored: typed bytes behind a prompt are stars, up to the end of their line."""
+def masked(prompts: Sequence[bytes], session: Sequence[Row]) -> list[Row]:
+    """What is stored: typed bytes after a prompt are stars, up to the end of their line."""
     output, hot, stored = b"", False, []
-    for event, delay, rest in records:
+    for event, delay, rest in session:
         if event == 4 and rest:
             output = (output + rest).split(b"\n")[-1]
             hot = any(p in output[-256:] for p in prompts)
@@ -578,29 +602,29 @@ def masked(prompts, records):
 # ---- the answers
 
 
-def told(f, *args):
+def answer_of(f: Callable[..., str], *args: Any) -> str:
+    """An answer, or why there is none."""
     try:
         return f(*args)
-    except Fault as e:
-        return str(e)
+    except Fault as fault:
+        return str(fault)
 
 
-def client(b):
+def client(b: bytes) -> str:
+    """The answer to bytes of a client."""
     number, value = one_read(OF_CLIENT, b)
     return f"{shown_one(OF_CLIENT, number, value)} {digits(one_written(OF_CLIENT, number, value))}"
 
 
-def framed(b):
-    return struct.pack(">I", len(b)) + b
-
-
-def server(b):
+def server(b: bytes) -> str:
+    """The answer to bytes of a server."""
     number, value = one_read(OF_SERVER, b)
     canonical = one_written(OF_SERVER, number, value)
-    return f"{shown_one(OF_SERVER, number, value)} {digits(canonical)} {digits(framed(canonical))}"
+    return f"{shown_one(OF_SERVER, number, value)} {digits(canonical)} {digits(frame(canonical))}"
 
 
-def json_of(b):
+def json_of(b: bytes) -> str:
+    """What is stored of an accept or an exit."""
     number, v = one_read(OF_CLIENT, b)
     if number == 1:
         return digits(head_line(v["submit_time"], v["info_msgs"]))
@@ -608,8 +632,10 @@ def json_of(b):
     return digits(exit_line(run, v["exit_value"], v["dumped_core"], v["signal"], v["error"]))
 
 
-def shown_fields(b):
-    at, lines = 0, []
+def shown_fields(b: bytes) -> list[str]:
+    """A line for each field."""
+    lines: list[str] = []
+    at = 0
     while at < len(b):
         try:
             number, kind, value, at = field_at(b, at)
@@ -620,87 +646,105 @@ def shown_fields(b):
     return lines
 
 
-def given(pieces):
+def given(pieces: Sequence[bytes]) -> list[str]:
     """What is given after each piece."""
-    rest, lines = b"", []
+    frames, found = Frames(), []
     for piece in pieces:
-        rest += piece
-        line = "piece"
-        while len(rest) >= 4:
-            stated = int.from_bytes(rest[:4], "big")
-            if stated > LIMIT:
-                line += f" {stated} is too large"
-                break
-            if len(rest) < 4 + stated:
-                break
-            line += " " + digits(rest[4:4 + stated])
-            rest = rest[4 + stated:]
-        lines.append(line)
-    return lines
+        words = ["piece"] + [digits(message) for message in frames.feed(piece)]
+        if frames.length() > LARGEST:
+            words.append(f"{frames.length()} is too large")
+        found.append(" ".join(words))
+    return found
 
 
-class Cases:
-    def __init__(self):
-        self.asked, self.answers = [], []
+def request_of(b: bytes) -> str:
+    """The answer to what a client asks for."""
+    return requested(*one_read(OF_CLIENT, b))
 
-    def add(self, case, lines):
-        self.asked.append(case)
-        self.answers += lines
 
-    def say(self, text):
-        self.add("# " + text, ["# " + text])
+READERS = {
+    "client": client, "server": server, "json": json_of, "head": head_read, "exit": exit_read, "request": request_of,
+}
 
-    def row(self, word, b, wanted=None):
-        f = {"client": client, "server": server, "json": json_of, "head": head_read, "exit": exit_read,
-             "request": lambda b: requested(*one_read(OF_CLIENT, b))}[word]
-        answer = told(f, b)
+
+class Cases(Rows):
+    """Cases of all kinds. One that has its answer beside it ends the program if both don't agree."""
+
+    def row(self, word: str, b: bytes, wanted: str | None = None) -> None:
+        """Bytes that are read."""
+        answer = answer_of(READERS[word], b)
         if wanted is not None and answer != wanted and not answer.endswith(" " + wanted):
             sys.exit(f"{word} {digits(b)}:\n{answer}\nand not\n{wanted}")
-        self.add(f"{word} {digits(b)}", [answer])
+        self.case(f"{word} {digits(b)}", answer)
 
-    def text(self, word, text, wanted=None):
+    def text(self, word: str, text: str | bytes, wanted: str | None = None) -> None:
+        """A text that is read."""
         self.row(word, text.encode() if isinstance(text, str) else text, wanted)
 
-    def fields(self, b):
-        self.add(f"fields {digits(b)}", shown_fields(b))
+    def fields(self, b: bytes) -> None:
+        """The fields of bytes."""
+        self.case(f"fields {digits(b)}", *shown_fields(b))
 
-    def frames(self, pieces, wanted=None):
-        lines = given(pieces)
-        if wanted is not None and lines != wanted:
-            sys.exit(f"frames {pieces}: {lines}")
-        self.add("frames " + " ".join(digits(p) for p in pieces), lines)
+    def frames(self, pieces: Sequence[bytes], wanted: Sequence[str] | None = None) -> None:
+        """Bytes that come in pieces."""
+        found = given(pieces)
+        if wanted is not None and found != wanted:
+            sys.exit(f"frames {pieces!r}: {found}")
+        self.case("frames " + " ".join(digits(p) for p in pieces), *found)
 
-    def lay(self, records, timing=None):
-        texts = laid(records)
+    def lay(self, session: Sequence[Row], timing: bytes | None = None) -> None:
+        """Records that are laid, and read back."""
+        texts = laid(session)
         if timing is not None and texts[0] != timing:
-            sys.exit(f"lay {records}")
-        self.add("lay " + " ".join(record_word(r) for r in records), [" ".join(digits(t) for t in texts)])
+            sys.exit(f"lay {session}")
+        self.case("lay " + " ".join(record_word(r) for r in session), " ".join(digits(t) for t in texts))
         self.read(texts)
 
-    def read(self, texts, wanted=None):
-        answer = told(read_back, texts)
+    def read(self, texts: Sequence[bytes], wanted: str | None = None) -> None:
+        """The texts of timing and of the five streams."""
+        answer = answer_of(read_back, texts)
         if wanted is not None and answer != wanted:
-            sys.exit(f"read {texts}: {answer}")
-        self.add("read " + " ".join(digits(t) for t in texts), [answer])
+            sys.exit(f"read {texts!r}: {answer}")
+        self.case("read " + " ".join(digits(t) for t in texts), answer)
 
-    def mask(self, prompts, session, typed=None):
+    def mask(self, prompts: Sequence[bytes], session: Sequence[Row], typed: bytes | None = None) -> None:
+        """A session whose passwords are masked."""
         stored = masked(prompts, session)
         if typed is not None and laid(stored)[4] != typed:
             sys.exit(f"mask {session}")
         words = ",".join(digits(p) for p in prompts) + " " + " ".join(record_word(r) for r in session)
-        self.add("mask " + words, [" ".join(digits(t) for t in laid(stored))])
+        self.case("mask " + words, " ".join(digits(t) for t in laid(stored)))
 
-    def number(self, text, wanted):
-        n = log_number(text.encode())
-        if n != wanted:
+    def resume(self, prompts: Sequence[bytes], session: Sequence[Row], typed: bytes) -> None:
+        """What is stored is the same wherever the mask is taken on again."""
+        stored = masked(prompts, session)
+        if laid(stored)[4] != typed:
+            sys.exit(f"resume {session}")
+        words = (",".join(digits(p) for p in prompts) or "none") + " " + " ".join(record_word(r) for r in session)
+        for place in range(len(session) + 1):
+            self.case(f"resume {place} {words}", " ".join(digits(t) for t in laid(stored)))
+
+    def tally(self, size: int, text: bytes, shapes: Sequence[Row], why: str | None = None) -> None:
+        """The lines of a text of timing, and what is read of it."""
+        shown = [shown_shape(r) for r in shapes] + ([why] if why else [])
+        data = [sum(r[2] for r in shapes if r[0] == stream) for stream in (0, 3, 4)]
+        whole = [r if r[0] > 4 else (r[0], r[1], bytes(r[2])) for r in shapes]
+        front = f"{len(shapes)} lines of {len(laid(whole)[0])} bytes to {sum(r[1] for r in shapes)}"
+        self.case(f"tally {size} {text.hex()}", *shown, f"{front}, data " + " ".join(map(str, data)))
+
+    def number(self, text: str, wanted: int | None) -> None:
+        """The identifier of a log."""
+        found = log_number(text.encode())
+        if found != wanted:
             sys.exit(f"number {text}")
-        self.add(f"number {text}", ["no log number" if n is None else str(n)])
+        self.case(f"number {text}", "no log number" if found is None else str(found))
 
 
 # ---- the cases
 
 
-def h(text):
+def h(text: str) -> bytes:
+    """Hexadecimal digits, with blanks between them."""
     return bytes.fromhex(text)
 
 
@@ -721,17 +765,21 @@ SESSION = [
 ]
 HEAD = (
     '{"info":{"columns":80,"command":"/usr/bin/id","lines":24,"runargv":["id","-u"],"rungid":0,"rungroup":"root",'
-    '"runuid":0,"runuser":"root","submitcwd":"/home/ann","submithost":"web1","submituser":"ann","ttyname":"/dev/pts/0"},'
+    '"runuid":0,"runuser":"root","submitcwd":"/home/ann","submithost":"web1","submituser":"ann",'
+    '"ttyname":"/dev/pts/0"},'
     '"submit_time":{"nanoseconds":0,"seconds":1700000000}}\n'
 )
 ENDED = '{"dumped_core":false,"exit_value":0,"run_time":{"nanoseconds":600000000,"seconds":3}}\n'
 RECORDS = [(4, 500_000_000, b"# "), (4, 10**9, b"id -u"), (4, 0, b"\r\n0\r\n"), (5, 2 * 10**9, (30, 100))]
 TIMING = b"4 0.500000000 2\n4 1.000000000 5\n4 0.000000000 5\n5 2.000000000 30 100\n"
 REPLIES = [
-    "0A090A056C737620312001", "1A06303030303031", "12080801 1080CAB5EE01", "12080803 1080CAB5EE01", "1200", "12061080CAB5EE01",
+    "0A090A056C737620312001", "1A06303030303031", "12080801 1080CAB5EE01", "12080803 1080CAB5EE01", "1200",
+    "12061080CAB5EE01",
     "22116D65737361676520746F6F206C61726765", "22116D616C666F726D6564206D657373616765", "22096E6F74206275696C74",
-    "2208626164 2074696D65", "220D6E756D62657273207370656E74", "220C6C6F6720636F6D706C657465", "220B6E6F2073756368206C6F67",
-    "220C62616420757073747265616D", "220A72656C6179206C6F7374", "22146E6F207375636820726573756D6520706F696E74", "220A6C6F6720696E20757365",
+    "2208626164 2074696D65", "220D6E756D62657273207370656E74", "220C6C6F6720636F6D706C657465",
+    "220B6E6F2073756368206C6F67",
+    "220C62616420757073747265616D", "220A72656C6179206C6F7374", "22146E6F207375636820726573756D6520706F696E74",
+    "220A6C6F6720696E20757365",
     "1A06303030304137", "0A130A056C737620311203623A311A01781A002001", "2200", "2A0473746F70",
 ]
 
@@ -767,32 +815,41 @@ SPELLINGS = [
 # Bytes that are no message of a client, and why.
 FAULTS = [
     ("", "the message is of no known type"), ("7805", "the message is of no known type"),
-    ("6A060A01610A0162", "field 1 comes twice"), ("6A030A01616A030A0162", "field 13 comes twice"), ("3A005A00", "field 11 comes twice"),
-    ("3A040A000A00", "field 1 comes twice"), ("0A06120410001A00", "field 3 comes twice"), ("0A0812060A01610A0161", "field 1 comes twice"),
+    ("6A060A01610A0162", "field 1 comes twice"), ("6A030A01616A030A0162", "field 13 comes twice"),
+    ("3A005A00", "field 11 comes twice"),
+    ("3A040A000A00", "field 1 comes twice"), ("0A06120410001A00", "field 3 comes twice"),
+    ("0A0812060A01610A0161", "field 1 comes twice"),
     ("3A060A0410001000", "field 2 comes twice"),
-    ("3801", "field 7 has another type"), ("3A020801", "field 1 has another type"), ("3A040A020A00", "field 1 has another type"),
+    ("3801", "field 7 has another type"), ("3A020801", "field 1 has another type"),
+    ("3A040A020A00", "field 1 has another type"),
     ("3A0B0A09110000000000000000", "field 2 has another type"), ("0A0412021200", "field 2 has another type"),
     ("0A0412022001", "field 4 has another type"), ("0A06120422020801", "field 1 has another type"),
     ("0A0912072A050D00000000", "field 1 has another type"), ("0A021A00", "field 3 has another type"),
     ("3A051201611001", "field 2 comes twice"), ("3A005801", "field 11 comes twice"),
-    ("6A060A047375", "the bytes end inside the field at offset 0"), ("6A040A047375", "the bytes end inside the field at offset 0"),
-    ("3A0A12036162630A03080110", "the bytes end inside the field at offset 2"), ("3A061201610A0208", "the bytes end inside the field at offset 3"),
+    ("6A060A047375", "the bytes end inside the field at offset 0"),
+    ("6A040A047375", "the bytes end inside the field at offset 0"),
+    ("3A0A12036162630A03080110", "the bytes end inside the field at offset 2"),
+    ("3A061201610A0208", "the bytes end inside the field at offset 3"),
     ("3A000001", "no key of a field stands at offset 2"), ("3A030A000B", "no key of a field stands at offset 2"),
     ("3A100A0E080110FFFFFFFFFFFFFFFFFFFF00", "a varint of the field at offset 2 has more than ten bytes"),
     ("0A0A12082A0608030A020180", "the bytes end inside the field at offset 2"),
     ("0A1512132A114A01780A0C01FFFFFFFFFFFFFFFFFFFF00", "a varint of the field at offset 3 has more than ten bytes"),
-    ("3A02080100", "field 1 has another type"), ("3A040A0208013A0000", "field 7 comes twice"), ("780100", "no key of a field stands at offset 2"),
+    ("3A02080100", "field 1 has another type"), ("3A040A0208013A0000", "field 7 comes twice"),
+    ("780100", "no key of a field stands at offset 2"),
     ("0A080A04100110010801", "field 2 comes twice"), ("0A0810010A0410011001", "field 2 has another type"),
     ("0A0712050A016B0801", "field 1 comes twice"), ("0A0612040A016B0A", "the bytes end inside the field at offset 3"),
 ]
 
-def spec(sec, nsec=0):
+
+def spec(sec: int, nsec: int = 0) -> Members:
+    """A time."""
     return {"sec": sec, "nsec": nsec}
 
 
-def message(number, **fields):
+def message(number: int, **fields: Any) -> bytes:
     """A message of a client with these fields."""
     m = OF_CLIENT[number][1]
+    assert isinstance(m, Message)
     value = message_read(m, b"")
     value.update(fields)
     return one_written(OF_CLIENT, number, value)
@@ -801,50 +858,73 @@ def message(number, **fields):
 # Messages that ask for something that is refused, or for what lies at the edge of it.
 REQUESTS = [
     (message(1, submit_time=spec(1)), None), (message(1, submit_time=spec(-1)), "bad time"), (message(1), "bad time"),
-    (message(2, submit_time=spec(1)), None), (message(2), "bad time"), (message(5, alert_time=spec(1)), None), (message(5), "bad time"),
-    (message(3), None), (message(3, run_time=spec(0, 10**9)), "bad time"), (message(3, run_time=spec(0, 10**9 - 1)), None),
-    (message(4, log_id=b"00000Z", resume_point=spec(0)), None), (message(4, log_id=b"000000", resume_point=spec(0)), "no such log"),
-    (message(4, log_id=b"00000z", resume_point=spec(0)), "no such log"), (message(4, log_id=b"0000001", resume_point=spec(0)), "no such log"),
-    (message(4, log_id=b"nothing"), "bad time"), (message(4, log_id=b"ZZZZZZ", resume_point=spec(9223372036, 854775807)), None),
+    (message(2, submit_time=spec(1)), None), (message(2), "bad time"), (message(5, alert_time=spec(1)), None),
+    (message(5), "bad time"),
+    (message(3), None), (message(3, run_time=spec(0, 10**9)), "bad time"),
+    (message(3, run_time=spec(0, 10**9 - 1)), None),
+    (message(4, log_id=b"00000Z", resume_point=spec(0)), None),
+    (message(4, log_id=b"000000", resume_point=spec(0)), "no such log"),
+    (message(4, log_id=b"00000z", resume_point=spec(0)), "no such log"),
+    (message(4, log_id=b"0000001", resume_point=spec(0)), "no such log"),
+    (message(4, log_id=b"nothing"), "bad time"),
+    (message(4, log_id=b"ZZZZZZ", resume_point=spec(9223372036, 854775807)), None),
     (message(7, delay=spec(0)), None), (message(7), "bad time"), (message(7, delay=spec(0, -1)), "bad time"),
-    (message(7, delay=spec(9223372036, 854775807), bytes=b"x"), None), (message(7, delay=spec(9223372036, 854775808)), "bad time"),
+    (message(7, delay=spec(9223372036, 854775807), bytes=b"x"), None),
+    (message(7, delay=spec(9223372036, 854775808)), "bad time"),
     (message(7, delay=spec(9223372037)), "bad time"), (message(7, delay=spec(2**63 - 1)), "bad time"),
     (message(11, delay=spec(0), cols=2**31 - 1), None), (message(11, delay=spec(0), rows=-1), "bad size or signal"),
     (message(11, delay=spec(0), cols=-1), "bad size or signal"), (message(11, delay=spec(0, -1), cols=-1), "bad time"),
     (message(12, delay=spec(0), signal=b"TSTP"), None), (message(12, delay=spec(0)), "bad size or signal"),
-    (message(12, delay=spec(0), signal=b"a b"), "bad size or signal"), (message(12, delay=spec(0), signal=b"A" * 32), None),
+    (message(12, delay=spec(0), signal=b"a b"), "bad size or signal"),
+    (message(12, delay=spec(0), signal=b"A" * 32), None),
     (message(12, delay=spec(0), signal=b"A" * 33), "bad size or signal"), (message(12, signal=b"a b"), "bad time"),
     (h("0A020801"), "field 1 has another type"),
 ]
 
 HEADS = [
-    ' {"submit_time": {"seconds": 1, "x": [], "nanoseconds": 999999999}, "info": {"b": "\\u00e9\\/", "a": 1, "b": ["x", ""]}, "more": null}',
-    '{"info":{"l":-9223372036854775808,"m":[9223372036854775807,-1],"n":[]},"submit_time":{"nanoseconds":854775807,"seconds":9223372036}}',
-    "", '{"info":{}', b'{"info":"\xff"}', '{"info":{}} {}', "null", "[]", "{}", '{"info":[]}', '{"info":{}}', '{"info":{},"submit_time":1}',
+    ' {"submit_time": {"seconds": 1, "x": [], "nanoseconds": 999999999},'
+    ' "info": {"b": "\\u00e9\\/", "a": 1, "b": ["x", ""]}, "more": null}',
+    '{"info":{"l":-9223372036854775808,"m":[9223372036854775807,-1],"n":[]},'
+    '"submit_time":{"nanoseconds":854775807,"seconds":9223372036}}',
+    "", '{"info":{}', b'{"info":"\xff"}', '{"info":{}} {}', "null", "[]", "{}", '{"info":[]}', '{"info":{}}',
+    '{"info":{},"submit_time":1}',
     '{"info":{},"submit_time":{"seconds":1}}', '{"info":{},"submit_time":{"nanoseconds":0,"seconds":"1"}}',
-    '{"info":{},"submit_time":{"nanoseconds":0,"seconds":1.0}}', '{"info":{},"submit_time":{"nanoseconds":0,"seconds":-1}}',
-    '{"info":{},"submit_time":{"nanoseconds":1000000000,"seconds":1}}', '{"info":{},"submit_time":{"nanoseconds":854775808,"seconds":9223372036}}',
-    '{"submit_time":1,"info":{"b":null,"a":1,"c":true}}', '{"info":{"":{}},"submit_time":1}', '{"info":{"a":["x",1]}}', '{"info":{"a":[1,"x"]}}',
-    '{"info":{"a":[[]]}}', '{"info":{"a":1.5}}', '{"info":{"a":1e2}}', '{"info":{"a":-0}}', '{"info":{"a":9223372036854775808}}',
+    '{"info":{},"submit_time":{"nanoseconds":0,"seconds":1.0}}',
+    '{"info":{},"submit_time":{"nanoseconds":0,"seconds":-1}}',
+    '{"info":{},"submit_time":{"nanoseconds":1000000000,"seconds":1}}',
+    '{"info":{},"submit_time":{"nanoseconds":854775808,"seconds":9223372036}}',
+    '{"submit_time":1,"info":{"b":null,"a":1,"c":true}}', '{"info":{"":{}},"submit_time":1}', '{"info":{"a":["x",1]}}',
+    '{"info":{"a":[1,"x"]}}',
+    '{"info":{"a":[[]]}}', '{"info":{"a":1.5}}', '{"info":{"a":1e2}}', '{"info":{"a":-0}}',
+    '{"info":{"a":9223372036854775808}}',
     '{"info":{"a":[18446744073709551616]}}', '{"info":{"a":[-9223372036854775809]}}',
 ]
 
 EXITS = [
-    '{"signal":"","run_time":{"seconds":0,"nanoseconds":1},"more":[1.5],"exit_value":2147483647,"error":"","dumped_core":true}',
-    '{"dumped_core":false,"error":"e","exit_value":-2147483648,"run_time":{"nanoseconds":0,"seconds":0},"signal":"KILL"}',
-    "}", "1", '{"dumped_core":1}', '{"dumped_core":true,"error":null}', '{"dumped_core":true,"signal":1}', '{"dumped_core":true,"exit_value":2147483648}',
-    '{"dumped_core":true,"exit_value":-2147483649}', '{"dumped_core":true,"exit_value":0.0}', '{"dumped_core":true,"exit_value":0,"signal":1}',
+    '{"signal":"","run_time":{"seconds":0,"nanoseconds":1},"more":[1.5],"exit_value":2147483647,'
+    '"error":"","dumped_core":true}',
+    '{"dumped_core":false,"error":"e","exit_value":-2147483648,"run_time":{"nanoseconds":0,"seconds":0},'
+    '"signal":"KILL"}',
+    "}", "1", '{"dumped_core":1}', '{"dumped_core":true,"error":null}', '{"dumped_core":true,"signal":1}',
+    '{"dumped_core":true,"exit_value":2147483648}',
+    '{"dumped_core":true,"exit_value":-2147483649}', '{"dumped_core":true,"exit_value":0.0}',
+    '{"dumped_core":true,"exit_value":0,"signal":1}',
     '{"dumped_core":true,"exit_value":0,"run_time":{"nanoseconds":-1,"seconds":1}}',
     '{"dumped_core":true,"exit_value":0,"run_time":{"nanoseconds":0,"seconds":1},"signal":false}',
 ]
 
 # Lines that are none, each alone.
 BAD_LINES = [
-    b"4 1.5 3\n", b"4 1.50000000 3\n", b"4 1.5000000000 3\n", b"4 01.500000000 3\n", b"4 .500000000 3\n", b"4 1500000000 3\n", b"4 1.500000000 03\n",
-    b"4 1.500000000 +3\n", b"4 1.500000000 \n", b"4 1.500000000\n", b"4 1.500000000 3", b"4 1.500000000 3 \n", b"4 1.500000000 3\r\n",
-    b"4  1.500000000 3\n", b" 4 1.500000000 3\n", b"44 1.500000000 3\n", b"6 1.500000000 3\n", b"\n", b"4 1.500000000 2097153\n",
-    b"4 9223372036.854775808 3\n", b"4 18446744073.709551617 3\n", b"4 1.500000000 18446744073709551619\n", b"5 1.000000000 24\n",
-    b"5 1.000000000 24 80 1\n", b"5 1.000000000 2147483648 80\n", b"5 1.000000000 24 2147483648\n", b"7 0.000000000 \n", b"7 0.000000000 TS TP\n",
+    b"4 1.5 3\n", b"4 1.50000000 3\n", b"4 1.5000000000 3\n", b"4 01.500000000 3\n", b"4 .500000000 3\n",
+    b"4 1500000000 3\n", b"4 1.500000000 03\n",
+    b"4 1.500000000 +3\n", b"4 1.500000000 \n", b"4 1.500000000\n", b"4 1.500000000 3", b"4 1.500000000 3 \n",
+    b"4 1.500000000 3\r\n",
+    b"4  1.500000000 3\n", b" 4 1.500000000 3\n", b"44 1.500000000 3\n", b"6 1.500000000 3\n", b"\n",
+    b"4 1.500000000 2097153\n",
+    b"4 9223372036.854775808 3\n", b"4 18446744073.709551617 3\n", b"4 1.500000000 18446744073709551619\n",
+    b"5 1.000000000 24\n",
+    b"5 1.000000000 24 80 1\n", b"5 1.000000000 2147483648 80\n", b"5 1.000000000 24 2147483648\n", b"7 0.000000000 \n",
+    b"7 0.000000000 TS TP\n",
     b"7 0.000000000 TSTP\x7f\n", b"7 0.000000000 123456789012345678901234567890123\n",
 ]
 
@@ -854,19 +934,22 @@ LAYOUTS = [
     (b"4 0.000000000 3\n4 1.5 3\n", "Ttyout has fewer bytes than the timing tells"),
     (b"3 0.000000000 1\n", "Ttyin has fewer bytes than the timing tells"),
     (b"4 9223372036.854775807 2\n4 0.000000001 1\n", "the elapsed time reaches 2^63 nanoseconds"),
-    (b"4 9223372036.854775807 1\n", None), (b"", None), (b"0 9223372036.854775807 2097152\n", "Stdin has fewer bytes than the timing tells"),
-    (b"5 9223372036.854775807 2147483647 2147483647\n", None), (b"7 9223372036.854775807 !234567890123456789012345678901~\n", None),
+    (b"4 9223372036.854775807 1\n", None), (b"", None),
+    (b"0 9223372036.854775807 2097152\n", "Stdin has fewer bytes than the timing tells"),
+    (b"5 9223372036.854775807 2147483647 2147483647\n", None),
+    (b"7 9223372036.854775807 !234567890123456789012345678901~\n", None),
 ]
 
 PROMPTS = [b"assword:", b"assword for"]
-SECOND = 10**9
 
 
-def o(b):
+def o(b: bytes) -> Row:
+    """Terminal output."""
     return 4, SECOND, b
 
 
-def t(b):
+def t(b: bytes) -> Row:
+    """Terminal input."""
     return 3, SECOND, b
 
 
@@ -884,18 +967,52 @@ TYPED = [
 ]
 
 
-def random_bytes(r, most):
+# The mask is taken on again at each place of these.
+RESUMED: list[tuple[list[Row], bytes]] = [
+    ([o(b"Pass"), o(b""), (1, 0, b"\n"), o(b"word: "), t(b"pw\nls")], b"**\nls"),
+    ([o(b"Password: "), t(b"a\r"), o(b""), t(b"b"), o(b"x"), t(b"c")], b"*\rb*"),
+    ([o(b"assword:"), o(b"x" * 248), t(b"pw")], b"**"), ([o(b"assword:" + b"x" * 248), t(b"pw")], b"**"),
+    ([o(b"assword:"), o(b"x" * 249), t(b"pw")], b"pw"), ([o(b"assword:" + b"x" * 249), t(b"pw")], b"pw"),
+    ([o(b"x" * 600), o(b"assword:"), t(b"pw")], b"**"), ([o(b"x" * 600 + b"assword:"), t(b"pw")], b"**"),
+    ([o(b"assword:"), o(b"x" * 600), t(b"pw")], b"pw"), ([o(b"assword:" + b"x" * 600), t(b"pw")], b"pw"),
+    ([o(b"x" * 600), o(b"assword:"), o(b"x" * 248), t(b"pw")], b"**"),
+    ([o(b"x" * 600 + b"assword:" + b"x" * 248), t(b"pw")], b"**"),
+]
+
+NO_LINE = "no line of timing stands there"
+LONG_SIGNAL = b"a signal of more than 32 bytes, with spaces in it"
+
+# Texts of timing: their lines, where a stream has the number of its bytes, and the fault behind them.
+SIGNAL = b"!234567890123456789012345678901~"
+TIMINGS: list[tuple[bytes, list[Row], str | None, list[int]]] = [
+    (b"4 0.000000000 2\n7 9.223372036 " + SIGNAL + b"\n5 1.000000000 24 80\n3 0.000000001 2097152\n4 0.000000002 3\n",
+     [(4, 0, 2), (7, 9_223_372_036, SIGNAL), (5, 10**9, (24, 80)), (3, 1, 2_097_152), (4, 2, 3)], None,
+     [56, 57, 64, 100, 65_536]),
+    (b"4 0.000000000 2\n4 1.5 3\n", [(4, 0, 2)], NO_LINE, [56]),
+    (b"4 0.000000000 2", [], NO_LINE, [56]),
+    (b"4 9223372036.854775807 2\n4 0.000000001 1\n4 1.5 3\n", [(4, 2**63 - 1, 2)],
+        "the elapsed time reaches 2^63 nanoseconds", [56]),
+    (b"123456789012345678901234567890123456789012345678901234567", [], NO_LINE, [56]),
+    # the second line doesn't end in its window, which isn't the last
+    (b"4 1.500000000 3\n4 0.000000000 2222222222\n", [(4, 1_500_000_000, 3)], None, [21]),
+]
+
+
+def random_bytes(r: random.Random, most: int) -> bytes:
+    """Fewer bytes than a number."""
     return bytes(r.randrange(256) for _ in range(r.randrange(most)))
 
 
-def random_number(r):
+def random_number(r: random.Random) -> int:
+    """A number, often one at an edge."""
     return r.choice([0, 1, -1, 127, 128, 2**31 - 1, -2**31, 2**32, 2**63 - 1, -2**63, r.randrange(2**40)])
 
 
-def random_value(r, m):
-    out = {}
+def random_value(r: random.Random, m: Message) -> Members:
+    """A message of some kind."""
+    out: Members = {}
     for name, what in m.fields.values():
-        if what == "info":
+        if what == INFO:
             out[name] = [(random_bytes(r, 4), random_entry(r)) for _ in range(r.randrange(3))]
         elif what == TEXTS:
             out[name] = [random_bytes(r, 4) for _ in range(r.randrange(3))]
@@ -910,7 +1027,8 @@ def random_value(r, m):
     return out
 
 
-def random_entry(r):
+def random_entry(r: random.Random) -> Value:
+    """A value of an entry."""
     number = r.randrange(2, 6)
     if number == 2:
         return 2, signed(random_number(r), 64)
@@ -921,14 +1039,16 @@ def random_entry(r):
     return 5, [signed(random_number(r), 64) for _ in range(r.randrange(3))]
 
 
-def random_message(r, kinds):
+def random_message(r: random.Random, kinds: Kinds) -> bytes:
+    """A message."""
     number = r.choice(list(kinds))
     what = kinds[number][1]
-    return one_written(kinds, number, random_bytes(r, 6) if what == TEXT else random_value(r, what))
+    return one_written(kinds, number, random_value(r, what) if isinstance(what, Message) else random_bytes(r, 6))
 
 
-def mutated(r, b):
-    b = bytearray(b)
+def mutated(r: random.Random, whole: bytes) -> bytes:
+    """Bytes of which some were changed."""
+    b = bytearray(whole)
     for _ in range(r.randrange(1, 3)):
         at = r.randrange(len(b) + 1)
         what = r.random()
@@ -943,7 +1063,8 @@ def mutated(r, b):
     return bytes(b)
 
 
-def random_record(r):
+def random_record(r: random.Random) -> Row:
+    """A record."""
     event = r.choice([0, 1, 2, 3, 4, 5, 7])
     delay = r.choice([0, 1, 999_999_999, SECOND, r.randrange(2**40)])
     if event == 5:
@@ -951,64 +1072,81 @@ def random_record(r):
     return event, delay, b"CONT" if event == 7 else random_bytes(r, 9)
 
 
-def all_cases():
-    c = Cases()
-    c.say("a session, each message and its frame in pieces")
+def sessions(c: Cases) -> None:
+    """A whole session, and what is stored of messages."""
+    c.title("a session, each message and its frame in pieces")
     for text in SESSION:
         c.row("client", h(text), digits(h(text)))
         c.row("request", h(text))
-    stream = b"".join(framed(h(m)) for m in SESSION)
+    stream = b"".join(frame(h(m)) for m in SESSION)
     c.frames([stream], ["piece " + " ".join(digits(h(m)) for m in SESSION)])
-    hello = framed(h("6A060A047375646F"))
+    hello = frame(h("6A060A047375646F"))
     c.frames([hello[i:i + 1] for i in range(12)], ["piece"] * 11 + ["piece 6a060a047375646f"])
     c.frames([h("00000001070000000000000002 08"), h("09")], ["piece 07 -", "piece 0809"])
     c.frames([h("00200001"), hello], ["piece 2097153 is too large"] * 2)
     c.frames([h("00200000"), hello])
     c.row("json", h(SESSION[1]), digits(HEAD.encode()))
     c.row("json", h(SESSION[6]), digits(ENDED.encode()))
-    c.row("json", message(1, submit_time=spec(0), info_msgs=[(b"runargv", (4, [b"\xff"])), (b"cut", (3, b"\xe2\x82")), (b"in", (3, b"a\x80b"))]))
-    c.row("json", message(1, submit_time=spec(0), info_msgs=[(b"", (3, b"\x00\x1f\"\\/\x08\x0c\n\r\t\x7f\xe2\x82\xac"))]))
+    c.row("json", message(1, submit_time=spec(0),
+        info_msgs=[(b"runargv", (4, [b"\xff"])), (b"cut", (3, b"\xe2\x82")), (b"in", (3, b"a\x80b"))]))
+    c.row("json", message(1, submit_time=spec(0),
+        info_msgs=[(b"", (3, b"\x00\x1f\"\\/\x08\x0c\n\r\t\x7f\xe2\x82\xac"))]))
     c.row("json", message(1, submit_time=spec(0), info_msgs=[
         (b"least", (5, [-2**63, -1, 0])), (b"none", (5, [])), (b"most", (2, 2**63 - 1)), (b"no", (4, []))]))
     # Of keys that are shown alike the last counts.
     c.row("json", message(1, submit_time=spec(0), info_msgs=[
-        (b"b\xff", (2, 1)), (b"a", (2, 2)), (b"b\xfe", (2, 3)), (b"a", (3, b"last")), (b"b", (2, 4)), (b"b\xfe", (2, 5)), (b"b\xff", (2, 6))]))
+        (b"b\xff", (2, 1)), (b"a", (2, 2)), (b"b\xfe", (2, 3)), (b"a", (3, b"last")), (b"b", (2, 4)),
+        (b"b\xfe", (2, 5)), (b"b\xff", (2, 6))]))
     c.row("json", h(FULL[2]))
-    c.row("json", message(3, run_time=spec(3, 600_000_000), exit_value=-1, dumped_core=True, signal=b"SEGV", error=b"\xff"))
+    c.row("json", message(3, run_time=spec(3, 600_000_000), exit_value=-1, dumped_core=True, signal=b"SEGV",
+        error=b"\xff"))
     c.lay(RECORDS, TIMING)
     c.lay([(4, 0, b""), (4, 1_500_000_000, b"abc")], b"4 0.000000000 0\n4 1.500000000 3\n")
     c.lay([(5, SECOND, (24, 80)), (7, 0, b"TSTP")], b"5 1.000000000 24 80\n7 0.000000000 TSTP\n")
 
-    c.say("replies")
+
+def replies(c: Cases) -> None:
+    """What a server says."""
+    c.title("replies")
     for reply in REPLIES:
-        c.row("server", h(reply), digits(framed(h(reply))))
-    for reply, why in [("", "the message is of no known type"), ("1A002200", "field 4 comes twice"), ("1000", "field 2 has another type")]:
+        c.row("server", h(reply), digits(frame(h(reply))))
+    for reply, why in [("", "the message is of no known type"), ("1A002200", "field 4 comes twice"),
+        ("1000", "field 2 has another type")]:
         c.row("server", h(reply), why)
 
-    c.say("each message in full, other spellings, and what is no message")
+
+def forms(c: Cases) -> None:
+    """Messages of clients: in full, spelled otherwise, wrong ones, and what they ask for."""
+    c.title("each message in full, other spellings, and what is no message")
     for text in FULL:
         c.row("client", h(text), digits(h(text)))
     for spelling, canonical in SPELLINGS:
         c.row("client", h(spelling), digits(h(canonical)))
     for text, why in FAULTS:
         c.row("client", h(text), why)
-    for b in ["08AC02110100000000000002 1A02070825FF000001", "0A047375", "0801 08", "0D010203", "0001", "08010B01", "08FFFFFFFFFFFFFFFFFF01",
+    for b in ["08AC02110100000000000002 1A02070825FF000001", "0A047375", "0801 08", "0D010203", "0001", "08010B01",
+        "08FFFFFFFFFFFFFFFFFF01",
               "08FFFFFFFFFFFFFFFFFF8100", "08818000", "10 80CAB5EE01 6A047375646F FAFFFFFF0F00", "F8FFFFFF1F00"]:
         c.fields(h(b))
 
-    c.say("requests")
+    c.title("requests")
     for asked, why in REQUESTS:
         c.row("request", asked, why)
 
-    c.say("JSON")
+
+def texts(c: Cases) -> None:
+    """JSON, log numbers, timing and passwords."""
+    c.title("JSON")
     for text in HEADS:
         c.text("head", text)
     for text in EXITS:
         c.text("exit", text)
 
-    c.say("log numbers, timing, passwords")
-    for text, n in [("000001", 1), ("00000Z", 35), ("000010", 36), ("000100", 1296), ("0000AB", 371), ("ZZZZZZ", 2_176_782_335), ("000000", None),
-                    ("00000a", None), ("00001", None), ("0000001", None), ("00000/", None), ("00000:", None), ("00000@", None), ("00000[", None)]:
+    c.title("log numbers, timing, passwords")
+    for text, n in [("000001", 1), ("00000Z", 35), ("000010", 36), ("000100", 1296), ("0000AB", 371),
+        ("ZZZZZZ", 2_176_782_335), ("000000", None),
+                    ("00000a", None), ("00001", None), ("0000001", None), ("00000/", None), ("00000:", None),
+                    ("00000@", None), ("00000[", None)]:
         c.number(text, n)
     for line in BAD_LINES:
         c.read([line] + [b""] * 5, "no line of timing stands at offset 0")
@@ -1016,8 +1154,33 @@ def all_cases():
         c.read([timing, b"", b"", b"", b"", b"ab"], why)
     for session, typed in TYPED:
         c.mask(PROMPTS, session, typed)
+    resumed(c)
 
-    c.say("at random")
+
+def resumed(c: Cases) -> None:
+    """Masks that are taken on again, texts of timing in windows, and lines."""
+    for session, typed in RESUMED:
+        c.resume(PROMPTS, session, typed)
+    c.resume([], [o(b"Password: "), t(b"id")], b"id")
+    for text, shapes, why, sizes in TIMINGS:
+        for size in sizes:
+            c.tally(size, text, shapes, why)
+    longest = digits(b"5 18446744073.709551615 4294967295 4294967295\n")
+    c.case("line 5:18446744073709551615:4294967295:4294967295", longest)
+    c.case(f"line 7:1000000009:{LONG_SIGNAL.hex()}", digits(b"7 1.000000009 " + LONG_SIGNAL + b"\n"))
+
+
+def of_events(c: Cases) -> None:
+    """Events and their lines."""
+    for title, rows in events.cases():
+        c.title(title)
+        for asked, printed in rows:
+            c.case(asked, *map(digits, printed))
+
+
+def at_random(c: Cases) -> None:
+    """Messages, bytes and records that are drawn."""
+    c.title("at random")
     r = random.Random(1)
     for _ in range(60):
         b = random_message(r, OF_CLIENT)
@@ -1031,16 +1194,15 @@ def all_cases():
         c.row("server", mutated(r, b))
     for _ in range(30):
         c.lay([random_record(r) for _ in range(r.randrange(1, 6))])
-    return c
 
 
-def main():
-    folder = sys.argv[1]
-    c = all_cases()
-    with open(f"{folder}/stdin", "w") as out:
-        out.write("\n".join(c.asked) + "\n")
-    with open(f"{folder}/stdout", "w") as out:
-        out.write("\n".join(c.answers) + "\n")
+def main() -> None:
+    """Writes all cases."""
+    cases = Cases()
+    for add in (sessions, replies, forms, texts, of_events, at_random):
+        add(cases)
+    cases.write(sys.argv[1])
 
 
-main()
+if __name__ == "__main__":
+    main()

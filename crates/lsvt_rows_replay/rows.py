@@ -3,71 +3,79 @@
 
 usage: rows.py FOLDER
 
-It is a program of its own: it writes stores by bench/stores.py, and works out what is waited, put and listed by the
+It is a program of its own: it writes stores by oracle/store.py, and works out what is waited, put and listed by the
 sentences of sudoreplay(8) and docs/FORMATS.md. It knows nothing of what the crates answer.
 """
-import hashlib
-import os
-import sys
+from __future__ import annotations
 
-sys.path.insert(0, os.path.join(os.path.dirname(os.path.abspath(__file__)), "..", "..", "bench"))
-import stores  # noqa: E402
+import hashlib
+import sys
+from collections.abc import Sequence
+
+from oracle import lines, store
+from oracle.records import SECOND, Record
+from oracle.rows import Rows
 
 TEXTS = {0: "", 2: "usage", 4: "log damaged", 5: "read fault", 6: "write fault", 8: "no such log"}
-cases = []
-wanted = []
+ROWS = Rows()
+case, title = ROWS.case, ROWS.title
 
 
-def case(line, *printed):
-    cases.append(line)
-    wanted.extend(printed)
-
-
-def status(number, text=None):
+def status(number: int, text: str | None = None) -> str:
+    """The last line of a run."""
     return f"status {number} {TEXTS[number] if text is None else text}"
-
-
-def title(text):
-    case(f"# {text}", f"# {text}")
 
 
 # ---- stores
 
 
-def files_of_log(number, head, records, exit, before=b"", extra=0, **changed):
+def body_of(records: Sequence[Record], head: bytes, ended: bytes | None, extra: int = 0) -> bytes:
+    """The body of a log's journal, complete if it has an exit."""
+    files = store.files_of(head, records, ended)
+    return store.body_text(store.COMPLETE if ended else store.FLUSHED, records, files, extra)
+
+
+def files_of_log(
+    number: int, head: bytes, records: Sequence[Record], ended: bytes | None, **changed: bytes | None
+) -> None:
     """A log's files; a file that is changed to None is left out."""
-    files = stores.files_of(head, records, exit)
-    files["slots"] = b"\x01\x00" + stores.body_of(3 if exit else 1, records, stores.files_of(head, records, exit), extra) + before
+    files: dict[str, bytes | None] = {**store.files_of(head, records, ended)}
+    files["slots"] = store.slots_text(body_of(records, head, ended))
     files.update({name.replace("_json", ".json"): text for name, text in changed.items()})
     for name, text in files.items():
         if text is not None:
             case(f"file {number} {name} {text.hex()}".rstrip())
 
 
-def numbers(last, lane=0, lanes=1):
-    body = b"".join(n.to_bytes(4, "big") for n in (last, lane, lanes))
-    case(f"file lane.{lane} slots {(bytes([1, 0]) + body).hex()}")
+def numbers(last: int, lane: int = 0, lanes: int = 1) -> None:
+    """The number file of a lane."""
+    case(f"file lane.{lane} slots {store.slots_text(store.numbers_body(last, lane, lanes)).hex()}")
 
 
 INFO = {
-    "columns": 80, "command": "/usr/bin/id", "lines": 24, "runargv": ["id", "-u"], "rungid": 0, "rungroup": "root", "runuid": 0,
+    "columns": 80, "command": "/usr/bin/id", "lines": 24, "runargv": ["id", "-u"], "rungid": 0, "rungroup": "root",
+    "runuid": 0,
     "runuser": "root", "submitcwd": "/home/ann", "submithost": "web1", "submituser": "ann", "ttyname": "/dev/pts/0",
 }
-HEAD = stores.head_text((1700000000, 0), INFO)
-RECORDS = [(500000000, "ttyout", b"# "), (1000000000, "ttyout", b"id -u"), (0, "ttyout", b"\r\n0\r\n"), (2000000000, "winsize", 30, 100)]
-EXIT = stores.exit_text((3, 600000000), 0)
+HEAD = lines.head(1700000000 * SECOND, INFO)
+RECORDS: list[Record] = [(500000000, "ttyout", b"# "), (1000000000, "ttyout", b"id -u"), (0, "ttyout", b"\r\n0\r\n"),
+    (2000000000, "winsize", 30, 100)]
+EXIT = lines.exit_line(3_600_000_000, 0)
 
 
-def line(number):
+def line(number: int) -> bytes:
+    """The line of a log in a listing."""
     tail = "HOST=web1 ; TTY=pts/0 ; PWD=/home/ann ; USER=root ; "
-    return f"2023-11-14T22:13:20Z : ann : {tail}TSID={stores.digits_of(number)} ; COMMAND=/usr/bin/id -u\n".encode()
+    return f"2023-11-14T22:13:20Z : ann : {tail}TSID={store.digits_of(number)} ; COMMAND=/usr/bin/id -u\n".encode()
 
 
-def put(text):
+def put(text: bytes) -> str:
+    """What is put on the screen."""
     return f"put {text.hex()}"
 
 
-def whole_session():
+def whole_session() -> None:
+    """A store of one session."""
     case("store")
     numbers(1)
     files_of_log(1, HEAD, RECORDS, EXIT)
@@ -75,8 +83,12 @@ def whole_session():
 
 # ---- what is played
 
+SHOWN = ("stdout", "stderr", "ttyout")
 
-def played(records, streams=("stdout", "stderr", "ttyout"), speed=(1, 1), longest=None, suspended=False):
+
+def played(
+    records: Sequence[Record], speed: tuple[int, int] = (1, 1), longest: int | None = None, suspended: bool = False
+) -> list[str]:
     """The waits and puts of records, the speed as a fraction."""
     items = []
     for delay, event, *rest in records:
@@ -85,7 +97,7 @@ def played(records, streams=("stdout", "stderr", "ttyout"), speed=(1, 1), longes
         if longest is not None:
             wait = min(wait, longest)
         items.append(f"wait {min(wait, 2**63 - 1)}")
-        if event in streams and rest[0]:
+        if event in SHOWN and rest[0]:
             items.append(put(rest[0]))
     return items
 
@@ -101,11 +113,26 @@ case("run 00000a", status(8))
 case("run 000000", status(8))
 
 title("words that are no command")
-for words in ("", "000001 000001", "-F 000001", "--help", "-s 0 000001", "-s 1.0000000001 000001", "-m x 000001", "-f ttyout,x 000001", "-f  000001", "~", "-l user ~"):
+for words in ("", "000001 000001", "-F 000001", "--help", "-s 0 000001", "-s 1.0000000001 000001", "-m x 000001",
+    "-f ttyout,x 000001", "-f  000001", "~", "-l user ~"):
     case(f"run {words}".rstrip(), status(2))
 
+title("what of words is out of its form")
+for words, unfit in [
+    ("000001", "none"), ("-l", "none"), ("-l user", "none"), ("", "NoIdentifier"), ("-n", "NoIdentifier"),
+    ("000001 x", "Identifiers x"), ("a b c", "Identifiers b"),
+    ("-s 0 000001", "Speed 0"), ("-s 0.0 -l", "Speed 0.0"), ("-s 1.0000000001 000001", "Speed 1.0000000001"),
+    ("-m .5 000001", "Longest .5"), ("-m 9223372036.854775808 a", "Longest 9223372036.854775808"),
+    ("-m 9223372036.854775807 a", "none"), ("-f ttyou 000001", "Streams ttyou"),
+    ("-f stdin,,stdout -l", "Streams stdin,,stdout"), ("-s x -m y -f z", "Streams z"), ("-s x -m y", "Longest y"),
+    ("-s x", "Speed x"), ("-m 0 -s 1", "NoIdentifier"), ("-F 000001", "usage"), ("--help", "usage"), ("-s", "usage"),
+    ("-s 1 -s 2 a", "usage"),
+]:
+    case(f"unfit {words}".rstrip(), unfit)
+
 title("a time of suspension")
-SUSPENDED = [(10**9, "ttyout", b"a"), (5 * 10**8, "suspend", "TSTP"), (60 * 10**9, "suspend", "CONT"), (10**9, "ttyout", b"b")]
+SUSPENDED: list[Record] = [(10**9, "ttyout", b"a"), (5 * 10**8, "suspend", "TSTP"), (60 * 10**9, "suspend", "CONT"),
+    (10**9, "ttyout", b"b")]
 case("store")
 files_of_log(1, HEAD, SUSPENDED, EXIT)
 case("run 000001", *played(SUSPENDED), status(0))
@@ -113,14 +140,14 @@ case("run -S 000001", *played(SUSPENDED, suspended=True), status(0))
 
 title("a log that is being written, with bytes behind what is committed")
 case("store")
-open_files = stores.files_of(HEAD, RECORDS[:2], None)
+open_files = store.files_of(HEAD, RECORDS[:2], None)
 files_of_log(1, HEAD, RECORDS[:2], None, timing=open_files["timing"] + b"4 0.0", ttyout=open_files["ttyout"] + b"xyz")
 case("run 000001", *played(RECORDS[:2]), status(0))
 
 title("damaged parts")
 for part in ("log_json", "timing", "ttyout", "exit_json"):
     case("store")
-    whole = stores.files_of(HEAD, RECORDS, EXIT)[part.replace("_json", ".json")]
+    whole = store.files_of(HEAD, RECORDS, EXIT)[part.replace("_json", ".json")]
     numbers(1)
     files_of_log(1, HEAD, RECORDS, EXIT, **{part: whole[:-1]})
     case("run 000001", status(4))
@@ -135,7 +162,7 @@ files_of_log(1, b"{}" + b" " * (len(HEAD) - 2), RECORDS, EXIT)
 case("run 000001", status(4))
 case("run -l", status(4))
 case("store")
-timing = stores.files_of(HEAD, RECORDS, EXIT)["timing"]
+timing = store.files_of(HEAD, RECORDS, EXIT)["timing"]
 numbers(1)
 files_of_log(1, HEAD, RECORDS, EXIT, timing=timing.replace(b"4 0.000000000 5", b"4 0.000000000 X"))
 case("run 000001", *played(RECORDS[:2]), status(4))
@@ -157,8 +184,8 @@ for part in ("exit_json", "ttyout", "timing"):
 
 title("a journal that was cut off")
 case("store")
-body = stores.body_of(3, RECORDS, stores.files_of(HEAD, RECORDS, EXIT))
-files_of_log(1, HEAD, RECORDS, EXIT, slots=b"\x01\x00" + body[:88])
+body = body_of(RECORDS, HEAD, EXIT)
+files_of_log(1, HEAD, RECORDS, EXIT, slots=store.slots_text(body[:88]))
 case("run 000001", status(8))
 
 # ---- what is listed
@@ -167,30 +194,47 @@ title("searches")
 whole_session()
 case("run -l", put(line(1)), status(0))
 FOUND = [
-    "user ann command id", "user ann and command id", "host web1", "runas root", "group root", "cwd /home/ann", "tty pts/0", "tty /dev/pts/0", "command ^/usr/bin/id\\s-u$",
-    "fromdate 2023-11-14T22:13:20Z", "todate 2023-11-14T22:13:20Z", "u ann", "co id", "( user ann )", "! user bob", "! ! user ann",
-    "user ann or user bob and user bob", "user bob and user bob or user ann", "( user bob or user ann ) and user ann", "user and or user ann",
+    "user ann command id", "user ann and command id", "host web1", "runas root", "group root", "cwd /home/ann",
+    "tty pts/0", "tty /dev/pts/0", "command ^/usr/bin/id\\s-u$",
+    "fromdate 2023-11-14T22:13:20Z", "todate 2023-11-14T22:13:20Z", "u ann", "co id", "( user ann )", "! user bob",
+    "! ! user ann",
+    "user ann or user bob and user bob", "user bob and user bob or user ann", "( user bob or user ann ) and user ann",
+    "user and or user ann",
 ]
 NOT_FOUND = [
-    "! user ann", "user bob", "fromdate 2023-11-14T22:13:21Z", "todate 2023-11-14T22:13:19Z", "command ^id", "user ann user bob", "( user ann or user bob ) and user bob",
+    "! user ann", "user bob", "fromdate 2023-11-14T22:13:21Z", "todate 2023-11-14T22:13:19Z", "command ^id",
+    "user ann user bob", "( user ann or user bob ) and user bob",
     "! ( user ann or user bob )", "cwd /home", "tty 0",
 ]
+# words, the place of the first that isn't taken, and why it isn't
 BAD = [
-    ("c id", 0), ("t pts/0", 0), ("user", 1), ("fromdate 2023-02-30T00:00:00Z", 1), ("fromdate 2023-11-14", 1), ("and user ann", 0), ("user ann or", 3), ("( user ann", 3),
-    ("user ann )", 2), ("( )", 1), ("!", 1), ("command (", 1), ("users ann", 0), ("user ann and and user ann", 3),
+    ("c id", 0, "NoName"), ("t pts/0", 0, "NoName"), ("user", 1, "NeedsArgument(User)"),
+    ("fromdate 2023-02-30T00:00:00Z", 1, "NoDate"), ("fromdate 2023-11-14", 1, "NoDate"),
+    ("and user ann", 0, "NeedsSearch"), ("user ann or", 3, "NeedsSearch"), ("( user ann", 3, "NotClosed"),
+    ("user ann )", 2, "NotOpen"), ("( )", 1, "NeedsSearch"),
+    ("!", 1, "NeedsSearch"), ("command (", 1, "NoPattern"), ("users ann", 0, "NoName"),
+    ("user ann and and user ann", 3, "NeedsSearch"), ("todate ( user ann", 1, "NoDate"),
+    ("user ann bob", 2, "NoName"), ("( user ann ) )", 4, "NotOpen"),
+    ("! ( ! user ann ) user", 7, "NeedsArgument(User)"), ("tty", 1, "NeedsArgument(Tty)"),
+    ("user or or cwd", 4, "NeedsArgument(Cwd)"), ("( ( user ann )", 5, "NotClosed"), ("or", 0, "NeedsSearch"),
+    ("user ann or )", 3, "NeedsSearch"), ("co", 1, "NeedsArgument(Command)"),
 ]
 for words in FOUND:
     case(f"run -l {words}", put(line(1)), status(0))
 for words in NOT_FOUND:
     case(f"run -l {words}", status(0))
-for words, place in BAD:
+for words, place, why in BAD:
     case(f"run -l {words}", status(3, f"bad expression at word {place}"))
+    case(f"bad {words}", f"word {place} {why}")
 
 title("expressions 100 and 101 deep")
 case("run -l " + "! " * 100 + "user ann", put(line(1)), status(0))
 case("run -l " + "( " * 100 + "user ann" + " )" * 100, put(line(1)), status(0))
 case("run -l " + "! " * 101 + "user ann", status(3, "bad expression at word 100"))
 case("run -l " + "( ! " * 50 + "( user ann", status(3, "bad expression at word 100"))
+case("bad " + "! " * 101 + "user ann", "word 100 TooDeep")
+case("bad " + "( ! " * 50 + "( user ann", "word 100 TooDeep")
+case("bad user ann and " + "( " * 101 + "user ann", "word 103 TooDeep")
 
 title("no store, and numbers of which no log is there")
 case("store")
@@ -214,21 +258,20 @@ numbers(1, 1, 2)
 case("file lane.1 commit")
 case("run -l", status(0))
 case("store")
-case("file lane.0 slots " + (bytes([1, 0]) + b"".join(n.to_bytes(4, "big") for n in (1, 1, 2))).hex())
+case("file lane.0 slots " + store.slots_text(store.numbers_body(1, 1, 2)).hex())
 files_of_log(1, HEAD, RECORDS, EXIT)
 case("run -l", status(4))
 case("run 000001", *played(RECORDS), status(0))
 case("store")
 numbers(1, 0, 2)
-case("file lane.1 slots " + (bytes([1, 0]) + b"".join(n.to_bytes(4, "big") for n in (3, 1, 2))).hex())
+case("file lane.1 slots " + store.slots_text(store.numbers_body(3, 1, 2)).hex())
 files_of_log(1, HEAD, RECORDS, EXIT)
 case("run -l", status(4))
 
 title("an older store")
 case("store")
-old = [(0, 0, 1), (1, 0, 1)]
-case("file lane.0 commit " + (b"".join(b"\x01" + b"".join(n.to_bytes(4, "big") for n in body) for body in old) + b"\x00").hex())
-gates = b"\x01" + stores.body_of(3, RECORDS, stores.files_of(HEAD, RECORDS, EXIT)) + b"\x00"
+case("file lane.0 commit " + store.old_journal(store.numbers_body(last) for last in (0, 1)).hex())
+gates = store.old_journal([body_of(RECORDS, HEAD, EXIT)])
 files_of_log(1, HEAD, RECORDS, EXIT, slots=None, commit=gates)
 case("run -l", put(line(1)), status(0))
 case("run 000001", *played(RECORDS), status(0))
@@ -243,7 +286,8 @@ case("copy 501 1000")
 logs = [n for n in range(1, 1001) if n not in (500, 700)]
 
 
-def total(listed, number):
+def total(listed: Sequence[int], number: int) -> tuple[str, str]:
+    """What is printed of a listing of these logs as a sum."""
     return f"items {len(listed)} digest {hashlib.md5(b''.join(line(n) for n in listed)).hexdigest()}", status(number)
 
 
@@ -253,24 +297,18 @@ case("sum -l user bob", *total([], 4))
 
 title("each call of the screen fails in turn")
 whole_session()
-whole = played(RECORDS)
-for number in range(1, len(whole) + 2):
+items = played(RECORDS)
+for number in range(1, len(items) + 2):
     case(f"fails {number}")
-    case("run 000001", *whole[: number - 1], status(6 if number <= len(whole) else 0))
+    case("run 000001", *items[: number - 1], status(6 if number <= len(items) else 0))
 case("store")
 numbers(2)
 files_of_log(1, HEAD, RECORDS, EXIT)
 case("copy 2 2")
-for number, listed in ((1, []), (2, [1]), (3, [1, 2])):
+for number in (1, 2, 3):
     case(f"fails {number}")
-    case("run -l", *[put(line(n)) for n in listed], status(6 if number <= 2 else 0))
+    case("run -l", *[put(line(n)) for n in range(1, number)], status(6 if number <= 2 else 0))
 
 
-def main():
-    folder = sys.argv[1]
-    for name, lines in (("stdin", cases), ("stdout", wanted)):
-        with open(os.path.join(folder, name), "w", encoding="utf-8") as file:
-            file.write("".join(f"{text}\n" for text in lines))
-
-
-main()
+if __name__ == "__main__":
+    ROWS.write(sys.argv[1])

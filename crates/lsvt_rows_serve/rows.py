@@ -3,92 +3,71 @@
 
 usage: rows.py FOLDER
 
-It is a program of its own: it spells the messages by the tables of sudo_logsrv.proto(5), and works out what each link is put,
-what each connection brings and what each log holds by the rules that stand beside them here and in docs/FORMATS.md. It knows
-nothing of what the crates answer.
+It is a program of its own: it spells the messages by the tables of sudo_logsrv.proto(5), and works out what each
+link is put, what each connection brings and what each log holds by the rules that stand beside them here and in
+docs/FORMATS.md. It knows nothing of what the crates answer.
 """
+from __future__ import annotations
+
 import hashlib
-import os
 import sys
+from collections.abc import Callable, Iterable
 
-sys.path.insert(0, os.path.join(os.path.dirname(os.path.abspath(__file__)), "..", "..", "bench"))
-from stores import digits_of  # noqa: E402
+from loads import add_loads
+from oracle import messages
+from oracle.records import SECOND, Record, cut_at, elapsed, stream_of
+from oracle.rows import Rows
+from oracle.store import digits_of
+from oracle.wire import LARGEST, Frames, frame
 
-SECOND = 10**9
 SUBMIT = 1_700_000_000 * SECOND
-MOST_MESSAGE = 2_097_152
 MOST_JOBS = 256  # of a turn
 MOST_UNSENT = 65_536  # with so many a link isn't read
 MOST_LINKS = 128
 MOST_SHOWN = 64
-PASSES = 9  # so many turns are done of what a link was read before the next step of the script
+PASSES = 9  # turns that are done of what a link was read before the next step of the script
 
 # ---- messages of the protocol
-
-
-def varint(n):
-    out = bytearray()
-    while n >= 128:
-        out.append(n & 127 | 128)
-        n >>= 7
-    return bytes(out) + bytes([n])
-
-
-def number(field, n):
-    return varint(field << 3) + varint(n) if n else b""
-
-
-def part(field, body):
-    return varint(field << 3 | 2) + varint(len(body)) + body
-
-
-def time(nanos):
-    return number(1, nanos // SECOND) + number(2, nanos % SECOND)
-
-
-def frame(message):
-    return len(message).to_bytes(4, "big") + message
 
 
 class Message:
     """A frame of a client, and what it is."""
 
-    of = {}
+    of: dict[bytes, Message] = {}
 
-    def __init__(self, kind, body, delay=0, data=b"", log=None, point=None):
+    def __init__(
+        self, kind: str, body: bytes, record: Record | None = None, log: int | None = None, point: int | None = None
+    ) -> None:
+        """A message is known by its bytes from then on."""
         self.kind, self.frame = kind, frame(body)
-        self.delay, self.data, self.log, self.point = delay, data, log, point
-        Message.of[self.frame] = self
+        self.record, self.log, self.point = record, log, point
+        Message.of[body] = self
 
 
-def value(v):
-    if isinstance(v, int):
-        return varint(2 << 3) + varint(v)
-    if isinstance(v, str):
-        return part(3, v.encode())
-    return part(4, b"".join(part(1, one.encode()) for one in v))
+def accept(info: messages.Info) -> Message:
+    """An accept that announces records."""
+    return Message("accept", messages.accept(SUBMIT, info))
 
 
-def accept(entries):
-    told = b"".join(part(2, part(1, key.encode()) + value(v)) for key, v in entries)
-    return Message("accept", part(1, part(1, time(SUBMIT)) + told + number(3, 1)))
+def ttyout(delay: int, data: bytes) -> Message:
+    """Terminal output."""
+    record = (delay, "ttyout", data)
+    return Message("ttyout", messages.record(record), record)
 
 
-def ttyout(delay, data):
-    return Message("ttyout", part(7, part(1, time(delay)) + part(2, data)), delay, data)
+def restart(log: int, point: int) -> Message:
+    """A restart."""
+    return Message("restart", messages.restart(digits_of(log), point), log=log, point=point)
 
 
-def restart(log, point):
-    return Message("restart", part(4, part(1, digits_of(log).encode()) + part(2, time(point))), log=log, point=point)
+WHOLE: messages.Info = {
+    "command": "/usr/bin/id", "runargv": ["id", "-u"], "runuser": "root", "runuid": 0, "rungid": 0, "rungroup": "root",
+    "submituser": "ann", "submithost": "web1", "submitcwd": "/home/ann", "ttyname": "/dev/pts/0", "lines": 24,
+    "columns": 80,
+}
+NEEDED: messages.Info = {"command": "/bin/id", "runuser": "root", "submituser": "ann", "submithost": "web1"}
 
-
-WHOLE = [
-    ("command", "/usr/bin/id"), ("runargv", ["id", "-u"]), ("runuser", "root"), ("runuid", 0), ("rungid", 0), ("rungroup", "root"),
-    ("submituser", "ann"), ("submithost", "web1"), ("submitcwd", "/home/ann"), ("ttyname", "/dev/pts/0"), ("lines", 24), ("columns", 80),
-]
-NEEDED = [("command", "/bin/id"), ("runuser", "root"), ("submituser", "ann"), ("submithost", "web1")]
-
-HELLO = Message("hello", part(13, part(1, b"Sudo 1.9.15")))
+HELLO = Message("hello", messages.hello("Sudo 1.9.15"))
 ACCEPT = accept(WHOLE)
 SHORT = accept(NEEDED)
 EXIT = Message("exit", bytes.fromhex("1a020a00"))
@@ -96,136 +75,183 @@ FIRST = ttyout(SECOND // 2, b"# ")
 SECOND_ONE = ttyout(SECOND, b"id -u")
 THIRD = ttyout(0, b"\r\n0\r\n")
 TICK = ttyout(1, b"x")
+TICK_RECORD = (1, "ttyout", b"x")
 
 # ---- what a server says
 
 H = bytes.fromhex("0000000b0a090a056c737620312001")
 
 
-def log_id(n):
-    return frame(part(3, digits_of(n).encode()))
+def log_id(number: int) -> bytes:
+    """The identifier of a log."""
+    return frame(messages.log_id(digits_of(number)))
 
 
-def point(nanos):
-    return frame(part(2, time(nanos)))
+def point(nanoseconds: int) -> bytes:
+    """A commit point."""
+    return frame(messages.commit_point(nanoseconds))
 
 
-def error(why):
-    return frame(part(4, why.encode()))
+def error(why: str) -> bytes:
+    """An error."""
+    return frame(messages.error(why))
 
 
-lines, wanted = [], []
-names = {}
+ROWS = Rows()
+lines, wanted = ROWS.cases, ROWS.wanted
+names: dict[bytes, str] = {}
 
 
-def name_of(data):
-    """The name of these bytes, which are told once."""
+def name_of(data: bytes) -> str:
+    """The name of these bytes, which are given once."""
     if data not in names:
         names[data] = f"b{len(names)}"
         lines.append(f"let {names[data]} {data.hex()}")
     return names[data]
 
 
-def short(data):
+def digest(data: bytes) -> str:
+    """The number of bytes and their digest."""
+    return f"{len(data)} bytes {hashlib.md5(data).hexdigest()}"
+
+
+def short(data: bytes) -> str:
     """Bytes as they are printed: many by their number and their digest."""
-    return data.hex() if len(data) <= 8 * MOST_SHOWN else f"{len(data)} bytes {hashlib.md5(data).hexdigest()}"
+    return data.hex() if len(data) <= 8 * MOST_SHOWN else digest(data)
 
 
 class Log:
-    def __init__(self):
-        self.records, self.staged, self.end, self.cuts = [], [], "open", 0
+    """What is stored of a log."""
 
-    def elapsed(self):
-        return sum(r.delay for r in self.records + self.staged)
+    def __init__(self) -> None:
+        """It has no record."""
+        self.records: list[Record] = []
+        self.staged: list[Record] = []
+        self.end, self.cuts = "open", 0
 
-    def flush(self):
+    def elapsed(self) -> int:
+        """The nanoseconds of all records."""
+        return elapsed(self.records + self.staged)
+
+    def flush(self) -> None:
+        """What is staged is committed."""
         self.records, self.staged = self.records + self.staged, []
+
+    def shown(self) -> str:
+        """What is printed of it."""
+        data = stream_of(self.records, "ttyout")
+        what = data.hex() if len(data) <= MOST_SHOWN else digest(data)
+        return f"records {len(self.records)} to {elapsed(self.records)}, cuts {self.cuts}, {self.end}, {what}"
 
 
 class Server:
     """A store, the runs over it, and what becomes of them."""
 
-    def __init__(self, title, *conf):
-        lines.append(f"# {title}")
-        wanted.append(f"# {title}")
+    def __init__(self, title: str, *conf: str) -> None:
+        """A new store, and lines of settings."""
+        ROWS.title(title)
         lines.append("server")
         lines.extend(f"conf {line}" for line in conf)
-        self.logs = []
+        self.logs: list[Log] = []
         self.begin()
 
-    def begin(self):
-        self.ports, self.order = [], []
+    def begin(self) -> None:
+        """No port and no job yet."""
+        self.ports: list[Port] = []
+        self.order: list[Link] = []
 
-    def port(self):
+    def port(self) -> Port:
+        """One port more."""
         self.ports.append(Port(self, len(self.ports)))
         return self.ports[-1]
 
-    def run(self, words="serve -f conf", status="0 ", serves="*:30343 logs /var/log/sudo-io", last=None, until=""):
+    def run(
+        self, words: str = "serve -f conf", status: str = "0 ", serves: str | None = "*:30343 logs /var/log/sudo-io",
+        last: int | None = None, until: str = "",
+    ) -> None:
+        """The program runs on its ports. `last` is the number that it announces, by default that of the store."""
         for its in self.ports:
             lines.append("port")
             lines.extend(its.lines)
         lines.append(f"run {words}")
         if serves:
-            last = len(self.logs) - sum(1 for p in self.ports for c in p.links if c.made) if last is None else last
-            wanted.append(f"serves {serves} last {last}{until}")
+            wanted.append(f"serves {serves} last {self.stored() if last is None else last}{until}")
         for its in self.ports:
-            for c in its.links:
-                wanted.append(f"link {its.place}.{c.link} read {c.read}, put {short(c.put)}")
-        for c in self.order:
-            wanted.append(f"jobs {c.port.place}.{c.seq}{c.brought()}")
+            for link in its.links:
+                wanted.append(f"link {its.place}.{link.link} read {link.read}, put {short(link.put)}")
+        for link in self.order:
+            wanted.append(f"jobs {link.port.place}.{link.seq}{link.brought()}")
         wanted.append(f"status {status}")
-        for n, log in enumerate(self.logs, 1):
-            shown = b"".join(r.data for r in log.records)
-            what = shown.hex() if len(shown) <= MOST_SHOWN else f"{len(shown)} bytes {hashlib.md5(shown).hexdigest()}"
-            elapsed = sum(r.delay for r in log.records)
-            wanted.append(f"log {n} records {len(log.records)} to {elapsed}, cuts {log.cuts}, {log.end}, {what}")
+        for number, log in enumerate(self.logs, 1):
+            wanted.append(f"log {number} {log.shown()}")
         self.begin()
+
+    def stored(self) -> int:
+        """How many logs the store had before this run."""
+        return len(self.logs) - sum(1 for port in self.ports for link in port.links if link.made)
 
 
 class Port:
-    def __init__(self, server, place):
-        self.server, self.place, self.lines, self.links, self.next = server, place, [], [], 1
+    """A port: the steps of its script, and its links."""
 
-    def step(self, line):
+    def __init__(self, server: Server, place: int) -> None:
+        """The port at a place."""
+        self.server, self.place, self.next = server, place, 1
+        self.lines: list[str] = []
+        self.links: list[Link] = []
+
+    def step(self, line: str) -> None:
+        """A step of the script."""
         self.lines.append(line)
 
-    def open(self, link):
+    def open(self, link: int) -> Link:
+        """A link is opened."""
         self.step(f"open {link}")
         self.links.append(Link(self, link))
         return self.links[-1]
 
-    def ends(self, line):
-        """Stop is told, or a turn fails: each connection ends."""
+    def ends(self, line: str) -> None:
+        """Stop comes, or a turn fails: each connection ends."""
         self.step(line)
-        for c in self.links:
-            c.gone()
+        for link in self.links:
+            link.gone()
 
-    def stop(self):
+    def stop(self) -> None:
+        """Stop comes."""
         self.ends("stop")
 
-    def fail(self):
+    def fail(self) -> None:
+        """A turn of the port fails."""
         self.ends("fail")
 
 
 class Link:
-    """One link and its connection, which is put the server's hello first. The 129th open link is closed, and is none."""
+    """One link and its connection, which is put the server's hello first.
 
-    def __init__(self, port, link):
+    The 129th open link is closed, and is none.
+    """
+
+    def __init__(self, port: Port, link: int) -> None:
+        """The link of a number."""
         self.port, self.link, self.server = port, link, port.server
-        self.read, self.put, self.jobs, self.rest, self.log = 0, b"", [], b"", None
+        self.read, self.put, self.frames, self.seq = 0, b"", Frames(), 0
+        self.jobs: list[str] = []
+        self.log: Log | None = None
         self.made, self.is_dead = False, False
-        self.is_open = sum(c.is_open for c in port.links) < MOST_LINKS
+        self.is_open: bool = sum(other.is_open for other in port.links) < MOST_LINKS
         self.is_gone = not self.is_open
         if self.is_open:
             self.seq, self.put = port.next, H
             port.next += 1
 
-    def bring(self, job):
+    def bring(self, job: str) -> None:
+        """A job comes from this link."""
         if self not in self.server.order:
             self.server.order.append(self)
         self.jobs.append(job)
 
-    def brought(self):
+    def brought(self) -> str:
+        """Its jobs as they are printed, those that come again by their number."""
         words, n = "", 0
         while n < len(self.jobs):
             times = 1
@@ -237,24 +263,25 @@ class Link:
 
     # -- steps of the script
 
-    def give(self, *messages):
+    def give(self, *given: bytes | Message) -> None:
         """These arrive at once: they are one turn."""
-        data = b"".join(m if isinstance(m, bytes) else m.frame for m in messages)
+        data = b"".join(m if isinstance(m, bytes) else m.frame for m in given)
         self.port.step(f"give {self.link} {name_of(data)}")
-        self.hear(data)
+        self.receive(data)
 
-    def trickle(self, data, count=None):
+    def trickle(self, data: bytes, count: int | None = None) -> None:
         """They arrive one byte after the other."""
         count = len(data) if count is None else count
         self.port.step(f"trickle {self.link} {name_of(data)} {count}")
         for k in range(count):
-            self.hear(data[k:k + 1])
+            self.receive(data[k : k + 1])
 
-    def last(self):
+    def last(self) -> None:
+        """Its client ends it."""
         self.port.step(f"last {self.link}")
         self.gone()
 
-    def breaks(self):
+    def breaks(self) -> None:
         """Its next read or write fails, and it is given a byte more, so that it is read."""
         self.port.step(f"break {self.link}")
         self.port.step(f"give {self.link} {name_of(b'x')}")
@@ -262,35 +289,29 @@ class Link:
 
     # -- what comes of them
 
-    def hear(self, data):
+    def receive(self, data: bytes) -> None:
         """A turn of what these bytes complete."""
         if not self.is_open:
             return
         self.read += len(data)
-        self.rest += data
-        said = self.turn(self.cut())
+        said = self.turn(self.cut(data))
         self.put += said
 
-    def cut(self):
-        """The messages that are whole, and bytes that are none."""
-        messages = []
-        while len(self.rest) >= 4:
-            length = int.from_bytes(self.rest[:4], "big")
-            if length > MOST_MESSAGE:
-                messages.append(length)
-                self.rest = b""
-            elif len(self.rest) < 4 + length:
-                break
-            else:
-                messages.append(Message.of.get(self.rest[:4 + length], "malformed"))
-                self.rest = self.rest[4 + length:]
-        return messages
+    def cut(self, data: bytes) -> list[Message | int | str]:
+        """The messages that are whole, bytes that are none, and the length of one that is too large."""
+        found: list[Message | int | str] = []
+        for body in self.frames.feed(data):
+            found.append(Message.of.get(body, "malformed"))
+        if self.frames.length() > LARGEST:
+            found.append(self.frames.length())
+            self.frames.rest = b""
+        return found
 
-    def turn(self, messages):
-        """What is said in a turn of these messages: each in its order, then a point where records came without an exit."""
+    def turn(self, found: Iterable[Message | int | str]) -> bytes:
+        """What is said in a turn of these messages: each in its order, then a point if records came without an exit."""
         said = b""
-        for m in messages:
-            said += self.judge(m)
+        for message in found:
+            said += self.judge(message)
         if self.log and self.log.staged:
             self.log.flush()
             said += point(self.log.elapsed())
@@ -298,47 +319,61 @@ class Link:
             self.gone()
         return said
 
-    def refuse(self, why):
+    def refuse(self, why: str) -> bytes:
+        """An error, which ends the connection."""
         self.is_dead = True
         return error(why)
 
-    def judge(self, m):
-        if isinstance(m, int):
-            self.bring(f"large:{m}")
+    def judge(self, message: Message | int | str) -> bytes:
+        """What is said to a message."""
+        if isinstance(message, int):
+            self.bring(f"large:{message}")
             return b"" if self.is_dead else self.refuse("message too large")
-        if m == "malformed":
-            self.bring(m)
+        if isinstance(message, str):
+            self.bring(message)
             return b"" if self.is_dead else self.refuse("malformed message")
-        self.bring(m.kind)
-        return b"" if self.is_dead else getattr(self, f"on_{m.kind}")(m)
+        self.bring(message.kind)
+        return b"" if self.is_dead else getattr(self, f"on_{message.kind}")(message)
 
-    def on_hello(self, m):
+    def the_log(self) -> Log:
+        """The log that it writes."""
+        assert self.log
+        return self.log
+
+    def on_hello(self, _: Message) -> bytes:
+        """Nothing is said."""
         return b""
 
-    def on_accept(self, m):
+    def on_accept(self, _: Message) -> bytes:
+        """A log is begun."""
         self.log, self.made = Log(), True
         self.server.logs.append(self.log)
         return log_id(len(self.server.logs))
 
-    def on_ttyout(self, m):
-        self.log.staged.append(m)
+    def on_ttyout(self, message: Message) -> bytes:
+        """A record is staged."""
+        assert message.record
+        self.the_log().staged.append(message.record)
         return b""
 
-    def on_exit(self, m):
-        self.log.flush()
-        self.log.end, self.is_dead = "exit", True
-        return point(self.log.elapsed())
+    def on_exit(self, _: Message) -> bytes:
+        """The log is complete."""
+        log = self.the_log()
+        log.flush()
+        log.end, self.is_dead = "exit", True
+        return point(log.elapsed())
 
-    def on_restart(self, m):
+    def on_restart(self, message: Message) -> bytes:
         """The records through the first that ends at the point stay."""
-        self.log = self.server.logs[m.log - 1]
-        ends = [sum(r.delay for r in self.log.records[:n + 1]) for n in range(len(self.log.records))]
-        kept = ends.index(m.point) + 1
-        self.log.cuts += kept < len(ends)
-        self.log.records = self.log.records[:kept]
+        assert message.log and message.point is not None
+        log = self.log = self.server.logs[message.log - 1]
+        kept = cut_at(log.records, message.point)
+        assert kept
+        log.cuts += len(kept) < len(log.records)
+        log.records = list(kept)
         return b""
 
-    def gone(self):
+    def gone(self) -> None:
         """Its end is brought, once, and the link is closed. What is staged is stored without a point."""
         if self.is_gone:
             return
@@ -354,7 +389,8 @@ STORE = "*:30343 logs store"
 # ---- what comes on two links, one of which brings no message
 
 
-def no_message_beside():
+def no_message_beside() -> None:
+    """What comes on two links, one of which brings no message."""
     server = Server("bytes that are no message, beside a session byte by byte", *PLACES)
     port = server.port()
     one, two = port.open(1), port.open(2)
@@ -382,12 +418,14 @@ def no_message_beside():
 # ---- ports that fail, settings and words
 
 
-def ports_that_fail():
+def ports_that_fail() -> None:
+    """Ports that fail."""
     server = Server("the first turn of the port fails")
     server.port().fail()
     server.run(status="7 port fault")
 
-    server = Server("a port fails while its link is open: what had come is stored, and another port is served to its end")
+    title = "a port fails while its link is open: what had come is stored, and another port is served to its end"
+    server = Server(title)
     first, other = server.port(), server.port()
     one, two = first.open(1), other.open(1)
     one.give(SHORT, FIRST)
@@ -416,12 +454,16 @@ def ports_that_fail():
     server.run()
 
 
-def settings_and_words():
-    for title, conf, words, status in (
-        ("a line of the settings is refused", ("[server]", "listen_address = *:30343", "[relay]", "store_first = maybe"), "serve -f conf", "3 settings line 4"),
+def settings_and_words() -> None:
+    """Settings and words."""
+    refused: tuple[tuple[str, tuple[str, ...], str, str], ...] = (
+        ("a line of the settings is refused",
+            ("[server]", "listen_address = *:30343", "[relay]", "store_first = maybe"), "serve -f conf",
+            "3 settings line 4"),
         ("a word that is none", PLACES, "serve -x", "2 usage"),
         ("no number of connections", PLACES, "serve --stop-after 0", "2 usage"),
-    ):
+    )
+    for title, conf, words, status in refused:
         server = Server(f"{title}: nothing is touched", *conf)
         untouched(server)
         server.run(words, status, serves=None)
@@ -430,14 +472,15 @@ def settings_and_words():
     untouched(server)
     server.run(status="3 settings line 0", serves=None)
 
-    server = Server("where it listens, and after how many links it is to end", "; local", "[Server]", "Listen_Address = *:30344")
+    server = Server("where it listens, and after how many links it is to end", "; local", "[Server]",
+        "Listen_Address = *:30344")
     server.port().stop()
     server.run("serve --stop-after 2 -f conf", serves="*:30344 logs /var/log/sudo-io", until=" until 2")
     server.port().stop()
     server.run("serve --lanes 1")
 
 
-def untouched(server):
+def untouched(server: Server) -> None:
     """A port whose link would be served."""
     port = server.port()
     for line in ("open 1", f"give 1 {name_of(SHORT.frame)}", "stop"):
@@ -447,8 +490,8 @@ def untouched(server):
 # ---- one fault, one connection
 
 
-def one_log_fails():
-    """The first link brings more than the turns of one step take, so a turn has records of both logs; there the sync fails."""
+def one_log_fails() -> None:
+    """The first link brings more than one step takes: a turn has records of both logs, and its sync fails."""
     server = Server("a sync of one log fails in a turn of two: its connection alone is shut")
     many = 3000
     lines.append(f"faulty 1 {1 + many}")
@@ -461,12 +504,12 @@ def one_log_fails():
     one.read += many * len(TICK.frame)
     whole = many // MOST_JOBS
     assert PASSES < whole and many % MOST_JOBS
-    for n in range(many):
+    for _ in range(many):
         one.bring("ttyout")
-    one.log.records += [TICK] * (whole * MOST_JOBS)
+    one.the_log().records += [TICK_RECORD] * (whole * MOST_JOBS)
     one.put += b"".join(point(1 + n * MOST_JOBS) for n in range(1, whole + 1)) + error("device fault")
     two.give(TICK)
-    one.log, first = None, one.log
+    first, one.log = one.the_log(), None
     one.gone()
     two.give(FIRST, EXIT)
     port.stop()
@@ -485,18 +528,19 @@ def one_log_fails():
 # ---- many links
 
 
-def many_links():
+def many_links() -> None:
+    """More links than are served."""
     server = Server("the 129th open link is closed, and is given nothing; behind one that has ended another is served")
     port = server.port()
     links = [port.open(n) for n in range(1, MOST_LINKS + 2)]
-    for c in links:
-        c.give(SHORT, TICK)
+    for link in links:
+        link.give(SHORT, TICK)
     assert links[-1].put == b"" and links[-1].read == 0
     links[4].give(EXIT)
     after = port.open(1000)
     after.give(HELLO, SHORT, FIRST)
-    for c in links[:4] + links[5:] + [after]:
-        c.give(EXIT)
+    for link in links[:4] + links[5:] + [after]:
+        link.give(EXIT)
     port.stop()
     server.run()
 
@@ -504,7 +548,18 @@ def many_links():
 # ---- a link that takes nothing
 
 
-def takes_nothing(title, then):
+def take(link: Link, count: int) -> None:
+    """So many records are read of a link, and stored."""
+    for _ in range(count):
+        link.bring("ttyout")
+    link.the_log().records += [TICK_RECORD] * count
+    link.read += count * len(TICK.frame)
+
+
+Then = Callable[[Server, Port, Link, bytes, int, int], None]
+
+
+def takes_nothing(title: str, then: Then) -> None:
     """Its answers stay unsent, and from so many unsent bytes on it isn't read; a second link is served meanwhile."""
     server = Server(f"a link takes nothing and sends on, and then {title}")
     port = server.port()
@@ -519,9 +574,7 @@ def takes_nothing(title, then):
     beyond = 100
     port.step(f"repeat 1 {name_of(TICK.frame)} {read + beyond}")
     one.put = H
-    one.take = lambda count: [one.bring("ttyout") or one.log.records.append(TICK) for _ in range(count)]
-    one.take(read)
-    one.read += read * len(TICK.frame)
+    take(one, read)
     two = port.open(2)
     two.give(HELLO, SHORT)
     two.give(FIRST)
@@ -529,25 +582,23 @@ def takes_nothing(title, then):
     then(server, port, one, answers, read, beyond)
 
 
-def then_fails(server, port, one, answers, read, beyond):
+def then_fails(server: Server, port: Port, one: Link, answers: bytes, read: int, beyond: int) -> None:
     """What it wasn't read stays unread."""
     port.fail()
     server.run(status="7 port fault")
 
 
-def then_stops(server, port, one, answers, read, beyond):
+def then_stops(server: Server, port: Port, one: Link, answers: bytes, read: int, beyond: int) -> None:
     """What it is owed is read."""
-    one.take(beyond)
-    one.read += beyond * len(TICK.frame)
+    take(one, beyond)
     port.stop()
     server.run()
 
 
-def then_room(server, port, one, answers, read, beyond):
+def then_room(server: Server, port: Port, one: Link, answers: bytes, read: int, beyond: int) -> None:
     """All answers are put, and what had come is a turn."""
     port.step("room 1 1000000")
-    one.take(beyond)
-    one.read += beyond * len(TICK.frame)
+    take(one, beyond)
     one.put = H + answers + point(read + beyond)
     one.give(EXIT)
     port.stop()
@@ -557,7 +608,8 @@ def then_room(server, port, one, answers, read, beyond):
 # ---- a link that fails at each byte
 
 
-def breaks_at_each_byte():
+def breaks_at_each_byte() -> None:
+    """A link that fails at each byte."""
     data = b"".join(m.frame for m in (HELLO, SHORT, FIRST, THIRD, EXIT))
     for count in range(len(data) + 1):
         server = Server(f"a session byte by byte, and its link fails behind {count}")
@@ -573,7 +625,8 @@ def breaks_at_each_byte():
         server.run()
 
 
-def breaks_at_a_write():
+def breaks_at_a_write() -> None:
+    """A write that fails."""
     sent = (HELLO, SHORT, FIRST, THIRD)
     for count in range(2, len(sent) + 1):
         server = Server(f"a write fails, with the answers to {count} messages unsent")
@@ -595,7 +648,8 @@ def breaks_at_a_write():
 # ---- stops
 
 
-def stops():
+def stops() -> None:
+    """Stops."""
     server = Server("Stop while links are open")
     port = server.port()
     one, two, three, four = (port.open(n) for n in (1, 2, 3, 4))
@@ -607,7 +661,7 @@ def stops():
     server.run()
     port = server.port()
     one = port.open(1)
-    one.give(HELLO, restart(1, FIRST.delay))
+    one.give(HELLO, restart(1, SECOND // 2))
     one.give(SECOND_ONE)
     two = port.open(2)
     two.give(SHORT, EXIT)
@@ -622,17 +676,15 @@ def stops():
     one.give(SHORT)
     lines.append(f"times many {many} {name_of(TICK.frame)}")
     port.step("give 1 many")
-    one.read += many * len(TICK.frame)
-    for n in range(many):
-        one.bring("ttyout")
-    one.log.records += [TICK] * many
+    take(one, many)
     # Its last turn has its end too, so no point is sent there.
     one.put += b"".join(point(n * MOST_JOBS) for n in range(1, many // MOST_JOBS + 1))
     port.stop()
     server.run()
 
 
-def main():
+def main() -> None:
+    """Writes all scripts."""
     no_message_beside()
     ports_that_fail()
     settings_and_words()
@@ -644,10 +696,9 @@ def main():
     stops()
     breaks_at_a_write()
     breaks_at_each_byte()
-    folder = sys.argv[1]
-    for name, text in (("stdin", lines), ("stdout", wanted)):
-        with open(os.path.join(folder, name), "w") as out:
-            out.write("\n".join(text) + "\n")
+    add_loads(ROWS)
+    ROWS.write(sys.argv[1])
 
 
-main()
+if __name__ == "__main__":
+    main()

@@ -16,7 +16,6 @@ use std::alloc::Global;
 #[derive(Drop)]
 pub struct Opened {
     entries: Vec<Entry>,
-    number: Option<LogNo>,
     log: Option<IoLog>,
     numbers: Option<Numbers>,
 }
@@ -50,9 +49,12 @@ fn exit(alloc: Global, run: Point, value: i32) -> Exit
     }
 }
 
-/// Prints to which point a log goes, or why a call failed.
-fn answer(rt: &HostRuntime, answer: Result<Point, LogFault>) -> Result<()> {
-    match answer {
+/// The point up to which a log goes after a call, or why the call failed.
+pub type Outcome = Result<Point, LogFault>;
+
+/// Prints what a call answered.
+pub fn show(rt: &HostRuntime, outcome: Outcome) -> Result<()> {
+    match outcome {
         Ok(point) => println!(rt; "to {}", point.nanos())?,
         Err(fault) => println!(rt; "{fault}")?,
     }
@@ -64,7 +66,6 @@ impl Opened {
     pub fn new(alloc: Global) -> Self {
         Opened {
             entries: Vec::new(alloc),
-            number: None,
             log: None,
             numbers: None,
         }
@@ -80,31 +81,47 @@ impl Opened {
         self.log.as_mut().ok_or(anyhow!("an open log"))
     }
 
+    /// Makes a call of a log, and returns its answer.
+    pub fn call(
+        &mut self,
+        alloc: Global,
+        store: &mut Store,
+        word: &str,
+        words: &str,
+    ) -> Result<Outcome> {
+        match word {
+            "create" => self.create(alloc, store, words),
+            "open" => self.open(alloc, store, words),
+            "flush" => Ok(self.log()?.flush(store)),
+            "cut" => self.cut(alloc, store, words),
+            "finish" => self.finish(alloc, store, words),
+            _ => Err(anyhow!("a call of a log")),
+        }
+    }
+
     /// Makes a log: its number, and when it was submitted.
-    pub fn create(&mut self, rt: &HostRuntime, store: &mut Store, words: &str) -> Result<()> {
-        let alloc = rt.alloc();
+    fn create(&mut self, alloc: Global, store: &mut Store, words: &str) -> Result<Outcome> {
         let (number, at) = words.split_once(' ').ok_or(anyhow!("a moment"))?;
         let number = number_of(number)?;
         let at = point_of(at)?;
         let entries = std::mem::replace(&mut self.entries, Vec::new(alloc));
-        let log = IoLog::create(alloc, store, number, &head(at, entries))?;
-        self.number = Some(number);
-        self.log = Some(log);
-        Ok(())
+        let made = IoLog::create(alloc, store, number, &head(at, entries));
+        Ok(self.keep(made))
     }
 
     /// Opens a log.
-    pub fn open(&mut self, rt: &HostRuntime, store: &mut Store, words: &str) -> Result<()> {
+    fn open(&mut self, alloc: Global, store: &mut Store, words: &str) -> Result<Outcome> {
         let number = number_of(words)?;
-        match IoLog::open(rt.alloc(), store, number) {
-            Ok(log) => {
-                let point = log.elapsed();
-                self.number = Some(number);
-                self.log = Some(log);
-                answer(rt, Ok(point))
-            }
-            Err(fault) => answer(rt, Err(fault)),
-        }
+        let opened = IoLog::open(alloc, store, number);
+        Ok(self.keep(opened))
+    }
+
+    /// Keeps a log that was made or opened.
+    fn keep(&mut self, made: Result<IoLog, LogFault>) -> Outcome {
+        let log = made?;
+        let point = log.elapsed();
+        self.log = Some(log);
+        Ok(point)
     }
 
     /// Stages a record.
@@ -127,34 +144,31 @@ impl Opened {
         Ok(())
     }
 
-    /// Commits what is staged.
-    pub fn flush(&mut self, rt: &HostRuntime, store: &mut Store) -> Result<()> {
-        let flushed = self.log()?.flush(store);
-        answer(rt, flushed)
-    }
-
     /// Opens the log anew, so that nothing is staged, and cuts it at a point. What the opening read isn't noted.
-    pub fn cut(&mut self, rt: &HostRuntime, store: &mut Store, words: &str) -> Result<()> {
-        let point = point_of(words)?;
-        let number = self.number.ok_or(anyhow!("an open log"))?;
-        let mut log = IoLog::open(rt.alloc(), store, number)?;
+    fn cut(&mut self, alloc: Global, store: &mut Store, words: &str) -> Result<Outcome> {
+        let (number, point) = words.split_once(' ').ok_or(anyhow!("a point"))?;
+        let number = number_of(number)?;
+        let point = point_of(point)?;
+        let mut log = match IoLog::open(alloc, store, number) {
+            Ok(log) => log,
+            Err(fault) => return Ok(Err(fault)),
+        };
         let _ = store.take_longest();
         let cut = log.cut_at(store, point);
         let elapsed = log.elapsed();
         self.log = Some(log);
-        answer(rt, cut.map(|_| elapsed))
+        Ok(cut.map(|_| elapsed))
     }
 
     /// Commits what is staged with an exit: how long the command ran, and its exit value.
-    pub fn finish(&mut self, rt: &HostRuntime, store: &mut Store, words: &str) -> Result<()> {
+    fn finish(&mut self, alloc: Global, store: &mut Store, words: &str) -> Result<Outcome> {
         let (run, value) = words.split_once(' ').ok_or(anyhow!("an exit"))?;
-        let exit = exit(rt.alloc(), point_of(run)?, value.parse::<i32>()?);
+        let exit = exit(alloc, point_of(run)?, value.parse::<i32>()?);
         let log = self.log()?;
         if log.is_complete() {
-            return answer(rt, Err(LogFault::Complete));
+            return Ok(Err(LogFault::Complete));
         }
-        let finished = log.finish(store, &exit);
-        answer(rt, finished)
+        Ok(log.finish(store, &exit))
     }
 
     /// Opens the numbers of a lane of so many lanes.
@@ -183,7 +197,7 @@ impl Opened {
 pub fn view(rt: &HostRuntime, store: &mut Store, words: &str) -> Result<()> {
     let mut view = match LogView::open(rt.alloc(), store, number_of(words)?) {
         Ok(view) => view,
-        Err(fault) => return answer(rt, Err(fault)),
+        Err(fault) => return show(rt, Err(fault)),
     };
     let body = view.body();
     let mut count = 0u64;

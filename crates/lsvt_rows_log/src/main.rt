@@ -2,22 +2,28 @@
 //! is printed where a case asks for it. README.md says which cases there are.
 #![tactic(auto)]
 
+mod faults;
 mod logs;
 mod noting;
 mod records;
+mod script;
+mod shown;
 mod store;
 
 use crate::logs::{Opened, view};
+use crate::script::Script;
 use crate::store::Store;
-use anyhow::Result;
+use anyhow::{Result, anyhow};
+use lsvt_doubles::Plan;
 use std::io::{BufRead, BufReader};
 use std::process::ExitCode;
 
-/// The store of the cases so far, and what is open of it.
+/// The store of the cases so far, what is open of it, and the script that is being read.
 #[derive(Drop)]
 struct Setting {
     store: Store,
     opened: Opened,
+    script: Option<Script>,
 }
 
 impl Setting {
@@ -25,26 +31,45 @@ impl Setting {
     fn new(rt: &HostRuntime) -> Result<Self> {
         let alloc = rt.alloc();
         Ok(Setting {
-            store: store::empty(alloc)?,
+            store: store::empty(alloc, Plan::Whole)?,
             opened: Opened::new(alloc),
+            script: None,
         })
+    }
+
+    /// Takes a line. From `script` to `try` the lines are those of a script, and else each is a case.
+    fn take(&mut self, rt: &HostRuntime, line: String) -> Result<()> {
+        if line.as_str() == "try" {
+            let script = self.script.take().ok_or(anyhow!("a script"))?;
+            return faults::try_script(rt, &script);
+        }
+        if let Some(name) = line.as_str().strip_prefix("script ") {
+            self.script = Some(Script::new(rt.alloc(), name)?);
+            return Ok(());
+        }
+        match &mut self.script {
+            Some(script) => script.add(line),
+            None => self.answer(rt, line.as_str()),
+        }
     }
 
     /// Does one case. A line that is none is printed as it is.
     fn answer(&mut self, rt: &HostRuntime, case: &str) -> Result<()> {
         let alloc = rt.alloc();
         let (word, rest) = case.split_once(' ').unwrap_or((case, ""));
-        let Setting { store, opened } = self;
+        let Setting { store, opened, .. } = self;
         match word {
             "file" => store::put(alloc, store, rest),
             "entry" => opened.add_entry(alloc, rest),
-            "create" => opened.create(rt, store, rest),
-            "open" => opened.open(rt, store, rest),
+            "create" => {
+                opened.call(alloc, store, word, rest)??;
+                Ok(())
+            }
             "append" => opened.append(alloc, rest),
             "many" => opened.append_many(alloc, rest),
-            "flush" => opened.flush(rt, store),
-            "cut" => opened.cut(rt, store, rest),
-            "finish" => opened.finish(rt, store, rest),
+            "open" | "flush" | "cut" | "finish" => {
+                logs::show(rt, opened.call(alloc, store, word, rest)?)
+            }
             "view" => view(rt, store, rest),
             "numbers" => opened.open_numbers(store, rest),
             "draw" => opened.draw(rt, store),
@@ -59,9 +84,10 @@ fn answer_all(rt: &HostRuntime) -> Result<()> {
     let mut setting = Setting::new(rt)?;
     for case in BufReader::new(rt.alloc(), rt.reader())?.lines(rt.alloc()) {
         let case = case?;
-        match case.as_str() {
-            "store" => setting = Setting::new(rt)?,
-            other => setting.answer(rt, other)?,
+        if case.as_str() == "store" {
+            setting = Setting::new(rt)?;
+        } else {
+            setting.take(rt, case)?;
         }
     }
     Ok(())

@@ -23,9 +23,9 @@ const PARTS: [(&str, Part); 10] = [
     ("commit", Part::Commit),
 ];
 
-/// A disk without files.
-pub fn empty(alloc: Global) -> Result<Store> {
-    let disk = Hostile::new(alloc, Plan::Whole).map_err(|_| anyhow!("out of memory"))?;
+/// A disk without files, with this plan of faults.
+pub fn empty(alloc: Global, plan: Plan) -> Result<Store> {
+    let disk = Hostile::new(alloc, plan).map_err(|_| anyhow!("out of memory"))?;
     Ok(Noting::new(disk))
 }
 
@@ -48,10 +48,11 @@ fn owner_of(word: &str) -> Result<Owner> {
     }
 }
 
-/// Makes a file with these bytes.
+/// Makes a file with these bytes, and syncs it.
 fn make(store: &mut Store, f: FileId, bytes: &[u8]) -> Result<(), DiskFault> {
     store.create(f)?;
-    store.write_at(f, 0, bytes)
+    store.write_at(f, 0, bytes)?;
+    store.sync(f)
 }
 
 /// Makes a file: its owner, its part, and the digits of its bytes.

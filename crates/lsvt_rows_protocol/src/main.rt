@@ -2,6 +2,7 @@
 //! word and its arguments, with a space between each; README.md says which.
 #![tactic(auto)]
 
+mod events;
 mod logs;
 mod messages;
 mod words;
@@ -26,6 +27,12 @@ fn answer(rt: &HostRuntime, case: &str) -> Result<()> {
         "lay" => logs::laid(rt, rest),
         "read" => logs::read(rt, rest),
         "mask" => logs::masked(rt, rest),
+        "resume" => logs::resumed(rt, rest),
+        "line" => logs::line_of(rt, rest),
+        "tally" => logs::tallied(rt, rest),
+        "sudo-line" => events::sudo(rt, rest),
+        "json-line" => events::json(rt, rest),
+        "formatted" => events::formatted(rt, rest),
         _ => Ok(println!(rt; "{case}")?),
     }
 }

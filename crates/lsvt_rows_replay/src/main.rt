@@ -3,6 +3,7 @@
 #![tactic(auto)]
 
 mod run;
+mod said;
 mod store;
 
 use anyhow::Result;
@@ -34,6 +35,8 @@ fn answer(rt: &HostRuntime, setting: &mut Setting, case: &str) -> Result<()> {
             Ok(())
         }
         "run" => run::show(rt, &mut setting.disk, setting.fail, rest),
+        "bad" => said::bad(rt, rest),
+        "unfit" => said::find(rt, rest),
         "sum" => run::sum(rt, &mut setting.disk, setting.fail, rest),
         _ => Ok(println!(rt; "{case}")?),
     }

@@ -10,7 +10,7 @@ use std::alloc::Global;
 use std::str;
 
 /// The words of a line, between single spaces: none of an empty one. The word `~` stands for the byte FF.
-fn words_of(alloc: Global, line: &str) -> Result<List<Bytes>, NoMem> {
+pub fn words_of(alloc: Global, line: &str) -> Result<List<Bytes>, NoMem> {
     let mut words = Vec::new(alloc);
     if line.is_empty() {
         return Ok(List::from_vec(words));

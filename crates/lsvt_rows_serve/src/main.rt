@@ -3,6 +3,7 @@
 #![tactic(auto)]
 
 mod disk;
+mod loads;
 mod names;
 mod outside;
 mod run;
@@ -10,6 +11,7 @@ mod script;
 mod show;
 mod tape;
 
+use crate::loads::Loads;
 use crate::names::Names;
 use crate::run::World;
 use crate::script::Scripts;
@@ -17,12 +19,14 @@ use anyhow::Result;
 use std::io::{BufRead, BufReader};
 use std::process::ExitCode;
 
-/// What was read so far: the named bytes, the scripts of the ports, and what else the program is to stand in.
+/// What was read so far: the named bytes, the scripts of the ports, what else the program is to stand in, and the store of
+/// loads.
 #[derive(Drop)]
 struct Setting {
     names: Names,
     scripts: Scripts,
     world: World,
+    loads: Loads,
 }
 
 impl Setting {
@@ -33,6 +37,7 @@ impl Setting {
             names: Names::new(alloc),
             scripts: Scripts::new(alloc),
             world: World::new(alloc)?,
+            loads: Loads::new(alloc)?,
         })
     }
 
@@ -49,6 +54,7 @@ impl Setting {
         let (word, rest) = line.split_once(' ').unwrap_or((line, ""));
         match word {
             "server" => self.renew(rt),
+            "load" => self.loads.answer(rt, rest),
             "let" => self.names.add(alloc, rest),
             "times" => self.names.multiply(alloc, rest),
             "conf" => self.world.add_line(alloc, rest),

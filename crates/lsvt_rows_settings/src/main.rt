@@ -15,6 +15,7 @@ fn answer(rt: &HostRuntime, case: &str) -> Result<()> {
     let (word, rest) = case.split_once(' ').unwrap_or((case, ""));
     match word {
         "settings" => settings::read(rt, rest),
+        "refused" => settings::read_refused(rt, rest),
         "nothing" => words::none(rt),
         "words" => words::read(rt, rest),
         "conversation" => load::conversation(rt, rest),

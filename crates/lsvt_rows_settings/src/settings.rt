@@ -2,7 +2,7 @@
 
 use anyhow::{Result, anyhow};
 use lsv_base::{Bytes, List};
-use lsv_conf::{Conf, Note, read_conf};
+use lsv_conf::{Conf, Note, Refused, RefusedLine, read_conf, refused_lines};
 use percent_encoding::percent_decode;
 use std::alloc::Global;
 use std::str;
@@ -40,13 +40,50 @@ fn show(rt: &HostRuntime, conf: &Conf) -> Result<()> {
     show_lists(rt, &conf.prompts, &conf.notes)
 }
 
-/// The settings of a file, or the line that is refused. Bytes may be written as `%` and two hexadecimal digits.
-pub fn read(rt: &HostRuntime, escaped: &str) -> Result<()> {
-    let alloc = rt.alloc();
+/// The bytes of a text in which some are written as `%` and two hexadecimal digits.
+fn unescaped(alloc: Global, escaped: &str) -> Result<Vec<u8>> {
     let mut bytes = Vec::new(alloc);
     percent_decode(escaped.as_bytes()).append_to(&mut bytes)?;
+    Ok(bytes)
+}
+
+/// The settings of a file, or the line that is refused.
+pub fn read(rt: &HostRuntime, escaped: &str) -> Result<()> {
+    let alloc = rt.alloc();
+    let bytes = unescaped(alloc, escaped)?;
     match read_conf(alloc, bytes.as_slice()) {
         Ok(conf) => show(rt, &conf),
         Err(fault) => Ok(println!(rt; "{fault}")?),
     }
+}
+
+/// Prints a refused line and the reason.
+fn show_refused(rt: &HostRuntime, refused: &RefusedLine) -> Result<()> {
+    print!(rt; "{} ", refused.line)?;
+    match &refused.why {
+        Refused::NotUtf8 => print!(rt; "not UTF-8")?,
+        Refused::NoForm => print!(rt; "no form")?,
+        Refused::NoSection => print!(rt; "no section")?,
+        Refused::Value(wrong) => {
+            let (key, value) = (text(&wrong.key)?, text(&wrong.value)?);
+            print!(rt; "{:?} {key:?} {value:?}", wrong.takes)?;
+        }
+    }
+    Ok(())
+}
+
+/// All lines of a file that are refused, with semicolons between them.
+pub fn read_refused(rt: &HostRuntime, escaped: &str) -> Result<()> {
+    let alloc = rt.alloc();
+    let bytes = unescaped(alloc, escaped)?;
+    let lines = refused_lines(alloc, bytes.as_slice())?;
+    let Some((first, more)) = lines.as_slice().split_first() else {
+        return Ok(println!(rt; "none")?);
+    };
+    show_refused(rt, first)?;
+    for refused in more {
+        print!(rt; "; ")?;
+        show_refused(rt, refused)?;
+    }
+    Ok(println!(rt; "")?)
 }

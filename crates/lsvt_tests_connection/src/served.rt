@@ -227,6 +227,35 @@ fn no_job_is_dropped_or_overtaken_at_a_full_inbox(rt: HostRuntime) -> Result<(),
     Ok(())
 }
 
+/// The place of the first turn that has a job of this connection.
+fn first_turn(played: &Played, seq: u64) -> Option<usize> {
+    played
+        .turns
+        .iter()
+        .position(|turn| turn.iter().any(|job| job.conn.seq == seq))
+}
+
+#[test]
+fn a_link_that_sends_without_pause_holds_up_no_other(rt: HostRuntime) -> Result<(), Fail> {
+    let plan = [
+        Opens(1),
+        Opens(2),
+        Many(1, 9_000),
+        Many(2, 9_000),
+        Opens(3),
+        Sends(3, "a"),
+        Ends(1),
+        Ends(2),
+        Stops,
+    ];
+    let played = play(rt.alloc(), &plan)?;
+    // The links that wait take turns, while the lane has some 70 turns of the first two; the port says after nine of them what
+    // came next.
+    assert!(rt; first_turn(&played, 2).is_some_and(|place| place < 12));
+    assert!(rt; first_turn(&played, 3).is_some_and(|place| place < 40));
+    Ok(())
+}
+
 const LADEN: [Plan; 8] = [
     Opens(1),
     Takes(1, 0),

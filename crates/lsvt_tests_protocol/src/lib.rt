@@ -1,4 +1,4 @@
-//! Tests of the foundation and of the crates of the protocol, by their public calls alone.
+//! Tests of the foundation and of the crates of the protocol and of log content, by their public calls alone.
 #![tactic(auto)]
 
 #[cfg(test)]
@@ -7,5 +7,9 @@ mod base;
 mod info;
 #[cfg(test)]
 mod msg;
+#[cfg(test)]
+mod record;
+#[cfg(test)]
+mod request;
 #[cfg(test)]
 mod wire;

@@ -1,4 +1,4 @@
-//! Tests of the storage crates and of the real disk, by their public calls alone.
+//! Tests of the storage crates, of log numbers, event logs and logs, by their public calls alone.
 #![tactic(auto)]
 
 mod together;
@@ -12,10 +12,10 @@ mod bundle;
 #[cfg(test)]
 mod disk;
 #[cfg(test)]
+mod events;
+#[cfg(test)]
 mod journal;
 #[cfg(test)]
-mod made;
+mod logs;
 #[cfg(test)]
-mod port;
-#[cfg(test)]
-mod real;
+mod numbers;

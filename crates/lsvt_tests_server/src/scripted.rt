@@ -1,0 +1,92 @@
+//! A post whose messages are fixed beforehand, and a clock that stands still.
+
+ghost use Rattle.lsvt_tests_server.specs.Nothing.{no_port};
+
+use lsv_base::{Clock, TimeSpec};
+use lsv_reactor::{Post, PostEnd};
+use lsv_server::{Notices, Site};
+use lsv_session::{Body, ConnId, Job, Reply, ReplyBody};
+
+/// A clock that stands still.
+#[derive(Drop)]
+pub(crate) struct Still;
+
+impl Clock for Still {
+    fn now(&mut self) -> TimeSpec {
+        TimeSpec {
+            sec: 1_700_000_000,
+            nsec: 0,
+        }
+    }
+}
+
+/// Keeps how often a server told that it serves, and the last log number that it named then.
+#[derive(Drop)]
+pub(crate) struct Heard {
+    pub times: u32,
+    pub last: u32,
+}
+
+impl Notices for Heard {
+    fn serving(&mut self, _site: &Site<'_>, last: u32) {
+        self.times = self.times.saturating_add(1);
+        self.last = last;
+    }
+}
+
+/// One connection that brings these, the last first and one at a time, and counts what it is told.
+#[derive(Drop)]
+pub(crate) struct Scripted {
+    pub number: u32,
+    pub bodies: Vec<Body>,
+    pub said: u32,
+    pub is_shut: bool,
+}
+
+impl Post for Scripted {
+    ghost tells = { ⊥ };
+
+    ghost Start = { Unit {0} };
+
+    ghost begun = { λ _. no_port };
+
+    ghost view = { λ _. no_port };
+
+    ghost number = { λ p. p.number };
+
+    ghost made_by = { λ _ _ _ _. Unit {0} };
+
+    fn open(&mut self, _address: &str, _stop_after: Option<u32>) -> bool {
+        true
+    }
+
+    fn wait(&mut self, jobs: &mut Vec<Job>) {
+        if let Some(body) = self.bodies.pop() {
+            let conn = ConnId {
+                worker: self.number,
+                seq: 1,
+            };
+            let _ = jobs.push(Job { conn, body });
+        }
+    }
+
+    fn push(&mut self, _jobs: &mut Vec<Job>) {}
+
+    fn take(&mut self, reply: Reply) {
+        match reply.body {
+            ReplyBody::Say(_) => self.said = self.said.saturating_add(1),
+            ReplyBody::Shut => self.is_shut = true,
+        }
+    }
+
+    fn end(&self) -> Option<PostEnd> {
+        if self.bodies.is_empty() && self.is_shut {
+            return Some(PostEnd::Stopped);
+        }
+        None
+    }
+
+    fn stop(&mut self) {
+        self.bodies.clear();
+    }
+}
