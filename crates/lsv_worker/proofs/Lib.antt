@@ -7,6 +7,7 @@ pub mod Speaking
 pub mod Linking
 pub mod Ruling
 pub mod Tables
+pub mod Order
 mod Reading
 pub mod Passing
 pub mod Notes

@@ -1,6 +1,6 @@
 //! A worker over its port.
 
-ghost use Rattle.std.specs.Prelude.{◌+◌, ◌-◌, ◌^◌, ◌≡◌, ◌≢◌, ◌⊎◌, ℕ, ◌<◌, ◌≤◌, ◌==◌, ◌++◌, ◌∷◌, List, [], length, IfOk, Some, None, true, false, slice_index_or, vec_capacity, vec_len};
+ghost use Rattle.std.specs.Prelude.{◌+◌, ◌-◌, ◌^◌, ◌≡◌, ◌≢◌, ◌⊎◌, ℕ, ◌<◌, ◌≤◌, ◌==◌, ◌++◌, ◌∷◌, List, [], length, IfOk, Some, None, true, false, slice_index_or, vec_capacity, vec_len, drop, take};
 ghost use Rattle.std.specs.List.{Contains};
 ghost use Rattle.lsv_port.specs.Ledger.{Continues};
 ghost use Rattle.lsv_port.specs.Port.{IsOpen, Opens, PortState, Told};
@@ -101,6 +101,44 @@ fn hold(link: &Link, held: &mut Vec<u32>)
     if link.pause != Pause::Calm {
         let _ = held.push(link.number);
     }
+}
+
+/// The first link from this place on that waits for room in its lane.
+fn full_from(links: &[Link], from: usize) -> Option<usize>
+    ensures { (i : ℕ) → result ≡ Some i → i < length links.now }
+{
+    for place in from..links.len() {
+        if links[place].pause == Pause::Full {
+            return Some(place);
+        }
+    }
+    None
+}
+
+/// How many links go to the end of the table before the next pass. Where two wait for room, the first of them comes first of
+/// all; if it did so in the last pass, it had all the room, and the second comes first.
+fn count_served(links: &[Link]) -> usize
+    ensures { result ≤ length links.now }
+{
+    let Some(first) = full_from(links, 0) else {
+        return 0;
+    };
+    let Some(second) = full_from(links, first + 1) else {
+        return 0;
+    };
+    if first > 0 {
+        return first;
+    }
+    second
+}
+
+/// The first links of a table, so many, go to its end.
+fn rotate(links: &mut Vec<Link>, count: usize)
+    requires within { count ≤ length links.old.items }
+    ensures items { links.new.items ≡ drop count links.old.items ++ take count links.old.items }
+    ensures size { vec_len links.new ≡ vec_len links.old }
+{
+    links.rotate_left(count);
 }
 
 /// The connections of which nothing more comes are forgotten.
@@ -541,8 +579,47 @@ impl Worker {
         }
     }
 
-    /// Each link is tried, and those of which nothing more comes are forgotten.
+    /// Each link is tried, and those of which nothing more comes are forgotten. A link that fills the inbox in each pass holds
+    /// up no other: those that found no room come before it in the next one.
     fn pass<P: Port, I: Inbox>(&mut self, port: &mut P, inbox: &mut I)
+        requires fit { IsFit self.old }
+        requires lanes { I.lanes inbox.old ≡ self.old.lanes }
+        requires at { P.tells → IsAt self.old (P.state port.old) }
+        ensures fit { IsFit self.new }
+        ensures set { setting self.new ≡ setting self.old }
+        ensures goes { P.tells → Goes self.old self.new (P.state port.old) (P.state port.new) (I.jobs inbox.old) (I.jobs inbox.new) }
+        ensures owed { P.tells → reads_in self.old.phase ≡ true → HoldsOwed self.new (P.state port.new) }
+        ensures reads { P.tells → (l : ℕ) → WasReadAtMost 16 ((P.state port.old).link l) ((P.state port.new).link l) }
+        ensures laden { P.tells → self.new.phase ≡ Phase.Going → AreSpared self.new.links.items (P.state port.old) (P.state port.new) }
+        ensures unread { P.tells → reads_in self.old.phase ≡ false → ReadsNone (P.state port.old) (P.state port.new) }
+        ensures written { P.tells → IsWritten self.new.links.items (P.state port.new) }
+        ensures held { P.tells → (l : ℕ) → Contains (held_by self.new) l → IsHeldFor self.new l (P.state port.old) (P.state port.new) (I.refused inbox.old) (I.refused inbox.new) }
+        ensures rules { P.tells → KeepRules self.new.phase self.old.links.items self.new.links.items (P.state port.old) (P.state port.new) }
+        ensures stopped { self.old.phase ≡ Phase.Stopped → (m : ℕ) → I.jobs inbox.new m ≡ I.jobs inbox.old m }
+        ensures blame { P.tells → HasBlame (P.state port.old) (P.ledger port.old) (P.state port.new) (P.ledger port.new) }
+        ensures continues { Continues (P.ledger port.old) (P.ledger port.new) }
+        ensures counts { (m : ℕ) → I.refused inbox.old m ≤ I.refused inbox.new m }
+        ensures lanes { I.lanes inbox.new ≡ I.lanes inbox.old }
+        ensures same { I.is_same inbox.old inbox.new }
+    {
+        self.reorder();
+        self.pass_in_order(port, inbox);
+    }
+
+    /// The links that found no room in the last pass come first in the next one.
+    fn reorder(&mut self)
+        requires fit { IsFit self.old }
+        ensures fit { IsFit self.new }
+        ensures set { setting self.new ≡ setting self.old }
+        ensures stands { (port : PortState) (jobs : ℕ → List Job) (replies : List Reply) → Represents self.old port jobs replies → Represents self.new port jobs replies }
+        ensures has { (link : Link) → Contains self.old.links.items link → Contains self.new.links.items link }
+    {
+        let count = count_served(&self.links);
+        rotate(&mut self.links, count);
+    }
+
+    /// Each link is tried, in the order of the table, and those of which nothing more comes are forgotten.
+    fn pass_in_order<P: Port, I: Inbox>(&mut self, port: &mut P, inbox: &mut I)
         requires fit { IsFit self.old }
         requires lanes { I.lanes inbox.old ≡ self.old.lanes }
         requires at { P.tells → IsAt self.old (P.state port.old) }
