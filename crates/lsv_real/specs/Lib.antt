@@ -2,3 +2,5 @@ pub mod Untold
 pub mod Places
 pub mod UntoldPort
 pub mod Made
+pub mod Drawn
+pub mod Misplaced

@@ -3,11 +3,10 @@ ghost use Rattle.std.specs.Prelude.{◌≤◌, ◌≡◌, IfOk, OnErr};
 ghost use Rattle.lsv_words.specs.Causes.{HasRisen};
 ghost use Rattle.lsv_real.specs.Untold.{untold};
 
-use crate::call::Call;
-use crate::foreign::{Foreign, foreign_at};
-use crate::store::{Store, StoreFault};
+use crate::call::{Call, CallFault};
+use crate::refusal::{is_refused, report_no_store, warn_of_places};
+use crate::store::Store;
 use lsv_disk::{Disk, DiskFault, FileId, Owner, Part};
-use std::io;
 use std::io::ErrorKind;
 
 /// The disk of the operating system. Until `root` has the store's lock each call is a fault, and makes nothing.
@@ -38,7 +37,7 @@ impl FileDisk {
         &mut self,
         f: FileId,
         call: Call,
-        answer: io::Result<T>,
+        answer: Result<T, CallFault>,
     ) -> Result<T, DiskFault>
         ensures ok { IfOk result (λ t. answer ≡ Ok t) }
         ensures counts { self.old.faults ≤ self.new.faults }
@@ -55,43 +54,28 @@ impl FileDisk {
     }
 
     /// Says on standard error what failed. Why there is no store was said by `root`.
-    fn tell(&self, f: FileId, call: Call, e: &io::Error) {
+    fn tell(&self, f: FileId, call: Call, fault: &CallFault) {
         let program = self.program;
         let Some(store) = &self.store else {
             return;
         };
-        let _ = match store.place_of(f) {
-            Ok(place) => {
+        let _ = match (store.place_of(f), fault) {
+            (Ok(place), CallFault::Io(e)) => {
                 let path = place.path.as_str();
                 eprintln!(self.rt; "{program}: {path}: {call}: {e}")
             }
-            Err(_) => eprintln!(self.rt; "{program}: the store: {call}: {e}"),
+            (Ok(place), CallFault::FolderExists) => {
+                let folder = place.folder.as_str();
+                eprintln!(self.rt;
+                    "{program}: {folder}: create: this folder of a new log exists, so the number file is older than the store: nothing in it is changed; end the server, and put seq2 back from a newer copy"
+                )
+            }
+            (Err(_), CallFault::Io(e)) => eprintln!(self.rt; "{program}: the store: {call}: {e}"),
+            (Err(_), CallFault::FolderExists) => {
+                eprintln!(self.rt; "{program}: the store: {call}: the folder exists")
+            }
         };
     }
-}
-
-/// Whether another program's files stand where the store is to be, or it can't be seen whether they do. Both are told on
-/// standard error, with what to do.
-fn is_foreign(rt: &HostRuntime, program: &str, dir: &str, events: &str) -> bool {
-    match foreign_at(rt, rt.alloc(), dir, events) {
-        Ok(None) => return false,
-        Ok(Some(Foreign::Logs)) => {
-            let _ = eprintln!(rt;
-                "{program}: {dir}: sudo's own programs keep their logs here, as its file seq shows: nothing is changed; let iolog_dir be another folder"
-            );
-        }
-        Ok(Some(Foreign::Events)) => {
-            let _ = eprintln!(rt;
-                "{program}: {events}: it has lines, and no journal {events}.slots beside it: nothing is changed; move it away, or let path of [logfile] be another file"
-            );
-        }
-        Err(e) => {
-            let _ = eprintln!(rt;
-                "{program}: {dir}, {events}: look: {e}: let who runs the server own both, or iolog_dir and path of [logfile] be places of its own"
-            );
-        }
-    }
-    true
 }
 
 impl Disk for FileDisk {
@@ -111,21 +95,13 @@ impl Disk for FileDisk {
         // An earlier store lets go of its lock, also where there is no other.
         self.store = None;
         let program = self.program;
-        if is_foreign(&self.rt, program, dir, events) {
+        warn_of_places(&self.rt, program, dir, events);
+        if is_refused(self.rt, program, dir, events) {
             return;
         }
-        match Store::open(self.rt, dir, events) {
+        match Store::open(self.rt, program, dir, events) {
             Ok(store) => self.store = Some(store),
-            Err(StoreFault::InUse) => {
-                let _ = eprintln!(self.rt;
-                    "{program}: {dir}: lock: another server uses this store"
-                );
-            }
-            Err(StoreFault::Io(e)) => {
-                let _ = eprintln!(self.rt;
-                    "{program}: {dir}: lock: {e}: let who runs the server own it, or iolog_dir be a folder of its own"
-                );
-            }
+            Err(fault) => report_no_store(&self.rt, program, dir, events, &fault),
         }
     }
 
@@ -138,19 +114,20 @@ impl Disk for FileDisk {
     }
 
     fn create_all(&mut self, owner: Owner, parts: &[Part]) -> Result<(), DiskFault> {
-        let [first, ..] = parts else {
-            return Ok(());
-        };
         let answer = match &mut self.store {
             Some(store) => store.make_all(owner, parts),
             None => Err(ErrorKind::NotFound.into()),
+        };
+        let [first, ..] = parts else {
+            // No file was asked for, so none is at fault.
+            return Ok(());
         };
         self.told(FileId::new(owner, *first), Call::Create, answer)
     }
 
     fn length(&mut self, f: FileId) -> Result<Option<u64>, DiskFault> {
         let answer = match &mut self.store {
-            Some(store) => store.length(f),
+            Some(store) => store.length(f).map_err(CallFault::Io),
             None => Err(ErrorKind::NotFound.into()),
         };
         self.told(f, Call::Length, answer)
@@ -158,7 +135,7 @@ impl Disk for FileDisk {
 
     fn read_at(&mut self, f: FileId, at: u64, buf: &mut [u8]) -> Result<usize, DiskFault> {
         let answer = match &mut self.store {
-            Some(store) => store.read(f, at, buf),
+            Some(store) => store.read(f, at, buf).map_err(CallFault::Io),
             None => Err(ErrorKind::NotFound.into()),
         };
         self.told(f, Call::Read, answer)
@@ -174,7 +151,7 @@ impl Disk for FileDisk {
 
     fn sync(&mut self, f: FileId) -> Result<(), DiskFault> {
         let answer = match &mut self.store {
-            Some(store) => store.sync(f),
+            Some(store) => store.sync(f).map_err(CallFault::Io),
             None => Err(ErrorKind::NotFound.into()),
         };
         self.told(f, Call::Sync, answer)

@@ -130,10 +130,27 @@ impl Folders {
             return Ok(false);
         }
         match self.make_in(folder, parent) {
-            Ok(()) => Ok(true),
+            Ok(_) => Ok(true),
             Err(e) if e.kind() == ErrorKind::NotFound => Ok(false),
             Err(e) => Err(e),
         }
+    }
+
+    /// Makes a folder that doesn't exist yet, and those above it that are missing. False if it exists: nothing is made then.
+    /// Their names are on the disk once `sync_names` was called.
+    pub fn make_new(&mut self, folder: &str) -> io::Result<bool> {
+        let Some((parent, _)) = folder.rsplit_once('/') else {
+            return Err(ErrorKind::InvalidInput.into());
+        };
+        if self.synced.contains(parent) {
+            match self.make_in(folder, parent) {
+                Err(e) if e.kind() == ErrorKind::NotFound => {}
+                answer => return answer,
+            }
+        }
+        self.make(parent)?;
+        let _ = File::open(&self.rt, parent)?;
+        self.make_in(folder, parent)
     }
 
     /// Makes a folder that isn't there, and none in a parent that may not be opened, and so not be synced.
@@ -144,17 +161,19 @@ impl Folders {
         let _ = File::open(&self.rt, parent)?;
         // Another server, which wants the same store, may be faster.
         self.change(parent);
-        self.make_in(folder, parent)
+        let _ = self.make_in(folder, parent)?;
+        Ok(())
     }
 
-    /// Makes a folder, where it isn't there, in a parent that may be synced.
-    fn make_in(&mut self, folder: &str, parent: &str) -> io::Result<()> {
+    /// Makes a folder in a parent that may be synced. False if it exists.
+    fn make_in(&mut self, folder: &str, parent: &str) -> io::Result<bool> {
         match DirBuilder::new().mode(MODE).create(&self.rt, folder) {
             Ok(()) => {
                 self.change(parent);
-                self.set_mode(folder, parent)
+                self.set_mode(folder, parent)?;
+                Ok(true)
             }
-            Err(e) if e.kind() == ErrorKind::AlreadyExists => Ok(()),
+            Err(e) if e.kind() == ErrorKind::AlreadyExists => Ok(false),
             Err(e) => Err(e),
         }
     }

@@ -1,5 +1,8 @@
-// Places that another program filled.
+// Places that another program filled, or cut.
+use crate::read_only::ReadOnlyDisk;
 use lsv_base::LogNo;
+use lsv_disk::{Disk, FileId, Owner, Part};
+use lsv_journal::Journal;
 use std::alloc::Global;
 use std::fs::{self, File};
 use std::io;
@@ -36,6 +39,32 @@ pub fn foreign_at(
     ) {
         (None, None) => Ok(Some(Foreign::Events)),
         _ => Ok(None),
+    }
+}
+
+/// Where the body of an event log's journal has the length of its lines.
+const LENGTH_AT: usize = 17;
+
+/// Whether the event log begins with a byte of 0, and its journal says that it has lines: none begins so. Another program
+/// has cut it while a server ran, which wrote its next line at the place where it would have stood. Nothing is changed.
+pub fn was_cut(
+    rt: HostRuntime,
+    program: &'static str,
+    dir: &str,
+    events: &str,
+) -> io::Result<bool> {
+    if length_of(&rt, events)?.is_none_or(|length| length == 0)
+        || first_bytes(&rt, events)?.first() != Some(&0)
+    {
+        return Ok(false);
+    }
+    let mut disk = ReadOnlyDisk::new(rt, program);
+    disk.root(dir, events);
+    let journal = FileId::new(Owner::Events(0), Part::Slots);
+    match Journal::<89>::view(&mut disk, journal) {
+        Ok(Some(body)) => Ok(body[LENGTH_AT..LENGTH_AT + 8].iter().any(|byte| *byte != 0)),
+        Ok(None) => Ok(false),
+        Err(_) => Err(ErrorKind::Other.into()),
     }
 }
 

@@ -1,4 +1,6 @@
 // How large the system lets a file of this process become, and how many descriptors it lets it have.
+ghost use Rattle.std.specs.Prelude.{◌≡◌, ◌-◌, ◌≤◌, max, min, nat_lt, if◌then◌else◌};
+
 use libc::types::rlimit;
 use std::io;
 use std::io::ErrorKind;
@@ -18,9 +20,43 @@ fn limit_of(resource: i32) -> u64 {
     limit.rlim_cur
 }
 
-/// How many descriptors this process may have open.
+/// How many descriptors this process may have open, as its limit is set now.
 pub fn most_descriptors() -> u64 {
     limit_of(RLIMIT_NOFILE)
+}
+
+/// At most this many files of the store are kept open: a log has nine, and a process has 1,024 descriptors by default.
+const MOST_FILES: u64 = 512;
+
+/// And at least this many, so that a log can be made.
+const FEWEST_FILES: u64 = 16;
+
+/// Descriptors of what is neither a file of the store nor a link: standard streams, sockets, locks, folders.
+const OTHERS: u64 = 64;
+
+/// With fewer descriptors no client can be served.
+const FEWEST: u64 = 32;
+
+/// How many files of the store may be open under a limit of descriptors.
+pub fn files_within(limit: u64) -> usize
+    ensures { result ≡ max (min (limit - 64) 512) 16 }
+{
+    limit
+        .saturating_sub(OTHERS)
+        .min(MOST_FILES)
+        .max(FEWEST_FILES) as usize
+}
+
+/// How many clients can be served at once under a limit of descriptors: those beside the files of the store, and one as long as
+/// any can be served.
+pub fn clients_within(limit: u64) -> u64
+    ensures { result ≡ (if nat_lt limit 32 then 0 else max (limit - 576) 1) }
+{
+    if limit < FEWEST {
+        0
+    } else {
+        limit.saturating_sub(OTHERS + MOST_FILES).max(1)
+    }
 }
 
 /// The most bytes that this process may give a file. The system kills a process that writes past it, and the kit has no

@@ -151,7 +151,7 @@ fn numbers_place(alloc: Global, dir: &str, name: &str, lane: u32) -> Result<Plac
 }
 
 /// The folder in which the file of a path stands.
-fn folder_of(path: &str) -> &str
+pub fn folder_of(path: &str) -> &str
     ensures { IsFolderOf path.now result.now }
 {
     match path.rsplit_once('/') {

@@ -6,9 +6,11 @@ ghost use Rattle.lsv_real.specs.UntoldPort.{untold_port, ledger_of};
 mod accepted;
 mod address;
 mod door;
+mod turned_away;
 mod wakes;
 
 use accepted::Accepted;
+use address::advice;
 use door::Door;
 use lsv_port::{Gave, Port, PortFault, Ready, Took};
 use std::alloc::{AllocError, Global};
@@ -17,6 +19,7 @@ use std::io;
 use std::io::ErrorKind;
 use std::net::{Net, SocketAddr};
 use std::sync::Arc;
+use turned_away::TurnedAway;
 use wakes::Wakes;
 
 /// The port of the operating system. All ports of a program share one listening socket, at which the first that
@@ -35,6 +38,7 @@ pub struct MioPort<N: Net + Drop> {
     last: u32,
     /// A turn tells Stop once so many links of all ports were closed.
     stop_after: Option<u32>,
+    turned_away: TurnedAway,
     faults: Faults,
 }
 
@@ -73,6 +77,7 @@ impl<N: Net + Drop> MioPort<N> {
             links: HashMap::new(rt.alloc()),
             last: 0,
             stop_after: None,
+            turned_away: TurnedAway::new(),
             faults: Faults { turns: 0, links: 0 },
         }
     }
@@ -150,8 +155,31 @@ impl<N: Net + Drop> MioPort<N> {
         }
     }
 
-    /// A failure of the port as a whole is counted, and told.
-    fn checked<T: Drop>(&mut self, what: &str, answer: io::Result<T>) -> Result<T, PortFault>
+    /// Says that a link was turned away, at most once a minute.
+    fn report_turned_away(&mut self, accepted: &Accepted)
+        ensures { self.new.faults ≡ self.old.faults }
+    {
+        if !self.turned_away.is_due(&self.rt) {
+            return;
+        }
+        let Some(peer) = accepted.peer() else {
+            return;
+        };
+        let program = self.program;
+        let others = self.door.open();
+        let port = self.local_addr().map_or(0, |address| address.port());
+        let _ = eprintln!(self.rt;
+            "{program}: {others} clients are connected, {peer} was turned away; see who they are by ss -tn 'sport = :{port}'"
+        );
+    }
+
+    /// A failure of the port as a whole is counted, and told with what to do.
+    fn checked<T: Drop>(
+        &mut self,
+        what: &str,
+        todo: &str,
+        answer: io::Result<T>,
+    ) -> Result<T, PortFault>
         ensures ok { IfOk result (λ t. answer ≡ Ok t) }
         ensures turns { self.old.faults.turns ≤ self.new.faults.turns }
         ensures links { self.new.faults.links ≡ self.old.faults.links }
@@ -161,7 +189,7 @@ impl<N: Net + Drop> MioPort<N> {
             Ok(t) => Ok(t),
             Err(e) => {
                 let program = self.program;
-                let _ = eprintln!(self.rt; "{program}: {what}: {e}");
+                let _ = eprintln!(self.rt; "{program}: {what}: {e}{todo}");
                 self.faults.turns = self.faults.turns.saturating_add(1);
                 Err(PortFault)
             }
@@ -190,12 +218,16 @@ impl<N: Net + Drop> Port for MioPort<N> {
     fn listen(&mut self, address: &str, stop_after: Option<u32>) -> Result<(), PortFault> {
         self.stop_after = stop_after;
         let answer = self.start(address);
-        self.checked(address, answer)
+        let todo = match &answer {
+            Ok(()) => "",
+            Err(e) => advice(e),
+        };
+        self.checked(address, todo, answer)
     }
 
     fn turn(&mut self, held: &[u32]) -> Result<Ready, PortFault> {
         let answer = self.next(held);
-        self.checked("the port", answer)
+        self.checked("the port", "", answer)
     }
 
     fn read(&mut self, link: u32, buf: &mut [u8]) -> Took {
@@ -225,8 +257,12 @@ impl<N: Net + Drop> Port for MioPort<N> {
     }
 
     fn close(&mut self, link: u32) {
-        if self.links.remove(&link).is_some() {
-            self.door.count_closed();
+        let Some(accepted) = self.links.remove(&link) else {
+            return;
+        };
+        self.door.count_closed();
+        if !accepted.was_used() {
+            self.report_turned_away(&accepted);
         }
     }
 }

@@ -5,6 +5,7 @@ ghost use Rattle.lsv_real.specs.Untold.{untold};
 
 use crate::call::Call;
 use crate::foreign::{Foreign, foreign_at};
+use crate::look::no_store_in;
 use crate::opened::Opened;
 use lsv_disk::{Disk, DiskFault, FileId, Owner, Part};
 use std::io;
@@ -118,6 +119,12 @@ impl Disk for ReadOnlyDisk {
         if let Ok(Some(Foreign::Logs)) = foreign_at(&self.rt, self.rt.alloc(), dir, events) {
             let _ = eprintln!(self.rt;
                 "{program}: {dir}: sudo's own programs keep their logs here, as its file seq shows: let sudo's own sudoreplay show them, or -d name the folder of this server's logs"
+            );
+            return;
+        }
+        if let Ok(Some(reason)) = no_store_in(&self.rt, dir) {
+            let _ = eprintln!(self.rt;
+                "{program}: {dir}: {reason}; -d names the folder of the logs"
             );
             return;
         }

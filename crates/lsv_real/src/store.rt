@@ -2,9 +2,12 @@
 ghost use Rattle.std.specs.Prelude.{◌≤◌, IfOk, length};
 
 use crate::bounded::bounded;
+use crate::call::CallFault;
+use crate::drawn::{Uncovered, find_uncovered};
 use crate::folders::Folders;
 use crate::handle::Handle;
-use crate::limit::SizeLimit;
+use crate::limit::{SizeLimit, files_within, most_descriptors};
+use crate::lock::{EventsLocks, LockFault, lock_file, lock_folder, make_file, open_file, set_mode};
 use crate::made::{InodeTable, Made, NewFile};
 use crate::path::{Place, Places, joined, log_name};
 use crate::unsynced::Unsynced;
@@ -12,41 +15,83 @@ use lru::LruCache;
 use lsv_disk::{FileId, Owner, Part};
 use std::alloc::{AllocError, Global};
 use std::collections::HashMap;
-use std::fs::{File, Metadata, OpenOptions, Permissions, TryLockError};
+use std::fmt::Display;
+use std::fs::File;
 use std::io::ErrorKind;
-use std::os::unix::fs::{MetadataExt, OpenOptionsExt, PermissionsExt};
-use std::{fs, io};
-
-/// So many files are kept open: a log has nine, and a process has 1,024 descriptors by default.
-const MOST_OPEN: usize = 512;
+use std::os::unix::fs::MetadataExt;
+use std::{fmt, fs, io};
 
 /// How a file of slots begins that has no entry.
 const CLOSED_GATE: &[u8] = &[0];
-
-/// Whoever runs the server may read and write its files, and nobody else.
-const MODE: u32 = 0o600;
-
-/// The bits of a file's mode that tell who may do what.
-const ALL_BITS: u32 = 0o777;
 
 /// Why a store can't be used.
 #[derive(Drop)]
 pub enum StoreFault {
     /// Another server has its lock.
     InUse,
-    Io(io::Error),
+    /// Another server has the lock of the event log.
+    EventsInUse,
+    /// There is a log that the number files don't cover.
+    Uncovered(Uncovered),
+    /// A step of opening it failed.
+    Io(Step, io::Error),
 }
 
-impl From<io::Error> for StoreFault {
-    fn from(e: io::Error) -> Self {
-        StoreFault::Io(e)
+/// A step of opening a store.
+#[derive(Clone, Copy)]
+pub enum Step {
+    /// Making the folder of the logs and those above it.
+    Make,
+    /// Syncing their names.
+    Sync,
+    /// Taking a lock.
+    Lock,
+    /// Reading the number files, and looking for the greatest log.
+    Look,
+    /// Anything in memory.
+    Prepare,
+}
+
+impl Display for Step {
+    fn fmt<W: fmt::Write>(&self, f: &mut fmt::Formatter<W>) -> fmt::Result {
+        f.write_str(match self {
+            Step::Make => "make",
+            Step::Sync => "sync",
+            Step::Lock => "lock",
+            Step::Look => "look",
+            Step::Prepare => "open",
+        })
     }
 }
 
 impl From<AllocError> for StoreFault {
     fn from(e: AllocError) -> Self {
-        StoreFault::Io(e.into())
+        StoreFault::Io(Step::Prepare, e.into())
     }
+}
+
+/// The fault of a step of opening a store.
+fn of_step<T>(step: Step, answer: io::Result<T>) -> Result<T, StoreFault> {
+    match answer {
+        Ok(t) => Ok(t),
+        Err(e) => Err(StoreFault::Io(step, e)),
+    }
+}
+
+/// The fault of a lock that wasn't taken.
+fn of_lock<T>(held: StoreFault, answer: Result<T, LockFault>) -> Result<T, StoreFault> {
+    match answer {
+        Ok(t) => Ok(t),
+        Err(LockFault::Held) => Err(held),
+        Err(LockFault::Io(e)) => Err(StoreFault::Io(Step::Lock, e)),
+    }
+}
+
+/// Whether a file is made alone, or files of an owner together, as when a log begins.
+#[derive(Clone, Copy, PartialEq, Eq)]
+enum Making {
+    Alone,
+    Together,
 }
 
 /// The files of a store. While it stands, nobody else has its lock.
@@ -57,33 +102,60 @@ pub struct Store {
     places: Places,
     folders: Folders,
     handles: LruCache<FileId, Handle>,
+    /// This many of them at most.
+    most_open: usize,
     /// What was written to files that are closed, and could not be synced.
     left: HashMap<FileId, Unsynced>,
     /// Whose folder was looked for, and whether it is there, by the last calls, which all asked for lengths.
     looked: Option<(Owner, bool)>,
+    /// The log of which every file existed when it was to be made: nothing is written to it.
+    found_whole: Option<Owner>,
     limit: SizeLimit,
-    _lock: File,
+    events_locks: EventsLocks,
+    _folder_lock: File,
+    _file_lock: File,
 }
 
 impl Store {
-    /// Makes the folder of the logs where it is lacking, and takes the lock in it.
-    pub fn open(rt: HostRuntime, dir: &str, events: &str) -> Result<Store, StoreFault> {
+    /// Makes the folder of the logs where it is missing, takes its lock, and looks whether the number files cover its logs; then
+    /// it takes the lock of the event log. If it fails, no file of the store is changed. What can't be read of the number files
+    /// is told on standard error, under the program's name.
+    pub fn open(
+        rt: HostRuntime,
+        program: &'static str,
+        dir: &str,
+        events: &str,
+    ) -> Result<Store, StoreFault> {
         let alloc = rt.alloc();
         let places = Places::new(alloc, dir, events)?;
-        let mut folders = Folders::new(rt)?;
-        folders.make(dir)?;
-        folders.sync_names(dir)?;
-        let lock = take_lock(&rt, alloc, dir)?;
+        let mut folders = of_step(Step::Prepare, Folders::new(rt))?;
+        of_step(Step::Make, folders.make(dir))?;
+        of_step(Step::Sync, folders.sync_names(dir))?;
+        let folder_lock = of_lock(StoreFault::InUse, lock_folder(&rt, dir))?;
+        if let Some(log) = of_step(Step::Look, find_uncovered(rt, program, &places))? {
+            return Err(StoreFault::Uncovered(log));
+        }
+        let file_lock = of_lock(StoreFault::InUse, lock_file(&rt, alloc, dir))?;
+        let mut events_locks = EventsLocks::new(rt, alloc);
+        of_lock(
+            StoreFault::EventsInUse,
+            events_locks.take_found(alloc, &places),
+        )?;
+        let most_open = files_within(most_descriptors());
         Ok(Store {
             rt,
             alloc,
             places,
             folders,
-            handles: bounded(alloc, MOST_OPEN)?,
+            handles: of_step(Step::Prepare, bounded(alloc, most_open))?,
+            most_open,
             left: HashMap::new(alloc),
             looked: None,
+            found_whole: None,
             limit: SizeLimit::now(),
-            _lock: lock,
+            events_locks,
+            _folder_lock: folder_lock,
+            _file_lock: file_lock,
         })
     }
 
@@ -96,23 +168,32 @@ impl Store {
     }
 
     /// Makes an empty file, and waits until it and its folder are on the disk.
-    pub fn make(&mut self, f: FileId) -> io::Result<()> {
+    pub fn make(&mut self, f: FileId) -> Result<(), CallFault> {
         let folder = self.place_of(f)?.folder;
-        let made = self.make_and_sync(folder.as_str(), f.owner, &[f.part], false);
+        let made = self.make_and_sync(folder.as_str(), f.owner, &[f.part], Making::Alone);
         self.seen_through(f.owner, &[f.part], made)
     }
 
     /// Makes files of one owner, which all stand in one folder, and waits until they and that folder are on the disk. A file
     /// of slots begins with its gate. Files are synced before the folder: where a file system has a journal, one transaction
-    /// takes all of it then, and the syncs of folders behind it find nothing to write.
-    pub fn make_all(&mut self, owner: Owner, parts: &[Part]) -> io::Result<()> {
+    /// takes all of it then, and the syncs of folders behind it find nothing to write. The folder of a log is made too: if it
+    /// exists, another log may stand in it, and nothing in it is changed.
+    pub fn make_all(&mut self, owner: Owner, parts: &[Part]) -> Result<(), CallFault> {
         let [first, ..] = parts else {
+            self.note_whole(owner);
             return Ok(());
         };
         let folder = self.place_of(FileId::new(owner, *first))?.folder;
-        let begins = parts.contains(&Part::Slots);
-        let made = self.make_and_sync(folder.as_str(), owner, parts, begins);
+        let made = self.make_and_sync(folder.as_str(), owner, parts, Making::Together);
         self.seen_through(owner, parts, made)
+    }
+
+    /// None of an owner's files was absent when it was to be made. If it is a log, each later write to it is a fault, until
+    /// that is so of another one.
+    fn note_whole(&mut self, owner: Owner) {
+        if let Owner::Log(_) = owner {
+            self.found_whole = Some(owner);
+        }
     }
 
     /// Makes empty files, and gives that of slots its gate where a journal begins. Each is on the disk then, by its own
@@ -122,17 +203,32 @@ impl Store {
         folder: &str,
         owner: Owner,
         parts: &[Part],
-        begins: bool,
-    ) -> io::Result<()> {
+        making: Making,
+    ) -> Result<(), CallFault> {
         self.looked = None;
-        self.folders.make(folder)?;
+        self.make_folder(folder, owner, making)?;
         let opened = self.folders.open(folder)?;
+        let begins = making == Making::Together && parts.contains(&Part::Slots);
         let made = self.make_files(folder, &opened, owner, parts, begins)?;
         for file in made.to_sync() {
             self.sync_made(file.id)?;
         }
         self.folders.sync_opened(folder, &opened)?;
-        self.folders.sync_names(folder)
+        self.folders.sync_names(folder)?;
+        Ok(())
+    }
+
+    /// Makes the folder of files that are to be made. That of a log whose files are made together must be new.
+    fn make_folder(&mut self, folder: &str, owner: Owner, making: Making) -> Result<(), CallFault> {
+        match (owner, making) {
+            (Owner::Log(_), Making::Together) => {
+                if !self.folders.make_new(folder)? {
+                    return Err(CallFault::FolderExists);
+                }
+            }
+            _ => self.folders.make(folder)?,
+        }
+        Ok(())
     }
 
     /// What came of a making. Where it failed, the folder is synced again with each of its files.
@@ -140,8 +236,8 @@ impl Store {
         &mut self,
         owner: Owner,
         parts: &[Part],
-        made: io::Result<()>,
-    ) -> io::Result<()> {
+        made: Result<(), CallFault>,
+    ) -> Result<(), CallFault> {
         if made.is_err() {
             for part in parts {
                 if let Some(handle) = self.handles.get_mut(&FileId::new(owner, *part)) {
@@ -205,6 +301,7 @@ impl Store {
         let file = make_file(&self.rt, path.as_str())?;
         let metadata = file.metadata()?;
         set_mode(&file, &metadata)?;
+        self.events_locks.check(id, path.as_str(), &metadata)?;
         self.keep(id, file, true)?;
         let inode = metadata.ino();
         Ok(NewFile { id, inode })
@@ -259,11 +356,14 @@ impl Store {
     }
 
     /// Writes, and remembers what is to be synced.
-    pub fn write(&mut self, f: FileId, at: u64, bytes: &[u8]) -> io::Result<()> {
+    pub fn write(&mut self, f: FileId, at: u64, bytes: &[u8]) -> Result<(), CallFault> {
         self.looked = None;
+        if self.found_whole == Some(f.owner) {
+            return Err(CallFault::FolderExists);
+        }
         self.limit.check(at, bytes.len())?;
         match self.handle(f)? {
-            Some(handle) => handle.write(at, bytes),
+            Some(handle) => Ok(handle.write(at, bytes)?),
             None => Err(ErrorKind::NotFound.into()),
         }
     }
@@ -302,6 +402,7 @@ impl Store {
         let place = self.place_of(f)?;
         match open_file(&self.rt, place.path.as_str()) {
             Ok(file) => {
+                self.check_lock(f, place.path.as_str(), &file)?;
                 self.keep(f, file, false)?;
                 Ok(true)
             }
@@ -310,10 +411,18 @@ impl Store {
         }
     }
 
+    /// A file of an event log that was opened is the one whose lock this server has.
+    fn check_lock(&mut self, f: FileId, path: &str, file: &File) -> io::Result<()> {
+        match f.owner {
+            Owner::Events(_) => self.events_locks.check(f, path, &file.metadata()?),
+            _ => Ok(()),
+        }
+    }
+
     /// Keeps a file open, in the place of the one that was not used for longest where there are too many. It is named where it
     /// was just made, and else it was found.
     fn keep(&mut self, f: FileId, file: File, is_named: bool) -> io::Result<()> {
-        if self.handles.len() >= MOST_OPEN {
+        if self.handles.len() >= self.most_open {
             self.close_oldest()?;
         }
         let unsynced = match self.left.get(&f) {
@@ -348,50 +457,4 @@ impl Store {
             Err(_) => Err(ErrorKind::OutOfMemory.into()),
         }
     }
-}
-
-/// Takes the lock of a store, which the system lets go when the program ends.
-fn take_lock(rt: &HostRuntime, alloc: Global, dir: &str) -> Result<File, StoreFault> {
-    let path = format!(in alloc; "{dir}/lock")?;
-    let lock = open_lock(rt, path.as_str())?;
-    match lock.try_lock() {
-        Ok(()) => Ok(lock),
-        Err(TryLockError::WouldBlock) => Err(StoreFault::InUse),
-        Err(TryLockError::Error(e)) => Err(StoreFault::Io(e)),
-    }
-}
-
-/// Opens the file of the lock, and makes it where it isn't there: one that is there keeps its mode.
-fn open_lock(rt: &HostRuntime, path: &str) -> io::Result<File> {
-    match make_file(rt, path) {
-        Ok(lock) => {
-            set_mode(&lock, &lock.metadata()?)?;
-            Ok(lock)
-        }
-        Err(e) if e.kind() == ErrorKind::AlreadyExists => open_file(rt, path),
-        Err(e) => Err(e),
-    }
-}
-
-/// Opens a file that is there.
-fn open_file(rt: &HostRuntime, path: &str) -> io::Result<File> {
-    OpenOptions::new().read(true).write(true).open(rt, path)
-}
-
-/// Makes an empty file, which nobody else may read.
-fn make_file(rt: &HostRuntime, path: &str) -> io::Result<File> {
-    OpenOptions::new()
-        .read(true)
-        .write(true)
-        .create_new(true)
-        .mode(MODE)
-        .open(rt, path)
-}
-
-/// Gives a file that was just made its mode, where the system left it another: a umask takes bits away.
-fn set_mode(file: &File, metadata: &Metadata) -> io::Result<()> {
-    if metadata.permissions().mode() & ALL_BITS == MODE {
-        return Ok(());
-    }
-    file.set_permissions(Permissions::from_mode(MODE))
 }

@@ -112,13 +112,23 @@ impl Sink for StdSink {
 pub struct StdScreen {
     rt: HostRuntime,
     faults: u64,
+    is_left: bool,
 }
 
 impl StdScreen {
     pub fn new(rt: HostRuntime) -> Self
         ensures { ⟦<StdScreen as Screen>⟧.faults result ≡ 0 }
     {
-        StdScreen { rt, faults: 0 }
+        StdScreen {
+            rt,
+            faults: 0,
+            is_left: false,
+        }
+    }
+
+    /// Whether the program that read standard output has ended, as `head` does after its lines.
+    pub fn is_left(&self) -> bool {
+        self.is_left
     }
 }
 
@@ -139,7 +149,8 @@ impl Screen for StdScreen {
     fn put(&mut self, bytes: &[u8]) -> Result<(), SinkFault> {
         match self.rt.write_all(bytes) {
             Ok(()) => Ok(()),
-            Err(_) => {
+            Err(e) => {
+                self.is_left = e.kind() == ErrorKind::BrokenPipe;
                 self.faults = self.faults.saturating_add(1);
                 Err(SinkFault)
             }

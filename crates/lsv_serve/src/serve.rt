@@ -165,6 +165,7 @@ fn serve_by<
         log_exit,
         prompts,
         logs,
+        events,
         listen,
         ..
     } = options;
@@ -172,6 +173,7 @@ fn serve_by<
         address: text_of(&listen),
         stop_after,
         logs: text_of(&logs),
+        events: text_of(&events),
     };
     let plan = Plan {
         formatter,

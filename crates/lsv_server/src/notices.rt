@@ -7,6 +7,8 @@ pub struct Site<'a> {
     pub stop_after: Option<u32>,
     /// The folder of the logs.
     pub logs: &'a str,
+    /// The path of the event log.
+    pub events: &'a str,
 }
 
 /// What whoever runs a server is told at its start. Nothing is promised of it.

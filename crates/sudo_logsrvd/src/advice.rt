@@ -7,7 +7,7 @@ use std::str;
 
 /// The forms of the commands that are built.
 pub fn show_forms(rt: &HostRuntime) {
-    let _ = eprintln!(rt; "usage: sudo_logsrvd serve [-f FILE] [--stop-after N]");
+    let _ = eprintln!(rt; "usage: sudo_logsrvd serve [-f FILE] [--lanes N] [--stop-after N]");
     let _ = eprintln!(rt; "       sudo_logsrvd once [-f FILE]");
     let _ = eprintln!(rt; "       sudo_logsrvd load N [-f FILE]");
 }

@@ -2,9 +2,11 @@
 
 use lsv_base::LogNo;
 use lsv_server::{Notices, Site};
+use std::net::IpAddr;
 use std::str;
 
-/// Says on standard error at which address it listens, where its logs are, and which number was drawn last.
+/// Says on standard error at which address it listens, where its logs are, which number was drawn last, and where its event lines
+/// are; and that any host may write, unless the address is one of the loopback.
 #[derive(Drop)]
 pub struct Herald {
     pub rt: HostRuntime,
@@ -12,18 +14,44 @@ pub struct Herald {
 
 impl Notices for Herald {
     fn serving(&mut self, site: &Site<'_>, last: u32) {
-        let address = site.address;
-        let logs = site.logs;
-        let Some(number) = LogNo::new(last) else {
-            let _ = eprintln!(self.rt;
-                "sudo_logsrvd: listening on {address}, logs in {logs}, last log 000000"
-            );
-            return;
-        };
-        let digits = number.digits();
+        let Site {
+            address,
+            logs,
+            events,
+            ..
+        } = site;
+        let digits = digits_of(last);
         let last = str::from_utf8(&digits).unwrap_or("");
+        let who = if is_loopback(address) {
+            ""
+        } else {
+            "; any host that reaches this port may write"
+        };
         let _ = eprintln!(self.rt;
-            "sudo_logsrvd: listening on {address}, logs in {logs}, last log {last}"
+            "sudo_logsrvd: listening on {address}, logs in {logs}, last log {last}, events in {events}{who}"
         );
+    }
+}
+
+/// The six digits of a number, which is 0 if none was drawn.
+fn digits_of(number: u32) -> [u8; 6] {
+    match LogNo::new(number) {
+        Some(number) => number.digits(),
+        None => [b'0'; 6],
+    }
+}
+
+/// Whether a host and a port name an address of the loopback. Of names, which may lead anywhere, only `localhost` counts.
+fn is_loopback(address: &str) -> bool {
+    let Some((host, _)) = address.rsplit_once(':') else {
+        return false;
+    };
+    let host = host
+        .strip_prefix('[')
+        .and_then(|host| host.strip_suffix(']'))
+        .unwrap_or(host);
+    match host.parse::<IpAddr>() {
+        Ok(address) => address.is_loopback(),
+        Err(_) => host == "localhost",
     }
 }

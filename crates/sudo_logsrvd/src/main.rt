@@ -4,8 +4,10 @@
 ghost use Rattle.std.specs.Prelude.{◌≡◌, length, IfOk};
 
 mod advice;
+mod descriptors;
 mod herald;
 mod told;
+mod usage;
 
 use crate::advice::{advise, show_forms};
 use crate::herald::Herald;
@@ -60,6 +62,9 @@ fn run(rt: HostRuntime) -> Status {
         Ok(words) => words,
         Err(status) => return status,
     };
+    if let Err(status) = descriptors::check(&rt, &words) {
+        return status;
+    }
     let ports = match ports(rt) {
         Ok(ports) => ports,
         Err(status) => return status,
@@ -86,6 +91,9 @@ fn run(rt: HostRuntime) -> Status {
     let (out, status) = logsrvd(alloc, &words, out, kept);
     if let (Status::Store(fault), Some(conf)) = (status, &out.texts.conf) {
         advise(&rt, fault, conf);
+    }
+    if status == Status::Usage {
+        usage::say(&rt, &words);
     }
     status
 }

@@ -2,13 +2,18 @@
 
 ghost use Rattle.std.specs.Prelude.{◌≡◌};
 
-use lsv_base::{Bytes, NoMem, TextFault, Texts};
-use lsv_conf::{Conf, ConfFault, read_conf};
+use lsv_base::{Bytes, TextFault, Texts};
+use lsv_conf::{
+    Conf, ConfFault, Refused, RefusedLine, Values, WrongValue, read_conf, refused_lines,
+};
 use std::alloc::Global;
 use std::str;
 
-/// Settings files as they are. Of each that is read it is told on standard error which keys are passed over and which line is
-/// refused, by its path and the line.
+/// This many refused lines are named, so that a file of another kind doesn't fill the journal.
+const MOST_NAMED: usize = 50;
+
+/// Settings files as they are. Of each that is read it is told on standard error which keys are passed over and which lines
+/// are refused, by its path and the line.
 #[derive(Drop)]
 pub struct ToldTexts<T> {
     pub rt: HostRuntime,
@@ -34,12 +39,7 @@ impl<T> ToldTexts<T> {
                 }
                 self.conf = Some(conf);
             }
-            Err(ConfFault::Line(line)) => {
-                let reason = reason(alloc, text, line).unwrap_or("out of memory");
-                let _ = eprintln!(self.rt;
-                    "sudo_logsrvd: {path}:{line}: the line is refused: {reason}"
-                );
-            }
+            Err(ConfFault::Line(_)) => tell_refused(&self.rt, alloc, path, text),
             Err(ConfFault::NoMem) => {}
         }
     }
@@ -53,7 +53,17 @@ impl<T: Texts> Texts for ToldTexts<T> {
     ghost faults = { λ t. T.faults t.files };
 
     fn text(&mut self, alloc: Global, path: &str) -> Result<Option<Bytes>, TextFault> {
-        let found = self.files.text(alloc, path)?;
+        let found = match self.files.text(alloc, path) {
+            Ok(found) => found,
+            Err(fault) => {
+                if fault == TextFault::Failed {
+                    let _ = eprintln!(self.rt;
+                        "sudo_logsrvd: {path}: the settings file couldn't be read: `settings line 0` stands for that"
+                    );
+                }
+                return Err(fault);
+            }
+        };
         match &found {
             Some(text) => self.tell(alloc, path, text.as_slice()),
             None => {
@@ -67,40 +77,64 @@ impl<T: Texts> Texts for ToldTexts<T> {
     }
 }
 
-/// Why the line of this number is refused, where it is the first that is.
-fn reason(alloc: Global, text: &[u8], number: u32) -> Result<&'static str, NoMem> {
-    let mut before = Bytes::new(alloc);
-    let mut at = 1u32;
-    for line in text.split(|byte| *byte == b'\n') {
-        if at == number {
-            return reason_of(alloc, before, line);
+/// Says of each refused line of a text why it is refused.
+fn tell_refused(rt: &HostRuntime, alloc: Global, path: &str, text: &[u8]) {
+    let Ok(lines) = refused_lines(alloc, text) else {
+        return;
+    };
+    let lines = lines.as_slice();
+    for refused in lines.iter().take(MOST_NAMED) {
+        tell_line(rt, path, refused);
+    }
+    if lines.len() > MOST_NAMED {
+        let more = lines.len() - MOST_NAMED;
+        let _ = eprintln!(rt; "sudo_logsrvd: {path}: {more} more lines are refused");
+    }
+}
+
+/// Says why a line is refused.
+fn tell_line(rt: &HostRuntime, path: &str, refused: &RefusedLine) {
+    let line = refused.line;
+    let reason = match &refused.why {
+        Refused::NotUtf8 => "it isn't UTF-8",
+        Refused::NoForm => "it is neither `[section]` nor `key = value`",
+        Refused::NoSection => "it stands before the first `[section]`",
+        Refused::Value(wrong) => return tell_value(rt, path, line, wrong),
+    };
+    let _ = eprintln!(rt; "sudo_logsrvd: {path}:{line}: the line is refused: {reason}");
+}
+
+/// Says which value a key doesn't take, and what it takes.
+fn tell_value(rt: &HostRuntime, path: &str, line: u32, wrong: &WrongValue) {
+    let (Ok(key), Ok(value)) = (
+        str::from_utf8(wrong.key.as_slice()),
+        str::from_utf8(wrong.value.as_slice()),
+    ) else {
+        return;
+    };
+    let takes = takes(wrong.takes);
+    let tls = if value.contains("(tls)") { NO_TLS } else { "" };
+    let _ = eprintln!(rt;
+        "sudo_logsrvd: {path}:{line}: {key} can't be {value:?}: it takes {takes}{tls}"
+    );
+}
+
+/// What is said of a value that asks for TLS.
+const NO_TLS: &str = "; this server has no TLS: OPERATIONS shows a tunnel under Exposure";
+
+/// What a key takes.
+fn takes(values: Values) -> &'static str {
+    match values {
+        Values::Listening => {
+            "HOST or HOST:PORT with a port from 1 to 65535, where HOST is a name, an address ([ADDRESS] if it is IPv6) or *"
         }
-        before.add(line)?;
-        before.add(b"\n")?;
-        at = at.saturating_add(1);
+        Values::Upstream => {
+            "HOST or HOST:PORT with a port from 1 to 65535, where HOST is a name or an address ([ADDRESS] if it is IPv6)"
+        }
+        Values::Truth => "true, yes, on or 1, or false, no, off or 0",
+        Values::Path => "a path, which may not be empty",
+        Values::Sequence => "%{seq} alone",
+        Values::Format => "sudo or json",
+        Values::Texts => "1 to 16 texts of 1 to 64 bytes, with commas between them",
     }
-    Ok("there is no such line")
-}
-
-/// The same of a line, with the lines before it, each behind its line feed. A key that no table has is taken in each section,
-/// so it shows whether there is one, and a section that no table has shows whether the line has a form.
-fn reason_of(alloc: Global, mut before: Bytes, line: &[u8]) -> Result<&'static str, NoMem> {
-    if str::from_utf8(line).is_err() {
-        return Ok("it isn't UTF-8");
-    }
-    let mut alone = Bytes::of(alloc, b"[none]\n")?;
-    alone.add(line)?;
-    if is_refused(alloc, &alone) {
-        return Ok("it is neither `[section]` nor `key = value`");
-    }
-    before.add(b"none = 0")?;
-    if is_refused(alloc, &before) {
-        return Ok("it stands before the first `[section]`");
-    }
-    Ok("its key doesn't take this value")
-}
-
-/// Whether a text has a line that is refused.
-fn is_refused(alloc: Global, text: &Bytes) -> bool {
-    matches!(read_conf(alloc, text.as_slice()), Err(ConfFault::Line(_)))
 }

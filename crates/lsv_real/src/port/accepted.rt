@@ -5,6 +5,7 @@ ghost use Rattle.lsv_port.specs.Port.{TakesWithin, GivesWithin};
 use lsv_port::{Gave, Took};
 use mio::net::TcpStream;
 use std::io::{ErrorKind, Read, Write};
+use std::net::SocketAddr;
 
 /// After so many signals in a row a read or a write is a fault.
 const MOST_INTERRUPTS: u32 = 1024;
@@ -17,6 +18,8 @@ pub struct Accepted {
     has_ended: bool,
     /// A write was put off, and no turn told since that the link takes bytes again.
     is_full: bool,
+    /// It was read or written.
+    was_used: bool,
 }
 
 impl Accepted {
@@ -25,7 +28,18 @@ impl Accepted {
             stream,
             has_ended: false,
             is_full: false,
+            was_used: false,
         }
+    }
+
+    /// Whether it was read or written. One that is closed without was turned away.
+    pub fn was_used(&self) -> bool {
+        self.was_used
+    }
+
+    /// The address of the other end, if the system still tells it.
+    pub fn peer(&self) -> Option<SocketAddr> {
+        self.stream.peer_addr().ok()
     }
 
     /// Whether a turn may tell that it is readable.
@@ -43,6 +57,7 @@ impl Accepted {
     pub fn read(&mut self, buf: &mut [u8]) -> Took
         ensures { TakesWithin result (length buf.old) }
     {
+        self.was_used = true;
         for _ in 0..MOST_INTERRUPTS {
             match self.stream.read(buf) {
                 Ok(0) => {
@@ -61,6 +76,7 @@ impl Accepted {
     pub fn write(&mut self, bytes: &[u8]) -> Gave
         ensures { GivesWithin result (length bytes.now) }
     {
+        self.was_used = true;
         for _ in 0..MOST_INTERRUPTS {
             match self.stream.write(bytes) {
                 Ok(0) => return Gave::Failed,

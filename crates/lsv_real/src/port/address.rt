@@ -47,3 +47,17 @@ fn without_brackets(host: &str) -> &str {
     };
     inner.strip_suffix(']').unwrap_or(host)
 }
+
+/// What to do if it can't listen at its address.
+pub fn advice(e: &io::Error) -> &'static str {
+    match e.kind() {
+        ErrorKind::AddrInUse => ": another program listens there: end it, or change listen_address",
+        ErrorKind::AddrNotAvailable => {
+            ": this machine has no such address: change listen_address"
+        }
+        ErrorKind::PermissionDenied => {
+            ": a port below 1024 needs CAP_NET_BIND_SERVICE: give it, or change listen_address"
+        }
+        _ => ": mend that, or change listen_address",
+    }
+}

@@ -1,13 +1,10 @@
 // What the ports of a program share.
 use super::address::listen_at;
-use crate::limit::most_descriptors;
+use crate::limit::{clients_within, most_descriptors};
 use std::io;
 use std::net::{Net, TcpListener};
 use std::sync::OnceLock;
 use std::sync::atomic::{AtomicU64, Ordering};
-
-/// So many descriptors stay for the store's files and for what else is open.
-const KEPT_DESCRIPTORS: u64 = 576;
 
 /// The listening socket of the ports of a program, and how many of their links were opened and closed.
 #[derive(Drop)]
@@ -26,7 +23,7 @@ impl Door {
             listener: OnceLock::new(),
             opened: AtomicU64::new(0),
             closed: AtomicU64::new(0),
-            most: most_descriptors().saturating_sub(KEPT_DESCRIPTORS).max(1),
+            most: clients_within(most_descriptors()),
         }
     }
 
@@ -48,8 +45,13 @@ impl Door {
 
     /// Whether the descriptors of this process suffice for one link more.
     pub fn has_room(&self) -> bool {
+        self.open() < self.most
+    }
+
+    /// How many links of all ports are open.
+    pub fn open(&self) -> u64 {
         let opened = self.opened.load(Ordering::SeqCst);
-        opened.saturating_sub(self.closed()) < self.most
+        opened.saturating_sub(self.closed())
     }
 
     /// One link more was opened.

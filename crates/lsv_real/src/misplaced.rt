@@ -1,0 +1,134 @@
+// Whether the place of the event log is one that it can't have.
+ghost use Rattle.std.specs.Prelude.{◌≡◌};
+ghost use Rattle.lsv_real.specs.Misplaced.{is_own_name};
+
+use crate::drawn::folder_name;
+use crate::path::{folder_of, joined};
+use std::alloc::{AllocError, Global};
+use std::io::ErrorKind;
+use std::{fs, io};
+
+/// A path is looked at through this many of the folders above it, from its end on, for one that exists.
+const MOST_FOLDERS: u32 = 256;
+
+/// Why the event log can't have its place.
+#[derive(Clone, Copy, Debug, PartialEq, Eq)]
+pub enum Misplaced {
+    /// The place is that of the folder of the logs, of one above it, or of a file of the store in it.
+    InStore,
+    /// A folder has the name.
+    Folder,
+    /// What has the name is neither a file nor a folder.
+    NoFile,
+    /// A link has the name, and leads to nothing.
+    LinkToNothing,
+}
+
+/// Why the event log can't have this place, beside logs in this folder. Nothing is changed.
+pub fn look_at_place(
+    rt: &HostRuntime,
+    alloc: Global,
+    dir: &str,
+    events: &str,
+) -> io::Result<Option<Misplaced>> {
+    let logs = settled(rt, alloc, dir)?;
+    let lines = settled(rt, alloc, events)?;
+    if is_in_store(logs.as_str(), lines.as_str()) {
+        return Ok(Some(Misplaced::InStore));
+    }
+    match fs::metadata(rt, events) {
+        Ok(metadata) if metadata.is_dir() => Ok(Some(Misplaced::Folder)),
+        Ok(metadata) if metadata.is_file() => Ok(None),
+        Ok(_) => Ok(Some(Misplaced::NoFile)),
+        Err(e) if e.kind() == ErrorKind::NotFound => Ok(link_to_nothing(rt, events)),
+        Err(e) => Err(e),
+    }
+}
+
+/// Whether a link has the name of a file that doesn't exist.
+fn link_to_nothing(rt: &HostRuntime, path: &str) -> Option<Misplaced> {
+    fs::symlink_metadata(rt, path)
+        .is_ok()
+        .then_some(Misplaced::LinkToNothing)
+}
+
+/// The whole path of a file, without links and dots, as far as its folders exist.
+fn settled(rt: &HostRuntime, alloc: Global, path: &str) -> io::Result<String> {
+    let mut above = String::from_str(alloc, path)?;
+    let mut names = String::new(alloc);
+    for _ in 0..MOST_FOLDERS {
+        match fs::canonicalize(rt, above.as_str()) {
+            Ok(folder) => return Ok(put_together(alloc, folder.as_path().to_str(), names)?),
+            Err(e) if e.kind() == ErrorKind::NotFound => {}
+            Err(e) => return Err(e),
+        }
+        names = with_name(alloc, above.as_str(), names)?;
+        above = String::from_str(alloc, folder_of(above.as_str()))?;
+    }
+    Err(ErrorKind::InvalidInput.into())
+}
+
+/// The names below a folder, with the name of that folder before them.
+fn with_name(alloc: Global, folder: &str, names: String) -> Result<String, AllocError> {
+    let name = match folder.rsplit_once('/') {
+        Some((_, name)) => name,
+        None => folder,
+    };
+    if name.is_empty() {
+        return Ok(names);
+    }
+    if names.is_empty() {
+        return String::from_str(alloc, name);
+    }
+    joined(alloc, name, names.as_str())
+}
+
+/// The path of names below a folder. One that isn't UTF-8 is left out.
+fn put_together(alloc: Global, folder: Option<&str>, names: String) -> Result<String, AllocError> {
+    match folder {
+        Some("/") | None => joined(alloc, "", names.as_str()),
+        Some(folder) if names.is_empty() => String::from_str(alloc, folder),
+        Some(folder) => joined(alloc, folder, names.as_str()),
+    }
+}
+
+/// Whether the file of a path is the folder of the logs, one above it, or a file of the store in it. Both are whole paths
+/// without links and dots.
+pub fn is_in_store(logs: &str, path: &str) -> bool {
+    match path.strip_prefix(logs) {
+        Some("") => true,
+        Some(rest) => match rest.strip_prefix('/') {
+            Some(names) => is_own_name(first_name(names)),
+            None => false,
+        },
+        None => is_below(path, logs),
+    }
+}
+
+/// Whether a path leads through a folder.
+fn is_below(folder: &str, path: &str) -> bool {
+    match path.strip_prefix(folder) {
+        Some(rest) => rest.starts_with('/'),
+        None => false,
+    }
+}
+
+/// The first of the names of a path.
+fn first_name(names: &str) -> &str {
+    match names.split_once('/') {
+        Some((first, _)) => first,
+        None => names,
+    }
+}
+
+/// Whether the store keeps a name in the folder of the logs for itself: one that begins with `seq`, `lock`, `relay.lock`, or
+/// that of a folder of logs.
+fn is_own_name(name: &str) -> bool
+    ensures { result ≡ is_own_name name.now }
+{
+    let bytes = name.as_bytes();
+    bytes.starts_with(b"seq")
+        || name == "lock"
+        || name == "relay.lock"
+        || folder_name(bytes).is_some()
+}

@@ -1,0 +1,165 @@
+// What is said on standard error of a store that isn't opened, with what to do, and of places that may not be meant.
+use crate::doubt::doubt_of;
+use crate::drawn::Uncovered;
+use crate::foreign::{Foreign, foreign_at, was_cut};
+use crate::misplaced::{Misplaced, look_at_place};
+use crate::store::{Step, StoreFault};
+use lsv_base::LogNo;
+use std::alloc::Global;
+use std::io::ErrorKind;
+use std::{io, str};
+
+/// The system's numbers of the errors that say that no descriptor is left, of the process and of the system.
+const NO_DESCRIPTORS: [i32; 2] = [24, 23];
+
+/// Says of each place if it may not be meant as it stands.
+pub fn warn_of_places(rt: &HostRuntime, program: &str, dir: &str, events: &str) {
+    for (key, path) in [("iolog_dir", dir), ("path of [logfile]", events)] {
+        if let Some(doubt) = doubt_of(path) {
+            let text = doubt.text();
+            let _ = eprintln!(rt; "{program}: {path}: warning: {key}: {text}");
+        }
+    }
+}
+
+/// Whether the store isn't to be opened as it stands at its places, or it can't be seen whether it may. Then that is said, with what
+/// to do. Nothing is changed.
+pub fn is_refused(rt: HostRuntime, program: &'static str, dir: &str, events: &str) -> bool {
+    let alloc = rt.alloc();
+    let answer = match look_at_place(&rt, alloc, dir, events) {
+        Ok(None) => is_taken(rt, program, dir, events),
+        Ok(Some(place)) => {
+            report_misplaced(&rt, program, dir, events, place);
+            Ok(true)
+        }
+        Err(e) => Err(e),
+    };
+    match answer {
+        Ok(is_refused) => is_refused,
+        Err(e) => {
+            let todo = advice(&e);
+            let _ = eprintln!(rt; "{program}: {dir}, {events}: look: {e}: {todo}");
+            true
+        }
+    }
+}
+
+/// Says why the event log can't have its place.
+fn report_misplaced(rt: &HostRuntime, program: &str, dir: &str, events: &str, place: Misplaced) {
+    let _ = match place {
+        Misplaced::InStore => eprintln!(rt;
+            "{program}: {events}: path of [logfile] has the name of a file or a folder of the store {dir}: nothing is changed; let it be another file"
+        ),
+        Misplaced::Folder => eprintln!(rt;
+            "{program}: {events}: it is a folder, and path of [logfile] names a file: nothing is changed; let it name a file in that folder"
+        ),
+        Misplaced::NoFile => eprintln!(rt;
+            "{program}: {events}: it is no regular file: nothing is changed; let path of [logfile] be another file"
+        ),
+        Misplaced::LinkToNothing => eprintln!(rt;
+            "{program}: {events}: it is a link to a file that doesn't exist: nothing is changed; remove it, or let path of [logfile] be the file itself"
+        ),
+    };
+}
+
+/// Whether another program filled the places, or cut the event log.
+fn is_taken(rt: HostRuntime, program: &'static str, dir: &str, events: &str) -> io::Result<bool> {
+    match foreign_at(&rt, rt.alloc(), dir, events)? {
+        Some(Foreign::Logs) => {
+            let _ = eprintln!(rt;
+                "{program}: {dir}: sudo's own programs keep their logs here, as its file seq shows: nothing is changed; let iolog_dir be another folder"
+            );
+            return Ok(true);
+        }
+        Some(Foreign::Events) => {
+            let _ = eprintln!(rt;
+                "{program}: {events}: it has lines, and no journal {events}.slots beside it: nothing is changed; move it away, or let path of [logfile] be another file"
+            );
+            return Ok(true);
+        }
+        None => {}
+    }
+    let is_cut = was_cut(rt, program, dir, events)?;
+    if is_cut {
+        let _ = eprintln!(rt;
+            "{program}: {events}: it begins with bytes of 0, so another program has cut it while a server ran (copytruncate does so): nothing is changed; move it and {events}.slots away together, and start again"
+        );
+    }
+    Ok(is_cut)
+}
+
+/// Says why a store wasn't opened, and what to do.
+pub fn report_no_store(
+    rt: &HostRuntime,
+    program: &str,
+    dir: &str,
+    events: &str,
+    fault: &StoreFault,
+) {
+    let _ = match fault {
+        StoreFault::InUse => {
+            eprintln!(rt; "{program}: {dir}: lock: another server uses this store")
+        }
+        StoreFault::EventsInUse => {
+            eprintln!(rt; "{program}: {events}: lock: another server uses this event log")
+        }
+        StoreFault::Uncovered(Uncovered::NoLast) => eprintln!(rt;
+            "{program}: {dir}: it holds logs, and seq2 doesn't tell the last number: put seq2 back from a copy, or let iolog_dir be a new folder; nothing is changed"
+        ),
+        StoreFault::Uncovered(Uncovered::Above { last, log }) => {
+            let (last, log) = (digits_of(*last), digits_of(*log));
+            let (last, log) = (text_of(&last), text_of(&log));
+            eprintln!(rt;
+                "{program}: {dir}: it holds log {log}, and the last number that seq2 tells is {last}: put seq2 back from a newer copy, or let iolog_dir be a new folder; nothing is changed"
+            )
+        }
+        StoreFault::Io(step, e) => report_step(rt, program, dir, *step, e),
+    };
+}
+
+/// Says which step of opening a store failed, and what to do.
+fn report_step(
+    rt: &HostRuntime,
+    program: &str,
+    dir: &str,
+    step: Step,
+    e: &io::Error,
+) -> io::Result<()> {
+    let todo = advice(e);
+    eprintln!(rt; "{program}: {dir}: {step}: {e}: {todo}")
+}
+
+/// The six digits of a number, which may be 0.
+fn digits_of(number: u32) -> [u8; 6] {
+    match LogNo::new(number) {
+        Some(number) => number.digits(),
+        None => [b'0'; 6],
+    }
+}
+
+/// The text of digits.
+fn text_of(digits: &[u8; 6]) -> &str {
+    str::from_utf8(digits).unwrap_or("")
+}
+
+/// What to do about an error at the places of a store.
+fn advice(e: &io::Error) -> &'static str {
+    if e.raw_os_error()
+        .is_some_and(|number| NO_DESCRIPTORS.contains(&number))
+    {
+        return "raise the limit of open files (ulimit -n, or LimitNOFILE= of the unit)";
+    }
+    match e.kind() {
+        ErrorKind::ReadOnlyFilesystem => {
+            "the file system is mounted read-only: mount it for writing; under the unit, add its path to ReadWritePaths="
+        }
+        ErrorKind::NotADirectory => {
+            "what stands where a folder is needed is none: let iolog_dir and path of [logfile] be other places"
+        }
+        ErrorKind::PermissionDenied => {
+            "let who runs the server own both, or iolog_dir and path of [logfile] be places of its own"
+        }
+        ErrorKind::StorageFull => "make room on the file system",
+        _ => "mend that, or let iolog_dir and path of [logfile] be other places",
+    }
+}

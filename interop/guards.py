@@ -1,0 +1,559 @@
+#!/usr/bin/env python3
+"""Tries that nothing that was stored is written over: whatever happens to the number file, to locks or to the event log, the server
+refuses the store with words, and each file of it is byte for byte as before.
+
+usage: guards.py --server PROGRAM [--only WORD]
+
+Each part has a store of its own, in a folder whose parent may be passed through and not opened. Two sessions are stored, the server
+is ended, something is done to the store, and the server is started again. It ends with 1 where something differs.
+"""
+import argparse
+import json
+import os
+import resource
+import shutil
+import socket
+import subprocess
+import sys
+import tempfile
+import threading
+import traceback
+
+import client
+import servers
+import store
+from trial import SECOND, Differs, same
+
+INFO = {"command": "/usr/bin/id", "runargv": ["id"], "runuser": "root", "submituser": "ann", "submithost": "web1", "submitcwd": "/"}
+ACCEPT = client.accept(SECOND, INFO)
+MARK = b"precious"
+CLIENTS = 128
+
+
+class Guarded:
+    """A place for a store, below a folder that nobody may list, and the server that is run on it."""
+
+    def __init__(self, program):
+        self.program = program
+        self.above = tempfile.mkdtemp(prefix="guards")
+        closed = os.path.join(self.above, "closed")
+        os.mkdir(closed)
+        self.place = servers.Place(parent=closed)
+        os.chmod(closed, 0o311)
+        self.server = servers.Serve(program, self.place)
+        self.running = []
+
+    def __enter__(self):
+        return self
+
+    def __exit__(self, *_):
+        for process in self.running + [self.server.process]:
+            if process and process.poll() is None:
+                process.kill()
+                process.wait()
+        os.chmod(os.path.join(self.above, "closed"), 0o700)
+        shutil.rmtree(self.above)
+
+    @property
+    def store(self):
+        return self.place.store
+
+    @property
+    def events(self):
+        return self.place.events
+
+    def numbers(self):
+        return os.path.join(self.store, "seq2")
+
+    def start(self):
+        self.server.start()
+        return self
+
+    def sessions(self, count=1):
+        """So many whole sessions are stored. Gives their identifiers."""
+        return [session(self.server.connect()) for _ in range(count)]
+
+    def stop(self):
+        self.server.kill()
+
+    def contents(self):
+        """The bytes of each file of the store and of the event log."""
+        paths = [os.path.join(folder, name) for folder, _, names in os.walk(self.store) for name in names]
+        paths += [path for path in (self.events, self.events + ".slots") if os.path.isfile(path)]
+        return {path: store.contents(path) for path in paths}
+
+    def refused(self, *words, conf=None, status=4):
+        """The server ends with this status, says these words, and no file is another than before."""
+        before = self.contents()
+        said = self.ended(conf or self.place.conf, status)
+        for word in words:
+            if word not in said:
+                raise Differs(f"{word!r} isn't in what was said: {said!r}")
+        same("files that differ", sorted(differing(before, self.contents())), [])
+        return said
+
+    def ended(self, conf, status, before=None):
+        """What a server says that ends by itself, with this status."""
+        child = self.spawned(conf, before)
+        guard = threading.Timer(60, child.kill)
+        guard.start()
+        said = ""
+        for line in child.stderr:
+            said += line
+            if "listening on" in line:
+                child.kill()
+                raise Differs(f"the server wasn't refused: {said!r}")
+        guard.cancel()
+        same(f"status, with {said!r}", child.wait(), status)
+        return said
+
+    def spawned(self, conf, before=None):
+        """A further server."""
+        words = [self.program, "serve", "-f", conf]
+        child = subprocess.Popen(words, stdin=subprocess.DEVNULL, stdout=subprocess.DEVNULL, stderr=subprocess.PIPE, text=True, preexec_fn=before)
+        self.running.append(child)
+        return child
+
+    def settings(self, name, **changes):
+        """A further settings file, with another port, and these places in the place of the store's own."""
+        places = {"store": self.store, "events": self.events, **changes}
+        text = servers.OURS.format(port=servers.free_port(), folder=self.place.folder)
+        text = text.replace(f"{self.place.folder}/store", places["store"]).replace(f"{self.place.folder}/events", places["events"])
+        path = os.path.join(self.place.folder, name)
+        with open(path, "w", encoding="utf-8") as file:
+            file.write(text)
+        return path
+
+    def runs(self, conf):
+        """Starts a further server. Gives what it said up to its start line, and the process."""
+        child = self.spawned(conf)
+        said = ""
+        for line in child.stderr:
+            said += line
+            if "listening on" in line:
+                return said, child
+        raise Differs(f"it ended with {child.wait()}: {said!r}")
+
+
+def session(link):
+    """A whole session: its identifier."""
+    link.send(client.hello(), ACCEPT)
+    answers = [link.read(), link.read()]
+    if [name for name, _ in answers] != ["hello", "log_id"]:
+        raise Differs(f"{answers} came for an accept")
+    link.send(client.record((5, "ttyout", MARK)), client.exited(SECOND))
+    answers += link.rest()
+    link.close()
+    return answers[1][1]
+
+
+def differing(before, after):
+    """The files that are missing or have other bytes. A new empty file is none."""
+    changed = [path for path in before if after.get(path) != before[path]]
+    return changed + [path for path in after if path not in before and after[path]]
+
+
+def written(path, data):
+    with open(path, "wb") as file:
+        file.write(data)
+
+
+def part_number_file_is_lost(program):
+    """Emptied, cut, garbled or removed: the store is refused. What was there is put back, and the next number is drawn."""
+    with Guarded(program) as on:
+        on.start().sessions(2)
+        on.stop()
+        whole = store.contents(on.numbers())
+        harms = {"emptied": b"", "cut": whole[:5], "cut to its gate": whole[:1], "of zeros": bytes(26), "garbled": bytes(range(100, 126)), "longer, and of zeros": bytes(400)}
+        for name, data in harms.items():
+            written(on.numbers(), data)
+            try:
+                on.refused(f"{on.store}: it holds logs, and seq2 doesn't tell the last number: put seq2 back from a copy")
+            except Differs as fault:
+                raise Differs(f"{name}: {fault}") from None
+        os.remove(on.numbers())
+        on.refused(f"{on.store}: it holds logs, and seq2 doesn't tell the last number")
+        written(on.numbers(), whole)
+        on.start()
+        same("the next log", on.sessions(), ["000003"])
+
+
+def part_number_file_is_older(program):
+    """Put back from before a session; also with numbers between that have no log."""
+    with Guarded(program) as on:
+        on.start().sessions(1)
+        on.stop()
+        older = store.contents(on.numbers())
+        on.server.start()
+        on.sessions(3)
+        on.stop()
+        newer = store.contents(on.numbers())
+        for gone in (None, "000002", "000003"):
+            if gone:
+                shutil.rmtree(store.folder_of(on.store, gone))
+            written(on.numbers(), older)
+            on.refused(f"{on.store}: it holds log 000004, and the last number that seq2 tells is 000001")
+        shutil.rmtree(store.folder_of(on.store, "000004"))
+        on.server.start()
+        same("the next log", on.sessions(), ["000002"])
+        on.stop()
+        written(on.numbers(), newer)
+        on.server.start()
+        same("the next log", on.sessions(), ["000005"])
+
+
+def part_number_file_made_by_hand(program):
+    """As OPERATIONS has it, without a copy."""
+    with Guarded(program) as on:
+        on.start().sessions(2)
+        on.stop()
+        os.remove(on.numbers())
+        on.refused("it holds logs")
+        line = r"""n=$((36#000002)); printf "\\x01\\x00$(printf '\\x%02x\\x%02x\\x%02x\\x%02x' $((n>>24)) $((n>>16&255)) $((n>>8&255)) $((n&255)))\\0\\0\\0\\0\\0\\0\\0\\x01" > "$0" && chmod 600 "$0" """
+        subprocess.run(["bash", "-c", line, on.numbers()], check=True)
+        on.server.start()
+        same("the next log", on.sessions(), ["000003"])
+
+
+def part_number_file_of_lanes(program):
+    """Files of other lanes count too, and those of an older store."""
+    with Guarded(program) as on:
+        on.start().sessions(2)
+        on.stop()
+        entry = lambda last, lane, lanes: b"".join(number.to_bytes(4, "big") for number in (last, lane, lanes))
+        older = b"\1" + entry(1, 0, 1) + b"\1" + entry(2, 0, 1) + b"\0"
+        os.remove(on.numbers())
+        written(os.path.join(on.store, "seq"), older[:14])
+        on.refused("it holds log 000002, and the last number that seq2 tells is 000001")
+        written(os.path.join(on.store, "seq"), older)
+        on.server.start()
+        same("the next log", on.sessions(), ["000003"])
+        on.stop()
+        os.remove(os.path.join(on.store, "seq"))
+        # that of lane 1 of 2 covers log 4, which is lane 1's
+        shutil.copytree(store.folder_of(on.store, "000003"), store.folder_of(on.store, "000004"))
+        on.refused("it holds log 000004, and the last number that seq2 tells is 000003")
+        written(on.numbers() + ".1", b"\1\0" + entry(4, 1, 2) + bytes(12))
+        on.server.start()
+        same("the next log but one", on_next(on), ["000005"])
+
+
+def on_next(on):
+    """A folder that exists isn't written to: the session is answered by a fault, and the next one has its log."""
+    before = on.contents()
+    link = on.server.connect()
+    link.send(client.hello(), ACCEPT)
+    answers = [link.read(), link.read()]
+    same("the answer", answers[1], ("error", "device fault"))
+    link.close()
+    changed = [path for path in differing(before, on.contents()) if path != on.numbers()]
+    same("files that differ", changed, [])
+    said = f"{store.folder_of(on.store, '000004')}: create: this folder of a new log exists, so the number file is older than the store: nothing in it is changed"
+    if said not in on.place.said():
+        raise Differs(f"{said!r} wasn't said: {on.place.said()!r}")
+    return on.sessions()
+
+
+def part_folders_that_are_no_logs(program):
+    """Empty folders, files and other names in the store are no logs: no good store is refused for them."""
+    with Guarded(program) as on:
+        on.start().sessions(1)
+        on.stop()
+        for name in ("ZZ", "ZZ/ZZ", "00/ZZ", "lost+found", "zz", "0", "00/00/zz", "000"):
+            os.mkdir(os.path.join(on.store, name))
+        for name in ("Z9", "00/Z9", "00/00/Z9", "notes"):
+            written(os.path.join(on.store, name), b"text")
+        os.mkdir(os.path.join(os.fsencode(on.store), b"\xff\xff"))
+        on.server.start()
+        same("the next log", on.sessions(), ["000002"])
+    with Guarded(program) as on:
+        for name in ("", "00", "00/00", "00/01"):
+            os.mkdir(os.path.join(on.store, name), 0o700)
+        on.start()
+        same("the first log", on.sessions(), ["000001"])
+
+
+def part_half_made_log(program):
+    """What a crash leaves of the making of a log: its number was drawn, and its folder has some of the files, or none."""
+    with Guarded(program) as on:
+        on.start().sessions(2)
+        on.stop()
+        folder = store.folder_of(on.store, "000002")
+        for name in ("slots", "timing", "log.json"):
+            os.remove(os.path.join(folder, name))
+        on.server.start()
+        same("the next log", on.sessions(), ["000003"])
+        on.stop()
+        shutil.rmtree(store.folder_of(on.store, "000003"))
+        os.mkdir(store.folder_of(on.store, "000003"), 0o700)
+        on.server.start()
+        same("the next log", on.sessions(), ["000004"])
+
+
+def part_number_file_while_it_runs(program):
+    """A folder that somebody put in the place of the next logs while the server runs: none is written to."""
+    with Guarded(program) as on:
+        on.start().sessions(2)
+        for whole, digits in ((True, "000003"), (False, "000004")):
+            folder = store.folder_of(on.store, digits)
+            shutil.copytree(store.folder_of(on.store, "000001"), folder)
+            if not whole:
+                os.remove(os.path.join(folder, "slots"))
+        for digits in ("000003", "000004"):
+            before = on.contents()
+            link = on.server.connect()
+            link.send(client.hello(), ACCEPT)
+            same("the answer", [link.read()[0], link.read()], ["hello", ("error", "device fault")])
+            link.close()
+            same("files that differ", [path for path in differing(before, on.contents()) if path != on.numbers()], [])
+            said = f"sudo_logsrvd: {store.folder_of(on.store, digits)}: create: this folder of a new log exists"
+            if said not in on.place.said():
+                raise Differs(f"{said!r} wasn't said: {on.place.said()!r}")
+        same("the next log", on.sessions(), ["000005"])
+
+
+def part_one_event_log(program):
+    """A second server with another folder and port, and the same event log, is refused; one with another event log in the same folder
+    runs."""
+    with Guarded(program) as on:
+        on.start().sessions(1)
+        other = os.path.join(on.place.folder, "other")
+        same_events = on.settings("second", store=other)
+        on.refused(f"{on.events}: lock: another server uses this event log", conf=same_events)
+        linked = os.path.join(on.place.folder, "linked")
+        os.symlink(on.events, linked)
+        on.refused(f"{on.place.folder}/linked", conf=on.settings("third", store=other, events=linked))
+        os.remove(linked)
+        # one of the two files is removed under the server
+        os.rename(on.events + ".slots", on.events + ".kept")
+        on.refused(on.events, conf=same_events)
+        os.rename(on.events + ".kept", on.events + ".slots")
+        os.rename(on.events, on.events + ".kept")
+        on.refused(f"{on.events}: lock: another server uses this event log", conf=same_events)
+        os.rename(on.events + ".kept", on.events)
+        _, child = on.runs(on.settings("fourth", store=other, events=on.events + "-of-another"))
+        child.kill()
+        on.sessions(1)
+        same("event lines", [line["accept"]["iolog"] for line in map(json.loads, store.lines(on.events)) if "accept" in line], ["000001", "000002"])
+
+
+def part_rotated_event_log(program):
+    """As OPERATIONS has it: while no server runs, the log is moved and its journal removed."""
+    with Guarded(program) as on:
+        on.start().sessions(1)
+        on.stop()
+        os.rename(on.events, on.events + "-20261128")
+        os.remove(on.events + ".slots")
+        on.server.start()
+        on.sessions(1)
+        same("event lines", len(store.lines(on.events)), 2)
+
+
+def part_event_log_replaced(program):
+    """Another file in the place of the event log while the server runs: it isn't written to, however many files were open between."""
+    with Guarded(program) as on:
+        on.start().sessions(1)
+        os.rename(on.events, on.events + ".moved")
+        written(on.events, b"of another\n")
+        on.sessions(70)
+        same("the other file", store.contents(on.events), b"of another\n")
+
+
+def part_lock_removed(program):
+    """The file `lock` is removed while a server runs: a second one is refused all the same."""
+    with Guarded(program) as on:
+        on.start().sessions(1)
+        second = on.settings("second", events=on.events + "-of-another")
+        on.refused(f"{on.store}: lock: another server uses this store", conf=second)
+        os.remove(os.path.join(on.store, "lock"))
+        on.refused(f"{on.store}: lock: another server uses this store", conf=second)
+        same("the next log", on.sessions(1), ["000002"])
+
+
+def part_event_log_that_was_cut(program):
+    """`copytruncate` under a running server, and a line after it: the store is refused, and says what to do. That works."""
+    with Guarded(program) as on:
+        on.start().sessions(1)
+        written(on.events, b"")
+        on.sessions(1)
+        on.stop()
+        same("the first byte", store.contents(on.events)[:1], b"\0")
+        on.refused(f"{on.events}: it begins with bytes of 0", "copytruncate", f"move it and {on.events}.slots away together")
+        for name in (on.events, on.events + ".slots"):
+            os.rename(name, name + "-moved")
+        on.server.start()
+        same("the next log", on.sessions(1), ["000003"])
+
+
+def part_event_log_of_a_crash(program):
+    """Bytes of 0 that a crash left of a first line that wasn't committed are no reason to refuse."""
+    with Guarded(program) as on:
+        on.start()
+        on.stop()
+        written(on.events, bytes(300))
+        on.server.start()
+        on.sessions(1)
+        same("event lines", len(store.lines(on.events)), 2)
+
+
+def part_places_that_collide(program):
+    """The event log among the store's own files, a folder, a link to nothing."""
+    with Guarded(program) as on:
+        on.start().sessions(1)
+        on.stop()
+        for name in ("seq2", "seq", "seq2.1", "lock", "relay.lock", "00", "00/00/02/x", "ZZ", "00/00/01/log.json", "./seq2", "00/../seq2"):
+            on.refused(f"{on.store}/{name}: path of [logfile] has the name of a file or a folder of the store", conf=on.settings("further", events=f"{on.store}/{name}"))
+        link = os.path.join(on.place.folder, "link")
+        os.symlink(on.numbers(), link)
+        on.refused(f"{link}: path of [logfile] has the name of", conf=on.settings("further", events=link))
+        os.remove(link)
+        on.refused("path of [logfile] has the name of", conf=on.settings("further", events=on.store))
+        on.refused("path of [logfile] has the name of", conf=on.settings("further", store=on.store + "/new/logs", events=on.store + "/new"))
+        folder = os.path.join(on.place.folder, "folder")
+        os.mkdir(folder)
+        on.refused(f"{folder}: it is a folder, and path of [logfile] names a file", conf=on.settings("further", events=folder))
+        os.symlink(folder + "/nothing", link)
+        on.refused(f"{link}: it is a link to a file that doesn't exist", conf=on.settings("further", events=link))
+        _, child = on.runs(on.settings("fits", events=on.store + "/events"))
+        child.kill()
+
+
+def part_paths_that_may_not_be_meant(program):
+    """Quotes, escapes and relative paths are warned of, and taken as they stand."""
+    with Guarded(program) as on:
+        folder = on.place.folder
+        cases = {f'"{folder}/store"': "quotes are part of the name", f"{folder}/%{{hostname}}": "escapes such as %{user} aren't replaced", "logs": "let it begin with /"}
+        here = os.getcwd()
+        os.chdir(folder)
+        try:
+            for path, words in cases.items():
+                said, child = on.runs(on.settings("further", store=path))
+                child.kill()
+                child.wait()
+                if f"sudo_logsrvd: {path}: warning: iolog_dir: " not in said or words not in said:
+                    raise Differs(f"{path}: {said!r}")
+                said, child = on.runs(on.settings("further", store=folder + "/other", events=path + "-lines" if path != "logs" else "lines"))
+                child.kill()
+                child.wait()
+                if "warning: path of [logfile]: " not in said or words not in said:
+                    raise Differs(f"{path}: {said!r}")
+        finally:
+            os.chdir(here)
+        said, _ = on.runs(on.place.conf)
+        same("warnings", said.count("warning"), 0)
+
+
+def limit_of(count):
+    return lambda: resource.setrlimit(resource.RLIMIT_NOFILE, (count, count))
+
+
+def part_few_descriptors(program):
+    """Too few for one client end the server; few are told; and one client at least is served, however many logs come."""
+    with Guarded(program) as on:
+        for count in (10, 20, 31):
+            said = on.ended(on.place.conf, 7, before=limit_of(count))
+            for word in (f"the limit of open files is {count}: not one client can be served", "704", "LimitNOFILE=", "port fault"):
+                if word not in said:
+                    raise Differs(f"{word!r} isn't in {said!r}")
+        for count, clients in ((32, 1), (64, 1), (256, 1), (600, 24), (703, 127), (704, 128)):
+            on.server.before = limit_of(count)
+            told = len(on.place.said()) if os.path.exists(on.place.errors) else 0
+            on.server.start()
+            on.sessions(20)
+            on.stop()
+            said = on.place.said()[told:]
+            same(f"faults with {count}: {said!r}", "Too many" in said, False)
+            wanted = f"warning: the limit of open files is {count}: at most {clients} of 128 clients are served at once"
+            same(f"warned of {count}: {said!r}", wanted in said, clients < CLIENTS)
+
+
+def part_client_turned_away(program):
+    """The link above the most is told, once a minute."""
+    with Guarded(program) as on:
+        on.start()
+        links = [on.server.connect() for _ in range(CLIENTS)]
+        for link in links:
+            link.send(client.hello())
+        for link in links:
+            same("the answer", link.read()[0], "hello")
+        away = []
+        for _ in range(3):
+            link = socket.create_connection(("127.0.0.1", on.place.port), timeout=10)
+            away.append(link.getsockname()[1])
+            link.settimeout(10)
+            same("what a link that is turned away gets", link.recv(1), b"")
+            link.close()
+        said = [line for line in on.place.said().splitlines() if "turned away" in line]
+        same("lines", said, [f"sudo_logsrvd: 128 clients are connected, 127.0.0.1:{away[0]} was turned away; see who they are by ss -tn 'sport = :{on.place.port}'"])
+        for link in links:
+            link.close()
+        on.sessions(1)
+
+
+def part_port_in_use(program):
+    """The line of a port that is in use says what to do."""
+    with Guarded(program) as on:
+        with socket.create_server(("127.0.0.1", on.place.port)):
+            said = on.ended(on.place.conf, 7)
+        if "another program listens there: end it, or change listen_address" not in said:
+            raise Differs(said)
+
+
+def part_advice_fits(program):
+    """What is advised of a store that can't be opened fits the error."""
+    with Guarded(program) as on:
+        file = os.path.join(on.place.folder, "file")
+        written(file, b"")
+        on.refused("what stands where a folder is needed is none", conf=on.settings("further", store=file))
+        on.refused("what stands where a folder is needed is none", conf=on.settings("further", store=file + "/logs"))
+        if os.getuid() != 0:
+            on.refused("let who runs the server own both", conf=on.settings("further", store="/root/logs"))
+
+
+def part_start_line(program):
+    """It names the event log, and says who may write where the address isn't of the loopback."""
+    with Guarded(program) as on:
+        said, child = on.runs(on.place.conf)
+        same("the start line", said, f"sudo_logsrvd: listening on 127.0.0.1:{on.place.port}, logs in {on.store}, last log 000000, events in {on.events}\n")
+        child.kill()
+        child.wait()
+        for address, is_open in (("*", True), ("0.0.0.0", True), ("localhost", False), ("[::1]", False), ("127.0.0.2", False)):
+            with open(on.place.conf, encoding="utf-8") as file:
+                text = file.read().replace("127.0.0.1", address)
+            conf = os.path.join(on.place.folder, "further")
+            written(conf, text.encode())
+            try:
+                said, child = on.runs(conf)
+            except Differs as fault:
+                if address == "[::1]" and "address" in str(fault):
+                    continue
+                raise
+            child.kill()
+            child.wait()
+            same(f"the warning of {address}", said.endswith("; any host that reaches this port may write\n"), is_open)
+
+
+def main():
+    words = argparse.ArgumentParser(description=__doc__, formatter_class=argparse.RawDescriptionHelpFormatter)
+    words.add_argument("--server", required=True)
+    words.add_argument("--only", default="")
+    args = words.parse_args()
+    count = differ = 0
+    for name, part in list(globals().items()):
+        if not name.startswith("part_") or args.only not in name:
+            continue
+        count += 1
+        try:
+            part(os.path.realpath(args.server))
+        except (Differs, client.Closed, servers.Failed, store.Damaged, TimeoutError, subprocess.SubprocessError) as fault:
+            differ += 1
+            print(f"{name[5:]}: {str(fault) or type(fault).__name__}", flush=True)
+        except Exception:  # pylint: disable=broad-except
+            differ += 1
+            print(f"{name[5:]}: {traceback.format_exc()}", flush=True)
+    print(f"guards.py: {count} tried, {differ} differ")
+    return 1 if differ else 0
+
+
+if __name__ == "__main__":
+    sys.exit(main())
