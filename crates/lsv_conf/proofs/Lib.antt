@@ -1,5 +1,6 @@
 mod Cuts
 mod Blanks
+mod Finding
 mod Forms
 mod Hosts
 mod Ports

@@ -10,7 +10,7 @@ use Rattle.lsv_conf.specs.Inner.{HasNames, placed_setting, values_of, with_given
 use Rattle.lsv_conf.specs.Lines.{Empty, Section, Placed}
 use Rattle.lsv_conf.specs.Settings.{note_by, noted, notes_of, settings_by, settings_of, told, value_by, value_of}
 use Rattle.lsv_conf.specs.Table.{Row, row_of, table}
-use Rattle.lsv_conf.specs.Values.{Values}
+use Rattle.lsv_conf.specs.declared.row.Values.{Values}
 use Rattle.lsv_conf.specs.declared.conf.Note.{Note}
 use Rattle.lsv_conf.specs.declared.row.Key.{Key}
 use Rattle.lsv_conf.specs.declared.row.Key.TheVariants as key

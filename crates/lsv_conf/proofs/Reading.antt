@@ -34,7 +34,7 @@ find_on p (x ∷ xs) ys e =
     let parts = find_rest (p x) x (find p xs) e in
     ap (λ t. cond t (Some x) (find p (xs ++ ys))) parts.0 ∙ find_on p xs ys parts.1
 
-no_more : {A : Type 0} (xs : List A) → xs ++ [] ≡ xs
+pub no_more : {A : Type 0} (xs : List A) → xs ++ [] ≡ xs
 no_more [] = refl
 no_more (x ∷ xs) = ap (λ rest. x ∷ rest) (no_more xs)
 

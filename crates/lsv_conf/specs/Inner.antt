@@ -8,8 +8,10 @@ use Rattle.lsv_conf.specs.Lines as spec
 use Rattle.std.specs.Str.{is_utf8, str_eq_ignore_ascii_case}
 use Rattle.lsv_conf.specs.Lines.{Placed}
 use Rattle.lsv_conf.specs.Settings.{Settings, is_true}
-use Rattle.lsv_conf.specs.Values.{Values, Listening, Upstream, Truth, Sequence, Format, Texts, is_prompt, kind_of, prompts_of, with_port}
-use Rattle.lsv_conf.specs.Values as values
+use Rattle.lsv_conf.specs.Values.{is_prompt, kind_of, prompts_of, with_port}
+use Rattle.lsv_conf.specs.declared.row.Values.{Values}
+use Rattle.lsv_conf.specs.declared.row.Values.TheVariants.{Listening, Upstream, Truth, Sequence, Format, Texts}
+use Rattle.lsv_conf.specs.declared.row.Values.TheVariants as values
 use Rattle.lsv_event.specs.declared.event.Kind.TheVariants.{Sudo}
 use Rattle.lsv_conf.specs.declared.draft.Draft.{Draft}
 use Rattle.lsv_conf.specs.declared.line.Line.{Line}

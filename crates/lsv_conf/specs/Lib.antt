@@ -1,5 +1,6 @@
 pub mod Inner
 pub mod Lines
+pub mod Refusals
 pub mod Settings
 pub mod Table
 pub mod Texts

@@ -2,7 +2,8 @@
 use Rattle.std.specs.Prelude.{ℕ, List, [], ◌∷◌, Option, Some, None, Bool, ◌&&◌, codes, find}
 use Rattle.std.specs.Str.{str_eq_ignore_ascii_case}
 use Prim.Native.String.{String}
-use Rattle.lsv_conf.specs.Values.{Values, Listening, Upstream, Truth, Path, Sequence, Format, Texts}
+use Rattle.lsv_conf.specs.declared.row.Values.{Values}
+use Rattle.lsv_conf.specs.declared.row.Values.TheVariants.{Listening, Upstream, Truth, Path, Sequence, Format, Texts}
 
 -- a key of a section: its name, what it takes, and the value that counts where none is given
 pub record Row : Type 0 where

@@ -5,6 +5,8 @@ use Rattle.std.specs.Option.{option_map_or}
 use Rattle.std.specs.Str.{all_ascii_digits, bytes_eq}
 use Rattle.std.specs.Str.Parse.{digits_value}
 use Rattle.lsv_conf.specs.Texts.{before, behind, is_empty, pieces, trimmed}
+use Rattle.lsv_conf.specs.declared.row.Values.{Values}
+use Rattle.lsv_conf.specs.declared.row.Values.TheVariants.{Listening, Upstream, Truth, Path, Sequence, Format, Texts}
 use Rattle.lsv_event.specs.declared.event.Kind.{Kind}
 use Rattle.lsv_event.specs.declared.event.Kind.TheVariants.{Sudo, Json}
 
@@ -71,23 +73,6 @@ prompts_of value = map trimmed (pieces 44 value)
 -- a text of 1 to 64 bytes
 abbrev pub is_prompt : List ℕ → Bool
 is_prompt text = not (is_empty text) && nat_le (length text) 64
-
--- what a key takes as its value
-pub data Values : Type 0 where
-  -- an address to listen at, of which the host may be `*`
-  Listening : Values
-  -- an address of another server
-  Upstream : Values
-  -- true, yes, on, 1, false, no, off, 0
-  Truth : Values
-  -- one byte or more
-  Path : Values
-  -- `%{seq}` alone
-  Sequence : Values
-  -- sudo, json
-  Format : Values
-  -- one to sixteen texts of 1 to 64 bytes with commas between them
-  Texts : Values
 
 -- whether a value is one of these
 abbrev pub takes : Values → List ℕ → Bool

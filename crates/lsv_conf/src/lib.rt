@@ -6,6 +6,7 @@ mod conf;
 mod draft;
 mod line;
 mod read;
+mod refused;
 mod row;
 mod text;
 mod value;
@@ -13,3 +14,7 @@ mod value;
 pub use conf::{Conf, ConfFault, Note};
 pub use lsv_event::Kind;
 pub use read::read_conf;
+pub use refused::{
+    Refused, RefusedLine, WrongValue, refused_lines, the_first_is_the_line_of_read_conf,
+};
+pub use row::Values;

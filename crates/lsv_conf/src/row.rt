@@ -1,6 +1,6 @@
 ghost use Rattle.std.specs.Prelude.{◌≡◌, ◌&&◌, None, MatchOption};
 ghost use Rattle.std.specs.Str.{str_eq_ignore_ascii_case};
-ghost use Rattle.lsv_conf.specs.Inner.{HasNames};
+ghost use Rattle.lsv_conf.specs.Inner.{HasNames, values_of};
 ghost use Rattle.lsv_conf.specs.Table.{row_of};
 
 /// The keys that may be set.
@@ -16,6 +16,42 @@ pub enum Key {
     LogFormat,
     LogExit,
     Path,
+}
+
+/// The values that a key takes.
+#[derive(Clone, Copy, Debug, PartialEq, Eq)]
+pub enum Values {
+    /// An address to listen at, whose host may be `*`.
+    Listening,
+    /// An address of another server.
+    Upstream,
+    /// true, yes, on, 1, false, no, off, 0.
+    Truth,
+    /// One byte or more.
+    Path,
+    /// `%{seq}` alone.
+    Sequence,
+    /// sudo, json.
+    Format,
+    /// One to sixteen texts of 1 to 64 bytes with commas between them.
+    Texts,
+}
+
+impl Key {
+    /// The values that it takes.
+    pub fn values(self) -> Values
+        ensures { result ≡ values_of self }
+    {
+        match self {
+            Key::ListenAddress => Values::Listening,
+            Key::RelayHost => Values::Upstream,
+            Key::StoreFirst | Key::LogPasswords | Key::LogExit => Values::Truth,
+            Key::IologDir | Key::Path => Values::Path,
+            Key::IologFile => Values::Sequence,
+            Key::Prompts => Values::Texts,
+            Key::LogFormat => Values::Format,
+        }
+    }
 }
 
 /// Whether the names of a section and a key are these, without regard to the case of ASCII letters.

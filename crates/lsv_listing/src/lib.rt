@@ -9,3 +9,4 @@ mod numbers;
 pub use fault::ListFault;
 pub use laws::{a_stored_log_is_found, stored_logs_are_listed};
 pub use listing::list_logs;
+pub use numbers::last_number;

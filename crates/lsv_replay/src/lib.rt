@@ -6,5 +6,5 @@ mod program;
 mod status;
 
 pub use laws::a_stored_log_is_shown;
-pub use program::sudoreplay;
+pub use program::{are_text, request_of, sudoreplay};
 pub use status::ReplayStatus;

@@ -52,7 +52,7 @@ pub fn sudoreplay<D: Disk, S: Screen>(
 }
 
 /// What the words ask for. A word that isn't UTF-8 is no word of the program's.
-fn request_of(alloc: Global, words: &List<Bytes>) -> Result<Request, ArgFault>
+pub fn request_of(alloc: Global, words: &List<Bytes>) -> Result<Request, ArgFault>
     ensures ok { IfOk result (λ r. Asks words.now (asked_in r)) }
     ensures text { IfOk result (λ r. IsTextual r.task) }
     ensures usage { result ≡ Err faults.Usage → IsUsage words.now }
@@ -64,7 +64,7 @@ fn request_of(alloc: Global, words: &List<Bytes>) -> Result<Request, ArgFault>
 }
 
 /// Whether each word is UTF-8.
-fn are_text(words: &[Bytes]) -> bool
+pub fn are_text(words: &[Bytes]) -> bool
     ensures { result ≡ list_all is_utf8 words.now }
 {
     words.iter().all(|word| is_text(word.as_slice()))

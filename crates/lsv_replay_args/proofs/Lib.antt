@@ -8,3 +8,4 @@ pub mod Parsed
 pub mod Rows
 pub mod TextWords
 pub mod Walking
+mod Unfits

@@ -5,3 +5,4 @@ pub mod Program
 pub mod Request
 pub mod Streams
 pub mod Texts
+pub mod Unfit

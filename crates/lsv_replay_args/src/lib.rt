@@ -6,8 +6,10 @@ mod forms;
 mod program;
 mod request;
 mod streams;
+mod unfit;
 mod words;
 
 pub use forms::options_stand_in_any_order;
 pub use lsv_args::ArgFault;
 pub use request::{Request, Task, read_request};
+pub use unfit::{Unfit, find_unfit};

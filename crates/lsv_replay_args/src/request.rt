@@ -64,7 +64,7 @@ pub fn read_request(alloc: Global, words: &List<Bytes>) -> Result<Request, ArgFa
 }
 
 /// What clap makes of the words.
-fn matched<'a>(alloc: Global, words: &'a [&'a str]) -> Result<ArgMatches<'a>, ArgFault>
+pub fn matched<'a>(alloc: Global, words: &'a [&'a str]) -> Result<ArgMatches<'a>, ArgFault>
     ensures taken { OnOk result (fault_of program (map (λ w. w.now) words.entry.now) ≡ []) }
     ensures rows { IfOk result (λ m. rows_of (found_of m) ≡ matches_of program (map (λ w. w.now) words.entry.now)) }
     ensures usage { result ≡ Err ArgFault.Usage → fault_of program (map (λ w. w.now) words.entry.now) ≢ [] }
@@ -96,7 +96,7 @@ fn task_of(alloc: Global, found: &ArgMatches<'_>, options: Options) -> Result<Ta
 }
 
 /// The value of an option, if it is given.
-fn value_of<'a>(found: &ArgMatches<'a>, id: &str) -> Option<&'a str>
+pub fn value_of<'a>(found: &ArgMatches<'a>, id: &str) -> Option<&'a str>
     ensures { option_map (λ text. text.now) result ≡ first_of id.now (rows_of (found_of found.now)) }
 {
     found.get_str(id)
@@ -113,7 +113,7 @@ fn dir_of<'a>(found: &ArgMatches<'a>) -> &'a str
 }
 
 /// The words that belong to no option.
-fn words_of(alloc: Global, found: &ArgMatches<'_>) -> Result<List<Bytes>, NoMem>
+pub fn words_of(alloc: Global, found: &ArgMatches<'_>) -> Result<List<Bytes>, NoMem>
     ensures words { IfOk result (λ words. words ≡ words_of (rows_of (found_of found.now))) }
     ensures text { IfOk result (λ words. IsTrue (list_all is_utf8 words)) }
 {
@@ -139,7 +139,7 @@ fn options_of(found: &ArgMatches<'_>) -> Option<Options>
 }
 
 /// The streams that are shown.
-fn streams_asked(list: Option<&str>) -> Option<[bool; 5]>
+pub fn streams_asked(list: Option<&str>) -> Option<[bool; 5]>
     ensures { result ≡ streams_asked (option_map (λ text. text.now) list.entry) }
 {
     match list {
@@ -149,7 +149,7 @@ fn streams_asked(list: Option<&str>) -> Option<[bool; 5]>
 }
 
 /// The longest wait, if there is one.
-fn longest_asked(text: Option<&str>) -> Option<Option<u64>>
+pub fn longest_asked(text: Option<&str>) -> Option<Option<u64>>
     ensures { result ≡ longest_asked (option_map (λ text. text.now) text.entry) }
 {
     match text {
@@ -159,7 +159,7 @@ fn longest_asked(text: Option<&str>) -> Option<Option<u64>>
 }
 
 /// The speed, which isn't 0.
-fn speed_asked(text: Option<&str>) -> Option<u64>
+pub fn speed_asked(text: Option<&str>) -> Option<u64>
     ensures value { result ≡ speed_asked (option_map (λ text. text.now) text.entry) }
     ensures some { IfSome result (λ speed. 1 ≤ speed) }
 {
@@ -171,7 +171,7 @@ fn speed_asked(text: Option<&str>) -> Option<u64>
 }
 
 /// Whether an option without a value is among the words.
-fn is_set(found: &ArgMatches<'_>, id: &str) -> bool
+pub fn is_set(found: &ArgMatches<'_>, id: &str) -> bool
     ensures { result ≡ is_set_text (rows_of (found_of found.now)) id.now }
 {
     match value_of(found, id) {

@@ -1,3 +1,4 @@
+mod BadWords
 pub mod Compiled
 pub mod Evaluating
 pub mod Failing

@@ -1,3 +1,4 @@
+pub mod BadWords
 pub mod Dates
 pub mod Evaluation
 pub mod Grammar

@@ -39,7 +39,7 @@ const ALL: [Name; 9] = [
 
 impl Name {
     /// Its text.
-    fn text(self) -> &'static [u8]
+    pub fn text(self) -> &'static [u8]
         ensures { result.now ≡ text_of self }
     {
         match self {

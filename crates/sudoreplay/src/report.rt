@@ -1,0 +1,76 @@
+//! What is said of a run on standard error: in front of its status what was found, and after it what the program takes.
+
+use crate::{logs, search, usage};
+use lsv_base::{Bytes, List, LogNo};
+use lsv_disk::Part;
+use lsv_real::is_denied;
+use lsv_replay::{ReplayStatus, request_of};
+use lsv_replay_args::Task;
+use std::str;
+
+/// The forms of the command line.
+const FORMS: &str =
+    "usage: sudoreplay [-nS] [-d DIR] [-f LIST] [-m N] [-s N] ID, or sudoreplay -l [-d DIR] [SEARCH]";
+
+/// What a search is made of.
+const SEARCH: &str =
+    "a search: user, host, runas, group, tty, cwd, command, fromdate, todate, each with its argument; and, or, !, ( ); a date is YYYY-MM-DDTHH:MM:SSZ; words count from 0, after -l";
+
+/// What an identifier is, and where logs are looked for.
+const IDENTIFIER: &str =
+    "an identifier is six of 0 to 9 and A to Z, as TSID= shows it; the folder of the logs is that of -d, by default /var/log/sudo-io";
+
+/// Says what was found of what the words ask for.
+pub fn report(rt: &HostRuntime, words: &List<Bytes>, status: ReplayStatus) {
+    if status == ReplayStatus::Usage {
+        return usage::say(rt, words);
+    }
+    let Ok(request) = request_of(rt.alloc(), words) else {
+        return;
+    };
+    let dir = request.dir.as_str();
+    if status == ReplayStatus::ReadFault && is_denied(rt, dir) {
+        let _ = eprintln!(rt;
+            "sudoreplay: {dir}: only root and the user that runs the server may read this store"
+        );
+    }
+    match (&request.task, status) {
+        (Task::List(words), ReplayStatus::BadExpression(at)) => search::say(rt, words, at),
+        (Task::List(_), ReplayStatus::Shown) => logs::say_unlisted(rt, dir, false),
+        (Task::List(_), ReplayStatus::Damaged(_)) => logs::say_unlisted(rt, dir, true),
+        (Task::Play(_, id), ReplayStatus::Damaged(part)) => report_damage(rt, dir, id, part),
+        (Task::Play(_, id), ReplayStatus::Absent) => report_absence(rt, dir, id),
+        _ => {}
+    }
+}
+
+/// Says which part of a log that was to be played is at fault.
+fn report_damage(rt: &HostRuntime, dir: &str, id: &Bytes, part: Part) {
+    if let Some(number) = LogNo::read(id.as_slice()) {
+        logs::say_damaged(rt, dir, number, part, "");
+    }
+}
+
+/// Says why there is no log of an identifier, if more is known.
+fn report_absence(rt: &HostRuntime, dir: &str, id: &Bytes) {
+    if let Some(number) = LogNo::read(id.as_slice()) {
+        logs::say_journal_gone(rt, dir, number, "it can't be played");
+        return;
+    }
+    if let Ok(id) = str::from_utf8(id.as_slice()) {
+        let _ = eprintln!(rt;
+            "sudoreplay: {id:?} is no identifier: paths and offsets aren't taken"
+        );
+    }
+}
+
+/// Says what the program takes, if that may help.
+pub fn advise(rt: &HostRuntime, status: ReplayStatus) {
+    let text = match status {
+        ReplayStatus::Usage => FORMS,
+        ReplayStatus::BadExpression(_) => SEARCH,
+        ReplayStatus::Absent => IDENTIFIER,
+        _ => return,
+    };
+    let _ = eprintln!(rt; "{text}");
+}
