@@ -1,7 +1,0 @@
-//! Tests of a lane, its tape and the loop, by their public calls alone.
-#![tactic(auto)]
-
-#[cfg(test)]
-mod loops;
-#[cfg(test)]
-mod scripted;
