@@ -46,7 +46,8 @@ INSTALLED = \
 	$(MANDIR)/man8/$(FRONT)sudoreplay.8 \
 	$(MANDIR)/man5/$(FRONT)sudo_logsrvd.conf.5
 
-PAGES = README.md CHANGELOG.md LICENSE $(addprefix docs/,ARCHITECTURE.md DECISIONS.md FORMATS.md OPERATIONS.md PROOFS.md SETTINGS.md SPEC.md TRUST.md)
+PAGES = README.md CHANGELOG.md LICENSE bench/RESULTS.md \
+	$(addprefix docs/,ARCHITECTURE.md CONTRIBUTING.md DECISIONS.md FORMATS.md OPERATIONS.md PROOFS.md SETTINGS.md SPEC.md TRUST.md)
 
 .PHONY: all help prove build run run-proved test check wrong-bodies measures bench interop drill power install uninstall installed pages dist clean
 
@@ -119,7 +120,9 @@ install: ## install what `make` proved and built; it proves nothing
 	install -D -m 644 man/sudo_logsrvd.conf.5 $(DESTDIR)$(MANDIR)/man5/$(FRONT)sudo_logsrvd.conf.5
 	install -d $(DESTDIR)$(DOCDIR)/examples
 	install -m 644 $(PAGES) $(DESTDIR)$(DOCDIR)
-	sed -i 's#](docs/#](#g' $(DESTDIR)$(DOCDIR)/README.md $(DESTDIR)$(DOCDIR)/CHANGELOG.md
+	install -m 644 crates/README.md $(DESTDIR)$(DOCDIR)/CRATES.md
+	sed -i -e 's#](docs/#](#g' -e 's#](\.\./docs/#](#g' -e 's#](\(\.\./\)\?bench/#](#g' -e 's#](\(\.\./\)\?crates/README#](CRATES#g' \
+	  $(addprefix $(DESTDIR)$(DOCDIR)/,$(notdir $(filter %.md,$(PAGES))) CRATES.md)
 	install -m 644 etc/sudo_logsrvd.conf etc/tmpfiles etc/proxy.socket $(DESTDIR)$(DOCDIR)/examples
 	for sample in logrotate proxy.service; do \
 	  sed -e 's#\(systemctl .*\|=\)\bsudo_logsrvd\b#\1$(FRONT)sudo_logsrvd#' etc/$$sample >$(DESTDIR)$(DOCDIR)/examples/$$sample && \
