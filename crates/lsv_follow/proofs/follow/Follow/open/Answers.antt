@@ -1,0 +1,25 @@
+-- A log is opened with nothing shown, and isn't damaged if the disk holds it.
+use Rattle.std.proofs.Common.{◌≡◌, ◌⊎◌, refl, sym, subst}
+use Rattle.lsv_iolog.specs.declared.fault.LogFault.{LogFault}
+use Rattle.lsv_iolog.specs.declared.fault.LogFault.TheVariants as logs
+use Rattle.lsv_iolog.proofs.Viewing.{err_of}
+use Rattle.lsv_playback.proofs.Undamaged.{no_view_damage}
+use Rattle.lsv_follow.proofs.Causes.{if_err_at, open_fault}
+use Rattle.lsv_follow.proofs.Follows.{cuts_are, not_absent}
+use Rattle.lsv_follow.proofs.follow.Follow.open.Goals as goal
+
+pub returns-in_err-view-clause-undamaged : goal.returns-in_err-view-clause-undamaged
+returns-in_err-view-clause-undamaged g c told log holds =
+    let image = (g.D.Disk.view c.args.disk.now).reads in
+    let e : LogFault = c.in_err-view.field-0.0 in
+    let is = open_fault e c.in_err-view.ensures.fault
+    (λ at. not_absent c.args.number image log holds (c.in_err-view.ensures.absent told (err_of e logs.Absent at)))
+    (λ part at. no_view_damage c.args.number image log holds part (c.in_err-view.ensures.damaged told part (err_of e (logs.Damaged part) at))) in
+    if_err_at c.from_residual.result e (λ x. (x ≡ logs.Disk) ⊎ (x ≡ logs.NoMem)) c.from_residual.ensures.1 (λ x at. subst (λ (y : LogFault). (y ≡ logs.Disk) ⊎ (y ≡ logs.NoMem)) (sym at) is)
+
+pub returns-clause-shows : goal.returns-clause-shows
+returns-clause-shows g c told log holds = record {
+  cuts = cuts_are c.args.number c.in_ok-view.view.body (g.D.Disk.view c.args.disk.now).reads log (c.in_ok-view.ensures.entry told) holds;
+  given = (c.in_ok-view.ensures.behind told).given;
+  first = (log.records, refl);
+}
