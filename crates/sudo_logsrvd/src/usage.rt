@@ -158,15 +158,16 @@ impl<'w> Walk<'w> {
 
     /// Notes that an option stands there.
     fn note(&mut self, option: &'w str) -> Result<(), Trouble<'w>> {
-        let place = match option {
-            "-f" => &mut self.seen[0],
-            "--lanes" => &mut self.seen[1],
-            _ => &mut self.seen[2],
+        let [file, lanes, stop_after] = self.seen;
+        let (was_seen, seen) = match option {
+            "-f" => (file, [true, lanes, stop_after]),
+            "--lanes" => (lanes, [file, true, stop_after]),
+            _ => (stop_after, [file, lanes, true]),
         };
-        if *place {
+        if was_seen {
             return Err(Trouble::Twice(option));
         }
-        *place = true;
+        self.seen = seen;
         Ok(())
     }
 
