@@ -103,7 +103,10 @@ fn trouble_in(words: &[Bytes]) -> Option<Trouble<'_>> {
             (None, _) => {}
         }
     }
-    due.map(Trouble::NoValue)
+    match due {
+        Some(letter) => Some(Trouble::NoValue(letter)),
+        None => None,
+    }
 }
 
 /// Takes the letters of a word of options. The option whose value is due in the next word, if one is.
