@@ -491,8 +491,8 @@ def untouched(server: Server) -> None:
 
 
 def one_log_fails() -> None:
-    """The first link brings more than one step takes: a turn has records of both logs, and its sync fails."""
-    server = Server("a sync of one log fails in a turn of two: its connection alone is shut")
+    """The first link brings more than one step takes, and the sync of its log fails in a later turn."""
+    server = Server("a sync of one log fails beside another: its connection alone is shut")
     many = 3000
     lines.append(f"faulty 1 {1 + many}")
     port = server.port()
@@ -506,8 +506,10 @@ def one_log_fails() -> None:
     assert PASSES < whole and many % MOST_JOBS
     for _ in range(many):
         one.bring("ttyout")
-    one.the_log().records += [TICK_RECORD] * (whole * MOST_JOBS)
-    one.put += b"".join(point(1 + n * MOST_JOBS) for n in range(1, whole + 1)) + error("device fault")
+    # The record of the second link comes first in the turn after its port reported it.
+    ends = [n * MOST_JOBS - (n >= PASSES + 2) for n in range(1, whole + 1)]
+    one.the_log().records += [TICK_RECORD] * ends[-1]
+    one.put += b"".join(point(1 + end) for end in ends) + error("device fault")
     two.give(TICK)
     first, one.log = one.the_log(), None
     one.gone()

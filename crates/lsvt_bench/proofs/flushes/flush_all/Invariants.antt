@@ -1,6 +1,6 @@
 use Rattle.std.proofs.Common.{◌≡◌}
 use Rattle.lsv_bundle.specs.declared.shape.Shape.TheVariants.{Log}
-use Rattle.lsvt_bench.proofs.disk.flush_all.Given as goal
+use Rattle.lsvt_bench.proofs.flushes.flush_all.Given as goal
 
 -- it is the bundle of a log
 abbrev pub invariant-loop-i : goal.invariant-loop-i

@@ -1,0 +1,7 @@
+use Rattle.std.proofs.Common.{◌≡◌, false}
+use Rattle.lsv_iolog.specs.Value.{is_complete}
+use Rattle.lsvt_bench.proofs.logs.append_all.Given as goal
+
+-- the log goes on
+abbrev pub invariant-loop : goal.invariant-loop
+invariant-loop l = is_complete l.log ≡ false
