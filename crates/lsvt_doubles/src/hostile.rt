@@ -61,6 +61,14 @@ impl Hostile {
         Ok(Hostile::over(alloc, failing(alloc, plan)?, plan))
     }
 
+    /// An empty disk whose calls of these numbers fail.
+    pub fn failing(alloc: Global, numbers: &[u64]) -> Result<Self, NoMem> {
+        match MemDisk::new(alloc, numbers) {
+            Ok(disk) => Ok(Hostile::over(alloc, disk, Plan::Whole)),
+            Err(_) => Err(NoMem),
+        }
+    }
+
     fn over(alloc: Global, disk: MemDisk, plan: Plan) -> Self {
         Hostile {
             disk,
