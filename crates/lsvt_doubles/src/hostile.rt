@@ -124,6 +124,16 @@ impl Hostile {
         self.failed.iter().all(|f| matches!(f.owner, Owner::Log(_)))
     }
 
+    /// How often a call on this file failed by its number.
+    pub fn failures(&self, f: FileId) -> u64 {
+        self.disk.failures(f)
+    }
+
+    /// How often a call failed because memory ran out.
+    pub fn refused(&self) -> u64 {
+        self.disk.refused()
+    }
+
     /// The bytes of a file.
     pub fn bytes(&self, f: FileId) -> Option<&[u8]> {
         self.disk.bytes(f)

@@ -21,7 +21,7 @@ pub struct Held {
 }
 
 /// Why a call of a bundle failed, with the part that it names.
-fn fault(fault: BundleFault) -> Error {
+pub fn fault(fault: BundleFault) -> Error {
     match fault {
         BundleFault::Damaged(part) => anyhow!("{fault}: {}", name_of(part)),
         BundleFault::Full(part) => anyhow!("{fault}: {}", name_of(part)),

@@ -44,6 +44,7 @@ pub fn call(alloc: Global, disk: &mut Hostile, words: &str) -> Result<String> {
         "sync" => done(alloc, disk.sync(file_of(of)?)),
         "synced" => synced(alloc, disk, of, rest),
         "show" => show(alloc, disk, of),
+        "failures" => failures(alloc, disk, of),
         _ => Err(anyhow!("a call of the disk")),
     }
 }
@@ -115,4 +116,10 @@ fn show(alloc: Global, disk: &mut Hostile, of: &str) -> Result<String> {
         Some(bytes) => Ok(format!(in alloc; "{} bytes {}", bytes.len(), hex::encode(alloc, bytes)?)?),
         None => Ok(format!(in alloc; "absent")?),
     }
+}
+
+/// How often a call on a file failed, and how often memory ran out.
+fn failures(alloc: Global, disk: &mut Hostile, of: &str) -> Result<String> {
+    let failures = disk.failures(file_of(of)?);
+    Ok(format!(in alloc; "{failures} failures, {} refused", disk.refused())?)
 }

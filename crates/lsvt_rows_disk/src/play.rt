@@ -120,15 +120,16 @@ impl Play {
         let alloc = self.alloc;
         if word == "open" {
             let opened = EventLog::open(alloc, &mut self.disk, words.parse::<u32>()?);
-            self.lines = Some(opened?);
+            self.lines = Some(opened.map_err(bundles::fault)?);
             return Ok(String::new(alloc));
         }
         let log = self.lines.as_mut().ok_or(anyhow!("an open event log"))?;
         match word {
-            "add" => log.add(&calls::bytes_of(alloc, words)?)?,
-            "flush" => log.flush(&mut self.disk)?,
+            "add" => log.add(&calls::bytes_of(alloc, words)?),
+            "flush" => log.flush(&mut self.disk),
             _ => return Err(anyhow!("a call of an event log")),
         }
+        .map_err(bundles::fault)?;
         Ok(String::new(alloc))
     }
 
