@@ -4,10 +4,14 @@ ghost use Rattle.lsv_words.specs.Causes.{HasRisen};
 ghost use Rattle.lsv_real.specs.Untold.{untold};
 
 use crate::call::{Call, CallFault};
+use crate::cut_notice::{JOURNAL, Resumed, is_cut, resumed_by};
 use crate::refusal::{is_refused, report_no_store, warn_of_places};
 use crate::store::Store;
 use lsv_disk::{Disk, DiskFault, FileId, Owner, Part};
 use std::io::ErrorKind;
+
+/// The nanoseconds of a second.
+const NANOS: u64 = 1_000_000_000;
 
 /// The disk of the operating system. Until `root` has the store's lock each call is a fault, and makes nothing.
 #[derive(Drop)]
@@ -78,6 +82,28 @@ impl FileDisk {
     }
 }
 
+/// Says that a client resumes a log, and how many of its records are dropped.
+fn report_resumed(
+    rt: &HostRuntime,
+    program: &str,
+    store: &mut Store,
+    journal: FileId,
+    entry: &[u8],
+) {
+    let mut bytes = [0; JOURNAL];
+    let (Ok(place), Ok(count)) = (store.place_of(journal), store.read(journal, 0, &mut bytes))
+    else {
+        return;
+    };
+    let folder = place.folder.as_str();
+    let Resumed { stay, of, elapsed } = resumed_by(entry, &bytes[..count]);
+    let dropped = of.saturating_sub(stay);
+    let (seconds, nanos) = (elapsed / NANOS, elapsed % NANOS);
+    let _ = eprintln!(rt;
+        "{program}: {folder}: a client resumes this log at {seconds}.{nanos:09} s: of its {of} records it drops the last {dropped}"
+    );
+}
+
 impl Disk for FileDisk {
     ghost tells = { ⊥ };
 
@@ -143,7 +169,12 @@ impl Disk for FileDisk {
 
     fn write_at(&mut self, f: FileId, at: u64, bytes: &[u8]) -> Result<(), DiskFault> {
         let answer = match &mut self.store {
-            Some(store) => store.write(f, at, bytes),
+            Some(store) => {
+                if is_cut(f, bytes) {
+                    report_resumed(&self.rt, self.program, store, f, bytes);
+                }
+                store.write(f, at, bytes)
+            }
             None => Err(ErrorKind::NotFound.into()),
         };
         self.told(f, Call::Write, answer)

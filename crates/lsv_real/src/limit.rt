@@ -20,6 +20,15 @@ fn limit_of(resource: i32) -> u64 {
     limit.rlim_cur
 }
 
+/// The system's numbers of the errors that say that no descriptor is left, of the process and of the system.
+const NO_DESCRIPTORS: [i32; 2] = [24, 23];
+
+/// Whether a call failed because no descriptor was left.
+pub fn lacks_descriptor(e: &io::Error) -> bool {
+    e.raw_os_error()
+        .is_some_and(|number| NO_DESCRIPTORS.contains(&number))
+}
+
 /// How many descriptors this process may have open, as its limit is set now.
 pub fn most_descriptors() -> u64 {
     limit_of(RLIMIT_NOFILE)

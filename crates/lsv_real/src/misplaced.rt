@@ -24,6 +24,48 @@ pub enum Misplaced {
     LinkToNothing,
 }
 
+/// A place in the folder of another store of this server, by that folder.
+#[derive(Drop)]
+pub enum InOther {
+    /// The folder of the logs is below it.
+    Logs(String),
+    /// The event log has a name that it keeps for itself.
+    Events(String),
+}
+
+/// Whether one of the places is in another store. Nothing is changed.
+pub fn look_for_other(
+    rt: &HostRuntime,
+    alloc: Global,
+    dir: &str,
+    events: &str,
+) -> io::Result<Option<InOther>> {
+    let logs = settled(rt, alloc, dir)?;
+    if let Some((store, _)) = store_above(rt, alloc, logs.as_str())? {
+        return Ok(Some(InOther::Logs(store)));
+    }
+    let lines = settled(rt, alloc, events)?;
+    match store_above(rt, alloc, lines.as_str())? {
+        Some((store, true)) => Ok(Some(InOther::Events(store))),
+        _ => Ok(None),
+    }
+}
+
+/// The nearest folder above a whole path that is a store, and whether the path leads through a name that it keeps for itself.
+fn store_above(rt: &HostRuntime, alloc: Global, path: &str) -> io::Result<Option<(String, bool)>> {
+    let mut below = path;
+    for _ in 0..MOST_FOLDERS {
+        let Some((folder, name)) = below.rsplit_once('/') else {
+            return Ok(None);
+        };
+        if fs::exists(rt, joined(alloc, folder, "seq2")?.as_str())? {
+            return Ok(Some((String::from_str(alloc, folder)?, is_own_name(name))));
+        }
+        below = folder;
+    }
+    Ok(None)
+}
+
 /// Why the event log can't have this place, beside logs in this folder. Nothing is changed.
 pub fn look_at_place(
     rt: &HostRuntime,
