@@ -286,44 +286,6 @@ def heard_at_once(link):
         return None
 
 
-def part_client_that_never_reads(program, _):
-    """A client that sends and never reads costs few turns of the server, once nothing can move."""
-    if not os.access("/dev/shm", os.W_OK):
-        raise Skipped("without /dev/shm, since 64 KiB of answers take many turns")
-    with Guarded(program, "/dev/shm") as on:
-        on.start()
-        link = socket.socket()
-        link.setsockopt(socket.SOL_SOCKET, socket.SO_RCVBUF, 2048)
-        link.connect(("127.0.0.1", on.place.port))
-        link.sendall(client.hello() + ACCEPT)
-        link.settimeout(1)
-        record = client.record((1, "ttyout", b"x"))
-        count, end = 0, time.monotonic() + 60
-        try:
-            while time.monotonic() < end:
-                link.sendall(record)
-                count += 1
-        except TimeoutError:
-            pass
-        else:
-            raise Skipped("the answers found room")
-        pid = on.server.process.pid
-        time.sleep(0.5)
-        before = switches(pid)
-        time.sleep(2)
-        turns = (switches(pid) - before) / 2
-        if turns > 100:
-            raise Differs(f"{turns} turns a second, after {count} records")
-        on.sessions(1)
-        link.close()
-
-
-def switches(pid):
-    """How often a process waited."""
-    with open(f"/proc/{pid}/status", encoding="utf-8") as file:
-        return int(next(line.split()[1] for line in file if line.startswith("voluntary_ctxt_switches")))
-
-
 def main():
     words = argparse.ArgumentParser(description=__doc__, formatter_class=argparse.RawDescriptionHelpFormatter)
     words.add_argument("--server", required=True)
