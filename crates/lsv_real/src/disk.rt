@@ -4,9 +4,10 @@ ghost use Rattle.lsv_words.specs.Causes.{HasRisen};
 ghost use Rattle.lsv_real.specs.Untold.{untold};
 
 use crate::call::{Call, CallFault};
-use crate::cut_notice::{JOURNAL, Resumed, is_cut, resumed_by};
+use crate::cut_notice::{JOURNAL, cut_in, last_entry};
 use crate::refusal::{is_refused, report_no_store, warn_of_places};
 use crate::store::Store;
+use lsv_bundle::Body;
 use lsv_disk::{Disk, DiskFault, FileId, Owner, Part};
 use std::io::ErrorKind;
 
@@ -88,17 +89,20 @@ fn report_resumed(
     program: &str,
     store: &mut Store,
     journal: FileId,
-    entry: &[u8],
+    entry: Body,
 ) {
     let mut bytes = [0; JOURNAL];
     let (Ok(place), Ok(count)) = (store.place_of(journal), store.read(journal, 0, &mut bytes))
     else {
         return;
     };
+    let Some(before) = last_entry(&bytes[..count]) else {
+        return;
+    };
     let folder = place.folder.as_str();
-    let Resumed { stay, of, elapsed } = resumed_by(entry, &bytes[..count]);
-    let dropped = of.saturating_sub(stay);
-    let (seconds, nanos) = (elapsed / NANOS, elapsed % NANOS);
+    let of = before.count;
+    let dropped = of.saturating_sub(entry.count);
+    let (seconds, nanos) = (entry.elapsed / NANOS, entry.elapsed % NANOS);
     let _ = eprintln!(rt;
         "{program}: {folder}: a client resumes this log at {seconds}.{nanos:09} s: of its {of} records it drops the last {dropped}"
     );
@@ -170,8 +174,8 @@ impl Disk for FileDisk {
     fn write_at(&mut self, f: FileId, at: u64, bytes: &[u8]) -> Result<(), DiskFault> {
         let answer = match &mut self.store {
             Some(store) => {
-                if is_cut(f, bytes) {
-                    report_resumed(&self.rt, self.program, store, f, bytes);
+                if let Some(entry) = cut_in(f, bytes) {
+                    report_resumed(&self.rt, self.program, store, f, entry);
                 }
                 store.write(f, at, bytes)
             }

@@ -1,11 +1,11 @@
 // What an event log has after the lines that its journal counts.
 ghost use Rattle.std.specs.Prelude.{◌≤◌, IfOk, length};
 
-use crate::cut_notice::number_at;
 use crate::handle::read_from;
 use crate::lock::{make_file, open_file, set_mode};
 use crate::path::{Places, folder_of};
 use crate::read_only::ReadOnlyDisk;
+use lsv_bundle::Body;
 use lsv_disk::{FileId, Owner, Part};
 use lsv_journal::Journal;
 use std::alloc::{AllocError, Global};
@@ -13,9 +13,6 @@ use std::fs::File;
 use std::io;
 use std::io::ErrorKind;
 use std::os::unix::fs::FileExt;
-
-/// Where the body of an event log's journal has the length of its lines.
-const LENGTH_AT: usize = 17;
 
 /// This many bytes are copied at a time.
 const PIECE: usize = 4096;
@@ -70,7 +67,10 @@ pub fn committed_length(
     let mut disk = ReadOnlyDisk::at(rt, program, places)?;
     let journal = FileId::new(Owner::Events(0), Part::Slots);
     match Journal::<89>::view(&mut disk, journal) {
-        Ok(Some(body)) => Ok(Some(number_at(&body, LENGTH_AT))),
+        Ok(Some(body)) => {
+            let [length, ..] = Body::decode(body).lens;
+            Ok(Some(length))
+        }
         Ok(None) => Ok(None),
         Err(_) => Err(ErrorKind::Other.into()),
     }
