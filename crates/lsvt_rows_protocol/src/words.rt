@@ -9,17 +9,18 @@ use std::alloc::Global;
 /// More bytes than these are printed as their count and their digest.
 const MOST: usize = 65_536;
 
-/// The bytes of a word: hexadecimal digits, `-` for none, or digits that stand N times by `*N`, with `+` between such parts.
+/// The bytes of a word: hexadecimal digits, `-` for none, or a byte that comes N times by `*N`, with `+` between such parts.
 pub fn bytes_of(alloc: Global, word: &str) -> Result<Bytes> {
     let mut bytes = Bytes::new(alloc);
     for part in word.split('+') {
-        let (digits, times) = part.split_once('*').unwrap_or((part, "1"));
-        if digits == "-" {
-            continue;
-        }
-        let part = hex::decode(alloc, digits)?;
-        for _ in 0..times.parse::<u32>()? {
-            bytes.add(&part)?;
+        match part.split_once('*') {
+            Some((digits, times)) => {
+                let part = hex::decode(alloc, digits)?;
+                let byte = part.first().copied().ok_or(anyhow!("a byte"))?;
+                bytes.add(&vec![in alloc; byte; times.parse::<usize>()?]?)?;
+            }
+            None if part == "-" => (),
+            None => bytes.add(&hex::decode(alloc, part)?)?,
         }
     }
     Ok(bytes)
