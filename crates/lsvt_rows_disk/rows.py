@@ -39,9 +39,9 @@ def file(name: str, text: bytes) -> None:
     case(f"disk file {name} {text.hex()}".rstrip())
 
 
-def show(name: str, text: bytes | None) -> None:
-    """The bytes of a file."""
-    case(f"disk show {name}", "absent" if text is None else f"{len(text)} bytes {text.hex()}")
+def show(name: str, text: bytes | None, left: str = "") -> None:
+    """The bytes of a file, or those that a crash leaves of it."""
+    case(f"{left}disk show {name}", "absent" if text is None else f"{len(text)} bytes {text.hex()}")
 
 
 def tried(script: Script, first: int, last: int) -> None:
@@ -114,17 +114,15 @@ def disk_rows() -> None:
         case(f"disk synced {LOG} 0 {b'abc'.hex()}")
         case(f"disk write {LOG} 1 {b'xy'.hex()}", *[FAILED] * (number == 4))
         case(f"disk write {LOG} 3 {b'z'.hex()}", *[FAILED] * (number == 5))
-        case(f"crash {fill}")
-        show(LOG, text)
-        show(OTHER, None)
-        case(f"disk failures {LOG}", "0 failures, 0 refused")
+        show(LOG, text, f"left {fill} ")
+        show(OTHER, None, f"left {fill} ")
+        case(f"left {fill} disk failures {LOG}", "0 failures, 0 refused")
     title("what a crash leaves of many files takes no time")
+    new()
+    case(f"times 8192 disk file log.@/stdout {b'abc'.hex()}")
+    case(f"times 8192 disk write log.@/stdout 1 {b'x'.hex()}")
     for fill, text in (("old", b"abc"), ("read", b"axc"), ("45", b"a-c")):
-        new()
-        case(f"times 8192 disk file log.@/stdout {b'abc'.hex()}")
-        case(f"times 8192 disk write log.@/stdout 1 {b'x'.hex()}")
-        case(f"crash {fill}")
-        show("log.8191/stdout", text)
+        show("log.8191/stdout", text, f"left {fill} ")
     title("files are made together up to the one that fails")
     parts = ("log.json", "timing", "stdout")
     for number, made in ((0, 3), (1, 0), (2, 1), (3, 2), (4, 3)):
@@ -179,8 +177,7 @@ def journal_rows() -> None:
     case("journal create")
     case("journal append 7")
     case("journal append 8", JOURNAL_FAILED)
-    case("crash 9")
-    case("journal open", "entry 7")
+    case("left 9 journal open", "entry 7")
     title("an older journal is taken over")
     numbers = bytes.fromhex("010000000000000000000000010100000001000000000000000100")
     both = old_journal([SEVEN, EIGHT])

@@ -50,7 +50,9 @@ fn said(alloc: Global, disk: &Hostile, owner: Owner, body: &Body) -> Result<Stri
         extra,
         lens,
     } = body;
-    let mut text = format!(in alloc; "kind {kind}, count {count}, elapsed {elapsed}, extra {extra}")?;
+    let mut text = format!(in alloc;
+        "kind {kind}, count {count}, elapsed {elapsed}, extra {extra}"
+    )?;
     for (part, len) in shape_of(owner)?.parts().iter().zip(lens.iter()) {
         let bytes = disk.bytes(FileId::new(owner, *part)).unwrap_or(&[]);
         let committed = bytes.get(..*len as usize).unwrap_or(&[]);

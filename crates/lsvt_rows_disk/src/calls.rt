@@ -113,7 +113,11 @@ fn append(alloc: Global, disk: &mut Hostile, of: &str, digits: &str) -> Result<S
 /// The bytes of a file.
 fn show(alloc: Global, disk: &mut Hostile, of: &str) -> Result<String> {
     match disk.bytes(file_of(of)?) {
-        Some(bytes) => Ok(format!(in alloc; "{} bytes {}", bytes.len(), hex::encode(alloc, bytes)?)?),
+        Some(bytes) => Ok(format!(in alloc;
+            "{} bytes {}",
+            bytes.len(),
+            hex::encode(alloc, bytes)?
+        )?),
         None => Ok(format!(in alloc; "absent")?),
     }
 }

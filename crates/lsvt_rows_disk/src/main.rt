@@ -34,13 +34,9 @@ impl Setting {
         })
     }
 
-    /// Does a step, and prints what it answers, if it answers something.
+    /// Does a step, and prints its answer.
     fn step(&mut self, rt: &HostRuntime, step: &str) -> Result<()> {
-        match self.play.step(step) {
-            Ok(text) if text.as_str().is_empty() => Ok(()),
-            Ok(text) => Ok(println!(rt; "{text}")?),
-            Err(e) => Ok(println!(rt; "{e}")?),
-        }
+        say(rt, self.play.step(step))
     }
 
     /// Does a step for each number from 0 up to a count, which stands in it for `@`.
@@ -64,7 +60,7 @@ impl Setting {
                 self.play = Play::new(alloc, disk_of(alloc, &failing)?);
                 Ok(())
             }
-            "crash" => self.crash(rt, rest),
+            "left" => self.left(rt, rest),
             "script" => Ok(self.script = Script::new(rt.alloc())),
             "step" => self.script.add_step(rest),
             "look" => self.script.add_look(rest),
@@ -76,8 +72,10 @@ impl Setting {
         }
     }
 
-    /// A crash, after which each range that wasn't synced has this byte, or is as it was synced or read.
-    fn crash(&mut self, rt: &HostRuntime, fill: &str) -> Result<()> {
+    /// Does a step over what a crash leaves, and prints its answer. Each range that wasn't synced has this byte, or is as it
+    /// was synced or read.
+    fn left(&self, rt: &HostRuntime, words: &str) -> Result<()> {
+        let (fill, step) = words.split_once(' ').ok_or(anyhow!("a step"))?;
         let fill = match fill {
             "old" => Fill::Old,
             "read" => Fill::Read,
@@ -85,8 +83,16 @@ impl Setting {
         };
         let image = self.play.disk.image(rt.alloc(), fill, Plan::Whole);
         let image = image.map_err(|_| anyhow!("out of memory"))?;
-        self.play = Play::new(rt.alloc(), image);
-        Ok(())
+        say(rt, Play::new(rt.alloc(), image).step(step))
+    }
+}
+
+/// Prints an answer, if there is some.
+fn say(rt: &HostRuntime, answer: Result<String>) -> Result<()> {
+    match answer {
+        Ok(text) if text.as_str().is_empty() => Ok(()),
+        Ok(text) => Ok(println!(rt; "{text}")?),
+        Err(e) => Ok(println!(rt; "{e}")?),
     }
 }
 

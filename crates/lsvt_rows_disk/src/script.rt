@@ -82,7 +82,11 @@ impl Script {
         let (first, last) = words.split_once(' ').ok_or(anyhow!("two numbers"))?;
         for number in first.parse::<u64>()?..=last.parse::<u64>()? {
             let mut play = Play::new(self.alloc, disk_of(self.alloc, &[number])?);
-            let end = if play.play(&self.steps) { "done" } else { "failed" };
+            let end = if play.play(&self.steps) {
+                "done"
+            } else {
+                "failed"
+            };
             print!(rt; "{number} {end}:")?;
             for text in &self.left(&play.disk)? {
                 print!(rt; " {text};")?;

@@ -9,7 +9,7 @@ use Rattle.lsv_post.specs.InnerPost.{IsMade}
 use Rattle.lsv_post.specs.Ports.{view_by}
 use Rattle.lsv_post.specs.declared.post.WorkerPost.{WorkerPost}
 use Rattle.lsvt_doubles.specs.declared.watched.Watched.{Watched}
-use Rattle.lsvt_tests_connection.proofs.served.serve_one.Goals as goal
+use Rattle.lsvt_rows_connection.proofs.served.serve_one.Goals as goal
 
 -- the one of a list of one
 only : {A : Type 0} (x : A) (i : ℕ) (y : A) → slice_get (x ∷ []) i ≡ Some y → x ≡ y

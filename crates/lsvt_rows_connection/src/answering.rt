@@ -1,19 +1,21 @@
 //! A lane that answers by fixed rules and keeps all jobs.
 
-use crate::frames::LONG;
 use lsv_base::{Bytes, NoMem, TimeSpec};
 use lsv_msg::{ClientMessage, ServerMessage};
 use lsv_session::{Body, ConnId, Job, Reply, ReplyBody};
 use lsv_turns::Lane;
 use std::alloc::Global;
 
-/// How many bytes are answered to the text `long`: with so many unsent a link isn't read.
-pub(crate) const LADEN: usize = 65_536;
+/// The text that gets an answer of `LADEN` bytes.
+const LONG: &[u8] = b"long";
+
+/// A link with this many unsent bytes isn't read.
+const LADEN: usize = 65_536;
 
 /// It says each text to the connection that brought it; at an exit, at bytes that are no message and at its end a connection
 /// is shut.
 #[derive(Drop)]
-pub(crate) struct Answering {
+pub struct Answering {
     pub alloc: Global,
     pub turns: Vec<Vec<Job>>,
     /// The connections that are shut.
@@ -32,7 +34,7 @@ impl Answering {
 
     /// What is answered to a text.
     fn answer(&self, text: &[u8]) -> Result<ServerMessage, NoMem> {
-        if text == LONG.as_bytes() {
+        if text == LONG {
             let long = vec![in self.alloc; b'x'; LADEN]?;
             return Ok(ServerMessage::Error(Bytes::from_vec(long)));
         }
