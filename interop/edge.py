@@ -71,13 +71,14 @@ def tried(on: Guarded) -> str | None:
 
 
 def part_limit_lowered_while_it_runs(program: str, _: str) -> None:
-    """Another program lowers the limit below what is open: the files that were not used for longest are closed."""
+    """Another program lowers the limit to what is open: the files that were not used for longest are closed."""
     with Guarded(program) as on:
         on.start().sessions(30)
         pid = on.server.process.pid
-        count = len(os.listdir(f"/proc/{pid}/fd"))
+        # a limit is of the numbers of descriptors: one that is closed has to be below it
+        limit = max(map(int, os.listdir(f"/proc/{pid}/fd"))) + 2
         told = len(on.place.said())
-        resource.prlimit(pid, resource.RLIMIT_NOFILE, (count + 1, count + 1))
+        resource.prlimit(pid, resource.RLIMIT_NOFILE, (limit, limit))
         on.sessions(30)
         faultless(on, told)
 
