@@ -1,7 +1,7 @@
 #!/usr/bin/env python3
 """Measures how long a new client waits while other clients keep the server busy, and fails if one isn't served.
 
-usage: fair.py --server PROGRAM [--long] [--sudo] [--disk FOLDER] [--only WORD]
+usage: fair.py --server PROGRAM [--long] [--sudo] [--syncs] [--disk FOLDER] [--only WORD]
 
 The crowds: nobody; 1, 4 and 16 clients that send records without a pause, of 10 and of 1,000 bytes; clients that connect and
 leave without a pause; 127 clients that say nothing. Beside each, new clients come one after another. Each waits for the
@@ -11,13 +11,15 @@ the middle and the greatest of these times, the records that the crowd had commi
 slowest client of what each would have if all were served alike, and the server's processor time for a record in microseconds.
 
 --long takes more crowds and more time; --sudo measures sudo's own server beside it, whose records are counted as they are sent,
-since it commits every ten seconds alone; --only takes the crowds whose name has this word. It ends with 1 if a wait was longer
-than five seconds.
+since it commits every ten seconds alone; --syncs runs the server under strace, and shows of each time what is left without the
+syncs within it; --only takes the crowds whose name has this word. It ends with 1 if a wait was longer than five seconds.
 """
 import argparse
+import bisect
 import multiprocessing
 import os
 import selectors
+import shlex
 import shutil
 import socket
 import statistics
@@ -165,6 +167,8 @@ class Times:
 
     def __init__(self):
         self.of = {kind: [] for kind in self.KINDS}
+        # when each ended, by the clock of the day
+        self.ends = {kind: [] for kind in self.KINDS}
 
     def of_one(self, port, records, commits):
         """A new client: a hello, an accept, records one by one, and an exit."""
@@ -191,13 +195,56 @@ class Times:
 
     def note(self, kind, began, then):
         self.of[kind].append((time.monotonic() - began) * 1000)
+        self.ends[kind].append(time.time())
         return then
+
+    def without(self, syncs):
+        """The same times, without the syncs within them."""
+        times = Times()
+        for kind in self.KINDS:
+            for wait, end in zip(self.of[kind], self.ends[kind]):
+                times.of[kind].append(wait - 1000 * syncs.within(end - wait / 1000, end))
+        return times
 
     def worst(self):
         return max((it for times in self.of.values() for it in times), default=0)
 
     def shown(self):
         return [f"{statistics.median(self.of[kind]):.1f} {max(self.of[kind]):.1f}" if self.of[kind] else "-" for kind in self.KINDS]
+
+
+# ---- syncs
+
+class Syncs:
+    """When the server's one thread waited for a sync, by strace."""
+
+    WORDS = ["strace", "-D", "-f", "--seccomp-bpf", "-qq", "-ttt", "-T", "-e", "trace=fsync,fdatasync", "-o"]
+
+    def __init__(self, folder, program):
+        self.path = os.path.join(folder, "syncs")
+        self.program = os.path.join(folder, "program")
+        with open(self.program, "w", encoding="utf-8") as file:
+            file.write(f'#!/bin/sh\nexec {shlex.join([*self.WORDS, self.path, program])} "$@"\n')
+        os.chmod(self.program, 0o755)
+        self.starts, self.spans = [], []
+
+    def read(self):
+        with open(self.path, encoding="utf-8") as file:
+            for line in file:
+                parts = line.split()
+                if parts[-1][0] == "<" and "sync(" in line:
+                    start = float(parts[1])
+                    self.starts.append(start)
+                    self.spans.append((start, start + float(parts[-1][1:-1])))
+        return self
+
+    def within(self, start, end):
+        """How many seconds of a time were of syncs."""
+        first = max(0, bisect.bisect_left(self.starts, start) - 1)
+        total = 0.0
+        for begins, ends in self.spans[first:bisect.bisect_right(self.starts, end)]:
+            total += max(0.0, min(ends, end) - max(begins, start))
+        return total
 
 
 # ---- a measure
@@ -211,13 +258,15 @@ def processor_seconds(pid):
 class Measure:
     """A crowd at a server over a store of its own, and new clients beside it."""
 
-    def __init__(self, kind, program, parent):
-        self.kind, self.program, self.parent = kind, program, parent
+    def __init__(self, kind, program, parent, traces=False):
+        self.kind, self.program, self.parent, self.traces = kind, program, parent, traces
         self.commits = kind is servers.Serve
+        self.without = None
 
     def take(self, crowd, seconds, news, records):
         place = servers.Place(servers.OURS if self.commits else servers.SUDO, parent=self.parent)
-        server = self.kind(self.program, place).start()
+        syncs = Syncs(place.folder, self.program) if self.traces else None
+        server = self.kind(syncs.program if syncs else self.program, place).start()
         times = Times()
         try:
             crowd.start(server.port)
@@ -233,6 +282,9 @@ class Measure:
             crowd.end()
             if not server.has_ended():
                 server.stop()
+            if syncs:
+                time.sleep(0.2)
+                self.without = times.without(syncs.read())
             shutil.rmtree(place.folder, ignore_errors=True)
         return times, rate
 
@@ -261,6 +313,7 @@ def main():
     words.add_argument("--server", required=True)
     words.add_argument("--long", action="store_true")
     words.add_argument("--sudo", action="store_true")
+    words.add_argument("--syncs", action="store_true")
     words.add_argument("--disk", default=tempfile.gettempdir())
     words.add_argument("--only", default="")
     args = words.parse_args()
@@ -275,8 +328,11 @@ def main():
             for crowd in crowds(args.long):
                 if args.only not in crowd.name():
                     continue
-                times, rate = Measure(kind, program, parent).take(crowd, seconds, news, records)
+                measure = Measure(kind, program, parent, args.syncs and name == "ours")
+                times, rate = measure.take(crowd, seconds, news, records)
                 row(name, store, crowd.name(), *times.shown(), *rate)
+                if measure.without:
+                    row("", "", "without syncs", *measure.without.shown(), "", "", "")
                 slow += name == "ours" and times.worst() > MOST * 1000
     print(f"fair.py: {slow} crowds kept a new client waiting for more than {MOST:.0f} seconds")
     return 1 if slow else 0

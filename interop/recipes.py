@@ -3,8 +3,8 @@
 
 usage: recipes.py PROGRAM REPLAY
 
-PROGRAM is sudo_logsrvd, REPLAY sudoreplay. Of each recipe the text is the page's own: in it DIR, OLD and the like are replaced by
-folders. It ends with 1 where something differs.
+PROGRAM is sudo_logsrvd, REPLAY sudoreplay. Of each recipe the text is the page's own: in it DIR, OLD and the like are
+replaced by folders. It ends with 1 where something differs.
 """
 from __future__ import annotations
 
@@ -19,7 +19,7 @@ import traceback
 import client
 import store
 from guards import ACCEPT, MARK, Guarded, session
-from trial import SECOND, Differs, same
+from trial import Differs, same
 
 PAGE = os.path.join(os.path.dirname(os.path.abspath(__file__)), "..", "docs", "OPERATIONS.md")
 YEAR = 365 * 86400
@@ -74,7 +74,8 @@ def part_old_logs(program: str, replay: str) -> None:
         text, places = block("Keeping the store small", "find DIR"), {"DIR": on.store}
         wanted = [store.folder_of(on.store, digits) for digits in ("000001", "000003", "000005")]
         same("what is named", sorted(run(text, places).split()), wanted)
-        same("logs that aren't complete", run(text.replace("= 3", "!= 3"), places).split(), [store.folder_of(on.store, "000006")])
+        others = run(text.replace("= 3", "!= 3"), places).split()
+        same("logs that aren't complete", others, [store.folder_of(on.store, "000006")])
         run(text + r" | xargs -r -d '\n' rm -r", places)
         same("what is left", listed(replay, on.store), ["000004", "000006"])
         on.server.start()
@@ -94,8 +95,8 @@ def part_one_log_put_back(program: str, replay: str) -> None:
         same("the log is gone", listed(replay, on.store).count("000005"), 0)
         run(text, places)
         same("the log is back", listed(replay, on.store).count("000005"), 1)
-        played = subprocess.run([replay, "-d", on.store, "-m", "0", "000005"], capture_output=True, check=True, timeout=60).stdout
-        same("what it plays", played, MARK)
+        words = [replay, "-d", on.store, "-m", "0", "000005"]
+        same("what it plays", subprocess.run(words, capture_output=True, check=True, timeout=60).stdout, MARK)
         on.server.start()
         same("the next log", on.sessions(), ["000007"])
         on.stop()
@@ -137,7 +138,8 @@ def part_event_log_rotated(program: str, _: str) -> None:
         on.start().sessions(1)
         on.stop()
         lines = store.contents(on.events)
-        text = "\n".join(line for line in block("Rotating the event log", "cd /var").splitlines() if line.startswith("mv"))
+        lines_of = block("Rotating the event log", "cd /var").splitlines()
+        text = "\n".join(line for line in lines_of if line.startswith("mv"))
         run(f"cd {os.path.dirname(on.events)}\n{text}", {})
         on.server.start()
         session(on.server.connect())
@@ -146,6 +148,7 @@ def part_event_log_rotated(program: str, _: str) -> None:
 
 
 def main() -> int:
+    """Tries all recipes."""
     program, replay = (os.path.realpath(path) for path in sys.argv[1:3])
     count = differ = 0
     for name, part in list(globals().items()):

@@ -178,7 +178,7 @@ fn is_own_name(name: &[u8]) -> bool
     ensures { result ≡ is_own_name name.now }
 {
     name.starts_with(b"seq")
-        || name == b"lock"
-        || name == b"relay.lock"
+        || name == b"lock".as_slice()
+        || name == b"relay.lock".as_slice()
         || folder_name(name).is_some()
 }

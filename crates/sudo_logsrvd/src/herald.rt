@@ -1,5 +1,10 @@
 //! What the server says when it begins to serve.
 
+ghost use Rattle.std.specs.Prelude.{◌≡◌, ◌⊎◌, IsTrue, codes};
+ghost use Rattle.std.specs.Net.Addr.{IsLoopbackV4, IsLoopbackV6, MatchIp};
+ghost use Rattle.std.specs.Net.Grammar.{IsIpText};
+ghost use Rattle.std.specs.declared.net.ip_addr.IpAddr.{IpAddr};
+
 use lsv_base::LogNo;
 use lsv_server::{Notices, Site};
 use std::net::IpAddr;
@@ -41,7 +46,7 @@ fn digits_of(number: u32) -> [u8; 6] {
     }
 }
 
-/// Whether a host and a port name an address of the loopback. Of names, which may lead anywhere, only `localhost` counts.
+/// Whether a host and a port name an address of the loopback.
 fn is_loopback(address: &str) -> bool {
     let Some((host, _)) = address.rsplit_once(':') else {
         return false;
@@ -50,6 +55,13 @@ fn is_loopback(address: &str) -> bool {
         .strip_prefix('[')
         .and_then(|host| host.strip_suffix(']'))
         .unwrap_or(host);
+    is_loopback_host(host)
+}
+
+/// Whether a host is an address of the loopback, or `localhost`: other names may lead anywhere.
+fn is_loopback_host(host: &str) -> bool
+    ensures { IsTrue result → (host.now ≡ codes "localhost") ⊎ ((ip : IpAddr) × IsIpText host.now ip × MatchIp ip IsLoopbackV4 IsLoopbackV6) }
+{
     match host.parse::<IpAddr>() {
         Ok(address) => address.is_loopback(),
         Err(_) => host == "localhost",

@@ -130,20 +130,13 @@ impl Wakes {
         }
     }
 
-    /// A connection of one of the sockets that listen.
+    /// A connection of one of the sockets that listen, which are asked in turn.
     fn accept_one(&mut self) -> io::Result<(TcpStream, SocketAddr)> {
-        let Some(further) = &self.further else {
-            return self.listener.accept();
-        };
-        let (first, second) = if self.is_further_first {
-            (further, &self.listener)
-        } else {
-            (&self.listener, further)
-        };
         self.is_further_first = !self.is_further_first;
-        match first.accept() {
-            Err(e) if e.kind() == ErrorKind::WouldBlock => second.accept(),
-            answer => answer,
+        match &self.further {
+            None => self.listener.accept(),
+            Some(further) if self.is_further_first => accept_of(further, &self.listener),
+            Some(further) => accept_of(&self.listener, further),
         }
     }
 
@@ -200,6 +193,14 @@ fn registered(poll: &Poll, socket: net::TcpListener, token: Token) -> io::Result
     poll.registry()
         .register(&mut listener, token, Interest::READABLE)?;
     Ok(listener)
+}
+
+/// A connection of the first of two sockets that listen, or of the second where none waits at the first.
+fn accept_of(first: &TcpListener, second: &TcpListener) -> io::Result<(TcpStream, SocketAddr)> {
+    match first.accept() {
+        Err(e) if e.kind() == ErrorKind::WouldBlock => second.accept(),
+        answer => answer,
+    }
 }
 
 /// The link of an event. None where it is that of a socket that listens.
