@@ -135,10 +135,12 @@ fn follow<D: Disk, S: Screen>(
     ensures disk { HasOwnCause IsListed (result ≡ statuses.ReadFault) (D.view disk.old) (D.view disk.new) }
     ensures screen { HasCause (result ≡ statuses.WriteFault) (S.faults screen.old) (S.faults screen.new) }
 {
-    let Some(number) = LogNo::read(id.as_slice()) else {
-        return ReplayStatus::Absent;
-    };
-    ReplayStatus::of_following(follow_log(alloc, disk, number, options, screen))
+    match LogNo::read(id.as_slice()) {
+        Some(number) => {
+            ReplayStatus::of_following(follow_log(alloc, disk, number, options, screen))
+        }
+        None => ReplayStatus::Absent,
+    }
 }
 
 /// Lists the logs that these words search for.
