@@ -2,12 +2,15 @@
 use Rattle.std.proofs.Common.{◌≡◌, ◌≢◌, ◌∙◌, ◌++◌, ◌+◌, ◌⊎◌, ◌<◌, ◌≤◌, inl, inr, ℕ, zero, suc, List, [], ◌∷◌, Option, Some, None, Result, Ok, Err, IsErrAnd, length, length-append, map, replicate, refl, sym, ap, subst, append-nil, append_assoc, arith}
 use Rattle.std.proofs.lemmas.List.{map-append, replicate_more}
 use Rattle.lsv_disk.specs.declared.file.FileId.{FileId}
+use Rattle.lsv_disk.specs.declared.file.Part.{Part}
 use Rattle.lsv_disk.specs.Throughout.{OnlyReads}
 use Rattle.lsv_disk.specs.View.{DiskView, HasOwnCause, Image}
 use Rattle.lsv_disk.proofs.Composition.{OnlyNow, reads_trans}
 use Rattle.lsv_base.specs.Outside.{HasCause}
 use Rattle.lsv_iolog.specs.declared.fault.LogFault.{LogFault}
 use Rattle.lsv_iolog.specs.declared.fault.LogFault.TheVariants as logs
+use Rattle.lsv_iolog.specs.Damage.{IsViewDamage}
+use Rattle.lsv_iolog.specs.Faults.{IsOpenFault}
 use Rattle.lsv_iolog.specs.Later.{IsLater}
 use Rattle.lsv_iolog.specs.Reading.{ViewState}
 use Rattle.lsv_iolog.specs.Recovered.{IsOfLog, Replays, owner_of}
@@ -23,10 +26,11 @@ use Rattle.lsv_playback.specs.Faults as playback
 use Rattle.lsv_playback.specs.declared.fault.PlayFault.{PlayFault}
 use Rattle.lsv_playback.specs.declared.fault.PlayFault.TheVariants as plays
 use Rattle.lsv_playback.proofs.Played.{same_image}
-use Rattle.lsv_follow.specs.Ending.{AreFirstLooks, EndsAt, EndsWith, FollowsLooks, PutsLooks, gave, most_quiet, quiet}
-use Rattle.lsv_follow.specs.Faults.{IsLookFault, of_look}
+use Rattle.lsv_follow.specs.Ending.{AreFirstLooks, EndsAt, EndsWith, Follows, FollowsLooks, IsNotFollowed, PutsLooks, gave, most_quiet, quiet}
+use Rattle.lsv_follow.specs.Faults.{IsLookFault, of_look, of_opening}
 use Rattle.lsv_follow.specs.Followed.{followed, followed_by, pause}
-use Rattle.lsv_follow.specs.Following.{HasGoneOn, HasShown, IsStored, Sees, cuts_seen}
+use Rattle.lsv_follow.specs.Following.{HasCuts, HasGoneOn, HasShown, IsStored, Sees, WasCut, cuts_seen}
+use Rattle.lsv_follow.proofs.Follows.{cuts_there, two_cuts}
 use Rattle.lsv_follow.specs.declared.end.FollowEnd.{FollowEnd}
 use Rattle.lsv_follow.specs.declared.end.FollowEnd.TheVariants as ends
 use Rattle.lsv_follow.specs.declared.fault.FollowFault.{FollowFault}
@@ -201,7 +205,7 @@ err_as : {T : Type 0} (r : Result T FollowEnd) (e : FollowEnd) → IsErrAnd r (�
 err_as (Ok x) e is = absurd is
 err_as (Err d) e is = ap (λ (x : FollowEnd). Err x) (sym is)
 
-damaged_disk : (part : _) → logs.Damaged part ≡ logs.Disk → ⊥
+damaged_disk : (part : Part) → logs.Damaged part ≡ logs.Disk → ⊥
 damaged_disk part e = cc
 
 nothing_put : (o : Options) (part : List Item) → IsPart part (followed_by o seen.End) → part ≡ []
@@ -395,3 +399,51 @@ quiet_no_fault fault e = cc
 
 pub ok_no_err : {T : Type 0} (r : Result T FollowEnd) (x : T) (e : FollowEnd) → r ≡ Ok x → r ≡ Err e → ⊥
 ok_no_err r x e one two = cc
+
+-- ---- a log
+
+-- one that isn't opened puts nothing
+unopened : (T : Type 0) (n : ℕ) (image : Image) (e : LogFault) → IsOpenFault e → (e ≡ logs.Absent → Replays image n None) → ((part : Part) → e ≡ logs.Damaged part → IsViewDamage n part image) → IsNotFollowed {T = T} n image (Err (of_opening e))
+unopened T n image logs.Absent is absent damaged = absent refl
+unopened T n image (logs.Damaged part) is absent damaged = damaged part refl
+unopened T n image logs.Complete is absent damaged = absurd is
+unopened T n image (logs.NoPoint point) is absent damaged = absurd is
+unopened T n image logs.Disk is absent damaged = tt
+unopened T n image logs.Broken is absent damaged = absurd is
+unopened T n image (logs.Full part) is absent damaged = absurd is
+unopened T n image (logs.TooLong point) is absent damaged = absurd is
+unopened T n image logs.NoMem is absent damaged = tt
+
+pub open_fails : {T : Type 0} (o : Options) (n : ℕ) (image : Image) (r : Result T FollowEnd) (e : LogFault) → IsErrAnd r (λ x. x ≡ of_opening e) → IsOpenFault e → (e ≡ logs.Absent → Replays image n None)
+    → ((part : Part) → e ≡ logs.Damaged part → IsViewDamage n part image) → Follows o n image r []
+open_fails {T} o n image r e err is absent damaged = inl (subst (λ (x : Result T FollowEnd). IsNotFollowed n image x) (err_as r (of_opening e) err) (unopened T n image e is absent damaged), refl)
+
+-- the cuts of one that is opened are those of its entry
+pub opened_cuts : (n : ℕ) (v : ViewState) (old mid : DiskView) → v.number ≡ n → OnlyReads old mid → HasCuts n (cuts_seen v) old.reads → HasCuts v.number (cuts_seen v) mid.reads
+opened_cuts n v old mid number reads cuts =
+    subst (λ (image : Image). HasCuts v.number (cuts_seen v) image) (sym (same_image old mid reads)) (subst (λ (k : ℕ). HasCuts k (cuts_seen v) old.reads) (sym number) cuts)
+
+-- what is put for looks at it is put of the log
+pub opened_follows : {T : Type 0} (o : Options) (n : ℕ) (v : ViewState) (old mid : DiskView) (r : Result T FollowEnd) (put : List Item) → v.number ≡ n → OnlyReads old mid
+    → ((log : Stored) → Replays old.reads n (Some log) → HasShown v [] log) → FollowsLooks (IsStored v mid.reads) o r put → Follows o n old.reads r put
+opened_follows o n v old mid r put number reads shows follows = inr (record {
+  looks = follows.looks;
+  puts = follows.puts;
+  ends = follows.ends;
+  stored = λ log holds. follows.stored log (
+      shows log holds,
+      subst (λ (image : Image). Replays image v.number (Some log)) (sym (same_image old mid reads)) (subst (λ (k : ℕ). Replays old.reads k (Some log)) (sym number) holds),
+  );
+})
+
+-- nobody writes the log, so it isn't cut
+pub never_cut : (start view : ViewState) (old now : DiskView) (s m : ℕ) → view.number ≡ start.number → cuts_seen view ≡ cuts_seen start → OnlyReads old now → HasCuts start.number (cuts_seen start) old.reads → WasCut view s m now.reads → ⊥
+never_cut start view old now s m number cuts reads has was =
+    was.differ (two_cuts start.number m (cuts_seen start) old.reads (subst (λ (image : Image). HasCuts start.number m image) (same_image old now reads) (subst (λ (k : ℕ). HasCuts k m now.reads) number was.last)) has
+    ∙ sym cuts ∙ sym was.opened)
+
+-- nor is it gone
+pub never_absent : (start view : ViewState) (old now : DiskView) → view.number ≡ start.number → OnlyReads old now → HasCuts start.number (cuts_seen start) old.reads → Replays now.reads view.number None → ⊥
+never_absent start view old now number reads has absent =
+    cuts_there start.number (cuts_seen start) old.reads has
+    (subst (λ (image : Image). Replays image start.number None) (same_image old now reads) (subst (λ (k : ℕ). Replays now.reads k None) number absent))
