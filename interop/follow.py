@@ -6,7 +6,8 @@ usage: follow.py --server PROGRAM --replay PROGRAM [--tries N]
 A client of ours sends records one by one, and waits for the commit point of each. The parts:
 
 - A session is followed from its first record to its exit. What is shown is its bytes, each once.
-- The server is killed in the midst and started again, and the client resumes at its last commit point: the follower goes on.
+- The server is killed in the midst and started again, and the client resumes at its last commit point: the follower
+  goes on.
 - The client resumes at an earlier point, so that a record is dropped: the follower ends with 7, `log resumed`.
 - sudo's own `sudoreplay -F` beside sudo's own server, if Debian's package sudo is there: the same bytes.
 
@@ -27,7 +28,6 @@ from collections.abc import Sequence
 
 import client
 import servers
-from oracle.connection import Connection
 
 SECOND = 10**9
 INFO = {
@@ -36,7 +36,8 @@ INFO = {
 }
 # the longest middle times that are let through, in milliseconds
 FIRST, EACH = 200.0, 150.0
-SUDO = servers.SUDO.replace("iolog_file = %{{seq}}", "iolog_file = %{{seq}}\niolog_flush = true\niolog_compress = false")
+FILE = "iolog_file = %{{seq}}"
+SUDO = servers.SUDO.replace(FILE, f"{FILE}\niolog_flush = true\niolog_compress = false")
 
 
 class Differs(Exception):
@@ -238,7 +239,8 @@ class Trial:
             self.took("sudo's own, each record", moment - sent)
         session.exit()
         status, shown, said = follower.end()
-        same(f"sudo's own sudoreplay -F: {said}", (status, shown[shown.find(b"line"):].rstrip()), (0, b"".join(session.sent).rstrip()))
+        shown = shown[shown.find(b"line"):].rstrip()
+        same(f"sudo's own sudoreplay -F: {said}", (status, shown), (0, b"".join(session.sent).rstrip()))
         server.stop()
 
     def show(self) -> bool:
@@ -248,7 +250,8 @@ class Trial:
             times = sorted(self.times.get(what, []))
             if times:
                 middle = statistics.median(times)
-                print(f"follow: {what}: {len(times)} times, {times[0]:.0f} to {times[-1]:.0f} ms, the middle {middle:.0f} ms")
+                spread = f"{times[0]:.0f} to {times[-1]:.0f} ms"
+                print(f"follow: {what}: {len(times)} times, {spread}, the middle {middle:.0f} ms")
                 good = good and (most is None or middle <= most)
         return good
 

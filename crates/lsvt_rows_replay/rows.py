@@ -121,8 +121,8 @@ case("run -F 000002", status(8))
 case("run -F 00000a", status(8))
 
 title("words that are no command")
-for words in ("", "000001 000001", "-F", "-F -F 000001", "-F -l", "-l -F user ann", "-F 000001 000001", "--help", "-s 0 000001", "-s 1.0000000001 000001", "-m x 000001",
-    "-f ttyout,x 000001", "-f  000001", "~", "-l user ~"):
+for words in ("", "000001 000001", "-F", "-F -F 000001", "-F -l", "-l -F user ann", "-F 000001 000001", "--help",
+    "-s 0 000001", "-s 1.0000000001 000001", "-m x 000001", "-f ttyout,x 000001", "-f  000001", "~", "-l user ~"):
     case(f"run {words}".rstrip(), status(2))
 
 title("what of words is out of its form")
@@ -329,7 +329,8 @@ logs = [n for n in range(1, 1001) if n not in (500, 700)]
 
 def total(listed: Sequence[int], number: int) -> tuple[str, str]:
     """What is printed of a listing of these logs as a sum."""
-    return f"items {len(listed)} waits 0 digest {hashlib.md5(b''.join(line(n) for n in listed)).hexdigest()}", status(number)
+    digest = hashlib.md5(b"".join(line(n) for n in listed)).hexdigest()
+    return f"items {len(listed)} waits 0 digest {digest}", status(number)
 
 
 case("sum -l", *total(logs, 4))
