@@ -34,7 +34,7 @@ use Rattle.lsv_follow.proofs.Follows.{cuts_there, two_cuts}
 use Rattle.lsv_follow.specs.declared.end.FollowEnd.{FollowEnd}
 use Rattle.lsv_follow.specs.declared.end.FollowEnd.TheVariants as ends
 use Rattle.lsv_follow.specs.declared.fault.FollowFault.{FollowFault}
-use Rattle.lsv_follow.specs.declared.fault.FollowFault.TheVariants as looks
+use Rattle.lsv_follow.specs.declared.fault.FollowFault.TheVariants as faults
 use Rattle.lsv_follow.specs.declared.follow.Seen.{Seen}
 use Rattle.lsv_follow.specs.declared.follow.Seen.TheVariants as seen
 
@@ -57,7 +57,7 @@ quiet_push n = replicate_more n seen.Nothing
 no_quiet : (front : List Seen) (n : ℕ) → n ≡ 0 → front ++ quiet n ≡ front
 no_quiet front n zero_is = ap (λ (k : ℕ). front ++ quiet k) zero_is ∙ append-nil front
 
-zero_or_not : (n : ℕ) → (n ≡ 0) ⊎ (n ≢ 0)
+pub zero_or_not : (n : ℕ) → (n ≡ 0) ⊎ (n ≢ 0)
 zero_or_not zero = inl refl
 zero_or_not (suc n) = inr (λ e. omega (arith, e))
 
@@ -145,7 +145,7 @@ following_starts tells shows o view disk shown fails now = record {
 }
 
 -- what the next look finds of such a log
-pub Finds : Type 0 → ViewState → DiskView → Seen → ViewState → Type 0
+abbrev pub Finds : Type 0 → ViewState → DiskView → Seen → ViewState → Type 0
 Finds tells view disk found next = tells → (was now : Stored) (shown : List Record) → HasGoneOn view shown was now disk.reads → Sees found next shown now
 
 module _ (tells shows : Type 0) (o : Options) (start view : ViewState) (old now : DiskView) (before shown : List Item) (failed fails n : ℕ) (is : IsFollowing tells shows o start view old now before shown failed fails n) where
@@ -225,25 +225,25 @@ module _ (tells shows : Type 0) (o : Options) (start view : ViewState) (old now 
       → FollowsLooks {T = T} (IsStored start old.reads) o (Err e) (followed o is.looks)
   so_far e puts ends stored = record { looks = is.looks; puts = puts; ends = ends; stored = stored }
 
-  fails_by : {T : Type 0} (e : FollowFault) → IsLookFault e → ((s m : ℕ) → e ≡ looks.Resumed s m → ⊥) → (e ≡ looks.Log logs.Absent → ⊥)
-      → ((log : Stored) (rs : List Record) → HasGoneOn view rs log log now.reads → (fault : LogFault) → e ≡ looks.Log fault → fault ≡ logs.Disk)
+  fails_by : {T : Type 0} (e : FollowFault) → IsLookFault e → ((s m : ℕ) → e ≡ faults.Resumed s m → ⊥) → (e ≡ faults.Log logs.Absent → ⊥)
+      → ((log : Stored) (rs : List Record) → HasGoneOn view rs log log now.reads → (fault : LogFault) → e ≡ faults.Log fault → fault ≡ logs.Disk)
       → FollowsLooks {T = T} (IsStored start old.reads) o (Err (of_look e)) (followed o is.looks)
-  fails_by (looks.Resumed s m) fault uncut there sound = absurd (uncut s m refl)
-  fails_by (looks.Log logs.Absent) fault uncut there sound = absurd (there refl)
-  fails_by (looks.Log (logs.Damaged part)) fault uncut there sound =
+  fails_by (faults.Resumed s m) fault uncut there sound = absurd (uncut s m refl)
+  fails_by (faults.Log logs.Absent) fault uncut there sound = absurd (there refl)
+  fails_by (faults.Log (logs.Damaged part)) fault uncut there sound =
       so_far (ends.Fault (plays.Damaged part)) refl tt (λ log stored. let on = goes_on log stored in damaged_disk part (sound log on.0 on.1 (logs.Damaged part) refl))
-  fails_by (looks.Log logs.Disk) fault uncut there sound = so_far (ends.Fault plays.Disk) refl tt firsts
-  fails_by (looks.Log logs.Complete) fault uncut there sound = absurd fault
-  fails_by (looks.Log (logs.NoPoint point)) fault uncut there sound = absurd fault
-  fails_by (looks.Log logs.Broken) fault uncut there sound = absurd fault
-  fails_by (looks.Log (logs.Full part)) fault uncut there sound = absurd fault
-  fails_by (looks.Log (logs.TooLong point)) fault uncut there sound = absurd fault
-  fails_by (looks.Log logs.NoMem) fault uncut there sound = absurd fault
-  fails_by looks.NoMem fault uncut there sound = so_far (ends.Fault plays.NoMem) refl tt firsts
+  fails_by (faults.Log logs.Disk) fault uncut there sound = so_far (ends.Fault plays.Disk) refl tt firsts
+  fails_by (faults.Log logs.Complete) fault uncut there sound = absurd fault
+  fails_by (faults.Log (logs.NoPoint point)) fault uncut there sound = absurd fault
+  fails_by (faults.Log logs.Broken) fault uncut there sound = absurd fault
+  fails_by (faults.Log (logs.Full part)) fault uncut there sound = absurd fault
+  fails_by (faults.Log (logs.TooLong point)) fault uncut there sound = absurd fault
+  fails_by (faults.Log logs.NoMem) fault uncut there sound = absurd fault
+  fails_by faults.NoMem fault uncut there sound = so_far (ends.Fault plays.NoMem) refl tt firsts
 
   -- a look failed
-  pub look_fails : {T : Type 0} (r : Result T FollowEnd) (e : FollowFault) → IsErrAnd r (λ x. x ≡ of_look e) → IsLookFault e → ((s m : ℕ) → e ≡ looks.Resumed s m → ⊥) → (e ≡ looks.Log logs.Absent → ⊥)
-      → ((log : Stored) (rs : List Record) → HasGoneOn view rs log log now.reads → (fault : LogFault) → e ≡ looks.Log fault → fault ≡ logs.Disk) → Puts shows (IsStored start old.reads) o r before shown
+  pub look_fails : {T : Type 0} (r : Result T FollowEnd) (e : FollowFault) → IsErrAnd r (λ x. x ≡ of_look e) → IsLookFault e → ((s m : ℕ) → e ≡ faults.Resumed s m → ⊥) → (e ≡ faults.Log logs.Absent → ⊥)
+      → ((log : Stored) (rs : List Record) → HasGoneOn view rs log log now.reads → (fault : LogFault) → e ≡ faults.Log fault → fault ≡ logs.Disk) → Puts shows (IsStored start old.reads) o r before shown
   look_fails {T} r e err fault uncut there sound = record {
     put = followed o is.looks;
     put_is = is.put;
@@ -253,6 +253,7 @@ module _ (tells shows : Type 0) (o : Options) (start view : ViewState) (old now 
   -- what a look found isn't all put
   pub show_fails : {T : Type 0} (r : Result T FollowEnd) (found : Seen) (next : ViewState) (part after : List Item) → IsErrAnd r (λ x. x ≡ ends.Fault plays.Screen) → Finds tells view now found next → IsPart part (followed_by o found)
       → (shows → after ≡ shown ++ part) → Puts shows (IsStored start old.reads) o r before after
+  unfolding goes_on
   show_fails {T} r found next part after err finds is_part put = record {
     put = followed o is.looks ++ part;
     put_is = λ tells_too. put tells_too ∙ ap (λ (items : List Item). items ++ part) (is.put tells_too) ∙ append_assoc before (followed o is.looks) part;
@@ -309,6 +310,7 @@ module _ (tells shows : Type 0) (o : Options) (start view : ViewState) (old now 
   -- the look was one of too many
   pub looks_quiet : {T : Type 0} (found : Seen) (next : ViewState) (after : List Item) (m : ℕ) → found ≢ seen.End → ((r : Record) → found ≡ seen.Record r → m ≡ 0) → (found ≡ seen.Nothing → m ≡ n + 1) → m ≡ most_quiet
       → Finds tells view now found next → (shows → after ≡ shown ++ followed_by o found) → Puts {T = T} shows (IsStored start old.reads) o (Err ends.Quiet) before after
+  unfolding look_quiet
   looks_quiet {T} found next after m going record_is nothing_is most finds put = at found refl where
     count : found ≡ seen.Nothing → n + 1 ≡ most_quiet
     count is_nothing = let one = nothing_is is_nothing in omega (arith, one, most)
@@ -323,8 +325,11 @@ module _ (tells shows : Type 0) (o : Options) (start view : ViewState) (old now 
       follows = record {
         looks = is.looks ++ seen.Nothing ∷ [];
         puts = refl;
-        ends = (is.last.0, ap (λ (ls : List Seen). ls ++ seen.Nothing ∷ []) is.last.1 ∙ append_assoc is.last.0 (quiet n) (seen.Nothing ∷ []) ∙ ap (λ (ls : List Seen). is.last.0 ++ ls) (quiet_push n)
-            ∙ ap (λ (k : ℕ). is.last.0 ++ quiet k) (count same));
+        ends = (
+          is.last.0,
+          ap (λ (ls : List Seen). ls ++ seen.Nothing ∷ []) is.last.1 ∙ append_assoc is.last.0 (quiet n) (seen.Nothing ∷ []) ∙ ap (λ (ls : List Seen). is.last.0 ++ ls) (quiet_push n)
+              ∙ ap (λ (k : ℕ). is.last.0 ++ quiet k) (count same),
+        );
         stored = λ log stored.
             let at = is.stored told log stored in
             let found_of = subst (λ (s : Seen). Sees s next at.records log) same (finds told log log at.records (gone_on tells shows o start view old now before shown failed fails n is told log stored at)) in
@@ -369,15 +374,15 @@ play_screen (logs.Full part) e = cc
 play_screen (logs.TooLong point) e = cc
 play_screen logs.NoMem e = cc
 
-pub look_disk : (e : FollowFault) → of_look e ≡ ends.Fault plays.Disk → e ≡ looks.Log logs.Disk
-look_disk (looks.Resumed s m) e = absurd (cc)
-look_disk (looks.Log fault) e = ap (λ (f : LogFault). looks.Log f) (play_disk fault (end_disk (playback.of_log fault) plays.Disk e))
-look_disk looks.NoMem e = absurd (cc)
+pub look_disk : (e : FollowFault) → of_look e ≡ ends.Fault plays.Disk → e ≡ faults.Log logs.Disk
+look_disk (faults.Resumed s m) e = absurd (cc)
+look_disk (faults.Log fault) e = ap (λ (f : LogFault). faults.Log f) (play_disk fault (end_disk (playback.of_log fault) plays.Disk e))
+look_disk faults.NoMem e = absurd (cc)
 
 pub look_screen : (e : FollowFault) → of_look e ≡ ends.Fault plays.Screen → ⊥
-look_screen (looks.Resumed s m) e = cc
-look_screen (looks.Log fault) e = play_screen fault (end_disk (playback.of_log fault) plays.Screen e)
-look_screen looks.NoMem e = cc
+look_screen (faults.Resumed s m) e = cc
+look_screen (faults.Log fault) e = play_screen fault (end_disk (playback.of_log fault) plays.Screen e)
+look_screen faults.NoMem e = cc
 
 pub opening_disk : (e : LogFault) → ends.Fault (playback.of_log e) ≡ ends.Fault plays.Disk → e ≡ logs.Disk
 opening_disk e is = play_disk e (end_disk (playback.of_log e) plays.Disk is)
@@ -431,8 +436,8 @@ opened_follows o n v old mid r put number reads shows follows = inr (record {
   puts = follows.puts;
   ends = follows.ends;
   stored = λ log holds. follows.stored log (
-      shows log holds,
-      subst (λ (image : Image). Replays image v.number (Some log)) (sym (same_image old mid reads)) (subst (λ (k : ℕ). Replays old.reads k (Some log)) (sym number) holds),
+    shows log holds,
+    subst (λ (image : Image). Replays image v.number (Some log)) (sym (same_image old mid reads)) (subst (λ (k : ℕ). Replays old.reads k (Some log)) (sym number) holds),
   );
 })
 

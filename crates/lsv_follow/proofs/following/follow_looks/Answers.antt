@@ -12,7 +12,7 @@ use Rattle.lsv_follow.specs.Following.{cuts_seen}
 use Rattle.lsv_follow.specs.declared.end.FollowEnd.{FollowEnd}
 use Rattle.lsv_follow.specs.declared.end.FollowEnd.TheVariants as ends
 use Rattle.lsv_follow.specs.declared.fault.FollowFault.{FollowFault}
-use Rattle.lsv_follow.specs.declared.fault.FollowFault.TheVariants as looks
+use Rattle.lsv_follow.specs.declared.fault.FollowFault.TheVariants as faults
 use Rattle.lsv_follow.specs.declared.follow.Seen.{Seen}
 use Rattle.lsv_follow.specs.declared.follow.Seen.TheVariants as seen
 use Rattle.lsv_follow.proofs.Causes.{fault_is}
@@ -27,8 +27,8 @@ pub looks-preserved : goal.looks-preserved
 looks-preserved g c =
     following_goes_on g.D.Disk.tells g.S.Screen.tells c.args.o.now c.args.log.now.view c.looks.log.view (g.D.Disk.view c.args.disk.now) (g.D.Disk.view c.looks.disk) (g.S.Screen.shown c.args.screen.now) (g.S.Screen.shown c.looks.screen)
     (g.S.Screen.faults c.args.screen.now) (g.S.Screen.faults c.looks.screen) c.looks.quiet c.looks.invariant
-    c.in_ok-seen.seen c.next.new.self.view (g.D.Disk.view c.next.new.disk) (g.S.Screen.shown c.show_look.new.screen) (g.S.Screen.faults c.show_look.new.screen) c.quiet_after.result c.next.ensures.same.0 c.next.ensures.same.1 (λ told. c.next.ensures.reads told) c.next.ensures.cause.monotone
-    c.show_look.ensures.cause.monotone (λ told_too. c.in_ok-seen.ensures.sees told_too) (λ told. c.in_ok-show_look.ensures.shown told) c.in-End.not-End c.quiet_after.ensures.record c.quiet_after.ensures.nothing c.if-quiet.false
+    c.in_ok-seen.seen c.next.new.self.view (g.D.Disk.view c.next.new.disk) (g.S.Screen.shown c.show_look.new.screen) (g.S.Screen.faults c.show_look.new.screen) c.quiet_after-quiet.result c.next.ensures.same.0 c.next.ensures.same.1 (λ told. c.next.ensures.reads told) c.next.ensures.cause.monotone
+    c.show_look.ensures.cause.monotone (λ told_too. c.in_ok-seen.ensures.sees told_too) (λ told. c.in_ok-show_look.ensures.shown told) c.in-End.not-End c.quiet_after-quiet.ensures.record c.quiet_after-quiet.ensures.nothing c.if-quiet-eq-MOST_QUIET.false
 
 pub returns-in_err-seen-clause-followed : goal.returns-in_err-seen-clause-followed
 returns-in_err-seen-clause-followed g c told has =
@@ -37,9 +37,9 @@ returns-in_err-seen-clause-followed g c told has =
     let e : FollowFault = c.in_err-seen.field-0.0 in
     let puts = look_fails g.D.Disk.tells g.S.Screen.tells c.args.o.now c.args.log.now.view c.looks.log.view (g.D.Disk.view c.args.disk.now) (g.D.Disk.view c.looks.disk) (g.S.Screen.shown c.args.screen.now) (g.S.Screen.shown c.looks.screen)
     (g.S.Screen.faults c.args.screen.now) (g.S.Screen.faults c.looks.screen) c.looks.quiet c.looks.invariant told c.from_residual.result e c.from_residual.ensures.1 c.in_err-seen.ensures.fault
-    (λ s m at. never_cut c.args.log.now.view c.looks.log.view old now s m c.looks.invariant.number c.looks.invariant.cuts (c.looks.invariant.reads told) has (c.in_err-seen.ensures.resumed told s m (fault_is {T = Seen} e (looks.Resumed s m) at)))
-    (λ at. never_absent c.args.log.now.view c.looks.log.view old now c.looks.invariant.number (c.looks.invariant.reads told) has (c.in_err-seen.ensures.absent told (fault_is {T = Seen} e (looks.Log logs.Absent) at)))
-    (λ log rs on fault at. c.in_err-seen.ensures.undamaged told log log rs on fault (fault_is {T = Seen} e (looks.Log fault) at)) in
+    (λ s m at. never_cut c.args.log.now.view c.looks.log.view old now s m c.looks.invariant.number c.looks.invariant.cuts (c.looks.invariant.reads told) has (c.in_err-seen.ensures.resumed told s m (fault_is {T = Seen} e (faults.Resumed s m) at)))
+    (λ at. never_absent c.args.log.now.view c.looks.log.view old now c.looks.invariant.number (c.looks.invariant.reads told) has (c.in_err-seen.ensures.absent told (fault_is {T = Seen} e (faults.Log logs.Absent) at)))
+    (λ log rs on fault at. c.in_err-seen.ensures.undamaged told log log rs on fault (fault_is {T = Seen} e (faults.Log fault) at)) in
     (puts.put, puts.put_is, puts.follows)
 
 pub returns-in_err-seen-clause-reads : goal.returns-in_err-seen-clause-reads
@@ -48,7 +48,7 @@ returns-in_err-seen-clause-reads g c told = reads_trans (g.D.Disk.view c.args.di
 pub returns-in_err-seen-clause-disk : goal.returns-in_err-seen-clause-disk
 returns-in_err-seen-clause-disk g c =
     own_cause c.args.log.now.view.number c.looks.log.view.number _ _ (g.D.Disk.view c.args.disk.now) (g.D.Disk.view c.looks.disk) (g.D.Disk.view c.next.new.disk) c.looks.invariant.number c.looks.invariant.disk c.in_err-seen.ensures.cause
-    (λ is. fault_is {T = Seen} c.in_err-seen.field-0.0 (looks.Log logs.Disk) (look_disk c.in_err-seen.field-0.0 (end_same c.from_residual.result (of_look c.in_err-seen.field-0.0) (ends.Fault plays.Disk) c.from_residual.ensures.1 is)))
+    (λ is. fault_is {T = Seen} c.in_err-seen.field-0.0 (faults.Log logs.Disk) (look_disk c.in_err-seen.field-0.0 (end_same c.from_residual.result (of_look c.in_err-seen.field-0.0) (ends.Fault plays.Disk) c.from_residual.ensures.1 is)))
 
 pub returns-in_err-seen-clause-screen : goal.returns-in_err-seen-clause-screen
 returns-in_err-seen-clause-screen g c =
@@ -90,28 +90,28 @@ pub returns-in-End-clause-screen : goal.returns-in-End-clause-screen
 returns-in-End-clause-screen g c =
     screen_none _ (g.S.Screen.faults c.args.screen.now) (g.S.Screen.faults c.show_look.new.screen) (omega (arith, c.looks.invariant.screen, c.show_look.ensures.cause.monotone)) (λ is. ok_no_err _ (tt {0}) (ends.Fault plays.Screen) refl is)
 
-pub returns-if-quiet-clause-followed : goal.returns-if-quiet-clause-followed
-returns-if-quiet-clause-followed g c told has =
-    let puts = looks_quiet {T = Unit {0}} g.D.Disk.tells g.S.Screen.tells c.args.o.now c.args.log.now.view c.looks.log.view (g.D.Disk.view c.args.disk.now) (g.D.Disk.view c.looks.disk) (g.S.Screen.shown c.args.screen.now) (g.S.Screen.shown c.looks.screen)
-    (g.S.Screen.faults c.args.screen.now) (g.S.Screen.faults c.looks.screen) c.looks.quiet c.looks.invariant told c.in_ok-seen.seen c.next.new.self.view (g.S.Screen.shown c.show_look.new.screen) c.quiet_after.result c.in-End.not-End c.quiet_after.ensures.record c.quiet_after.ensures.nothing c.if-quiet.true
+pub returns-if-quiet-eq-MOST_QUIET-clause-followed : goal.returns-if-quiet-eq-MOST_QUIET-clause-followed
+returns-if-quiet-eq-MOST_QUIET-clause-followed g c told has =
+    let puts = looks_quiet g.D.Disk.tells g.S.Screen.tells c.args.o.now c.args.log.now.view c.looks.log.view (g.D.Disk.view c.args.disk.now) (g.D.Disk.view c.looks.disk) (g.S.Screen.shown c.args.screen.now) (g.S.Screen.shown c.looks.screen)
+    (g.S.Screen.faults c.args.screen.now) (g.S.Screen.faults c.looks.screen) c.looks.quiet c.looks.invariant told {T = Unit {0}} c.in_ok-seen.seen c.next.new.self.view (g.S.Screen.shown c.show_look.new.screen) c.quiet_after-quiet.result c.in-End.not-End c.quiet_after-quiet.ensures.record c.quiet_after-quiet.ensures.nothing c.if-quiet-eq-MOST_QUIET.true
     (λ told_too. c.in_ok-seen.ensures.sees told_too) (λ told_too. c.in_ok-show_look.ensures.shown told_too) in
     (puts.put, puts.put_is, puts.follows)
 
-pub returns-if-quiet-clause-reads : goal.returns-if-quiet-clause-reads
-returns-if-quiet-clause-reads g c told = reads_trans (g.D.Disk.view c.args.disk.now) (g.D.Disk.view c.looks.disk) (g.D.Disk.view c.next.new.disk) (c.looks.invariant.reads told) (c.next.ensures.reads told)
+pub returns-if-quiet-eq-MOST_QUIET-clause-reads : goal.returns-if-quiet-eq-MOST_QUIET-clause-reads
+returns-if-quiet-eq-MOST_QUIET-clause-reads g c told = reads_trans (g.D.Disk.view c.args.disk.now) (g.D.Disk.view c.looks.disk) (g.D.Disk.view c.next.new.disk) (c.looks.invariant.reads told) (c.next.ensures.reads told)
 
-pub returns-if-quiet-clause-disk : goal.returns-if-quiet-clause-disk
-returns-if-quiet-clause-disk g c =
+pub returns-if-quiet-eq-MOST_QUIET-clause-disk : goal.returns-if-quiet-eq-MOST_QUIET-clause-disk
+returns-if-quiet-eq-MOST_QUIET-clause-disk g c =
     own_cause c.args.log.now.view.number c.looks.log.view.number _ _ (g.D.Disk.view c.args.disk.now) (g.D.Disk.view c.looks.disk) (g.D.Disk.view c.next.new.disk) c.looks.invariant.number c.looks.invariant.disk c.in_ok-seen.ensures.cause (λ is. absurd (quiet_no_fault plays.Disk (end_same _ ends.Quiet (ends.Fault plays.Disk) refl is)))
 
-pub returns-if-quiet-clause-screen : goal.returns-if-quiet-clause-screen
-returns-if-quiet-clause-screen g c =
+pub returns-if-quiet-eq-MOST_QUIET-clause-screen : goal.returns-if-quiet-eq-MOST_QUIET-clause-screen
+returns-if-quiet-eq-MOST_QUIET-clause-screen g c =
     screen_none _ (g.S.Screen.faults c.args.screen.now) (g.S.Screen.faults c.show_look.new.screen) (omega (arith, c.looks.invariant.screen, c.show_look.ensures.cause.monotone)) (λ is. quiet_no_fault plays.Screen (end_same _ ends.Quiet (ends.Fault plays.Screen) refl is))
 
 pub returns-clause-followed : goal.returns-clause-followed
 returns-clause-followed g c told has =
-    let puts = loop_ends {T = Unit {0}} g.D.Disk.tells g.S.Screen.tells c.args.o.now c.args.log.now.view c.looks.log.view (g.D.Disk.view c.args.disk.now) (g.D.Disk.view c.looks.disk) (g.S.Screen.shown c.args.screen.now) (g.S.Screen.shown c.looks.screen)
-    (g.S.Screen.faults c.args.screen.now) (g.S.Screen.faults c.looks.screen) c.looks.quiet c.looks.invariant told in
+    let puts = loop_ends g.D.Disk.tells g.S.Screen.tells c.args.o.now c.args.log.now.view c.looks.log.view (g.D.Disk.view c.args.disk.now) (g.D.Disk.view c.looks.disk) (g.S.Screen.shown c.args.screen.now) (g.S.Screen.shown c.looks.screen)
+    (g.S.Screen.faults c.args.screen.now) (g.S.Screen.faults c.looks.screen) c.looks.quiet c.looks.invariant told {T = Unit {0}} in
     (puts.put, puts.put_is, puts.follows)
 
 pub returns-clause-reads : goal.returns-clause-reads
