@@ -28,7 +28,7 @@ looks-preserved g c =
     following_goes_on g.D.Disk.tells g.S.Screen.tells c.args.o.now c.args.log.now.view c.looks.log.view (g.D.Disk.view c.args.disk.now) (g.D.Disk.view c.looks.disk) (g.S.Screen.shown c.args.screen.now) (g.S.Screen.shown c.looks.screen)
     (g.S.Screen.faults c.args.screen.now) (g.S.Screen.faults c.looks.screen) c.looks.quiet c.looks.invariant
     c.in_ok-seen.seen c.next.new.self.view (g.D.Disk.view c.next.new.disk) (g.S.Screen.shown c.show_look.new.screen) (g.S.Screen.faults c.show_look.new.screen) c.quiet_after-quiet.result c.next.ensures.same.0 c.next.ensures.same.1 (λ told. c.next.ensures.reads told) c.next.ensures.cause.monotone
-    c.show_look.ensures.cause.monotone (λ told_too. c.in_ok-seen.ensures.sees told_too) (λ told. c.in_ok-show_look.ensures.shown told) c.in-End.not-End c.quiet_after-quiet.ensures.record c.quiet_after-quiet.ensures.nothing c.if-quiet-eq-MOST_QUIET.false
+    c.show_look.ensures.cause.monotone (λ told_too. c.in_ok-seen.ensures.sees told_too) (λ told. c.in_ok-show_look.ensures.shown told) c.in_default.not-End c.quiet_after-quiet.ensures.record c.quiet_after-quiet.ensures.nothing c.if-quiet-eq-MOST_QUIET.false
 
 pub returns-in_err-seen-clause-followed : goal.returns-in_err-seen-clause-followed
 returns-in_err-seen-clause-followed g c told has =
@@ -90,22 +90,22 @@ pub returns-in-End-clause-screen : goal.returns-in-End-clause-screen
 returns-in-End-clause-screen g c =
     screen_none _ (g.S.Screen.faults c.args.screen.now) (g.S.Screen.faults c.show_look.new.screen) (omega (arith, c.looks.invariant.screen, c.show_look.ensures.cause.monotone)) (λ is. ok_no_err _ (tt {0}) (ends.Fault plays.Screen) refl is)
 
-pub returns-if-quiet-eq-MOST_QUIET-clause-followed : goal.returns-if-quiet-eq-MOST_QUIET-clause-followed
-returns-if-quiet-eq-MOST_QUIET-clause-followed g c told has =
+pub returns-then-quiet-eq-MOST_QUIET-clause-followed : goal.returns-then-quiet-eq-MOST_QUIET-clause-followed
+returns-then-quiet-eq-MOST_QUIET-clause-followed g c told has =
     let puts = looks_quiet g.D.Disk.tells g.S.Screen.tells c.args.o.now c.args.log.now.view c.looks.log.view (g.D.Disk.view c.args.disk.now) (g.D.Disk.view c.looks.disk) (g.S.Screen.shown c.args.screen.now) (g.S.Screen.shown c.looks.screen)
-    (g.S.Screen.faults c.args.screen.now) (g.S.Screen.faults c.looks.screen) c.looks.quiet c.looks.invariant told {T = Unit {0}} c.in_ok-seen.seen c.next.new.self.view (g.S.Screen.shown c.show_look.new.screen) c.quiet_after-quiet.result c.in-End.not-End c.quiet_after-quiet.ensures.record c.quiet_after-quiet.ensures.nothing c.if-quiet-eq-MOST_QUIET.true
+    (g.S.Screen.faults c.args.screen.now) (g.S.Screen.faults c.looks.screen) c.looks.quiet c.looks.invariant told {T = Unit {0}} c.in_ok-seen.seen c.next.new.self.view (g.S.Screen.shown c.show_look.new.screen) c.quiet_after-quiet.result c.in_default.not-End c.quiet_after-quiet.ensures.record c.quiet_after-quiet.ensures.nothing c.if-quiet-eq-MOST_QUIET.true
     (λ told_too. c.in_ok-seen.ensures.sees told_too) (λ told_too. c.in_ok-show_look.ensures.shown told_too) in
     (puts.put, puts.put_is, puts.follows)
 
-pub returns-if-quiet-eq-MOST_QUIET-clause-reads : goal.returns-if-quiet-eq-MOST_QUIET-clause-reads
-returns-if-quiet-eq-MOST_QUIET-clause-reads g c told = reads_trans (g.D.Disk.view c.args.disk.now) (g.D.Disk.view c.looks.disk) (g.D.Disk.view c.next.new.disk) (c.looks.invariant.reads told) (c.next.ensures.reads told)
+pub returns-then-quiet-eq-MOST_QUIET-clause-reads : goal.returns-then-quiet-eq-MOST_QUIET-clause-reads
+returns-then-quiet-eq-MOST_QUIET-clause-reads g c told = reads_trans (g.D.Disk.view c.args.disk.now) (g.D.Disk.view c.looks.disk) (g.D.Disk.view c.next.new.disk) (c.looks.invariant.reads told) (c.next.ensures.reads told)
 
-pub returns-if-quiet-eq-MOST_QUIET-clause-disk : goal.returns-if-quiet-eq-MOST_QUIET-clause-disk
-returns-if-quiet-eq-MOST_QUIET-clause-disk g c =
+pub returns-then-quiet-eq-MOST_QUIET-clause-disk : goal.returns-then-quiet-eq-MOST_QUIET-clause-disk
+returns-then-quiet-eq-MOST_QUIET-clause-disk g c =
     own_cause c.args.log.now.view.number c.looks.log.view.number _ _ (g.D.Disk.view c.args.disk.now) (g.D.Disk.view c.looks.disk) (g.D.Disk.view c.next.new.disk) c.looks.invariant.number c.looks.invariant.disk c.in_ok-seen.ensures.cause (λ is. absurd (quiet_no_fault plays.Disk (end_same _ ends.Quiet (ends.Fault plays.Disk) refl is)))
 
-pub returns-if-quiet-eq-MOST_QUIET-clause-screen : goal.returns-if-quiet-eq-MOST_QUIET-clause-screen
-returns-if-quiet-eq-MOST_QUIET-clause-screen g c =
+pub returns-then-quiet-eq-MOST_QUIET-clause-screen : goal.returns-then-quiet-eq-MOST_QUIET-clause-screen
+returns-then-quiet-eq-MOST_QUIET-clause-screen g c =
     screen_none _ (g.S.Screen.faults c.args.screen.now) (g.S.Screen.faults c.show_look.new.screen) (omega (arith, c.looks.invariant.screen, c.show_look.ensures.cause.monotone)) (λ is. quiet_no_fault plays.Screen (end_same _ ends.Quiet (ends.Fault plays.Screen) refl is))
 
 pub returns-clause-followed : goal.returns-clause-followed
