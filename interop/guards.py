@@ -33,9 +33,9 @@ CLIENTS = 128
 class Guarded:
     """A place for a store, below a folder that nobody may list, and the server that is run on it."""
 
-    def __init__(self, program):
+    def __init__(self, program, parent=None):
         self.program = program
-        self.above = tempfile.mkdtemp(prefix="guards")
+        self.above = tempfile.mkdtemp(prefix="guards", dir=parent)
         closed = os.path.join(self.above, "closed")
         os.mkdir(closed)
         self.place = servers.Place(parent=closed)
@@ -394,6 +394,161 @@ def part_event_log_of_a_crash(program):
         on.server.start()
         on.sessions(1)
         same("event lines", len(store.lines(on.events)), 2)
+
+
+def part_event_log_put_back(program):
+    """A rotated event log is put back beside the new journal: its lines after the place of the next one are kept in a file."""
+    with Guarded(program) as on:
+        on.start().sessions(3)
+        on.stop()
+        old = store.contents(on.events)
+        for name in (on.events, on.events + ".slots"):
+            os.remove(name)
+        on.server.start()
+        on.sessions(1)
+        on.stop()
+        counted = len(store.contents(on.events))
+        # a line of another length in front, so that none ends where the journal's last one does
+        written(on.events, b"{}\n" + old if old[counted - 1:counted] == b"\n" else old)
+        on.refused(f"{on.events}: no line ends at byte {counted}, where its journal {on.events}.slots ends", "the journal is that of another log: nothing is changed")
+        # and one that ends there
+        fits = b"x" * (counted - 1) + b"\n"
+        written(on.events, fits + old)
+        said = said_at_start(on)
+        if f"{on.events}: warning: {len(old)} bytes after the lines that its journal counts were moved to {on.events}.after-{counted}: " not in said:
+            raise Differs(said)
+        same("what was kept", store.contents(f"{on.events}.after-{counted}"), old)
+        same("the mode of what was kept", os.stat(f"{on.events}.after-{counted}").st_mode & 0o777, 0o600)
+        on.sessions(1)
+        same("the lines before", store.contents(on.events)[:counted], fits)
+
+
+def part_older_event_journal(program):
+    """An older journal of the event log, also an empty one: what it doesn't count is kept in a file, once."""
+    with Guarded(program) as on:
+        on.start().sessions(1)
+        on.stop()
+        older, counted = store.contents(on.events + ".slots"), len(store.contents(on.events))
+        on.server.start()
+        on.sessions(2)
+        on.stop()
+        lines = store.contents(on.events)
+        for journal, first in ((older, counted), (b"", 0), (b"\0" + older[1:], 0)):
+            for name in kept_beside(on.events):
+                os.remove(name)
+            written(on.events, lines)
+            written(on.events + ".slots", journal)
+            said_at_start(on, f"were moved to {on.events}.after-{first}: ")
+            on.sessions(1)
+            on.stop()
+            now = store.contents(on.events)
+            same("the lines that were counted", now[:first], lines[:first])
+            same("what was kept", store.contents(f"{on.events}.after-{first}"), lines[first:])
+            same("lines of the last session", now[first:].count(b"\n"), 2)
+            said = said_at_start(on)
+            on.stop()
+            same(f"said at the next start: {said!r}", "warning" in said, False)
+            same("files", kept_beside(on.events), [f"{on.events}.after-{first}"])
+
+
+def part_event_log_of_a_torn_turn(program):
+    """Bytes that a crash left after the last line: they are kept, and the server runs."""
+    with Guarded(program) as on:
+        on.start().sessions(1)
+        on.stop()
+        lines = store.contents(on.events)
+        at = f"{on.events}.after-{len(lines)}"
+        turns = [(b'{"accept":{"sub', [at]), (b'{"accept":{"sub', [at]), (b'{"accept":{"submit', [at]), (bytes(9000), [at, at + ".2"]), (b"\n", [at, at + ".2", at + ".3"])]
+        before = b""
+        for torn, names in turns:
+            written(on.events, lines + torn)
+            said = said_at_start(on)
+            on.stop()
+            same(f"warned: {said!r}", f"{len(torn)} bytes after the lines" in said, torn != before)
+            same("files", kept_beside(on.events), names)
+            same("what was kept", store.contents(names[-1]), torn)
+            same("the event log", store.contents(on.events), lines)
+            before = torn
+        on.server.start()
+        on.sessions(1)
+        same("event lines", len(store.lines(on.events)), 4)
+        on.stop()
+        # what can't be kept isn't written over
+        lines = store.contents(on.events)
+        written(on.events, lines + b"torn")
+        os.mkdir(f"{on.events}.after-{len(lines)}")
+        on.refused(f"{on.events}: what stands after the lines that its journal counts can't be kept in a file beside it: ")
+
+
+def part_event_log_and_a_new_folder(program):
+    """Another folder of the logs with the event log that is there: it goes on."""
+    with Guarded(program) as on:
+        on.start().sessions(1)
+        on.stop()
+        said, child = on.runs(on.settings("further", store=on.store + "-new"))
+        child.kill()
+        same(f"warned: {said!r}", said.count("\n"), 1)
+
+
+def said_at_start(on, *words):
+    """What the server says when it is started. It must have these words."""
+    offset = len(on.place.said())
+    on.server.start()
+    said = on.place.said()[offset:]
+    for word in words:
+        if word not in said:
+            raise Differs(f"{word!r} isn't in {said!r}")
+    return said
+
+
+def kept_beside(events):
+    """The files that keep what stood after the lines of an event log."""
+    folder, name = os.path.split(events)
+    return sorted(os.path.join(folder, it) for it in os.listdir(folder) if it.startswith(name + ".after-"))
+
+
+def part_places_in_another_store(program):
+    """The folder of the logs below another store, the event log among the files of one."""
+    with Guarded(program) as on:
+        on.start().sessions(1)
+        on.stop()
+        for name in ("logs", "00", "00/00/ZZ", "new/logs"):
+            on.refused(f"{on.store}/{name}: this folder is in another store, {on.store}: nothing is changed", conf=on.settings("further", store=f"{on.store}/{name}", events=on.events + "-new"))
+        other = os.path.join(on.place.folder, "other")
+        for name in ("seq2", "seq", "lock", "00/00/02/x", "ZZ", "./00/../seq2"):
+            on.refused("path of [logfile] has the name of a file or a folder of another store", conf=on.settings("further", store=other, events=f"{on.store}/{name}"))
+        _, child = on.runs(on.settings("fits", store=other, events=on.store + "/events"))
+        child.kill()
+
+
+def part_resumed_log_is_told(program):
+    """A restart says which log it resumes, and how many records it drops."""
+    with Guarded(program) as on:
+        on.start()
+        link = on.server.connect()
+        link.send(client.hello(), ACCEPT, *[client.record((SECOND, "ttyout", MARK)) for _ in range(4)])
+        while link.read() != ("commit_point", 4 * SECOND):
+            pass
+        link.close()
+        for point, of in ((4, 4), (4, 5), (2, 5), (3, 3)):
+            told = len(on.place.said())
+            resume(on, "000001", point)
+            said = on.place.said()[told:]
+            same("said", said, f"sudo_logsrvd: {store.folder_of(on.store, '000001')}: a client resumes this log at {point}.000000000 s: of its {of} records it drops the last {of - point}\n")
+
+
+def resume(on, digits, point):
+    """Goes on with a log at this second, with a record of a second. The server may not have seen yet that its writer is gone."""
+    for _ in range(100):
+        link = on.server.connect()
+        link.send(client.hello(), client.restart(digits, point * SECOND), client.record((SECOND, "ttyout", MARK)))
+        link.read()
+        answer = link.read()
+        if answer != ("error", "log in use"):
+            break
+        link.close()
+    same("the answer", answer, ("commit_point", (point + 1) * SECOND))
+    link.close()
 
 
 def part_places_that_collide(program):

@@ -4,8 +4,8 @@
 usage: said.py PROGRAM REPLAY
 
 PROGRAM is sudo_logsrvd, REPLAY sudoreplay. Each case is words, and the lines and the status that they must give; in lines and
-words DIR stands for a store of five logs, of which 000002 and 000004 are damaged and 000003 has lost its journal. It ends with 1
-where something differs.
+words DIR stands for a store of seven logs, of which 000002 and 000004 are damaged, 000003 has lost its journal, and those of 000006
+and 000007 are emptied and garbled. It ends with 1 where something differs.
 """
 import os
 import shutil
@@ -16,7 +16,7 @@ import tempfile
 sys.path.insert(0, os.path.join(os.path.dirname(os.path.abspath(__file__)), "..", "bench"))
 import stores  # noqa: E402
 
-LOGS = 5
+LOGS = 7
 NOBODY = 65534
 INFO = {"command": "/usr/bin/id", "submituser": "ann", "runuser": "root"}
 HOST = "HOST or HOST:PORT with a port from 1 to 65535, where HOST is a name, an address ([ADDRESS] if it is IPv6) or *"
@@ -25,6 +25,8 @@ TRUTH = "true, yes, on or 1, or false, no, off or 0"
 STREAMS = "the streams are names of stdin, stdout, stderr, ttyin and ttyout, with commas between them"
 GARBLED = "is absent, shorter than its journal says, or garbled"
 GONE = "its journal, slots, is gone"
+NO_ENTRY = "its journal, slots, has no entry"
+EMPTIED = ": put it back from a copy, unless the server was ended while it made this log"
 
 # sudoreplay: words, the lines in front of that of the status, the status' text, and its number
 USAGE = [
@@ -66,9 +68,13 @@ UNLISTED = [
     f"log 000002 (DIR/00/00/02): stdout {GARBLED}; it isn't listed",
     f"log 000003 (DIR/00/00/03): {GONE}, so it isn't listed: put it back from a copy",
     f"log 000004 (DIR/00/00/04): timing {GARBLED}; it isn't listed",
+    *(f"log {digits} (DIR/00/00/{digits[4:]}): {NO_ENTRY}, so it isn't listed{EMPTIED}" for digits in ("000006", "000007")),
 ]
 NO_NUMBERS = "DIR: it has no seq2, so no log is listed: put it back from a copy; an identifier still plays its log"
 NUMBERS_DAMAGED = "DIR/seq2: it is damaged, so no log is listed: put it back from a copy; an identifier still plays its log"
+
+NUMBERS_EMPTY = "DIR/seq2: it has no entry, so no log is listed: put it back from a copy; an identifier still plays its log"
+NUMBERS_OLDER = "DIR/seq2: its last number is 000005, and there is log 000007, so the logs above it aren't listed: put it back from a newer copy; an identifier still plays its log"
 
 # sudo_logsrvd: words, and the line in front of that of the status
 COMMANDS = [
@@ -124,7 +130,7 @@ class Said:
         self.write_store()
 
     def write_store(self):
-        """Five logs, of which two are damaged and one has lost its journal."""
+        """Seven logs, of which two are damaged, one has lost its journal, and two have journals without an entry."""
         for number in range(1, LOGS + 1):
             stores.write_log(self.names["DIR"], number, stores.head_text((1700000000, 0), INFO), [(1, "stdout", b"0\n")], stores.exit_text((1, 0), 0))
         stores.write_numbers(self.names["DIR"], LOGS)
@@ -132,6 +138,10 @@ class Said:
         os.remove(self.file(3, "slots"))
         with open(self.file(4, "timing"), "r+b") as file:
             file.truncate(3)
+        with open(self.file(6, "slots"), "wb"):
+            pass
+        with open(self.file(7, "slots"), "r+b") as file:
+            file.write(b"\xff" * 180)
 
     def file(self, number, name):
         return os.path.join(self.names["DIR"], "00", "00", f"{number:02}", name)
@@ -177,6 +187,7 @@ class Said:
         self.listed(self.says(self.replay, ["-d", "DIR", "-l"], [*UNLISTED, "log damaged"], 4), [1, 5])
         self.says(self.replay, ["-d", "DIR", "000002"], [f"log 000002 (DIR/00/00/02): stdout {GARBLED}", "log damaged"], 4)
         self.says(self.replay, ["-d", "DIR", "000003"], [f"log 000003 (DIR/00/00/03): {GONE}, so it can't be played: put it back from a copy", "no such log"], 8, behind=1)
+        self.says(self.replay, ["-d", "DIR", "000006"], [f"log 000006 (DIR/00/00/06): {NO_ENTRY}, so it can't be played{EMPTIED}", "no such log"], 8, behind=1)
         for word in ("000001@1", "00/00/01"):
             self.says(self.replay, ["-d", "DIR", word], [f'"{word}" is no identifier: paths and offsets aren\'t taken', "no such log"], 8, behind=1)
 
@@ -188,7 +199,7 @@ class Said:
             print(f"listed {found} for {numbers}")
 
     def numbers(self):
-        """The number file is garbled, and then it is gone."""
+        """The number file is garbled, gone, emptied, and older than the logs."""
         path = os.path.join(self.names["DIR"], "seq2")
         with open(path, "rb") as file:
             kept = file.read()
@@ -197,6 +208,14 @@ class Said:
         self.says(self.replay, ["-d", "DIR", "-l"], [NUMBERS_DAMAGED, "log damaged"], 4)
         os.remove(path)
         self.says(self.replay, ["-d", "DIR", "-l"], [NO_NUMBERS], 0)
+        self.says(self.replay, ["-d", "DIR", "-m", "0", "000001"], [], 0)
+        for empty in (b"", b"\0", bytes(26), kept[:5]):
+            with open(path, "wb") as file:
+                file.write(empty)
+            self.says(self.replay, ["-d", "DIR", "-l"], [NUMBERS_EMPTY], 0)
+        os.remove(path)
+        stores.write_numbers(self.names["DIR"], LOGS - 2)
+        self.says(self.replay, ["-d", "DIR", "-l"], [NUMBERS_OLDER, *UNLISTED[:3], "log damaged"], 4)
         self.says(self.replay, ["-d", "DIR", "-m", "0", "000001"], [], 0)
         with open(path, "wb") as file:
             file.write(kept)

@@ -4,3 +4,4 @@ pub mod UntoldPort
 pub mod Made
 pub mod Drawn
 pub mod Misplaced
+pub mod Doubts

@@ -4,10 +4,15 @@ ghost use Rattle.lsv_words.specs.Causes.{HasRisen};
 ghost use Rattle.lsv_real.specs.Untold.{untold};
 
 use crate::call::{Call, CallFault};
+use crate::cut_notice::{JOURNAL, cut_in, last_entry};
 use crate::refusal::{is_refused, report_no_store, warn_of_places};
 use crate::store::Store;
+use lsv_bundle::Body;
 use lsv_disk::{Disk, DiskFault, FileId, Owner, Part};
 use std::io::ErrorKind;
+
+/// The nanoseconds of a second.
+const NANOS: u64 = 1_000_000_000;
 
 /// The disk of the operating system. Until `root` has the store's lock each call is a fault, and makes nothing.
 #[derive(Drop)]
@@ -78,6 +83,31 @@ impl FileDisk {
     }
 }
 
+/// Says that a client resumes a log, and how many of its records are dropped.
+fn report_resumed(
+    rt: &HostRuntime,
+    program: &str,
+    store: &mut Store,
+    journal: FileId,
+    entry: Body,
+) {
+    let mut bytes = [0; JOURNAL];
+    let (Ok(place), Ok(count)) = (store.place_of(journal), store.read(journal, 0, &mut bytes))
+    else {
+        return;
+    };
+    let Some(before) = last_entry(&bytes[..count]) else {
+        return;
+    };
+    let folder = place.folder.as_str();
+    let of = before.count;
+    let dropped = of.saturating_sub(entry.count);
+    let (seconds, nanos) = (entry.elapsed / NANOS, entry.elapsed % NANOS);
+    let _ = eprintln!(rt;
+        "{program}: {folder}: a client resumes this log at {seconds}.{nanos:09} s: of its {of} records it drops the last {dropped}"
+    );
+}
+
 impl Disk for FileDisk {
     ghost tells = { ⊥ };
 
@@ -143,7 +173,12 @@ impl Disk for FileDisk {
 
     fn write_at(&mut self, f: FileId, at: u64, bytes: &[u8]) -> Result<(), DiskFault> {
         let answer = match &mut self.store {
-            Some(store) => store.write(f, at, bytes),
+            Some(store) => {
+                if let Some(entry) = cut_in(f, bytes) {
+                    report_resumed(&self.rt, self.program, store, f, entry);
+                }
+                store.write(f, at, bytes)
+            }
             None => Err(ErrorKind::NotFound.into()),
         };
         self.told(f, Call::Write, answer)

@@ -1,5 +1,6 @@
 // Paths that may not be meant as they stand.
 ghost use Rattle.std.specs.Prelude.{◌≡◌};
+ghost use Rattle.lsv_real.specs.Doubts.{IsDoubt};
 
 /// Why a path may not be meant as it stands.
 #[derive(Clone, Copy, Debug, PartialEq, Eq)]
@@ -26,7 +27,9 @@ impl Doubt {
 }
 
 /// The first of the doubts about a path that is set.
-pub fn doubt_of(path: &str) -> Option<Doubt> {
+pub fn doubt_of(path: &str) -> Option<Doubt>
+    ensures { IsDoubt path.now result }
+{
     if path.contains('"') {
         Some(Doubt::Quote)
     } else if path.contains("%{") {

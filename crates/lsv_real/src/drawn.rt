@@ -7,7 +7,6 @@ use crate::look::no_store_in;
 use crate::path::Places;
 use crate::read_only::ReadOnlyDisk;
 use lsv_base::LogNo;
-use lsv_disk::Disk;
 use lsv_seq::{SeqFault, last_drawn};
 use std::alloc::{AllocError, Global};
 use std::io::ErrorKind;
@@ -56,16 +55,35 @@ pub fn find_uncovered(
         // a new store, with neither numbers nor logs
         return Ok(None);
     }
+    compare(rt, program, places)
+}
+
+/// The same for who reads the store beside a server, which may draw numbers meanwhile. None if its number file is damaged. The number
+/// files are read after the folders: a number that was drawn since covers more.
+pub fn uncovered_in(
+    rt: HostRuntime,
+    program: &'static str,
+    dir: &str,
+) -> io::Result<Option<Uncovered>> {
+    compare(rt, program, &Places::new(rt.alloc(), dir, "")?)
+}
+
+/// Compares the greatest folder of a log with the number files.
+fn compare(
+    rt: HostRuntime,
+    program: &'static str,
+    places: &Places,
+) -> io::Result<Option<Uncovered>> {
+    let greatest = greatest_log(&rt, places)?;
     match read_numbers(rt, program, places)? {
-        Numbers::Last(last) => Ok(judge(last, greatest_log(&rt, places)?)),
+        Numbers::Last(last) => Ok(judge(last, greatest)),
         Numbers::Damaged => Ok(None),
     }
 }
 
 /// Reads the number files of all lanes, those of an older store too.
 fn read_numbers(rt: HostRuntime, program: &'static str, places: &Places) -> io::Result<Numbers> {
-    let mut disk = ReadOnlyDisk::new(rt, program);
-    disk.root(places.dir.as_str(), places.events.as_str());
+    let mut disk = ReadOnlyDisk::at(rt, program, places)?;
     let mut last = None;
     for lane in 0..MOST_LANES {
         match last_drawn(&mut disk, lane) {

@@ -65,7 +65,12 @@ impl Folders {
         if self.has_failed(folder) {
             return Err(ErrorKind::Other.into());
         }
-        if let Err(e) = opened.sync_all() {
+        self.note_sync(folder, opened.sync_all())
+    }
+
+    /// Remembers what a sync of a folder answered.
+    fn note_sync(&mut self, folder: &str, answer: io::Result<()>) -> io::Result<()> {
+        if let Err(e) = answer {
             self.all_failed = self.note_failed(folder).is_err();
             return Err(e);
         }
@@ -207,13 +212,35 @@ impl Folders {
     }
 
     /// Syncs the parent of a folder that is there. One that may not be opened is passed over: this program made no
-    /// folder in it.
+    /// folder in it. So is one whose file system knows no sync of folders: what this program made in it is on that file system
+    /// too, where its own sync fails.
     fn sync_parent(&mut self, parent: &str) -> io::Result<()> {
-        match self.sync_once(parent) {
-            Err(e) if e.kind() == ErrorKind::PermissionDenied => Ok(()),
-            answer => answer,
+        if self.synced.get(parent).is_some() {
+            return Ok(());
         }
+        let opened = match self.open(parent) {
+            Ok(opened) => opened,
+            Err(e) if e.kind() == ErrorKind::PermissionDenied => return Ok(()),
+            Err(e) => return Err(e),
+        };
+        if self.has_failed(parent) {
+            return Err(ErrorKind::Other.into());
+        }
+        let answer = match opened.sync_all() {
+            Err(e) if knows_no_sync(&e) => Ok(()),
+            answer => answer,
+        };
+        self.note_sync(parent, answer)
     }
+}
+
+/// Whether the sync of a folder failed because its file system knows none: it is one that is only read, such as squashfs, erofs
+/// or /proc.
+fn knows_no_sync(e: &io::Error) -> bool {
+    matches!(
+        e.kind(),
+        ErrorKind::InvalidInput | ErrorKind::ReadOnlyFilesystem
+    )
 }
 
 /// The folder that a path ends in a name of, where the path before that name is this, with its slash.

@@ -1,8 +1,7 @@
 // Places that another program filled, or cut.
-use crate::read_only::ReadOnlyDisk;
+use crate::path::Places;
+use crate::tail::committed_length;
 use lsv_base::LogNo;
-use lsv_disk::{Disk, FileId, Owner, Part};
-use lsv_journal::Journal;
 use std::alloc::Global;
 use std::fs::{self, File};
 use std::io;
@@ -42,9 +41,6 @@ pub fn foreign_at(
     }
 }
 
-/// Where the body of an event log's journal has the length of its lines.
-const LENGTH_AT: usize = 17;
-
 /// Whether the event log begins with a byte of 0, and its journal says that it has lines: none begins so. Another program
 /// has cut it while a server ran, which wrote its next line at the place where it would have stood. Nothing is changed.
 pub fn was_cut(
@@ -58,14 +54,9 @@ pub fn was_cut(
     {
         return Ok(false);
     }
-    let mut disk = ReadOnlyDisk::new(rt, program);
-    disk.root(dir, events);
-    let journal = FileId::new(Owner::Events(0), Part::Slots);
-    match Journal::<89>::view(&mut disk, journal) {
-        Ok(Some(body)) => Ok(body[LENGTH_AT..LENGTH_AT + 8].iter().any(|byte| *byte != 0)),
-        Ok(None) => Ok(false),
-        Err(_) => Err(ErrorKind::Other.into()),
-    }
+    let places = Places::new(rt.alloc(), dir, events)?;
+    let counted = committed_length(rt, program, &places)?;
+    Ok(counted.is_some_and(|length| length > 0))
 }
 
 /// Whether a file is what sudo's own programs keep as the last number: its six digits, and a line feed. The number file

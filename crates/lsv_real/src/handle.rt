@@ -4,11 +4,15 @@ ghost use Rattle.std.specs.Prelude.{◌≤◌, IfOk, length};
 use crate::unsynced::Unsynced;
 use std::fs::File;
 use std::io;
+use std::io::ErrorKind;
 use std::os::fd::AsRawFd;
 use std::os::unix::fs::FileExt;
 
 /// The bytes of the system's smallest page.
 const PAGE: usize = 4096;
+
+/// After so many signals in a row a read is a fault.
+const MOST_INTERRUPTS: u32 = 1024;
 
 /// A file that is kept open.
 #[derive(Drop)]
@@ -93,13 +97,26 @@ impl Handle {
     }
 }
 
+/// Reads what one read brings. One that a signal interrupted is tried again.
+pub fn read_once(file: &File, at: u64, buf: &mut [u8]) -> io::Result<usize>
+    ensures { IfOk result (λ n. n ≤ length buf.old) }
+{
+    for _ in 0..MOST_INTERRUPTS {
+        match file.read_at(buf, at) {
+            Err(e) if e.kind() == ErrorKind::Interrupted => {}
+            answer => return answer,
+        }
+    }
+    Err(ErrorKind::Interrupted.into())
+}
+
 /// Reads as many bytes as there are and as the buffer takes.
 pub fn read_from(file: &File, at: u64, buf: &mut [u8]) -> io::Result<usize>
     ensures { IfOk result (λ n. n ≤ length buf.old) }
 {
     let mut done = 0;
     while done < buf.len() {
-        match file.read_at(&mut buf[done..], at.saturating_add(done as u64)) {
+        match read_once(file, at.saturating_add(done as u64), &mut buf[done..]) {
             Ok(0) => return Ok(done),
             Ok(n) => done += n,
             Err(e) => return Err(e),

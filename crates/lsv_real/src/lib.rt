@@ -4,6 +4,7 @@
 mod bounded;
 mod call;
 mod clock;
+mod cut_notice;
 mod disk;
 mod doubt;
 mod drawn;
@@ -26,13 +27,15 @@ mod span;
 mod standard;
 mod store;
 mod streams;
+mod tail;
 mod texts;
 mod unsynced;
 
 pub use clock::WallClock;
 pub use disk::FileDisk;
+pub use drawn::{Uncovered, uncovered_in};
 pub use limit::{clients_within, most_descriptors};
-pub use look::{NoStore, folder_of_log, has_numbers, is_denied, lacks_journal, no_store_in};
+pub use look::{Lack, NoStore, folder_of_log, has_numbers, is_denied, lack_of, no_store_in};
 pub use made::{InodeTable, Made, NewFile};
 pub use port::MioPort;
 pub use read_only::ReadOnlyDisk;

@@ -1,5 +1,6 @@
 // How large the system lets a file of this process become, and how many descriptors it lets it have.
-ghost use Rattle.std.specs.Prelude.{◌≡◌, ◌-◌, ◌≤◌, max, min, nat_lt, if◌then◌else◌};
+ghost use Rattle.std.specs.Prelude.{◌≡◌, ◌-◌, ◌≤◌, ◌⊎◌, ◌↔◌, IsTrue, Some, max, min, nat_lt, pos, if◌then◌else◌};
+ghost use Rattle.std.specs.IoError.{raw_os_error};
 
 use libc::types::rlimit;
 use std::io;
@@ -18,6 +19,18 @@ fn limit_of(resource: i32) -> u64 {
     };
     let _ = libc::getrlimit(resource, &mut limit);
     limit.rlim_cur
+}
+
+/// The system's numbers of the errors that say that no descriptor is left, of the process and of the system.
+const NO_DESCRIPTOR: i32 = 24;
+
+const NONE_OF_SYSTEM: i32 = 23;
+
+/// Whether a call failed because no descriptor was left.
+pub fn lacks_descriptor(e: &io::Error) -> bool
+    ensures { IsTrue result ↔ ((raw_os_error e.now ≡ Some (pos 24)) ⊎ (raw_os_error e.now ≡ Some (pos 23))) }
+{
+    matches!(e.raw_os_error(), Some(NO_DESCRIPTOR | NONE_OF_SYSTEM))
 }
 
 /// How many descriptors this process may have open, as its limit is set now.

@@ -1,6 +1,9 @@
 //! What stands in a folder, for who reads it as a store.
 use crate::path::{Places, joined};
+use crate::read_only::ReadOnlyDisk;
 use lsv_base::LogNo;
+use lsv_disk::{FileId, Owner, Part};
+use lsv_journal::Journal;
 use std::alloc::AllocError;
 use std::fmt::Display;
 use std::fs::{self, File};
@@ -80,15 +83,36 @@ pub fn is_denied(rt: &HostRuntime, dir: &str) -> bool {
     }
 }
 
-/// Whether a log has its head and no journal. Such a log counts as absent, though its files are there.
-pub fn lacks_journal(rt: &HostRuntime, dir: &str, number: LogNo) -> io::Result<bool> {
+/// What a log lacks that counts as absent, though its files are there.
+#[derive(Clone, Copy, PartialEq, Eq)]
+pub enum Lack {
+    /// Its journal.
+    Journal,
+    /// An entry of its journal: that was emptied or garbled, or its making was ended before its first entry.
+    Entry,
+}
+
+/// What a log lacks that has bytes of its head or, with a journal, of its timing. The disk has been given the folder as its place.
+pub fn lack_of(
+    rt: &HostRuntime,
+    disk: &mut ReadOnlyDisk,
+    dir: &str,
+    number: LogNo,
+) -> io::Result<Option<Lack>> {
     let folder = folder_of_log(rt, dir, number)?;
     let folder = folder.as_str();
-    Ok(
-        !has_file(rt, folder, "slots")?
-            && !has_file(rt, folder, "commit")?
-            && has_bytes(rt, folder, "log.json")?,
-    )
+    if !has_file(rt, folder, "slots")? && !has_file(rt, folder, "commit")? {
+        let has_head = has_bytes(rt, folder, "log.json")?;
+        return Ok(has_head.then_some(Lack::Journal));
+    }
+    if !has_bytes(rt, folder, "timing")? {
+        return Ok(None);
+    }
+    let journal = FileId::new(Owner::Log(number.get()), Part::Slots);
+    match Journal::<89>::view(disk, journal) {
+        Ok(None) => Ok(Some(Lack::Entry)),
+        Ok(Some(_)) | Err(_) => Ok(None),
+    }
 }
 
 /// The folder of a log.

@@ -1,6 +1,7 @@
 // Whether the place of the event log is one that it can't have.
-ghost use Rattle.std.specs.Prelude.{◌≡◌};
-ghost use Rattle.lsv_real.specs.Misplaced.{is_own_name};
+ghost use Rattle.std.specs.Prelude.{◌≡◌, ◌<◌, length, nat_eq};
+ghost use Rattle.std.specs.List.{before_first};
+ghost use Rattle.lsv_real.specs.Misplaced.{is_below, is_in_store, is_own_name, name_below};
 
 use crate::drawn::folder_name;
 use crate::path::{folder_of, joined};
@@ -22,6 +23,51 @@ pub enum Misplaced {
     NoFile,
     /// A link has the name, and leads to nothing.
     LinkToNothing,
+}
+
+/// A place in the folder of another store of this server, by that folder.
+#[derive(Drop)]
+pub enum InOther {
+    /// The folder of the logs is below it.
+    Logs(String),
+    /// The event log has a name that it keeps for itself.
+    Events(String),
+}
+
+/// Whether one of the places is in another store. Nothing is changed.
+pub fn look_for_other(
+    rt: &HostRuntime,
+    alloc: Global,
+    dir: &str,
+    events: &str,
+) -> io::Result<Option<InOther>> {
+    let logs = settled(rt, alloc, dir)?;
+    if let Some((store, _)) = store_above(rt, alloc, logs.as_str())? {
+        return Ok(Some(InOther::Logs(store)));
+    }
+    let lines = settled(rt, alloc, events)?;
+    match store_above(rt, alloc, lines.as_str())? {
+        Some((store, true)) => Ok(Some(InOther::Events(store))),
+        _ => Ok(None),
+    }
+}
+
+/// The nearest folder above a whole path that is a store, and whether the path leads through a name that it keeps for itself.
+fn store_above(rt: &HostRuntime, alloc: Global, path: &str) -> io::Result<Option<(String, bool)>> {
+    let mut below = path;
+    for _ in 0..MOST_FOLDERS {
+        let Some((folder, name)) = below.rsplit_once('/') else {
+            return Ok(None);
+        };
+        if fs::exists(rt, joined(alloc, folder, "seq2")?.as_str())? {
+            return Ok(Some((
+                String::from_str(alloc, folder)?,
+                is_own_name(name.as_bytes()),
+            )));
+        }
+        below = folder;
+    }
+    Ok(None)
 }
 
 /// Why the event log can't have this place, beside logs in this folder. Nothing is changed.
@@ -94,41 +140,45 @@ fn put_together(alloc: Global, folder: Option<&str>, names: String) -> Result<St
 
 /// Whether the file of a path is the folder of the logs, one above it, or a file of the store in it. Both are whole paths
 /// without links and dots.
-pub fn is_in_store(logs: &str, path: &str) -> bool {
-    match path.strip_prefix(logs) {
-        Some("") => true,
-        Some(rest) => match rest.strip_prefix('/') {
-            Some(names) => is_own_name(first_name(names)),
-            None => false,
-        },
-        None => is_below(path, logs),
-    }
+pub fn is_in_store(logs: &str, path: &str) -> bool
+    ensures { result ≡ is_in_store logs.now path.now }
+{
+    let (logs, path) = (logs.as_bytes(), path.as_bytes());
+    path == logs || is_below(path, logs) || is_below(logs, path) && is_own_below(logs, path)
 }
 
 /// Whether a path leads through a folder.
-fn is_below(folder: &str, path: &str) -> bool {
-    match path.strip_prefix(folder) {
-        Some(rest) => rest.starts_with('/'),
-        None => false,
-    }
+fn is_below(folder: &[u8], path: &[u8]) -> bool
+    ensures { result ≡ is_below folder.now path.now }
+{
+    path.starts_with(folder) && path.len() > folder.len() && path[folder.len()] == b'/'
+}
+
+/// Whether a path below a folder leads through a name there that the store keeps for itself.
+fn is_own_below(folder: &[u8], path: &[u8]) -> bool
+    requires { length folder.now < length path.now }
+    ensures { result ≡ is_own_name (name_below folder.now path.now) }
+{
+    is_own_name(first_name(&path[folder.len() + 1..]))
 }
 
 /// The first of the names of a path.
-fn first_name(names: &str) -> &str {
-    match names.split_once('/') {
-        Some((first, _)) => first,
+fn first_name(names: &[u8]) -> &[u8]
+    ensures { result.now ≡ before_first (λ b. nat_eq b 47) names.now }
+{
+    match names.iter().position(|byte| *byte == b'/') {
+        Some(end) => &names[..end],
         None => names,
     }
 }
 
 /// Whether the store keeps a name in the folder of the logs for itself: one that begins with `seq`, `lock`, `relay.lock`, or
 /// that of a folder of logs.
-fn is_own_name(name: &str) -> bool
+fn is_own_name(name: &[u8]) -> bool
     ensures { result ≡ is_own_name name.now }
 {
-    let bytes = name.as_bytes();
-    bytes.starts_with(b"seq")
-        || name == "lock"
-        || name == "relay.lock"
-        || folder_name(bytes).is_some()
+    name.starts_with(b"seq")
+        || name == b"lock"
+        || name == b"relay.lock"
+        || folder_name(name).is_some()
 }

@@ -6,12 +6,14 @@ ghost use Rattle.lsv_real.specs.UntoldPort.{untold_port, ledger_of};
 mod accepted;
 mod address;
 mod door;
+mod leaving;
 mod turned_away;
 mod wakes;
 
 use accepted::Accepted;
 use address::advice;
 use door::Door;
+use leaving::Leaving;
 use lsv_port::{Gave, Port, PortFault, Ready, Took};
 use std::alloc::{AllocError, Global};
 use std::collections::HashMap;
@@ -34,6 +36,7 @@ pub struct MioPort<N: Net + Drop> {
     door: Arc<Door, Global>,
     wakes: Option<Wakes>,
     links: HashMap<u32, Accepted>,
+    leaving: Leaving,
     /// The number of the link that was opened last.
     last: u32,
     /// A turn tells Stop once so many links of all ports were closed.
@@ -75,6 +78,7 @@ impl<N: Net + Drop> MioPort<N> {
             door,
             wakes: None,
             links: HashMap::new(rt.alloc()),
+            leaving: Leaving::new(rt.alloc()),
             last: 0,
             stop_after: None,
             turned_away: TurnedAway::new(),
@@ -88,8 +92,8 @@ impl<N: Net + Drop> MioPort<N> {
     fn start(&mut self, address: &str) -> io::Result<()>
         ensures { self.new.faults ≡ self.old.faults }
     {
-        let listener = self.door.listener(&self.net, address)?;
-        self.wakes = Some(Wakes::new(self.rt.alloc(), &self.net, listener)?);
+        let sockets = self.door.sockets(&self.net, address)?;
+        self.wakes = Some(Wakes::new(self.rt.alloc(), &self.net, sockets)?);
         Ok(())
     }
 
@@ -107,6 +111,7 @@ impl<N: Net + Drop> MioPort<N> {
             return Err(ErrorKind::NotConnected.into());
         };
         wakes.wait(!held.is_empty())?;
+        self.leaving.drain(&self.rt);
         Ok(self.at_once(held).unwrap_or(Ready::Woken))
     }
 
@@ -263,6 +268,8 @@ impl<N: Net + Drop> Port for MioPort<N> {
         self.door.count_closed();
         if !accepted.was_used() {
             self.report_turned_away(&accepted);
+        } else if accepted.may_read() {
+            self.leaving.add(&self.rt, accepted);
         }
     }
 }

@@ -7,7 +7,9 @@ use crate::call::Call;
 use crate::foreign::{Foreign, foreign_at};
 use crate::look::no_store_in;
 use crate::opened::Opened;
+use crate::path::Places;
 use lsv_disk::{Disk, DiskFault, FileId, Owner, Part};
+use std::alloc::AllocError;
 use std::io;
 use std::io::ErrorKind;
 
@@ -33,6 +35,17 @@ impl ReadOnlyDisk {
             store: None,
             faults: 0,
         }
+    }
+
+    /// A disk over these places, which the caller has looked at.
+    pub fn at(rt: HostRuntime, program: &'static str, places: &Places) -> Result<Self, AllocError> {
+        let store = Opened::new(rt, places.dir.as_str(), places.events.as_str())?;
+        Ok(ReadOnlyDisk {
+            rt,
+            program,
+            store: Some(store),
+            faults: 0,
+        })
     }
 
     /// A failure is a fault, counted and told.

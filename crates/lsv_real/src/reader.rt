@@ -1,14 +1,13 @@
 // A file that is read, and what was read of it before it was asked for.
 ghost use Rattle.std.specs.Prelude.{◌≡◌, ◌≤◌, IfOk, IfSome, length};
 
-use crate::handle::read_from;
+use crate::handle::{read_from, read_once};
 use lsv_disk::Part;
 use std::alloc::Global;
 use std::fs::File;
 use std::io;
 use std::io::ErrorKind;
 use std::os::fd::AsRawFd;
-use std::os::unix::fs::FileExt;
 
 /// The file of one part that is open, where one is, and the bytes that were read of it ahead. The room for those stays
 /// from one file of this part to the next.
@@ -124,7 +123,7 @@ impl Reader {
         if self.bytes.len() < ahead {
             self.bytes.resize(ahead, 0)?;
         }
-        self.count = opened(&self.file)?.read_at(&mut self.bytes, at)?;
+        self.count = read_once(opened(&self.file)?, at, &mut self.bytes)?;
         self.look = look;
         self.at = at;
         Ok(())

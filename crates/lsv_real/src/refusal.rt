@@ -2,15 +2,13 @@
 use crate::doubt::doubt_of;
 use crate::drawn::Uncovered;
 use crate::foreign::{Foreign, foreign_at, was_cut};
-use crate::misplaced::{Misplaced, look_at_place};
+use crate::limit::lacks_descriptor;
+use crate::misplaced::{InOther, Misplaced, look_at_place, look_for_other};
 use crate::store::{Step, StoreFault};
 use lsv_base::LogNo;
 use std::alloc::Global;
 use std::io::ErrorKind;
 use std::{io, str};
-
-/// The system's numbers of the errors that say that no descriptor is left, of the process and of the system.
-const NO_DESCRIPTORS: [i32; 2] = [24, 23];
 
 /// Says of each place if it may not be meant as it stands.
 pub fn warn_of_places(rt: &HostRuntime, program: &str, dir: &str, events: &str) {
@@ -27,7 +25,7 @@ pub fn warn_of_places(rt: &HostRuntime, program: &str, dir: &str, events: &str) 
 pub fn is_refused(rt: HostRuntime, program: &'static str, dir: &str, events: &str) -> bool {
     let alloc = rt.alloc();
     let answer = match look_at_place(&rt, alloc, dir, events) {
-        Ok(None) => is_taken(rt, program, dir, events),
+        Ok(None) => is_in_other(rt, program, dir, events),
         Ok(Some(place)) => {
             report_misplaced(&rt, program, dir, events, place);
             Ok(true)
@@ -60,6 +58,31 @@ fn report_misplaced(rt: &HostRuntime, program: &str, dir: &str, events: &str, pl
             "{program}: {events}: it is a link to a file that doesn't exist: nothing is changed; remove it, or let path of [logfile] be the file itself"
         ),
     };
+}
+
+/// Whether one of the places is in another store, or another program filled them, or cut the event log.
+fn is_in_other(
+    rt: HostRuntime,
+    program: &'static str,
+    dir: &str,
+    events: &str,
+) -> io::Result<bool> {
+    let _ = match look_for_other(&rt, rt.alloc(), dir, events)? {
+        None => return is_taken(rt, program, dir, events),
+        Some(InOther::Logs(store)) => {
+            let store = store.as_str();
+            eprintln!(rt;
+                "{program}: {dir}: this folder is in another store, {store}: nothing is changed; let iolog_dir be a folder outside of it"
+            )
+        }
+        Some(InOther::Events(store)) => {
+            let store = store.as_str();
+            eprintln!(rt;
+                "{program}: {events}: path of [logfile] has the name of a file or a folder of another store, {store}: nothing is changed; let it be another file"
+            )
+        }
+    };
+    Ok(true)
 }
 
 /// Whether another program filled the places, or cut the event log.
@@ -113,8 +136,24 @@ pub fn report_no_store(
                 "{program}: {dir}: it holds log {log}, and the last number that seq2 tells is {last}: put seq2 back from a newer copy, or let iolog_dir be a new folder; nothing is changed"
             )
         }
+        StoreFault::StrangeEvents(counted) => eprintln!(rt;
+            "{program}: {events}: no line ends at byte {counted}, where its journal {events}.slots ends, so the journal is that of another log: nothing is changed; put back the journal that belongs to it, or move both away together"
+        ),
+        StoreFault::TailNotKept(e) => {
+            let todo = advice(e);
+            eprintln!(rt;
+                "{program}: {events}: what stands after the lines that its journal counts can't be kept in a file beside it: {e}: {todo}"
+            )
+        }
         StoreFault::Io(step, e) => report_step(rt, program, dir, *step, e),
     };
+}
+
+/// Says that bytes stood after the lines of the event log, and where they are now.
+pub fn report_tail(rt: &HostRuntime, program: &str, events: &str, count: u64, path: &str) {
+    let _ = eprintln!(rt;
+        "{program}: {events}: warning: {count} bytes after the lines that its journal counts were moved to {path}: a crash leaves a part of a turn there; whole older lines show that a log or a journal was put back"
+    );
 }
 
 /// Says which step of opening a store failed, and what to do.
@@ -144,9 +183,7 @@ fn text_of(digits: &[u8; 6]) -> &str {
 
 /// What to do about an error at the places of a store.
 fn advice(e: &io::Error) -> &'static str {
-    if e.raw_os_error()
-        .is_some_and(|number| NO_DESCRIPTORS.contains(&number))
-    {
+    if lacks_descriptor(e) {
         return "raise the limit of open files (ulimit -n, or LimitNOFILE= of the unit)";
     }
     match e.kind() {

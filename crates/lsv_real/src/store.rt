@@ -6,10 +6,12 @@ use crate::call::CallFault;
 use crate::drawn::{Uncovered, find_uncovered};
 use crate::folders::Folders;
 use crate::handle::Handle;
-use crate::limit::{SizeLimit, files_within, most_descriptors};
+use crate::limit::{SizeLimit, files_within, lacks_descriptor, most_descriptors};
 use crate::lock::{EventsLocks, LockFault, lock_file, lock_folder, make_file, open_file, set_mode};
 use crate::made::{InodeTable, Made, NewFile};
 use crate::path::{Place, Places, joined, log_name};
+use crate::refusal::report_tail;
+use crate::tail::{Tail, keep_tail};
 use crate::unsynced::Unsynced;
 use lru::LruCache;
 use lsv_disk::{FileId, Owner, Part};
@@ -33,6 +35,10 @@ pub enum StoreFault {
     EventsInUse,
     /// There is a log that the number files don't cover.
     Uncovered(Uncovered),
+    /// No line of the event log ends after so many bytes, which its journal counts.
+    StrangeEvents(u64),
+    /// What stands after the lines of the event log can't be kept.
+    TailNotKept(io::Error),
     /// A step of opening it failed.
     Io(Step, io::Error),
 }
@@ -87,6 +93,19 @@ fn of_lock<T>(held: StoreFault, answer: Result<T, LockFault>) -> Result<T, Store
     }
 }
 
+/// Keeps what stands after the lines of the event log, and says so.
+fn settle_tail(rt: &HostRuntime, program: &'static str, places: &Places) -> Result<(), StoreFault> {
+    match keep_tail(rt, program, places) {
+        Ok(Tail::Empty | Tail::KeptBefore) => Ok(()),
+        Ok(Tail::Strange(counted)) => Err(StoreFault::StrangeEvents(counted)),
+        Ok(Tail::Kept { count, path }) => {
+            report_tail(rt, program, places.events.as_str(), count, path.as_str());
+            Ok(())
+        }
+        Err(e) => Err(StoreFault::TailNotKept(e)),
+    }
+}
+
 /// Whether a file is made alone, or files of an owner together, as when a log begins.
 #[derive(Clone, Copy, PartialEq, Eq)]
 enum Making {
@@ -118,8 +137,8 @@ pub struct Store {
 
 impl Store {
     /// Makes the folder of the logs where it is missing, takes its lock, and looks whether the number files cover its logs; then
-    /// it takes the lock of the event log. If it fails, no file of the store is changed. What can't be read of the number files
-    /// is told on standard error, under the program's name.
+    /// it takes the lock of the event log, and keeps what stands after its lines. If it fails, no file of the store is changed.
+    /// What can't be read is told on standard error, under the program's name.
     pub fn open(
         rt: HostRuntime,
         program: &'static str,
@@ -131,6 +150,7 @@ impl Store {
         let mut folders = of_step(Step::Prepare, Folders::new(rt))?;
         of_step(Step::Make, folders.make(dir))?;
         of_step(Step::Sync, folders.sync_names(dir))?;
+        of_step(Step::Sync, folders.sync_once(dir))?;
         let folder_lock = of_lock(StoreFault::InUse, lock_folder(&rt, dir))?;
         if let Some(log) = of_step(Step::Look, find_uncovered(rt, program, &places))? {
             return Err(StoreFault::Uncovered(log));
@@ -141,6 +161,7 @@ impl Store {
             StoreFault::EventsInUse,
             events_locks.take_found(alloc, &places),
         )?;
+        settle_tail(&rt, program, &places)?;
         let most_open = files_within(most_descriptors());
         Ok(Store {
             rt,
@@ -206,16 +227,61 @@ impl Store {
         making: Making,
     ) -> Result<(), CallFault> {
         self.looked = None;
-        self.make_folder(folder, owner, making)?;
-        let opened = self.folders.open(folder)?;
+        if let Err(fault) = self.make_folder(folder, owner, making) {
+            self.make_room_after(fault)?;
+            self.make_folder(folder, owner, making)?;
+        }
+        let opened = self.open_folder(folder)?;
         let begins = making == Making::Together && parts.contains(&Part::Slots);
         let made = self.make_files(folder, &opened, owner, parts, begins)?;
         for file in made.to_sync() {
             self.sync_made(file.id)?;
         }
         self.folders.sync_opened(folder, &opened)?;
-        self.folders.sync_names(folder)?;
+        self.sync_names(folder)?;
         Ok(())
+    }
+
+    /// Opens a folder in which something is about to be made.
+    fn open_folder(&mut self, folder: &str) -> io::Result<File> {
+        match self.folders.open(folder) {
+            Err(e) if lacks_descriptor(&e) => {
+                self.close_oldest()?;
+                self.folders.open(folder)
+            }
+            answer => answer,
+        }
+    }
+
+    /// Waits until what is named in a folder is on the disk.
+    fn sync_folder(&mut self, folder: &str) -> io::Result<()> {
+        match self.folders.sync_once(folder) {
+            Err(e) if lacks_descriptor(&e) => {
+                self.close_oldest()?;
+                self.folders.sync_once(folder)
+            }
+            answer => answer,
+        }
+    }
+
+    /// Waits until the names of a folder and of those above it are on the disk.
+    fn sync_names(&mut self, folder: &str) -> io::Result<()> {
+        match self.folders.sync_names(folder) {
+            Err(e) if lacks_descriptor(&e) => {
+                self.close_oldest()?;
+                self.folders.sync_names(folder)
+            }
+            answer => answer,
+        }
+    }
+
+    /// After a call that failed because no descriptor was left, closes the file that was not used for longest. Another failure is
+    /// given back.
+    fn make_room_after(&mut self, fault: CallFault) -> Result<(), CallFault> {
+        match fault {
+            CallFault::Io(e) if lacks_descriptor(&e) => Ok(self.close_oldest()?),
+            fault => Err(fault),
+        }
     }
 
     /// Makes the folder of files that are to be made. That of a log whose files are made together must be new.
@@ -298,7 +364,13 @@ impl Store {
     /// Makes a file in its folder.
     fn make_one(&mut self, folder: &str, id: FileId) -> io::Result<NewFile> {
         let path = self.path_in(folder, id)?;
-        let file = make_file(&self.rt, path.as_str())?;
+        let file = match make_file(&self.rt, path.as_str()) {
+            Err(e) if lacks_descriptor(&e) => {
+                self.close_oldest()?;
+                make_file(&self.rt, path.as_str())?
+            }
+            answer => answer?,
+        };
         let metadata = file.metadata()?;
         set_mode(&file, &metadata)?;
         self.events_locks.check(id, path.as_str(), &metadata)?;
@@ -378,8 +450,8 @@ impl Store {
             None => return Ok(()),
         }
         let folder = self.place_of(f)?.folder;
-        self.folders.sync_once(folder.as_str())?;
-        self.folders.sync_names(folder.as_str())?;
+        self.sync_folder(folder.as_str())?;
+        self.sync_names(folder.as_str())?;
         match self.handle(f)? {
             Some(handle) => {
                 handle.set_named(true);
@@ -400,7 +472,14 @@ impl Store {
     /// Opens a file. False where it is not there.
     fn open_file(&mut self, f: FileId) -> io::Result<bool> {
         let place = self.place_of(f)?;
-        match open_file(&self.rt, place.path.as_str()) {
+        let answer = match open_file(&self.rt, place.path.as_str()) {
+            Err(e) if lacks_descriptor(&e) => {
+                self.close_oldest()?;
+                open_file(&self.rt, place.path.as_str())
+            }
+            answer => answer,
+        };
+        match answer {
             Ok(file) => {
                 self.check_lock(f, place.path.as_str(), &file)?;
                 self.keep(f, file, false)?;

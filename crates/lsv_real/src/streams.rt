@@ -1,13 +1,16 @@
 // Standard input and output, and standard output as a screen. They tell no content, and count their faults.
 ghost use Rattle.std.specs.Prelude.{[], ◌≡◌, ◌≤◌, ◌<◌, ◌^◌, IfOk, length};
 
+use libc::net::{POLLIN, POLLOUT, poll};
+use libc::types::pollfd;
+use libc::{STDIN_FILENO, STDOUT_FILENO};
 use lsv_base::{Sink, SinkFault, Source, SourceFault};
 use lsv_play::Screen;
 use std::io::{ErrorKind, Print, Read};
 use std::time::Duration;
 use std::{io, thread};
 
-/// After so many signals in a row a read is a fault.
+/// After so many signals, or waits for nothing, in a row a read or a write is a fault.
 const MOST_INTERRUPTS: u32 = 1024;
 
 /// A source gives no more bytes than this.
@@ -61,17 +64,57 @@ impl Source for StdSource {
     }
 }
 
-/// Reads standard input; a read that a signal interrupted is tried again.
+/// Reads standard input. A read that a signal interrupted is tried again, and one of a descriptor that doesn't block once there is
+/// input.
 fn read_input(rt: &HostRuntime, buf: &mut [u8]) -> io::Result<usize>
     ensures { IfOk result (λ n. n ≤ length buf.old) }
 {
     for _ in 0..MOST_INTERRUPTS {
         match rt.stdin().read(buf) {
             Err(e) if e.kind() == ErrorKind::Interrupted => {}
+            Err(e) if e.kind() == ErrorKind::WouldBlock => await_ready(STDIN_FILENO, POLLIN),
             answer => return answer,
         }
     }
     Err(ErrorKind::Interrupted.into())
+}
+
+/// Writes all of the bytes to standard output.
+fn write_output(rt: &HostRuntime, bytes: &[u8]) -> io::Result<()> {
+    let mut done = 0;
+    while done < bytes.len() {
+        match write_some(rt, &bytes[done..]) {
+            Ok(0) => return Err(ErrorKind::WriteZero.into()),
+            Ok(n) => done += n,
+            Err(e) => return Err(e),
+        }
+    }
+    Ok(())
+}
+
+/// Writes some of the bytes to standard output. A write that a signal interrupted is tried again, and one to a descriptor that doesn't
+/// block once there is room.
+fn write_some(rt: &HostRuntime, bytes: &[u8]) -> io::Result<usize>
+    ensures { IfOk result (λ n. n ≤ length bytes.now) }
+{
+    for _ in 0..MOST_INTERRUPTS {
+        match rt.write_some(bytes) {
+            Err(e) if e.kind() == ErrorKind::Interrupted => {}
+            Err(e) if e.kind() == ErrorKind::WouldBlock => await_ready(STDOUT_FILENO, POLLOUT),
+            answer => return answer,
+        }
+    }
+    Err(ErrorKind::Interrupted.into())
+}
+
+/// Waits until a descriptor that doesn't block may be read or written. Whether it may is seen by the next try.
+fn await_ready(descriptor: i32, events: i16) {
+    let mut asked = [pollfd {
+        fd: descriptor,
+        events,
+        revents: 0,
+    }];
+    let _ = poll(&mut asked, -1);
 }
 
 /// Standard output.
@@ -97,7 +140,7 @@ impl Sink for StdSink {
     ghost faults = { λ s. s.faults };
 
     fn write(&mut self, bytes: &[u8]) -> Result<(), SinkFault> {
-        match self.rt.write_all(bytes) {
+        match write_output(&self.rt, bytes) {
             Ok(()) => Ok(()),
             Err(_) => {
                 self.faults = self.faults.saturating_add(1);
@@ -147,7 +190,7 @@ impl Screen for StdScreen {
     }
 
     fn put(&mut self, bytes: &[u8]) -> Result<(), SinkFault> {
-        match self.rt.write_all(bytes) {
+        match write_output(&self.rt, bytes) {
             Ok(()) => Ok(()),
             Err(e) => {
                 self.is_left = e.kind() == ErrorKind::BrokenPipe;

@@ -1,6 +1,7 @@
 // What was written and not synced, and what a sync that failed makes of it.
 ghost use Rattle.std.specs.Prelude.{◌≤◌, IfOk, length};
 
+use crate::handle::read_once;
 use crate::span::Span;
 use std::fs::File;
 use std::io;
@@ -28,7 +29,7 @@ pub trait SyncedFile {
 
 impl SyncedFile for File {
     fn read_piece(&self, buf: &mut [u8], at: u64) -> io::Result<usize> {
-        self.read_at(buf, at)
+        read_once(self, at, buf)
     }
 
     fn write_piece(&self, bytes: &[u8], at: u64) -> io::Result<()> {

@@ -1,4 +1,4 @@
-//! Flushes of a bundle on the real disk, and beside them the writes and syncs of one flush alone.
+//! Flushes of a bundle on the real disk, and the writes and syncs of a flush alone.
 ghost use Rattle.std.specs.Prelude.{◌≡◌};
 ghost use Rattle.lsv_bundle.specs.declared.shape.Shape.TheVariants.{Log};
 
@@ -41,7 +41,7 @@ fn flush_all(bundle: &mut Bundle, disk: &mut FileDisk, count: u32) -> Result<(),
     Ok(())
 }
 
-/// What of a flush reaches the device: two data files, the body in a slot, and the selector.
+/// The calls of a flush that reach the device: two data files, the body in a slot, and the selector.
 fn write_once(disk: &mut FileDisk, count: u32) -> Result<(), DiskFault> {
     let count = u64::from(count);
     disk.write_at(file(Part::Stdin), count * LINE.len() as u64, LINE)?;
@@ -61,8 +61,8 @@ fn write_all(disk: &mut FileDisk, count: u32) -> Result<(), DiskFault> {
     Ok(())
 }
 
-/// Flushes so often, and writes and syncs alone so often, in a store in this folder. Says on standard error how many
-/// nanoseconds each took.
+/// Flushes this many times, and makes the writes and syncs alone as often, in a store in this folder. Prints on standard
+/// error the nanoseconds that each took.
 pub fn flushes(rt: HostRuntime, count: u32) -> Option<u64> {
     let mut disk = FileDisk::new(rt, "lsvt_bench");
     disk.root("store", "store/events");

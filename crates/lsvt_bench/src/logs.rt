@@ -13,7 +13,7 @@ use std::alloc::Global;
 use std::fs;
 use std::time::Instant;
 
-/// So many records are appended before each flush.
+/// The records that are appended before each flush.
 const BATCH: u32 = 100;
 
 /// The records of a short session.
@@ -51,7 +51,7 @@ fn make(alloc: Global, disk: &mut FileDisk, number: LogNo, start: Point) -> Resu
     IoLog::create(alloc, disk, number, &head)
 }
 
-/// Appends the same record so many times.
+/// Appends the same record this many times.
 fn append_all(log: &mut IoLog, r: &Record, count: u32) -> Result<(), LogFault>
     requires valid { IsValid r.now }
     requires going { is_complete log.old ≡ false }
@@ -63,8 +63,8 @@ fn append_all(log: &mut IoLog, r: &Record, count: u32) -> Result<(), LogFault>
     Ok(())
 }
 
-/// Appends the same record, and flushes after each hundred, so often. Says on standard error how many nanoseconds the
-/// appending and the flushing took.
+/// Appends the same record, and flushes after each hundred, this many times. Prints on standard error the nanoseconds that
+/// the appending and the flushing took.
 fn fill(
     rt: &HostRuntime,
     disk: &mut FileDisk,
@@ -98,15 +98,15 @@ pub fn filled(rt: HostRuntime, bytes: &[u8], flushes: u32) -> Option<u64>
     fill(&rt, &mut disk, &mut log, &r, flushes)
 }
 
-/// The most memory in KiB that this process has held, as the system tells.
+/// The most memory in KiB that this process has held, as the system reports it.
 fn peak(rt: &HostRuntime) -> Option<u64> {
     let status = fs::read_to_string(rt, "/proc/self/status").ok()?;
     let line = status.lines().find(|line| line.starts_with("VmHWM:"))?;
     line.split_whitespace().nth(1)?.parse::<u64>().ok()
 }
 
-/// Opens log 1 of a store in this folder, and gives the number of its records. Says on standard error how many nanoseconds
-/// that took, and the most memory in KiB that the process held.
+/// Opens log 1 of a store in this folder, and returns the number of its records. Prints on standard error the nanoseconds
+/// that this took, and the most memory in KiB that the process held.
 pub fn opened(rt: HostRuntime) -> Option<u64> {
     let mut disk = store(rt);
     let start = Instant::now(&rt).ok()?;
@@ -139,7 +139,7 @@ fn short_log(
     log.finish(disk, &exit)
 }
 
-/// Makes so many short logs, from the first number on.
+/// Makes this many short logs, from the first number on.
 fn short_logs_of(alloc: Global, disk: &mut FileDisk, r: &Record, count: u32) -> Option<u64>
     requires { IsValid r.now }
 {
@@ -150,7 +150,7 @@ fn short_logs_of(alloc: Global, disk: &mut FileDisk, r: &Record, count: u32) -> 
     Some(u64::from(count))
 }
 
-/// Makes so many short logs of a store in this folder.
+/// Makes this many short logs of a store in this folder.
 pub fn short_logs(rt: HostRuntime, count: u32) -> Option<u64> {
     let mut disk = store(rt);
     let r = output(rt.alloc(), b"0123456789")?;

@@ -61,6 +61,14 @@ impl Hostile {
         Ok(Hostile::over(alloc, failing(alloc, plan)?, plan))
     }
 
+    /// An empty disk whose calls of these numbers fail.
+    pub fn failing(alloc: Global, numbers: &[u64]) -> Result<Self, NoMem> {
+        match MemDisk::new(alloc, numbers) {
+            Ok(disk) => Ok(Hostile::over(alloc, disk, Plan::Whole)),
+            Err(_) => Err(NoMem),
+        }
+    }
+
     fn over(alloc: Global, disk: MemDisk, plan: Plan) -> Self {
         Hostile {
             disk,
@@ -114,6 +122,16 @@ impl Hostile {
     /// Whether all the calls that have failed since were on files of logs.
     pub fn has_failed_at_logs(&self) -> bool {
         self.failed.iter().all(|f| matches!(f.owner, Owner::Log(_)))
+    }
+
+    /// How often a call on this file failed by its number.
+    pub fn failures(&self, f: FileId) -> u64 {
+        self.disk.failures(f)
+    }
+
+    /// How often a call failed because memory ran out.
+    pub fn refused(&self) -> u64 {
+        self.disk.refused()
     }
 
     /// The bytes of a file.

@@ -1,14 +1,14 @@
-//! What is said of logs that are damaged, or whose journal is gone.
+//! What is said of logs that are damaged, or whose journal is gone or has no entry.
 
 use lsv_base::LogNo;
 use lsv_disk::{Disk, Part};
 use lsv_iolog::{LogFault, LogView};
 use lsv_listing::{ListFault, last_number};
-use lsv_real::{ReadOnlyDisk, folder_of_log, has_numbers, lacks_journal};
+use lsv_real::{Lack, ReadOnlyDisk, Uncovered, folder_of_log, has_numbers, lack_of, uncovered_in};
 use std::str;
 
-/// Says which logs a listing passed over though their files are there: those whose journal is gone, and if one is damaged
-/// each that is.
+/// Says which logs a listing passed over though their files are there: those above the last number, those whose journal is gone or
+/// has no entry, and if one is damaged each that is.
 pub fn say_unlisted(rt: &HostRuntime, dir: &str, is_damaged: bool) {
     let mut disk = ReadOnlyDisk::new(*rt, "sudoreplay");
     disk.root(dir, "");
@@ -26,6 +26,8 @@ pub fn say_unlisted(rt: &HostRuntime, dir: &str, is_damaged: bool) {
         let _ = eprintln!(rt;
             "sudoreplay: {dir}: it has no seq2, so no log is listed: put it back from a copy; an identifier still plays its log"
         );
+    } else {
+        say_uncovered(rt, dir);
     }
     for before in 0..last {
         let Some(number) = LogNo::new(before + 1) else {
@@ -34,7 +36,7 @@ pub fn say_unlisted(rt: &HostRuntime, dir: &str, is_damaged: bool) {
         if is_damaged {
             say_if_damaged(rt, &mut disk, dir, number);
         }
-        say_journal_gone(rt, dir, number, "it isn't listed");
+        say_lack(rt, &mut disk, dir, number, "it isn't listed");
     }
 }
 
@@ -58,9 +60,42 @@ pub fn say_damaged(rt: &HostRuntime, dir: &str, number: LogNo, part: Part, then:
     );
 }
 
-/// Says of a log whose files are there that its journal is gone, and what comes of it.
-pub fn say_journal_gone(rt: &HostRuntime, dir: &str, number: LogNo, then: &str) {
-    let Ok(true) = lacks_journal(rt, dir, number) else {
+/// Says which logs the number file doesn't cover.
+fn say_uncovered(rt: &HostRuntime, dir: &str) {
+    let _ = match uncovered_in(*rt, "sudoreplay", dir) {
+        Ok(Some(Uncovered::NoLast)) => eprintln!(rt;
+            "sudoreplay: {dir}/seq2: it has no entry, so no log is listed: put it back from a copy; an identifier still plays its log"
+        ),
+        Ok(Some(Uncovered::Above { last, log })) => {
+            let (last, log) = (digits_of(last), digits_of(log));
+            let last = str::from_utf8(&last).unwrap_or("");
+            let log = str::from_utf8(&log).unwrap_or("");
+            eprintln!(rt;
+                "sudoreplay: {dir}/seq2: its last number is {last}, and there is log {log}, so the logs above it aren't listed: put it back from a newer copy; an identifier still plays its log"
+            )
+        }
+        Ok(None) | Err(_) => return,
+    };
+}
+
+/// The six digits of a number, which may be 0.
+fn digits_of(number: u32) -> [u8; 6] {
+    match LogNo::new(number) {
+        Some(number) => number.digits(),
+        None => [b'0'; 6],
+    }
+}
+
+/// Says of a log of this store whose files are there what it lacks, and what comes of it.
+pub fn say_lack_in(rt: &HostRuntime, dir: &str, number: LogNo, then: &str) {
+    let mut disk = ReadOnlyDisk::new(*rt, "sudoreplay");
+    disk.root(dir, "");
+    say_lack(rt, &mut disk, dir, number, then);
+}
+
+/// The same, by a disk whose place the store is.
+fn say_lack(rt: &HostRuntime, disk: &mut ReadOnlyDisk, dir: &str, number: LogNo, then: &str) {
+    let Ok(Some(lack)) = lack_of(rt, disk, dir, number) else {
         return;
     };
     let digits = number.digits();
@@ -68,9 +103,14 @@ pub fn say_journal_gone(rt: &HostRuntime, dir: &str, number: LogNo, then: &str) 
         return;
     };
     let folder = folder.as_str();
-    let _ = eprintln!(rt;
-        "sudoreplay: log {id} ({folder}): its journal, slots, is gone, so {then}: put it back from a copy"
-    );
+    let _ = match lack {
+        Lack::Journal => eprintln!(rt;
+            "sudoreplay: log {id} ({folder}): its journal, slots, is gone, so {then}: put it back from a copy"
+        ),
+        Lack::Entry => eprintln!(rt;
+            "sudoreplay: log {id} ({folder}): its journal, slots, has no entry, so {then}: put it back from a copy, unless the server was ended while it made this log"
+        ),
+    };
 }
 
 /// The name of a part's file.

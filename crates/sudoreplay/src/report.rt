@@ -66,7 +66,7 @@ fn report_damage(rt: &HostRuntime, dir: &str, id: &Bytes, part: Part) {
 /// Says why there is no log of an identifier, if more is known.
 fn report_absence(rt: &HostRuntime, dir: &str, id: &Bytes) {
     if let Some(number) = LogNo::read(id.as_slice()) {
-        logs::say_journal_gone(rt, dir, number, "it can't be played");
+        logs::say_lack_in(rt, dir, number, "it can't be played");
         return;
     }
     if let Ok(id) = str::from_utf8(id.as_slice()) {

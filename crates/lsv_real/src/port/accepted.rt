@@ -4,8 +4,9 @@ ghost use Rattle.lsv_port.specs.Port.{TakesWithin, GivesWithin};
 
 use lsv_port::{Gave, Took};
 use mio::net::TcpStream;
+use std::io;
 use std::io::{ErrorKind, Read, Write};
-use std::net::SocketAddr;
+use std::net::{Shutdown, SocketAddr};
 
 /// After so many signals in a row a read or a write is a fault.
 const MOST_INTERRUPTS: u32 = 1024;
@@ -52,6 +53,11 @@ impl Accepted {
         let was_full = self.is_full;
         self.is_full = false;
         was_full
+    }
+
+    /// Nothing more is put: the peer reads what was put, and then the end.
+    pub fn end_output(&self) -> io::Result<()> {
+        self.stream.shutdown(Shutdown::Write)
     }
 
     pub fn read(&mut self, buf: &mut [u8]) -> Took

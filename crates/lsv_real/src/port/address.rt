@@ -5,8 +5,8 @@ use std::io::ErrorKind;
 use std::net::{Ipv4Addr, Ipv6Addr, Net, SocketAddr, ToSocketAddrs};
 
 /// Listens at `host:port`. The host is `*` for every address of this machine, an address, which may stand in square
-/// brackets, or a name, of which the first address that can be bound is taken.
-pub fn listen_at<N: Net>(net: &N, address: &str) -> io::Result<TcpListener> {
+/// brackets, or a name, of which the first address that can be bound is taken. Also gives a second socket, where one doesn't take all.
+pub fn listen_at<N: Net>(net: &N, address: &str) -> io::Result<(TcpListener, Option<TcpListener>)> {
     let Some((host, port)) = address.rsplit_once(':') else {
         return Err(ErrorKind::InvalidInput.into());
     };
@@ -15,19 +15,30 @@ pub fn listen_at<N: Net>(net: &N, address: &str) -> io::Result<TcpListener> {
     };
     match host {
         "*" => listen_everywhere(net, port),
-        host => listen_on(net, without_brackets(host), port),
+        host => Ok((listen_on(net, without_brackets(host), port)?, None)),
     }
 }
 
-/// A socket of IPv6 that listens everywhere takes what comes over IPv4 too, as Linux has it by default. A machine
-/// without IPv6 listens over IPv4.
-fn listen_everywhere<N: Net>(net: &N, port: u16) -> io::Result<TcpListener> {
-    match TcpListener::bind(net, SocketAddr::from((Ipv6Addr::UNSPECIFIED, port))) {
+/// A socket of IPv6 that listens everywhere takes what comes over IPv4 too, as Linux has it by default: then a socket of IPv4
+/// can't have its port. With the sysctl net.ipv6.bindv6only it takes IPv6 alone, and a second one takes IPv4. A machine without
+/// IPv6 listens over IPv4.
+fn listen_everywhere<N: Net>(net: &N, port: u16) -> io::Result<(TcpListener, Option<TcpListener>)> {
+    let first = match TcpListener::bind(net, SocketAddr::from((Ipv6Addr::UNSPECIFIED, port))) {
         Err(e) if e.kind() != ErrorKind::AddrInUse => {
-            TcpListener::bind(net, SocketAddr::from((Ipv4Addr::UNSPECIFIED, port)))
+            return Ok((listen_over_ipv4(net, port)?, None));
         }
-        answer => answer,
+        answer => answer?,
+    };
+    let port = first.local_addr()?.port();
+    match listen_over_ipv4(net, port) {
+        Ok(further) => Ok((first, Some(further))),
+        Err(e) if e.kind() == ErrorKind::AddrInUse => Ok((first, None)),
+        Err(e) => Err(e),
     }
+}
+
+fn listen_over_ipv4<N: Net>(net: &N, port: u16) -> io::Result<TcpListener> {
+    TcpListener::bind(net, SocketAddr::from((Ipv4Addr::UNSPECIFIED, port)))
 }
 
 fn listen_on<N: Net>(net: &N, host: &str, port: u16) -> io::Result<TcpListener> {

@@ -6,10 +6,32 @@ use std::net::{Net, TcpListener};
 use std::sync::OnceLock;
 use std::sync::atomic::{AtomicU64, Ordering};
 
-/// The listening socket of the ports of a program, and how many of their links were opened and closed.
+/// The sockets that listen.
+#[derive(Drop)]
+pub struct Sockets {
+    pub first: TcpListener,
+    /// One of IPv4, where the first one takes IPv6 alone.
+    pub further: Option<TcpListener>,
+}
+
+impl Sockets {
+    /// Handles of the same sockets.
+    fn try_clone(&self) -> io::Result<Self> {
+        let further = match &self.further {
+            Some(further) => Some(further.try_clone()?),
+            None => None,
+        };
+        Ok(Sockets {
+            first: self.first.try_clone()?,
+            further,
+        })
+    }
+}
+
+/// The listening sockets of the ports of a program, and how many of their links were opened and closed.
 #[derive(Drop)]
 pub struct Door {
-    listener: OnceLock<TcpListener>,
+    sockets: OnceLock<Sockets>,
     opened: AtomicU64,
     closed: AtomicU64,
     /// So many links are open at most.
@@ -20,21 +42,28 @@ impl Door {
     /// A door at which nobody listens yet.
     pub fn new() -> Self {
         Door {
-            listener: OnceLock::new(),
+            sockets: OnceLock::new(),
             opened: AtomicU64::new(0),
             closed: AtomicU64::new(0),
             most: clients_within(most_descriptors()),
         }
     }
 
-    /// The listening socket, which the first port that listens makes at its address, as a handle of the caller's own.
-    pub fn listener<N: Net>(&self, net: &N, address: &str) -> io::Result<TcpListener> {
-        if let Some(listener) = self.listener.get() {
-            return listener.try_clone();
+    /// The listening sockets, which the first port that listens makes at its address, as handles of the caller's own.
+    pub fn sockets<N: Net>(&self, net: &N, address: &str) -> io::Result<Sockets> {
+        if let Some(sockets) = self.sockets.get() {
+            return sockets.try_clone();
         }
-        let listener = TcpListener::from(listen_at(net, address)?);
-        let own = listener.try_clone()?;
-        let _ = self.listener.try_set(listener);
+        let (first, further) = listen_at(net, address)?;
+        let sockets = Sockets {
+            first: TcpListener::from(first),
+            further: match further {
+                Some(further) => Some(TcpListener::from(further)),
+                None => None,
+            },
+        };
+        let own = sockets.try_clone()?;
+        let _ = self.sockets.try_set(sockets);
         Ok(own)
     }
 

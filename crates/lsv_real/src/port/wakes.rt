@@ -1,5 +1,6 @@
 // What a port that listens waits for, and what of the last wait it hasn't told yet.
 use super::accepted::Accepted;
+use super::door::Sockets;
 use lsv_port::Ready;
 use mio::event::Event;
 use mio::net::{TcpListener, TcpStream};
@@ -11,8 +12,10 @@ use std::io::ErrorKind;
 use std::net::{self, Net, SocketAddr};
 use std::time::Duration;
 
-/// The listening socket's name among those that are waited for. No link has its number.
+/// The names of the listening sockets among those that are waited for. No link has their numbers.
 const LISTENER: Token = Token(usize::MAX);
+
+const FURTHER: Token = Token(usize::MAX - 1);
 
 /// One wait gives so many events at most.
 const MOST_EVENTS: usize = 256;
@@ -22,6 +25,10 @@ const LONGEST: u64 = 50;
 
 /// And after so many where links are held, and no bytes went over one since the last wait.
 const SHORT: u64 = 1;
+
+/// But after so many of these waits in a row nothing can move before an event tells it: the messages of one read are taken in fewer
+/// turns.
+const MOST_SHORT: u32 = 64;
 
 /// Which connections wait to be taken.
 #[derive(Clone, Copy, PartialEq, Eq)]
@@ -40,29 +47,39 @@ enum Queue {
 pub struct Wakes {
     poll: Poll,
     listener: TcpListener,
+    /// The socket of IPv4, where that of IPv6 doesn't take it.
+    further: Option<TcpListener>,
+    /// That is asked first, so that both have their turn.
+    is_further_first: bool,
     queue: Queue,
     events: Events,
     /// What is told next: of an event first that its link may be read, then that it may be written.
     next: usize,
     /// Bytes went over a link since the last wait.
     has_moved: bool,
+    /// So many waits in a row began without that.
+    still: u32,
 }
 
 impl Wakes {
-    /// Waits for connections at a socket.
-    pub fn new<N: Net>(alloc: Global, net: &N, listener: net::TcpListener) -> io::Result<Self> {
-        listener.set_nonblocking(true)?;
-        let mut listener = TcpListener::from_std(listener);
+    /// Waits for connections at the sockets that listen.
+    pub fn new<N: Net>(alloc: Global, net: &N, sockets: Sockets) -> io::Result<Self> {
         let poll = Poll::new(net)?;
-        poll.registry()
-            .register(&mut listener, LISTENER, Interest::READABLE)?;
+        let listener = registered(&poll, sockets.first, LISTENER)?;
+        let further = match sockets.further {
+            Some(further) => Some(registered(&poll, further, FURTHER)?),
+            None => None,
+        };
         Ok(Wakes {
             poll,
             listener,
+            further,
+            is_further_first: false,
             queue: Queue::Empty,
             events: Events::with_capacity(alloc, MOST_EVENTS)?,
             next: 0,
             has_moved: false,
+            still: 0,
         })
     }
 
@@ -97,7 +114,7 @@ impl Wakes {
             self.queue = Queue::Stuck;
             return None;
         }
-        match self.listener.accept() {
+        match self.accept_one() {
             Ok((stream, _)) => {
                 self.queue = Queue::Taken;
                 Some(stream)
@@ -110,6 +127,23 @@ impl Wakes {
                 self.queue = Queue::Stuck;
                 None
             }
+        }
+    }
+
+    /// A connection of one of the sockets that listen.
+    fn accept_one(&mut self) -> io::Result<(TcpStream, SocketAddr)> {
+        let Some(further) = &self.further else {
+            return self.listener.accept();
+        };
+        let (first, second) = if self.is_further_first {
+            (further, &self.listener)
+        } else {
+            (&self.listener, further)
+        };
+        self.is_further_first = !self.is_further_first;
+        match first.accept() {
+            Err(e) if e.kind() == ErrorKind::WouldBlock => second.accept(),
+            answer => answer,
         }
     }
 
@@ -129,10 +163,20 @@ impl Wakes {
     /// Waits until there is something to tell, or a while: less where links are held.
     pub fn wait(&mut self, holds: bool) -> io::Result<()> {
         let most = Duration::from_millis(self.most(holds));
+        self.still = if self.has_moved {
+            0
+        } else {
+            self.still.saturating_add(1)
+        };
         self.has_moved = false;
         self.next = 0;
         self.poll.poll(&mut self.events, Some(most))?;
-        if self.queue != Queue::Empty || self.events.iter().any(|e| e.token() == LISTENER) {
+        if self.queue != Queue::Empty
+            || self
+                .events
+                .iter()
+                .any(|e| e.token() == LISTENER || e.token() == FURTHER)
+        {
             self.queue = Queue::Waiting;
         }
         Ok(())
@@ -143,13 +187,22 @@ impl Wakes {
         match self.queue {
             Queue::Taken => 0,
             _ if holds && self.has_moved => 0,
-            _ if holds => SHORT,
+            _ if holds && self.still < MOST_SHORT => SHORT,
             _ => LONGEST,
         }
     }
 }
 
-/// The link of an event. None where it is the listening socket's.
+/// A socket that listens, whose connections are waited for.
+fn registered(poll: &Poll, socket: net::TcpListener, token: Token) -> io::Result<TcpListener> {
+    socket.set_nonblocking(true)?;
+    let mut listener = TcpListener::from_std(socket);
+    poll.registry()
+        .register(&mut listener, token, Interest::READABLE)?;
+    Ok(listener)
+}
+
+/// The link of an event. None where it is that of a socket that listens.
 fn link_of(event: &Event) -> Option<u32> {
     u32::try_from(event.token().0).ok()
 }

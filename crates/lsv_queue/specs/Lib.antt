@@ -1,0 +1,3 @@
+pub mod Order
+pub mod Passes
+pub mod Settled

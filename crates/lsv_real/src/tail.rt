@@ -1,0 +1,168 @@
+// What an event log has after the lines that its journal counts.
+ghost use Rattle.std.specs.Prelude.{◌≤◌, IfOk, length};
+
+use crate::handle::read_from;
+use crate::lock::{make_file, open_file, set_mode};
+use crate::path::{Places, folder_of};
+use crate::read_only::ReadOnlyDisk;
+use lsv_bundle::Body;
+use lsv_disk::{FileId, Owner, Part};
+use lsv_journal::Journal;
+use std::alloc::{AllocError, Global};
+use std::fs::File;
+use std::io;
+use std::io::ErrorKind;
+use std::os::unix::fs::FileExt;
+
+/// This many bytes are copied at a time.
+const PIECE: usize = 4096;
+
+/// At most this many files are kept of what stood after one place.
+const MOST_KEPT: u32 = 100;
+
+/// What an event log has after the lines that its journal counts.
+#[derive(Drop)]
+pub enum Tail {
+    /// No byte, or fewer bytes than the journal counts.
+    Empty,
+    /// No line ends after so many bytes, which the journal counts: it is that of another log.
+    Strange(u64),
+    /// So many bytes after those that the journal counts. They are in a file of this name now, and the log ends where they began.
+    Kept { count: u64, path: String },
+    /// The same, and the file had them before: what was cut off once was there again.
+    KeptBefore,
+}
+
+/// Keeps what the event log has after the lines that its journal counts in a file of its own, and cuts it off, so that the next
+/// line is written over none. A crash leaves such bytes, of a turn that wasn't committed, and so does a log or a journal that
+/// was put back. The caller has the locks of the event log.
+pub fn keep_tail(rt: &HostRuntime, program: &'static str, places: &Places) -> io::Result<Tail> {
+    let log = match open_file(rt, places.events.as_str()) {
+        Ok(log) => log,
+        Err(e) if e.kind() == ErrorKind::NotFound => return Ok(Tail::Empty),
+        Err(e) => return Err(e),
+    };
+    let length = log.metadata()?.len();
+    let counted = committed_length(*rt, program, places)?.unwrap_or(0);
+    if length < counted {
+        return Ok(Tail::Empty);
+    }
+    if !ends_line(&log, counted)? {
+        return Ok(Tail::Strange(counted));
+    }
+    if length == counted {
+        return Ok(Tail::Empty);
+    }
+    let kept = keep(rt, places.events.as_str(), &log, counted, length)?;
+    cut(&log, counted)?;
+    Ok(kept)
+}
+
+/// How many bytes of the event log its journal counts. None if the journal has no entry.
+pub fn committed_length(
+    rt: HostRuntime,
+    program: &'static str,
+    places: &Places,
+) -> io::Result<Option<u64>> {
+    let mut disk = ReadOnlyDisk::at(rt, program, places)?;
+    let journal = FileId::new(Owner::Events(0), Part::Slots);
+    match Journal::<89>::view(&mut disk, journal) {
+        Ok(Some(body)) => {
+            let [length, ..] = Body::decode(body).lens;
+            Ok(Some(length))
+        }
+        Ok(None) => Ok(None),
+        Err(_) => Err(ErrorKind::Other.into()),
+    }
+}
+
+/// Whether no line is cut after so many bytes: there are none, or the last one is a line feed.
+fn ends_line(log: &File, counted: u64) -> io::Result<bool> {
+    let Some(last) = counted.checked_sub(1) else {
+        return Ok(true);
+    };
+    let mut byte = [0];
+    let count = read_from(log, last, &mut byte)?;
+    Ok(count == 1 && byte == [b'\n'])
+}
+
+/// Copies what stands from a place to the end into a file beside the log, or finds it in one that is there.
+fn keep(rt: &HostRuntime, events: &str, log: &File, from: u64, to: u64) -> io::Result<Tail> {
+    let alloc = rt.alloc();
+    for number in 1..=MOST_KEPT {
+        let path = name_of(alloc, events, from, number)?;
+        let copy = match make_file(rt, path.as_str()) {
+            Ok(copy) => copy,
+            Err(e) if e.kind() == ErrorKind::AlreadyExists => open_file(rt, path.as_str())?,
+            Err(e) => return Err(e),
+        };
+        let metadata = copy.metadata()?;
+        let has = metadata.len();
+        if !is_start(&copy, has, log, from, to)? {
+            continue;
+        }
+        set_mode(&copy, &metadata)?;
+        copy_bytes(log, from, to, &copy)?;
+        copy.sync_all()?;
+        File::open(rt, folder_of(events))?.sync_all()?;
+        let count = to.saturating_sub(from);
+        return Ok(if has == count {
+            Tail::KeptBefore
+        } else {
+            Tail::Kept { count, path }
+        });
+    }
+    Err(ErrorKind::AlreadyExists.into())
+}
+
+/// The name of a file for what stood after a place: a number stands at its end from the second one on.
+fn name_of(alloc: Global, events: &str, from: u64, number: u32) -> Result<String, AllocError> {
+    if number == 1 {
+        format!(in alloc; "{events}.after-{from}")
+    } else {
+        format!(in alloc; "{events}.after-{from}.{number}")
+    }
+}
+
+/// Whether a file has the first of the bytes that are to be copied, and no others: it is empty, was left by a run that failed,
+/// or has all of them.
+fn is_start(copy: &File, has: u64, log: &File, from: u64, to: u64) -> io::Result<bool> {
+    if has > to.saturating_sub(from) {
+        return Ok(false);
+    }
+    let mut mine = [0; PIECE];
+    let mut theirs = [0; PIECE];
+    let mut at = 0;
+    while at < has {
+        let most = (has - at).min(PIECE as u64) as usize;
+        let count = read_from(copy, at, &mut mine[..most])?;
+        let same = read_from(log, from.saturating_add(at), &mut theirs[..most])?;
+        if count == 0 || count != same || mine[..count] != theirs[..count] {
+            return Ok(false);
+        }
+        at += count as u64;
+    }
+    Ok(true)
+}
+
+/// Copies the bytes of a file from one place to another to the start of a file.
+fn copy_bytes(log: &File, from: u64, to: u64, copy: &File) -> io::Result<()> {
+    let mut piece = [0; PIECE];
+    let mut at = from;
+    while at < to {
+        let most = (to - at).min(PIECE as u64) as usize;
+        let count = read_from(log, at, &mut piece[..most])?;
+        if count == 0 {
+            return Err(ErrorKind::UnexpectedEof.into());
+        }
+        copy.write_all_at(&piece[..count], at - from)?;
+        at += count as u64;
+    }
+    Ok(())
+}
+
+/// Ends a file after so many bytes, and waits until it is so on the disk.
+fn cut(log: &File, length: u64) -> io::Result<()> {
+    log.set_len(length)?;
+    log.sync_all()
+}
