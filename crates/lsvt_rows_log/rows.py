@@ -268,6 +268,78 @@ log.open()
 case("longest", longest(48))
 
 
+# ---- a log that is followed while it is written
+
+def found(*records: Record) -> None:
+    """Looks that find these records."""
+    for delay, event, *rest in records:
+        words = rest[0].hex() if event in STREAMS else f"{rest[0]} {rest[1]}"
+        case("look", f"record {delay} {event} {words}".rstrip())
+
+
+def looks(*answers: str) -> None:
+    """Looks that find no record."""
+    for answer in answers:
+        case("look", answer)
+
+
+RESUMED: list[Record] = [(SECOND, "ttyout", b"one"), (0, "ttyout", b"two"), (0, "ttyin", b"three")]
+
+title("a log is followed while it grows: each record is found once, when it is committed, and then the end")
+log = session()
+case("follow 1")
+looks("nothing", "nothing")
+log.append(FIRST[0])
+looks("nothing")
+log.flush()
+found(FIRST[0])
+looks("nothing", "nothing")
+log.append(*FIRST[1:])
+log.flush()
+found(*FIRST[1:])
+looks("nothing")
+log.append(*LAST)
+log.finish(3600000000, 0)
+found(*LAST)
+looks("end", "end")
+
+title("a log is cut between looks, and grows again")
+log = session()
+log.append(*RESUMED)
+log.flush()
+case("follow 1")
+found(*RESUMED)
+looks("nothing")
+log.cut(SECOND)
+looks("resumed: 0 cuts, now 1")
+log.append(*RESUMED[1:])
+log.flush()
+looks("resumed: 0 cuts, now 1")
+case("follow 1")
+found(*RESUMED)
+looks("nothing")
+log.cut(SECOND)
+log.cut(SECOND)
+looks("resumed: 1 cuts, now 2")
+
+title("a cut that drops no record goes unnoticed")
+log = session()
+log.append(*FIRST[:2])
+log.flush()
+case("follow 1")
+found(FIRST[0])
+log.cut(elapsed(FIRST[:2]))
+log.append(FIRST[2])
+log.flush()
+found(*FIRST[1:])
+log.finish(3600000000, 0)
+looks("end")
+
+title("a log that is absent isn't followed")
+case("store")
+case("follow 1", "there is no such log")
+
+
 # ---- scripts with each device call failing, and a crash behind each
 
 title("what a fault or a crash leaves of a log is what stood before the step, or what stands after it")

@@ -16,7 +16,8 @@ from oracle import lines, store
 from oracle.records import SECOND, Record
 from oracle.rows import Rows
 
-TEXTS = {0: "", 2: "usage", 4: "log damaged", 5: "read fault", 6: "write fault", 8: "no such log"}
+TEXTS = {0: "", 2: "usage", 4: "log damaged", 5: "read fault", 6: "write fault", 7: "log resumed",
+    8: "no such log", 10: "log quiet"}
 ROWS = Rows()
 case, title = ROWS.case, ROWS.title
 
@@ -112,9 +113,16 @@ case("run 000002", status(8))
 case("run 00000a", status(8))
 case("run 000000", status(8))
 
+title("a session that is complete is followed as it is played")
+case("run -F -m 0.4 000001", *played(RECORDS, longest=400000000), status(0))
+case("run 000001 -F -s 2", *played(RECORDS, speed=(2, 1)), status(0))
+case("run -F -f ttyin 000001", "wait 500000000", "wait 1000000000", "wait 0", "wait 2000000000", status(0))
+case("run -F 000002", status(8))
+case("run -F 00000a", status(8))
+
 title("words that are no command")
-for words in ("", "000001 000001", "-F 000001", "--help", "-s 0 000001", "-s 1.0000000001 000001", "-m x 000001",
-    "-f ttyout,x 000001", "-f  000001", "~", "-l user ~"):
+for words in ("", "000001 000001", "-F", "-F -F 000001", "-F -l", "-l -F user ann", "-F 000001 000001", "--help",
+    "-s 0 000001", "-s 1.0000000001 000001", "-m x 000001", "-f ttyout,x 000001", "-f  000001", "~", "-l user ~"):
     case(f"run {words}".rstrip(), status(2))
 
 title("what of words is out of its form")
@@ -125,7 +133,9 @@ for words, unfit in [
     ("-m .5 000001", "Longest .5"), ("-m 9223372036.854775808 a", "Longest 9223372036.854775808"),
     ("-m 9223372036.854775807 a", "none"), ("-f ttyou 000001", "Streams ttyou"),
     ("-f stdin,,stdout -l", "Streams stdin,,stdout"), ("-s x -m y -f z", "Streams z"), ("-s x -m y", "Longest y"),
-    ("-s x", "Speed x"), ("-m 0 -s 1", "NoIdentifier"), ("-F 000001", "usage"), ("--help", "usage"), ("-s", "usage"),
+    ("-s x", "Speed x"), ("-m 0 -s 1", "NoIdentifier"), ("--help", "usage"), ("-s", "usage"),
+    ("-F 000001", "none"), ("-F", "NoIdentifier"), ("-F a b", "Identifiers b"), ("-F -l", "FollowedListing"),
+    ("-lF user", "FollowedListing"), ("-F -s 0 -l", "Speed 0"), ("-F -F a", "usage"),
     ("-s 1 -s 2 a", "usage"),
 ]:
     case(f"unfit {words}".rstrip(), unfit)
@@ -137,12 +147,39 @@ case("store")
 files_of_log(1, HEAD, SUSPENDED, EXIT)
 case("run 000001", *played(SUSPENDED), status(0))
 case("run -S 000001", *played(SUSPENDED, suspended=True), status(0))
+case("run -F 000001", *played(SUSPENDED), status(0))
+case("run -F -S 000001", *played(SUSPENDED, suspended=True), status(0))
 
 title("a log that is being written, with bytes behind what is committed")
 case("store")
 open_files = store.files_of(HEAD, RECORDS[:2], None)
 files_of_log(1, HEAD, RECORDS[:2], None, timing=open_files["timing"] + b"4 0.0", ttyout=open_files["ttyout"] + b"xyz")
 case("run 000001", *played(RECORDS[:2]), status(0))
+
+# ---- what is followed
+
+QUIET, PAUSE = 36_000, 100_000_000
+
+
+def followed(records: Sequence[Record], status_line: str = status(10)) -> tuple[str, str]:
+    """What is printed as a sum of a log that isn't complete: its records, and then a pause after each look."""
+    items = played(records)
+    waits = sum(int(item.split()[1]) for item in items if item.startswith("wait"))
+    puts = b"".join(bytes.fromhex(item.split()[1]) for item in items if item.startswith("put"))
+    digest = hashlib.md5(puts).hexdigest()
+    return f"items {len(items) + QUIET} waits {waits + QUIET * PAUSE} digest {digest}", status_line
+
+
+title("a log that isn't complete is followed for an hour")
+case("sum -F 000001", *followed(RECORDS[:2]))
+case("store")
+files_of_log(1, HEAD, [], None)
+case("sum -F 000001", *followed([]))
+case("sum -F -l", f"items 0 waits 0 digest {hashlib.md5(b'').hexdigest()}", status(2))
+case("fails 1")
+case("run -F 000001", status(6))
+case("fails 3")
+case("run -F 000001", f"wait {PAUSE}", f"wait {PAUSE}", status(6))
 
 title("damaged parts")
 for part in ("log_json", "timing", "ttyout", "exit_json"):
@@ -151,6 +188,7 @@ for part in ("log_json", "timing", "ttyout", "exit_json"):
     numbers(1)
     files_of_log(1, HEAD, RECORDS, EXIT, **{part: whole[:-1]})
     case("run 000001", status(4))
+    case("run -F 000001", status(4))
     case("run -l", status(4))
     case("store")
     numbers(1)
@@ -166,6 +204,7 @@ timing = store.files_of(HEAD, RECORDS, EXIT)["timing"]
 numbers(1)
 files_of_log(1, HEAD, RECORDS, EXIT, timing=timing.replace(b"4 0.000000000 5", b"4 0.000000000 X"))
 case("run 000001", *played(RECORDS[:2]), status(4))
+case("run -F 000001", *played(RECORDS[:2]), status(4))
 case("run -l", put(line(1)), status(0))
 
 title("an absent file of which nothing is committed")
@@ -187,6 +226,7 @@ case("store")
 body = body_of(RECORDS, HEAD, EXIT)
 files_of_log(1, HEAD, RECORDS, EXIT, slots=store.slots_text(body[:88]))
 case("run 000001", status(8))
+case("run -F 000001", status(8))
 
 # ---- what is listed
 
@@ -275,6 +315,7 @@ gates = store.old_journal([body_of(RECORDS, HEAD, EXIT)])
 files_of_log(1, HEAD, RECORDS, EXIT, slots=None, commit=gates)
 case("run -l", put(line(1)), status(0))
 case("run 000001", *played(RECORDS), status(0))
+case("run -F 000001", *played(RECORDS), status(0))
 
 title("1,000 logs, of which one is damaged and one absent")
 case("store")
@@ -288,7 +329,8 @@ logs = [n for n in range(1, 1001) if n not in (500, 700)]
 
 def total(listed: Sequence[int], number: int) -> tuple[str, str]:
     """What is printed of a listing of these logs as a sum."""
-    return f"items {len(listed)} digest {hashlib.md5(b''.join(line(n) for n in listed)).hexdigest()}", status(number)
+    digest = hashlib.md5(b"".join(line(n) for n in listed)).hexdigest()
+    return f"items {len(listed)} waits 0 digest {digest}", status(number)
 
 
 case("sum -l", *total(logs, 4))
@@ -301,6 +343,7 @@ items = played(RECORDS)
 for number in range(1, len(items) + 2):
     case(f"fails {number}")
     case("run 000001", *items[: number - 1], status(6 if number <= len(items) else 0))
+    case("run -F 000001", *items[: number - 1], status(6 if number <= len(items) else 0))
 case("store")
 numbers(2)
 files_of_log(1, HEAD, RECORDS, EXIT)

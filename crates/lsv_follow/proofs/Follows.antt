@@ -201,3 +201,11 @@ still_shown f w shown was is cuts given = record { cuts = cuts ∙ is.cuts; give
 pub damage_of_view : (f : ViewState) (part : Part) (disk : DiskView) → IsViewDamage f.number part disk.reads ⊎ ((part ≡ Timing) × HasShrunk f disk.reads) → IsLookDamage f part disk
 damage_of_view f part disk (inl damage) = inl damage
 damage_of_view f part disk (inr shrunk) = inr (inl shrunk)
+
+-- the last entry counts one number of cuts
+pub two_cuts : (n a b : ℕ) (image : Image) → HasCuts n a image → HasCuts n b image → a ≡ b
+two_cuts n a b image one other = entry_cuts n a other.0 image other.1 one ∙ sym other.2
+
+-- and it is there
+pub cuts_there : (n cuts : ℕ) (image : Image) → HasCuts n cuts image → Replays image n None → ⊥
+cuts_there n cuts image has absent = none_some (encoded has.0) (sym absent ∙ has.1.last)

@@ -1,2 +1,4 @@
 pub mod Causes
+pub mod Ended
 pub mod Follows
+pub mod Looking

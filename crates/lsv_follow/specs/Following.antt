@@ -38,6 +38,10 @@ pub record HasGoneOn (view : ViewState) (shown : List Record) (was now : Stored)
   pub holds : Replays image view.number (Some now)
   pub later : IsLater was now
 
+-- an image holds this log, of which nothing was shown yet
+abbrev pub IsStored : ViewState → Image → Stored → Type 0
+IsStored view image log = HasShown view [] log × Replays image view.number (Some log)
+
 -- what a look says of the log as the disk reads: its next record; or that all were shown, and it isn't complete; or that it is
 abbrev pub Sees : Seen → ViewState → List Record → Stored → Type 0
 Sees (seen.Record r) view shown now = HasShown view (shown ++ r ∷ []) now

@@ -1,3 +1,4 @@
+pub mod Ending
 pub mod Faults
 pub mod Followed
 pub mod Following

@@ -1,2 +1,3 @@
+pub mod Followed
 pub mod Replayed
 pub mod Stored

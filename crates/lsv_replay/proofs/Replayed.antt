@@ -14,19 +14,21 @@ use Rattle.lsv_listing.specs.declared.fault.ListFault.{ListFault}
 use Rattle.lsv_listing.specs.declared.fault.ListFault.TheVariants as lists
 use Rattle.lsv_listing.specs.Numbers.{IsListed}
 use Rattle.lsv_play.specs.declared.screen.Item.{Item}
+use Rattle.lsv_follow.specs.declared.end.FollowEnd.{FollowEnd}
+use Rattle.lsv_follow.specs.declared.end.FollowEnd.TheVariants as ends
 use Rattle.lsv_playback.specs.declared.fault.PlayFault.{PlayFault}
 use Rattle.lsv_playback.specs.declared.fault.PlayFault.TheVariants as plays
 use Rattle.lsv_search.specs.Grammar.{Expression, IsSearch}
 use Rattle.lsv_replay_args.specs.Asked.{task_in}
 use Rattle.lsv_replay_args.specs.declared.request.Task.{Task}
 use Rattle.lsv_replay_args.specs.declared.request.Task.TheVariants as tasks
-use Rattle.lsv_replay_args.specs.Request.{Asked, Manner, Play, Search, dir_asked}
+use Rattle.lsv_replay_args.specs.Request.{Asked, Follow, Manner, Play, Search, dir_asked}
 use Rattle.lsv_replay_args.specs.Request as requests
 use Rattle.lsv_replay.specs.Replay.{Asks, Does, HasWords, IsOnlyRead, IsSoundTask, IsUsage}
-use Rattle.lsv_replay.specs.Status.{of_listing, of_playing}
+use Rattle.lsv_replay.specs.Status.{of_following, of_listing, of_playing}
 use Rattle.lsv_replay.specs.Tasks.{IsOfTask}
 use Rattle.lsv_replay.specs.declared.status.ReplayStatus.{ReplayStatus}
-use Rattle.lsv_replay.specs.declared.status.ReplayStatus.TheVariants.{Shown, Usage, BadExpression, Damaged, ReadFault, WriteFault, Absent, NoMem}
+use Rattle.lsv_replay.specs.declared.status.ReplayStatus.TheVariants.{Shown, Usage, BadExpression, Damaged, ReadFault, WriteFault, Resumed, Absent, NoMem, Quiet}
 
 -- ---- statuses
 
@@ -37,6 +39,16 @@ play_status dir manner id n (Err (plays.Damaged part)) is = (n, is)
 play_status dir manner id n (Err plays.Disk) is = (n, is)
 play_status dir manner id n (Err plays.Screen) is = (n, is)
 play_status dir manner id n (Err plays.NoMem) is = tt
+
+pub follow_status : {T : Type 0} (dir : List ℕ) (manner : Manner) (id : List ℕ) (n : ℕ) (r : Result T FollowEnd) → log_no_in id ≡ Some n → IsOfTask (Follow dir manner id) (of_following r)
+follow_status dir manner id n (Ok end) is = (n, is)
+follow_status dir manner id n (Err (ends.Resumed seen now)) is = (n, is)
+follow_status dir manner id n (Err ends.Quiet) is = (n, is)
+follow_status dir manner id n (Err (ends.Fault plays.Absent)) is = tt
+follow_status dir manner id n (Err (ends.Fault (plays.Damaged part))) is = (n, is)
+follow_status dir manner id n (Err (ends.Fault plays.Disk)) is = (n, is)
+follow_status dir manner id n (Err (ends.Fault plays.Screen)) is = (n, is)
+follow_status dir manner id n (Err (ends.Fault plays.NoMem)) is = tt
 
 pub list_status : {T : Type 0} (dir : List ℕ) (words : List (List ℕ)) (searched : Option Expression) (r : Result T ListFault) → IsSearch words searched → IsOfTask (Search dir words) (of_listing r)
 list_status dir words searched (Ok end) is = (searched, is)
@@ -61,6 +73,26 @@ play_screen (Err (plays.Damaged part)) s e is = absurd (cc)
 play_screen (Err plays.Disk) s e is = absurd (cc)
 play_screen (Err plays.Screen) s e is = refl
 play_screen (Err plays.NoMem) s e is = absurd (cc)
+
+pub follow_disk : {T : Type 0} (r : Result T FollowEnd) (s : ReplayStatus) → s ≡ of_following r → s ≡ ReadFault → r ≡ Err (ends.Fault plays.Disk)
+follow_disk (Ok end) s e is = absurd (cc)
+follow_disk (Err (ends.Resumed seen now)) s e is = absurd (cc)
+follow_disk (Err ends.Quiet) s e is = absurd (cc)
+follow_disk (Err (ends.Fault plays.Absent)) s e is = absurd (cc)
+follow_disk (Err (ends.Fault (plays.Damaged part))) s e is = absurd (cc)
+follow_disk (Err (ends.Fault plays.Disk)) s e is = refl
+follow_disk (Err (ends.Fault plays.Screen)) s e is = absurd (cc)
+follow_disk (Err (ends.Fault plays.NoMem)) s e is = absurd (cc)
+
+pub follow_screen : {T : Type 0} (r : Result T FollowEnd) (s : ReplayStatus) → s ≡ of_following r → s ≡ WriteFault → r ≡ Err (ends.Fault plays.Screen)
+follow_screen (Ok end) s e is = absurd (cc)
+follow_screen (Err (ends.Resumed seen now)) s e is = absurd (cc)
+follow_screen (Err ends.Quiet) s e is = absurd (cc)
+follow_screen (Err (ends.Fault plays.Absent)) s e is = absurd (cc)
+follow_screen (Err (ends.Fault (plays.Damaged part))) s e is = absurd (cc)
+follow_screen (Err (ends.Fault plays.Disk)) s e is = absurd (cc)
+follow_screen (Err (ends.Fault plays.Screen)) s e is = refl
+follow_screen (Err (ends.Fault plays.NoMem)) s e is = absurd (cc)
 
 pub list_disk : {T : Type 0} (r : Result T ListFault) (s : ReplayStatus) → s ≡ of_listing r → s ≡ ReadFault → r ≡ Err lists.Disk
 list_disk (Ok end) s e is = absurd (cc)
@@ -117,6 +149,7 @@ one_asked words a b one two = same (requests.asked words) a b one.asks two.asks 
 -- the folder that is asked for is the task's
 dir_of_task : (dir : List ℕ) (task : Task) → dir_asked (task_in dir task) ≡ dir
 dir_of_task dir (tasks.Play o id) = refl
+dir_of_task dir (tasks.Follow o id) = refl
 dir_of_task dir (tasks.List words) = refl
 
 pub dir_is : (words : List (List ℕ)) (asked : Asked) (dir : List ℕ) (task : Task) → Asks words asked → Asks words (task_in dir task) → dir ≡ dir_asked asked
@@ -125,11 +158,13 @@ dir_is words asked dir task one two = sym (dir_of_task dir task) ∙ ap (λ (a :
 -- what is done doesn't hang on the folder
 pub does_anywhere : (dir other : List ℕ) (task : Task) (image : Image) (status : ReplayStatus) (put : List Item) → Does (task_in dir task) image status put → Does (task_in other task) image status put
 does_anywhere dir other (tasks.Play o id) image status put does = does
+does_anywhere dir other (tasks.Follow o id) image status put does = does
 does_anywhere dir other (tasks.List words) image status put does = does
 
 -- nor does it whether it can be done
 sound_anywhere : (dir other : List ℕ) (task : Task) → IsSoundTask (task_in other task) → IsSoundTask (task_in dir task)
 sound_anywhere dir other (tasks.Play o id) sound = sound
+sound_anywhere dir other (tasks.Follow o id) sound = sound
 sound_anywhere dir other (tasks.List words) sound = sound
 
 -- a status of a task has its words
@@ -141,9 +176,17 @@ words_of_task words dir other task WriteFault asks is = (task_in dir task, asks,
 words_of_task words dir other task NoMem asks is = tt
 words_of_task words dir other task Usage asks is = absurd is
 words_of_task words dir other (tasks.Play o id) (BadExpression at) asks is = absurd is
+words_of_task words dir other (tasks.Follow o id) (BadExpression at) asks is = absurd is
 words_of_task words dir other (tasks.List search) (BadExpression at) asks is = record { dir = dir; search = search; asks = asks; first_bad = is }
-words_of_task words dir other (tasks.Play o id) Absent asks is = record { dir = dir; manner = _; id = id; asks = asks }
+words_of_task words dir other (tasks.Play o id) Absent asks is = inl (record { dir = dir; manner = _; id = id; asks = asks })
+words_of_task words dir other (tasks.Follow o id) Absent asks is = inr (record { dir = dir; manner = _; id = id; asks = asks })
 words_of_task words dir other (tasks.List search) Absent asks is = absurd is
+words_of_task words dir other (tasks.Play o id) Resumed asks is = absurd is
+words_of_task words dir other (tasks.Follow o id) Resumed asks is = (is.0, _, record { dir = dir; id = id; asks = asks; number = is.1 })
+words_of_task words dir other (tasks.List search) Resumed asks is = absurd is
+words_of_task words dir other (tasks.Play o id) Quiet asks is = absurd is
+words_of_task words dir other (tasks.Follow o id) Quiet asks is = (is.0, _, record { dir = dir; id = id; asks = asks; number = is.1 })
+words_of_task words dir other (tasks.List search) Quiet asks is = absurd is
 
 -- ---- the disk
 

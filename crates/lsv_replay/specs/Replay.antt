@@ -9,17 +9,19 @@ use Rattle.lsv_listing.specs.declared.fault.ListFault.{ListFault}
 use Rattle.lsv_listing.specs.Listing.{Lists}
 use Rattle.lsv_play.specs.declared.options.Options.{Options}
 use Rattle.lsv_play.specs.declared.screen.Item.{Item}
+use Rattle.lsv_follow.specs.declared.end.FollowEnd.{FollowEnd}
+use Rattle.lsv_follow.specs.Ending.{Follows}
 use Rattle.lsv_playback.specs.declared.fault.PlayFault.{PlayFault}
 use Rattle.lsv_playback.specs.Playing.{Plays}
 use Rattle.lsv_replay_args.specs.Asked.{manner_in}
 use Rattle.lsv_replay_args.specs.Program.{program}
-use Rattle.lsv_replay_args.specs.Request.{Asked, IsRefused, Manner, Play, Search}
+use Rattle.lsv_replay_args.specs.Request.{Asked, Follow, IsRefused, Manner, Play, Search}
 use Rattle.lsv_replay_args.specs.Request as requests
 use Rattle.lsv_search.specs.Grammar.{Expression, IsSearch}
 use Rattle.lsv_search.specs.Places.{IsFirstBad}
-use Rattle.lsv_replay.specs.Status.{of_listing, of_playing}
+use Rattle.lsv_replay.specs.Status.{of_following, of_listing, of_playing}
 use Rattle.lsv_replay.specs.declared.status.ReplayStatus.{ReplayStatus}
-use Rattle.lsv_replay.specs.declared.status.ReplayStatus.TheVariants.{Shown, Usage, BadExpression, Damaged, ReadFault, WriteFault, Absent, NoMem}
+use Rattle.lsv_replay.specs.declared.status.ReplayStatus.TheVariants.{Shown, Usage, BadExpression, Damaged, ReadFault, WriteFault, Resumed, Absent, NoMem, Quiet}
 
 -- ---- What is asked for
 
@@ -40,6 +42,13 @@ pub record AsksForLog (words : List (List ℕ)) (n : ℕ) (manner : Manner) : Ty
   pub asks : Asks words (Play dir manner id)
   pub number : log_no_in id ≡ Some n
 
+-- the log of this number is to be followed in this manner
+pub record AsksToFollowLog (words : List (List ℕ)) (n : ℕ) (manner : Manner) : Type 0 where
+  pub dir : List ℕ
+  pub id : List ℕ
+  pub asks : Asks words (Follow dir manner id)
+  pub number : log_no_in id ≡ Some n
+
 -- ---- What is put
 
 -- a log is played in this manner: nothing of what has no number, and else what the log's playing puts
@@ -47,6 +56,12 @@ abbrev pub PlaysNumber : Manner → Option ℕ → Image → ReplayStatus → Li
 PlaysNumber manner None image status put = (status ≡ Absent) × (put ≡ [])
 PlaysNumber manner (Some n) image status put = (o : Options) × (manner_in o ≡ manner)
     × ((answer : Result (Unit {0}) PlayFault) × (status ≡ of_playing answer) × Plays o n image answer put)
+
+-- a log is followed in this manner: nothing of what has no number, and else what the log's following puts
+abbrev pub FollowsNumber : Manner → Option ℕ → Image → ReplayStatus → List Item → Type 0
+FollowsNumber manner None image status put = (status ≡ Absent) × (put ≡ [])
+FollowsNumber manner (Some n) image status put = (o : Options) × (manner_in o ≡ manner)
+    × ((answer : Result (Unit {0}) FollowEnd) × (status ≡ of_following answer) × Follows o n image answer put)
 
 -- nothing is put where the words are no search
 pub record PutsNone (words : List (List ℕ)) (status : ReplayStatus) (put : List Item) : Type 0 where
@@ -70,6 +85,7 @@ ListsWords words image status put = PutsNone words status put ⊎ ((status ≡ N
 -- what is asked for is done
 abbrev pub Does : Asked → Image → ReplayStatus → List Item → Type 0
 Does (Play dir manner id) image status put = PlaysNumber manner (log_no_in id) image status put
+Does (Follow dir manner id) image status put = FollowsNumber manner (log_no_in id) image status put
 Does (Search dir words) image status put = ListsWords words image status put
 
 -- what a run puts: nothing where its words are no command, or out of memory, and else what it is asked for
@@ -95,12 +111,24 @@ pub record AsksToPlay (words : List (List ℕ)) : Type 0 where
   pub id : List ℕ
   pub asks : Asks words (Play dir manner id)
 
+-- a log is to be followed
+pub record AsksToFollow (words : List (List ℕ)) : Type 0 where
+  pub dir : List ℕ
+  pub manner : Manner
+  pub id : List ℕ
+  pub asks : Asks words (Follow dir manner id)
+
+-- a log with a number is to be followed
+abbrev pub AsksToFollowSoundly : List (List ℕ) → Type 0
+AsksToFollowSoundly words = (n : ℕ) × (manner : Manner) × AsksToFollowLog words n manner
+
 -- what is asked for can be done: the identifier is a log's number, or the words are a search
 abbrev pub IsSoundTask : Asked → Type 0
 IsSoundTask (Play dir manner id) = (n : ℕ) × (log_no_in id ≡ Some n)
+IsSoundTask (Follow dir manner id) = (n : ℕ) × (log_no_in id ≡ Some n)
 IsSoundTask (Search dir words) = (searched : Option Expression) × IsSearch words searched
 
--- a log with a number is to be played, or logs are searched for
+-- a log with a number is to be played or followed, or logs are searched for
 abbrev pub AsksSoundly : List (List ℕ) → Type 0
 AsksSoundly words = (asked : Asked) × Asks words asked × IsSoundTask asked
 
@@ -112,8 +140,10 @@ HasWords words (BadExpression at) = AsksBadly words at
 HasWords words (Damaged part) = AsksSoundly words
 HasWords words ReadFault = AsksSoundly words
 HasWords words WriteFault = AsksSoundly words
-HasWords words Absent = AsksToPlay words
+HasWords words Resumed = AsksToFollowSoundly words
+HasWords words Absent = AsksToPlay words ⊎ AsksToFollow words
 HasWords words NoMem = Unit {0}
+HasWords words Quiet = AsksToFollowSoundly words
 
 -- ---- What stays
 

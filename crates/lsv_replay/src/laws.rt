@@ -1,7 +1,8 @@
 //! Laws of the definitions that the contract of the top call cites. They do nothing when they run.
-ghost use Rattle.std.specs.Prelude.{◌≡◌, ◌⊎◌, ℕ, List, [], Some};
+ghost use Rattle.std.specs.Prelude.{◌≡◌, ◌≢◌, ◌⊎◌, ◌++◌, ℕ, List, [], Some, None};
 ghost use Rattle.lsv_disk.specs.declared.file.Part.{Part};
 ghost use Rattle.lsv_disk.specs.View.{Image};
+ghost use Rattle.lsv_follow.specs.Ending.{most_quiet, pauses};
 ghost use Rattle.lsv_iolog.specs.Recovered.{Replays};
 ghost use Rattle.lsv_play.specs.declared.options.Options.{Options};
 ghost use Rattle.lsv_play.specs.declared.screen.Item.{Item};
@@ -10,7 +11,7 @@ ghost use Rattle.lsv_play.specs.Playing.{play};
 ghost use Rattle.lsv_record.specs.Points.{Stored};
 ghost use Rattle.lsv_replay_args.specs.Asked.{manner_in};
 ghost use Rattle.lsv_replay_args.specs.Request.{Manner};
-ghost use Rattle.lsv_replay.specs.Replay.{Answers, AsksForLog};
+ghost use Rattle.lsv_replay.specs.Replay.{Answers, AsksForLog, AsksToFollowLog};
 ghost use Rattle.lsv_replay.specs.declared.status.ReplayStatus.{ReplayStatus};
 ghost use Rattle.lsv_replay.specs.declared.status.ReplayStatus.TheVariants as statuses;
 
@@ -24,4 +25,20 @@ pub fn a_stored_log_is_shown()
     ensures there { (words : List (List ℕ)) (n : ℕ) (manner : Manner) (image : Image) (put : List Item) (log : Stored) → AsksForLog words n manner → Replays image n (Some log) → Answers words image statuses.Absent put → ⊥ }
     ensures undamaged { (words : List (List ℕ)) (n : ℕ) (manner : Manner) (image : Image) (put : List Item) (log : Stored) (part : Part) → AsksForLog words n manner → Replays image n (Some log)
         → Answers words image (statuses.Damaged part) put → ⊥ }
+{}
+
+/// If the words ask to follow a log that the disk holds, what is put is nothing or a first part of the playback schedule
+/// of its records and 36,000 pauses of 100 ms. At `Shown` it is the schedule, and the log is complete; at `Quiet` it is
+/// the schedule and the pauses, and the log isn't complete. Such a log is never said to be absent, damaged or resumed.
+pub fn a_followed_log_is_shown()
+    ensures part { (words : List (List ℕ)) (n : ℕ) (manner : Manner) (image : Image) (status : ReplayStatus) (put : List Item) (log : Stored) → AsksToFollowLog words n manner → Replays image n (Some log) → Answers words image status put
+        → (put ≡ []) ⊎ ((o : Options) × (manner_in o ≡ manner) × IsPart put (play o log.records ++ pauses most_quiet)) }
+    ensures whole { (words : List (List ℕ)) (n : ℕ) (manner : Manner) (image : Image) (put : List Item) (log : Stored) → AsksToFollowLog words n manner → Replays image n (Some log) → Answers words image statuses.Shown put
+        → (o : Options) × (manner_in o ≡ manner) × (put ≡ play o log.records) × (log.exit ≢ None) }
+    ensures quiet { (words : List (List ℕ)) (n : ℕ) (manner : Manner) (image : Image) (put : List Item) (log : Stored) → AsksToFollowLog words n manner → Replays image n (Some log) → Answers words image statuses.Quiet put
+        → (o : Options) × (manner_in o ≡ manner) × (put ≡ play o log.records ++ pauses most_quiet) × (log.exit ≡ None) }
+    ensures there { (words : List (List ℕ)) (n : ℕ) (manner : Manner) (image : Image) (put : List Item) (log : Stored) → AsksToFollowLog words n manner → Replays image n (Some log) → Answers words image statuses.Absent put → ⊥ }
+    ensures undamaged { (words : List (List ℕ)) (n : ℕ) (manner : Manner) (image : Image) (put : List Item) (log : Stored) (part : Part) → AsksToFollowLog words n manner → Replays image n (Some log)
+        → Answers words image (statuses.Damaged part) put → ⊥ }
+    ensures uncut { (words : List (List ℕ)) (n : ℕ) (manner : Manner) (image : Image) (put : List Item) → AsksToFollowLog words n manner → Answers words image statuses.Resumed put → ⊥ }
 {}

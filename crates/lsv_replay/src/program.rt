@@ -10,14 +10,15 @@ ghost use Rattle.lsv_disk.specs.View.{HasOwnCause};
 ghost use Rattle.lsv_listing.specs.Numbers.{IsListed};
 ghost use Rattle.lsv_play.specs.declared.screen.Item.{Item};
 ghost use Rattle.lsv_replay_args.specs.Asked.{IsTextual, asked_in, manner_in, task_in};
-ghost use Rattle.lsv_replay_args.specs.Request.{Asked, Play, Search, dir_asked};
-ghost use Rattle.lsv_replay.specs.Replay.{Answers, Asks, Does, HasWords, IsOnlyRead, IsUsage, ListsWords, PlaysNumber};
+ghost use Rattle.lsv_replay_args.specs.Request.{Asked, Follow, Play, Search, dir_asked};
+ghost use Rattle.lsv_replay.specs.Replay.{Answers, Asks, Does, FollowsNumber, HasWords, IsOnlyRead, IsUsage, ListsWords, PlaysNumber};
 ghost use Rattle.lsv_replay.specs.Tasks.{IsOfTask};
 ghost use Rattle.lsv_replay.specs.declared.status.ReplayStatus.TheVariants as statuses;
 
 use crate::ReplayStatus;
 use lsv_base::{Bytes, List, LogNo};
 use lsv_disk::Disk;
+use lsv_follow::follow_log;
 use lsv_listing::list_logs;
 use lsv_play::{Options, Screen};
 use lsv_playback::play_log;
@@ -26,8 +27,8 @@ use lsv_search::{ExprFault, read_expr};
 use std::alloc::Global;
 use std::str;
 
-/// `sudoreplay`, behind its name: it plays a log, or with `-l` lists the logs that are searched for. Nothing is written to
-/// the store.
+/// `sudoreplay`, with the words after its name: it plays a log, with `-F` follows it while it is written, or with `-l`
+/// lists the logs that are searched for. Nothing is written to the store.
 pub fn sudoreplay<D: Disk, S: Screen>(
     alloc: Global,
     words: &List<Bytes>,
@@ -79,7 +80,7 @@ fn is_text(word: &[u8]) -> bool
     true
 }
 
-/// Plays the log, or lists the logs.
+/// Plays or follows the log, or lists the logs.
 fn do_task<D: Disk, S: Screen>(
     alloc: Global,
     task: &Task,
@@ -95,6 +96,7 @@ fn do_task<D: Disk, S: Screen>(
 {
     match task {
         Task::Play(options, id) => play(alloc, options, id, disk, screen),
+        Task::Follow(options, id) => follow(alloc, options, id, disk, screen),
         Task::List(words) => list(alloc, words, disk, screen),
     }
 }
@@ -117,6 +119,28 @@ fn play<D: Disk, S: Screen>(
         return ReplayStatus::Absent;
     };
     ReplayStatus::of_playing(play_log(alloc, disk, number, options, screen))
+}
+
+/// Follows the log with this identifier.
+fn follow<D: Disk, S: Screen>(
+    alloc: Global,
+    options: &Options,
+    id: &Bytes,
+    disk: &mut D,
+    screen: &mut S,
+) -> ReplayStatus
+    ensures status { IsOfTask (Follow [] (manner_in options.now) id.now) result }
+    ensures follows { D.tells → (put : List Item) × (S.tells → S.shown screen.new ≡ S.shown screen.old ++ put) × FollowsNumber (manner_in options.now) (log_no_in id.now) (D.view disk.old).reads result put }
+    ensures reads { D.tells → OnlyReads (D.view disk.old) (D.view disk.new) }
+    ensures disk { HasOwnCause IsListed (result ≡ statuses.ReadFault) (D.view disk.old) (D.view disk.new) }
+    ensures screen { HasCause (result ≡ statuses.WriteFault) (S.faults screen.old) (S.faults screen.new) }
+{
+    match LogNo::read(id.as_slice()) {
+        Some(number) => {
+            ReplayStatus::of_following(follow_log(alloc, disk, number, options, screen))
+        }
+        None => ReplayStatus::Absent,
+    }
 }
 
 /// Lists the logs that these words search for.

@@ -1,9 +1,10 @@
 ghost use Rattle.std.specs.Prelude.{◌≡◌, IfOk};
-ghost use Rattle.lsv_replay.specs.Status.{number_of, of_listing, of_playing, text_of};
+ghost use Rattle.lsv_replay.specs.Status.{number_of, of_following, of_listing, of_playing, text_of};
 
 use itoa::Buffer;
 use lsv_base::Bytes;
 use lsv_disk::Part;
+use lsv_follow::FollowEnd;
 use lsv_listing::ListFault;
 use lsv_playback::PlayFault;
 use std::alloc::Global;
@@ -15,7 +16,7 @@ pub enum ReplayStatus {
     Shown,
     /// The words are no command.
     Usage,
-    /// The words behind `-l` are no search: the place of the first that can't be taken, counted from 0, or their number
+    /// The words after `-l` are no search: the place of the first that can't be taken, counted from 0, or their number
     /// where one is missing.
     BadExpression(u32),
     /// This part of a log is at fault, or a number file.
@@ -24,10 +25,14 @@ pub enum ReplayStatus {
     ReadFault,
     /// A write to the screen failed.
     WriteFault,
+    /// The log was cut by a restart while it was followed.
+    Resumed,
     /// There is no such log.
     Absent,
     /// Out of memory.
     NoMem,
+    /// The log that is followed had no further record for an hour.
+    Quiet,
 }
 
 impl ReplayStatus {
@@ -42,8 +47,10 @@ impl ReplayStatus {
             ReplayStatus::Damaged(_) => 4,
             ReplayStatus::ReadFault => 5,
             ReplayStatus::WriteFault => 6,
+            ReplayStatus::Resumed => 7,
             ReplayStatus::Absent => 8,
             ReplayStatus::NoMem => 9,
+            ReplayStatus::Quiet => 10,
         }
     }
 
@@ -58,8 +65,10 @@ impl ReplayStatus {
             ReplayStatus::Damaged(_) => Bytes::of(alloc, b"log damaged"),
             ReplayStatus::ReadFault => Bytes::of(alloc, b"read fault"),
             ReplayStatus::WriteFault => Bytes::of(alloc, b"write fault"),
+            ReplayStatus::Resumed => Bytes::of(alloc, b"log resumed"),
             ReplayStatus::Absent => Bytes::of(alloc, b"no such log"),
             ReplayStatus::NoMem => Bytes::of(alloc, b"out of memory"),
+            ReplayStatus::Quiet => Bytes::of(alloc, b"log quiet"),
         }
     }
 
@@ -74,6 +83,18 @@ impl ReplayStatus {
             Err(PlayFault::Disk) => ReplayStatus::ReadFault,
             Err(PlayFault::Screen) => ReplayStatus::WriteFault,
             Err(PlayFault::NoMem) => ReplayStatus::NoMem,
+        }
+    }
+
+    /// How a run ends in which a log was followed.
+    pub(crate) fn of_following(answer: Result<(), FollowEnd>) -> Self
+        ensures { result ≡ of_following answer }
+    {
+        match answer {
+            Ok(()) => ReplayStatus::Shown,
+            Err(FollowEnd::Resumed { .. }) => ReplayStatus::Resumed,
+            Err(FollowEnd::Quiet) => ReplayStatus::Quiet,
+            Err(FollowEnd::Fault(fault)) => ReplayStatus::of_playing(Err(fault)),
         }
     }
 

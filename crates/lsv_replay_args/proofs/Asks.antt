@@ -7,28 +7,39 @@ use Rattle.clap.specs.Walk.{Row}
 use Rattle.lsv_args.specs.declared.command.ArgFault.{ArgFault}
 use Rattle.lsv_replay_args.specs.Asked.{task_in}
 use Rattle.lsv_replay_args.specs.Program.{program}
-use Rattle.lsv_replay_args.specs.Request.{IsRefused, Manner, Play, Search, asked, asked_by, dir_of, is_set_text, manner_of, play_of, task_of, words_of}
+use Rattle.lsv_replay_args.specs.Request.{Asked, Follow, IsRefused, Manner, Play, Search, asked, asked_by, dir_of, is_set_text, manner_of, play_of, search_of, task_of, words_of}
 use Rattle.lsv_replay_args.specs.declared.request.Task.{Task}
 
 -- ---- the task
 
-pub search_task : (rows : List Row) (manner : Manner) (ws : List (List ℕ)) → is_set_text rows (codes "list") ≡ true → ws ≡ words_of rows → task_of rows manner ≡ Some (Search (dir_of rows) ws)
-search_task rows manner ws is same =
-    ap (λ (t : Bool). cond t (Some (Search (dir_of rows) (words_of rows))) (play_of (dir_of rows) manner (words_of rows))) is ∙ ap (λ (w : List (List ℕ)). Some (Search (dir_of rows) w)) (sym same)
+-- what is asked for, by whether it is listed and followed
+abbrev task_by : List Row → Manner → Bool → Bool → Option Asked
+task_by rows manner lists follows = cond lists (search_of follows (dir_of rows) (words_of rows)) (play_of follows (dir_of rows) manner (words_of rows))
 
-played_by : (rows : List Row) (manner : Manner) → is_set_text rows (codes "list") ≡ false → task_of rows manner ≡ play_of (dir_of rows) manner (words_of rows)
-played_by rows manner is = ap (λ (t : Bool). cond t (Some (Search (dir_of rows) (words_of rows))) (play_of (dir_of rows) manner (words_of rows))) is
+task_is : (rows : List Row) (manner : Manner) (lists follows : Bool) → is_set_text rows (codes "list") ≡ lists → is_set_text rows (codes "follow") ≡ follows → task_of rows manner ≡ task_by rows manner lists follows
+task_is rows manner lists follows list follow =
+    ap (λ (t : Bool). task_by rows manner t (is_set_text rows (codes "follow"))) list ∙ ap (λ (t : Bool). task_by rows manner lists t) follow
 
-pub play_task : (rows : List Row) (manner : Manner) (id : List ℕ) → is_set_text rows (codes "list") ≡ false → words_of rows ≡ id ∷ [] → task_of rows manner ≡ Some (Play (dir_of rows) manner id)
-play_task rows manner id is one = played_by rows manner is ∙ ap (play_of (dir_of rows) manner) one
+pub search_task : (rows : List Row) (manner : Manner) (ws : List (List ℕ)) → is_set_text rows (codes "list") ≡ true → is_set_text rows (codes "follow") ≡ false → ws ≡ words_of rows → task_of rows manner ≡ Some (Search (dir_of rows) ws)
+search_task rows manner ws list follow same = task_is rows manner true false list follow ∙ ap (λ (w : List (List ℕ)). Some (Search (dir_of rows) w)) (sym same)
 
-none_by : (dir : List ℕ) (manner : Manner) (ws : List (List ℕ)) → ((id : List ℕ) → ws ≡ id ∷ [] → ⊥) → play_of dir manner ws ≡ None
-none_by dir manner [] no_one = refl
-none_by dir manner (id ∷ []) no_one = absurd (no_one id refl)
-none_by dir manner (id ∷ other ∷ more) no_one = refl
+pub no_search : (rows : List Row) (manner : Manner) → is_set_text rows (codes "list") ≡ true → is_set_text rows (codes "follow") ≡ true → task_of rows manner ≡ None
+no_search rows manner list follow = task_is rows manner true true list follow
+
+pub play_task : (rows : List Row) (manner : Manner) (id : List ℕ) → is_set_text rows (codes "list") ≡ false → is_set_text rows (codes "follow") ≡ false → words_of rows ≡ id ∷ [] → task_of rows manner ≡ Some (Play (dir_of rows) manner id)
+play_task rows manner id list follow one = task_is rows manner false false list follow ∙ ap (play_of false (dir_of rows) manner) one
+
+pub follow_task : (rows : List Row) (manner : Manner) (id : List ℕ) → is_set_text rows (codes "list") ≡ false → is_set_text rows (codes "follow") ≡ true → words_of rows ≡ id ∷ [] → task_of rows manner ≡ Some (Follow (dir_of rows) manner id)
+follow_task rows manner id list follow one = task_is rows manner false true list follow ∙ ap (play_of true (dir_of rows) manner) one
+
+none_by : (follows : Bool) (dir : List ℕ) (manner : Manner) (ws : List (List ℕ)) → ((id : List ℕ) → ws ≡ id ∷ [] → ⊥) → play_of follows dir manner ws ≡ None
+none_by follows dir manner [] no_one = refl
+none_by follows dir manner (id ∷ []) no_one = absurd (no_one id refl)
+none_by follows dir manner (id ∷ other ∷ more) no_one = refl
 
 pub no_task : (rows : List Row) (manner : Manner) → is_set_text rows (codes "list") ≡ false → ((id : List ℕ) → words_of rows ≡ id ∷ [] → ⊥) → task_of rows manner ≡ None
-no_task rows manner is no_one = played_by rows manner is ∙ none_by (dir_of rows) manner (words_of rows) no_one
+no_task rows manner list no_one =
+    task_is rows manner false (is_set_text rows (codes "follow")) list refl ∙ none_by (is_set_text rows (codes "follow")) (dir_of rows) manner (words_of rows) no_one
 
 -- ---- the request
 

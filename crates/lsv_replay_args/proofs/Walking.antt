@@ -9,7 +9,7 @@ use Rattle.clap.specs.Kinds.{or_else, range_kinds}
 use Rattle.clap.specs.Lexer.{long_of, long_of_rest, short_of, short_of_rest, strip_byte, usize_max}
 use Rattle.clap.specs.Simple.{Shape, built, filled, with_index}
 use Rattle.clap.specs.Walk.{Held, Row, Rule, Step, Text, Waiting, Walk, after_step, bundle_met, has_row, idle, long_or_other, option, plain_word, positional, reading_by, settled, settled_rows, short_or_plain, trailing, used, value as word_step, pushed, walked}
-use Rattle.lsv_replay_args.specs.Forms.{Dir, Further, Given, Listing, Longest, Speed, Streams, Suspended, Unused, is_value}
+use Rattle.lsv_replay_args.specs.Forms.{Dir, Following, Further, Given, Listing, Longest, Speed, Streams, Suspended, Unused, is_value}
 use Rattle.lsv_replay_args.specs.Program.{flag, program, value, words}
 use Rattle.lsv_replay_args.proofs.Rows.{appended, given_row, put_fresh}
 
@@ -120,6 +120,7 @@ rule_of (Speed v) = filled (value (codes "speed") 115)
 rule_of Suspended = filled (flag (codes "suspended") 83)
 rule_of Unused = filled (flag (codes "unused") 110)
 rule_of Listing = filled (flag (codes "list") 108)
+rule_of Following = filled (flag (codes "follow") 70)
 rule_of (Further v) = with_index 1 (filled words)
 
 -- the name of an option, as a word
@@ -131,6 +132,7 @@ name_of (Speed v) = codes "-s"
 name_of Suspended = codes "-S"
 name_of Unused = codes "-n"
 name_of Listing = codes "-l"
+name_of Following = codes "-F"
 name_of (Further v) = []
 
 dir_named : (rows : List Row) (pending : Option (Text × List Text)) (w : Bool) → walked ruled.rules [] (at rows pending w) (codes "-d") ≡ behind (settled_rows ruled.rules pending rows) (codes "dir")
@@ -291,6 +293,25 @@ sets_list = record {
   named_fault = list_fault;
   uses = λ rows fresh. rw fresh refl;
   adds = λ rows fresh. put_fresh (codes "list") (reading_by (rule_of Listing)) (codes "true" ∷ []) rows fresh;
+}
+
+follow_named : (rows : List Row) (pending : Option (Text × List Text)) (w : Bool) → walked ruled.rules [] (at rows pending w) (codes "-F") ≡ at (used (rule_of Following) [] (settled_rows ruled.rules pending rows)) None false
+unfolding walked bundle_met chars encode
+follow_named rows pending true = refl
+follow_named rows pending false = refl
+
+follow_fault : (rows : List Row) (pending : Option (Text × List Text)) (w : Bool) → turn_fault ruled [] (at rows pending w) (codes "-F")
+    ≡ or_else (or_else (or_else (settle_fault ruled.rules false (held rows pending)) (use_fault false (rule_of Following) [] (settled_rows ruled.rules pending rows))) []) []
+unfolding bundle_met flags_fault chars encode
+follow_fault rows pending true = refl
+follow_fault rows pending false = refl
+
+pub sets_follow : Sets (rule_of Following) (codes "-F")
+sets_follow = record {
+  named = follow_named;
+  named_fault = follow_fault;
+  uses = λ rows fresh. rw fresh refl;
+  adds = λ rows fresh. put_fresh (codes "follow") (reading_by (rule_of Following)) (codes "true" ∷ []) rows fresh;
 }
 
 -- ---- further words

@@ -2,7 +2,7 @@
 use Rattle.std.specs.Prelude.{◌≡◌, ◌==◌, ◌<◌, ◌^◌, ℕ, List, [], ◌∷◌, Option, Some, None, Bool, true, false, not, ◌&&◌, length, is_some, codes, unwrap_or, option_map, if◌then◌else◌}
 use Rattle.std.specs.List.{flat_map, list_all}
 use Rattle.std.specs.Option.{option_and_then}
-use Rattle.lsv_replay_args.specs.Request.{Asked, Manner, Search, longest_asked, play_of, speed_asked, streams_asked}
+use Rattle.lsv_replay_args.specs.Request.{Asked, Manner, longest_asked, play_of, search_of, speed_asked, streams_asked}
 
 -- an option, or a further word
 pub data Given : Type 0 where
@@ -20,6 +20,8 @@ pub data Given : Type 0 where
   Unused : Given
   -- `-l`
   Listing : Given
+  -- `-F`
+  Following : Given
   -- the identifier of a log, or a word of a search
   Further : List ℕ → Given
 
@@ -32,6 +34,7 @@ words_of (Speed v) = codes "-s" ∷ v ∷ []
 words_of Suspended = codes "-S" ∷ []
 words_of Unused = codes "-n" ∷ []
 words_of Listing = codes "-l" ∷ []
+words_of Following = codes "-F" ∷ []
 words_of (Further v) = v ∷ []
 
 -- the words of all, in their order
@@ -89,6 +92,11 @@ has_listing [] = false
 has_listing (Listing ∷ more) = true
 has_listing (_ ∷ more) = has_listing more
 
+abbrev pub has_following : List Given → Bool
+has_following [] = false
+has_following (Following ∷ more) = true
+has_following (_ ∷ more) = has_following more
+
 -- the further words, in their order
 abbrev pub further_in : List Given → List (List ℕ)
 further_in [] = []
@@ -104,6 +112,7 @@ is_other (Speed v) more = not (is_some (speed_in more))
 is_other Suspended more = not (has_suspended more)
 is_other Unused more = not (has_unused more)
 is_other Listing more = not (has_listing more)
+is_other Following more = not (has_following more)
 is_other (Further v) more = true
 
 -- each option stands at most once
@@ -129,7 +138,7 @@ manner_told given =
 abbrev pub dir_told : List Given → List ℕ
 dir_told given = unwrap_or (dir_in given) (codes "/var/log/sudo-io")
 
--- what they ask for: with `-l` the logs that the further words search for, and else the log of the one further word; nothing where a value is out of its form, or a log is to be played and there isn't one further word
+-- what they ask for: with `-l` the logs that the further words search for, else the log of the one further word, which is followed with `-F`; nothing if a value is out of its form, or `-l` stands with `-F`, or a log is to be shown and there isn't one further word
 abbrev pub told : List Given → Option Asked
 told given =
-    option_and_then (λ manner. if has_listing given then Some (Search (dir_told given) (further_in given)) else play_of (dir_told given) manner (further_in given)) (manner_told given)
+    option_and_then (λ manner. if has_listing given then search_of (has_following given) (dir_told given) (further_in given) else play_of (has_following given) (dir_told given) manner (further_in given)) (manner_told given)

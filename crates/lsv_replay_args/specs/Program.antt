@@ -27,6 +27,6 @@ bare = let a = new_app (codes "sudoreplay") in record a {
 abbrev pub with_values : App
 with_values = with_rule (with_rule (with_rule (with_rule bare (value (codes "dir") 100)) (value (codes "streams") 102)) (value (codes "longest") 109)) (value (codes "speed") 115)
 
--- `-S`, `-n`, `-l`, and ID or WORDS
+-- `-S`, `-n`, `-l`, `-F`, and ID or WORDS
 abbrev pub program : App
-program = with_rule (with_rule (with_rule (with_rule with_values (flag (codes "suspended") 83)) (flag (codes "unused") 110)) (flag (codes "list") 108)) words
+program = with_rule (with_rule (with_rule (with_rule (with_rule with_values (flag (codes "suspended") 83)) (flag (codes "unused") 110)) (flag (codes "list") 108)) (flag (codes "follow") 70)) words

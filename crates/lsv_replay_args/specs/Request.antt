@@ -17,9 +17,10 @@ pub record Manner : Type 0 where
   pub speed : ℕ
   pub suspended : Bool
 
--- what is asked for: a folder, and there the log with this identifier, or the logs that these words search for
+-- what is asked for: a folder, and there the log with this identifier, played or followed, or the logs that these words search for
 pub data Asked : Type 0 where
   Play : List ℕ → Manner → List ℕ → Asked
+  Follow : List ℕ → Manner → List ℕ → Asked
   Search : List ℕ → List (List ℕ) → Asked
 
 -- an option without a value is among the words
@@ -66,15 +67,19 @@ dir_of rows = unwrap_or (first_of (codes "dir") rows) (codes "/var/log/sudo-io")
 abbrev pub words_of : List Row → List (List ℕ)
 words_of rows = unwrap_or (all_of (codes "words") rows) []
 
--- a log is played by one identifier
-abbrev pub play_of : List ℕ → Manner → List (List ℕ) → Option Asked
-play_of dir manner [] = None
-play_of dir manner (id ∷ []) = Some (Play dir manner id)
-play_of dir manner (id ∷ other ∷ more) = None
+-- a log is shown by one identifier: it is followed with `-F`, else it is played
+abbrev pub play_of : Bool → List ℕ → Manner → List (List ℕ) → Option Asked
+play_of follows dir manner [] = None
+play_of follows dir manner (id ∷ []) = Some (if follows then Follow dir manner id else Play dir manner id)
+play_of follows dir manner (id ∷ other ∷ more) = None
 
--- what is asked for, where a log is to be played in this manner
+-- a listing doesn't go with `-F`
+abbrev pub search_of : Bool → List ℕ → List (List ℕ) → Option Asked
+search_of follows dir words = if follows then None else Some (Search dir words)
+
+-- what is asked for, if a log is to be shown in this manner
 abbrev pub task_of : List Row → Manner → Option Asked
-task_of rows manner = if is_set rows "list" then Some (Search (dir_of rows) (words_of rows)) else play_of (dir_of rows) manner (words_of rows)
+task_of rows manner = if is_set rows "list" then search_of (is_set rows "follow") (dir_of rows) (words_of rows) else play_of (is_set rows "follow") (dir_of rows) manner (words_of rows)
 
 -- what is asked for, with these values of the options
 abbrev pub asked_by : List Row → Option Asked
@@ -84,11 +89,12 @@ asked_by rows = option_and_then (task_of rows) (manner_of rows)
 abbrev pub asked : List (List ℕ) → Option Asked
 asked words = asked_by (matches_of program words)
 
--- words are refused: by clap, or since a value is out of its form, or since there isn't one identifier
+-- words are refused: by clap, or because a value is out of its form, or `-l` stands with `-F`, or there isn't one identifier
 abbrev pub IsRefused : List (List ℕ) → Type 0
 IsRefused words = (fault_of program words ≢ []) ⊎ (asked words ≡ None)
 
 -- the folder that is asked for
 abbrev pub dir_asked : Asked → List ℕ
 dir_asked (Play dir manner id) = dir
+dir_asked (Follow dir manner id) = dir
 dir_asked (Search dir words) = dir

@@ -32,7 +32,7 @@ fn words<'a>(alloc: Global) -> Arg<'a>
         .action(ArgAction::Append)
 }
 
-/// `[-d DIR] [-f LIST] [-m N] [-s N] [-S] [-n] ID`, or `-l [-d DIR] WORDS`. There is no word for help or for the
+/// `[-F] [-d DIR] [-f LIST] [-m N] [-s N] [-S] [-n] ID`, or `-l [-d DIR] WORDS`. There is no word for help or for the
 /// version.
 pub fn program<'a>(alloc: Global) -> Result<Command<'a>, AllocError>
     ensures { IfOk result (λ c. app_of c ≡ program) }
@@ -48,5 +48,6 @@ pub fn program<'a>(alloc: Global) -> Result<Command<'a>, AllocError>
         .arg(flag(alloc, "suspended", 'S'))?
         .arg(flag(alloc, "unused", 'n'))?
         .arg(flag(alloc, "list", 'l'))?
+        .arg(flag(alloc, "follow", 'F'))?
         .arg(words(alloc))
 }

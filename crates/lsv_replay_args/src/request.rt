@@ -40,6 +40,8 @@ pub struct Request {
 pub enum Task {
     /// The log with this identifier is played.
     Play(Options, Bytes),
+    /// The log with this identifier is followed while it is written.
+    Follow(Options, Bytes),
     /// The logs are listed that these words search for.
     List(List<Bytes>),
 }
@@ -86,13 +88,21 @@ fn task_of(alloc: Global, found: &ArgMatches<'_>, options: Options) -> Result<Ta
     ensures usage { result ≡ Err ArgFault.Usage → task_of (rows_of (found_of found.now)) (manner_in options) ≡ None }
 {
     let words = words_of(alloc, found)?;
+    let follows = is_set(found, "follow");
     if is_set(found, "list") {
+        if follows {
+            return Err(ArgFault::Usage);
+        }
         return Ok(Task::List(words));
     }
     let [id] = words.as_slice() else {
         return Err(ArgFault::Usage);
     };
-    Ok(Task::Play(options, id.copy(alloc)?))
+    let id = id.copy(alloc)?;
+    if follows {
+        return Ok(Task::Follow(options, id));
+    }
+    Ok(Task::Play(options, id))
 }
 
 /// The value of an option, if it is given.

@@ -6,7 +6,7 @@ ghost use Rattle.std.specs.Str.{is_utf8};
 ghost use Rattle.clap.specs.Words.{fault_of, found_of, matches_of, rows_of};
 ghost use Rattle.lsv_args.specs.declared.command.ArgFault.TheVariants as faults;
 ghost use Rattle.lsv_replay_args.specs.Program.{program};
-ghost use Rattle.lsv_replay_args.specs.Unfit.{unfit_in, unfit_longest, unfit_speed, unfit_task, unfit_words};
+ghost use Rattle.lsv_replay_args.specs.Unfit.{unfit_in, unfit_listing, unfit_longest, unfit_speed, unfit_task, unfit_words};
 
 use crate::request::{
     is_set, longest_asked, matched, speed_asked, streams_asked, value_of, words_of,
@@ -26,14 +26,16 @@ pub enum Unfit {
     Longest(Bytes),
     /// The value of `-s`.
     Speed(Bytes),
+    /// `-F` stands with `-l`.
+    FollowedListing,
     /// There is neither `-l` nor an identifier.
     NoIdentifier,
     /// There is more than one identifier: the second.
     Identifiers(Bytes),
 }
 
-/// The first of these that is out of its form: the value of `-f`, of `-m`, of `-s`, and without `-l` the identifier. None
-/// if the words are a command. `Usage` exactly if clap itself refuses the words.
+/// The first of these that is out of its form: the value of `-f`, of `-m`, of `-s`, `-l` with `-F`, and without `-l` the
+/// identifier. None if the words are a command. `Usage` exactly if clap itself refuses the words.
 pub fn find_unfit(alloc: Global, words: &List<Bytes>) -> Result<Option<Unfit>, ArgFault>
     requires { IsTrue (list_all is_utf8 words.now) }
     ensures unfit { IfOk result (λ u. u ≡ unfit_in (matches_of program words.now)) }
@@ -83,9 +85,19 @@ fn unfit_task(alloc: Global, found: &ArgMatches<'_>) -> Result<Option<Unfit>, No
     ensures { IfOk result (λ u. u ≡ unfit_task (rows_of (found_of found.now))) }
 {
     if is_set(found, "list") {
-        return Ok(None);
+        return Ok(unfit_listing(is_set(found, "follow")));
     }
     unfit_words(alloc, words_of(alloc, found)?.as_slice())
+}
+
+/// Whether a listing is to be followed.
+fn unfit_listing(follows: bool) -> Option<Unfit>
+    ensures { result ≡ unfit_listing follows }
+{
+    if follows {
+        return Some(Unfit::FollowedListing);
+    }
+    None
 }
 
 /// Of the words that belong to no option.

@@ -4,6 +4,7 @@
 
 mod faults;
 mod logs;
+mod looks;
 mod noting;
 mod records;
 mod script;
@@ -14,15 +15,17 @@ use crate::logs::{Opened, view};
 use crate::script::Script;
 use crate::store::Store;
 use anyhow::{Result, anyhow};
+use lsv_follow::Follow;
 use lsvt_doubles::Plan;
 use std::io::{BufRead, BufReader};
 use std::process::ExitCode;
 
-/// The store of the cases so far, what is open of it, and the script that is being read.
+/// The store of the cases so far, what is open of it, the log that is followed, and the script that is being read.
 #[derive(Drop)]
 struct Setting {
     store: Store,
     opened: Opened,
+    followed: Option<Follow>,
     script: Option<Script>,
 }
 
@@ -33,6 +36,7 @@ impl Setting {
         Ok(Setting {
             store: store::empty(alloc, Plan::Whole)?,
             opened: Opened::new(alloc),
+            followed: None,
             script: None,
         })
     }
@@ -57,7 +61,12 @@ impl Setting {
     fn answer(&mut self, rt: &HostRuntime, case: &str) -> Result<()> {
         let alloc = rt.alloc();
         let (word, rest) = case.split_once(' ').unwrap_or((case, ""));
-        let Setting { store, opened, .. } = self;
+        let Setting {
+            store,
+            opened,
+            followed,
+            ..
+        } = self;
         match word {
             "file" => store::put(alloc, store, rest),
             "entry" => opened.add_entry(alloc, rest),
@@ -71,6 +80,11 @@ impl Setting {
                 logs::show(rt, opened.call(alloc, store, word, rest)?)
             }
             "view" => view(rt, store, rest),
+            "follow" => {
+                *followed = looks::open(rt, store, rest)?;
+                Ok(())
+            }
+            "look" => looks::look(rt, store, followed.as_mut().ok_or(anyhow!("a log"))?),
             "numbers" => opened.open_numbers(store, rest),
             "draw" => opened.draw(rt, store),
             "show" => store::show(rt, store, rest),

@@ -60,19 +60,22 @@ pub fn show(rt: &HostRuntime, disk: &mut MemDisk, fail: u64, line: &str) -> Resu
     show_status(rt, status)
 }
 
-/// Prints how many items a run shows, the MD5 digest of the bytes that it puts, and how it ended.
+/// Prints how many items a run shows, the nanoseconds that it waits in all, the MD5 digest of the bytes that it puts, and
+/// how it ended.
 pub fn sum(rt: &HostRuntime, disk: &mut MemDisk, fail: u64, line: &str) -> Result<()> {
     let alloc = rt.alloc();
     let (screen, status) = run(alloc, disk, fail, line)?;
     let mut all = Bytes::new(alloc);
+    let mut waits = 0u64;
     for item in screen.items() {
-        if let Item::Put(bytes) = item {
-            all.add(bytes.as_slice())?;
+        match item {
+            Item::Wait(nanos) => waits = waits.saturating_add(*nanos),
+            Item::Put(bytes) => all.add(bytes.as_slice())?,
         }
     }
     let digest = Md5::digest(all.as_slice());
     println!(rt;
-        "items {} digest {}",
+        "items {} waits {waits} digest {}",
         screen.items().len(),
         hex::encode(alloc, digest.as_slice())?
     )?;

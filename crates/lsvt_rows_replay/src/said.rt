@@ -37,6 +37,7 @@ pub fn find(rt: &HostRuntime, line: &str) -> Result<()> {
         Ok(Some(Unfit::Streams(value))) => show(rt, "Streams", &value)?,
         Ok(Some(Unfit::Longest(value))) => show(rt, "Longest", &value)?,
         Ok(Some(Unfit::Speed(value))) => show(rt, "Speed", &value)?,
+        Ok(Some(Unfit::FollowedListing)) => println!(rt; "FollowedListing")?,
         Ok(Some(Unfit::NoIdentifier)) => println!(rt; "NoIdentifier")?,
         Ok(Some(Unfit::Identifiers(value))) => show(rt, "Identifiers", &value)?,
         Err(ArgFault::Usage) => println!(rt; "usage")?,

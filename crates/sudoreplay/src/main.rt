@@ -1,4 +1,4 @@
-//! Plays and lists the sessions that sudo's log server stored.
+//! Plays, follows and lists the sessions that sudo's log server stored.
 #![tactic(auto)]
 
 mod logs;

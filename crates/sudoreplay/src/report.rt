@@ -10,7 +10,7 @@ use std::str;
 
 /// The forms of the command line.
 const FORMS: &str =
-    "usage: sudoreplay [-nS] [-d DIR] [-f LIST] [-m N] [-s N] ID, or sudoreplay -l [-d DIR] [SEARCH]";
+    "usage: sudoreplay [-FnS] [-d DIR] [-f LIST] [-m N] [-s N] ID, or sudoreplay -l [-d DIR] [SEARCH]";
 
 /// What a search is made of.
 const SEARCH: &str =
@@ -19,6 +19,14 @@ const SEARCH: &str =
 /// What an identifier is, and where logs are looked for.
 const IDENTIFIER: &str =
     "an identifier is six of 0 to 9 and A to Z, as TSID= shows it; the folder of the logs is that of -d, by default /var/log/sudo-io";
+
+/// What may be done about a log that was cut while it was followed.
+const AGAIN: &str =
+    "sudoreplay: the session was resumed from an earlier point, and records after it were dropped; follow it again to see it from its start";
+
+/// What is known of a log that has been quiet.
+const STILL: &str =
+    "sudoreplay: for an hour nothing was stored, and the session hasn't ended: it is idle, or its client is gone; follow it again to go on";
 
 /// Says what was found of what the words ask for.
 pub fn report(rt: &HostRuntime, words: &List<Bytes>, status: ReplayStatus) {
@@ -38,8 +46,12 @@ pub fn report(rt: &HostRuntime, words: &List<Bytes>, status: ReplayStatus) {
         (Task::List(words), ReplayStatus::BadExpression(at)) => search::say(rt, words, at),
         (Task::List(_), ReplayStatus::Shown) => logs::say_unlisted(rt, dir, false),
         (Task::List(_), ReplayStatus::Damaged(_)) => logs::say_unlisted(rt, dir, true),
-        (Task::Play(_, id), ReplayStatus::Damaged(part)) => report_damage(rt, dir, id, part),
-        (Task::Play(_, id), ReplayStatus::Absent) => report_absence(rt, dir, id),
+        (Task::Play(_, id) | Task::Follow(_, id), ReplayStatus::Damaged(part)) => {
+            report_damage(rt, dir, id, part);
+        }
+        (Task::Play(_, id) | Task::Follow(_, id), ReplayStatus::Absent) => {
+            report_absence(rt, dir, id);
+        }
         _ => {}
     }
 }
@@ -70,6 +82,8 @@ pub fn advise(rt: &HostRuntime, status: ReplayStatus) {
         ReplayStatus::Usage => FORMS,
         ReplayStatus::BadExpression(_) => SEARCH,
         ReplayStatus::Absent => IDENTIFIER,
+        ReplayStatus::Resumed => AGAIN,
+        ReplayStatus::Quiet => STILL,
         _ => return,
     };
     let _ = eprintln!(rt; "{text}");

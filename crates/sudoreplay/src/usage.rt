@@ -19,7 +19,7 @@ enum Trouble<'w> {
 /// The options with a value, and the others.
 const WITH_VALUE: &[u8] = b"dfms";
 
-const ALONE: &[u8] = b"Snl";
+const ALONE: &[u8] = b"SnlF";
 
 /// Says which word is at fault.
 pub fn say(rt: &HostRuntime, words: &List<Bytes>) {
@@ -48,6 +48,12 @@ fn say_unfit(rt: &HostRuntime, unfit: &Unfit) {
             "the longest wait is a number of seconds, as 2 or 0.5",
         ),
         Unfit::Speed(value) => ("-s", value, "the speed is a number above 0, as 2 or 0.5"),
+        Unfit::FollowedListing => {
+            let _ = eprintln!(rt;
+                "sudoreplay: -F doesn't go with -l: a log is followed, or logs are listed"
+            );
+            return;
+        }
         Unfit::NoIdentifier => {
             let _ = eprintln!(rt; "sudoreplay: an identifier is missing, or -l");
             return;

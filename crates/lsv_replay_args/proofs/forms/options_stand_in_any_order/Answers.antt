@@ -1,4 +1,4 @@
-use Rattle.lsv_replay_args.proofs.FormLemmas.{form_asked, form_lists, form_only, form_plays, form_refused, form_taken}
+use Rattle.lsv_replay_args.proofs.FormLemmas.{form_asked, form_follows, form_lists, form_only, form_plays, form_refused, form_taken}
 use Rattle.lsv_replay_args.proofs.forms.options_stand_in_any_order.Goals as goal
 
 pub returns-clause-taken : goal.returns-clause-taken
@@ -9,6 +9,9 @@ returns-clause-asked c = form_asked
 
 pub returns-clause-plays : goal.returns-clause-plays
 returns-clause-plays c = form_plays
+
+pub returns-clause-follows : goal.returns-clause-follows
+returns-clause-follows c = form_follows
 
 pub returns-clause-lists : goal.returns-clause-lists
 returns-clause-lists c = form_lists

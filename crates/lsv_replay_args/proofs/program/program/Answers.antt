@@ -16,4 +16,5 @@ returns c =
     let five = with_arg c.in_ok-arg-4.field-0 c.in_ok-arg-5.field-0 c.flag.result _ (flag (codes "suspended") 83) four c.flag.ensures.rule c.flag.ensures.local c.in_ok-arg-5.ensures in
     let six = with_arg c.in_ok-arg-5.field-0 c.in_ok-arg-6.field-0 c.flag-2.result _ (flag (codes "unused") 110) five c.flag-2.ensures.rule c.flag-2.ensures.local c.in_ok-arg-6.ensures in
     let seven = with_arg c.in_ok-arg-6.field-0 c.in_ok-arg-7.field-0 c.flag-3.result _ (flag (codes "list") 108) six c.flag-3.ensures.rule c.flag-3.ensures.local c.in_ok-arg-7.ensures in
-    IfOk-weaker c.arg-8.result _ _ (λ r h. (with_arg c.in_ok-arg-7.field-0 r c.words.result _ words seven c.words.ensures.rule c.words.ensures.local h).app) c.arg-8.ensures
+    let eight = with_arg c.in_ok-arg-7.field-0 c.in_ok-arg-8.field-0 c.flag-4.result _ (flag (codes "follow") 70) seven c.flag-4.ensures.rule c.flag-4.ensures.local c.in_ok-arg-8.ensures in
+    IfOk-weaker c.arg-9.result _ _ (λ r h. (with_arg c.in_ok-arg-8.field-0 r c.words.result _ words eight c.words.ensures.rule c.words.ensures.local h).app) c.arg-9.ensures

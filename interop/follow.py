@@ -1,0 +1,281 @@
+#!/usr/bin/env python3
+"""Follows sessions by `sudoreplay -F` while a server stores them, and measures how soon each record is shown.
+
+usage: follow.py --server PROGRAM --replay PROGRAM [--tries N]
+
+A client of ours sends records one by one, and waits for the commit point of each. The parts:
+
+- A session is followed from its first record to its exit. What is shown is its bytes, each once.
+- The server is killed in the midst and started again, and the client resumes at its last commit point: the follower
+  goes on.
+- The client resumes at an earlier point, so that a record is dropped: the follower ends with 7, `log resumed`.
+- sudo's own `sudoreplay -F` beside sudo's own server, if Debian's package sudo is there: the same bytes.
+
+It prints the least, the middle and the greatest time from the start of a follower to its first bytes, and from the
+commit point of a record to its bytes, in milliseconds. It ends with 1 if something differs, or a middle is above 200 ms
+or 150 ms.
+"""
+from __future__ import annotations
+
+import argparse
+import os
+import statistics
+import subprocess
+import sys
+import threading
+import time
+from collections.abc import Sequence
+
+import client
+import servers
+
+SECOND = 10**9
+INFO = {
+    "columns": 80, "command": "/bin/sh", "lines": 24, "runargv": ["sh"], "rungid": 0, "rungroup": "root", "runuid": 0,
+    "runuser": "root", "submitcwd": "/", "submithost": "here", "submituser": "ann", "ttyname": "/dev/pts/1",
+}
+# the longest middle times that are let through, in milliseconds
+FIRST, EACH = 200.0, 150.0
+FILE = "iolog_file = %{{seq}}"
+SUDO = servers.SUDO.replace(FILE, f"{FILE}\niolog_flush = true\niolog_compress = false")
+
+
+class Differs(Exception):
+    """Something is shown otherwise than it should be."""
+
+
+class Follower:
+    """A follower, and what it has shown by now."""
+
+    def __init__(self, program: str, *words: str) -> None:
+        """Starts it."""
+        self.shown, self.more = b"", threading.Condition()
+        self.started = time.monotonic()
+        self.process = subprocess.Popen([program, *words], stdin=subprocess.DEVNULL, stdout=subprocess.PIPE,
+            stderr=subprocess.PIPE)
+        self.thread = threading.Thread(target=self.read, daemon=True)
+        self.thread.start()
+
+    def read(self) -> None:
+        """Takes what it shows, until it ends."""
+        while piece := os.read(self.process.stdout.fileno(), 65536):
+            with self.more:
+                self.shown += piece
+                self.more.notify_all()
+
+    def wait_for(self, count: int, seconds: float = 20) -> float:
+        """Waits until it has shown so many bytes; gives the moment."""
+        with self.more:
+            if not self.more.wait_for(lambda: len(self.shown) >= count, seconds):
+                raise Differs(f"{len(self.shown)} bytes of {count} are shown after {seconds} s: {self.shown[-200:]!r}")
+        return time.monotonic()
+
+    def end(self, seconds: float = 20) -> tuple[int, bytes, str]:
+        """Its status, all that it showed, and what it said."""
+        try:
+            status = self.process.wait(seconds)
+        except subprocess.TimeoutExpired as fault:
+            self.process.kill()
+            raise Differs(f"the follower doesn't end: {self.shown[-200:]!r}") from fault
+        self.thread.join()
+        with self.process.stdout, self.process.stderr:
+            return status, self.shown, self.process.stderr.read().decode()
+
+
+class Session:
+    """A client's session: what it sent, and the points that were committed."""
+
+    def __init__(self, server: servers.Serve, waits: bool = True) -> None:
+        """Opens it. `waits` says whether each record is awaited."""
+        self.server, self.waits = server, waits
+        self.link = server.connect()
+        self.elapsed, self.points = 0, [0]
+        self.sent: list[bytes] = []
+        self.expect("hello")
+        self.link.send(client.hello(), client.accept(1700000000 * SECOND, INFO))
+        self.digits = self.expect("log_id")
+
+    def expect(self, name: str) -> object:
+        """The content of the next message, which has this name."""
+        got, content = self.link.read()
+        if got != name:
+            raise Differs(f"{got} {content!r} for {name}")
+        return content
+
+    def record(self, data: bytes) -> float:
+        """Sends a record and waits for its commit point; gives that moment."""
+        self.elapsed += 1_000_000
+        self.sent.append(data)
+        self.link.send(client.record((1_000_000, "ttyout", data)))
+        if self.waits:
+            self.points.append(self.expect("commit_point"))
+        return time.monotonic()
+
+    def resume(self, kept: int) -> None:
+        """Resumes after its first `kept` records by another connection."""
+        self.link = self.server.connect()
+        self.expect("hello")
+        self.link.send(client.hello(), client.restart(self.digits, self.points[kept]))
+        del self.sent[kept:], self.points[kept + 1:]
+        self.elapsed = self.points[kept]
+
+    def exit(self) -> None:
+        """Ends it."""
+        self.link.send(client.exited(self.elapsed))
+        if self.waits:
+            self.expect("commit_point")
+        self.link.close()
+
+
+def text_of(count: int) -> bytes:
+    """What a record shows."""
+    return f"line {count} \xe4\r\n".encode("latin-1")
+
+
+def same(what: str, one: object, other: object) -> None:
+    """Fails if two things differ."""
+    if one != other:
+        raise Differs(f"{what}: {one!r} for {other!r}")
+
+
+class Trial:
+    """The programs, and the times that were taken."""
+
+    def __init__(self, server: str, replay: str, tries: int) -> None:
+        """`tries` is how often each time is taken."""
+        self.program, self.replay, self.tries = server, replay, tries
+        self.times: dict[str, list[float]] = {}
+
+    def took(self, what: str, seconds: float) -> None:
+        """Keeps a time."""
+        self.times.setdefault(what, []).append(1000 * seconds)
+
+    def follower(self, place: servers.Place, digits: str) -> Follower:
+        """A follower that shows each record at once."""
+        return Follower(self.replay, "-F", "-m", "0", "-d", place.store, digits)
+
+    def part_whole(self) -> None:
+        """A session is followed to its exit, and followers that begin later show all of it."""
+        place = servers.Place()
+        server = servers.Serve(self.program, place).start()
+        session = Session(server)
+        session.record(text_of(0))
+        follower = self.follower(place, session.digits)
+        self.took("first bytes", follower.wait_for(1) - follower.started)
+        for count in range(1, 4 * self.tries):
+            committed = session.record(text_of(count))
+            self.took("each record", follower.wait_for(len(b"".join(session.sent))) - committed)
+            # so that records come at any moment between two looks
+            time.sleep(0.037 * (count % 5))
+        others = []
+        for _ in range(self.tries - 1):
+            others.append(self.follower(place, session.digits))
+            self.took("first bytes", others[-1].wait_for(1) - others[-1].started)
+        session.exit()
+        for one in [follower, *others]:
+            same("a session that is followed", one.end(), (0, b"".join(session.sent), ""))
+        server.stop()
+
+    def killed(self) -> tuple[servers.Place, servers.Serve, Session, Follower]:
+        """A session of three records that a follower has shown, whose server was killed and started again."""
+        place = servers.Place()
+        server = servers.Serve(self.program, place).start()
+        session = Session(server)
+        session.record(text_of(0))
+        follower = self.follower(place, session.digits)
+        session.record(text_of(1))
+        session.record(text_of(2))
+        follower.wait_for(len(b"".join(session.sent)))
+        server.kill()
+        time.sleep(0.25)
+        server.start()
+        return place, server, session, follower
+
+    def part_goes_on(self) -> None:
+        """The server is killed, and the client resumes at its last commit point."""
+        _, server, session, follower = self.killed()
+        session.resume(3)
+        for count in range(3, 6):
+            committed = session.record(text_of(count))
+            self.took("each record", follower.wait_for(len(b"".join(session.sent))) - committed)
+        session.exit()
+        same("a session that goes on", follower.end(), (0, b"".join(session.sent), ""))
+        server.stop()
+
+    def part_resumed(self) -> None:
+        """The client resumes before a record that was shown."""
+        place, server, session, follower = self.killed()
+        before = b"".join(session.sent)
+        session.resume(2)
+        session.record(b"another\r\n")
+        status, shown, said = follower.end()
+        same(f"a session that was cut: {said}", (status, shown, "log resumed" in said), (7, before, True))
+        again = self.follower(place, session.digits)
+        again.wait_for(len(b"".join(session.sent)))
+        session.exit()
+        same("a session that is followed again", again.end(), (0, b"".join(session.sent), ""))
+        server.stop()
+
+    def part_sudo(self) -> None:
+        """sudo's own programs show the same."""
+        server_program, replay = servers.tool("sudo_logsrvd"), servers.tool("sudoreplay")
+        if not server_program or not replay:
+            print("follow: sudo's own sudoreplay -F is skipped: Debian's package sudo isn't there")
+            return
+        place = servers.Place(SUDO)
+        server = servers.Sudo(server_program, place).start()
+        session = Session(server, waits=False)
+        session.record(text_of(0))
+        time.sleep(0.3)
+        # its log_id is a path of its own
+        log = os.path.join(place.store, os.path.basename(str(session.digits)))
+        if not os.path.isdir(log):
+            log = next(folder for folder, _, files in os.walk(place.store) if "timing" in files)
+        follower = Follower(replay, "-F", "-m", "0", "-n", log)
+        front = b"Replaying sudo session: sh"
+        for count in range(1, 4):
+            sent = session.record(text_of(count))
+            moment = follower.wait_for(len(front) + 2 + len(b"".join(session.sent)))
+            self.took("sudo's own, each record", moment - sent)
+        session.exit()
+        status, shown, said = follower.end()
+        shown = shown[shown.find(b"line"):].rstrip()
+        same(f"sudo's own sudoreplay -F: {said}", (status, shown), (0, b"".join(session.sent).rstrip()))
+        server.stop()
+
+    def show(self) -> bool:
+        """Prints the times. Whether they are short enough."""
+        good = True
+        for what, most in (("first bytes", FIRST), ("each record", EACH), ("sudo's own, each record", None)):
+            times = sorted(self.times.get(what, []))
+            if times:
+                middle = statistics.median(times)
+                spread = f"{times[0]:.0f} to {times[-1]:.0f} ms"
+                print(f"follow: {what}: {len(times)} times, {spread}, the middle {middle:.0f} ms")
+                good = good and (most is None or middle <= most)
+        return good
+
+
+def main(words: Sequence[str]) -> int:
+    """Tries all parts."""
+    parser = argparse.ArgumentParser()
+    parser.add_argument("--server", required=True)
+    parser.add_argument("--replay", required=True)
+    parser.add_argument("--tries", type=int, default=5)
+    given = parser.parse_args(words)
+    trial = Trial(os.path.realpath(given.server), os.path.realpath(given.replay), given.tries)
+    bad = 0
+    for part in (trial.part_whole, trial.part_goes_on, trial.part_resumed, trial.part_sudo):
+        try:
+            part()
+        except (Differs, servers.Failed, TimeoutError) as fault:
+            bad = 1
+            print(f"follow: {part.__name__[5:]}: {fault}")
+    if not trial.show():
+        bad = 1
+        print(f"follow: a middle is above {FIRST:.0f} or {EACH:.0f} ms")
+    return bad
+
+
+if __name__ == "__main__":
+    sys.exit(main(sys.argv[1:]))
