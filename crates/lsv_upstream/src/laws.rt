@@ -1,0 +1,81 @@
+//! A log that was acknowledged is held by the server. These functions do nothing when they run.
+
+ghost use Rattle.std.specs.Prelude.{◌≡◌, ℕ, List, [], ◌∷◌, ◌++◌, Option, Some, Contains};
+ghost use Rattle.lsv_base.specs.Time.{time_of};
+ghost use Rattle.lsv_disk.specs.View.{Image};
+ghost use Rattle.lsv_info.specs.declared.times.Exit.{Exit};
+ghost use Rattle.lsv_info.specs.declared.times.Head.{Head};
+ghost use Rattle.lsv_machine.specs.Durable.{Good, Reading};
+ghost use Rattle.lsv_machine.specs.History.{ledger, sent, shown};
+ghost use Rattle.lsv_machine.specs.Machine.{IsOfLane};
+ghost use Rattle.lsv_machine.specs.Turns.{AllBegin, Happened};
+ghost use Rattle.lsv_msg.specs.declared.messages.ClientHello.{ClientHello};
+ghost use Rattle.lsv_msg.specs.declared.messages.ServerMessage.{ServerMessage};
+ghost use Rattle.lsv_msg.specs.declared.messages.ServerMessage.TheVariants as server;
+ghost use Rattle.lsv_record.specs.Records.{elapsed};
+ghost use Rattle.lsv_record.specs.declared.records.Record.{Record};
+ghost use Rattle.lsv_session.specs.Transcript.{bodies_of};
+ghost use Rattle.lsv_session.specs.declared.connection.ConnId.{ConnId};
+ghost use Rattle.lsv_upstream.specs.Held.{GetsPoint, HoldsThrough, ImageHolds, NoRestart, PromisesAtLeast, TellsPoint, answers_at, up_to};
+ghost use Rattle.lsv_upstream.specs.Jobs.{BringsFirst, IsStorable, ReadsFirst, jobs_of};
+ghost use Rattle.lsv_upstream.specs.Passed.{HasSent.Opened, HasSent.Resumed, HoldsAfter, sent_in};
+ghost use Rattle.lsv_upstream.specs.Relayed.{IsAcknowledged, IsRelayed, Visit, acknowledged_at, happens_after};
+ghost use Rattle.lsv_upstream.specs.Runs.{RunsOn, ServerRun, history_at, history_of};
+ghost use Rattle.lsv_upstream.specs.Sent.{BeginsAlike, Sending, aim, sender_messages};
+
+/// A relayed log is held, if a commit point at the elapsed time of its records comes to a connection of the relay that
+/// writes it: what the upstream was sent of it is a prefix of the records, and they are promised through the first that
+/// ends there. This stays so until somebody asks to go on with the log.
+pub fn a_relayed_log_is_held()
+    ensures held { (lane lanes n : ℕ) (head : Head) (rs : List Record) (exit : Option Exit) (runs : List ServerRun) (visits : List Visit) →
+        IsStorable head rs exit → IsRelayed lane lanes n head rs exit runs visits → (a : IsAcknowledged n rs runs visits) → HoldsThrough rs (elapsed rs) (ledger (acknowledged_at a) n) }
+    ensures stays { (lane lanes n : ℕ) (head : Head) (rs : List Record) (exit : Option Exit) (runs : List ServerRun) (visits : List Visit) →
+        IsStorable head rs exit → IsRelayed lane lanes n head rs exit runs visits → (a : IsAcknowledged n rs runs visits) → (more rest : List Happened) → happens_after a ≡ more ++ rest → NoRestart n more →
+        HoldsThrough rs (elapsed rs) (ledger (acknowledged_at a ++ more) n) }
+{
+    lsv_base::digits_are_read_back();
+    lsv_base::nanoseconds_are_one_time();
+    lsv_record::a_cut_ends_at_the_first_record_of_its_point();
+    lsv_request::what_is_stored_is_requested_again();
+}
+
+/// A log that one connection sends is held, if the commit point that its sender awaits comes to it while it writes the
+/// log: whatever happened before, and whatever others send. If it goes on with a log, what was sent of that begins as
+/// what it skips.
+pub fn a_sent_log_is_held()
+    ensures held { (n : ℕ) (hello : ClientHello) (head : Head) (rs : List Record) (exit : Option Exit) (s : Sending) (before : List Happened) (r : ServerRun) (k : ConnId) →
+        IsStorable head rs exit → IsOfLane r.set.lane r.set.lanes n → RunsOn r.set.lane r.set.lanes n before r →
+        BringsFirst (sender_messages hello head rs exit s) (bodies_of k (jobs_of r.events)) → BeginsAlike n rs s before r k → (at : GetsPoint n before r k (aim s rs)) →
+        HoldsThrough rs (aim s rs) (ledger (up_to before r at) n) }
+{
+    lsv_base::nanoseconds_are_one_time();
+    lsv_record::a_cut_ends_at_the_first_record_of_its_point();
+    lsv_request::what_is_stored_is_requested_again();
+}
+
+/// What one connection sends of a log while it writes it is held at each of its commit points, through the first record
+/// that reaches the point: whatever the connection sends, whatever happened before, and whatever others send. After a
+/// restart this is so of points above the restart's.
+pub fn a_passed_on_log_is_held()
+    ensures opened { (n : ℕ) (before : List Happened) (r : ServerRun) (k : ConnId) (point : ℕ) (rs : List Record) → IsOfLane r.set.lane r.set.lanes n → RunsOn r.set.lane r.set.lanes n before r →
+        (at : GetsPoint n before r k point) → sent_in n k at.past ≡ Opened rs → (sent (up_to before r at) n ≡ rs) × HoldsThrough rs point (ledger (up_to before r at) n) }
+    ensures resumed { (n : ℕ) (before : List Happened) (r : ServerRun) (k : ConnId) (point start : ℕ) (rs : List Record) → IsOfLane r.set.lane r.set.lanes n → RunsOn r.set.lane r.set.lanes n before r →
+        (at : GetsPoint n before r k point) → sent_in n k at.past ≡ Resumed start rs → HoldsAfter start rs point (ledger (up_to before r at) n) }
+{
+    lsv_record::a_cut_ends_at_the_first_record_of_its_point();
+}
+
+/// What is promised of a log is in each image that is good for the history: the first of its records, as they are shown.
+/// They are shown as sent, if no run masks.
+pub fn what_is_promised_is_in_the_images()
+    ensures images { (r : Reading) (h : List Happened) (n f : ℕ) (image : Image) → Good r h image n → PromisesAtLeast (ledger h n) f → ImageHolds r h n f image }
+    ensures plain { (h : List Happened) (n : ℕ) → AllBegin [] h → shown h n ≡ sent h n }
+{
+    lsv_machine::what_is_shown_is_masked();
+}
+
+/// A commit point that a connection read was brought to it by an event of the run.
+pub fn what_was_read_was_told()
+    ensures { (k : ConnId) (read : List ServerMessage) (events : List Happened) (point : ℕ) → ReadsFirst read k events → Contains read (server.CommitPoint (time_of point)) →
+        (past later : List Happened) × (event : Happened) × (events ≡ past ++ event ∷ later) × TellsPoint k point (answers_at event) }
+{}
