@@ -46,7 +46,7 @@ told_shape k j c answers (refusing why ne e) t = absurd (elim (subst (TellsPoint
 told_shape k j c answers (shutting e) t = absurd (elim (subst (TellsPoint k c) e t) [ inl x ↦ let y = x.1 in cc | inr x ↦ x ])
 told_shape k j c answers (parting e) t = absurd (elim (subst (TellsPoint k c) e t) [ inl x ↦ let y = x.1 in cc | inr x ↦ x ])
 
-told_end_of : (set : Settings) (m : Machine) (act : Act) (after : Machine) (k : ConnId) (c : ℕ) → Step set m act after → TellsPoint k c act.answers → (d : ℕ) × (act.answers ≡ say act.job.conn (CommitPoint d) ∷ say act.job.conn Shut ∷ [])
+pub told_end_of : (set : Settings) (m : Machine) (act : Act) (after : Machine) (k : ConnId) (c : ℕ) → Step set m act after → TellsPoint k c act.answers → (d : ℕ) × (act.answers ≡ say act.job.conn (CommitPoint d) ∷ say act.job.conn Shut ∷ [])
 told_end_of set m act after k c (inl p) told = told_shape k act.job.conn c act.answers (subst (Shape act.job.conn) (sym p.answers) (plain_looks set act.now act.job p.number m).shape) told
 told_end_of set m act after k c (inr d) told = go d.how
   where
@@ -106,13 +106,13 @@ all_taken rs p e = rw e (whole rs)
     whole [] = refl
     whole (x ∷ xs) = ap (λ (y : List Record). x ∷ y) (whole xs)
 
-same_length : (rs ss : List Record) → map delay_of rs ≡ map delay_of ss → length rs ≡ length ss
+pub same_length : (rs ss : List Record) → map delay_of rs ≡ map delay_of ss → length rs ≡ length ss
 same_length [] [] e = refl
 same_length [] (s ∷ ss) e = absurd (cc)
 same_length (r ∷ rs) [] e = absurd (cc)
 same_length (r ∷ rs) (s ∷ ss) e = let q : map delay_of rs ≡ map delay_of ss = cc in let l = same_length rs ss q in omega arith
 
-becomes_told : (t : Option ℕ) (n p : ℕ) → t ≡ Some p → becomes t n ≡ Some n
+pub becomes_told : (t : Option ℕ) (n p : ℕ) → t ≡ Some p → becomes t n ≡ Some n
 becomes_told t n p e = rw e refl
 
 module _ (set : Settings) (n : ℕ) (rs : List Record) (e : Option Exit) (l : Ledger) (m after : Machine) (act : Act) (ours : ConnId → Bool) (coming : ConnId → List Request)

@@ -139,10 +139,10 @@ module _ (by : ByDelays) (n : ℕ) (rs : List Record) (e : Option Exit) where
   delays_at : (g : List Happened) → map delay_of (ledger g n).sent ≡ map delay_of (ledger g n).shown
   delays_at g = shown_delays by g n
 
-  after_one : (g : List Happened) (x : Happened) → ledger (g ++ x ∷ []) n ≡ noted n (ledger g n) x
+  pub after_one : (g : List Happened) (x : Happened) → ledger (g ++ x ∷ []) n ≡ noted n (ledger g n) x
   after_one g x = ledger_append n blank g (x ∷ [])
 
-  job_known : (set : Settings) (lane : IsOfLane set.lane set.lanes n) (g : List Happened) (m after : Machine) (act : Act) (ours : ConnId → Bool) (coming : ConnId → List Request)
+  pub job_known : (set : Settings) (lane : IsOfLane set.lane set.lanes n) (g : List Happened) (m after : Machine) (act : Act) (ours : ConnId → Bool) (coming : ConnId → List Request)
       → Known set n rs e m (ledger g n) ours coming → IsExpected n ours coming act → Step set m act after → Known set n rs e after (ledger (g ++ Did act ∷ []) n) ours (all_asks_after act coming)
   job_known set lane g m after act ours coming known brings step = record {
     stands = subst (StandsFor set n after) (sym (after_one g (Did act))) (job_stands set n (ledger g n) act m after known.stands step);
@@ -151,7 +151,7 @@ module _ (by : ByDelays) (n : ℕ) (rs : List Record) (e : Option Exit) where
     waits = subst (Waits set n after) (sym (after_one g (Did act))) (job_waits set n lane m after (ledger g n) act known.stands step known.waits);
   }
 
-  tail_known : (set : Settings) (g : List Happened) (m after : Machine) (tail : Tail) (ours : ConnId → Bool) (coming : ConnId → List Request)
+  pub tail_known : (set : Settings) (g : List Happened) (m after : Machine) (tail : Tail) (ours : ConnId → Bool) (coming : ConnId → List Request)
       → Known set n rs e m (ledger g n) ours coming → EndOfTurn set m tail after → Known set n rs e after (ledger (g ++ Tailed tail ∷ []) n) ours coming
   tail_known set g m after tail ours coming known ended =
       let less = all_less false tail.answers (ledger g n) in
@@ -169,7 +169,7 @@ module _ (by : ByDelays) (n : ℕ) (rs : List Record) (e : Option Exit) where
         writer = λ k w. let (o, (q, low, is, at)) = p.writer k (less.writers k w) in (o, (q, low, less.sent ∙ is, at));
       }
 
-  append_one : (g h : List Happened) (x : Happened) → (g ++ x ∷ []) ++ h ≡ g ++ x ∷ h
+  pub append_one : (g h : List Happened) (x : Happened) → (g ++ x ∷ []) ++ h ≡ g ++ x ∷ h
   append_one g h x = grind (arith, common_steps)
 
   run_known : (set : Settings) (lane : IsOfLane set.lane set.lanes n) (g h : List Happened) (m end : Machine) (ours : ConnId → Bool) (coming now : ConnId → List Request)
@@ -189,7 +189,7 @@ module _ (by : ByDelays) (n : ℕ) (rs : List Record) (e : Option Exit) where
   run_known set lane g (Begins texts ∷ h) m end ours coming now known follows runs = absurd runs
 
   -- a run begins: nobody writes
-  begins_known : (set : Settings) (g : List Happened) (texts : List (List ℕ)) (start : Machine) (ours : ConnId → Bool) (coming : ConnId → List Request) → StartsAs set texts start → GoodState (ledger g n) (start.logs n)
+  pub begins_known : (set : Settings) (g : List Happened) (texts : List (List ℕ)) (start : Machine) (ours : ConnId → Bool) (coming : ConnId → List Request) → StartsAs set texts start → GoodState (ledger g n) (start.logs n)
       → IsPrefix (ledger g n).sent rs → ((k : ConnId) → ours k ≡ true → StillAsks rs e (coming k)) → Known set n rs e start (ledger (g ++ Begins texts ∷ []) n) ours coming
   begins_known set g texts start ours coming starts good prefix shapes = record {
     stands = subst (StandsFor set n start) (sym (after_one g (Begins texts))) (starts_stand set n texts start (ledger g n) starts good);

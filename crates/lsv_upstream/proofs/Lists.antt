@@ -21,7 +21,7 @@ pub record Splits (asks : List Request) (b : Body) (bodies : List Body) : Type 0
   pub next : IsNext b asks
   pub rest : BringsAsked (asks_after b asks) bodies
 
-split_first : (asks : List Request) (b : Body) (bodies : List Body) → BringsAsked asks (b ∷ bodies) → Splits asks b bodies
+pub split_first : (asks : List Request) (b : Body) (bodies : List Body) → BringsAsked asks (b ∷ bodies) → Splits asks b bodies
 split_first asks b bodies f = go f.messages refl f.asked refl
   where
     go : (ms : List ClientMessage) → f.messages ≡ ms → (qs : List Request) → f.asked ≡ qs → Splits asks b bodies

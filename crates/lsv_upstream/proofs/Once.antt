@@ -18,7 +18,7 @@ use Rattle.lsv_upstream.proofs.Answering.{told_above}
 pub told_first : (set : Settings) (n : ℕ) (l : Ledger) (m after : Machine) (act : Act) → StandsFor set n m l → Step set m act after → tells_log n act.answers ≡ true → l.promised ≡ None
 told_first set n l m after act stands step told = let at = told_above set n m act after stands.sound step told in stands.untold at.0 at.1
 
-abbrev IsPromised : Ledger → Type 0
+abbrev pub IsPromised : Ledger → Type 0
 IsPromised l = is_some l.promised ≡ true
 
 either : (b : Bool) (x y : Ledger) → IsPromised x → IsPromised y → IsPromised (if b then x else y)
@@ -51,7 +51,7 @@ asked_stays n k (Ok (request.Record r)) answers in_cut l h = either (is_silent a
 asked_stays n k (Ok (request.Exit exit)) answers in_cut l h = either (writes l k) (record l { exit = Some (exit_text exit) }) l h h
 asked_stays n k (Err why) answers in_cut l h = h
 
-heard_stays : (exits : Bool) (answers : List Answer) (l : Ledger) → IsPromised l → IsPromised (heard_all exits answers l)
+pub heard_stays : (exits : Bool) (answers : List Answer) (l : Ledger) → IsPromised l → IsPromised (heard_all exits answers l)
 heard_stays exits [] l h = h
 heard_stays exits (a ∷ answers) l h = heard_stays exits answers (heard exits a.conn a.says l) (one a.says)
   where
@@ -65,7 +65,7 @@ heard_stays exits (a ∷ answers) l h = heard_stays exits answers (heard exits a
         go true = becomes_is l.promised (length l.shown) h
         go false = raised_is l.promised l.shown c h
 
-reopened_stays : (k : ConnId) (b : Bool) (l : Ledger) → IsPromised l → IsPromised (reopened k b l)
+pub reopened_stays : (k : ConnId) (b : Bool) (l : Ledger) → IsPromised l → IsPromised (reopened k b l)
 reopened_stays k true l h = h
 reopened_stays k false l h = h
 

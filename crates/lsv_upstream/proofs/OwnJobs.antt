@@ -36,6 +36,7 @@ use Rattle.lsv_machine.proofs.WorkFits.{holds_there}
 use Rattle.lsv_upstream.specs.Playing.{HasBegun, IsNext, PlayedOwn, StillAsks, StillAsks.Over, all_asks_after, asks_after, asks_from, later_asks, with_asks}
 use Rattle.lsv_upstream.proofs.Answering.{record_or, silent_asks, told_above}
 use Rattle.lsv_upstream.proofs.Asking.{Asked, Asked.exits, Asked.goes_on, Asked.greets, Asked.opens, Asked.plays, Next.a_record, Next.an_exit, asked_is, next_from}
+use Rattle.lsv_upstream.proofs.Others.{kept_writer}
 use Rattle.lsv_upstream.proofs.Keeping.{Less, all_less, last_writes, less_itself, less_then, nobody_writes, one_of, reopened_less, reopened_writes, writer_owner}
 
 silent_is : (answers : List Answer) → is_silent answers ≡ true → answers ≡ []
@@ -119,55 +120,6 @@ module _ (set : Settings) (n : ℕ) (rs : List Record) (e : Option Exit) (l : Le
 
   -- ---- A job of somebody else
 
-  -- while one of ours writes, it neither begins to write the log nor sends to it
-  silent_of : (answers : List Answer) → is_silent answers ≡ true → answers ≡ []
-  silent_of answers e = silent_is answers e
-
-  foreign_same : (j : ConnId) → m.owner n ≡ Some j → k ≢ j → (b : Body) → act.job.body ≡ b → (what : Result Request Refusal) → request_in b ≡ what
-      → ((now_asked what).sent ≡ l.sent) × ((i : ConnId) → i ≢ k → writes (now_asked what) i ≡ true → writes l i ≡ true)
-  foreign_same j own ne b eb (Err why) e = (refl, λ i x y. y)
-  foreign_same j own ne b eb (Ok request.Hello) e = (refl, λ i x y. y)
-  foreign_same j own ne b eb (Ok (request.Reject report)) e = (refl, λ i x y. y)
-  foreign_same j own ne b eb (Ok (request.Alert report)) e = (refl, λ i x y. y)
-  foreign_same j own ne b eb (Ok (request.Accept accept)) e = go (tells_log n act.answers) refl
-    where
-      go : (t : Bool) → tells_log n act.answers ≡ t → ((if t then opened_by k (head_text accept.head) l else l).sent ≡ l.sent) × ((i : ConnId) → i ≢ k → writes (if t then opened_by k (head_text accept.head) l else l) i ≡ true → writes l i ≡ true)
-      go false x = (refl, λ i y z. z)
-      go true x = absurd (let (lane, above) = told_above set n m act after stands.sound step x in let free = (stands.sound.none_above n lane above).1 in cc)
-  foreign_same j own ne b eb (Ok (request.Record r)) e =
-      let off : writes l k ≡ false = foreign_off in
-      (ap (λ (t : Bool). (if t then sent_one r l else l).sent) (and_off (is_silent act.answers) (writes l k) off), λ i y z. subst (λ (t : Bool). writes (if t then sent_one r l else l) i ≡ true) (and_off (is_silent act.answers) (writes l k) off) z)
-    where
-      foreign_off : writes l k ≡ false
-      foreign_off = writes_none l k (m.owner n) stands.agrees.writers (λ o. ne (let x : Some j ≡ Some k = sym own ∙ o in cc))
-  foreign_same j own ne b eb (Ok (request.Exit exit)) e = go (writes l k)
-    where
-      go : (t : Bool) → ((if t then record l { exit = Some (exit_text exit) } else l).sent ≡ l.sent) × ((i : ConnId) → i ≢ k → writes (if t then record l { exit = Some (exit_text exit) } else l) i ≡ true → writes l i ≡ true)
-      go true = (refl, λ i y z. z)
-      go false = (refl, λ i y z. z)
-  foreign_same j own ne b eb (Ok (request.Restart restart)) e = elim (eq_or restart.log n) [
-    | unequal p t ↦ rw t (refl, λ i y z. z)
-    | equal p t ↦ rw t (its p (is_silent act.answers) refl (l.shut k) refl act.in_cut)
-  ]
-    where
-      is_message : (x : Body) → request_in x ≡ Ok (request.Restart restart) → (message : ClientMessage) × (x ≡ body.Msg message) × (request_of message ≡ Ok (request.Restart restart))
-      is_message (body.Msg message) q = (message, refl, q)
-      is_message (body.Bad fault) q = absurd (cc)
-      is_message body.Gone q = absurd (cc)
-
-      its : restart.log ≡ n → (s : Bool) → is_silent act.answers ≡ s → (d : Bool) → l.shut k ≡ d → (c : Bool)
-          → ((if s then (if d then l else resumed_by k restart.point l) else if c then record l { promised = lowered_to l.promised l.shown restart.point } else l).sent ≡ l.sent)
-          × ((i : ConnId) → i ≢ k → writes (if s then (if d then l else resumed_by k restart.point l) else if c then record l { promised = lowered_to l.promised l.shown restart.point } else l) i ≡ true → writes l i ≡ true)
-      its p true quiet true shut c = (refl, λ i y z. z)
-      its p false loud d shut true = (refl, λ i y z. z)
-      its p false loud d shut false = (refl, λ i y z. z)
-      its p true quiet false open_ c = absurd (
-          let living : is_dead (m.states k) ≡ false = sym (stands.agrees.shut k) ∙ open_ in
-          let (message, is_body, asks) = is_message b e in
-          let resumed = accepted_restart set m after act restart step living (silent_asks set m act after message restart (eb ∙ is_body) asks living (silent_is act.answers quiet) step) (silent_is act.answers quiet) in
-          let free : m.owner n ≡ None = ap m.owner (sym p) ∙ resumed.could.free in
-          cc)
-
   -- the same of what is noted
   noted_off : (asks : List Request) → now_asked (request_in act.job.body) ≡ l → writes l k ≡ false → (ours k ≡ true → StillAsks rs e asks) → PlayedOwn rs e now_noted (writes now_noted) ours (with_asks k asks coming)
   noted_off asks is off its =
@@ -177,48 +129,11 @@ module _ (set : Settings) (n : ℕ) (rs : List Record) (e : Option Exit) (l : Le
   other_played : ours k ≡ false → (asks : List Request) → PlayedOwn rs e now_noted (writes now_noted) ours (with_asks k asks coming)
   other_played foreign asks = record {
     shapes = shapes_on asks (λ o. absurd (cc));
-    writer = λ j on o. go j o (kept_writer j on o);
+    writer = λ j on o. go j o (kept_writer set n l m after act stands step j (apart_k j o) on);
   }
     where
       apart_k : (j : ConnId) → ours j ≡ true → j ≢ k
       apart_k j o p = let a : ours k ≡ true = subst (λ i. ours i ≡ true) p o in cc
-
-      -- it wrote before
-      kept_writer : (j : ConnId) → writes now_noted j ≡ true → ours j ≡ true → (writes l j ≡ true) × (now_noted.sent ≡ l.sent)
-      kept_writer j on o = owner_of (m.owner n) refl
-        where
-          less : Less (now_asked (request_in act.job.body)) now_noted
-          less = noted_less
-
-          now_writes : writes now_noted j ≡ true
-          now_writes = on
-
-          owner_of : (x : Option ConnId) → m.owner n ≡ x → (writes l j ≡ true) × (now_noted.sent ≡ l.sent)
-          owner_of None q = absurd (let s' = job_stands set n l act m after stands step in let own : after.owner n ≡ Some j = writer_owner n after now_noted j s'.agrees.writers on in no_new j o q own)
-            where
-              no_new : (i : ConnId) → ours i ≡ true → m.owner n ≡ None → after.owner n ≡ Some i → ⊥
-              no_new i oi free own =
-                  let alone = step_seen set m act after step in
-                  let s' = job_stands set n l act m after stands step in
-                  let writes_then : log_of (after.states i) ≡ Some n = s'.sound.owns n i own in
-                  let same_state = alone.leaves_alone.others i (apart_k i oi) in
-                  let before : log_of (m.states i) ≡ Some n = sym (ap log_of same_state) ∙ writes_then in
-                  let owned = stands.sound.owned i n before in
-                  cc
-          owner_of (Some i) q = elim (same_or k i) [
-            | alike p t ↦ absurd (
-                let s' = job_stands set n l act m after stands step in
-                let own : after.owner n ≡ Some j = writer_owner n after now_noted j s'.agrees.writers on in
-                let alone = step_seen set m act after step in
-                let same_state = alone.leaves_alone.others j (apart_k j o) in
-                let before : log_of (m.states j) ≡ Some n = sym (ap log_of same_state) ∙ s'.sound.owns n j own in
-                let owned : m.owner n ≡ Some j = stands.sound.owned j n before in
-                let same_ : i ≡ j = (let z : Some i ≡ Some j = sym q ∙ owned in cc) in
-                apart_k j o (sym same_ ∙ sym p))
-            | apart p t ↦
-                let f = foreign_same i q p act.job.body refl (request_in act.job.body) refl in
-                (f.1 j (apart_k j o) (less.writers j on), less.sent ∙ f.0)
-          ]
 
       go : (j : ConnId) → ours j ≡ true → (writes l j ≡ true) × (now_noted.sent ≡ l.sent) → (x : ℕ) × (x ≤ length rs) × (now_noted.sent ≡ take x rs) × ((with_asks k asks coming j ≡ asks_from rs e x) ⊎ (with_asks k asks coming j ≡ []))
       go j o (wrote, same_sent) =

@@ -48,6 +48,7 @@ pub fn a_sent_log_is_held()
         BringsFirst (sender_messages hello head rs exit s) (bodies_of k (jobs_of r.events)) → BeginsAlike n rs s before r k → (at : GetsPoint n before r k (aim s rs)) →
         HoldsThrough rs (aim s rs) (ledger (up_to before r at) n) }
 {
+    lsv_base::digits_are_read_back();
     lsv_base::nanoseconds_are_one_time();
     lsv_record::a_cut_ends_at_the_first_record_of_its_point();
     lsv_request::what_is_stored_is_requested_again();
