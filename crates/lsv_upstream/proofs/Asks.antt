@@ -129,14 +129,13 @@ ends_ask_nothing (body.Gone ∷ ends) b q none (inr i) e = ends_ask_nothing ends
 messages_ask : (messages : List ClientMessage) (asked : List Request) (m : ClientMessage) (q : Request) → Ask messages asked → In m messages → request_of m ≡ Ok q → In q asked
 messages_ask [] asked m q e i r = absurd i
 messages_ask (x ∷ messages) [] m q e i r = absurd (cc)
-messages_ask (x ∷ messages) (y ∷ asked) m q e i r =
+messages_ask (x ∷ messages) (y ∷ asked) m q e (inl p) r =
     let head : request_of x ≡ Ok y = cc in
+    let z : Ok y ≡ Ok q = sym head ∙ (ap request_of p ∙ r) in
+    inl (cc)
+messages_ask (x ∷ messages) (y ∷ asked) m q e (inr j) r =
     let tails : Ask messages asked = cc in
-    go head tails i
-  where
-    go : request_of x ≡ Ok y → Ask messages asked → In m (x ∷ messages) → In q (y ∷ asked)
-    go head tails (inl p) = let z : Ok y ≡ Ok q = sym head ∙ (ap request_of p ∙ r) in inl (cc)
-    go head tails (inr j) = inr (messages_ask messages asked m q tails j r)
+    inr (messages_ask messages asked m q tails j r)
 
 pub body_asks : (asks : List Request) (bodies : List Body) (b : Body) (q : Request) → BringsAsked asks bodies → In b bodies → request_in b ≡ Ok q → In q asks
 body_asks asks bodies b q f i r = subst (In q) f.first (in_left q f.asked f.later (elim (in_append b (map (λ m. body.Msg m) f.messages) f.ends (subst (In b) f.jobs i)) [

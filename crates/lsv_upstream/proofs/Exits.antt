@@ -155,11 +155,13 @@ module _ (set : Settings) (n : ℕ) (rs : List Record) (e : Option Exit) (l : Le
                   let (p0, is_told) = holds.is_told k owner in
                   let a = noted n l (Did act) in
                   let now : a.promised ≡ Some (length l.shown) = noted_promised x asked_is gone_is p0 is_told in
-                  let same_sent : a.sent ≡ l.sent = noted_sent x asked_is in
-                  (sent_all, record {
-                    prefix = record { rest = []; is = append_nothing a.sent ∙ (same_sent ∙ sent_all) };
-                    promises = λ f at. (length l.shown, now, (let w = (first_some rs (elapsed rs) f at).within in omega (arith, w, ap length sent_all, same_length l.sent l.shown delays)));
-                  })
+                  let same_sent : a.sent ≡ l.sent = noted_sent x asked_is in (
+                    sent_all,
+                    record {
+                      prefix = record { rest = []; is = append_nothing a.sent ∙ (same_sent ∙ sent_all) };
+                      promises = λ f at. (length l.shown, now, (let w = (first_some rs (elapsed rs) f at).within in omega (arith, w, ap length sent_all, same_length l.sent l.shown delays)));
+                    },
+                  )
                 where
                   append_nothing : (g : List Record) → g ++ [] ≡ g
                   append_nothing [] = refl

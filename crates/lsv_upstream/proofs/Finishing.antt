@@ -100,7 +100,7 @@ module _ (k : ConnId) (m : Machine) where
   work_ends s (request.Restart restart) i = mute_ends (Ok (request.Restart restart)) (work k s (request.Restart restart) i m)
       (either_mute (is_some (m.owner restart.log)) (refused k refusals.LogInUse m) (restarted_at k restart.log restart.point (m.logs restart.log) m) refl (at_mute restart.log restart.point (m.logs restart.log)))
   work_ends s (request.Record r) i = mute_ends (Ok (request.Record r)) (work k s (request.Record r) i m) (recorded_mute (log_of s) r)
-  work_ends s (request.Exit exit) i e = (exit, refl)
+  work_ends s (request.Exit exit) i = λ e. (exit, refl)
 
   lined_ends : (set : Settings) (now : TimeSpec) (s : ConnState) (what : Request) (i : ℕ) (d : Done) → Ends (Ok what) d → Ends (Ok what) (lined set now k s what i m d)
   lined_ends set now s what i d h = go (not (has_line set what) || is_refused d.answers) refl (line_fits (line_in set now k s what i) m) refl
@@ -118,8 +118,8 @@ module _ (k : ConnId) (m : Machine) where
   alive_ends set now (body.Msg message) i e =
       let (x, asks) = answered_ends set now (m.states k) (judged (m.states k) message) i e in
       (x, (judged_ok (m.states k) message (request.Exit x) asks).0)
-  alive_ends set now (body.Bad fault) i = mute_ends (request_in (body.Bad fault)) (refused k (fault_refusal fault) m) refl
-  alive_ends set now body.Gone i = mute_ends (request_in body.Gone) (record { answers = farewell k; line = []; machine = forgets k m }) refl
+  alive_ends set now (body.Bad fault) i e = mute_ends (request_in (body.Bad fault)) (refused k (fault_refusal fault) m) refl e
+  alive_ends set now body.Gone i e = mute_ends (request_in body.Gone) (record { answers = farewell k; line = []; machine = forgets k m }) refl e
 
   dropped_ends : (b : Body) → Ends (request_in b) (dropped k b m)
   dropped_ends (body.Msg message) = mute_ends (request_in (body.Msg message)) (silently m) refl

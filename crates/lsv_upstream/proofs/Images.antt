@@ -1,24 +1,21 @@
--- What is promised is in each image that is good.
-use Rattle.std.proofs.Common.{◌≡◌, ◌≤◌, ℕ, List, [], ◌∷◌, ◌++◌, length, take, refl, sym, ◌∙◌, ap, subst, arith, Option, Some, None}
-use Rattle.lsv_disk.specs.View.{Image}
-use Rattle.lsv_record.specs.Points.{Stored}
-use Rattle.lsv_record.specs.declared.records.Record.{Record}
+-- What is promised is in whatever is recovered that is good.
+use Rattle.std.proofs.Common.{◌≡◌, ◌≤◌, ℕ, List, length, take, refl, sym, ◌∙◌, ap, subst, arith, Option, Some, None}
 use Rattle.lsv_record.proofs.Points.{take_append}
-use Rattle.lsv_machine.specs.Durable.{Good, GoodFor, Keeps, Reading, Recovered}
+use Rattle.lsv_machine.specs.Durable.{GoodFor, GoodLog, Recovered}
 use Rattle.lsv_machine.specs.History.{ledger, shown}
 use Rattle.lsv_machine.specs.Turns.{Happened}
-use Rattle.lsv_upstream.specs.Held.{ImageHolds, PromisesAtLeast}
+use Rattle.lsv_upstream.specs.Held.{HoldsFirst, PromisesAtLeast}
 
-pub image_holds : (r : Reading) (h : List Happened) (n f : ℕ) (image : Image) → Good r h image n → PromisesAtLeast (ledger h n) f → ImageHolds r h n f image
-image_holds r h n f image good (p, e, low) = go good.found refl (subst (λ (t : Option ℕ). GoodFor (ledger h n) t good.found) e good.good)
+pub image_holds : (h : List Happened) (n f : ℕ) (found : Recovered) → GoodLog (ledger h n) found → PromisesAtLeast (ledger h n) f → HoldsFirst f (shown h n) found
+image_holds h n f found good (p, e, low) = go found refl (subst (λ (t : Option ℕ). GoodFor (ledger h n) t found) e good)
   where
-    go : (x : Recovered) → good.found ≡ x → GoodFor (ledger h n) (Some p) x → ImageHolds r h n f image
+    go : (x : Recovered) → found ≡ x → GoodFor (ledger h n) (Some p) x → HoldsFirst f (shown h n) found
     go None at g = absurd g
-    go (Some found) at g =
-        let enough : f ≤ length found.records = (let q = g.enough in omega (arith, q, low)) in
+    go (Some stored) at g =
+        let enough : f ≤ length stored.records = (let q = g.enough in omega (arith, q, low)) in
         record {
-          found = found;
-          is = subst (λ (x : Recovered). r.replays image n x) at good.is;
-          records = sym (take_append f found.records g.prefix.rest enough) ∙ ap (take f) g.prefix.is;
+          stored = stored;
+          is = at;
+          same = sym (take_append f stored.records g.prefix.rest enough) ∙ ap (take f) g.prefix.is;
           enough = enough;
         }

@@ -128,9 +128,10 @@ module _ (set : Settings) (n : ℕ) (lane : IsOfLane set.lane set.lanes n) (m af
             let its : log_of (m.states act.job.conn) ≡ Some n = writes_it ∙ ap Some (sym mine) in
             let o : m.owner n ≡ Some act.job.conn = stands.sound.owned act.job.conn n its in
             let w : writes l act.job.conn ≡ true = writes_its l act.job.conn (stands.agrees.writers ∙ ap as_list o) in
-            let now : asked n act.job.conn what act.answers act.in_cut l ≡ sent_one r l = ap (λ (x : Result Request Refusal). asked n act.job.conn x act.answers act.in_cut l) is ∙ rw (hush, w) refl in
-            (subst (λ (x : List Record). 1 ≤ length x) (sym (less.shown ∙ ap (λ (x : Ledger). x.shown) now)) (some_more l.shown (covered l.texts l.shown r)),
-            λ x. let up : m.last < n = omega (arith, x, same_last) in let none = (stands.sound.none_above n lane up).1 in cc)
+            let now : asked n act.job.conn what act.answers act.in_cut l ≡ sent_one r l = ap (λ (x : Result Request Refusal). asked n act.job.conn x act.answers act.in_cut l) is ∙ rw (hush, w) refl in (
+              subst (λ (x : List Record). 1 ≤ length x) (sym (less.shown ∙ ap (λ (x : Ledger). x.shown) now)) (some_more l.shown (covered l.texts l.shown r)),
+              λ x. let up : m.last < n = omega (arith, x, same_last) in let none = (stands.sound.none_above n lane up).1 in cc,
+            )
       ]
 
 -- ---- Each moment

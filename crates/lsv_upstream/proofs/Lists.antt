@@ -90,4 +90,3 @@ module _ (n : ℕ) (ours : ConnId → Bool) where
             let its : BringsAsked (coming k) (bodies_of k (jobs_of h)) = rw other at (lists k o) in
             rw t its
       ]
-

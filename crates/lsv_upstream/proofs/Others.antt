@@ -124,4 +124,3 @@ module _ (set : Settings) (n : ℕ) (l : Ledger) (m after : Machine) (act : Act)
           let same_state = seen.leaves_alone.others j ne in
           let before : log_of (m.states j) ≡ Some n = sym (ap log_of same_state) ∙ s'.sound.owns n j own in
           stands.sound.owned j n before
-

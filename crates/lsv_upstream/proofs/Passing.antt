@@ -144,13 +144,9 @@ module _ (by : ByDelays) (set : Settings) (n : ℕ) (k : ConnId) (g : List Happe
           → writes (if a then (if b then l else resumed_by act.job.conn restart.point l) else if c then record l { promised = lowered_to l.promised l.shown restart.point } else l) act.job.conn ≡ true
           → SentIs (if true && a then Resumed restart.point [] else s) (if a then (if b then l else resumed_by act.job.conn restart.point l) else if c then record l { promised = lowered_to l.promised l.shown restart.point } else l).sent
       go p true quiet true shut c x = absurd (writes_open act.job.conn x shut)
-      go p true quiet false open_ c x = (cut l.sent restart.point, sym (nothing_more (cut l.sent restart.point)), resumed_ends restart e p (silent_is act.answers quiet) open_)
+      go p true quiet false open_ c x = (cut l.sent restart.point, sym (append_nothing (cut l.sent restart.point)), resumed_ends restart e p (silent_is act.answers quiet) open_)
       go p false loud b shut true x = is x
       go p false loud b shut false x = is x
-
-      nothing_more : (xs : List Record) → xs ++ [] ≡ xs
-      nothing_more [] = refl
-      nothing_more (y ∷ xs) = ap (λ (z : List Record). y ∷ z) (nothing_more xs)
 
   -- a job
   pub job_sent : (s : HasSent) → SentBy k s l → SentBy k (if same act.job.conn k then sent_by n (request_in act.job.body) act.answers s else s) (noted n l (Did act))
@@ -200,9 +196,10 @@ module _ (by : ByDelays) (set : Settings) (n : ℕ) (k : ConnId) where
       let l = ledger g n in
       let one : ledger (g ++ Did act ∷ []) n ≡ noted n l (Did act) = ledger_append n blank g (Did act ∷ []) in
       let same_ = tells_to act.job.conn k c act.answers (step_seen set m act mid step).to told in
-      let f0 = finishes set n l m mid act c stands step (subst (λ j. writes l j ≡ true) (sym same_) on) (subst (λ j. TellsPoint j c act.answers) (sym same_) told) in
-      (ap (λ (x : Ledger). x.sent) one ∙ f0.sent,
-      λ f at. (length l.shown, ap (λ (x : Ledger). x.promised) one ∙ f0.promised, (let w = (first_some l.sent c f at).within in let s = same_length l.sent l.shown (shown_delays by g n) in omega (arith, w, s))))
+      let f0 = finishes set n l m mid act c stands step (subst (λ j. writes l j ≡ true) (sym same_) on) (subst (λ j. TellsPoint j c act.answers) (sym same_) told) in (
+        ap (λ (x : Ledger). x.sent) one ∙ f0.sent,
+        λ f at. (length l.shown, ap (λ (x : Ledger). x.promised) one ∙ f0.promised, (let w = (first_some l.sent c f at).within in let s = same_length l.sent l.shown (shown_delays by g n) in omega (arith, w, s))),
+      )
 
 -- ---- The law
 

@@ -32,11 +32,11 @@ take_short (suc n) (r ∷ rs) = let more = take_short n rs in omega (arith, more
 -- lists that begin alike have the same first record at a point within that
 pub first_alike : (xs ys : List Record) (c n : ℕ) → take n xs ≡ take n ys → first ys c ≡ Some n → first xs c ≡ Some n
 first_alike xs ys c n same_ e = first_there xs c n (record {
-      some = i.some;
-      within = (let a = take_length n ys i.within in let b : length (take n xs) ≡ length (take n ys) = ap length same_ in let d = take_short n xs in omega (arith, a, b, d));
-      ends = ap elapsed same_ ∙ i.ends;
-      least = λ m some lt ends. i.least m some lt (ap elapsed (sym (take_take m n ys (omega (arith, lt))) ∙ (ap (take m) (sym same_) ∙ take_take m n xs (omega (arith, lt)))) ∙ ends);
-    })
+  some = i.some;
+  within = (let a = take_length n ys i.within in let b : length (take n xs) ≡ length (take n ys) = ap length same_ in let d = take_short n xs in omega (arith, a, b, d));
+  ends = ap elapsed same_ ∙ i.ends;
+  least = λ m some lt ends. i.least m some lt (ap elapsed (sym (take_take m n ys (omega (arith, lt))) ∙ (ap (take m) (sym same_) ∙ take_take m n xs (omega (arith, lt)))) ∙ ends);
+})
   where
     i : IsFirst ys c n
     i = first_some ys c n e
@@ -66,7 +66,7 @@ none_at_start o n [] f e at = cc
 none_at_start None n (r ∷ rs) f e at = cc
 none_at_start (Some time) n (r ∷ rs) f e at = elim (first_by r rs 0) [
   | here d g ↦ go (max n (count_upto time (r ∷ rs))) refl (counted d)
-  | past d g ↦ omega arith
+  | past d g ↦ cc
   | later d g ↦ omega arith
 ]
   where
@@ -104,7 +104,10 @@ one_more_some o n e = rw e refl
 
 -- behind records that end below a point, the first that ends there is among the others
 pub first_after : (base rs : List Record) (c f : ℕ) → elapsed base < c → first rs (c - elapsed base) ≡ Some f → first (base ++ rs) c ≡ Some (length base + f)
-first_after [] rs c f low e = let z : c - 0 ≡ c = omega arith in subst (λ (x : ℕ). first rs x ≡ Some f) z e
+first_after [] rs c f low e =
+    let z : c - 0 ≡ c = omega arith in
+    let s : f ≡ 0 + f = omega arith in
+    subst (λ (x : ℕ). first rs x ≡ Some f) z e ∙ ap Some s
 first_after (r ∷ base) rs c f low e = elim (first_by r (base ++ rs) c) [
   | here d g ↦ absurd (omega (arith, low, d))
   | past d g ↦ absurd (omega (arith, low, d))

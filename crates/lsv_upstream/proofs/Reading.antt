@@ -74,11 +74,11 @@ answer_event a (x ∷ h) i = elim (in_append a (answers_at x) (all_answers h) i)
 
 mute_append : (n : ℕ) (xs ys : List Answer) → tells_log n xs ≡ false → tells_log n ys ≡ false → tells_log n (xs ++ ys) ≡ false
 mute_append n [] ys a b = b
-mute_append n (x ∷ xs) ys a b = go (is_log_id n x.says) refl a
+mute_append n (x ∷ xs) ys a b = go (is_log_id n x.says) a (λ d. mute_append n xs ys d b)
   where
-    go : (c : Bool) → is_log_id n x.says ≡ c → (c || tells_log n xs) ≡ false → (is_log_id n x.says || tells_log n (xs ++ ys)) ≡ false
-    go true e d = absurd (cc)
-    go false e d = rw e (mute_append n xs ys d b)
+    go : (c : Bool) → (c || tells_log n xs) ≡ false → (tells_log n xs ≡ false → tells_log n (xs ++ ys) ≡ false) → (c || tells_log n (xs ++ ys)) ≡ false
+    go true d more = absurd (cc)
+    go false d more = more d
 
 refused_mute : (n : ℕ) (k : ConnId) (answers : List Answer) → IsRefused k answers → tells_log n answers ≡ false
 refused_mute n k answers r = last_mute n k answers (refused_last k answers r)

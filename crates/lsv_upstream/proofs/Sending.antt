@@ -28,7 +28,7 @@ use Rattle.lsv_machine.specs.History.{Ledger, blank, ledger, noted, request_in, 
 use Rattle.lsv_machine.specs.Machine.{IsOfLane, Machine, Settings, same}
 use Rattle.lsv_machine.specs.Stands.{Sound}
 use Rattle.lsv_machine.specs.Turns.{EndOfTurn, Happened, Happened.Did, Happened.Tailed, Happened.Begins, Run, Tail}
-use Rattle.lsv_machine.proofs.Choices.{SameOr.alike, SameOr.apart, same_or, same_refl, same_true}
+use Rattle.lsv_machine.proofs.Choices.{SameOr, SameOr.alike, SameOr.apart, same_or, same_refl, same_true}
 use Rattle.lsv_machine.proofs.RunLaws.{ledger_append, starts_sound}
 use Rattle.lsv_machine.proofs.Silent.{step_sound, tail_sound}
 use Rattle.lsv_machine.proofs.Shown.{ByDelays}
@@ -108,7 +108,7 @@ module _ (n : ℕ) (rs : List Record) (s : Sending) (before : List Happened) (r 
       mine_first : act.job.conn ≡ k → BringsAsked (coming k) (act.job.body ∷ bodies_of k (jobs_of h))
       mine_first p = here (same_or act.job.conn k)
         where
-          here : _ → BringsAsked (coming k) (act.job.body ∷ bodies_of k (jobs_of h))
+          here : SameOr act.job.conn k → BringsAsked (coming k) (act.job.body ∷ bodies_of k (jobs_of h))
           here (alike q t) = let t' : connections.same act.job.conn k ≡ true = t in rw t' at lists
           here (apart q t) = absurd (q p)
 
@@ -152,7 +152,7 @@ is_opening (request.Exit exit) = false
 -- who is told a number has asked to begin a log
 teller_asks : (set : Settings) (n : ℕ) (k : ConnId) (h : List Happened) (m end : Machine) → Sound set m → Run set m h end → In k (tellers n h) → (b : Body) × In b (bodies_of k (jobs_of h)) × ((accept : Accept) × (request_in b ≡ Ok (request.Accept accept)))
 teller_asks set n k [] m end sound runs i = absurd i
-teller_asks set n k (Did act ∷ h) m end sound (mid, step, rest) i = go (tells_log n act.answers) refl i
+teller_asks set n k (Did act ∷ h) m end sound (mid, step, rest) i = go (teller_asks set n k h mid end (step_sound set m act mid sound step) rest) (tells_log n act.answers) refl i
   where
     first_of : act.job.conn ≡ k → In act.job.body (bodies_of k (jobs_of (Did act ∷ h)))
     first_of p = elim (same_or act.job.conn k) [
@@ -164,10 +164,11 @@ teller_asks set n k (Did act ∷ h) m end sound (mid, step, rest) i = go (tells_
     later true b j = inr j
     later false b j = j
 
-    go : (b : Bool) → tells_log n act.answers ≡ b → In k (if b then act.job.conn ∷ tellers n h else tellers n h) → (b : Body) × In b (bodies_of k (jobs_of (Did act ∷ h))) × ((accept : Accept) × (request_in b ≡ Ok (request.Accept accept)))
-    go true e (inl p) = let t = told_by set n m act mid sound step e in (act.job.body, first_of p, (t.accept, t.asks))
-    go true e (inr j) = let (b, x, a) = teller_asks set n k h mid end (step_sound set m act mid sound step) rest j in (b, later (connections.same act.job.conn k) b x, a)
-    go false e j = let (b, x, a) = teller_asks set n k h mid end (step_sound set m act mid sound step) rest j in (b, later (connections.same act.job.conn k) b x, a)
+    go : (In k (tellers n h) → (b : Body) × In b (bodies_of k (jobs_of h)) × ((accept : Accept) × (request_in b ≡ Ok (request.Accept accept)))) → (c : Bool) → tells_log n act.answers ≡ c → In k (if c then act.job.conn ∷ tellers n h else tellers n h)
+        → (b : Body) × In b (bodies_of k (jobs_of (Did act ∷ h))) × ((accept : Accept) × (request_in b ≡ Ok (request.Accept accept)))
+    go more true e (inl p) = let t = told_by set n m act mid sound step e in (act.job.body, first_of p, (t.accept, t.asks))
+    go more true e (inr j) = let (b, x, a) = more j in (b, later (connections.same act.job.conn k) b x, a)
+    go more false e j = let (b, x, a) = more j in (b, later (connections.same act.job.conn k) b x, a)
 teller_asks set n k (Tailed tail ∷ h) m end sound (mid, ended, rest) i = teller_asks set n k h mid end (tail_sound set m tail mid sound ended) rest i
 teller_asks set n k (Begins texts ∷ h) m end sound runs i = absurd runs
 
@@ -215,12 +216,12 @@ unnamed_opens_nothing words hello id point m rs exit none valid timed bodies b q
 -- the bodies of first events are among those of all
 bodies_append : (b : Body) (k : ConnId) (g h : List Happened) → In b (bodies_of k (jobs_of g)) → In b (bodies_of k (jobs_of (g ++ h)))
 bodies_append b k [] h i = absurd i
-bodies_append b k (Did act ∷ g) h i = go (connections.same act.job.conn k) i
+bodies_append b k (Did act ∷ g) h i = go (bodies_append b k g h) (connections.same act.job.conn k) i
   where
-    go : (c : Bool) → In b (if c then act.job.body ∷ bodies_of k (jobs_of g) else bodies_of k (jobs_of g)) → In b (if c then act.job.body ∷ bodies_of k (jobs_of (g ++ h)) else bodies_of k (jobs_of (g ++ h)))
-    go true (inl e) = inl e
-    go true (inr j) = inr (bodies_append b k g h j)
-    go false j = bodies_append b k g h j
+    go : (In b (bodies_of k (jobs_of g)) → In b (bodies_of k (jobs_of (g ++ h)))) → (c : Bool) → In b (if c then act.job.body ∷ bodies_of k (jobs_of g) else bodies_of k (jobs_of g)) → In b (if c then act.job.body ∷ bodies_of k (jobs_of (g ++ h)) else bodies_of k (jobs_of (g ++ h)))
+    go more true (inl e) = inl e
+    go more true (inr j) = inr (more j)
+    go more false j = more j
 bodies_append b k (Tailed tail ∷ g) h i = bodies_append b k g h i
 bodies_append b k (Begins texts ∷ g) h i = bodies_append b k g h i
 
@@ -256,11 +257,11 @@ module _ (by : ByDelays) (words : Words) (n : ℕ) (hello : ClientHello) (head :
     where
       go : (o : Option ResumeAt) → s.from ≡ o → Plan ⊎ ((b : Body) (q : Request) → In b (bodies_of k (jobs_of r.events)) → request_in b ≡ Ok q → is_opening q ≡ false)
       go None f = inl (record {
-          asks = asks_anew head reaches its_exit;
-          shape = anew_shape head reaches its_exit;
-          lists = brings_asked (sender_messages hello head rs exit s) (asks_anew head reaches its_exit) (bodies_of k (jobs_of r.events)) (ap (map request_of) messages_are ∙ anew_asks words hello head reaches its_exit reached_valid stored.begun exit_timed) brings;
-          places = λ restart i. absurd (no_restart_anew head reaches its_exit restart i);
-        })
+        asks = asks_anew head reaches its_exit;
+        shape = anew_shape head reaches its_exit;
+        lists = brings_asked (sender_messages hello head rs exit s) (asks_anew head reaches its_exit) (bodies_of k (jobs_of r.events)) (ap (map request_of) messages_are ∙ anew_asks words hello head reaches its_exit reached_valid stored.begun exit_timed) brings;
+        places = λ restart i. absurd (no_restart_anew head reaches its_exit restart i);
+      })
         where
           messages_are : sender_messages hello head rs exit s ≡ played_anew hello head reaches its_exit
           messages_are = ap (λ (o : Option ResumeAt). sent_from hello head rs o reaches its_exit) f

@@ -86,17 +86,14 @@ told_promises set n l m after act stands step told =
 
 pub run_once : (set : Settings) (n : ℕ) (h : List Happened) (m end : Machine) (l : Ledger) → StandsFor set n m l → Run set m h end → Once l.promised (tellers n h) (ledger_from n l h).promised
 run_once set n [] m end l stands runs = nobody refl (λ s. s)
-run_once set n (Did act ∷ h) m end l stands (mid, step, rest) = go (tells_log n act.answers) refl
+run_once set n (Did act ∷ h) m end l stands (mid, step, rest) = go (run_once set n h mid end (noted n l (Did act)) (job_stands set n l act m mid stands step) rest) (tells_log n act.answers) refl
   where
     l' : Ledger
     l' = noted n l (Did act)
 
-    more : Once l'.promised (tellers n h) (ledger_from n l' h).promised
-    more = run_once set n h mid end l' (job_stands set n l act m mid stands step) rest
-
-    go : (b : Bool) → tells_log n act.answers ≡ b → Once l.promised (if b then act.job.conn ∷ tellers n h else tellers n h) (ledger_from n l' h).promised
-    go true e = once_more l.promised l'.promised act.job.conn (tellers n h) (told_first set n l m mid act stands step e) (told_promises set n l m mid act stands step e) (ledger_from n l' h).promised more
-    go false e = once_before l.promised l'.promised (tellers n h) (ledger_from n l' h).promised (λ s. promised_stays n (Did act ∷ []) l s) more
+    go : Once l'.promised (tellers n h) (ledger_from n l' h).promised → (b : Bool) → tells_log n act.answers ≡ b → Once l.promised (if b then act.job.conn ∷ tellers n h else tellers n h) (ledger_from n l' h).promised
+    go more true e = once_more l.promised l'.promised act.job.conn (tellers n h) (told_first set n l m mid act stands step e) (told_promises set n l m mid act stands step e) (ledger_from n l' h).promised more
+    go more false e = once_before l.promised l'.promised (tellers n h) (ledger_from n l' h).promised (λ s. promised_stays n (Did act ∷ []) l s) more
 run_once set n (Tailed tail ∷ h) m end l stands (mid, ended, rest) =
     once_before l.promised (noted n l (Tailed tail)).promised (tellers n h) (ledger_from n (noted n l (Tailed tail)) h).promised (λ s. promised_stays n (Tailed tail ∷ []) l s)
     (run_once set n h mid end (noted n l (Tailed tail)) (tail_stands set n l tail m mid stands ended) rest)
@@ -110,7 +107,6 @@ ledger_run n before r past = ledger_append n blank before (Begins r.texts ∷ pa
 
 pub start_stands : (lane lanes n : ℕ) (before : List Happened) (r : ServerRun) → RunsOn lane lanes n before r → StandsFor r.set n r.start (noted n (ledger before n) (Begins r.texts))
 start_stands lane lanes n before r on = starts_stand r.set n r.texts r.start (ledger before n) on.starts on.good
-
 
 -- what is promised after all of them
 abbrev pub promised_after : ℕ → List Happened → List ServerRun → Option ℕ

@@ -98,12 +98,15 @@ module _ (set : Settings) (n : ℕ) (k : ConnId) (c : ℕ) where
       let c_is : c ≡ elapsed l.shown = point ∙ ap elapsed whole in
       let w : writes l t.writer ≡ true = writes_its l t.writer (s.agrees.writers ∙ ap as_list own) in
       let (p, told_is) = holds.is_told t.writer own in
-      let after : heard_all false answers l ≡ record l { promised = raised_to l.promised l.shown (elapsed t.stored.records); finished = l.finished || false } = ap (λ (x : List Answer). heard_all false x l) t.told ∙ rw w refl in
-      (same_log, c_is, λ f at. (
-        raised p l.shown (elapsed t.stored.records),
-        ap (λ (x : Ledger). x.promised) after ∙ raised_told l.promised p l.shown (elapsed t.stored.records) told_is,
-        subst (λ y. f ≤ raised p l.shown y) point (raised_first p f l.shown c at),
-      ))
+      let after : heard_all false answers l ≡ record l { promised = raised_to l.promised l.shown (elapsed t.stored.records); finished = l.finished || false } = ap (λ (x : List Answer). heard_all false x l) t.told ∙ rw w refl in (
+        same_log,
+        c_is,
+        λ f at. (
+          raised p l.shown (elapsed t.stored.records),
+          ap (λ (x : Ledger). x.promised) after ∙ raised_told l.promised p l.shown (elapsed t.stored.records) told_is,
+          subst (λ y. f ≤ raised p l.shown y) point (raised_first p f l.shown c at),
+        ),
+      )
     where
       one : TellsPoint k c (say t.writer (CommitPoint (elapsed t.stored.records)) ∷ []) → (t.writer ≡ k) × (c ≡ elapsed t.stored.records)
       one (inl x) = (x.0, (let y = x.1 in cc))

@@ -125,15 +125,15 @@ both false b e = absurd (cc)
 
 pub found : (head : Head) (rs : List Record) (exit : Option Exit) (visits : List Visit) (i : ℕ) (k : ConnId) → is_visit visits i k ≡ true → Found head rs exit visits i k (coming head rs exit visits i k)
 found head rs exit [] i k e = absurd (cc)
-found head rs exit (v ∷ visits) i k e = go ((v.run == i) && same v.conn k) refl e
+found head rs exit (v ∷ visits) i k e = go (found head rs exit visits i k) ((v.run == i) && same v.conn k) refl e
   where
-    go : (b : Bool) → ((v.run == i) && same v.conn k) ≡ b → (b || list_any (λ w. (w.run == i) && same w.conn k) visits) ≡ true
+    go : (is_visit visits i k ≡ true → Found head rs exit visits i k (coming head rs exit visits i k)) → (b : Bool) → ((v.run == i) && same v.conn k) ≡ b → (b || list_any (λ w. (w.run == i) && same w.conn k) visits) ≡ true
         → Found head rs exit (v ∷ visits) i k (if b then asks_by head rs exit v.kept else coming head rs exit visits i k)
-    go true t x = let (a, c) = both (v.run == i) (same v.conn k) t in record { visit = v; among = inl refl; run_is = equal_nat v.run i a; conn_is = same_true v.conn k c; asks_are = refl }
+    go more true t x = let (a, c) = both (v.run == i) (same v.conn k) t in record { visit = v; among = inl refl; run_is = equal_nat v.run i a; conn_is = same_true v.conn k c; asks_are = refl }
       where
         equal_nat : (a b : ℕ) → (a == b) ≡ true → a ≡ b
         equal_nat a b q = elim (eq_or a b) [ equal p u ↦ p | unequal p u ↦ absurd (cc) ]
-    go false t x = let f = found head rs exit visits i k x in record { visit = f.visit; among = inr f.among; run_is = f.run_is; conn_is = f.conn_is; asks_are = f.asks_are }
+    go more false t x = let f = more x in record { visit = f.visit; among = inr f.among; run_is = f.run_is; conn_is = f.conn_is; asks_are = f.asks_are }
 
 -- a visit is one
 pub is_one : (visits : List Visit) (v : Visit) → In v visits → is_visit visits v.run v.conn ≡ true
@@ -171,11 +171,11 @@ alone_at n visits first_ (x ∷ a) r b o = let same_ : first_ + suc (length a) �
 -- who is told a number is told that of a log
 teller_number : (set : Settings) (n : ℕ) (k : ConnId) (h : List Happened) (m end : Machine) → Sound set m → Run set m h end → In k (tellers n h) → (1 ≤ n) × (n ≤ 2176782335)
 teller_number set n k [] m end sound runs i = absurd i
-teller_number set n k (Did act ∷ h) m end sound (mid, step, rest) i = go (tells_log n act.answers) refl i
+teller_number set n k (Did act ∷ h) m end sound (mid, step, rest) i = go (teller_number set n k h mid end (step_sound set m act mid sound step) rest) (tells_log n act.answers) refl i
   where
-    go : (b : Bool) → tells_log n act.answers ≡ b → In k (if b then act.job.conn ∷ tellers n h else tellers n h) → (1 ≤ n) × (n ≤ 2176782335)
-    go true e j = let t = told_by set n m act mid sound step e in ((let up = t.above in omega (arith, up)), t.low)
-    go false e j = teller_number set n k h mid end (step_sound set m act mid sound step) rest j
+    go : (In k (tellers n h) → (1 ≤ n) × (n ≤ 2176782335)) → (b : Bool) → tells_log n act.answers ≡ b → In k (if b then act.job.conn ∷ tellers n h else tellers n h) → (1 ≤ n) × (n ≤ 2176782335)
+    go more true e j = let t = told_by set n m act mid sound step e in ((let up = t.above in omega (arith, up)), t.low)
+    go more false e j = more j
 teller_number set n k (Tailed tail ∷ h) m end sound (mid, ended, rest) i = teller_number set n k h mid end (tail_sound set m tail mid sound ended) rest i
 teller_number set n k (Begins texts ∷ h) m end sound runs i = absurd runs
 
@@ -222,12 +222,12 @@ restarts_append n k (Begins texts ∷ g) h r = restarts_append n k g h r
 
 tellers_append : (n : ℕ) (k : ConnId) (g h : List Happened) → In k (tellers n g) → In k (tellers n (g ++ h))
 tellers_append n k [] h i = absurd i
-tellers_append n k (Did act ∷ g) h i = go (tells_log n act.answers) i
+tellers_append n k (Did act ∷ g) h i = go (tellers_append n k g h) (tells_log n act.answers) i
   where
-    go : (b : Bool) → In k (if b then act.job.conn ∷ tellers n g else tellers n g) → In k (if b then act.job.conn ∷ tellers n (g ++ h) else tellers n (g ++ h))
-    go true (inl e) = inl e
-    go true (inr j) = inr (tellers_append n k g h j)
-    go false j = tellers_append n k g h j
+    go : (In k (tellers n g) → In k (tellers n (g ++ h))) → (b : Bool) → In k (if b then act.job.conn ∷ tellers n g else tellers n g) → In k (if b then act.job.conn ∷ tellers n (g ++ h) else tellers n (g ++ h))
+    go more true (inl e) = inl e
+    go more true (inr j) = inr (more j)
+    go more false j = more j
 tellers_append n k (Tailed tail ∷ g) h i = tellers_append n k g h i
 tellers_append n k (Begins texts ∷ g) h i = tellers_append n k g h i
 
@@ -263,13 +263,13 @@ module _ (words : Words) (lane lanes n : ℕ) (head : Head) (rs : List Record) (
       let p = relayed.each w.visit w.among in
       let on = its_run w.visit p.at in
       let here : In (server.LogId id) (server_hello ∷ said_to w.visit.conn (map reply_of (all_answers p.at.its.events))) = subst (In (server.LogId id)) p.read.whole (in_left (server.LogId id) w.visit.read p.read.later (in_of w.visit.read (server.LogId id) w.read)) in
-      let (i, r) = read_number p.at.its.set w.visit.conn p.at.its.events p.at.its.start p.at.its.end id on.runs (not_hello here) in
+      let (i, r) = read_number p.at.its.set w.visit.conn p.at.its.events p.at.its.start p.at.its.end id on.runs (not_hello (said_to w.visit.conn (map reply_of (all_answers p.at.its.events))) here) in
       let (some, low) = teller_number p.at.its.set i w.visit.conn p.at.its.events p.at.its.start p.at.its.end (starts_sound p.at.its.set p.at.its.texts p.at.its.start on.starts) on.runs r.told in
       (i, record { visit = w.visit; among = in_of visits w.visit w.among; at = p.at; number = ap log_no_in (sym r.is) ∙ words.number_is i some low; told = r.told })
     where
-      not_hello : {ms : List ServerMessage} → In (server.LogId id) (server_hello ∷ ms) → In (server.LogId id) ms
-      not_hello (inl e) = absurd (cc)
-      not_hello (inr x) = x
+      not_hello : (ms : List ServerMessage) → In (server.LogId id) (server_hello ∷ ms) → In (server.LogId id) ms
+      not_hello ms (inl e) = absurd (cc)
+      not_hello ms (inr x) = x
 
   pub kept_number : (v : Visit) → In v visits → IsNumber head rs exit v.kept
   kept_number v i = go v.kept (was_read [] visits v relayed.kept i)
@@ -338,7 +338,7 @@ module _ (words : Words) (lane lanes n : ℕ) (head : Head) (rs : List Record) (
     expected a r b is on = lists_follow n (is_visit visits (length a)) r.events (coming head rs exit visits (length a)) lists (others_aside r.set n (is_visit visits (length a)) r.events r.start r.end on.runs alone (only_visits a r b is))
       where
         alone : NoRestartBut n (is_visit visits (length a)) r.events
-        alone = alone_at n visits 0 a r b (subst (OnlyVisitsRestart n visits 0) is relayed.alone)
+        alone = let same_ : 0 + length a ≡ length a = omega arith in subst (λ x. NoRestartBut n (is_visit visits x) r.events) same_ (alone_at n visits 0 a r b (subst (OnlyVisitsRestart n visits 0) is relayed.alone))
 
         lists : (k : ConnId) → is_visit visits (length a) k ≡ true → BringsAsked (coming head rs exit visits (length a) k) (bodies_of k (jobs_of r.events))
         lists k o =

@@ -1,15 +1,13 @@
 -- What an upstream owes after a commit point: the records of a log that it holds.
-use Rattle.std.specs.Prelude.{◌≡◌, ◌≢◌, ◌≤◌, ◌⊎◌, ℕ, Bool, true, false, List, [], ◌∷◌, ◌++◌, length, take, map, Some, Ok}
+use Rattle.std.specs.Prelude.{◌≡◌, ◌≢◌, ◌≤◌, ◌⊎◌, ℕ, Bool, true, false, List, [], ◌∷◌, ◌++◌, length, take, Some, Ok}
 use Rattle.lsv_record.specs.Points.{Stored, first}
-use Rattle.lsv_record.specs.Records.{delay_of}
 use Rattle.lsv_record.specs.declared.records.Record.{Record}
 use Rattle.lsv_request.specs.declared.request.Request.TheVariants as request
 use Rattle.lsv_request.specs.declared.request.Restart.{Restart}
 use Rattle.lsv_session.specs.declared.connection.ConnId.{ConnId}
 use Rattle.lsv_machine.specs.Answers.{Answer, Saying.CommitPoint}
-use Rattle.lsv_machine.specs.Durable.{IsPrefix, Reading}
-use Rattle.lsv_disk.specs.View.{Image}
-use Rattle.lsv_machine.specs.History.{Ledger, ledger, request_in, shown, writes}
+use Rattle.lsv_machine.specs.Durable.{IsPrefix, Recovered}
+use Rattle.lsv_machine.specs.History.{Ledger, ledger, request_in, writes}
 use Rattle.lsv_machine.specs.Turns.{Happened, Happened.Did, Happened.Tailed, Happened.Begins}
 use Rattle.lsv_upstream.specs.Runs.{ServerRun, history_at}
 
@@ -24,12 +22,12 @@ pub record HoldsThrough (rs : List Record) (point : ℕ) (l : Ledger) : Type 0 w
   pub prefix : IsPrefix l.sent rs
   pub promises : (f : ℕ) → first rs point ≡ Some f → PromisesAtLeast l f
 
--- an image has log n with the first f records that the history shows
-pub record ImageHolds (r : Reading) (h : List Happened) (n f : ℕ) (image : Image) : Type 0 where
-  pub found : Stored
-  pub is : r.replays image n (Some found)
-  pub records : take f found.records ≡ take f (shown h n)
-  pub enough : f ≤ length found.records
+-- what is recovered of a log is a log, and has the first f of these records
+pub record HoldsFirst (f : ℕ) (records : List Record) (found : Recovered) : Type 0 where
+  pub stored : Stored
+  pub is : found ≡ Some stored
+  pub same : take f stored.records ≡ take f records
+  pub enough : f ≤ length stored.records
 
 -- ---- When it is promised
 

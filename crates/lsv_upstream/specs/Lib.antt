@@ -5,3 +5,4 @@ pub mod Relayed
 pub mod Sent
 pub mod Passed
 pub mod Playing
+pub mod Examples

@@ -2,10 +2,9 @@
 
 ghost use Rattle.std.specs.Prelude.{◌≡◌, ℕ, List, [], ◌∷◌, ◌++◌, Option, Some, Contains};
 ghost use Rattle.lsv_base.specs.Time.{time_of};
-ghost use Rattle.lsv_disk.specs.View.{Image};
 ghost use Rattle.lsv_info.specs.declared.times.Exit.{Exit};
 ghost use Rattle.lsv_info.specs.declared.times.Head.{Head};
-ghost use Rattle.lsv_machine.specs.Durable.{Good, Reading};
+ghost use Rattle.lsv_machine.specs.Durable.{GoodLog, Recovered};
 ghost use Rattle.lsv_machine.specs.History.{ledger, sent, shown};
 ghost use Rattle.lsv_machine.specs.Machine.{IsOfLane};
 ghost use Rattle.lsv_machine.specs.Turns.{AllBegin, Happened};
@@ -16,7 +15,7 @@ ghost use Rattle.lsv_record.specs.Records.{elapsed};
 ghost use Rattle.lsv_record.specs.declared.records.Record.{Record};
 ghost use Rattle.lsv_session.specs.Transcript.{bodies_of};
 ghost use Rattle.lsv_session.specs.declared.connection.ConnId.{ConnId};
-ghost use Rattle.lsv_upstream.specs.Held.{GetsPoint, HoldsThrough, ImageHolds, NoRestart, PromisesAtLeast, TellsPoint, answers_at, up_to};
+ghost use Rattle.lsv_upstream.specs.Held.{GetsPoint, HoldsFirst, HoldsThrough, NoRestart, PromisesAtLeast, TellsPoint, answers_at, up_to};
 ghost use Rattle.lsv_upstream.specs.Jobs.{BringsFirst, IsStorable, ReadsFirst, jobs_of};
 ghost use Rattle.lsv_upstream.specs.Passed.{HasSent.Opened, HasSent.Resumed, HoldsAfter, sent_in};
 ghost use Rattle.lsv_upstream.specs.Relayed.{IsAcknowledged, IsRelayed, Visit, acknowledged_at, happens_after};
@@ -66,10 +65,10 @@ pub fn a_passed_on_log_is_held()
     lsv_record::a_cut_ends_at_the_first_record_of_its_point();
 }
 
-/// What is promised of a log is in each image that is good for the history: the first of its records, as they are shown.
-/// They are shown as sent, if no run masks.
+/// What is promised of a log is in whatever is recovered of it that is good for the history: the first of its records, as
+/// they are shown. They are shown as sent, if no run masks.
 pub fn what_is_promised_is_in_the_images()
-    ensures images { (r : Reading) (h : List Happened) (n f : ℕ) (image : Image) → Good r h image n → PromisesAtLeast (ledger h n) f → ImageHolds r h n f image }
+    ensures images { (h : List Happened) (n f : ℕ) (found : Recovered) → GoodLog (ledger h n) found → PromisesAtLeast (ledger h n) f → HoldsFirst f (shown h n) found }
     ensures plain { (h : List Happened) (n : ℕ) → AllBegin [] h → shown h n ≡ sent h n }
 {
     lsv_machine::what_is_shown_is_masked();
