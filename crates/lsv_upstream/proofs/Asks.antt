@@ -1,6 +1,6 @@
 -- What the messages of a stored log ask, and what a connection that brings the first of them asks.
-use Rattle.std.proofs.Common.{◌≡◌, ◌≤◌, ◌<◌, ◌^◌, ℕ, List, [], ◌∷◌, ◌++◌, length, drop, map, refl, sym, ◌∙◌, ap, subst, inl, inr, arith, Option, Some, None, ◌⊎◌}
-use Rattle.std.specs.Prelude.{Bool, true, false, Result, Ok, Err, All, IsSome}
+use Rattle.std.proofs.Common.{◌≡◌, ◌≤◌, ◌<◌, ◌^◌, ℕ, List, [], ◌∷◌, ◌++◌, drop, map, refl, sym, ◌∙◌, ap, subst, inl, inr, Option, Some, None}
+use Rattle.std.specs.Prelude.{true, Result, Ok, All, IsSome}
 use Rattle.std.proofs.lemmas.List.Elements.{All-drop, All-head, All-tail}
 use Rattle.lsv_base.specs.LogNo.{digits_of, log_no_in}
 use Rattle.lsv_base.specs.Time.{nanos_of, time_of}
@@ -8,9 +8,8 @@ use Rattle.lsv_info.specs.declared.times.Exit.{Exit}
 use Rattle.lsv_info.specs.declared.times.Head.{Head}
 use Rattle.lsv_msg.specs.declared.messages.ClientHello.{ClientHello}
 use Rattle.lsv_msg.specs.declared.messages.ClientMessage.{ClientMessage}
-use Rattle.lsv_msg.specs.declared.messages.ClientMessage.TheVariants as client
 use Rattle.lsv_record.specs.Points.{first}
-use Rattle.lsv_record.specs.Records.{IsValid, elapsed}
+use Rattle.lsv_record.specs.Records.{IsValid}
 use Rattle.lsv_record.specs.declared.records.Record.{Record}
 use Rattle.lsv_request.specs.Requests.{request_of}
 use Rattle.lsv_request.specs.Stored.{exit_message, head_message, record_message}
@@ -21,7 +20,7 @@ use Rattle.lsv_request.specs.declared.request.Restart.{Restart}
 use Rattle.lsv_session.specs.declared.job.Body.{Body}
 use Rattle.lsv_session.specs.declared.job.Body.TheVariants as body
 use Rattle.lsv_machine.specs.History.{request_in}
-use Rattle.lsv_upstream.specs.Jobs.{BringsFirst, IsStorable, NoMessages, exit_messages, played_anew, played_on, restart_message}
+use Rattle.lsv_upstream.specs.Jobs.{BringsFirst, NoMessages, exit_messages, played_anew, played_on, restart_message}
 use Rattle.lsv_upstream.specs.Playing.{BringsAsked, StillAsks, StillAsks.Greets, StillAsks.Opens, StillAsks.Resumes, asks_from, ending}
 use Rattle.lsv_upstream.proofs.Members.{In, in_append, in_left, in_map}
 

@@ -1,10 +1,8 @@
 -- A commit point that is told in a job answers the exit of one who has sent all.
-use Rattle.std.proofs.Common.{◌≡◌, ◌≢◌, ◌≤◌, ◌<◌, ◌+◌, ℕ, List, [], ◌∷◌, ◌++◌, length, take, map, refl, sym, ◌∙◌, ap, subst, inl, inr, arith, Option, Some, None, ◌⊎◌}
-use Rattle.std.specs.Prelude.{◌||◌, Bool, true, false, if◌then◌else◌, Result, Ok, Err}
+use Rattle.std.proofs.Common.{◌≡◌, ◌≤◌, ℕ, List, [], ◌∷◌, ◌++◌, length, take, map, refl, sym, ◌∙◌, ap, subst, inl, inr, arith, Option, Some, ◌⊎◌}
+use Rattle.std.specs.Prelude.{Bool, true, false, if◌then◌else◌, Result, Ok}
 use Rattle.lsv_info.specs.Layout.{exit_text}
 use Rattle.lsv_info.specs.declared.times.Exit.{Exit}
-use Rattle.lsv_msg.specs.declared.messages.ClientMessage.{ClientMessage}
-use Rattle.lsv_record.specs.Points.{first}
 use Rattle.lsv_record.specs.Records.{delay_of, elapsed}
 use Rattle.lsv_record.specs.declared.records.Record.{Record}
 use Rattle.lsv_record.proofs.Points.{first_some}
@@ -18,24 +16,21 @@ use Rattle.lsv_session.specs.declared.job.Body.TheVariants as body
 use Rattle.lsv_machine.specs.Answers.{Answer, Saying, Saying.CommitPoint, Saying.Error, Saying.Shut, farewell, refusal, say}
 use Rattle.lsv_machine.specs.Judgement.{fault_refusal}
 use Rattle.lsv_machine.specs.Failures.{Act, Breaks, FailsCut, LosesLog, Step}
-use Rattle.lsv_machine.specs.History.{Ledger, asked, becomes, heard_all, is_exit, is_gone, noted, request_in, reopened, writes}
+use Rattle.lsv_machine.specs.History.{Ledger, asked, becomes, heard_all, is_exit, is_gone, noted, request_in, writes}
 use Rattle.lsv_machine.specs.Machine.{Machine, Settings, is_dead}
 use Rattle.lsv_machine.specs.Turns.{Happened.Did}
-use Rattle.lsv_machine.specs.Work.{dropped, plain}
-use Rattle.lsv_machine.proofs.Choices.{same_refl}
+use Rattle.lsv_machine.specs.Work.{plain}
 use Rattle.lsv_machine.proofs.JobFits.{Last, refused_last}
 use Rattle.lsv_machine.proofs.Shapes.{Shape, Shape.parting, Shape.quiet, Shape.refusing, Shape.shutting, Shape.told_end, Shape.told_log, plain_looks}
-use Rattle.lsv_upstream.specs.Held.{HoldsThrough, PromisesAtLeast, TellsPoint}
-use Rattle.lsv_upstream.specs.Playing.{IsExpected, IsNext, Played, asks_from}
+use Rattle.lsv_upstream.specs.Held.{HoldsThrough, TellsPoint}
+use Rattle.lsv_upstream.specs.Playing.{IsExpected, IsNext, asks_from}
 use Rattle.lsv_upstream.proofs.Answering.{breaks_last, record_or}
 use Rattle.lsv_upstream.proofs.Asking.{Next.a_record, Next.an_exit, next_from}
-use Rattle.lsv_upstream.proofs.Keeping.{all_less, reopened_less, less_then, Less, writer_owner}
-use Rattle.lsv_upstream.proofs.Law.{Known}
+use Rattle.lsv_upstream.proofs.Keeping.{all_less, reopened_less, less_then, writer_owner}
 use Rattle.lsv_upstream.proofs.Told.{last_no}
 use Rattle.lsv_machine.proofs.Fits.{fits_of_stands}
 use Rattle.lsv_machine.proofs.WorkFits.{holds_there}
-use Rattle.lsv_machine.specs.Stands.{HoldsAt, HoldsRecords, StandsFor}
-use Rattle.lsv_machine.specs.Machine.{LogState, LogState.Absent, LogState.Damaged, LogState.There}
+use Rattle.lsv_machine.specs.Stands.{StandsFor}
 
 -- a job tells its connection at most one commit point, and a Shut behind it
 told_shape : (k j : ConnId) (c : ℕ) (answers : List Answer) → Shape j answers → TellsPoint k c answers → (d : ℕ) × (answers ≡ say j (CommitPoint d) ∷ say j Shut ∷ [])

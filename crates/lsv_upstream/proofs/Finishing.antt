@@ -1,5 +1,5 @@
 -- A job that is answered by a commit point asks for an exit; then all that was shown is promised.
-use Rattle.std.proofs.Common.{◌≡◌, ◌≢◌, ℕ, List, [], ◌∷◌, ◌++◌, length, refl, sym, ◌∙◌, ap, subst, inl, inr, Option, Some, None, ◌⊎◌}
+use Rattle.std.proofs.Common.{◌≡◌, ℕ, List, [], ◌∷◌, length, refl, sym, ◌∙◌, ap, inl, inr, Option, Some, None, ◌⊎◌}
 use Rattle.std.specs.Prelude.{◌||◌, not, nat_lt, Bool, true, false, if◌then◌else◌, is_some, Result, Ok, Err}
 use Rattle.lsv_base.specs.declared.time.TimeSpec.{TimeSpec}
 use Rattle.lsv_info.specs.Layout.{exit_text, head_text}
@@ -24,8 +24,7 @@ use Rattle.lsv_machine.specs.Judgement.{fault_refusal, judged}
 use Rattle.lsv_machine.specs.Machine.{LogState, LogState.Absent, LogState.Damaged, LogState.There, Machine, Settings, forgets, is_dead, is_running, log_of, with_log, with_owner, with_state}
 use Rattle.lsv_machine.specs.Stands.{StandsFor}
 use Rattle.lsv_machine.specs.Turns.{Happened.Did}
-use Rattle.lsv_machine.specs.Work.{Done, alive, answered, before_line, can_cut, cut_to, draws, dropped, ends, exited, fits_file, has_line, last_number, line_fits, line_in, lined, makes, opened, plain, recorded, refused, restarted_at, resumed, silently, taken, takes, waits, with_record, work}
-use Rattle.lsv_machine.proofs.Choices.{same_refl}
+use Rattle.lsv_machine.specs.Work.{Done, alive, answered, before_line, can_cut, cut_to, draws, dropped, ends, fits_file, has_line, last_number, line_fits, line_in, lined, makes, opened, plain, recorded, refused, restarted_at, resumed, silently, taken, takes, waits, with_record, work}
 use Rattle.lsv_machine.proofs.Fits.{fits_of_stands}
 use Rattle.lsv_machine.proofs.JobFits.{Last, Last.by_refusal, Last.by_shut, refused_last}
 use Rattle.lsv_machine.proofs.JudgedLemmas.{judged_ok}
@@ -33,7 +32,7 @@ use Rattle.lsv_machine.proofs.WorkFits.{holds_there}
 use Rattle.lsv_upstream.specs.Held.{TellsPoint}
 use Rattle.lsv_upstream.proofs.Answering.{breaks_last}
 use Rattle.lsv_upstream.proofs.Exits.{becomes_told, told_end_of}
-use Rattle.lsv_upstream.proofs.Keeping.{Less, all_less, less_then, reopened_less, writer_owner}
+use Rattle.lsv_upstream.proofs.Keeping.{all_less, less_then, reopened_less, writer_owner}
 
 -- whether this is a commit point
 abbrev is_point : Saying → Bool

@@ -1,48 +1,36 @@
 -- The law of a whole history: what was sent is a prefix of the records, and a commit point at their elapsed time that is told to a writer promises them.
-use Rattle.std.proofs.Common.{◌≡◌, ◌≢◌, ◌≤◌, ◌<◌, ◌+◌, ℕ, zero, suc, List, [], ◌∷◌, ◌++◌, length, take, drop, map, refl, sym, ◌∙◌, ap, subst, inl, inr, arith, Option, Some, None, ◌⊎◌}
+use Rattle.std.proofs.Common.{◌≡◌, ◌≤◌, ◌<◌, ℕ, List, [], ◌∷◌, ◌++◌, length, map, refl, sym, ◌∙◌, ap, subst, inl, inr, arith, Option, Some, None}
 use Rattle.std.specs.Prelude.{◌==◌, ◌&&◌, Bool, true, false, if◌then◌else◌, Result, Ok, Err}
 use Rattle.std.proofs.lemmas.Grind.{common_steps}
 use Rattle.lsv_info.specs.Layout.{exit_text, head_text}
 use Rattle.lsv_info.specs.declared.times.Exit.{Exit}
 use Rattle.lsv_mask.specs.Masking.{covered}
-use Rattle.lsv_record.specs.Points.{Stored, cut, first, kept}
+use Rattle.lsv_record.specs.Points.{cut, first, kept}
 use Rattle.lsv_record.specs.Records.{delay_of, elapsed}
 use Rattle.lsv_record.specs.declared.records.Record.{Record}
 use Rattle.lsv_record.proofs.Points.{first_append, first_delays, first_end, first_some, length_cut}
-use Rattle.lsv_request.specs.Requests.{request_of}
 use Rattle.lsv_request.specs.declared.refusal.Refusal.{Refusal}
-use Rattle.lsv_request.specs.declared.refusal.Refusal.TheVariants as refusals
 use Rattle.lsv_request.specs.declared.request.Request.{Request}
 use Rattle.lsv_request.specs.declared.request.Request.TheVariants as request
-use Rattle.lsv_request.specs.declared.request.Restart.{Restart}
 use Rattle.lsv_session.specs.declared.connection.ConnId.{ConnId}
-use Rattle.lsv_session.specs.declared.job.Body.{Body}
-use Rattle.lsv_session.specs.declared.job.Body.TheVariants as body
-use Rattle.lsv_machine.specs.Answers.{Answer, Saying.CommitPoint, Saying.LogId, Saying.Shut, farewell, is_silent, refusal, say}
+use Rattle.lsv_machine.specs.Answers.{is_silent}
 use Rattle.lsv_machine.specs.Durable.{IsPrefix}
-use Rattle.lsv_machine.specs.Failures.{Act, Breaks, FailsCut, LetsGo, LosesLog, Step}
-use Rattle.lsv_machine.specs.History.{Ledger, asked, becomes, blank, heard_all, is_exit, is_gone, ledger, ledger_from, lowered_to, noted, opened_by, request_in, reopened, resumed_by, sent_one, tells_log, writes}
+use Rattle.lsv_machine.specs.Failures.{Act, Step}
+use Rattle.lsv_machine.specs.History.{Ledger, asked, blank, heard_all, is_exit, is_gone, ledger, lowered_to, noted, opened_by, request_in, resumed_by, sent_one, tells_log, writes}
 use Rattle.lsv_machine.specs.Machine.{IsOfLane, Machine, Settings, log_of}
-use Rattle.lsv_machine.specs.Stands.{HoldsRecords, StandsFor, as_list}
+use Rattle.lsv_machine.specs.Stands.{StandsFor, as_list}
 use Rattle.lsv_machine.specs.Starts.{GoodState, StartsAs}
 use Rattle.lsv_machine.specs.Turns.{EndOfTurn, Happened, Happened.Did, Happened.Tailed, Happened.Begins, Run, Tail}
-use Rattle.lsv_machine.specs.Work.{plain}
-use Rattle.lsv_machine.proofs.Choices.{EqOr.equal, EqOr.unequal, eq_or}
-use Rattle.lsv_machine.proofs.Fits.{fits_of_stands, writes_its}
-use Rattle.lsv_machine.proofs.JobFits.{Last, Last.by_refusal, Last.by_shut, refused_last}
-use Rattle.lsv_machine.proofs.RecordLemmas.{cut_alike, prefix_trans, take_prefix}
+use Rattle.lsv_machine.proofs.Fits.{writes_its}
 use Rattle.lsv_machine.proofs.RunLaws.{job_stands, ledger_append, starts_stand, tail_stands}
-use Rattle.lsv_machine.proofs.Shapes.{Shape, Shape.parting, Shape.quiet, Shape.refusing, Shape.shutting, Shape.told_end, Shape.told_log, plain_looks}
 use Rattle.lsv_machine.proofs.Shown.{ByDelays, shown_delays}
-use Rattle.lsv_machine.proofs.WorkFits.{holds_there}
-use Rattle.lsv_upstream.specs.Held.{HoldsThrough, PromisesAtLeast, TellsPoint}
-use Rattle.lsv_upstream.specs.Playing.{AllExpected, IsExpected, Played, PlayedRun, PlayedRuns, PlayedRuns.NoRun, PlayedRuns.OneMore, StillAsks, all_asks_after, asks_after, asks_from, with_asks, with_run}
+use Rattle.lsv_upstream.specs.Held.{HoldsThrough, TellsPoint}
+use Rattle.lsv_upstream.specs.Playing.{AllExpected, IsExpected, Played, PlayedRun, PlayedRuns, PlayedRuns.NoRun, PlayedRuns.OneMore, StillAsks, all_asks_after, with_run}
 use Rattle.lsv_upstream.proofs.Among.{among}
-use Rattle.lsv_upstream.proofs.Answering.{breaks_last, record_or, silent_asks, told_above}
-use Rattle.lsv_upstream.proofs.Asking.{Next.a_record, Next.an_exit, next_from}
+use Rattle.lsv_upstream.proofs.Answering.{told_above}
 use Rattle.lsv_upstream.proofs.Jobs.{job_played}
 use Rattle.lsv_upstream.proofs.Keeping.{Less, all_less, less_then, reopened_less, writer_owner}
-use Rattle.lsv_upstream.proofs.Told.{last_no, tail_told}
+use Rattle.lsv_upstream.proofs.Told.{tail_told}
 use Rattle.lsv_upstream.proofs.Waits.{Went, Went.grows, Went.took, step_went}
 
 -- a log that waits has a record, and is not above the last number

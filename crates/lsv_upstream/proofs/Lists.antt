@@ -1,6 +1,6 @@
 -- From lists of jobs to jobs one by one.
-use Rattle.std.proofs.Common.{◌≡◌, ◌≢◌, ℕ, List, [], ◌∷◌, ◌++◌, map, refl, sym, ◌∙◌, ap, subst, inl, inr, Some, None, ◌⊎◌}
-use Rattle.std.specs.Prelude.{Bool, true, false, if◌then◌else◌, Result, Ok, Err}
+use Rattle.std.proofs.Common.{◌≡◌, ℕ, List, [], ◌∷◌, ◌++◌, map, refl, sym, ◌∙◌, ap, subst, inl, inr}
+use Rattle.std.specs.Prelude.{Bool, true, false, Ok}
 use Rattle.lsv_msg.specs.declared.messages.ClientMessage.{ClientMessage}
 use Rattle.lsv_request.specs.Requests.{request_of}
 use Rattle.lsv_request.specs.declared.request.Request.{Request}
@@ -9,12 +9,10 @@ use Rattle.lsv_session.specs.Connections as connections
 use Rattle.lsv_session.specs.declared.connection.ConnId.{ConnId}
 use Rattle.lsv_session.specs.declared.job.Body.{Body}
 use Rattle.lsv_session.specs.declared.job.Body.TheVariants as body
-use Rattle.lsv_machine.specs.Failures.{Act}
-use Rattle.lsv_machine.specs.Machine.{same}
 use Rattle.lsv_machine.specs.Turns.{Happened, Happened.Did, Happened.Tailed, Happened.Begins}
 use Rattle.lsv_machine.proofs.Choices.{SameOr.alike, SameOr.apart, same_or, same_refl}
 use Rattle.lsv_upstream.specs.Jobs.{NoMessages, jobs_of}
-use Rattle.lsv_upstream.specs.Playing.{AllExpected, BringsAsked, IsExpected, IsNext, OthersAreAside, all_asks_after, asks_after, later_asks, with_asks}
+use Rattle.lsv_upstream.specs.Playing.{AllExpected, BringsAsked, IsExpected, IsNext, OthersAreAside, all_asks_after, asks_after, later_asks}
 
 -- the first of a connection's jobs brings what is asked next, and the others the rest
 pub record Splits (asks : List Request) (b : Body) (bodies : List Body) : Type 0 where

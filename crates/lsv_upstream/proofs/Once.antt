@@ -1,5 +1,5 @@
 -- The number of a log is told once.
-use Rattle.std.proofs.Common.{◌≡◌, ◌≢◌, ◌<◌, ℕ, List, [], ◌∷◌, ◌++◌, refl, sym, ◌∙◌, ap, subst, inl, inr, length, Option, Some, None, ◌⊎◌}
+use Rattle.std.proofs.Common.{◌≡◌, ℕ, List, [], ◌∷◌, refl, length, Option, Some, None}
 use Rattle.std.specs.Prelude.{◌==◌, ◌||◌, ◌&&◌, Bool, true, false, if◌then◌else◌, is_some, Result, Ok, Err}
 use Rattle.lsv_info.specs.Layout.{exit_text, head_text}
 use Rattle.lsv_request.specs.declared.refusal.Refusal.{Refusal}

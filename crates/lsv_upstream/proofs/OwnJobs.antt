@@ -1,13 +1,12 @@
 -- The same of one client among any others.
-use Rattle.std.proofs.Common.{◌≡◌, ◌≢◌, ◌≤◌, ◌<◌, ◌+◌, ℕ, List, [], ◌∷◌, ◌++◌, length, take, drop, map, refl, sym, ◌∙◌, ap, subst, inl, inr, arith, Option, Some, None, ◌⊎◌}
+use Rattle.std.proofs.Common.{◌≡◌, ◌≢◌, ◌≤◌, ◌<◌, ◌+◌, ℕ, List, [], ◌∷◌, ◌++◌, length, take, refl, sym, ◌∙◌, ap, subst, inl, inr, arith, Option, Some, None, ◌⊎◌}
 use Rattle.std.specs.Prelude.{◌==◌, ◌&&◌, Bool, true, false, if◌then◌else◌, Result, Ok, Err}
 use Rattle.lsv_info.specs.Layout.{exit_text, head_text}
 use Rattle.lsv_info.specs.declared.times.Exit.{Exit}
 use Rattle.lsv_msg.specs.declared.messages.ClientMessage.{ClientMessage}
-use Rattle.lsv_record.specs.Points.{Stored, cut, first}
-use Rattle.lsv_record.specs.Records.{delay_of}
+use Rattle.lsv_record.specs.Points.{cut, first}
 use Rattle.lsv_record.specs.declared.records.Record.{Record}
-use Rattle.lsv_record.proofs.Points.{cut_append, cut_longer, first_append, first_delays, first_some}
+use Rattle.lsv_record.proofs.Points.{first_some}
 use Rattle.lsv_request.specs.Requests.{request_of}
 use Rattle.lsv_request.specs.declared.refusal.Refusal.{Refusal}
 use Rattle.lsv_request.specs.declared.refusal.Refusal.TheVariants as refusals
@@ -18,26 +17,20 @@ use Rattle.lsv_session.specs.declared.connection.ConnId.{ConnId}
 use Rattle.lsv_session.specs.declared.job.Body.{Body}
 use Rattle.lsv_session.specs.declared.job.Body.TheVariants as body
 use Rattle.lsv_machine.specs.Answers.{Answer, is_silent}
-use Rattle.lsv_machine.specs.Durable.{IsPrefix}
 use Rattle.lsv_machine.specs.Failures.{Act, Step}
-use Rattle.lsv_machine.specs.History.{Ledger, asked, heard_all, is_exit, is_gone, lowered_to, noted, opened_by, request_in, reopened, resumed_by, sent_one, tells_log, writes}
-use Rattle.lsv_machine.specs.Machine.{Machine, Settings, is_dead, log_of, same}
+use Rattle.lsv_machine.specs.History.{Ledger, asked, heard_all, is_exit, is_gone, lowered_to, noted, opened_by, request_in, resumed_by, sent_one, tells_log, writes}
+use Rattle.lsv_machine.specs.Machine.{Machine, Settings, is_dead}
 use Rattle.lsv_machine.specs.Resuming.{HasResumed}
-use Rattle.lsv_machine.specs.Stands.{HoldsAt, StandsFor}
+use Rattle.lsv_machine.specs.Stands.{StandsFor}
 use Rattle.lsv_machine.specs.Turns.{Happened.Did}
 use Rattle.lsv_machine.proofs.Choices.{EqOr.equal, EqOr.unequal, eq_or, SameOr.alike, SameOr.apart, same_or, same_refl}
-use Rattle.lsv_machine.proofs.Fits.{fits_of_stands, writes_none}
-use Rattle.lsv_machine.proofs.RunLaws.{job_stands}
-use Rattle.lsv_machine.proofs.StepLooks.{step_seen}
 use Rattle.lsv_machine.proofs.JobFits.{Last, Last.by_refusal, Last.by_shut}
 use Rattle.lsv_machine.proofs.OutcomeLemmas.{accepted_restart}
-use Rattle.lsv_machine.proofs.RecordLemmas.{cut_alike, take_prefix}
-use Rattle.lsv_machine.proofs.WorkFits.{holds_there}
 use Rattle.lsv_upstream.specs.Playing.{HasBegun, IsNext, PlayedOwn, StillAsks, StillAsks.Over, all_asks_after, asks_after, asks_from, later_asks, with_asks}
 use Rattle.lsv_upstream.proofs.Answering.{record_or, silent_asks, told_above}
 use Rattle.lsv_upstream.proofs.Asking.{Asked, Asked.exits, Asked.goes_on, Asked.greets, Asked.opens, Asked.plays, Next.a_record, Next.an_exit, asked_is, next_from}
 use Rattle.lsv_upstream.proofs.Others.{kept_writer}
-use Rattle.lsv_upstream.proofs.Keeping.{Less, all_less, last_writes, less_itself, less_then, nobody_writes, one_of, reopened_less, reopened_writes, writer_owner}
+use Rattle.lsv_upstream.proofs.Keeping.{Less, all_less, last_writes, less_then, nobody_writes, one_of, reopened_less, reopened_writes, writer_owner}
 
 silent_is : (answers : List Answer) → is_silent answers ≡ true → answers ≡ []
 silent_is [] e = refl

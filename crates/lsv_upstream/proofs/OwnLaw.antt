@@ -1,9 +1,8 @@
 -- One client among any others: a commit point at the elapsed time of its list that is told to it while it writes promises the list.
-use Rattle.std.proofs.Common.{◌≡◌, ◌≢◌, ◌≤◌, ◌<◌, ℕ, List, [], ◌∷◌, ◌++◌, length, take, map, refl, sym, ◌∙◌, ap, subst, inl, inr, arith, Option, Some, None, ◌⊎◌}
+use Rattle.std.proofs.Common.{◌≡◌, ℕ, List, [], ◌∷◌, ◌++◌, map, sym, ◌∙◌, ap, subst, inl, arith, Option}
 use Rattle.std.specs.Prelude.{Bool, true, false}
 use Rattle.std.proofs.lemmas.Grind.{common_steps}
 use Rattle.lsv_info.specs.declared.times.Exit.{Exit}
-use Rattle.lsv_record.specs.Points.{first}
 use Rattle.lsv_record.specs.Records.{delay_of, elapsed}
 use Rattle.lsv_record.specs.declared.records.Record.{Record}
 use Rattle.lsv_request.specs.declared.request.Request.{Request}

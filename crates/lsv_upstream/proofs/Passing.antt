@@ -1,13 +1,11 @@
 -- What one connection sends of a log while it writes it is all that was sent since it began.
-use Rattle.std.proofs.Common.{◌≡◌, ◌≢◌, ◌≤◌, ◌<◌, ◌+◌, ◌-◌, ℕ, List, [], ◌∷◌, ◌++◌, length, take, map, refl, sym, ◌∙◌, ap, subst, inl, inr, arith, Option, Some, None, ◌⊎◌}
-use Rattle.std.specs.Prelude.{◌==◌, ◌&&◌, Bool, true, false, if◌then◌else◌, Result, Ok, Err}
+use Rattle.std.proofs.Common.{◌≡◌, ◌<◌, ◌+◌, ◌-◌, ℕ, List, [], ◌∷◌, ◌++◌, length, refl, sym, ◌∙◌, ap, subst, arith, Some}
+use Rattle.std.specs.Prelude.{◌&&◌, Bool, true, false, if◌then◌else◌, Result, Ok, Err}
 use Rattle.lsv_info.specs.Layout.{exit_text, head_text}
-use Rattle.lsv_msg.specs.declared.messages.ClientMessage.{ClientMessage}
-use Rattle.lsv_record.specs.Points.{Stored, cut, first}
-use Rattle.lsv_record.specs.Records.{delay_of, elapsed}
+use Rattle.lsv_record.specs.Points.{cut, first}
+use Rattle.lsv_record.specs.Records.{elapsed}
 use Rattle.lsv_record.specs.declared.records.Record.{Record}
 use Rattle.lsv_record.proofs.Points.{cut_ends, first_delays, first_some}
-use Rattle.lsv_request.specs.Requests.{request_of}
 use Rattle.lsv_request.specs.declared.refusal.Refusal.{Refusal}
 use Rattle.lsv_request.specs.declared.request.Request.{Request}
 use Rattle.lsv_request.specs.declared.request.Request.TheVariants as request
@@ -17,14 +15,12 @@ use Rattle.lsv_session.specs.declared.connection.ConnState.{ConnState}
 use Rattle.lsv_session.specs.declared.connection.ConnState.TheVariants as conn_state
 use Rattle.lsv_session.specs.declared.job.Body.{Body}
 use Rattle.lsv_session.specs.declared.job.Body.TheVariants as body
-use Rattle.lsv_machine.specs.Answers.{Answer, Saying.CommitPoint, Saying.Shut, is_silent, say}
-use Rattle.lsv_machine.specs.Durable.{IsPrefix}
+use Rattle.lsv_machine.specs.Answers.{Answer, is_silent}
 use Rattle.lsv_machine.specs.Failures.{Act, Step}
-use Rattle.lsv_machine.specs.History.{Ledger, asked, becomes, blank, heard_all, is_exit, is_gone, ledger, lowered_to, noted, opened_by, request_in, resumed_by, sent_one, tells_log, writes}
-use Rattle.lsv_machine.specs.Machine.{IsOfLane, Machine, Settings, is_dead, log_of, same}
-use Rattle.lsv_machine.specs.Resuming.{HasResumed}
-use Rattle.lsv_machine.specs.Stands.{HoldsAt, StandsFor}
-use Rattle.lsv_machine.specs.Turns.{EndOfTurn, Happened, Happened.Did, Happened.Tailed, Happened.Begins, Run, Tail}
+use Rattle.lsv_machine.specs.History.{Ledger, asked, blank, heard_all, is_exit, is_gone, ledger, lowered_to, noted, opened_by, request_in, resumed_by, sent_one, tells_log, writes}
+use Rattle.lsv_machine.specs.Machine.{Machine, Settings, is_dead, log_of, same}
+use Rattle.lsv_machine.specs.Stands.{StandsFor}
+use Rattle.lsv_machine.specs.Turns.{Happened, Happened.Did, Happened.Tailed, Happened.Begins, Run}
 use Rattle.lsv_machine.proofs.Choices.{EqOr.equal, EqOr.unequal, SameOr.alike, SameOr.apart, eq_or, same_or}
 use Rattle.lsv_machine.proofs.Fits.{fits_of_stands}
 use Rattle.lsv_machine.proofs.OutcomeLemmas.{accepted_restart}

@@ -1,8 +1,7 @@
 -- Records through a point: of lists that begin alike, of a list cut short, and of a list after another.
-use Rattle.std.proofs.Common.{◌≡◌, ◌≢◌, ◌≤◌, ◌<◌, ◌+◌, ◌-◌, ℕ, zero, suc, List, [], ◌∷◌, ◌++◌, length, take, map, refl, sym, ◌∙◌, ap, subst, inl, inr, arith, Option, Some, None, ◌⊎◌}
+use Rattle.std.proofs.Common.{◌≡◌, ◌≤◌, ◌<◌, ◌+◌, ◌-◌, ℕ, zero, suc, List, [], ◌∷◌, ◌++◌, length, take, refl, sym, ◌∙◌, ap, subst, arith, Option, Some, None}
 use Rattle.std.specs.Prelude.{Bool, true, false, if◌then◌else◌, nat_le, max}
 use Rattle.std.proofs.lemmas.Bool.Decides.{nat_tests}
-use Rattle.std.proofs.lemmas.Grind.{common_steps}
 use Rattle.lsv_record.specs.Points.{IsFirst, cut, first, kept, one_more}
 use Rattle.lsv_record.specs.Records.{delay_of, elapsed}
 use Rattle.lsv_record.specs.declared.records.Record.{Record}
@@ -10,7 +9,7 @@ use Rattle.lsv_record.proofs.Points.{FirstBy.here, FirstBy.later, FirstBy.past, 
 use Rattle.lsv_machine.specs.Durable.{IsPrefix}
 use Rattle.lsv_machine.specs.History.{Ledger}
 use Rattle.lsv_machine.proofs.RecordLemmas.{prefix_trans, take_prefix}
-use Rattle.lsv_upstream.specs.Held.{HoldsThrough, PromisesAtLeast}
+use Rattle.lsv_upstream.specs.Held.{HoldsThrough}
 use Rattle.lsv_upstream.specs.Sent.{count_upto, reached_by}
 
 pub take_take : (n m : ℕ) (rs : List Record) → n ≤ m → take n (take m rs) ≡ take n rs

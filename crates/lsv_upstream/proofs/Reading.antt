@@ -1,7 +1,6 @@
 -- What a connection read was told to it by an event of the run; a log's number is told in a job of its own.
-use Rattle.std.proofs.Common.{◌≡◌, ◌≢◌, ◌/◌, ◌%◌, ℕ, List, [], ◌∷◌, ◌++◌, map, refl, sym, ◌∙◌, ap, subst, inl, inr, arith, Option, Some, None, ◌⊎◌}
+use Rattle.std.proofs.Common.{◌≡◌, ◌/◌, ◌%◌, ℕ, List, [], ◌∷◌, ◌++◌, map, refl, sym, ◌∙◌, ap, subst, inl, inr, arith}
 use Rattle.std.specs.Prelude.{◌==◌, ◌||◌, pos, Contains, Bool, true, false, if◌then◌else◌}
-use Rattle.std.specs.List.{list_any}
 use Rattle.lsv_base.specs.LogNo.{digits_of}
 use Rattle.lsv_base.specs.Time.{time_of}
 use Rattle.lsv_base.specs.declared.time.TimeSpec.{TimeSpec}
@@ -13,8 +12,8 @@ use Rattle.lsv_session.specs.Connections.{server_hello}
 use Rattle.lsv_session.specs.Transcript.{messages_in, said_to}
 use Rattle.lsv_session.specs.declared.connection.ConnId.{ConnId}
 use Rattle.lsv_session.specs.declared.reply.ReplyBody.TheVariants as reply
-use Rattle.lsv_machine.specs.Answers.{Answer, Saying, Saying.CommitPoint, Saying.Error, Saying.LogId, Saying.Shut, body_of, refusal, reply_of, say}
-use Rattle.lsv_machine.specs.Failures.{Act, IsRefused, Step}
+use Rattle.lsv_machine.specs.Answers.{Answer, Saying, Saying.CommitPoint, Saying.Error, Saying.LogId, Saying.Shut, body_of, reply_of}
+use Rattle.lsv_machine.specs.Failures.{IsRefused}
 use Rattle.lsv_machine.specs.History.{is_log_id, tells_log}
 use Rattle.lsv_machine.specs.Machine.{Machine, Settings}
 use Rattle.lsv_machine.specs.Silence.{AllTo}

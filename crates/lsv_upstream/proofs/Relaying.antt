@@ -1,27 +1,25 @@
 -- A relayed log is held from the commit point on at which a visit is told its elapsed time.
-use Rattle.std.proofs.Common.{◌≡◌, ◌≢◌, ◌≤◌, ◌<◌, ◌+◌, ℕ, zero, suc, List, [], ◌∷◌, ◌++◌, length, map, refl, sym, ◌∙◌, ap, subst, inl, inr, arith, Option, Some, None, ◌⊎◌}
-use Rattle.std.specs.Prelude.{Bool, true, false}
+use Rattle.std.proofs.Common.{◌≡◌, ℕ, List, [], ◌∷◌, ◌++◌, length, refl, sym, ◌∙◌, ap, subst, inl, inr, Option}
+use Rattle.std.specs.Prelude.{Bool, true}
 use Rattle.lsv_info.specs.declared.times.Exit.{Exit}
 use Rattle.lsv_info.specs.declared.times.Head.{Head}
-use Rattle.lsv_record.specs.Points.{first}
 use Rattle.lsv_record.specs.Records.{elapsed}
 use Rattle.lsv_record.specs.declared.records.Record.{Record}
 use Rattle.lsv_request.specs.declared.request.Request.{Request}
 use Rattle.lsv_session.specs.declared.connection.ConnId.{ConnId}
 use Rattle.lsv_machine.specs.Answers.{Answer}
 use Rattle.lsv_machine.specs.Durable.{IsPrefix}
-use Rattle.lsv_machine.specs.Failures.{Act, Step}
-use Rattle.lsv_machine.specs.History.{Ledger, blank, ledger, ledger_from, noted, writes}
+use Rattle.lsv_machine.specs.History.{Ledger, blank, ledger, noted, writes}
 use Rattle.lsv_machine.specs.Machine.{IsOfLane, Machine, Settings}
 use Rattle.lsv_machine.specs.Silence.{AllTo}
-use Rattle.lsv_machine.specs.Starts.{GoodState, StartsAs}
-use Rattle.lsv_machine.specs.Turns.{EndOfTurn, Happened, Happened.Did, Happened.Tailed, Happened.Begins, Run, Tail}
+use Rattle.lsv_machine.specs.Starts.{GoodState}
+use Rattle.lsv_machine.specs.Turns.{Happened, Happened.Did, Happened.Tailed, Happened.Begins, Run}
 use Rattle.lsv_machine.proofs.RunLaws.{ledger_append}
 use Rattle.lsv_machine.proofs.Shown.{ByDelays}
 use Rattle.lsv_machine.proofs.StepLooks.{step_seen}
-use Rattle.lsv_upstream.specs.Held.{GetsPoint, HoldsThrough, NoRestart, PromisesAtLeast, TellsPoint, answers_at, up_to}
+use Rattle.lsv_upstream.specs.Held.{HoldsThrough, NoRestart, PromisesAtLeast, TellsPoint, answers_at}
 use Rattle.lsv_upstream.specs.Jobs.{IsStorable}
-use Rattle.lsv_upstream.specs.Playing.{AllExpected, IsExpected, PlayedRun, PlayedRuns, PlayedRuns.NoRun, PlayedRuns.OneMore, StillAsks, all_asks_after, with_run}
+use Rattle.lsv_upstream.specs.Playing.{AllExpected, PlayedRun, PlayedRuns, PlayedRuns.NoRun, PlayedRuns.OneMore, all_asks_after, with_run}
 use Rattle.lsv_upstream.specs.Relayed.{IsAcknowledged, IsRelayed, RunOf, Visit, acknowledged_at, happens_after, is_visit}
 use Rattle.lsv_upstream.specs.Runs.{AllRunOn, RunsOn, ServerRun, history_at, history_of}
 use Rattle.lsv_upstream.proofs.Asks.{Words}

@@ -1,6 +1,6 @@
 -- A log that one connection sends is held through the point that its sender awaits.
-use Rattle.std.proofs.Common.{◌≡◌, ◌≢◌, ◌≤◌, ◌<◌, ◌+◌, ◌^◌, ℕ, List, [], ◌∷◌, ◌++◌, length, take, drop, map, refl, sym, ◌∙◌, ap, subst, inl, inr, arith, Option, Some, None, ◌⊎◌}
-use Rattle.std.specs.Prelude.{Bool, true, false, if◌then◌else◌, Result, Ok, Err, All, IsSome, unwrap_or}
+use Rattle.std.proofs.Common.{◌≡◌, ◌<◌, ◌^◌, ℕ, List, [], ◌∷◌, ◌++◌, take, drop, map, refl, sym, ◌∙◌, ap, subst, inl, inr, Option, Some, None, ◌⊎◌}
+use Rattle.std.specs.Prelude.{Bool, true, false, if◌then◌else◌, Ok, Err, All, IsSome, unwrap_or}
 use Rattle.std.proofs.lemmas.List.Elements.{All-drop, All-head, All-tail, All-take}
 use Rattle.lsv_base.specs.LogNo.{log_no_in}
 use Rattle.lsv_base.specs.Time.{nanos_of, time_of}
@@ -23,11 +23,11 @@ use Rattle.lsv_session.specs.Transcript.{bodies_of}
 use Rattle.lsv_session.specs.declared.connection.ConnId.{ConnId}
 use Rattle.lsv_session.specs.declared.job.Body.{Body}
 use Rattle.lsv_session.specs.declared.job.Body.TheVariants as body
-use Rattle.lsv_machine.specs.Failures.{Act, Step}
-use Rattle.lsv_machine.specs.History.{Ledger, blank, ledger, noted, request_in, sent, tells_log, writes}
+use Rattle.lsv_machine.specs.Failures.{Act}
+use Rattle.lsv_machine.specs.History.{Ledger, blank, ledger, noted, request_in, tells_log, writes}
 use Rattle.lsv_machine.specs.Machine.{IsOfLane, Machine, Settings, same}
 use Rattle.lsv_machine.specs.Stands.{Sound}
-use Rattle.lsv_machine.specs.Turns.{EndOfTurn, Happened, Happened.Did, Happened.Tailed, Happened.Begins, Run, Tail}
+use Rattle.lsv_machine.specs.Turns.{Happened, Happened.Did, Happened.Tailed, Happened.Begins, Run}
 use Rattle.lsv_machine.proofs.Choices.{SameOr, SameOr.alike, SameOr.apart, same_or, same_refl, same_true}
 use Rattle.lsv_machine.proofs.RunLaws.{ledger_append, starts_sound}
 use Rattle.lsv_machine.proofs.Silent.{step_sound, tail_sound}
@@ -35,11 +35,11 @@ use Rattle.lsv_machine.proofs.Shown.{ByDelays}
 use Rattle.lsv_machine.proofs.StepLooks.{step_seen}
 use Rattle.lsv_upstream.specs.Held.{GetsPoint, HoldsThrough, TellsPoint, answers_at, up_to}
 use Rattle.lsv_upstream.specs.Jobs.{BringsFirst, IsStorable, exit_messages, jobs_of, played_anew, played_on, restart_message}
-use Rattle.lsv_upstream.specs.Playing.{BringsAsked, HasBegun, IsNext, OwnExpected, OwnRun, StillAsks, StillAsks.Over, all_asks_after, asks_after, with_asks, with_run}
+use Rattle.lsv_upstream.specs.Playing.{BringsAsked, HasBegun, IsNext, OwnExpected, OwnRun, StillAsks, StillAsks.Over, all_asks_after, asks_after}
 use Rattle.lsv_upstream.specs.Runs.{RunsOn, ServerRun, history_at}
-use Rattle.lsv_upstream.specs.Sent.{BeginsAlike, ResumeAt, Sending, aim, exit_by, reached, reached_by, resumed_at, sender_messages, sent_from, skips}
+use Rattle.lsv_upstream.specs.Sent.{BeginsAlike, ResumeAt, Sending, aim, exit_by, reached, resumed_at, sender_messages, sent_from, skips}
 use Rattle.lsv_upstream.proofs.Answering.{told_by}
-use Rattle.lsv_upstream.proofs.Asks.{Ask, Words, anew_asks, anew_shape, asks_anew, asks_on, body_asks, brings_asked, ends_ask_nothing, no_restart_anew, on_asks, on_shape, restart_on}
+use Rattle.lsv_upstream.proofs.Asks.{Words, anew_asks, anew_shape, asks_anew, asks_on, body_asks, brings_asked, ends_ask_nothing, no_restart_anew, on_asks, on_shape, restart_on}
 use Rattle.lsv_upstream.proofs.Begun.{RestartsIn, run_began}
 use Rattle.lsv_upstream.proofs.Lists.{split_first}
 use Rattle.lsv_upstream.proofs.Members.{In, append_nothing, append_three, in_append, in_left, in_map}

@@ -1,5 +1,5 @@
 -- A run in which a relay is acknowledged: a hello, an accept, a record, and the commit point at the turn's end.
-use Rattle.std.proofs.Common.{◌≡◌, ◌<◌, ℕ, List, [], ◌∷◌, ◌++◌, refl, sym, ap, subst, inl, inr, arith, Some, None, length, true, false, Bool, ◌==◌, if◌then◌else◌}
+use Rattle.std.proofs.Common.{◌≡◌, ℕ, [], ◌∷◌, ◌++◌, refl, sym, ap, inl, arith, Some, length, true, false, Bool, ◌==◌, if◌then◌else◌}
 use Rattle.std.specs.Fmt.{digits}
 use Rattle.std.specs.Str.{is_utf8, chars}
 use Rattle.std.specs.Str.Lossy.{utf8_lossy, utf8_valid_len}
@@ -9,7 +9,6 @@ use Rattle.std.specs.Prelude.{Contains}
 use Rattle.lsv_base.specs.Time.{time_of}
 use Rattle.lsv_disk.specs.declared.file.Owner.{Owner}
 use Rattle.lsv_info.specs.Layout.{head_text}
-use Rattle.lsv_mask.specs.Masking.{covered}
 use Rattle.lsv_record.specs.Points.{Stored}
 use Rattle.lsv_record.specs.Records.{last_digits}
 use Rattle.lsv_request.specs.declared.refusal.Refusal.TheVariants.{LogFull}
@@ -18,11 +17,10 @@ use Rattle.lsv_session.specs.declared.connection.ConnState.TheVariants.{Greeted,
 use Rattle.lsv_machine.specs.Answers.{Saying.LogId, say}
 use Rattle.lsv_machine.specs.Examples.{accepts_with_keys, conn, did, full_head, one_byte, one_lane, sends, starting}
 use Rattle.lsv_machine.specs.Failures.{Step}
-use Rattle.lsv_machine.specs.Machine.{IsOfLane, LogState.Absent, LogState.There, Machine, with_log, with_owner, with_state}
+use Rattle.lsv_machine.specs.Machine.{LogState.Absent, LogState.There, Machine, with_log, with_owner, with_state}
 use Rattle.lsv_machine.specs.Starts.{StartsAs}
 use Rattle.lsv_machine.specs.Turns.{EndOfTurn, Happened.Tailed, Run, with_lines}
 use Rattle.lsv_machine.specs.Work.{Done, draws, empty_log, fits_file, lined, makes, plain, refused, silently, takes, waits, with_record}
-use Rattle.lsv_machine.proofs.Choices.{EqOr.equal, EqOr.unequal, eq_or}
 use Rattle.lsv_upstream.specs.Examples.{before_point, greets, point_told}
 
 pub starts_empty : StartsAs one_lane [] (starting Absent 0)

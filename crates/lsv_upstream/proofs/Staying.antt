@@ -1,8 +1,8 @@
 -- What is promised of a log stays promised until somebody asks to go on with it.
-use Rattle.std.proofs.Common.{◌≡◌, ◌≢◌, ◌≤◌, ◌<◌, ◌+◌, ℕ, List, [], ◌∷◌, ◌++◌, length, refl, sym, ◌∙◌, ap, subst, inl, inr, arith, Option, Some, None, ◌⊎◌}
-use Rattle.std.specs.Prelude.{◌==◌, ◌&&◌, ◌||◌, Bool, true, false, if◌then◌else◌, Result, Ok, Err, is_some, unwrap_or, max}
+use Rattle.std.proofs.Common.{◌≡◌, ◌≢◌, ◌≤◌, ℕ, List, [], ◌∷◌, ◌++◌, length, refl, sym, ◌∙◌, subst, arith, Option, Some, None}
+use Rattle.std.specs.Prelude.{◌&&◌, ◌||◌, Bool, true, false, if◌then◌else◌, Result, Ok, Err, unwrap_or, max}
 use Rattle.std.proofs.lemmas.Grind.{common_steps}
-use Rattle.lsv_info.specs.Layout.{exit_text, head_text}
+use Rattle.lsv_info.specs.Layout.{exit_text}
 use Rattle.lsv_mask.specs.Masking.{covered}
 use Rattle.lsv_record.specs.Points.{first}
 use Rattle.lsv_record.specs.declared.records.Record.{Record}
@@ -12,11 +12,10 @@ use Rattle.lsv_request.specs.declared.request.Request.TheVariants as request
 use Rattle.lsv_request.specs.declared.request.Restart.{Restart}
 use Rattle.lsv_session.specs.declared.connection.ConnId.{ConnId}
 use Rattle.lsv_machine.specs.Answers.{Answer, Saying, Saying.CommitPoint, Saying.Error, Saying.LogId, Saying.Shut, is_silent}
-use Rattle.lsv_machine.specs.Failures.{Act, Step}
-use Rattle.lsv_machine.specs.History.{Ledger, asked, becomes, blank, heard, heard_all, is_exit, is_gone, ledger, noted, opened_by, promised, raised_to, reopened, request_in, sent_one, shown, tells_log, writes}
+use Rattle.lsv_machine.specs.History.{Ledger, asked, becomes, blank, heard, heard_all, is_exit, is_gone, ledger, raised_to, reopened, request_in, sent_one, tells_log, writes}
 use Rattle.lsv_machine.specs.Machine.{Machine, Settings}
 use Rattle.lsv_machine.specs.Stands.{StandsFor}
-use Rattle.lsv_machine.specs.Turns.{EndOfTurn, Happened, Happened.Did, Happened.Tailed, Happened.Begins, Run, raised}
+use Rattle.lsv_machine.specs.Turns.{Happened, Happened.Did, Happened.Tailed, Happened.Begins, Run, raised}
 use Rattle.lsv_machine.proofs.Choices.{EqOr.equal, EqOr.unequal, eq_or}
 use Rattle.lsv_machine.proofs.Promises.{promised_within}
 use Rattle.lsv_machine.proofs.RunLaws.{ledger_append}

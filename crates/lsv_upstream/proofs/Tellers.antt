@@ -1,8 +1,7 @@
 -- The number of a log is told once in all runs.
-use Rattle.std.proofs.Common.{◌≡◌, ◌≢◌, ◌<◌, ◌+◌, ℕ, zero, suc, List, [], ◌∷◌, ◌++◌, length, map, refl, sym, ◌∙◌, ap, subst, inl, inr, arith, Option, Some, None, ◌⊎◌}
-use Rattle.std.specs.Prelude.{Bool, true, false, if◌then◌else◌, is_some, Ok}
+use Rattle.std.proofs.Common.{◌≡◌, ◌+◌, ℕ, suc, List, [], ◌∷◌, ◌++◌, length, map, refl, sym, ◌∙◌, ap, subst, inl, inr, arith, Option, Some, None}
+use Rattle.std.specs.Prelude.{Bool, true, false, if◌then◌else◌, is_some}
 use Rattle.lsv_info.specs.Layout.{head_text}
-use Rattle.lsv_request.specs.declared.request.Request.TheVariants as request
 use Rattle.lsv_session.specs.declared.connection.ConnId.{ConnId}
 use Rattle.lsv_machine.specs.Failures.{Act, Step}
 use Rattle.lsv_machine.specs.History.{Ledger, asked, blank, heard_all, is_exit, is_gone, ledger, ledger_from, noted, opened_by, request_in, tells_log}
@@ -12,7 +11,7 @@ use Rattle.lsv_machine.specs.Turns.{Happened, Happened.Did, Happened.Tailed, Hap
 use Rattle.lsv_machine.proofs.RunLaws.{job_stands, ledger_append, starts_stand, tail_stands}
 use Rattle.lsv_upstream.specs.Runs.{AllRunOn, RunsOn, ServerRun, history_at}
 use Rattle.lsv_upstream.proofs.Answering.{told_by}
-use Rattle.lsv_upstream.proofs.Members.{In, in_append, in_left, in_right}
+use Rattle.lsv_upstream.proofs.Members.{In, in_left, in_right}
 use Rattle.lsv_upstream.proofs.Once.{IsPromised, heard_stays, promised_stays, reopened_stays, told_first}
 
 -- whom a run tells the number of log n, in order

@@ -1,23 +1,18 @@
 -- A commit point that is told to a connection that writes the log is the elapsed time of what was shown, which is not nothing, and promises it through its first record there.
-use Rattle.std.proofs.Common.{◌≡◌, ◌≢◌, ◌≤◌, ◌<◌, ◌+◌, ℕ, List, [], ◌∷◌, ◌++◌, length, take, drop, map, refl, sym, ◌∙◌, ap, subst, inl, inr, arith, Option, Some, None, ◌⊎◌, unwrap_or, append_assoc}
-use Rattle.std.specs.Prelude.{◌==◌, ◌||◌, ◌&&◌, Bool, true, false, if◌then◌else◌, max, Result, Ok, Err}
-use Rattle.std.specs.List.{list_any}
-use Rattle.std.proofs.lemmas.Grind.{common_steps}
+use Rattle.std.proofs.Common.{◌≡◌, ◌≤◌, ℕ, List, [], ◌∷◌, ◌++◌, refl, sym, ◌∙◌, ap, subst, inl, inr, arith, Option, Some, None, ◌⊎◌, unwrap_or}
+use Rattle.std.specs.Prelude.{◌==◌, ◌||◌, Bool, true, false, if◌then◌else◌, max}
 use Rattle.lsv_disk.specs.declared.file.Owner.{Owner}
-use Rattle.lsv_record.specs.Points.{Stored, cut, first, kept}
-use Rattle.lsv_record.specs.Records.{delay_of, elapsed}
+use Rattle.lsv_record.specs.Points.{first}
+use Rattle.lsv_record.specs.Records.{elapsed}
 use Rattle.lsv_record.specs.declared.records.Record.{Record}
-use Rattle.lsv_record.proofs.Points.{first_append, first_delays, first_end, first_some, length_cut}
 use Rattle.lsv_session.specs.declared.connection.ConnId.{ConnId}
 use Rattle.lsv_session.specs.declared.connection.ConnState.TheVariants.{Dead}
 use Rattle.lsv_machine.specs.Answers.{Answer, Saying, Saying.CommitPoint, Saying.Error, Saying.LogId, Saying.Shut, refusal, say}
-use Rattle.lsv_machine.specs.Durable.{IsPrefix}
-use Rattle.lsv_machine.specs.Failures.{Act}
-use Rattle.lsv_machine.specs.History.{Ledger, becomes, heard, heard_all, noted, raised_to, writes}
-use Rattle.lsv_machine.specs.Machine.{IsOfLane, LogState.There, Machine, Settings, is_dead, leaves, log_of, same, with_log}
-use Rattle.lsv_machine.specs.Stands.{HoldsAt, HoldsRecords, StandsFor, as_list}
-use Rattle.lsv_machine.specs.Turns.{Commits, EndOfTurn, FailsFlush, FlushesLines, FlushesLog, FlushesLogs, Happened.Tailed, RefusesAll, RefusesOne, Tail, raised, with_lines}
-use Rattle.lsv_machine.proofs.Choices.{EqOr.equal, EqOr.unequal, eq_or, SameOr.alike, SameOr.apart, same_or, same_refl}
+use Rattle.lsv_machine.specs.History.{Ledger, heard, heard_all, noted, raised_to, writes}
+use Rattle.lsv_machine.specs.Machine.{Machine, Settings, leaves, log_of, with_log}
+use Rattle.lsv_machine.specs.Stands.{StandsFor, as_list}
+use Rattle.lsv_machine.specs.Turns.{Commits, EndOfTurn, FlushesLines, FlushesLog, FlushesLogs, Happened.Tailed, RefusesAll, Tail, raised, with_lines}
+use Rattle.lsv_machine.proofs.Choices.{EqOr.equal, EqOr.unequal, eq_or, SameOr.alike, SameOr.apart, same_or}
 use Rattle.lsv_machine.proofs.Fits.{fits_of_stands, stands_of_fits, writes_its}
 use Rattle.lsv_machine.proofs.JobFits.{Last, Last.by_refusal, Last.by_shut, refused_last}
 use Rattle.lsv_machine.proofs.RunFits.{flushed_together, heard_append, lines_together}
@@ -25,7 +20,7 @@ use Rattle.lsv_machine.proofs.WorkFits.{holds_there}
 use Rattle.lsv_machine.proofs.StepLooks.{leaving_still}
 use Rattle.lsv_upstream.specs.Held.{PromisesAtLeast, TellsPoint}
 use Rattle.lsv_upstream.proofs.Among.{among}
-use Rattle.lsv_upstream.proofs.Keeping.{Less, all_less, heard_less, less_then}
+use Rattle.lsv_upstream.proofs.Keeping.{all_less}
 use Rattle.lsv_upstream.proofs.Waits.{Grows, grows_like, grows_then, leaves_grows, leaving_grows}
 
 pub tells_append : (k : ConnId) (c : ℕ) (xs ys : List Answer) → TellsPoint k c (xs ++ ys) → TellsPoint k c xs ⊎ TellsPoint k c ys
@@ -218,7 +213,7 @@ module _ (set : Settings) (n : ℕ) (k : ConnId) (c : ℕ) where
         no_commit = λ told. elim (tells_append k c now rest (subst (TellsPoint k c) parts told)) [ inl a ↦ last_no k j c now (refused_last j now one.told) a | inr a ↦ r.no_commit a ];
       }
 
-  lines_refuse : (failed : List Owner) (answers : List Answer) (m new : Machine) → FlushesLines set failed answers m new → Refused m new answers
+  pub lines_refuse : (failed : List Owner) (answers : List Answer) (m new : Machine) → FlushesLines set failed answers m new → Refused m new answers
   lines_refuse failed answers m new (inl t) = record {
     state = inl (ap (λ (x : Machine). x.states k) t.2);
     grows = grows_like m new (ap (λ (x : Machine). x.waiting) t.2) (ap (λ (x : Machine). x.last) t.2);

@@ -1,9 +1,9 @@
 -- What each connection of a run asks, of those that are visits of a relay; and nobody else is told the log's number.
-use Rattle.std.proofs.Common.{◌≡◌, ◌≢◌, ◌≤◌, ◌<◌, ◌+◌, ◌^◌, ℕ, zero, suc, List, [], ◌∷◌, ◌++◌, length, map, refl, sym, ◌∙◌, ap, subst, inl, inr, arith, Option, Some, None, ◌⊎◌}
-use Rattle.std.specs.Prelude.{◌==◌, ◌&&◌, ◌||◌, take, Bool, true, false, if◌then◌else◌, Ok, Contains, unwrap_or}
+use Rattle.std.proofs.Common.{◌≡◌, ◌≤◌, ◌<◌, ◌+◌, ◌^◌, ℕ, zero, suc, List, [], ◌∷◌, ◌++◌, length, map, refl, sym, ◌∙◌, ap, subst, inl, inr, arith, Option, Some, None, ◌⊎◌}
+use Rattle.std.specs.Prelude.{◌==◌, ◌&&◌, ◌||◌, take, Bool, true, false, if◌then◌else◌, unwrap_or}
 use Rattle.std.specs.List.{list_any}
 use Rattle.std.proofs.lemmas.List.Elements.{Contains-append_left}
-use Rattle.lsv_base.specs.LogNo.{digits_of, log_no_in}
+use Rattle.lsv_base.specs.LogNo.{log_no_in}
 use Rattle.lsv_info.specs.declared.times.Exit.{Exit}
 use Rattle.lsv_info.specs.declared.times.Head.{Head}
 use Rattle.lsv_msg.specs.declared.messages.ServerMessage.{ServerMessage}
@@ -21,8 +21,7 @@ use Rattle.lsv_session.specs.Transcript.{bodies_of, said_to}
 use Rattle.lsv_session.specs.declared.connection.ConnId.{ConnId}
 use Rattle.lsv_session.specs.declared.job.Body.{Body}
 use Rattle.lsv_machine.specs.Answers.{reply_of}
-use Rattle.lsv_machine.specs.Failures.{Act}
-use Rattle.lsv_machine.specs.History.{ledger, ledger_from, noted, request_in, tells_log, writes}
+use Rattle.lsv_machine.specs.History.{ledger, noted, request_in, tells_log, writes}
 use Rattle.lsv_machine.specs.Machine.{Machine, Settings, same}
 use Rattle.lsv_machine.specs.Stands.{Sound}
 use Rattle.lsv_machine.specs.Turns.{Happened, Happened.Did, Happened.Tailed, Happened.Begins, Run}
@@ -30,7 +29,7 @@ use Rattle.lsv_machine.proofs.Choices.{EqOr.equal, EqOr.unequal, SameOr.alike, S
 use Rattle.lsv_machine.proofs.RunLaws.{starts_sound}
 use Rattle.lsv_machine.proofs.Silent.{step_sound, tail_sound}
 use Rattle.lsv_upstream.specs.Held.{NoRestartBut}
-use Rattle.lsv_upstream.specs.Jobs.{BringsFirst, IsStorable, ReadsFirst, all_answers, jobs_of}
+use Rattle.lsv_upstream.specs.Jobs.{IsStorable, all_answers, jobs_of}
 use Rattle.lsv_upstream.specs.Playing.{AllExpected, BringsAsked, IsAside, OthersAreAside, StillAsks}
 use Rattle.lsv_upstream.specs.Relayed.{EachWasRead, IsRelayed, KeptPlace, KeptWasRead, OnlyVisitsRestart, PlaysLog, RunOf, Visit, WasRead, is_visit, played_after, played_at, relay_messages}
 use Rattle.lsv_upstream.specs.Runs.{AllRunOn, RunsOn, ServerRun, history_at, history_of}
@@ -39,7 +38,7 @@ use Rattle.lsv_upstream.proofs.Asks.{Ask, Words, anew_asks, anew_shape, asks_ane
 use Rattle.lsv_upstream.proofs.Begun.{AsksRestart, RestartsIn, run_began}
 use Rattle.lsv_upstream.proofs.Lists.{lists_follow}
 use Rattle.lsv_upstream.proofs.Members.{In, append_nothing, append_three, contains_of, in_left, in_of, same_split}
-use Rattle.lsv_upstream.proofs.Reading.{ReadNumber, read_number}
+use Rattle.lsv_upstream.proofs.Reading.{read_number}
 use Rattle.lsv_upstream.proofs.Tellers.{Teller, all_once, all_tellers, in_run, ledger_run, promised_after, same_once, teller_in, tellers}
 
 -- a point at which a record ends is within the elapsed time

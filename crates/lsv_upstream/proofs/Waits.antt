@@ -1,6 +1,6 @@
 -- A log that waits for its commit point has a record: what a job does to the logs that wait.
-use Rattle.std.proofs.Common.{◌≡◌, ◌≢◌, ◌≤◌, ◌<◌, ◌+◌, ℕ, List, [], ◌∷◌, ◌++◌, length, take, refl, sym, ◌∙◌, ap, subst, inl, inr, arith, Option, Some, None, ◌⊎◌}
-use Rattle.std.specs.Prelude.{◌==◌, ◌||◌, ◌&&◌, not, nat_lt, Bool, true, false, if◌then◌else◌, is_some, Result, Ok, Err}
+use Rattle.std.proofs.Common.{◌≡◌, ◌≤◌, ◌<◌, ◌+◌, ℕ, List, [], ◌∷◌, length, refl, sym, ◌∙◌, ap, subst, inl, inr, arith, Option, Some, None, ◌⊎◌}
+use Rattle.std.specs.Prelude.{◌==◌, ◌||◌, not, nat_lt, Bool, true, false, if◌then◌else◌, is_some, Result, Ok, Err}
 use Rattle.lsv_base.specs.declared.time.TimeSpec.{TimeSpec}
 use Rattle.lsv_disk.specs.declared.file.Owner.{Owner}
 use Rattle.lsv_disk.specs.declared.file.Owner.TheVariants.{Log, Events, Numbers, Relay}
@@ -20,12 +20,12 @@ use Rattle.lsv_session.specs.declared.job.Body.{Body}
 use Rattle.lsv_session.specs.declared.job.Body.TheVariants as body
 use Rattle.lsv_session.specs.declared.job.Job.{Job}
 use Rattle.lsv_machine.specs.Answers.{Saying.CommitPoint, Saying.LogId, Saying.Shut, is_refused, say}
-use Rattle.lsv_machine.specs.Failures.{Act, BreaksOff, Breaks, BrokenOff, FailsAt, FailsCut, FailsToDraw, HasSet, IsRefused, LeavesLog, LogFails, LosesLine, LosesLog, Makes, MayDraw, MeetsFault, Step, WantsMemory, exit_in}
+use Rattle.lsv_machine.specs.Failures.{Act, BreaksOff, Breaks, BrokenOff, FailsAt, FailsCut, FailsToDraw, HasSet, IsRefused, LeavesLog, LogFails, LosesLine, LosesLog, Makes, MeetsFault, Step, WantsMemory, exit_in}
 use Rattle.lsv_machine.specs.History.{request_in}
 use Rattle.lsv_machine.specs.Judgement.{fault_refusal, judged}
-use Rattle.lsv_machine.specs.Machine.{LogState, LogState.Absent, LogState.Damaged, LogState.There, Machine, Settings, forgets, insert_once, is_dead, is_running, leaves, let_go, log_of, with_log, with_owner, with_state, without, without_conn, without_log}
+use Rattle.lsv_machine.specs.Machine.{LogState, LogState.Absent, LogState.Damaged, LogState.There, Machine, Settings, insert_once, is_dead, is_running, leaves, log_of, with_log, with_owner, with_state, without, without_conn, without_log}
 use Rattle.lsv_machine.specs.Stands.{Sound}
-use Rattle.lsv_machine.specs.Work.{Done, adds_line, alive, answered, before_line, can_cut, cut_to, draws, dropped, empty_log, ends, exited, finished, fits_file, has_line, last_number, line_fits, line_in, lined, makes, opened, opens, plain, recorded, refused, restarted, restarted_at, resumed, sets_exit, silently, taken, takes, waits, with_exit, with_record, work}
+use Rattle.lsv_machine.specs.Work.{Done, adds_line, alive, answered, before_line, can_cut, cut_to, draws, dropped, ends, exited, finished, fits_file, has_line, last_number, line_fits, line_in, lined, makes, opened, opens, plain, recorded, refused, restarted_at, resumed, sets_exit, silently, taken, takes, waits, with_exit, with_record, work}
 use Rattle.lsv_machine.proofs.Changing.{drawn_is}
 use Rattle.lsv_machine.proofs.Choices.{EqOr.equal, EqOr.unequal, eq_or}
 use Rattle.lsv_machine.proofs.JudgedLemmas.{judged_ok}

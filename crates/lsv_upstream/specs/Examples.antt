@@ -1,5 +1,5 @@
 -- Small cases: a log of three records, histories of log 1 that go otherwise, and a relay that is acknowledged.
-use Rattle.std.specs.Prelude.{ℕ, true, List, [], ◌∷◌, ◌++◌, Some, None, codes}
+use Rattle.std.specs.Prelude.{ℕ, List, [], ◌∷◌, ◌++◌, Some, None, codes}
 use Rattle.lsv_base.specs.LogNo.{digits_of}
 use Rattle.lsv_base.specs.Time.{time_of}
 use Rattle.lsv_msg.specs.declared.messages.ClientHello.{ClientHello}

@@ -11,7 +11,7 @@ use Rattle.lsv_record.specs.Records.{IsValid, elapsed}
 use Rattle.lsv_record.specs.declared.records.Record.{Record}
 use Rattle.lsv_request.specs.Stored.{exit_message, head_message, record_message}
 use Rattle.lsv_session.specs.Connections.{server_hello}
-use Rattle.lsv_session.specs.Transcript.{bodies_of, said_to}
+use Rattle.lsv_session.specs.Transcript.{said_to}
 use Rattle.lsv_session.specs.declared.connection.ConnId.{ConnId}
 use Rattle.lsv_session.specs.declared.job.Body.{Body}
 use Rattle.lsv_session.specs.declared.job.Body.TheVariants as body

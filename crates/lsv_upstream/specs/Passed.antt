@@ -1,5 +1,5 @@
 -- What one connection sends of a log while it writes it, whatever it sends: as a session that is passed on while it runs.
-use Rattle.std.specs.Prelude.{◌≡◌, ◌<◌, ◌+◌, ◌-◌, ◌==◌, ◌&&◌, ℕ, if◌then◌else◌, List, [], ◌∷◌, ◌++◌, length, Some, Result, Ok, Err, Bool}
+use Rattle.std.specs.Prelude.{◌≡◌, ◌<◌, ◌+◌, ◌-◌, ◌==◌, ◌&&◌, ◌⊎◌, ℕ, if◌then◌else◌, List, [], ◌∷◌, ◌++◌, length, Some, Result, Ok, Err}
 use Rattle.lsv_record.specs.Points.{first}
 use Rattle.lsv_record.specs.Records.{elapsed}
 use Rattle.lsv_record.specs.declared.records.Record.{Record}
@@ -7,6 +7,7 @@ use Rattle.lsv_request.specs.declared.refusal.Refusal.{Refusal}
 use Rattle.lsv_request.specs.declared.request.Request.{Request}
 use Rattle.lsv_request.specs.declared.request.Request.TheVariants as request
 use Rattle.lsv_session.specs.declared.connection.ConnId.{ConnId}
+use Rattle.lsv_session.specs.declared.job.Body.{Body}
 use Rattle.lsv_machine.specs.Answers.{Answer, is_silent}
 use Rattle.lsv_machine.specs.History.{Ledger, request_in, tells_log}
 use Rattle.lsv_machine.specs.Machine.{same}
@@ -46,6 +47,26 @@ sent_after n k s (Begins texts ∷ h) = sent_after n k s h
 -- what a connection has sent of log n in these first events of a run
 abbrev pub sent_in : ℕ → ConnId → List Happened → HasSent
 sent_in n k past = sent_after n k Nothing past
+
+-- the record that a request asks to store, if it does
+abbrev pub record_asked : Result Request Refusal → List Record
+record_asked (Ok (request.Record r)) = r ∷ []
+record_asked (Ok (request.Accept accept)) = []
+record_asked (Ok (request.Restart restart)) = []
+record_asked (Ok (request.Exit exit)) = []
+record_asked (Ok request.Hello) = []
+record_asked (Ok (request.Reject report)) = []
+record_asked (Ok (request.Alert report)) = []
+record_asked (Err why) = []
+
+-- the records that these jobs ask to store, in order
+abbrev pub records_of : List Body → List Record
+records_of [] = []
+records_of (b ∷ bodies) = record_asked (request_in b) ++ records_of bodies
+
+-- what a connection has sent are these records, all of them since it opened the log, or since it went on with it at a point
+abbrev pub HasSentAll : List Record → HasSent → Type 0
+HasSentAll rs s = (s ≡ Opened rs) ⊎ ((point : ℕ) × (s ≡ Resumed point rs))
 
 -- records that end at a point come first of what was sent, and then these; of these, if the commit point is above that, all through the first that reaches it are promised
 pub record HoldsAfter (start : ℕ) (rs : List Record) (point : ℕ) (l : Ledger) : Type 0 where

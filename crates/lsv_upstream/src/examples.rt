@@ -1,6 +1,6 @@
 //! Small cases that show what the definitions say, and why a premise is there. These functions do nothing when they run.
 
-ghost use Rattle.std.specs.Prelude.{◌≡◌, ℕ, List, [], ◌∷◌, Some, None};
+ghost use Rattle.std.specs.Prelude.{◌≡◌, [], ◌∷◌, Some, None};
 ghost use Rattle.lsv_machine.specs.Durable.{IsPrefix};
 ghost use Rattle.lsv_machine.specs.Examples.{conn, full_head, one_byte, the_head, two_committed};
 ghost use Rattle.lsv_machine.specs.History.{promised, sent};

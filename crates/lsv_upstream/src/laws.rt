@@ -1,6 +1,6 @@
 //! A log that was acknowledged is held by the server. These functions do nothing when they run.
 
-ghost use Rattle.std.specs.Prelude.{◌≡◌, ℕ, List, [], ◌∷◌, ◌++◌, Option, Some, Contains};
+ghost use Rattle.std.specs.Prelude.{◌≡◌, ℕ, List, [], ◌∷◌, ◌++◌, Option, Contains};
 ghost use Rattle.lsv_base.specs.Time.{time_of};
 ghost use Rattle.lsv_info.specs.declared.times.Exit.{Exit};
 ghost use Rattle.lsv_info.specs.declared.times.Head.{Head};
@@ -9,6 +9,7 @@ ghost use Rattle.lsv_machine.specs.History.{ledger, sent, shown};
 ghost use Rattle.lsv_machine.specs.Machine.{IsOfLane};
 ghost use Rattle.lsv_machine.specs.Turns.{AllBegin, Happened};
 ghost use Rattle.lsv_msg.specs.declared.messages.ClientHello.{ClientHello};
+ghost use Rattle.lsv_msg.specs.declared.messages.ClientMessage.{ClientMessage};
 ghost use Rattle.lsv_msg.specs.declared.messages.ServerMessage.{ServerMessage};
 ghost use Rattle.lsv_msg.specs.declared.messages.ServerMessage.TheVariants as server;
 ghost use Rattle.lsv_record.specs.Records.{elapsed};
@@ -17,9 +18,9 @@ ghost use Rattle.lsv_session.specs.Transcript.{bodies_of};
 ghost use Rattle.lsv_session.specs.declared.connection.ConnId.{ConnId};
 ghost use Rattle.lsv_upstream.specs.Held.{GetsPoint, HoldsFirst, HoldsThrough, NoRestart, PromisesAtLeast, TellsPoint, answers_at, up_to};
 ghost use Rattle.lsv_upstream.specs.Jobs.{BringsFirst, IsStorable, ReadsFirst, jobs_of};
-ghost use Rattle.lsv_upstream.specs.Passed.{HasSent.Opened, HasSent.Resumed, HoldsAfter, sent_in};
+ghost use Rattle.lsv_upstream.specs.Passed.{HasSent.Opened, HasSent.Resumed, HasSentAll, HoldsAfter, records_of, sent_in};
 ghost use Rattle.lsv_upstream.specs.Relayed.{IsAcknowledged, IsRelayed, Visit, acknowledged_at, happens_after};
-ghost use Rattle.lsv_upstream.specs.Runs.{RunsOn, ServerRun, history_at, history_of};
+ghost use Rattle.lsv_upstream.specs.Runs.{RunsOn, ServerRun};
 ghost use Rattle.lsv_upstream.specs.Sent.{BeginsAlike, Sending, aim, sender_messages};
 
 /// A relayed log is held, if a commit point at the elapsed time of its records comes to a connection of the relay that
@@ -55,12 +56,15 @@ pub fn a_sent_log_is_held()
 
 /// What one connection sends of a log while it writes it is held at each of its commit points, through the first record
 /// that reaches the point: whatever the connection sends, whatever happened before, and whatever others send. After a
-/// restart this is so of points above the restart's.
+/// restart this is so of points above the restart's. If its jobs are messages, and then none is, all records that they
+/// brought so far are what it has sent.
 pub fn a_passed_on_log_is_held()
     ensures opened { (n : ℕ) (before : List Happened) (r : ServerRun) (k : ConnId) (point : ℕ) (rs : List Record) → IsOfLane r.set.lane r.set.lanes n → RunsOn r.set.lane r.set.lanes n before r →
         (at : GetsPoint n before r k point) → sent_in n k at.past ≡ Opened rs → (sent (up_to before r at) n ≡ rs) × HoldsThrough rs point (ledger (up_to before r at) n) }
     ensures resumed { (n : ℕ) (before : List Happened) (r : ServerRun) (k : ConnId) (point start : ℕ) (rs : List Record) → IsOfLane r.set.lane r.set.lanes n → RunsOn r.set.lane r.set.lanes n before r →
         (at : GetsPoint n before r k point) → sent_in n k at.past ≡ Resumed start rs → HoldsAfter start rs point (ledger (up_to before r at) n) }
+    ensures all { (n : ℕ) (before : List Happened) (r : ServerRun) (k : ConnId) (point : ℕ) (messages : List ClientMessage) → RunsOn r.set.lane r.set.lanes n before r → BringsFirst messages (bodies_of k (jobs_of r.events)) →
+        (at : GetsPoint n before r k point) → HasSentAll (records_of (bodies_of k (jobs_of at.past))) (sent_in n k at.past) }
 {
     lsv_record::a_cut_ends_at_the_first_record_of_its_point();
 }

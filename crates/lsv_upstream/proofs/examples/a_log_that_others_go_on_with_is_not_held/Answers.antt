@@ -1,12 +1,12 @@
-use Rattle.std.proofs.Common.{◌≡◌, ℕ, List, [], ◌∷◌, ◌++◌, refl, ap}
+use Rattle.std.proofs.Common.{◌≡◌, ℕ, List, [], ◌∷◌, refl, ap}
 use Rattle.lsv_record.specs.declared.records.Record.{Record}
-use Rattle.lsv_record.specs.declared.records.Record.TheVariants.{Io, Winsize, Suspend}
+use Rattle.lsv_record.specs.declared.records.Record.TheVariants.{Io}
 use Rattle.lsv_machine.specs.Durable.{IsPrefix}
 use Rattle.lsv_machine.specs.Examples.{one_byte}
 use Rattle.lsv_upstream.proofs.examples.a_log_that_others_go_on_with_is_not_held.Goals as goal
 
 -- the byte of the second of these records
-second_byte : List Record → List ℕ
+abbrev second_byte : List Record → List ℕ
 second_byte (r ∷ Io delay stream bytes ∷ rs) = bytes
 second_byte rs = []
 

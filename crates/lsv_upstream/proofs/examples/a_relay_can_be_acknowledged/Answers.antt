@@ -1,14 +1,10 @@
-use Rattle.std.proofs.Common.{◌≡◌, ◌≢◌, ◌+◌, ◌*◌, ℕ, List, [], ◌∷◌, ◌++◌, refl, sym, ap, subst, inl, inr, arith, Some, None, Bool, true, false}
-use Rattle.std.specs.Prelude.{Contains, Ok}
-use Rattle.lsv_request.specs.Requests.{request_of}
-use Rattle.lsv_request.specs.declared.request.Request.TheVariants as request
-use Rattle.lsv_request.specs.declared.request.Restart.{Restart}
+use Rattle.std.proofs.Common.{[], ◌∷◌, ◌++◌, refl, subst, inl, inr, arith, None}
 use Rattle.lsv_machine.specs.Examples.{full_head, one_lane, starting}
 use Rattle.lsv_machine.specs.Machine.{LogState.Absent, Machine}
-use Rattle.lsv_machine.specs.Turns.{Happened, Happened.Tailed, Run}
+use Rattle.lsv_machine.specs.Turns.{Happened.Tailed, Run}
 use Rattle.lsv_upstream.specs.Examples.{before_point, hello, one, point_told, relay_visit, upstream_run}
 use Rattle.lsv_upstream.specs.Jobs.{played_anew}
-use Rattle.lsv_upstream.specs.Relayed.{IsAcknowledged, IsRelayed, PlaysLog, RunOf, Visit}
+use Rattle.lsv_upstream.specs.Relayed.{IsAcknowledged, IsRelayed, PlaysLog, Visit}
 use Rattle.lsv_upstream.proofs.Members.{In, in_of}
 use Rattle.lsv_upstream.proofs.Starting.{starts_empty, whole_run}
 use Rattle.lsv_upstream.proofs.examples.a_relay_can_be_acknowledged.Goals as goal
@@ -42,4 +38,4 @@ acknowledged end = record {
 }
 
 pub returns : goal.returns
-returns c = (whole_run.0, relayed whole_run.0 whole_run.1, acknowledged whole_run.0)
+returns c = record { relayed = (whole_run.0, relayed whole_run.0 whole_run.1, acknowledged whole_run.0) }
