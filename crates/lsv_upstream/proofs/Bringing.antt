@@ -23,7 +23,7 @@ use Rattle.lsv_session.specs.declared.job.Body.{Body}
 use Rattle.lsv_session.specs.declared.job.Body.TheVariants as body
 use Rattle.lsv_machine.specs.Answers.{Answer, Saying.CommitPoint, Saying.Shut, is_refused, is_silent, say}
 use Rattle.lsv_machine.specs.Failures.{Act, AsksFor, Breaks, FailsCut, LosesLog, Step}
-use Rattle.lsv_machine.specs.History.{Ledger, ledger, noted, request_in, tells_log, writes}
+use Rattle.lsv_machine.specs.History.{Ledger, blank, ledger, ledger_from, noted, request_in, tells_log, writes}
 use Rattle.lsv_machine.specs.Judgement.{judged}
 use Rattle.lsv_machine.specs.Machine.{LogState, LogState.Absent, LogState.Damaged, LogState.There, Machine, Settings, is_dead, is_running, let_go, log_of, same, with_log, without_conn}
 use Rattle.lsv_machine.specs.Silence.{ShutsAreDead}
@@ -34,21 +34,21 @@ use Rattle.lsv_machine.proofs.Choices.{EqOr.equal, EqOr.unequal, SameOr.alike, S
 use Rattle.lsv_machine.proofs.Fits.{writes_its}
 use Rattle.lsv_machine.proofs.JobFits.{Last, Last.by_refusal, Last.by_shut}
 use Rattle.lsv_machine.proofs.JudgedLemmas.{Suits, judged_ok}
-use Rattle.lsv_machine.proofs.RunLaws.{job_stands, tail_stands}
+use Rattle.lsv_machine.proofs.RunLaws.{job_stands, ledger_append, stands_on, tail_stands}
 use Rattle.lsv_machine.proofs.Shapes.{its_state}
 use Rattle.lsv_machine.proofs.StepLooks.{dead_after, step_seen}
-use Rattle.lsv_upstream.specs.Held.{GetsPoint}
+use Rattle.lsv_upstream.specs.Held.{GetsPoint, TellsPoint, answers_at}
 use Rattle.lsv_upstream.specs.Jobs.{BringsFirst, NoMessages, jobs_of}
 use Rattle.lsv_upstream.specs.Passed.{HasSent, HasSent.Nothing, HasSent.Opened, HasSent.Resumed, HasSentAll, one_more_sent, record_asked, records_of, sent_after, sent_by, sent_in}
 use Rattle.lsv_upstream.specs.Runs.{RunsOn, ServerRun, history_at}
 use Rattle.lsv_upstream.proofs.Answering.{record_or, silent_asks, told_by}
 use Rattle.lsv_upstream.proofs.Begun.{AsksRestart, job_began}
+use Rattle.lsv_upstream.proofs.Finishing.{told_log}
 use Rattle.lsv_upstream.proofs.Keeping.{writer_owner}
 use Rattle.lsv_upstream.proofs.Members.{append_nothing, append_three}
-use Rattle.lsv_upstream.proofs.Relaying.{split_run}
+use Rattle.lsv_upstream.proofs.Relaying.{split_run, tells_to}
 use Rattle.lsv_upstream.proofs.Tellers.{ledger_run, start_stands}
-use Rattle.lsv_upstream.proofs.Told.{lines_refuse}
-use Rattle.lsv_machine.proofs.RunLaws.{stands_on}
+use Rattle.lsv_upstream.proofs.Told.{lines_refuse, tail_idle}
 
 -- ---- What a message does to the state of the connection that writes
 
@@ -255,6 +255,12 @@ Ordered (body.Msg message ∷ bodies) = Ordered bodies
 Ordered (body.Bad fault ∷ bodies) = NoMessages bodies
 Ordered (body.Gone ∷ bodies) = NoMessages bodies
 
+none_rest : (a b : List Body) → NoMessages (a ++ b) → NoMessages b
+none_rest [] b n = n
+none_rest (body.Msg message ∷ a) b n = absurd n
+none_rest (body.Bad fault ∷ a) b n = none_rest a b n
+none_rest (body.Gone ∷ a) b n = none_rest a b n
+
 no_messages_ordered : (bodies : List Body) → NoMessages bodies → Ordered bodies
 no_messages_ordered [] none = tt
 no_messages_ordered (body.Msg message ∷ bodies) none = absurd none
@@ -264,6 +270,13 @@ no_messages_ordered (body.Gone ∷ bodies) none = none
 ordered_of : (messages : List ClientMessage) (ends : List Body) → NoMessages ends → Ordered (map (λ x. body.Msg x) messages ++ ends)
 ordered_of [] ends none = no_messages_ordered ends none
 ordered_of (x ∷ messages) ends none = ordered_of messages ends none
+
+-- so are those after the first of them
+ordered_rest : (a b : List Body) → Ordered (a ++ b) → Ordered b
+ordered_rest [] b o = o
+ordered_rest (body.Msg message ∷ a) b o = ordered_rest a b o
+ordered_rest (body.Bad fault ∷ a) b o = no_messages_ordered b (none_rest a b o)
+ordered_rest (body.Gone ∷ a) b o = no_messages_ordered b (none_rest a b o)
 
 -- a connection in this state, with these jobs still to come, by what it has sent of log n and the records that it has brought: it can write no log any more; it has none, and brought no record; it
 -- writes log n, and has sent all that it brought; it writes another log
@@ -518,3 +531,104 @@ brought_all n before r k point messages on brings at = conclude place
     conclude (idle e x) = absurd (not_none (log_of (split.0.states k)) n its e)
     conclude (mine e all) = all
     conclude (other i e ne) = absurd (ne (let x : Some i ≡ Some n = sym e ∙ its in cc))
+
+-- ---- Who wrote the log and gets a commit point writes it still
+
+-- a connection in this state, with these jobs still to come, has log n, or can have none any more
+data Keeps (n : ℕ) (s : ConnState) (coming : List Body) : Type 0 where
+  has : log_of s ≡ Some n → Keeps n s coming
+  lost : log_of s ≡ None → (s ≡ Dead) ⊎ NoMessages coming → Keeps n s coming
+
+keeps_moved : (n : ℕ) (s t : ConnState) (coming : List Body) → (t ≡ s) ⊎ (t ≡ Dead) → Keeps n s coming → Keeps n t coming
+keeps_moved n s t coming (inl e) p = subst (λ x. Keeps n x coming) (sym e) p
+keeps_moved n s t coming (inr d) p = lost (ap log_of d) (inl d)
+
+own_keeps : (set : Settings) (n : ℕ) (m new : Machine) (act : Act) → Step set m act new → (coming : List Body) → Ordered (act.job.body ∷ coming) → Keeps n (m.states act.job.conn) (act.job.body ∷ coming) → Keeps n (new.states act.job.conn) coming × Ordered coming
+own_keeps set n m new act step coming ordered keeps = go act.job.body refl ordered keeps
+  where
+    ended : NoMessages (act.job.body ∷ []) → NoMessages coming → Keeps n (new.states act.job.conn) coming × Ordered coming
+    ended none more = (lost (ended_none set m act new step none) (inr more), no_messages_ordered coming more)
+
+    go : (b : Body) → act.job.body ≡ b → Ordered (b ∷ coming) → Keeps n (m.states act.job.conn) (b ∷ coming) → Keeps n (new.states act.job.conn) coming × Ordered coming
+    go (body.Bad fault) b o p = ended (subst (λ x. NoMessages (x ∷ [])) (sym b) tt) o
+    go body.Gone b o p = ended (subst (λ x. NoMessages (x ∷ [])) (sym b) tt) o
+    go (body.Msg message) b o (lost e (inr none)) = absurd none
+    go (body.Msg message) b o (lost e (inl dead)) = elim (dead_after set m act new step dead) [
+      | inl stays ↦ (lost (ap log_of stays.1) (inl stays.1), o)
+      | inr gone ↦ absurd (let x : body.Msg message ≡ body.Gone = sym b ∙ gone.0 in cc)
+    ]
+    go (body.Msg message) b o (has e) = elim (own_state set m act new step message n b e) [
+      | inr d ↦ (lost (ap log_of d) (inl d), o)
+      | inl stays ↦ (has (ap log_of stays ∙ e), o)
+    ]
+
+run_keeps : (set : Settings) (n : ℕ) (k : ConnId) (h : List Happened) (rest : List Body) (m end : Machine) → Run set m h end → Ordered (bodies_of k (jobs_of h) ++ rest) → Keeps n (m.states k) (bodies_of k (jobs_of h) ++ rest) → Keeps n (end.states k) rest
+run_keeps set n k [] rest m end runs ordered keeps = subst (λ (x : Machine). Keeps n (x.states k) rest) (sym runs) keeps
+run_keeps set n k (Tailed tail ∷ h) rest m end (mid, ended, more) ordered keeps = run_keeps set n k h rest mid end more ordered (keeps_moved n (m.states k) (mid.states k) (bodies_of k (jobs_of h) ++ rest) (tail_state set k m mid tail ended) keeps)
+run_keeps set n k (Begins texts ∷ h) rest m end runs ordered keeps = absurd runs
+run_keeps set n k (Did act ∷ h) rest m end (mid, step, more) ordered keeps = go (run_keeps set n k h rest mid end more) (same act.job.conn k) refl ordered keeps
+  where
+    bodies : List Body
+    bodies = bodies_of k (jobs_of h)
+
+    go : (Ordered (bodies ++ rest) → Keeps n (mid.states k) (bodies ++ rest) → Keeps n (end.states k) rest) → (c : Bool) → same act.job.conn k ≡ c → Ordered ((if c then act.job.body ∷ bodies else bodies) ++ rest)
+        → Keeps n (m.states k) ((if c then act.job.body ∷ bodies else bodies) ++ rest) → Keeps n (end.states k) rest
+    go again false t o q =
+        let ne : k ≢ act.job.conn = (λ e. let x : same act.job.conn k ≡ true = subst (λ j. same act.job.conn j ≡ true) (sym e) (same_refl act.job.conn) in cc) in
+        let stays = (step_seen set m act mid step).leaves_alone.others k ne in
+        again o (keeps_moved n (m.states k) (mid.states k) (bodies ++ rest) (inl stays) q)
+    go again true t o q =
+        let p = same_true act.job.conn k t in
+        let (next, o') = own_keeps set n m mid act step (bodies ++ rest) o (subst (λ j. Keeps n (m.states j) (act.job.body ∷ (bodies ++ rest))) (sym p) q) in
+        again o' (subst (λ j. Keeps n (mid.states j) (bodies ++ rest)) p next)
+
+-- the event tells it of its log
+point_log : (set : Settings) (n : ℕ) (k : ConnId) (c : ℕ) (l : Ledger) (m end : Machine) (x : Happened) (h : List Happened) → StandsFor set n m l → Run set m (x ∷ h) end → TellsPoint k c (answers_at x) → log_of (m.states k) ≡ None → ⊥
+point_log set n k c l m end (Begins texts) h stands runs told none = told
+point_log set n k c l m end (Tailed tail) h stands (mid, ended, rest) told none = tail_idle set n k c m mid l tail stands ended told none
+point_log set n k c l m end (Did act) h stands (mid, step, rest) told none =
+    let p = tells_to act.job.conn k c act.answers (step_seen set m act mid step).to told in
+    let (i, its) = told_log set m act mid c step (subst (λ j. TellsPoint j c act.answers) (sym p) told) in
+    not_none (log_of (m.states k)) i (subst (λ j. log_of (m.states j) ≡ Some i) p its) none
+
+pub still_writes : (n : ℕ) (before : List Happened) (r : ServerRun) (k : ConnId) (point : ℕ) (messages : List ClientMessage) (past more later : List Happened) (event : Happened) → RunsOn r.set.lane r.set.lanes n before r
+    → BringsFirst messages (bodies_of k (jobs_of r.events)) → r.events ≡ past ++ (more ++ event ∷ later) → TellsPoint k point (answers_at event) → writes (ledger (history_at before r past) n) k ≡ true
+    → writes (ledger (history_at before r (past ++ more)) n) k ≡ true
+still_writes n before r k point messages past more later event on brings is told writing = conclude keeps
+  where
+    coming : List Body
+    coming = bodies_of k (jobs_of (event ∷ later))
+
+    first_part : (mid : Machine) × Run r.set r.start past mid × Run r.set mid (more ++ event ∷ later) r.end
+    first_part = split_run r.set past (more ++ event ∷ later) r.start r.end (subst (λ h. Run r.set r.start h r.end) is on.runs)
+
+    second_part : (mid : Machine) × Run r.set first_part.0 more mid × Run r.set mid (event ∷ later) r.end
+    second_part = split_run r.set more (event ∷ later) first_part.0 r.end first_part.2
+
+    begun : StandsFor r.set n r.start (noted n (ledger before n) (Begins r.texts))
+    begun = start_stands r.set.lane r.set.lanes n before r on
+
+    then_stands : StandsFor r.set n first_part.0 (ledger (history_at before r past) n)
+    then_stands = subst (StandsFor r.set n first_part.0) (sym (ledger_run n before r past)) (stands_on r.set n past r.start first_part.0 (noted n (ledger before n) (Begins r.texts)) begun first_part.1)
+
+    now_stands : StandsFor r.set n second_part.0 (ledger (history_at before r (past ++ more)) n)
+    now_stands =
+        let l : ledger (history_at before r (past ++ more)) n ≡ ledger_from n (ledger (history_at before r past) n) more =
+        ap (λ (x : List Happened). ledger x n) (sym (append_three before (Begins r.texts ∷ past) more)) ∙ ledger_append n blank (history_at before r past) more in
+        subst (StandsFor r.set n second_part.0) (sym l) (stands_on r.set n more first_part.0 second_part.0 (ledger (history_at before r past) n) then_stands second_part.1)
+
+    ordered : Ordered (bodies_of k (jobs_of more) ++ coming)
+    ordered =
+        let all : Ordered (bodies_of k (jobs_of r.events)) = subst Ordered (sym brings.jobs) (ordered_of brings.brought brings.ends brings.no_messages) in
+        let two : Ordered (bodies_of k (jobs_of past) ++ bodies_of k (jobs_of (more ++ event ∷ later))) = subst Ordered (bodies_two k past (more ++ event ∷ later)) (subst (λ h. Ordered (bodies_of k (jobs_of h))) is all) in
+        subst Ordered (bodies_two k more (event ∷ later)) (ordered_rest (bodies_of k (jobs_of past)) (bodies_of k (jobs_of (more ++ event ∷ later))) two)
+
+    its : log_of (first_part.0.states k) ≡ Some n
+    its = then_stands.sound.owns n k (writer_owner n first_part.0 (ledger (history_at before r past) n) k then_stands.agrees.writers writing)
+
+    keeps : Keeps n (second_part.0.states k) coming
+    keeps = run_keeps r.set n k more coming first_part.0 second_part.0 second_part.1 ordered (has its)
+
+    conclude : Keeps n (second_part.0.states k) coming → writes (ledger (history_at before r (past ++ more)) n) k ≡ true
+    conclude (has e) = writes_its (ledger (history_at before r (past ++ more)) n) k (now_stands.agrees.writers ∙ ap as_list (now_stands.sound.owned k n e))
+    conclude (lost e x) = absurd (point_log r.set n k point (ledger (history_at before r (past ++ more)) n) second_part.0 r.end event later now_stands second_part.2 told e)

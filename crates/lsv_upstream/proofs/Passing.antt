@@ -38,7 +38,7 @@ use Rattle.lsv_upstream.proofs.Finishing.{finishes}
 use Rattle.lsv_upstream.proofs.Keeping.{Less, all_less, less_then, reopened_less, writer_owner}
 use Rattle.lsv_upstream.proofs.Members.{append_nothing, append_three}
 use Rattle.lsv_upstream.proofs.Others.{kept_writer}
-use Rattle.lsv_upstream.proofs.Points.{first_after}
+use Rattle.lsv_upstream.proofs.Points.{elapsed_append, elapsed_delays, first_after}
 use Rattle.lsv_upstream.proofs.Relaying.{split_run, tells_to}
 use Rattle.lsv_upstream.proofs.Tellers.{ledger_run, start_stands}
 use Rattle.lsv_upstream.proofs.Told.{tail_told}
@@ -179,7 +179,7 @@ module _ (by : ByDelays) (set : Settings) (n : ℕ) (k : ConnId) where
 
   -- a commit point promises what was sent through it
   pub event_point : (g : List Happened) (m end : Machine) (x : Happened) (h : List Happened) (c : ℕ) → StandsFor set n m (ledger g n) → Run set m (x ∷ h) end → writes (ledger g n) k ≡ true → TellsPoint k c (answers_at x)
-      → ((ledger (g ++ x ∷ []) n).sent ≡ (ledger g n).sent) × ((f : ℕ) → first (ledger g n).sent c ≡ Some f → PromisesAtLeast (ledger (g ++ x ∷ []) n) f)
+      → ((ledger (g ++ x ∷ []) n).sent ≡ (ledger g n).sent) × (c ≡ elapsed (ledger g n).sent) × ((f : ℕ) → first (ledger g n).sent c ≡ Some f → PromisesAtLeast (ledger (g ++ x ∷ []) n) f)
   event_point g m end (Begins texts) h c stands runs on told = absurd runs
   event_point g m end (Tailed tail) h c stands (mid, ended, rest) on told =
       let l = ledger g n in
@@ -187,13 +187,14 @@ module _ (by : ByDelays) (set : Settings) (n : ℕ) (k : ConnId) where
       let own : m.owner n ≡ Some k = writer_owner n m l k stands.agrees.writers on in
       let a = tail_told set n k c m mid l tail stands ended told (stands.sound.owns n k own) in
       let less = all_less false tail.answers l in
-      (ap (λ (x : Ledger). x.sent) one ∙ less.sent, λ f at. subst (λ (x : Ledger). PromisesAtLeast x f) (sym one) (a.promises f (sym (first_delays l.sent l.shown c (shown_delays by g n)) ∙ at)))
+      (ap (λ (x : Ledger). x.sent) one ∙ less.sent, a.point ∙ sym (elapsed_delays l.sent l.shown (shown_delays by g n)), λ f at. subst (λ (x : Ledger). PromisesAtLeast x f) (sym one) (a.promises f (sym (first_delays l.sent l.shown c (shown_delays by g n)) ∙ at)))
   event_point g m end (Did act) h c stands (mid, step, rest) on told =
       let l = ledger g n in
       let one : ledger (g ++ Did act ∷ []) n ≡ noted n l (Did act) = ledger_append n blank g (Did act ∷ []) in
       let same_ = tells_to act.job.conn k c act.answers (step_seen set m act mid step).to told in
       let f0 = finishes set n l m mid act c stands step (subst (λ j. writes l j ≡ true) (sym same_) on) (subst (λ j. TellsPoint j c act.answers) (sym same_) told) in (
         ap (λ (x : Ledger). x.sent) one ∙ f0.sent,
+        f0.point ∙ sym (elapsed_delays l.sent l.shown (shown_delays by g n)),
         λ f at. (length l.shown, ap (λ (x : Ledger). x.promised) one ∙ f0.promised, (let w = (first_some l.sent c f at).within in let s = same_length l.sent l.shown (shown_delays by g n) in omega (arith, w, s))),
       )
 
@@ -204,6 +205,7 @@ module _ (by : ByDelays) (lane lanes n : ℕ) (before : List Happened) (r : Serv
   record Here : Type 0 where
     sent_is : SentIs (sent_in n k at.past) (ledger (history_at before r at.past) n).sent
     stays : (ledger (up_to before r at) n).sent ≡ (ledger (history_at before r at.past) n).sent
+    point_is : point ≡ elapsed (ledger (history_at before r at.past) n).sent
     promises : (f : ℕ) → first (ledger (history_at before r at.past) n).sent point ≡ Some f → PromisesAtLeast (ledger (up_to before r at) n) f
 
   here : Here
@@ -221,14 +223,15 @@ module _ (by : ByDelays) (lane lanes n : ℕ) (before : List Happened) (r : Serv
       record {
         sent_is = sent_now at.writing;
         stays = subst (λ (x : List Happened). (ledger x n).sent ≡ (ledger (history_at before r at.past) n).sent) more e.0;
-        promises = λ f q. subst (λ (x : List Happened). PromisesAtLeast (ledger x n) f) more (e.1 f q);
+        point_is = e.1;
+        promises = λ f q. subst (λ (x : List Happened). PromisesAtLeast (ledger x n) f) more (e.2 f q);
       }
 
-  pub passed_opened : (rs : List Record) → sent_in n k at.past ≡ Opened rs → ((ledger (up_to before r at) n).sent ≡ rs) × HoldsThrough rs point (ledger (up_to before r at) n)
+  pub passed_opened : (rs : List Record) → sent_in n k at.past ≡ Opened rs → ((ledger (up_to before r at) n).sent ≡ rs) × (point ≡ elapsed rs) × HoldsThrough rs point (ledger (up_to before r at) n)
   passed_opened rs opened =
       let all : (ledger (history_at before r at.past) n).sent ≡ rs = subst (λ (s : HasSent). SentIs s (ledger (history_at before r at.past) n).sent) opened here.sent_is in
       let now = here.stays ∙ all in
-      (now, record { prefix = record { rest = []; is = append_nothing (ledger (up_to before r at) n).sent ∙ now }; promises = λ f q. here.promises f (ap (λ (x : List Record). first x point) all ∙ q) })
+      (now, here.point_is ∙ ap elapsed all, record { prefix = record { rest = []; is = append_nothing (ledger (up_to before r at) n).sent ∙ now }; promises = λ f q. here.promises f (ap (λ (x : List Record). first x point) all ∙ q) })
 
   pub passed_resumed : (start : ℕ) (rs : List Record) → sent_in n k at.past ≡ Resumed start rs → HoldsAfter start rs point (ledger (up_to before r at) n)
   passed_resumed start rs resumed =
@@ -237,6 +240,7 @@ module _ (by : ByDelays) (lane lanes n : ℕ) (before : List Happened) (r : Serv
         base = base;
         sent_is = here.stays ∙ all;
         ends = ends;
+        reaches = here.point_is ∙ (ap elapsed all ∙ (elapsed_append base rs ∙ ap (λ (x : ℕ). x + elapsed rs) ends));
         promises = λ f above q.
             let low : elapsed base < point = omega (arith, ends, above) in
             let q' : first rs (point - elapsed base) ≡ Some f = ap (λ (x : ℕ). first rs (point - x)) ends ∙ q in

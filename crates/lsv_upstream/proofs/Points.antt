@@ -1,5 +1,5 @@
 -- Records through a point: of lists that begin alike, of a list cut short, and of a list after another.
-use Rattle.std.proofs.Common.{◌≡◌, ◌≤◌, ◌<◌, ◌+◌, ◌-◌, ℕ, zero, suc, List, [], ◌∷◌, ◌++◌, length, take, refl, sym, ◌∙◌, ap, subst, arith, Option, Some, None}
+use Rattle.std.proofs.Common.{◌≡◌, ◌≤◌, ◌<◌, ◌+◌, ◌-◌, ℕ, zero, suc, List, [], ◌∷◌, ◌++◌, length, take, map, refl, sym, ◌∙◌, ap, subst, arith, Option, Some, None}
 use Rattle.std.specs.Prelude.{Bool, true, false, if◌then◌else◌, nat_le, max}
 use Rattle.std.proofs.lemmas.Bool.Decides.{nat_tests}
 use Rattle.lsv_record.specs.Points.{IsFirst, cut, first, kept, one_more}
@@ -96,7 +96,22 @@ holds_of_reached o n rs l h = record { prefix = prefix_trans l.sent (reached_by 
         let same_ : g ≡ f = cc in
         own' ∙ ap Some same_
 
+-- elapsed times hang on delays alone
+pub elapsed_delays : (rs ss : List Record) → map delay_of rs ≡ map delay_of ss → elapsed rs ≡ elapsed ss
+elapsed_delays [] [] e = refl
+elapsed_delays [] (s ∷ ss) e = absurd (cc)
+elapsed_delays (r ∷ rs) [] e = absurd (cc)
+elapsed_delays (r ∷ rs) (s ∷ ss) e =
+    let p : delay_of r ≡ delay_of s = cc in
+    let tails : map delay_of rs ≡ map delay_of ss = cc in
+    let more = elapsed_delays rs ss tails in
+    omega (arith, p, more)
+
 -- ---- A list after another
+
+pub elapsed_append : (base rs : List Record) → elapsed (base ++ rs) ≡ elapsed base + elapsed rs
+elapsed_append [] rs = omega arith
+elapsed_append (r ∷ base) rs = let more = elapsed_append base rs in omega (arith, more)
 
 one_more_some : (o : Option ℕ) (n : ℕ) → o ≡ Some n → one_more o ≡ Some (suc n)
 one_more_some o n e = rw e refl

@@ -240,3 +240,14 @@ module _ (set : Settings) (n : ℕ) (k : ConnId) (c : ℕ) where
               promises = λ f at. subst (λ (x : Ledger). PromisesAtLeast x f) (sym splits) (a.promises f (ap (λ (x : List Record). first x c) less.shown ∙ at));
             }
       ]
+
+  -- who has no log is told no commit point at the end of a turn
+  pub tail_idle : (m new : Machine) (l : Ledger) (tail : Tail) → StandsFor set n m l → EndOfTurn set m tail new → TellsPoint k c tail.answers → log_of (m.states k) ≡ None → ⊥
+  tail_idle m new l tail s t told none =
+      let r = lines_refuse tail.failed t.of_lines m t.mid t.lines in
+      let stands_mid = stands_of_fits set n t.mid (heard_all false t.of_lines l) (lines_together (Unit {0}) set n tail.failed t.of_lines m t.mid l (fits_of_stands set n m l s) t.lines) in
+      let in_logs : TellsPoint k c t.of_logs = elim (tells_append k c t.of_lines t.of_logs (subst (TellsPoint k c) t.answers told)) [ inl a ↦ absurd (r.no_commit a) | inr a ↦ a ] in
+      elim r.state [
+        | inr d ↦ idle_no tail.failed t.mid.waiting t.of_logs t.mid t.last (heard_all false t.of_lines l) stands_mid (ap log_of d) t.logs in_logs
+        | inl e ↦ idle_no tail.failed t.mid.waiting t.of_logs t.mid t.last (heard_all false t.of_lines l) stands_mid (ap log_of e ∙ none) t.logs in_logs
+      ]

@@ -68,9 +68,10 @@ records_of (b ∷ bodies) = record_asked (request_in b) ++ records_of bodies
 abbrev pub HasSentAll : List Record → HasSent → Type 0
 HasSentAll rs s = (s ≡ Opened rs) ⊎ ((point : ℕ) × (s ≡ Resumed point rs))
 
--- records that end at a point come first of what was sent, and then these; of these, if the commit point is above that, all through the first that reaches it are promised
+-- records that end at a point come first of what was sent, and then these, which end at the commit point; if that is above the point, these are promised through the first that reaches it
 pub record HoldsAfter (start : ℕ) (rs : List Record) (point : ℕ) (l : Ledger) : Type 0 where
   pub base : List Record
   pub sent_is : l.sent ≡ base ++ rs
   pub ends : elapsed base ≡ start
+  pub reaches : point ≡ start + elapsed rs
   pub promises : (f : ℕ) → start < point → first rs (point - start) ≡ Some f → PromisesAtLeast l (length base + f)

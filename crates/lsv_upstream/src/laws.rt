@@ -1,11 +1,11 @@
 //! A log that was acknowledged is held by the server. These functions do nothing when they run.
 
-ghost use Rattle.std.specs.Prelude.{◌≡◌, ℕ, List, [], ◌∷◌, ◌++◌, Option, Contains};
+ghost use Rattle.std.specs.Prelude.{◌≡◌, ℕ, true, List, [], ◌∷◌, ◌++◌, Option, Contains};
 ghost use Rattle.lsv_base.specs.Time.{time_of};
 ghost use Rattle.lsv_info.specs.declared.times.Exit.{Exit};
 ghost use Rattle.lsv_info.specs.declared.times.Head.{Head};
 ghost use Rattle.lsv_machine.specs.Durable.{GoodLog, Recovered};
-ghost use Rattle.lsv_machine.specs.History.{ledger, sent, shown};
+ghost use Rattle.lsv_machine.specs.History.{ledger, sent, shown, writes};
 ghost use Rattle.lsv_machine.specs.Machine.{IsOfLane};
 ghost use Rattle.lsv_machine.specs.Turns.{AllBegin, Happened};
 ghost use Rattle.lsv_msg.specs.declared.messages.ClientHello.{ClientHello};
@@ -20,7 +20,7 @@ ghost use Rattle.lsv_upstream.specs.Held.{GetsPoint, HoldsFirst, HoldsThrough, N
 ghost use Rattle.lsv_upstream.specs.Jobs.{BringsFirst, IsStorable, ReadsFirst, jobs_of};
 ghost use Rattle.lsv_upstream.specs.Passed.{HasSent.Opened, HasSent.Resumed, HasSentAll, HoldsAfter, records_of, sent_in};
 ghost use Rattle.lsv_upstream.specs.Relayed.{IsAcknowledged, IsRelayed, Visit, acknowledged_at, happens_after};
-ghost use Rattle.lsv_upstream.specs.Runs.{RunsOn, ServerRun};
+ghost use Rattle.lsv_upstream.specs.Runs.{RunsOn, ServerRun, history_at};
 ghost use Rattle.lsv_upstream.specs.Sent.{BeginsAlike, Sending, aim, sender_messages};
 
 /// A relayed log is held, if a commit point at the elapsed time of its records comes to a connection of the relay that
@@ -60,7 +60,7 @@ pub fn a_sent_log_is_held()
 /// brought so far are what it has sent.
 pub fn a_passed_on_log_is_held()
     ensures opened { (n : ℕ) (before : List Happened) (r : ServerRun) (k : ConnId) (point : ℕ) (rs : List Record) → IsOfLane r.set.lane r.set.lanes n → RunsOn r.set.lane r.set.lanes n before r →
-        (at : GetsPoint n before r k point) → sent_in n k at.past ≡ Opened rs → (sent (up_to before r at) n ≡ rs) × HoldsThrough rs point (ledger (up_to before r at) n) }
+        (at : GetsPoint n before r k point) → sent_in n k at.past ≡ Opened rs → (sent (up_to before r at) n ≡ rs) × (point ≡ elapsed rs) × HoldsThrough rs point (ledger (up_to before r at) n) }
     ensures resumed { (n : ℕ) (before : List Happened) (r : ServerRun) (k : ConnId) (point start : ℕ) (rs : List Record) → IsOfLane r.set.lane r.set.lanes n → RunsOn r.set.lane r.set.lanes n before r →
         (at : GetsPoint n before r k point) → sent_in n k at.past ≡ Resumed start rs → HoldsAfter start rs point (ledger (up_to before r at) n) }
     ensures all { (n : ℕ) (before : List Happened) (r : ServerRun) (k : ConnId) (point : ℕ) (messages : List ClientMessage) → RunsOn r.set.lane r.set.lanes n before r → BringsFirst messages (bodies_of k (jobs_of r.events)) →
@@ -77,6 +77,13 @@ pub fn what_is_promised_is_in_the_images()
 {
     lsv_machine::what_is_shown_is_masked();
 }
+
+/// A connection that wrote the log and gets a commit point writes it still, if its jobs are messages, and then none is.
+pub fn a_connection_that_gets_a_point_still_writes()
+    ensures { (n : ℕ) (before : List Happened) (r : ServerRun) (k : ConnId) (point : ℕ) (messages : List ClientMessage) (past more later : List Happened) (event : Happened) → RunsOn r.set.lane r.set.lanes n before r →
+        BringsFirst messages (bodies_of k (jobs_of r.events)) → r.events ≡ past ++ (more ++ event ∷ later) → TellsPoint k point (answers_at event) → writes (ledger (history_at before r past) n) k ≡ true →
+        writes (ledger (history_at before r (past ++ more)) n) k ≡ true }
+{}
 
 /// A commit point that a connection read was brought to it by an event of the run.
 pub fn what_was_read_was_told()
