@@ -37,7 +37,7 @@ use Rattle.lsv_machine.proofs.JudgedLemmas.{Suits, judged_ok}
 use Rattle.lsv_machine.proofs.RunLaws.{job_stands, ledger_append, stands_on, tail_stands}
 use Rattle.lsv_machine.proofs.Shapes.{its_state}
 use Rattle.lsv_machine.proofs.StepLooks.{dead_after, step_seen}
-use Rattle.lsv_upstream.specs.Held.{GetsPoint, TellsPoint, answers_at}
+use Rattle.lsv_upstream.specs.Held.{GetsPoint, HasPoint, answers_at}
 use Rattle.lsv_upstream.specs.Jobs.{BringsFirst, NoMessages, jobs_of}
 use Rattle.lsv_upstream.specs.Passed.{HasSent, HasSent.Nothing, HasSent.Opened, HasSent.Resumed, HasSentAll, one_more_sent, record_asked, records_of, sent_after, sent_by, sent_in}
 use Rattle.lsv_upstream.specs.Runs.{RunsOn, ServerRun, history_at}
@@ -583,16 +583,16 @@ run_keeps set n k (Did act ∷ h) rest m end (mid, step, more) ordered keeps = g
         again o' (subst (λ j. Keeps n (mid.states j) (bodies ++ rest)) p next)
 
 -- the event tells it of its log
-point_log : (set : Settings) (n : ℕ) (k : ConnId) (c : ℕ) (l : Ledger) (m end : Machine) (x : Happened) (h : List Happened) → StandsFor set n m l → Run set m (x ∷ h) end → TellsPoint k c (answers_at x) → log_of (m.states k) ≡ None → ⊥
+point_log : (set : Settings) (n : ℕ) (k : ConnId) (c : ℕ) (l : Ledger) (m end : Machine) (x : Happened) (h : List Happened) → StandsFor set n m l → Run set m (x ∷ h) end → HasPoint k c (answers_at x) → log_of (m.states k) ≡ None → ⊥
 point_log set n k c l m end (Begins texts) h stands runs told none = told
 point_log set n k c l m end (Tailed tail) h stands (mid, ended, rest) told none = tail_idle set n k c m mid l tail stands ended told none
 point_log set n k c l m end (Did act) h stands (mid, step, rest) told none =
     let p = tells_to act.job.conn k c act.answers (step_seen set m act mid step).to told in
-    let (i, its) = told_log set m act mid c step (subst (λ j. TellsPoint j c act.answers) (sym p) told) in
+    let (i, its) = told_log set m act mid c step (subst (λ j. HasPoint j c act.answers) (sym p) told) in
     not_none (log_of (m.states k)) i (subst (λ j. log_of (m.states j) ≡ Some i) p its) none
 
 pub still_writes : (n : ℕ) (before : List Happened) (r : ServerRun) (k : ConnId) (point : ℕ) (messages : List ClientMessage) (past more later : List Happened) (event : Happened) → RunsOn r.set.lane r.set.lanes n before r
-    → BringsFirst messages (bodies_of k (jobs_of r.events)) → r.events ≡ past ++ (more ++ event ∷ later) → TellsPoint k point (answers_at event) → writes (ledger (history_at before r past) n) k ≡ true
+    → BringsFirst messages (bodies_of k (jobs_of r.events)) → r.events ≡ past ++ (more ++ event ∷ later) → HasPoint k point (answers_at event) → writes (ledger (history_at before r past) n) k ≡ true
     → writes (ledger (history_at before r (past ++ more)) n) k ≡ true
 still_writes n before r k point messages past more later event on brings is told writing = conclude keeps
   where

@@ -22,7 +22,7 @@ use Rattle.lsv_machine.specs.Turns.{Happened.Did}
 use Rattle.lsv_machine.specs.Work.{plain}
 use Rattle.lsv_machine.proofs.JobFits.{Last, refused_last}
 use Rattle.lsv_machine.proofs.Shapes.{Shape, Shape.parting, Shape.quiet, Shape.refusing, Shape.shutting, Shape.told_end, Shape.told_log, plain_looks}
-use Rattle.lsv_upstream.specs.Held.{HoldsThrough, TellsPoint}
+use Rattle.lsv_upstream.specs.Held.{HoldsThrough, HasPoint}
 use Rattle.lsv_upstream.specs.Playing.{IsExpected, IsNext, asks_from}
 use Rattle.lsv_upstream.proofs.Answering.{breaks_last, record_or}
 use Rattle.lsv_upstream.proofs.Asking.{Next.a_record, Next.an_exit, next_from}
@@ -33,15 +33,15 @@ use Rattle.lsv_machine.proofs.WorkFits.{holds_there}
 use Rattle.lsv_machine.specs.Stands.{StandsFor}
 
 -- a job tells its connection at most one commit point, and a Shut behind it
-told_shape : (k j : ConnId) (c : ℕ) (answers : List Answer) → Shape j answers → TellsPoint k c answers → (d : ℕ) × (answers ≡ say j (CommitPoint d) ∷ say j Shut ∷ [])
-told_shape k j c answers (quiet e) t = absurd (subst (TellsPoint k c) e t)
-told_shape k j c answers (told_log n e) t = absurd (elim (subst (TellsPoint k c) e t) [ inl x ↦ let y = x.1 in cc | inr x ↦ x ])
+told_shape : (k j : ConnId) (c : ℕ) (answers : List Answer) → Shape j answers → HasPoint k c answers → (d : ℕ) × (answers ≡ say j (CommitPoint d) ∷ say j Shut ∷ [])
+told_shape k j c answers (quiet e) t = absurd (subst (HasPoint k c) e t)
+told_shape k j c answers (told_log n e) t = absurd (elim (subst (HasPoint k c) e t) [ inl x ↦ let y = x.1 in cc | inr x ↦ x ])
 told_shape k j c answers (told_end d e) t = (d, e)
-told_shape k j c answers (refusing why ne e) t = absurd (elim (subst (TellsPoint k c) e t) [ inl x ↦ let y = x.1 in cc | inr x ↦ elim x [ inl z ↦ let y = z.1 in cc | inr z ↦ z ] ])
-told_shape k j c answers (shutting e) t = absurd (elim (subst (TellsPoint k c) e t) [ inl x ↦ let y = x.1 in cc | inr x ↦ x ])
-told_shape k j c answers (parting e) t = absurd (elim (subst (TellsPoint k c) e t) [ inl x ↦ let y = x.1 in cc | inr x ↦ x ])
+told_shape k j c answers (refusing why ne e) t = absurd (elim (subst (HasPoint k c) e t) [ inl x ↦ let y = x.1 in cc | inr x ↦ elim x [ inl z ↦ let y = z.1 in cc | inr z ↦ z ] ])
+told_shape k j c answers (shutting e) t = absurd (elim (subst (HasPoint k c) e t) [ inl x ↦ let y = x.1 in cc | inr x ↦ x ])
+told_shape k j c answers (parting e) t = absurd (elim (subst (HasPoint k c) e t) [ inl x ↦ let y = x.1 in cc | inr x ↦ x ])
 
-pub told_end_of : (set : Settings) (m : Machine) (act : Act) (after : Machine) (k : ConnId) (c : ℕ) → Step set m act after → TellsPoint k c act.answers → (d : ℕ) × (act.answers ≡ say act.job.conn (CommitPoint d) ∷ say act.job.conn Shut ∷ [])
+pub told_end_of : (set : Settings) (m : Machine) (act : Act) (after : Machine) (k : ConnId) (c : ℕ) → Step set m act after → HasPoint k c act.answers → (d : ℕ) × (act.answers ≡ say act.job.conn (CommitPoint d) ∷ say act.job.conn Shut ∷ [])
 told_end_of set m act after k c (inl p) told = told_shape k act.job.conn c act.answers (subst (Shape act.job.conn) (sym p.answers) (plain_looks set act.now act.job p.number m).shape) told
 told_end_of set m act after k c (inr d) told = go d.how
   where
@@ -78,7 +78,7 @@ ended_no set m act after d which (inl p) is = go which (is_dead (m.states act.jo
 ended_no set m act after d which (inr x) is = go x.how
   where
     none : Last act.job.conn act.answers → ⊥
-    none last = last_no act.job.conn act.job.conn d act.answers last (subst (TellsPoint act.job.conn d) (sym is) (inl (refl, refl)))
+    none last = last_no act.job.conn act.job.conn d act.answers last (subst (HasPoint act.job.conn d) (sym is) (inl (refl, refl)))
 
     go : ((act.in_cut ≡ false) × Breaks set m act act.job.body after) ⊎ ((act.in_cut ≡ false) × LosesLog set m act after) ⊎ ((act.in_cut ≡ true) × FailsCut set m act after) → ⊥
     go (inl t) = none (breaks_last set m act act.job.body after t.1)
@@ -115,7 +115,7 @@ module _ (set : Settings) (n : ℕ) (rs : List Record) (e : Option Exit) (l : Le
     (writer : writes l act.job.conn ≡ true → (ours act.job.conn ≡ true) × ((p : ℕ) × (p ≤ length rs) × (l.sent ≡ take p rs) × ((coming act.job.conn ≡ asks_from rs e p) ⊎ (coming act.job.conn ≡ []))))
     (step : Step set m act after) where
   -- the exit of one who writes: all was sent, and all is promised
-  pub exit_acknowledges : IsExpected n ours coming act → (c : ℕ) → writes l act.job.conn ≡ true → TellsPoint act.job.conn c act.answers → (l.sent ≡ rs) × HoldsThrough rs (elapsed rs) (noted n l (Did act))
+  pub exit_acknowledges : IsExpected n ours coming act → (c : ℕ) → writes l act.job.conn ≡ true → HasPoint act.job.conn c act.answers → (l.sent ≡ rs) × HoldsThrough rs (elapsed rs) (noted n l (Did act))
   exit_acknowledges brings c on told = go act.job.body refl brings
     where
       k : ConnId

@@ -30,7 +30,7 @@ use Rattle.lsv_machine.proofs.Fits.{fits_of_stands}
 use Rattle.lsv_machine.proofs.JobFits.{Last, Last.by_refusal, Last.by_shut, refused_last}
 use Rattle.lsv_machine.proofs.JudgedLemmas.{judged_ok}
 use Rattle.lsv_machine.proofs.WorkFits.{holds_there}
-use Rattle.lsv_upstream.specs.Held.{TellsPoint}
+use Rattle.lsv_upstream.specs.Held.{HasPoint}
 use Rattle.lsv_upstream.proofs.Answering.{breaks_last}
 use Rattle.lsv_upstream.proofs.Exits.{becomes_told, told_end_of}
 use Rattle.lsv_upstream.proofs.Keeping.{all_less, less_then, reopened_less, writer_owner}
@@ -174,13 +174,13 @@ asks_exit set m act after (inr d) e = how d.how
 -- ---- What the ledger has then
 
 -- the one commit point that this tells
-tells_first : (j k : ConnId) (c d : ℕ) → TellsPoint k c (say j (CommitPoint d) ∷ say j Shut ∷ []) → c ≡ d
+tells_first : (j k : ConnId) (c d : ℕ) → HasPoint k c (say j (CommitPoint d) ∷ say j Shut ∷ []) → c ≡ d
 tells_first j k c d (inl x) = let y = x.1 in cc
 tells_first j k c d (inr (inl x)) = absurd (let y = x.1 in cc)
 tells_first j k c d (inr (inr x)) = absurd x
 
 -- who is told a commit point in a job has a log
-pub told_log : (set : Settings) (m : Machine) (act : Act) (after : Machine) (c : ℕ) → Step set m act after → TellsPoint act.job.conn c act.answers → (i : ℕ) × (log_of (m.states act.job.conn) ≡ Some i)
+pub told_log : (set : Settings) (m : Machine) (act : Act) (after : Machine) (c : ℕ) → Step set m act after → HasPoint act.job.conn c act.answers → (i : ℕ) × (log_of (m.states act.job.conn) ≡ Some i)
 told_log set m act after c step told =
     let (d, is) = told_end_of set m act after act.job.conn c step told in
     let point = (asks_exit set m act after step (rw is refl)).1 in
@@ -192,7 +192,7 @@ pub record Finishes (n : ℕ) (l : Ledger) (act : Act) (c : ℕ) : Type 0 where
   pub sent : (noted n l (Did act)).sent ≡ l.sent
   pub promised : (noted n l (Did act)).promised ≡ Some (length l.shown)
 
-pub finishes : (set : Settings) (n : ℕ) (l : Ledger) (m after : Machine) (act : Act) (c : ℕ) → StandsFor set n m l → Step set m act after → writes l act.job.conn ≡ true → TellsPoint act.job.conn c act.answers → Finishes n l act c
+pub finishes : (set : Settings) (n : ℕ) (l : Ledger) (m after : Machine) (act : Act) (c : ℕ) → StandsFor set n m l → Step set m act after → writes l act.job.conn ≡ true → HasPoint act.job.conn c act.answers → Finishes n l act c
 finishes set n l m after act c stands step on told = from told_is (asks_exit set m act after step (rw told_is.1 refl))
   where
     k : ConnId
@@ -218,7 +218,7 @@ finishes set n l m after act c stands step on told = from told_is (asks_exit set
             let same_log : p.log ≡ n = (let z : Some p.log ≡ Some n = sym p.its ∙ its in cc) in
             let there : m.logs n ≡ There p.stored p.promised = ap m.logs (sym same_log) ∙ p.there in
             let whole : p.stored.records ≡ l.shown = (holds_there (Unit {0}) set n m l p.stored p.promised (fits_of_stands set n m l stands) there tt).whole k owner in
-            tells_first k k c (elapsed p.stored.records) (subst (TellsPoint k c) p.answers_are told) ∙ ap elapsed whole
+            tells_first k k c (elapsed p.stored.records) (subst (HasPoint k c) p.answers_are told) ∙ ap elapsed whole
 
         p0 : ℕ
         p0 = told_before.0

@@ -24,7 +24,7 @@ use Rattle.lsv_machine.specs.Turns.{EndOfTurn, Happened, Happened.Did, Happened.
 use Rattle.lsv_machine.proofs.Fits.{writes_its}
 use Rattle.lsv_machine.proofs.RunLaws.{job_stands, ledger_append, starts_stand, tail_stands}
 use Rattle.lsv_machine.proofs.Shown.{ByDelays, shown_delays}
-use Rattle.lsv_upstream.specs.Held.{HoldsThrough, TellsPoint}
+use Rattle.lsv_upstream.specs.Held.{HoldsThrough, HasPoint}
 use Rattle.lsv_upstream.specs.Playing.{AllExpected, IsExpected, Played, PlayedRun, PlayedRuns, PlayedRuns.NoRun, PlayedRuns.OneMore, StillAsks, all_asks_after, with_run}
 use Rattle.lsv_upstream.proofs.Among.{among}
 use Rattle.lsv_upstream.proofs.Answering.{told_above}
@@ -219,7 +219,7 @@ module _ (by : ByDelays) (n : ℕ) (rs : List Record) (e : Option Exit) where
           shown_at ∙ ap Some same_
 
   pub tail_acknowledges : (lane lanes : ℕ) (before run : List Happened) (set : Settings) (m after : Machine) (ours : ConnId → Bool) (now : ConnId → List Request) (tail : Tail) (k : ConnId) → PlayedRuns lane lanes n rs e before
-      → (part : PlayedRun lane lanes n rs e before run set m ours now) → EndOfTurn set m tail after → writes (ledger (with_run before part.texts run) n) k ≡ true → TellsPoint k (elapsed rs) tail.answers
+      → (part : PlayedRun lane lanes n rs e before run set m ours now) → EndOfTurn set m tail after → writes (ledger (with_run before part.texts run) n) k ≡ true → HasPoint k (elapsed rs) tail.answers
       → HoldsThrough rs (elapsed rs) (noted n (ledger (with_run before part.texts run) n) (Tailed tail))
   tail_acknowledges lane lanes before run set m after ours now tail k whole part ended writing told =
       let known = part_known lane lanes before run set m ours now (whole_prefix lane lanes before whole) part in

@@ -17,7 +17,7 @@ use Rattle.lsv_machine.specs.Turns.{EndOfTurn, Happened, Happened.Did, Happened.
 use Rattle.lsv_machine.proofs.RecordLemmas.{take_prefix}
 use Rattle.lsv_machine.proofs.RunLaws.{job_stands, ledger_append, starts_stand, tail_stands}
 use Rattle.lsv_machine.proofs.Shown.{ByDelays, shown_delays}
-use Rattle.lsv_upstream.specs.Held.{HoldsThrough, TellsPoint}
+use Rattle.lsv_upstream.specs.Held.{HoldsThrough, HasPoint}
 use Rattle.lsv_upstream.specs.Playing.{HasBegun, IsNext, OwnExpected, OwnRun, PlayedOwn, StillAsks, all_asks_after, with_run}
 use Rattle.lsv_upstream.proofs.Among.{among}
 use Rattle.lsv_upstream.proofs.Exits.{exit_acknowledges}
@@ -104,7 +104,7 @@ module _ (by : ByDelays) (n : ℕ) (rs : List Record) (e : Option Exit) where
       (run_known set part.of_lane (before ++ Begins part.texts ∷ []) run part.start m ours part.coming now begun part.follows part.runs)
 
   pub own_acknowledged : (before run : List Happened) (set : Settings) (m after : Machine) (ours : ConnId → Bool) (now : ConnId → List Request) (tail : Tail) (k : ConnId)
-      → (part : OwnRun n rs e before run set m ours now) → EndOfTurn set m tail after → ours k ≡ true → writes (ledger (with_run before part.texts run) n) k ≡ true → TellsPoint k (elapsed rs) tail.answers
+      → (part : OwnRun n rs e before run set m ours now) → EndOfTurn set m tail after → ours k ≡ true → writes (ledger (with_run before part.texts run) n) k ≡ true → HasPoint k (elapsed rs) tail.answers
       → HoldsThrough rs (elapsed rs) (noted n (ledger (with_run before part.texts run) n) (Tailed tail))
   own_acknowledged before run set m after ours now tail k part ended mine writing told =
       let known = part_known before run set m ours now part in
@@ -122,7 +122,7 @@ module _ (by : ByDelays) (n : ℕ) (rs : List Record) (e : Option Exit) where
   -- the same of its exit
   pub own_exit : (before run : List Happened) (set : Settings) (m after : Machine) (ours : ConnId → Bool) (now : ConnId → List Request) (act : Act) (c : ℕ)
       → ours act.job.conn ≡ true → IsNext act.job.body (now act.job.conn) → (part : OwnRun n rs e before run set m ours now) → Step set m act after
-      → writes (ledger (with_run before part.texts run) n) act.job.conn ≡ true → TellsPoint act.job.conn c act.answers → HoldsThrough rs (elapsed rs) (noted n (ledger (with_run before part.texts run) n) (Did act))
+      → writes (ledger (with_run before part.texts run) n) act.job.conn ≡ true → HasPoint act.job.conn c act.answers → HoldsThrough rs (elapsed rs) (noted n (ledger (with_run before part.texts run) n) (Did act))
   own_exit before run set m after ours now act c mine next part step writing told =
       let known = part_known before run set m ours now part in
       (exit_acknowledges set n rs e (ledger (with_run before part.texts run) n) m after act ours now known.stands known.delays (λ on. (mine, known.played.writer act.job.conn on mine)) step (inl (mine, next)) c writing told).1

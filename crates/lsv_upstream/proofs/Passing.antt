@@ -29,7 +29,7 @@ use Rattle.lsv_machine.proofs.RunLaws.{job_stands, ledger_append, stands_on, tai
 use Rattle.lsv_machine.proofs.Shown.{ByDelays, shown_delays}
 use Rattle.lsv_machine.proofs.StepLooks.{step_seen}
 use Rattle.lsv_machine.proofs.WorkFits.{holds_there}
-use Rattle.lsv_upstream.specs.Held.{GetsPoint, HoldsThrough, PromisesAtLeast, TellsPoint, answers_at, up_to}
+use Rattle.lsv_upstream.specs.Held.{GetsPoint, HoldsThrough, PromisesAtLeast, HasPoint, answers_at, up_to}
 use Rattle.lsv_upstream.specs.Passed.{HasSent, HasSent.Nothing, HasSent.Opened, HasSent.Resumed, HoldsAfter, one_more_sent, sent_after, sent_by, sent_in}
 use Rattle.lsv_upstream.specs.Runs.{RunsOn, ServerRun, history_at}
 use Rattle.lsv_upstream.proofs.Answering.{silent_asks}
@@ -178,7 +178,7 @@ module _ (by : ByDelays) (set : Settings) (n : ℕ) (k : ConnId) where
   run_sent (Begins texts ∷ h) g m end s stands runs is = absurd runs
 
   -- a commit point promises what was sent through it
-  pub event_point : (g : List Happened) (m end : Machine) (x : Happened) (h : List Happened) (c : ℕ) → StandsFor set n m (ledger g n) → Run set m (x ∷ h) end → writes (ledger g n) k ≡ true → TellsPoint k c (answers_at x)
+  pub event_point : (g : List Happened) (m end : Machine) (x : Happened) (h : List Happened) (c : ℕ) → StandsFor set n m (ledger g n) → Run set m (x ∷ h) end → writes (ledger g n) k ≡ true → HasPoint k c (answers_at x)
       → ((ledger (g ++ x ∷ []) n).sent ≡ (ledger g n).sent) × (c ≡ elapsed (ledger g n).sent) × ((f : ℕ) → first (ledger g n).sent c ≡ Some f → PromisesAtLeast (ledger (g ++ x ∷ []) n) f)
   event_point g m end (Begins texts) h c stands runs on told = absurd runs
   event_point g m end (Tailed tail) h c stands (mid, ended, rest) on told =
@@ -192,7 +192,7 @@ module _ (by : ByDelays) (set : Settings) (n : ℕ) (k : ConnId) where
       let l = ledger g n in
       let one : ledger (g ++ Did act ∷ []) n ≡ noted n l (Did act) = ledger_append n blank g (Did act ∷ []) in
       let same_ = tells_to act.job.conn k c act.answers (step_seen set m act mid step).to told in
-      let f0 = finishes set n l m mid act c stands step (subst (λ j. writes l j ≡ true) (sym same_) on) (subst (λ j. TellsPoint j c act.answers) (sym same_) told) in (
+      let f0 = finishes set n l m mid act c stands step (subst (λ j. writes l j ≡ true) (sym same_) on) (subst (λ j. HasPoint j c act.answers) (sym same_) told) in (
         ap (λ (x : Ledger). x.sent) one ∙ f0.sent,
         f0.point ∙ sym (elapsed_delays l.sent l.shown (shown_delays by g n)),
         λ f at. (length l.shown, ap (λ (x : Ledger). x.promised) one ∙ f0.promised, (let w = (first_some l.sent c f at).within in let s = same_length l.sent l.shown (shown_delays by g n) in omega (arith, w, s))),
@@ -218,7 +218,7 @@ module _ (by : ByDelays) (lane lanes n : ℕ) (before : List Happened) (r : Serv
       let join : (before ++ Begins r.texts ∷ []) ++ at.past ≡ history_at before r at.past = append_three before (Begins r.texts ∷ []) at.past in
       let sent_now : SentBy k (sent_in n k at.past) (ledger (history_at before r at.past) n) = subst (λ (x : List Happened). SentBy k (sent_in n k at.past) (ledger x n)) join (run_sent by r.set n k at.past (before ++ Begins r.texts ∷ []) r.start m Nothing start ran none) in
       let stands : StandsFor r.set n m (ledger (history_at before r at.past) n) = subst (StandsFor r.set n m) (sym (ledger_run n before r at.past)) (stands_on r.set n at.past r.start m (noted n (ledger before n) (Begins r.texts)) begun ran) in
-      let e = event_point by r.set n k (history_at before r at.past) m r.end at.event at.later point stands rest at.writing at.tells in
+      let e = event_point by r.set n k (history_at before r at.past) m r.end at.event at.later point stands rest at.writing at.brings in
       let more : history_at before r at.past ++ at.event ∷ [] ≡ up_to before r at = append_three before (Begins r.texts ∷ at.past) (at.event ∷ []) in
       record {
         sent_is = sent_now at.writing;

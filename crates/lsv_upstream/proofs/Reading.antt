@@ -21,7 +21,7 @@ use Rattle.lsv_machine.specs.Turns.{EndOfTurn, FlushesLines, FlushesLog, Flushes
 use Rattle.lsv_machine.proofs.Choices.{EqOr.equal, EqOr.unequal, SameOr.alike, SameOr.apart, eq_or, same_or}
 use Rattle.lsv_machine.proofs.JobFits.{refused_last}
 use Rattle.lsv_machine.proofs.StepLooks.{step_seen}
-use Rattle.lsv_upstream.specs.Held.{TellsPoint, answers_at}
+use Rattle.lsv_upstream.specs.Held.{HasPoint, answers_at}
 use Rattle.lsv_upstream.specs.Jobs.{ReadsFirst, all_answers}
 use Rattle.lsv_upstream.proofs.Answering.{last_mute}
 use Rattle.lsv_upstream.proofs.Members.{In, in_append, in_left, in_of}
@@ -171,21 +171,21 @@ time_once a b e =
     let n' : a % 1000000000 ≡ b % 1000000000 = cc in
     omega (arith, s', n')
 
-tells_at : (k : ConnId) (c : ℕ) (answers : List Answer) (a : Answer) → a.conn ≡ k → a.says ≡ CommitPoint c → In a answers → TellsPoint k c answers
+tells_at : (k : ConnId) (c : ℕ) (answers : List Answer) (a : Answer) → a.conn ≡ k → a.says ≡ CommitPoint c → In a answers → HasPoint k c answers
 tells_at k c [] a to says i = i
 tells_at k c (b ∷ answers) a to says (inl e) = inl (ap (λ (x : Answer). x.conn) e ∙ to, ap (λ (x : Answer). x.says) e ∙ says)
 tells_at k c (b ∷ answers) a to says (inr i) = inr (tells_at k c answers a to says i)
 
 pub point_was_told : (k : ConnId) (read : List ServerMessage) (events : List Happened) (point : ℕ) → ReadsFirst read k events → Contains read (server.CommitPoint (time_of point))
-    → (past later : List Happened) × (event : Happened) × (events ≡ past ++ event ∷ later) × TellsPoint k point (answers_at event)
+    → (past later : List Happened) × (event : Happened) × (events ≡ past ++ event ∷ later) × HasPoint k point (answers_at event)
 point_was_told k read events point reads has = go (subst (In (server.CommitPoint (time_of point))) reads.whole (in_left (server.CommitPoint (time_of point)) read reads.later (in_of read (server.CommitPoint (time_of point)) has)))
   where
-    go : In (server.CommitPoint (time_of point)) (server_hello ∷ said_to k (map reply_of (all_answers events))) → (past later : List Happened) × (event : Happened) × (events ≡ past ++ event ∷ later) × TellsPoint k point (answers_at event)
+    go : In (server.CommitPoint (time_of point)) (server_hello ∷ said_to k (map reply_of (all_answers events))) → (past later : List Happened) × (event : Happened) × (events ≡ past ++ event ∷ later) × HasPoint k point (answers_at event)
     go (inl e) = absurd (cc)
     go (inr i) = let (a, at, is) = said_answer k (server.CommitPoint (time_of point)) (all_answers events) i in from a at is a.says refl
       where
         from : (a : Answer) → In a (all_answers events) → Answers (server.CommitPoint (time_of point)) k a → (s : Saying) → a.says ≡ s
-            → (past later : List Happened) × (event : Happened) × (events ≡ past ++ event ∷ later) × TellsPoint k point (answers_at event)
+            → (past later : List Happened) × (event : Happened) × (events ≡ past ++ event ∷ later) × HasPoint k point (answers_at event)
         from a at is (CommitPoint c) e =
             let x : reply.Say (server.CommitPoint (time_of c)) ≡ reply.Say (server.CommitPoint (time_of point)) = sym (ap body_of e) ∙ is.says in
             let y : server.CommitPoint (time_of c) ≡ server.CommitPoint (time_of point) = cc in

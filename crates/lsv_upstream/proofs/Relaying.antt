@@ -17,7 +17,7 @@ use Rattle.lsv_machine.specs.Turns.{Happened, Happened.Did, Happened.Tailed, Hap
 use Rattle.lsv_machine.proofs.RunLaws.{ledger_append}
 use Rattle.lsv_machine.proofs.Shown.{ByDelays}
 use Rattle.lsv_machine.proofs.StepLooks.{step_seen}
-use Rattle.lsv_upstream.specs.Held.{HoldsThrough, NoRestart, PromisesAtLeast, TellsPoint, answers_at}
+use Rattle.lsv_upstream.specs.Held.{HoldsThrough, NoRestart, PromisesAtLeast, HasPoint, answers_at}
 use Rattle.lsv_upstream.specs.Jobs.{IsStorable}
 use Rattle.lsv_upstream.specs.Playing.{AllExpected, PlayedRun, PlayedRuns, PlayedRuns.NoRun, PlayedRuns.OneMore, all_asks_after, with_run}
 use Rattle.lsv_upstream.specs.Relayed.{IsAcknowledged, IsRelayed, RunOf, Visit, acknowledged_at, happens_after, is_visit}
@@ -31,7 +31,7 @@ use Rattle.lsv_upstream.proofs.Tellers.{tellers}
 use Rattle.lsv_upstream.proofs.Visits.{coming, expected, history_snoc, run_at, shapes, writer_told}
 
 -- a commit point in a job's answers is for the job's connection
-pub tells_to : (j k : ConnId) (c : ℕ) (answers : List Answer) → AllTo j answers → TellsPoint k c answers → j ≡ k
+pub tells_to : (j k : ConnId) (c : ℕ) (answers : List Answer) → AllTo j answers → HasPoint k c answers → j ≡ k
 tells_to j k c [] all t = absurd t
 tells_to j k c (a ∷ answers) all (inl t) = sym all.0 ∙ t.0
 tells_to j k c (a ∷ answers) all (inr t) = tells_to j k c answers all.1 t
@@ -113,7 +113,7 @@ module _ (by : ByDelays) (words : Words) (lane lanes n : ℕ) (head : Head) (rs 
   one_more g x = ledger_append n blank g (x ∷ [])
 
   module _ (a : List ServerRun) (r : ServerRun) (b : List ServerRun) (is : runs ≡ a ++ r ∷ b) (past : List Happened) (x : Happened) (later : List Happened) (split : r.events ≡ past ++ x ∷ later)
-      (k : ConnId) (writing : writes (ledger (history_at (history_of a) r past) n) k ≡ true) (tells : TellsPoint k (elapsed rs) (answers_at x)) where
+      (k : ConnId) (writing : writes (ledger (history_at (history_of a) r past) n) k ≡ true) (tells : HasPoint k (elapsed rs) (answers_at x)) where
     here : At a r past (x ∷ later)
     here = at_run a r b is (on_at a r b is) past (x ∷ later) split
 
@@ -127,14 +127,14 @@ module _ (by : ByDelays) (words : Words) (lane lanes n : ℕ) (head : Head) (rs 
     noted_holds : HoldsThrough rs (elapsed rs) (noted n (ledger (with_run (history_of a) here.part.texts past) n) x)
     noted_holds = go x here.follows here.runs_on tells
       where
-        go : (y : Happened) → AllExpected n (is_visit visits (length a)) here.now (y ∷ later) here.last → Run r.set here.m (y ∷ later) r.end → TellsPoint k (elapsed rs) (answers_at y)
+        go : (y : Happened) → AllExpected n (is_visit visits (length a)) here.now (y ∷ later) here.last → Run r.set here.m (y ∷ later) r.end → HasPoint k (elapsed rs) (answers_at y)
             → HoldsThrough rs (elapsed rs) (noted n (ledger (with_run (history_of a) here.part.texts past) n) y)
         go (Tailed tail) e (after, ended, rest) t = tail_acknowledges by n rs exit lane lanes (history_of a) past r.set here.m after (is_visit visits (length a)) here.now tail k (played_all a r b is) here.part ended writes_here t
         go (Did act) e (after, step, rest) t =
             let same_ = tells_to act.job.conn k (elapsed rs) act.answers (step_seen r.set here.m act after step).to t in
             let known = part_known by n rs exit lane lanes (history_of a) past r.set here.m (is_visit visits (length a)) here.now (whole_prefix by n rs exit lane lanes (history_of a) (played_all a r b is)) here.part in
             (exit_acknowledges r.set n rs exit (ledger (with_run (history_of a) here.part.texts past) n) here.m after act (is_visit visits (length a)) here.now known.stands known.delays (known.played.writer act.job.conn) step e.0 (elapsed rs)
-            (subst (λ j. writes (ledger (with_run (history_of a) here.part.texts past) n) j ≡ true) (sym same_) writes_here) (subst (λ j. TellsPoint j (elapsed rs) act.answers) (sym same_) t)).1
+            (subst (λ j. writes (ledger (with_run (history_of a) here.part.texts past) n) j ≡ true) (sym same_) writes_here) (subst (λ j. HasPoint j (elapsed rs) act.answers) (sym same_) t)).1
         go (Begins texts) e ran t = absurd t
 
     pub holds_now : HoldsThrough rs (elapsed rs) (ledger (history_at (history_of a) r (past ++ x ∷ [])) n)
@@ -262,7 +262,7 @@ module _ (by : ByDelays) (words : Words) (lane lanes n : ℕ) (head : Head) (rs 
   pub relayed_held : HoldsThrough rs (elapsed rs) (ledger (acknowledged_at a) n)
   relayed_held =
       let (w, i, (its, t)) = told in
-      holds_now by words lane lanes n head rs exit runs visits stored relayed w i its t a.run.before a.run.its a.run.after a.run.is a.at.past a.at.event a.at.later a.at.is a.visit.conn a.at.writing a.at.tells
+      holds_now by words lane lanes n head rs exit runs visits stored relayed w i its t a.run.before a.run.its a.run.after a.run.is a.at.past a.at.event a.at.later a.at.is a.visit.conn a.at.writing a.at.brings
 
   pub relayed_stays : (more rest : List Happened) → happens_after a ≡ more ++ rest → NoRestart n more → HoldsThrough rs (elapsed rs) (ledger (acknowledged_at a ++ more) n)
   relayed_stays more rest at alone =

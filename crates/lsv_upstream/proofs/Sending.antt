@@ -33,7 +33,7 @@ use Rattle.lsv_machine.proofs.RunLaws.{ledger_append, starts_sound}
 use Rattle.lsv_machine.proofs.Silent.{step_sound, tail_sound}
 use Rattle.lsv_machine.proofs.Shown.{ByDelays}
 use Rattle.lsv_machine.proofs.StepLooks.{step_seen}
-use Rattle.lsv_upstream.specs.Held.{GetsPoint, HoldsThrough, TellsPoint, answers_at, up_to}
+use Rattle.lsv_upstream.specs.Held.{GetsPoint, HoldsThrough, HasPoint, answers_at, up_to}
 use Rattle.lsv_upstream.specs.Jobs.{BringsFirst, IsStorable, exit_messages, jobs_of, played_anew, played_on, restart_message}
 use Rattle.lsv_upstream.specs.Playing.{BringsAsked, HasBegun, IsNext, OwnExpected, OwnRun, StillAsks, StillAsks.Over, all_asks_after, asks_after}
 use Rattle.lsv_upstream.specs.Runs.{RunsOn, ServerRun, history_at}
@@ -322,7 +322,7 @@ module _ (by : ByDelays) (words : Words) (n : ℕ) (hello : ClientHello) (head :
   ]
     where
       held : Plan → HoldsThrough reaches (elapsed reaches) (ledger (up_to before r at) n)
-      held plan = subst (HoldsThrough reaches (elapsed reaches)) (sym one) (go at.event at.tells two.2 rest)
+      held plan = subst (HoldsThrough reaches (elapsed reaches)) (sym one) (go at.event at.brings two.2 rest)
         where
           follow : (now : ConnId → List Request) × OwnExpected reaches n (λ j. same j k) (λ j. plan.asks) (history_at before r []) r.events now
           follow = own_follow n rs s before r k on alike_ [] r.events refl (λ j. plan.asks) plan.lists plan.places
@@ -345,11 +345,11 @@ module _ (by : ByDelays) (words : Words) (n : ℕ) (hello : ClientHello) (head :
           one : ledger (up_to before r at) n ≡ noted n l at.event
           one = ap (λ (x : List Happened). ledger x n) (sym (append_three before (Begins r.texts ∷ at.past) (at.event ∷ []))) ∙ ledger_append n blank (history_at before r at.past) (at.event ∷ [])
 
-          go : (x : Happened) → TellsPoint k (elapsed reaches) (answers_at x) → OwnExpected reaches n (λ j. same j k) two.0 (history_at before r [] ++ at.past) (x ∷ at.later) follow.0 → Run r.set ran.0 (x ∷ at.later) r.end → HoldsThrough reaches (elapsed reaches) (noted n l x)
+          go : (x : Happened) → HasPoint k (elapsed reaches) (answers_at x) → OwnExpected reaches n (λ j. same j k) two.0 (history_at before r [] ++ at.past) (x ∷ at.later) follow.0 → Run r.set ran.0 (x ∷ at.later) r.end → HoldsThrough reaches (elapsed reaches) (noted n l x)
           go (Tailed tail) told own (after, ended, more) = own_acknowledged by n reaches its_exit before at.past r.set ran.0 after (λ j. same j k) two.0 tail k part ended (same_refl k) at.writing told
           go (Did act) told (begun, next, own) (after, step, more) =
               let p = tells_to act.job.conn k (elapsed reaches) act.answers (step_seen r.set ran.0 act after step).to told in
               let o : same act.job.conn k ≡ true = subst (λ j. same act.job.conn j ≡ true) p (same_refl act.job.conn) in
               own_exit by n reaches its_exit before at.past r.set ran.0 after (λ j. same j k) two.0 act (elapsed reaches) o (next o) part step
-              (subst (λ j. writes l j ≡ true) (sym p) at.writing) (subst (λ j. TellsPoint j (elapsed reaches) act.answers) (sym p) told)
+              (subst (λ j. writes l j ≡ true) (sym p) at.writing) (subst (λ j. HasPoint j (elapsed reaches) act.answers) (sym p) told)
           go (Begins texts) told own runs = absurd told

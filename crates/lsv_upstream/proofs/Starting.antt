@@ -21,7 +21,7 @@ use Rattle.lsv_machine.specs.Machine.{LogState.Absent, LogState.There, Machine, 
 use Rattle.lsv_machine.specs.Starts.{StartsAs}
 use Rattle.lsv_machine.specs.Turns.{EndOfTurn, Happened.Tailed, Run, with_lines}
 use Rattle.lsv_machine.specs.Work.{Done, draws, empty_log, fits_file, lined, makes, plain, refused, silently, takes, waits, with_record}
-use Rattle.lsv_upstream.specs.Examples.{before_point, greets, point_told}
+use Rattle.lsv_upstream.specs.Examples.{before_point, greets, turn_end}
 
 pub starts_empty : StartsAs one_lane [] (starting Absent 0)
 starts_empty = record {
@@ -122,7 +122,7 @@ no_failure : {o : Owner} → Contains [] o → ⊥
 no_failure c = let low = c.1 in omega arith
 
 -- the end of the turn
-last_step : (end : Machine) × EndOfTurn one_lane taken_one point_told end
+last_step : (end : Machine) × EndOfTurn one_lane taken_one turn_end end
 unfolding greeted by_fit opened_one by_take taken_one
 last_step = (
   _,
@@ -130,12 +130,12 @@ last_step = (
     mid = with_lines true taken_one;
     last = with_log 1 (There (with_record (one_byte 5) (empty_log (head_text full_head))) 1) (with_lines true taken_one);
     of_lines = [];
-    of_logs = point_told.answers;
+    of_logs = turn_end.answers;
     answers = refl;
     lines = inl (no_failure, refl, refl);
     logs = (
       with_log 1 (There (with_record (one_byte 5) (empty_log (head_text full_head))) 1) (with_lines true taken_one),
-      point_told.answers,
+      turn_end.answers,
       [],
       refl,
       inl (record {
@@ -154,5 +154,5 @@ last_step = (
   },
 )
 
-pub whole_run : (end : Machine) × Run one_lane (starting Absent 0) (before_point ++ Tailed point_told ∷ []) end
+pub whole_run : (end : Machine) × Run one_lane (starting Absent 0) (before_point ++ Tailed turn_end ∷ []) end
 whole_run = (last_step.0, (greeted, first_step, (opened_one, second_step, (taken_one, third_step, (last_step.0, last_step.1, refl)))))

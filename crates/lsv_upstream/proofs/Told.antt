@@ -18,27 +18,27 @@ use Rattle.lsv_machine.proofs.JobFits.{Last, Last.by_refusal, Last.by_shut, refu
 use Rattle.lsv_machine.proofs.RunFits.{flushed_together, heard_append, lines_together}
 use Rattle.lsv_machine.proofs.WorkFits.{holds_there}
 use Rattle.lsv_machine.proofs.StepLooks.{leaving_still}
-use Rattle.lsv_upstream.specs.Held.{PromisesAtLeast, TellsPoint}
+use Rattle.lsv_upstream.specs.Held.{PromisesAtLeast, HasPoint}
 use Rattle.lsv_upstream.proofs.Among.{among}
 use Rattle.lsv_upstream.proofs.Keeping.{all_less}
 use Rattle.lsv_upstream.proofs.Waits.{Grows, grows_like, grows_then, leaves_grows, leaving_grows}
 
-pub tells_append : (k : ConnId) (c : ℕ) (xs ys : List Answer) → TellsPoint k c (xs ++ ys) → TellsPoint k c xs ⊎ TellsPoint k c ys
+pub tells_append : (k : ConnId) (c : ℕ) (xs ys : List Answer) → HasPoint k c (xs ++ ys) → HasPoint k c xs ⊎ HasPoint k c ys
 tells_append k c [] ys t = inr t
 tells_append k c (x ∷ xs) ys (inl t) = inl (inl t)
 tells_append k c (x ∷ xs) ys (inr t) = elim (tells_append k c xs ys t) [ inl a ↦ inl (inr a) | inr a ↦ inr a ]
 
 -- a refusal tells no commit point
-pub last_no : (k j : ConnId) (c : ℕ) (answers : List Answer) → Last j answers → TellsPoint k c answers → ⊥
-last_no k j c answers (by_refusal why e) t = go (subst (TellsPoint k c) e t)
+pub last_no : (k j : ConnId) (c : ℕ) (answers : List Answer) → Last j answers → HasPoint k c answers → ⊥
+last_no k j c answers (by_refusal why e) t = go (subst (HasPoint k c) e t)
   where
-    go : TellsPoint k c (refusal j why) → ⊥
+    go : HasPoint k c (refusal j why) → ⊥
     go (inl x) = let y = x.1 in cc
     go (inr (inl x)) = let y = x.1 in cc
     go (inr (inr x)) = x
-last_no k j c answers (by_shut e) t = go (subst (TellsPoint k c) e t)
+last_no k j c answers (by_shut e) t = go (subst (HasPoint k c) e t)
   where
-    go : TellsPoint k c (say j Shut ∷ []) → ⊥
+    go : HasPoint k c (say j Shut ∷ []) → ⊥
     go (inl x) = let y = x.1 in cc
     go (inr x) = x
 
@@ -81,10 +81,10 @@ module _ (set : Settings) (n : ℕ) (k : ConnId) (c : ℕ) where
     pub promises : (f : ℕ) → first l.shown c ≡ Some f → PromisesAtLeast after f
 
   -- one log: it is the one that the connection writes
-  commit_told : (failed : List Owner) (i : ℕ) (answers : List Answer) (m mid : Machine) (l : Ledger) → StandsFor set n m l → log_of (m.states k) ≡ Some n → Commits failed i answers m mid → TellsPoint k c answers
+  commit_told : (failed : List Owner) (i : ℕ) (answers : List Answer) (m mid : Machine) (l : Ledger) → StandsFor set n m l → log_of (m.states k) ≡ Some n → Commits failed i answers m mid → HasPoint k c answers
       → (i ≡ n) × (c ≡ elapsed l.shown) × ((f : ℕ) → first l.shown c ≡ Some f → PromisesAtLeast (heard_all false answers l) f)
   commit_told failed i answers m mid l s its t told =
-      let (who, point) = one (subst (TellsPoint k c) t.told told) in
+      let (who, point) = one (subst (HasPoint k c) t.told told) in
       let owns = s.sound.owns i t.writer t.owned in
       let same_log : i ≡ n = (let a : log_of (m.states t.writer) ≡ Some n = subst (λ j. log_of (m.states j) ≡ Some n) (sym who) its in cc) in
       let own : m.owner n ≡ Some t.writer = ap m.owner (sym same_log) ∙ t.owned in
@@ -103,14 +103,14 @@ module _ (set : Settings) (n : ℕ) (k : ConnId) (c : ℕ) where
         ),
       )
     where
-      one : TellsPoint k c (say t.writer (CommitPoint (elapsed t.stored.records)) ∷ []) → (t.writer ≡ k) × (c ≡ elapsed t.stored.records)
+      one : HasPoint k c (say t.writer (CommitPoint (elapsed t.stored.records)) ∷ []) → (t.writer ≡ k) × (c ≡ elapsed t.stored.records)
       one (inl x) = (x.0, (let y = x.1 in cc))
       one (inr x) = absurd x
 
   -- who has no log is told no commit point
-  idle_no : (failed : List Owner) (numbers : List ℕ) (answers : List Answer) (m new : Machine) (l : Ledger) → StandsFor set n m l → log_of (m.states k) ≡ None → FlushesLogs failed numbers answers m new → TellsPoint k c answers → ⊥
-  idle_no failed [] answers m new l s idle t told = subst (TellsPoint k c) t.0 told
-  idle_no failed (i ∷ numbers) answers m new l s idle (mid, now, rest, parts, one, more) told = elim (tells_append k c now rest (subst (TellsPoint k c) parts told)) [
+  idle_no : (failed : List Owner) (numbers : List ℕ) (answers : List Answer) (m new : Machine) (l : Ledger) → StandsFor set n m l → log_of (m.states k) ≡ None → FlushesLogs failed numbers answers m new → HasPoint k c answers → ⊥
+  idle_no failed [] answers m new l s idle t told = subst (HasPoint k c) t.0 told
+  idle_no failed (i ∷ numbers) answers m new l s idle (mid, now, rest, parts, one, more) told = elim (tells_append k c now rest (subst (HasPoint k c) parts told)) [
     | inl here ↦ at_once one here
     | inr there ↦ idle_no failed numbers rest mid new (heard_all false now l) stands_mid (after one) more there
   ]
@@ -118,9 +118,9 @@ module _ (set : Settings) (n : ℕ) (k : ConnId) (c : ℕ) where
       stands_mid : StandsFor set n mid (heard_all false now l)
       stands_mid = stands_of_fits set n mid (heard_all false now l) (flushed_together (Unit {0}) set n m l (fits_of_stands set n m l s) failed i now mid one)
 
-      at_once : FlushesLog failed i now m mid → TellsPoint k c now → ⊥
+      at_once : FlushesLog failed i now m mid → HasPoint k c now → ⊥
       at_once (inr fails) here = last_no k fails.writer c now (refused_last fails.writer now fails.told) here
-      at_once (inl commits) here = elim (subst (TellsPoint k c) commits.told here) [
+      at_once (inl commits) here = elim (subst (HasPoint k c) commits.told here) [
         | inl x ↦ let o = s.sound.owns i commits.writer commits.owned in let a : log_of (m.states commits.writer) ≡ None = subst (λ j. log_of (m.states j) ≡ None) (sym x.0) idle in cc
         | inr x ↦ x
       ]
@@ -129,10 +129,10 @@ module _ (set : Settings) (n : ℕ) (k : ConnId) (c : ℕ) where
       after (inl commits) = ap (λ (x : Machine). log_of (x.states k)) commits.now ∙ idle
       after (inr fails) = ap (λ (x : Machine). log_of (x.states k)) fails.now ∙ (elim (same_or k fails.writer) [ alike a t ↦ rw t refl | apart a t ↦ rw t idle ])
 
-  flushes_told : (failed : List Owner) (numbers : List ℕ) (answers : List Answer) (m new : Machine) (l : Ledger) → StandsFor set n m l → FlushesLogs failed numbers answers m new → TellsPoint k c answers
+  flushes_told : (failed : List Owner) (numbers : List ℕ) (answers : List Answer) (m new : Machine) (l : Ledger) → StandsFor set n m l → FlushesLogs failed numbers answers m new → HasPoint k c answers
       → log_of (m.states k) ≡ Some n → Acknowledged numbers l (heard_all false answers l)
-  flushes_told failed [] answers m new l s t told its = absurd (subst (TellsPoint k c) t.0 told)
-  flushes_told failed (i ∷ numbers) answers m new l s (mid, now, rest, parts, one, more) told its = elim (tells_append k c now rest (subst (TellsPoint k c) parts told)) [
+  flushes_told failed [] answers m new l s t told its = absurd (subst (HasPoint k c) t.0 told)
+  flushes_told failed (i ∷ numbers) answers m new l s (mid, now, rest, parts, one, more) told its = elim (tells_append k c now rest (subst (HasPoint k c) parts told)) [
     | inl here ↦ at_once one here
     | inr there ↦ later one there (λ at. flushes_told failed numbers rest mid new (heard_all false now l) stands_mid more there at)
   ]
@@ -143,7 +143,7 @@ module _ (set : Settings) (n : ℕ) (k : ConnId) (c : ℕ) where
       splits : heard_all false answers l ≡ heard_all false rest (heard_all false now l)
       splits = ap (λ (x : List Answer). heard_all false x l) parts ∙ heard_append false now rest l
 
-      at_once : FlushesLog failed i now m mid → TellsPoint k c now → Acknowledged (i ∷ numbers) l (heard_all false answers l)
+      at_once : FlushesLog failed i now m mid → HasPoint k c now → Acknowledged (i ∷ numbers) l (heard_all false answers l)
       at_once (inr fails) here = absurd (last_no k fails.writer c now (refused_last fails.writer now fails.told) here)
       at_once (inl commits) here =
           let (same_log, point, promises) = commit_told failed i now m mid l s its commits here in
@@ -154,20 +154,20 @@ module _ (set : Settings) (n : ℕ) (k : ConnId) (c : ℕ) where
           }
 
       -- the writer of n isn't that of another log
-      kept : FlushesLog failed i now m mid → (log_of (mid.states k) ≡ Some n) ⊎ (TellsPoint k c rest → ⊥)
+      kept : FlushesLog failed i now m mid → (log_of (mid.states k) ≡ Some n) ⊎ (HasPoint k c rest → ⊥)
       kept (inl commits) = inl (ap (λ (x : Machine). log_of (x.states k)) commits.now ∙ its)
       kept (inr fails) = elim (same_or k fails.writer) [
         | apart p t ↦ inl (ap (λ (x : Machine). log_of (x.states k)) fails.now ∙ rw t its)
         | alike p t ↦ inr (dead_silent p)
       ]
         where
-          dead_silent : k ≡ fails.writer → TellsPoint k c rest → ⊥
+          dead_silent : k ≡ fails.writer → HasPoint k c rest → ⊥
           dead_silent p = idle_no failed numbers rest mid new (heard_all false now l) stands_mid (ap (λ (x : Machine). log_of (x.states k)) fails.now ∙ gone p) more
             where
               gone : k ≡ fails.writer → log_of ((leaves fails.writer Dead (with_log i fails.log m)).states k) ≡ None
               gone q = elim (same_or k fails.writer) [ alike a t ↦ rw t refl | apart a t ↦ absurd (a q) ]
 
-      later : FlushesLog failed i now m mid → TellsPoint k c rest → (log_of (mid.states k) ≡ Some n → Acknowledged numbers (heard_all false now l) (heard_all false rest (heard_all false now l))) → Acknowledged (i ∷ numbers) l (heard_all false answers l)
+      later : FlushesLog failed i now m mid → HasPoint k c rest → (log_of (mid.states k) ≡ Some n → Acknowledged numbers (heard_all false now l) (heard_all false rest (heard_all false now l))) → Acknowledged (i ∷ numbers) l (heard_all false answers l)
       later o there again = elim (kept o) [
         | inr no_ ↦ absurd (no_ there)
         | inl still_its ↦
@@ -190,13 +190,13 @@ module _ (set : Settings) (n : ℕ) (k : ConnId) (c : ℕ) where
   pub record Refused (m new : Machine) (answers : List Answer) : Type 0 where
     pub state : (new.states k ≡ m.states k) ⊎ (new.states k ≡ Dead)
     pub grows : Grows m new
-    pub no_commit : TellsPoint k c answers → ⊥
+    pub no_commit : HasPoint k c answers → ⊥
 
   refuses_all : (failed : List Owner) (conns : List ConnId) (answers : List Answer) (m new : Machine) → RefusesAll failed conns answers m new → Refused m new answers
   refuses_all failed [] answers m new t = record {
     state = inl (ap (λ (x : Machine). x.states k) t.1);
     grows = grows_like m new (ap (λ (x : Machine). x.waiting) t.1) (ap (λ (x : Machine). x.last) t.1);
-    no_commit = λ told. subst (TellsPoint k c) t.0 told;
+    no_commit = λ told. subst (HasPoint k c) t.0 told;
   }
   refuses_all failed (j ∷ conns) answers m new (inl t) = refuses_all failed conns answers m new t.1
   refuses_all failed (j ∷ conns) answers m new (inr (living, (mid, now, rest, parts, one, more))) =
@@ -210,24 +210,24 @@ module _ (set : Settings) (n : ℕ) (k : ConnId) (c : ℕ) where
       record {
         state = elim r.state [ inr d ↦ inr d | inl e ↦ (elim at [ inl x ↦ inl (e ∙ x) | inr x ↦ inr (e ∙ x) ]) ];
         grows = grows_then m mid new g r.grows;
-        no_commit = λ told. elim (tells_append k c now rest (subst (TellsPoint k c) parts told)) [ inl a ↦ last_no k j c now (refused_last j now one.told) a | inr a ↦ r.no_commit a ];
+        no_commit = λ told. elim (tells_append k c now rest (subst (HasPoint k c) parts told)) [ inl a ↦ last_no k j c now (refused_last j now one.told) a | inr a ↦ r.no_commit a ];
       }
 
   pub lines_refuse : (failed : List Owner) (answers : List Answer) (m new : Machine) → FlushesLines set failed answers m new → Refused m new answers
   lines_refuse failed answers m new (inl t) = record {
     state = inl (ap (λ (x : Machine). x.states k) t.2);
     grows = grows_like m new (ap (λ (x : Machine). x.waiting) t.2) (ap (λ (x : Machine). x.last) t.2);
-    no_commit = λ told. subst (TellsPoint k c) t.1 told;
+    no_commit = λ told. subst (HasPoint k c) t.1 told;
   }
   lines_refuse failed answers m new (inr t) =
       let r = refuses_all failed m.noting answers (with_lines t.wrote m) new t.refuses in
       record { state = r.state; grows = grows_then m (with_lines t.wrote m) new (grows_like m (with_lines t.wrote m) refl refl) r.grows; no_commit = r.no_commit }
 
-  pub tail_told : (m new : Machine) (l : Ledger) (tail : Tail) → StandsFor set n m l → EndOfTurn set m tail new → TellsPoint k c tail.answers → log_of (m.states k) ≡ Some n → Acknowledged m.waiting l (noted n l (Tailed tail))
+  pub tail_told : (m new : Machine) (l : Ledger) (tail : Tail) → StandsFor set n m l → EndOfTurn set m tail new → HasPoint k c tail.answers → log_of (m.states k) ≡ Some n → Acknowledged m.waiting l (noted n l (Tailed tail))
   tail_told m new l tail s t told its =
       let r = lines_refuse tail.failed t.of_lines m t.mid t.lines in
       let stands_mid = stands_of_fits set n t.mid (heard_all false t.of_lines l) (lines_together (Unit {0}) set n tail.failed t.of_lines m t.mid l (fits_of_stands set n m l s) t.lines) in
-      let in_logs : TellsPoint k c t.of_logs = elim (tells_append k c t.of_lines t.of_logs (subst (TellsPoint k c) t.answers told)) [ inl a ↦ absurd (r.no_commit a) | inr a ↦ a ] in
+      let in_logs : HasPoint k c t.of_logs = elim (tells_append k c t.of_lines t.of_logs (subst (HasPoint k c) t.answers told)) [ inl a ↦ absurd (r.no_commit a) | inr a ↦ a ] in
       let less = all_less false t.of_lines l in
       let splits : noted n l (Tailed tail) ≡ heard_all false t.of_logs (heard_all false t.of_lines l) = ap (λ (x : List Answer). heard_all false x l) t.answers ∙ heard_append false t.of_lines t.of_logs l in
       elim r.state [
@@ -242,11 +242,11 @@ module _ (set : Settings) (n : ℕ) (k : ConnId) (c : ℕ) where
       ]
 
   -- who has no log is told no commit point at the end of a turn
-  pub tail_idle : (m new : Machine) (l : Ledger) (tail : Tail) → StandsFor set n m l → EndOfTurn set m tail new → TellsPoint k c tail.answers → log_of (m.states k) ≡ None → ⊥
+  pub tail_idle : (m new : Machine) (l : Ledger) (tail : Tail) → StandsFor set n m l → EndOfTurn set m tail new → HasPoint k c tail.answers → log_of (m.states k) ≡ None → ⊥
   tail_idle m new l tail s t told none =
       let r = lines_refuse tail.failed t.of_lines m t.mid t.lines in
       let stands_mid = stands_of_fits set n t.mid (heard_all false t.of_lines l) (lines_together (Unit {0}) set n tail.failed t.of_lines m t.mid l (fits_of_stands set n m l s) t.lines) in
-      let in_logs : TellsPoint k c t.of_logs = elim (tells_append k c t.of_lines t.of_logs (subst (TellsPoint k c) t.answers told)) [ inl a ↦ absurd (r.no_commit a) | inr a ↦ a ] in
+      let in_logs : HasPoint k c t.of_logs = elim (tells_append k c t.of_lines t.of_logs (subst (HasPoint k c) t.answers told)) [ inl a ↦ absurd (r.no_commit a) | inr a ↦ a ] in
       elim r.state [
         | inr d ↦ idle_no tail.failed t.mid.waiting t.of_logs t.mid t.last (heard_all false t.of_lines l) stands_mid (ap log_of d) t.logs in_logs
         | inl e ↦ idle_no tail.failed t.mid.waiting t.of_logs t.mid t.last (heard_all false t.of_lines l) stands_mid (ap log_of e ∙ none) t.logs in_logs

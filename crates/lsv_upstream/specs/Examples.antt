@@ -43,7 +43,7 @@ sends_upto time = record { from = None; upto = Some time }
 abbrev pub goes_on_upto : (point time : ℕ) → Sending
 goes_on_upto point time = record { from = Some (record { id = codes "000001"; point = point }); upto = Some time }
 
--- connection 1 sent two records of log 1, each with the byte 5 after 1 ns, and went; then connection 4 goes on with the log at 1 ns, and sends the byte 9
+-- Connection 1 sent two records of log 1, each with the byte 5 after 1 ns, and went. Connection 4 goes on with it at 1 ns, and sends the byte 9.
 abbrev pub another_goes_on : List Happened
 another_goes_on = two_committed ++ all_acted (did (goes 1) (farewell (conn 1)) ∷ did (restarts 4) [] ∷ did (sends 4 9) [] ∷ [])
 
@@ -62,12 +62,12 @@ abbrev pub before_point : List Happened
 before_point = all_acted (did (greets 1) [] ∷ did (accepts_with_keys 1) (say (conn 1) (LogId 1) ∷ []) ∷ did (sends 1 5) [] ∷ [])
 
 -- the end of that turn
-abbrev pub point_told : Tail
-point_told = record { answers = say (conn 1) (CommitPoint 1) ∷ []; failed = [] }
+abbrev pub turn_end : Tail
+turn_end = record { answers = say (conn 1) (CommitPoint 1) ∷ []; failed = [] }
 
 -- the run of the upstream, over an empty store, with this machine at its end
 abbrev pub upstream_run : Machine → ServerRun
-upstream_run end = record { set = one_lane; texts = []; start = starting Absent 0; events = before_point ++ Tailed point_told ∷ []; end = end }
+upstream_run end = record { set = one_lane; texts = []; start = starting Absent 0; events = before_point ++ Tailed turn_end ∷ []; end = end }
 
 -- the relay's connection: nothing was kept, and all answers were read
 abbrev pub relay_visit : Visit

@@ -38,18 +38,19 @@ answers_at (Tailed tail) = tail.answers
 answers_at (Begins texts) = []
 
 -- one of these answers is this commit point for the connection
-abbrev pub TellsPoint : ConnId → ℕ → List Answer → Type 0
-TellsPoint k point [] = ⊥
-TellsPoint k point (a ∷ answers) = ((a.conn ≡ k) × (a.says ≡ CommitPoint point)) ⊎ TellsPoint k point answers
+abbrev pub HasPoint : ConnId → ℕ → List Answer → Type 0
+HasPoint k point [] = ⊥
+HasPoint k point (a ∷ answers) = ((a.conn ≡ k) × (a.says ≡ CommitPoint point)) ⊎ HasPoint k point answers
 
--- an event of a run brings this commit point to the connection, which writes log n then: what happened in the run before it, the event, and what follows in the run
+-- an event of a run brings this commit point to a connection that writes log n
 pub record GetsPoint (n : ℕ) (before : List Happened) (r : ServerRun) (k : ConnId) (point : ℕ) : Type 0 where
+  -- what happened in the run before it, the event, and what follows in the run
   pub past : List Happened
   pub event : Happened
   pub later : List Happened
   pub is : r.events ≡ past ++ event ∷ later
   pub writing : writes (ledger (history_at before r past) n) k ≡ true
-  pub tells : TellsPoint k point (answers_at event)
+  pub brings : HasPoint k point (answers_at event)
 
 -- what has happened when that commit point is there
 abbrev pub up_to : {n : ℕ} {k : ConnId} {point : ℕ} → (before : List Happened) → (r : ServerRun) → GetsPoint n before r k point → List Happened

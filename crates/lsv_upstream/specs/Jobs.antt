@@ -22,7 +22,7 @@ use Rattle.lsv_upstream.specs.Held.{answers_at}
 
 -- ---- The messages of a stored log
 
--- a head, records and an exit that a stored log may have: valid records of less than 2 ^ 63 ns in all, and valid times
+-- what a stored log may have: valid records of less than 2 ^ 63 ns in all, and valid times of its head and exit
 pub record IsStorable (head : Head) (rs : List Record) (exit : Option Exit) : Type 0 where
   pub valid : All IsValid rs
   pub in_time : elapsed rs < 2 ^ 63

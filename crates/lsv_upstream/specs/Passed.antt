@@ -14,10 +14,13 @@ use Rattle.lsv_machine.specs.Machine.{same}
 use Rattle.lsv_machine.specs.Turns.{Happened, Happened.Did, Happened.Tailed, Happened.Begins}
 use Rattle.lsv_upstream.specs.Held.{PromisesAtLeast}
 
--- what a connection has sent of a log: nothing, as it neither opened it nor went on with it; or the records since it opened it; or those since it last went on with it at a point
+-- what a connection has sent of a log
 pub data HasSent : Type 0 where
+  -- nothing: it neither opened the log nor went on with it
   Nothing : HasSent
+  -- the records since it opened the log
   Opened : (rs : List Record) → HasSent
+  -- the records since it last went on with the log, at a point
   Resumed : (point : ℕ) (rs : List Record) → HasSent
 
 -- the same with one record more
@@ -26,7 +29,7 @@ one_more_sent r Nothing = Nothing
 one_more_sent r (Opened rs) = Opened (rs ++ r ∷ [])
 one_more_sent r (Resumed point rs) = Resumed point (rs ++ r ∷ [])
 
--- what a request with these answers adds: an accept that is answered by the number opens the log, a restart without an answer goes on with it, and a record without an answer is sent
+-- what a request with these answers adds to it. An accept that gets the log's number opens it. A restart without an answer goes on with it. A record without an answer is sent.
 abbrev pub sent_by : ℕ → Result Request Refusal → List Answer → HasSent → HasSent
 sent_by n (Ok (request.Accept accept)) answers s = if tells_log n answers then Opened [] else s
 sent_by n (Ok (request.Restart restart)) answers s = if (restart.log == n) && is_silent answers then Resumed restart.point [] else s
@@ -64,14 +67,17 @@ abbrev pub records_of : List Body → List Record
 records_of [] = []
 records_of (b ∷ bodies) = record_asked (request_in b) ++ records_of bodies
 
--- what a connection has sent are these records, all of them since it opened the log, or since it went on with it at a point
+-- a connection has sent these records: all since it opened the log, or since it went on with it at a point
 abbrev pub HasSentAll : List Record → HasSent → Type 0
 HasSentAll rs s = (s ≡ Opened rs) ⊎ ((point : ℕ) × (s ≡ Resumed point rs))
 
--- records that end at a point come first of what was sent, and then these, which end at the commit point; if that is above the point, these are promised through the first that reaches it
+-- these records were sent of the log after others, which end at a point
 pub record HoldsAfter (start : ℕ) (rs : List Record) (point : ℕ) (l : Ledger) : Type 0 where
+  -- the others
   pub base : List Record
   pub sent_is : l.sent ≡ base ++ rs
   pub ends : elapsed base ≡ start
+  -- the commit point is the elapsed time of all
   pub reaches : point ≡ start + elapsed rs
+  -- if it is above the point, these are promised through the first that reaches it
   pub promises : (f : ℕ) → start < point → first rs (point - start) ≡ Some f → PromisesAtLeast l (length base + f)

@@ -31,12 +31,17 @@ ending (Some e) = request.Exit e ∷ []
 abbrev pub asks_from : List Record → Option Exit → (p : ℕ) → List Request
 asks_from rs e p = map (λ r. request.Record r) (drop p rs) ++ ending e
 
--- what a connection that plays these records has still to ask: a hello and then such; an accept and all of it; a restart at a point at which a record ends, and what is after it; the rest of the records; nothing
+-- what a connection that plays these records has still to ask
 pub data StillAsks (rs : List Record) (e : Option Exit) : List Request → Type 0 where
+  -- a hello, and then such
   Greets : (asks later : List Request) → asks ≡ request.Hello ∷ later → StillAsks rs e later → StillAsks rs e asks
+  -- an accept, all records, and the exit
   Opens : (asks : List Request) (accept : Accept) → asks ≡ request.Accept accept ∷ asks_from rs e 0 → StillAsks rs e asks
+  -- a restart at a point at which a record ends, and what follows that record
   Resumes : (asks : List Request) (restart : Restart) (kept : ℕ) → first rs restart.point ≡ Some kept → asks ≡ request.Restart restart ∷ asks_from rs e kept → StillAsks rs e asks
+  -- the records after the first p, and the exit
   Plays : (asks : List Request) (p : ℕ) → p ≤ length rs → asks ≡ asks_from rs e p → StillAsks rs e asks
+  -- nothing
   Over : (asks : List Request) → asks ≡ [] → StillAsks rs e asks
 
 -- ---- Events in which these connections ask that, and nobody else goes on with the log

@@ -18,12 +18,12 @@ use Rattle.lsv_upstream.specs.Held.{GetsPoint, NoRestartBut, up_to}
 use Rattle.lsv_upstream.specs.Jobs.{BringsFirst, ReadsFirst, jobs_of, played_anew, played_on}
 use Rattle.lsv_upstream.specs.Runs.{AllRunOn, ServerRun, history_of}
 
--- what a relay keeps of a log between its connections: the identifier that the upstream gave, and the last commit point, if one came for it
+-- what a relay keeps of a log between connections: the upstream's identifier, and the last commit point for it, if any
 pub record KeptPlace : Type 0 where
   pub id : List ℕ
   pub point : Option ℕ
 
--- the messages of a connection that begins with an identifier and a point at which the first n records end, or anew if none end there
+-- the messages of a connection that begins with an identifier and a point: after the first n records, or the whole log if none end there
 abbrev pub played_at : ClientHello → Head → List Record → Option Exit → (id : List ℕ) (point : ℕ) → Option ℕ → List ClientMessage
 played_at hello head rs exit id point None = played_anew hello head rs exit
 played_at hello head rs exit id point (Some n) = played_on hello id point n rs exit
@@ -33,17 +33,21 @@ abbrev pub played_after : ClientHello → Head → List Record → Option Exit �
 played_after hello head rs exit id None = played_anew hello head rs exit
 played_after hello head rs exit id (Some point) = played_at hello head rs exit id point (first rs point)
 
--- the messages of a relay's connection by what is kept at its start: the log after a kept point at which a record ends, or else from its start
+-- the messages of a relay's connection: the log after a kept point at which a record ends, or else the whole log
 abbrev pub relay_messages : ClientHello → Head → List Record → Option Exit → Option KeptPlace → List ClientMessage
 relay_messages hello head rs exit None = played_anew hello head rs exit
 relay_messages hello head rs exit (Some kept) = played_after hello head rs exit kept.id kept.point
 
--- one connection of a relay: the number of the upstream's run in which it comes, from 0, its name there, its hello, what was kept at its start, and the messages that it read
+-- one connection of a relay
 pub record Visit : Type 0 where
+  -- the number of the upstream's run in which it comes, from 0
   pub run : ℕ
+  -- its name in that run
   pub conn : ConnId
   pub hello : ClientHello
+  -- what was kept at its start
   pub kept : Option KeptPlace
+  -- the messages that it read
   pub read : List ServerMessage
 
 -- the run of a visit, with those before and after it
@@ -85,7 +89,7 @@ abbrev pub OnlyVisitsRestart : ℕ → List Visit → (first : ℕ) → List Ser
 OnlyVisitsRestart n visits first [] = Unit {0}
 OnlyVisitsRestart n visits first (r ∷ runs) = NoRestartBut n (is_visit visits first) r.events × OnlyVisitsRestart n visits (suc first) runs
 
--- these visits bring a log to an upstream, in runs of it over a store that was empty, and nobody else goes on with log n of the lane
+-- these visits bring a log to an upstream, over a store that was empty; nobody else goes on with its log n
 pub record IsRelayed (lane lanes n : ℕ) (head : Head) (rs : List Record) (exit : Option Exit) (runs : List ServerRun) (visits : List Visit) : Type 0 where
   pub of_lane : IsOfLane lane lanes n
   pub whole : AllRunOn lane lanes n [] runs

@@ -5,11 +5,14 @@ use Rattle.lsv_machine.specs.Machine.{Machine, Settings}
 use Rattle.lsv_machine.specs.Starts.{GoodState, StartsAs}
 use Rattle.lsv_machine.specs.Turns.{Happened, Happened.Begins, Run}
 
--- one run of the server: its settings, the texts that it masks by, the machine at its start, what has happened in it, and the machine then
+-- one run of the server
 pub record ServerRun : Type 0 where
   pub set : Settings
+  -- the prompts after which typed input is masked
   pub texts : List (List ℕ)
+  -- the machine at its start
   pub start : Machine
+  -- what has happened in it, and the machine after that
   pub events : List Happened
   pub end : Machine
 

@@ -1,4 +1,4 @@
--- A stored log that one connection sends to a server: all of it or a part, into a new log or after what another connection sent.
+-- A stored log that one connection sends to a server: all or a part, into a new log or after another connection's records.
 use Rattle.std.specs.Prelude.{◌≡◌, ℕ, suc, ◌-◌, max, nat_le, if◌then◌else◌, List, [], ◌∷◌, ◌++◌, take, Option, Some, None, unwrap_or, Ok}
 use Rattle.lsv_info.specs.declared.times.Exit.{Exit}
 use Rattle.lsv_info.specs.declared.times.Head.{Head}
@@ -21,9 +21,11 @@ pub record ResumeAt : Type 0 where
   pub id : List ℕ
   pub point : ℕ
 
--- what is asked of a sender: to go on with a log, or to begin a new one; and to send the records up to an elapsed time, or all and the exit
+-- what is asked of a sender
 pub record Sending : Type 0 where
+  -- to go on with a log, or else to begin a new one
   pub from : Option ResumeAt
+  -- to send the records up to an elapsed time, or else all and the exit
   pub upto : Option ℕ
 
 -- how many of the first records have an elapsed time of at most this
@@ -54,12 +56,12 @@ reached s rs = reached_by s.upto (skips s.from rs) rs
 abbrev pub aim : Sending → List Record → ℕ
 aim s rs = elapsed (reached s rs)
 
--- the messages of a log of these records and this exit that is gone on with; none if no record ends at the point
+-- the messages of these records and this exit after a point; none if no record ends there
 abbrev pub resumed_at : ClientHello → ResumeAt → Option ℕ → List Record → Option Exit → List ClientMessage
 resumed_at hello at None rs exit = []
 resumed_at hello at (Some n) rs exit = played_on hello at.id at.point n rs exit
 
--- the messages of these records and this exit, into a new log or after a point of the records all
+-- the messages of these records and this exit, into a new log, or after a point of all records
 abbrev pub sent_from : ClientHello → Head → (all : List Record) → Option ResumeAt → List Record → Option Exit → List ClientMessage
 sent_from hello head all None rs exit = played_anew hello head rs exit
 sent_from hello head all (Some at) rs exit = resumed_at hello at (first all at.point) rs exit
@@ -68,7 +70,7 @@ sent_from hello head all (Some at) rs exit = resumed_at hello at (first all at.p
 abbrev pub sender_messages : ClientHello → Head → List Record → Option Exit → Sending → List ClientMessage
 sender_messages hello head rs exit s = sent_from hello head rs s.from (reached s rs) (exit_by s.upto exit)
 
--- when the connection asks to go on with log n, the first records that were sent of it, as many as are skipped, are those of the log that is sent
+-- when the connection asks to go on with log n, what was sent of it begins with the records that are skipped
 abbrev pub BeginsAlike : (n : ℕ) → List Record → Sending → (before : List Happened) → ServerRun → ConnId → Type 0
 BeginsAlike n rs s before r k = (past later : List Happened) (act : Act) (restart : Restart) → r.events ≡ past ++ Did act ∷ later → act.job.conn ≡ k
     → request_in act.job.body ≡ Ok (request.Restart restart) → restart.log ≡ n → take (skips s.from rs) (sent (history_at before r past) n) ≡ take (skips s.from rs) rs

@@ -16,7 +16,7 @@ ghost use Rattle.lsv_record.specs.Records.{elapsed};
 ghost use Rattle.lsv_record.specs.declared.records.Record.{Record};
 ghost use Rattle.lsv_session.specs.Transcript.{bodies_of};
 ghost use Rattle.lsv_session.specs.declared.connection.ConnId.{ConnId};
-ghost use Rattle.lsv_upstream.specs.Held.{GetsPoint, HoldsFirst, HoldsThrough, NoRestart, PromisesAtLeast, TellsPoint, answers_at, up_to};
+ghost use Rattle.lsv_upstream.specs.Held.{GetsPoint, HoldsFirst, HoldsThrough, NoRestart, PromisesAtLeast, HasPoint, answers_at, up_to};
 ghost use Rattle.lsv_upstream.specs.Jobs.{BringsFirst, IsStorable, ReadsFirst, jobs_of};
 ghost use Rattle.lsv_upstream.specs.Passed.{HasSent.Opened, HasSent.Resumed, HasSentAll, HoldsAfter, records_of, sent_in};
 ghost use Rattle.lsv_upstream.specs.Relayed.{IsAcknowledged, IsRelayed, Visit, acknowledged_at, happens_after};
@@ -81,12 +81,12 @@ pub fn what_is_promised_is_in_the_images()
 /// A connection that wrote the log and gets a commit point writes it still, if its jobs are messages, and then none is.
 pub fn a_connection_that_gets_a_point_still_writes()
     ensures { (n : ℕ) (before : List Happened) (r : ServerRun) (k : ConnId) (point : ℕ) (messages : List ClientMessage) (past more later : List Happened) (event : Happened) → RunsOn r.set.lane r.set.lanes n before r →
-        BringsFirst messages (bodies_of k (jobs_of r.events)) → r.events ≡ past ++ (more ++ event ∷ later) → TellsPoint k point (answers_at event) → writes (ledger (history_at before r past) n) k ≡ true →
+        BringsFirst messages (bodies_of k (jobs_of r.events)) → r.events ≡ past ++ (more ++ event ∷ later) → HasPoint k point (answers_at event) → writes (ledger (history_at before r past) n) k ≡ true →
         writes (ledger (history_at before r (past ++ more)) n) k ≡ true }
 {}
 
 /// A commit point that a connection read was brought to it by an event of the run.
-pub fn what_was_read_was_told()
+pub fn what_was_read_was_answered()
     ensures { (k : ConnId) (read : List ServerMessage) (events : List Happened) (point : ℕ) → ReadsFirst read k events → Contains read (server.CommitPoint (time_of point)) →
-        (past later : List Happened) × (event : Happened) × (events ≡ past ++ event ∷ later) × TellsPoint k point (answers_at event) }
+        (past later : List Happened) × (event : Happened) × (events ≡ past ++ event ∷ later) × HasPoint k point (answers_at event) }
 {}

@@ -10,8 +10,14 @@ abbrev second_byte : List Record → List ℕ
 second_byte (r ∷ Io delay stream bytes ∷ rs) = bytes
 second_byte rs = []
 
+abbrev nine : List ℕ
+nine = 9 ∷ []
+
+abbrev five : List ℕ
+five = 5 ∷ []
+
 no_prefix : IsPrefix (one_byte 5 ∷ one_byte 9 ∷ []) (one_byte 5 ∷ one_byte 5 ∷ []) → ⊥
-no_prefix p = let e : 9 ∷ [] ≡ 5 ∷ [] = ap second_byte p.is in cc
+no_prefix p = let e : nine ≡ five = ap second_byte p.is in cc
 
 pub returns : goal.returns
 returns c = record { held = refl; sent = refl; promised = refl; other = no_prefix }

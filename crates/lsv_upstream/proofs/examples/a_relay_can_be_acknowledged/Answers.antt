@@ -2,7 +2,7 @@ use Rattle.std.proofs.Common.{[], ◌∷◌, ◌++◌, refl, subst, inl, inr, ar
 use Rattle.lsv_machine.specs.Examples.{full_head, one_lane, starting}
 use Rattle.lsv_machine.specs.Machine.{LogState.Absent, Machine}
 use Rattle.lsv_machine.specs.Turns.{Happened.Tailed, Run}
-use Rattle.lsv_upstream.specs.Examples.{before_point, hello, one, point_told, relay_visit, upstream_run}
+use Rattle.lsv_upstream.specs.Examples.{before_point, hello, one, turn_end, relay_visit, upstream_run}
 use Rattle.lsv_upstream.specs.Jobs.{played_anew}
 use Rattle.lsv_upstream.specs.Relayed.{IsAcknowledged, IsRelayed, PlaysLog, Visit}
 use Rattle.lsv_upstream.proofs.Members.{In, in_of}
@@ -20,7 +20,7 @@ only_one : (end : Machine) (v : Visit) → In v (relay_visit ∷ []) → PlaysLo
 only_one end v (inl e) = subst (PlaysLog full_head one None (upstream_run end ∷ [])) e (plays end)
 only_one end v (inr i) = absurd i
 
-relayed : (end : Machine) → Run one_lane (starting Absent 0) (before_point ++ Tailed point_told ∷ []) end → IsRelayed 0 1 1 full_head one None (upstream_run end ∷ []) (relay_visit ∷ [])
+relayed : (end : Machine) → Run one_lane (starting Absent 0) (before_point ++ Tailed turn_end ∷ []) end → IsRelayed 0 1 1 full_head one None (upstream_run end ∷ []) (relay_visit ∷ [])
 relayed end runs = record {
   of_lane = (0, refl);
   whole = (record { lane_is = refl; lanes_are = refl; starts = starts_empty; good = tt; runs = runs }, tt);
@@ -34,7 +34,7 @@ acknowledged end = record {
   visit = relay_visit;
   among = (0, omega arith, refl);
   run = record { before = []; its = upstream_run end; after = []; is = refl; place = refl };
-  at = record { past = before_point; event = Tailed point_told; later = []; is = refl; writing = refl; tells = inl (refl, refl) };
+  at = record { past = before_point; event = Tailed turn_end; later = []; is = refl; writing = refl; brings = inl (refl, refl) };
 }
 
 pub returns : goal.returns

@@ -17,7 +17,7 @@ returns c =
           let known = part_known by n rs e lane lanes before run set m ours now (whole_prefix by n rs e lane lanes before whole) part in
           (exit_acknowledges set n rs e (ledger (with_run before part.texts run) n) m after act ours now known.stands known.delays (known.played.writer act.job.conn) step brings c writing told).1;
       lists = λ n ours run coming lists others. lists_follow n ours run coming lists others;
-      told_first = told_first;
+      number_once = told_first;
       own_tail = λ n rs e before run set m after ours now tail k part ended mine writing told. own_acknowledged by n rs e before run set m after ours now tail k part ended mine writing told;
       own_exit = λ n rs e before run set m after ours now act c mine next part step writing told. own_exit by n rs e before run set m after ours now act c mine next part step writing told;
     }
