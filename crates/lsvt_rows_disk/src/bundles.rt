@@ -14,7 +14,6 @@ use std::alloc::Global;
 /// A bundle, with its shape.
 #[derive(Drop)]
 pub struct Held {
-    owner: Owner,
     shape: Shape,
     bundle: Bundle,
     ghost same: { bundle.shape ≡ shape },
@@ -78,25 +77,34 @@ pub fn create(alloc: Global, disk: &mut Hostile, owner: &str) -> Result<Held> {
     let owner = owner_of(owner)?;
     let shape = shape_of(owner)?;
     let bundle = Bundle::create(alloc, disk, owner, shape).map_err(fault)?;
-    Ok(Held {
-        owner,
-        shape,
-        bundle,
-    })
+    Ok(Held { shape, bundle })
 }
 
-/// A bundle of this owner that is opened, if it has an entry.
-pub fn open(alloc: Global, disk: &mut Hostile, owner: &str) -> Result<Option<Held>> {
+/// A bundle of this owner that is opened, and what its last entry says. None without an entry.
+pub fn open(alloc: Global, disk: &mut Hostile, owner: &str) -> Result<Option<(Held, String)>> {
     let owner = owner_of(owner)?;
     let shape = shape_of(owner)?;
-    match Bundle::open(alloc, disk, owner, shape).map_err(fault)? {
-        Some(bundle) => Ok(Some(Held {
-            owner,
-            shape,
-            bundle,
-        })),
-        None => Ok(None),
-    }
+    let opened = Bundle::open(alloc, disk, owner, shape).map_err(fault)?;
+    let Some(bundle) = opened else {
+        return Ok(None);
+    };
+    let text = said(alloc, disk, owner, &bundle.last())?;
+    Ok(Some((Held { shape, bundle }, text)))
+}
+
+/// Commits what is staged, and then cuts all of it away.
+fn flush_and_cut(
+    bundle: &mut Bundle,
+    disk: &mut Hostile,
+    shape: Shape,
+    kind: u8,
+    count: u64,
+) -> Result<(), BundleFault>
+    requires { bundle.old.shape ≡ shape }
+    ensures { bundle.new.shape ≡ shape }
+{
+    bundle.flush(disk, kind, count, 0, 0)?;
+    bundle.cut(disk, [0; 8], 0, 0, 1)
 }
 
 /// The four numbers of an entry: its kind, count, elapsed time and cuts.
@@ -119,7 +127,6 @@ impl Held {
         words: &str,
     ) -> Result<String> {
         match word {
-            "last" => said(alloc, disk, self.owner, &self.bundle.last()),
             "stage" => self.stage(alloc, words),
             "unstage" => self.unstage(alloc, words),
             "flush" => self.flush(alloc, disk, words),
@@ -160,10 +167,11 @@ impl Held {
         Ok(String::new(alloc))
     }
 
-    /// The same, and then cuts all of it away.
+    /// The same by an entry of this kind and count, and then cuts all of it away.
     fn cut(&mut self, alloc: Global, disk: &mut Hostile, words: &str) -> Result<String> {
-        self.flush(alloc, disk, words)?;
-        self.bundle.cut(disk, [0; 8], 0, 0, 1).map_err(fault)?;
+        let (kind, count, _, _) = numbers_of(words)?;
+        let cut = flush_and_cut(&mut self.bundle, disk, self.shape, kind, count);
+        cut.map_err(fault)?;
         Ok(String::new(alloc))
     }
 

@@ -1,8 +1,8 @@
 //! The calls of a disk, by words.
 
-use crate::names::{file_of, owner_of, part_of};
+use crate::names::{file_of, owner_of};
 use anyhow::{Error, Result, anyhow};
-use lsv_disk::{Disk, DiskFault, FileId, write_synced};
+use lsv_disk::{Disk, DiskFault, FileId, Part, write_synced};
 use lsvt_doubles::Hostile;
 use std::alloc::Global;
 
@@ -58,11 +58,14 @@ fn put(disk: &mut Hostile, f: FileId, bytes: &[u8]) -> Result<(), DiskFault> {
 
 /// Makes files of one owner together.
 fn make(alloc: Global, disk: &mut Hostile, owner: &str, names: &str) -> Result<String> {
-    let mut parts = Vec::new(alloc);
-    for name in names.split(' ') {
-        parts.push(part_of(name)?)?;
-    }
-    done(alloc, disk.create_all(owner_of(owner)?, &parts))
+    let owner = owner_of(owner)?;
+    let made = match names {
+        "log.json timing stdout" => {
+            disk.create_all(owner, &[Part::Head, Part::Timing, Part::Stdout])
+        }
+        _ => return Err(anyhow!("files that are made together")),
+    };
+    done(alloc, made)
 }
 
 /// How many bytes a file has.
@@ -84,21 +87,19 @@ fn read(alloc: Global, disk: &mut Hostile, of: &str, words: &str) -> Result<Stri
     Ok(format!(in alloc; "{count} of {}", hex::encode(alloc, buf)?)?)
 }
 
-/// An offset, and bytes.
-fn placed(alloc: Global, words: &str) -> Result<(u64, Vec<u8>)> {
-    let (at, digits) = words.split_once(' ').ok_or(anyhow!("bytes"))?;
-    Ok((u64::from(at.parse::<u32>()?), bytes_of(alloc, digits)?))
-}
-
 /// Writes at an offset.
 fn write(alloc: Global, disk: &mut Hostile, of: &str, words: &str) -> Result<String> {
-    let (at, bytes) = placed(alloc, words)?;
+    let (at, digits) = words.split_once(' ').ok_or(anyhow!("bytes"))?;
+    let at = u64::from(at.parse::<u32>()?);
+    let bytes = bytes_of(alloc, digits)?;
     done(alloc, disk.write_at(file_of(of)?, at, &bytes))
 }
 
 /// Writes at an offset, and syncs, by one call.
 fn synced(alloc: Global, disk: &mut Hostile, of: &str, words: &str) -> Result<String> {
-    let (at, bytes) = placed(alloc, words)?;
+    let (at, digits) = words.split_once(' ').ok_or(anyhow!("bytes"))?;
+    let at = u64::from(at.parse::<u32>()?);
+    let bytes = bytes_of(alloc, digits)?;
     done(alloc, write_synced(disk, file_of(of)?, at, &bytes))
 }
 

@@ -98,13 +98,7 @@ impl Play {
         let alloc = self.alloc;
         match word {
             "create" => self.bundle = Some(bundles::create(alloc, &mut self.disk, words)?),
-            "open" => {
-                self.bundle = bundles::open(alloc, &mut self.disk, words)?;
-                if self.bundle.is_none() {
-                    return Ok(format!(in alloc; "no entry")?);
-                }
-                return self.bundle("last", "");
-            }
+            "open" => return self.open_bundle(words),
             "view" => return bundles::view(alloc, &mut self.disk, words),
             "swap" => std::mem::swap(&mut self.bundle, &mut self.other),
             _ => {
@@ -113,6 +107,17 @@ impl Play {
             }
         }
         Ok(String::new(alloc))
+    }
+
+    /// Opens the bundle of an owner.
+    fn open_bundle(&mut self, owner: &str) -> Result<String> {
+        match bundles::open(self.alloc, &mut self.disk, owner)? {
+            Some((bundle, text)) => {
+                self.bundle = Some(bundle);
+                Ok(text)
+            }
+            None => Ok(format!(in self.alloc; "no entry")?),
+        }
     }
 
     /// A call of the event log.

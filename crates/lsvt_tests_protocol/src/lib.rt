@@ -8,4 +8,8 @@ mod info;
 #[cfg(test)]
 mod msg;
 #[cfg(test)]
+mod record;
+#[cfg(test)]
 mod request;
+#[cfg(test)]
+mod wire;
