@@ -21,7 +21,8 @@ use Rattle.lsv_search.specs.Grammar.{Expression, IsSearch}
 use Rattle.lsv_search.specs.Places.{IsFirstBad}
 use Rattle.lsv_replay.specs.Status.{of_following, of_listing, of_playing}
 use Rattle.lsv_replay.specs.declared.status.ReplayStatus.{ReplayStatus}
-use Rattle.lsv_replay.specs.declared.status.ReplayStatus.TheVariants.{Shown, Usage, BadExpression, Damaged, ReadFault, WriteFault, Resumed, Absent, NoMem, Quiet}
+use Rattle.lsv_replay.specs.declared.status.ReplayStatus.TheVariants.{Shown, Usage, BadExpression, Damaged, ReadFault, WriteFault, Resumed, Absent, NoMem}
+use Rattle.lsv_replay.specs.declared.status.ReplayStatus.TheVariants as statuses
 
 -- ---- What is asked for
 
@@ -143,7 +144,7 @@ HasWords words WriteFault = AsksSoundly words
 HasWords words Resumed = AsksToFollowSoundly words
 HasWords words Absent = AsksToPlay words ⊎ AsksToFollow words
 HasWords words NoMem = Unit {0}
-HasWords words Quiet = AsksToFollowSoundly words
+HasWords words statuses.Quiet = AsksToFollowSoundly words
 
 -- ---- What stays
 

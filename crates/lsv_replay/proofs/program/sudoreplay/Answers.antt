@@ -4,7 +4,7 @@ use Rattle.std.specs.String.{string_bytes}
 use Rattle.lsv_disk.specs.View.{DiskView, Image}
 use Rattle.lsv_replay_args.specs.Asked.{asked_in, task_in}
 use Rattle.lsv_replay.specs.Replay.{Does, IsUsage}
-use Rattle.lsv_replay.proofs.Replayed.{does_anywhere, rooted_image}
+use Rattle.lsv_replay.proofs.Replayed.{does_anywhere, read_only, rooted_image, words_of_task}
 use Rattle.lsv_replay.proofs.program.sudoreplay.Goals as goal
 
 pub returns-in-Err-Usage-clause-words : goal.returns-in-Err-Usage-clause-words
@@ -30,3 +30,9 @@ returns-clause-runs g c told =
         subst (λ (image : Image). Does (task_in dir task) image c.do_task.result puts.0) (rooted_image old mid (c.root.ensures.frame.untouched told)) (does_anywhere [] dir task mid.reads c.do_task.result puts.0 puts.2),
       )),
     )
+
+pub returns-clause-words : goal.returns-clause-words
+returns-clause-words g c = words_of_task c.args.words.now (string_bytes c.in-Ok.request.dir) [] c.in-Ok.request.task c.do_task.result c.in-Ok.ensures.ok c.do_task.ensures.status
+
+pub returns-clause-reads : goal.returns-clause-reads
+returns-clause-reads g c told = read_only (g.D.Disk.view c.args.disk.now) (g.D.Disk.view c.root.new.self) (g.D.Disk.view c.do_task.new.disk) (c.root.ensures.frame.untouched told) (c.do_task.ensures.reads told)
