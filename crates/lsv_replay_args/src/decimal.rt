@@ -57,7 +57,7 @@ fn scale(digits: usize) -> u64
 }
 
 /// The number below 2^64 that digits alone are.
-fn digits_in(digits: &[u8]) -> Option<u64>
+pub fn digits_in(digits: &[u8]) -> Option<u64>
     ensures { result ≡ digits_in digits.now }
 {
     let Ok(text) = str::from_utf8(digits) else {

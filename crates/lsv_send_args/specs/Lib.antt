@@ -1,0 +1,4 @@
+pub mod Asked
+pub mod Port
+pub mod Program
+pub mod Request
