@@ -1,0 +1,103 @@
+-- What is known of an outgoing link, and what each answer of it says.
+use Rattle.std.specs.Prelude.{◌≡◌, ◌⊎◌, ℕ, ◌≤◌, Bool, true, false, List, [], ◌∷◌, ◌++◌, take, Option, Some, None, option_map, unwrap_or, Result, Ok, Err}
+use Rattle.lsv_words.specs.Causes.{HasRisen}
+use Rattle.lsv_port.specs.declared.port.Took.{Took}
+use Rattle.lsv_port.specs.declared.port.Took.TheVariants as took
+use Rattle.lsv_port.specs.declared.port.Gave.{Gave}
+use Rattle.lsv_port.specs.declared.port.Gave.TheVariants as gave
+use Rattle.lsv_link.specs.declared.connection.Connection.{Connection}
+use Rattle.lsv_link.specs.declared.link.LinkFault.{LinkFault}
+
+-- the connections that were closed or failed, in order, and the one that is open
+pub record LinkState : Type 0 where
+  pub past : List Connection
+  pub now : Option Connection
+
+-- how often a call failed, a write answered NotYet, and a read that may wait answered NotYet
+pub record LinkCounts : Type 0 where
+  pub faults : ℕ
+  pub full : ℕ
+  pub waits : ℕ
+
+-- a connection is open
+pub record IsConnected (s : LinkState) : Type 0 where
+  pub conn : Connection
+  pub is_open : s.now ≡ Some conn
+
+-- a connection to this host on which nothing was read or written
+abbrev pub unused : List ℕ → Bool → Connection
+unused host connected = record { host = host; connected = connected; input = []; output = []; ended = false }
+
+-- the connections, with one more if there is one
+abbrev pub joined : List Connection → Option Connection → List Connection
+joined past None = past
+joined past (Some conn) = past ++ conn ∷ []
+
+-- all connections, in order
+abbrev pub all_of : LinkState → List Connection
+all_of s = joined s.past s.now
+
+-- the link after its open connection was closed
+abbrev pub after_close : LinkState → LinkState
+after_close s = record { past = all_of s; now = None }
+
+-- the link after a connection to this host was made
+abbrev pub after_connect : List ℕ → LinkState → LinkState
+after_connect host s = record { past = all_of s; now = Some (unused host true) }
+
+-- the link after a connection to this host couldn't be made: it is one of the connections too
+abbrev pub after_refusal : List ℕ → LinkState → LinkState
+after_refusal host s = record { past = all_of s ++ unused host false ∷ []; now = None }
+
+-- what a connect says. If it failed, it is among the connections, unless a link in memory had no room for it
+abbrev pub Connects : Result (Unit {0}) LinkFault → List ℕ → LinkState → LinkState → Type 0
+Connects (Ok u) host old new = new ≡ after_connect host old
+Connects (Err fault) host old new = (new ≡ after_refusal host old) ⊎ (new ≡ after_close old)
+
+-- the connection after a read with this answer, if its buffer then holds these bytes
+abbrev pub read_on : Took → List ℕ → Connection → Connection
+read_on (took.Bytes n) buf conn = record conn { input = conn.input ++ take n buf }
+read_on took.NotYet buf conn = conn
+read_on took.End buf conn = record conn { ended = true }
+read_on took.Failed buf conn = conn
+
+-- the connection after a write of these bytes with this answer
+abbrev pub written_on : Gave → List ℕ → Connection → Connection
+written_on (gave.Bytes n) bytes conn = record conn { output = conn.output ++ take n bytes }
+written_on gave.NotYet bytes conn = conn
+written_on gave.Failed bytes conn = conn
+
+-- the link after a read
+abbrev pub after_read : Took → List ℕ → LinkState → LinkState
+after_read answer buf s = record s { now = option_map (read_on answer buf) s.now }
+
+-- the link after a write
+abbrev pub after_write : Gave → List ℕ → LinkState → LinkState
+after_write answer bytes s = record s { now = option_map (written_on answer bytes) s.now }
+
+-- no count fell
+pub record Continues (old new : LinkCounts) : Type 0 where
+  pub faults : old.faults ≤ new.faults
+  pub full : old.full ≤ new.full
+  pub waits : old.waits ≤ new.waits
+
+-- no count fell, and if the connect failed that of the faults rose
+pub record HasConnectCause (failed : Type 0) (old new : LinkCounts) : Type 0 where
+  pub continues : Continues old new
+  pub risen : failed → HasRisen old.faults new.faults
+
+-- no count fell; if the read failed that of the faults rose, and if it waited for nothing that of the waits
+pub record HasReadCause (answer : Took) (wait : Bool) (old new : LinkCounts) : Type 0 where
+  pub continues : Continues old new
+  pub failed : answer ≡ took.Failed → HasRisen old.faults new.faults
+  pub waited : answer ≡ took.NotYet → wait ≡ true → HasRisen old.waits new.waits
+
+-- no count fell; if the write failed that of the faults rose, and if it put nothing that of the full ones
+pub record HasWriteCause (answer : Gave) (old new : LinkCounts) : Type 0 where
+  pub continues : Continues old new
+  pub failed : answer ≡ gave.Failed → HasRisen old.faults new.faults
+  pub full : answer ≡ gave.NotYet → HasRisen old.full new.full
+
+-- the open connection, or an unused one if there is none
+abbrev pub open_of : LinkState → Connection
+open_of s = unwrap_or s.now (unused [] false)

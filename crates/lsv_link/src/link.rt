@@ -1,0 +1,52 @@
+ghost use Rattle.std.specs.Prelude.{◌≡◌, ◌<◌, length, IsErr};
+ghost use Rattle.lsv_port.specs.Port.{TakesWithin, GivesWithin};
+ghost use Rattle.lsv_link.specs.Link.{LinkState, LinkCounts, Continues, HasConnectCause, HasReadCause, HasWriteCause, Connects, IsConnected, after_read, after_write, after_close};
+
+use lsv_port::{Gave, Took};
+use thiserror::Error;
+
+/// A connection couldn't be made.
+#[derive(Clone, Copy, Debug, PartialEq, Eq, Error)]
+#[error("the connection failed")]
+pub struct LinkFault;
+
+/// An outgoing link, which has one open connection at most.
+pub trait Link {
+    ghost use Rattle.lsv_link.specs.Link.{LinkState, LinkCounts};
+
+    /// Whether this type tells its content: what it says of its connections is promised if it does.
+    ghost tells: { Type 0 };
+
+    /// The connections so far: what was read and written on each.
+    ghost state: { Self → LinkState };
+
+    /// How often its calls failed, or answered that they would have to wait.
+    ghost counts: { Self → LinkCounts };
+
+    /// Connects to a host, `host:port` or `[address]:port`. A connection that is open is closed first.
+    fn connect(&mut self, host: &str) -> Result<(), LinkFault>
+        ensures change { tells → Connects result host.now (state self.old) (state self.new) }
+        ensures cause { HasConnectCause (IsErr result) (counts self.old) (counts self.new) };
+
+    /// Reads what has come, as much as the buffer takes. With `wait` it waits a while until something comes. Without
+    /// it the answer is NotYet if nothing is there.
+    fn read(&mut self, buf: &mut [u8], wait: bool) -> Took
+        requires connected { tells → IsConnected (state self.old) }
+        requires room { 0 < length buf.old }
+        ensures within { TakesWithin result (length buf.old) }
+        ensures change { tells → state self.new ≡ after_read result buf.new (state self.old) }
+        ensures cause { HasReadCause result wait (counts self.old) (counts self.new) };
+
+    /// Writes as many of these bytes as the connection takes. It waits a while until it takes some.
+    fn write(&mut self, bytes: &[u8]) -> Gave
+        requires connected { tells → IsConnected (state self.old) }
+        requires some { 0 < length bytes.now }
+        ensures within { GivesWithin result (length bytes.now) }
+        ensures change { tells → state self.new ≡ after_write result bytes.now (state self.old) }
+        ensures cause { HasWriteCause result (counts self.old) (counts self.new) };
+
+    /// Closes the open connection, if there is one. It stays as it was last.
+    fn close(&mut self)
+        ensures change { tells → state self.new ≡ after_close (state self.old) }
+        ensures continues { Continues (counts self.old) (counts self.new) };
+}
