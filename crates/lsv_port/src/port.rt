@@ -68,9 +68,7 @@ pub trait Port {
         ensures same { tells → IsSame (state self.old) (state self.new) }
         ensures cause { HasTurnCause (IsErr result) (ledger self.old) (ledger self.new) };
 
-    /// Waits until there is something to tell, or a while. Each link that is owed a read stands among those held. Of a link that
-    /// is held no turn need tell that it is readable, since its holder tries to read it in any case. So who holds a link that is owed
-    /// nothing may miss what comes on it, and reads it all the same or not any more.
+    /// Waits until there is something to tell, or a while. Each link that is owed a read stands among those held.
     fn turn(&mut self, held: &[u32]) -> Result<Ready, PortFault>
         requires held { tells → (link : ℕ) → IsOwed (state self.old) link → Contains held.now link }
         ensures told { tells → IfOk result (λ ready. Told ready (state self.old) (state self.new)) }
