@@ -110,7 +110,7 @@ pub fn folder_name(text: &[u8]) -> Option<FolderName>
 }
 
 /// Whether a byte is a digit in base 36, as folders have them.
-fn is_digit(byte: u8) -> bool
+pub fn is_digit(byte: u8) -> bool
     ensures { result ≡ is_digit byte }
 {
     matches!(byte, b'0'..=b'9' | b'A'..=b'Z')

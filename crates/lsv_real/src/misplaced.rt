@@ -1,9 +1,8 @@
 // Whether the place of the event log is one that it can't have.
-ghost use Rattle.std.specs.Prelude.{◌≡◌, ◌<◌, length, nat_eq};
-ghost use Rattle.std.specs.List.{before_first};
-ghost use Rattle.lsv_real.specs.Misplaced.{is_below, is_in_store, is_own_name, name_below};
+ghost use Rattle.std.specs.Prelude.{◌≡◌, ◌<◌, ◌+◌, drop, length};
+ghost use Rattle.lsv_real.specs.Misplaced.{begins_folder, begins_own, is_below, is_in_store, is_own_name};
 
-use crate::drawn::folder_name;
+use crate::drawn::{folder_name, is_digit};
 use crate::path::{folder_of, joined};
 use std::alloc::{AllocError, Global};
 use std::io::ErrorKind;
@@ -157,18 +156,28 @@ fn is_below(folder: &[u8], path: &[u8]) -> bool
 /// Whether a path below a folder leads through a name there that the store keeps for itself.
 fn is_own_below(folder: &[u8], path: &[u8]) -> bool
     requires { length folder.now < length path.now }
-    ensures { result ≡ is_own_name (name_below folder.now path.now) }
+    ensures { result ≡ begins_own (drop (length folder.now + 1) path.now) }
 {
-    is_own_name(first_name(&path[folder.len() + 1..]))
+    begins_own(&path[folder.len() + 1..])
 }
 
-/// The first of the names of a path.
-fn first_name(names: &[u8]) -> &[u8]
-    ensures { result.now ≡ before_first (λ b. nat_eq b 47) names.now }
+/// Whether names with slashes between them begin with one that the store keeps for itself.
+fn begins_own(names: &[u8]) -> bool
+    ensures { result ≡ begins_own names.now }
 {
-    match names.iter().position(|byte| *byte == b'/') {
-        Some(end) => &names[..end],
-        None => names,
+    is_own_name(names)
+        || names.starts_with(b"lock/")
+        || names.starts_with(b"relay.lock/")
+        || begins_folder(names)
+}
+
+/// Whether names begin with that of a folder of logs, and a slash.
+fn begins_folder(names: &[u8]) -> bool
+    ensures { result ≡ begins_folder names.now }
+{
+    match names {
+        [a, b, c, ..] => is_digit(*a) && is_digit(*b) && *c == b'/',
+        _ => false,
     }
 }
 

@@ -79,15 +79,18 @@ fn read_input(rt: &HostRuntime, buf: &mut [u8]) -> io::Result<usize>
     Err(ErrorKind::Interrupted.into())
 }
 
-/// Writes all of the bytes to standard output.
+/// Writes all of the bytes to standard output. Each write puts one at least.
 fn write_output(rt: &HostRuntime, bytes: &[u8]) -> io::Result<()> {
-    let mut done = 0;
-    while done < bytes.len() {
-        match write_some(rt, &bytes[done..]) {
-            Ok(0) => return Err(ErrorKind::WriteZero.into()),
-            Ok(n) => done += n,
-            Err(e) => return Err(e),
+    let mut rest = bytes;
+    for _ in 0..bytes.len() {
+        if rest.is_empty() {
+            return Ok(());
         }
+        let count = write_some(rt, rest)?;
+        if count == 0 {
+            return Err(ErrorKind::WriteZero.into());
+        }
+        rest = &rest[count..];
     }
     Ok(())
 }

@@ -1,5 +1,5 @@
 // What an event log has after the lines that its journal counts.
-ghost use Rattle.std.specs.Prelude.{◌≤◌, IfOk, length};
+ghost use Rattle.std.specs.Prelude.{◌≤◌};
 
 use crate::handle::read_from;
 use crate::lock::{make_file, open_file, set_mode};
@@ -132,31 +132,46 @@ fn is_start(copy: &File, has: u64, log: &File, from: u64, to: u64) -> io::Result
     }
     let mut mine = [0; PIECE];
     let mut theirs = [0; PIECE];
-    let mut at = 0;
-    while at < has {
-        let most = (has - at).min(PIECE as u64) as usize;
+    for piece in 0..pieces_of(has) {
+        let at = offset_of(piece);
+        let most = length_at(at, has);
         let count = read_from(copy, at, &mut mine[..most])?;
         let same = read_from(log, from.saturating_add(at), &mut theirs[..most])?;
-        if count == 0 || count != same || mine[..count] != theirs[..count] {
+        if count != most || same != most || mine[..most] != theirs[..most] {
             return Ok(false);
         }
-        at += count as u64;
     }
     Ok(true)
 }
 
+/// How many pieces so many bytes come to.
+fn pieces_of(count: u64) -> u64 {
+    count.div_ceil(PIECE as u64)
+}
+
+/// Where a piece begins.
+fn offset_of(piece: u64) -> u64 {
+    piece.saturating_mul(PIECE as u64)
+}
+
+/// The length of the piece that begins here, of so many bytes.
+fn length_at(at: u64, count: u64) -> usize
+    ensures { result ≤ 4096 }
+{
+    count.saturating_sub(at).min(PIECE as u64) as usize
+}
+
 /// Copies the bytes of a file from one place to another to the start of a file.
 fn copy_bytes(log: &File, from: u64, to: u64, copy: &File) -> io::Result<()> {
-    let mut piece = [0; PIECE];
-    let mut at = from;
-    while at < to {
-        let most = (to - at).min(PIECE as u64) as usize;
-        let count = read_from(log, at, &mut piece[..most])?;
-        if count == 0 {
+    let count = to.saturating_sub(from);
+    let mut bytes = [0; PIECE];
+    for piece in 0..pieces_of(count) {
+        let at = offset_of(piece);
+        let most = length_at(at, count);
+        if read_from(log, from.saturating_add(at), &mut bytes[..most])? != most {
             return Err(ErrorKind::UnexpectedEof.into());
         }
-        copy.write_all_at(&piece[..count], at - from)?;
-        at += count as u64;
+        copy.write_all_at(&bytes[..most], at)?;
     }
     Ok(())
 }
