@@ -1,0 +1,261 @@
+-- What images keep of a relaying, while entries are added to its bundle.
+use Rattle.std.proofs.Common.{◌≡◌, ◌≢◌, ◌⊎◌, inl, inr, ℕ, suc, ◌+◌, List, [], ◌∷◌, ◌++◌, length, take, map, Option, Some, None, option_map, Bool, true, false, Result, Ok, Err, OnOk, refl, sym, ◌∙◌, ap, subst, arith}
+use Rattle.std.specs.Prelude.{◌==◌}
+use Rattle.lsv_disk.specs.Bytes.{bytes_of}
+use Rattle.lsv_disk.specs.Files.{file_of}
+use Rattle.lsv_disk.specs.Throughout.{Throughout}
+use Rattle.lsv_disk.specs.View.{DiskView, Image, IsCrashImage}
+use Rattle.lsv_disk.specs.declared.file.FileId.{FileId}
+use Rattle.lsv_disk.specs.declared.file.Owner.{Owner}
+use Rattle.lsv_disk.specs.declared.file.Part.{Part}
+use Rattle.lsv_disk.specs.declared.file.Part.TheVariants.{Id}
+use Rattle.lsv_disk.proofs.Composition.{OnlyNow, followed, started, widened}
+use Rattle.lsv_journal.specs.Last.{LastAt}
+use Rattle.lsv_bundle.specs.declared.body.Body.{Body}
+use Rattle.lsv_bundle.specs.Committed.{BundleHolds, Committed, HoldsEntry, IsBeforeOrAfter, IsBeingMade, committed, committed_bytes, committed_cut, committed_next}
+use Rattle.lsv_bundle.specs.Shape.{IsPart, IsWritable, journal_of, on_shape}
+use Rattle.lsv_bundle.specs.Value.{BundleView, IsCommitted, IsFresh, IsStaged, NoneStaged, committed_length, staged, unstaged}
+use Rattle.lsv_bundle.specs.declared.shape.Shape.{Shape}
+use Rattle.lsv_bundle.specs.declared.shape.Shape.TheVariants as shapes
+use Rattle.lsv_bundle.specs.Represents.{Represents}
+use Rattle.lsv_bundle.proofs.Laws.{represents_holds, staging_committed, staging_lengths, writes_owner}
+use Rattle.lsv_kept.specs.Inner.{IsBundleOf, IsEither, StandsUndone, next_state}
+use Rattle.lsv_kept.specs.Kept.{IsOfRelay, IsOneOf, Keeps, owner_of, point_of, state_in, state_of}
+use Rattle.lsv_kept.specs.Value.{IsUnmade, StandsBy, keeps_id, state_on}
+use Rattle.lsv_kept.specs.declared.state.Kept.{Kept}
+use Rattle.lsv_kept.specs.declared.state.State.{State}
+use Rattle.lsv_kept.specs.declared.state.State.TheVariants as states
+
+on_id : (bytes : Part → List ℕ) → on_shape shapes.Relay bytes Id ≡ bytes Id
+unfolding on_shape
+on_id bytes = refl
+
+-- the identifier is the one data file of the shape
+pub on_relay : (s : Shape) (bytes : Part → List ℕ) → s ≡ shapes.Relay → on_shape s bytes Id ≡ bytes Id
+on_relay s bytes is = ap (λ (t : Shape). on_shape t bytes Id) is ∙ on_id bytes
+
+pub is_part : (s : Shape) → s ≡ shapes.Relay → IsPart s Id
+is_part s is = subst (λ (t : Shape). IsPart t Id) (sym is) refl
+
+-- what is kept by the next entry
+pub state_next : (b : BundleView) (disk : DiskView) (kind extra : ℕ) → b.shape ≡ shapes.Relay → state_in (Some (committed_next b disk kind 0 0 extra)) ≡ next_state b disk kind extra
+state_next b disk kind extra shape = ap (state_of kind extra) (on_relay b.shape (λ part. committed_bytes b disk part ++ staged b part) shape)
+
+pub keeps_entry : (n : ℕ) (b : BundleView) (image : Image) (entry : Option Committed) (state : State) → b.owner ≡ owner_of n → b.shape ≡ shapes.Relay → BundleHolds b.owner b.shape entry image → state_in entry ≡ state → Keeps n image state
+keeps_entry n b image entry state owner shape holds is = record {
+  entry = entry;
+  holds = subst (λ (o : Owner). BundleHolds o shapes.Relay entry image) owner (subst (λ (s : Shape). BundleHolds b.owner s entry image) shape holds);
+  is = is;
+}
+
+-- while an entry is added, each image keeps what is kept before or after it
+pub either_through : (n : ℕ) (b : BundleView) (old new : DiskView) (entry : Committed) (state : State) → b.owner ≡ owner_of n → b.shape ≡ shapes.Relay → state_in (Some entry) ≡ state
+    → (Touched : FileId → Type 0) → ((g : FileId) → Touched g → IsOfRelay n g) → Throughout Touched (IsBeforeOrAfter b.owner b.shape (committed b old) (Some entry)) old new
+    → Throughout (IsOfRelay n) (IsEither n (state_on b old) state) old new
+either_through n b old new entry state owner shape is Touched own run = widened Touched (IsOfRelay n) _ _ old new own (λ image holds beside. each image holds) run
+  where
+    each : (image : Image) → IsBeforeOrAfter b.owner b.shape (committed b old) (Some entry) image → IsEither n (state_on b old) state image
+    each image (inl before) = inl (keeps_entry n b image (committed b old) (state_on b old) owner shape before refl)
+    each image (inr after) = inr (keeps_entry n b image (Some entry) state owner shape after is)
+
+pub writable_own : (n : ℕ) (b : BundleView) → b.owner ≡ owner_of n → (g : FileId) → IsWritable b.owner b.shape g → IsOfRelay n g
+writable_own n b owner g w = writes_owner b.owner b.shape g w ∙ owner
+
+pub journal_own : (n : ℕ) (b : BundleView) → b.owner ≡ owner_of n → (g : FileId) → g ≡ journal_of b.owner → IsOfRelay n g
+journal_own n b owner g is = ap (λ (f : FileId). f.owner) is ∙ owner
+
+-- with its new entry it is a bundle of the relaying
+pub committed_bundle : (n : ℕ) (old new : BundleView) (body : Body) (lengths : Part → ℕ) → old.owner ≡ owner_of n → old.shape ≡ shapes.Relay → IsCommitted body lengths old new → IsBundleOf n new
+committed_bundle n old new body lengths owner shape is = record {
+  owner = is.owner ∙ owner;
+  shape = is.shape ∙ shape;
+  whole = is.whole;
+  none_staged = is.none_staged;
+}
+
+pub fresh_bundle : (n : ℕ) (b : BundleView) → IsFresh (owner_of n) shapes.Relay b → IsBundleOf n b
+fresh_bundle n b fresh = record { owner = fresh.owner_is; shape = fresh.shape_is; whole = fresh.whole; none_staged = fresh.none_staged }
+
+-- ---- making
+
+pub makes : (n : ℕ) (old new : DiskView) → IsUnmade n old → Throughout (IsWritable (owner_of n) shapes.Relay) (IsBeingMade (owner_of n) shapes.Relay old) old new
+    → Throughout (IsOfRelay n) (λ image. Keeps n image states.Nothing) old new
+makes n old new unmade run = widened (IsWritable (owner_of n) shapes.Relay) (IsOfRelay n) _ _ old new (λ g w. writes_owner (owner_of n) shapes.Relay g w) (λ image made beside. each image made) run
+  where
+    each : (image : Image) → IsBeingMade (owner_of n) shapes.Relay old image → Keeps n image states.Nothing
+    each image made = elim made.journal [
+      | inl crash ↦ record { entry = None; holds = crash.2 ∙ unmade.no_entry crash.0 (λ file own. crash.1 file); is = refl }
+      | inr none ↦ record { entry = None; holds = none; is = refl }
+    ]
+
+pub none_on : (b : BundleView) (disk : DiskView) → b.last ≡ None → state_on b disk ≡ states.Nothing
+none_on b disk none = ap (λ (o : Option Body). state_in (option_map (λ (body : Body). let c : Committed = record { body = body; bytes = on_shape b.shape (committed_bytes b disk) } in c) o)) none
+
+-- ---- staging
+
+none_taken : (xs : List ℕ) → take 0 xs ≡ []
+none_taken [] = refl
+none_taken (x ∷ xs) = refl
+
+-- a bundle that commits no bytes, and of which this is staged, commits this next
+pub next_of : (b : BundleView) (disk : DiskView) (kind extra : ℕ) (id : List ℕ) → committed_length b Id ≡ 0 → staged b Id ≡ id → next_state b disk kind extra ≡ state_of kind extra id
+next_of b disk kind extra id zero is =
+    ap (state_of kind extra) (ap (λ (k : ℕ). take k (bytes_of (disk.reads (file_of b.owner Id))) ++ staged b Id) zero ∙ ap (λ (t : List ℕ). t ++ staged b Id) (none_taken (bytes_of (disk.reads (file_of b.owner Id)))) ∙ is)
+
+unit : (t : List ℕ) → t ++ [] ≡ t
+unit [] = refl
+unit (x ∷ t) = ap (λ (u : List ℕ). x ∷ u) (unit t)
+
+-- and with nothing staged the same bytes
+pub next_same : (b : BundleView) (disk : DiskView) (kind extra : ℕ) → staged b Id ≡ [] → next_state b disk kind extra ≡ state_of kind extra (committed_bytes b disk Id)
+next_same b disk kind extra none = ap (state_of kind extra) (ap (λ (t : List ℕ). committed_bytes b disk Id ++ t) none ∙ unit (committed_bytes b disk Id))
+
+-- staging changes nothing but what is staged
+pub staged_as : (n : ℕ) (old new : BundleView) (id : List ℕ) → IsBundleOf n old → IsStaged Id (staged old Id ++ id) old new
+    → (new.owner ≡ owner_of n) × (new.shape ≡ shapes.Relay) × (new.is_broken ≡ false) × (staged new Id ≡ id) × (committed_length new Id ≡ committed_length old Id)
+staged_as n old new id is of = (
+  ap (λ (b : BundleView). b.owner) of.same ∙ is.owner,
+  ap (λ (b : BundleView). b.shape) of.same ∙ is.shape,
+  ap (λ (b : BundleView). b.is_broken) of.same ∙ is.whole,
+  of.staged_is ∙ ap (λ (t : List ℕ). t ++ id) (is.none_staged Id (is_part old.shape is.shape)),
+  staging_lengths old new of.same Id,
+)
+
+pub staged_state : (old new : BundleView) (disk : DiskView) (bytes : List ℕ) → IsStaged Id bytes old new → state_on new disk ≡ state_on old disk
+staged_state old new disk bytes of = ap state_in (staging_committed old new disk of.same)
+
+-- ---- moments
+
+-- one of two states, and then one of two others of which the first is the second of those
+pub then_either : (n : ℕ) (before after : State) (old mid new : DiskView) → Throughout (IsOfRelay n) (IsEither n before states.Nothing) old mid → Throughout (IsOfRelay n) (IsEither n states.Nothing after) mid new
+    → Throughout (IsOfRelay n) (IsOneOf n before after) old new
+then_either n before after old mid new first second = followed (IsOfRelay n) (IsOneOf n before after) old mid new
+    (widened (IsOfRelay n) (IsOfRelay n) _ _ old mid (λ g own. own) (λ image holds beside. one image holds) first)
+    (widened (IsOfRelay n) (IsOfRelay n) _ _ mid new (λ g own. own) (λ image holds beside. inr holds) second)
+  where
+    one : (image : Image) → IsEither n before states.Nothing image → IsOneOf n before after image
+    one image (inl is) = inl is
+    one image (inr is) = inr (inl is)
+
+pub either_one : (n : ℕ) (before after : State) (old new : DiskView) → Throughout (IsOfRelay n) (IsEither n before after) old new → Throughout (IsOfRelay n) (IsOneOf n before after) old new
+either_one n before after old new run = widened (IsOfRelay n) (IsOfRelay n) _ _ old new (λ g own. own) (λ image holds beside. one image holds) run
+  where
+    one : (image : Image) → IsEither n before after image → IsOneOf n before after image
+    one image (inl is) = inl is
+    one image (inr is) = inr (inr is)
+
+pub before_is : (n : ℕ) (one two after : State) (old new : DiskView) → one ≡ two → Throughout (IsOfRelay n) (IsEither n one after) old new → Throughout (IsOfRelay n) (IsEither n two after) old new
+before_is n one two after old new is run = subst (λ (s : State). Throughout (IsOfRelay n) (IsEither n s after) old new) is run
+
+pub after_is : (n : ℕ) (before one two : State) (old new : DiskView) → one ≡ two → Throughout (IsOfRelay n) (IsEither n before one) old new → Throughout (IsOfRelay n) (IsEither n before two) old new
+after_is n before one two old new is run = subst (λ (s : State). Throughout (IsOfRelay n) (IsEither n before s) old new) is run
+
+-- each crash image keeps what the bundle keeps
+pub each_keeps : (n : ℕ) (b : BundleView) (disk : DiskView) → b.owner ≡ owner_of n → b.shape ≡ shapes.Relay → Represents b disk → (image : Image) → IsCrashImage disk image → Keeps n image (state_on b disk)
+each_keeps n b disk owner shape at image left = keeps_entry n b image (committed b disk) (state_on b disk) owner shape (represents_holds b disk at image (λ file own. left file)) refl
+
+-- nothing was done
+pub rests : (n : ℕ) (b : BundleView) (disk : DiskView) (after : State) → IsBundleOf n b → Represents b disk → OnlyNow disk → Throughout (IsOfRelay n) (IsEither n (state_on b disk) after) disk disk
+rests n b disk after is at now = started (IsOfRelay n) _ disk now (λ image left. inl (each_keeps n b disk is.owner is.shape at image left))
+
+-- ---- the files of a relaying
+
+-- the identifier that is kept is what is committed
+kept_bytes : (b : BundleView) (disk : DiskView) (kept : Kept) → b.shape ≡ shapes.Relay → state_on b disk ≡ states.Kept kept → committed_bytes b disk Id ≡ kept.id
+kept_bytes b disk kept shape is = go b.last refl
+  where
+    by_kind : (kind extra : ℕ) (id : List ℕ) (two three : Bool) → (kind == 2) ≡ two → (kind == 3) ≡ three → state_of kind extra id ≡ states.Kept kept → id ≡ kept.id
+    by_kind kind extra id true three e f same = absurd (let h : state_of kind extra id ≡ states.Nothing = rw e refl in let k : states.Nothing ≡ states.Kept kept = sym h ∙ same in cc (k))
+    by_kind kind extra id false true e f same = absurd (let h : state_of kind extra id ≡ states.Done = rw (e, f) refl in let k : states.Done ≡ states.Kept kept = sym h ∙ same in cc (k))
+    by_kind kind extra id false false e f same = let h : state_of kind extra id ≡ states.Kept (record { id = id; point = point_of extra }) = rw (e, f) refl in
+        let k : states.Kept (record { id = id; point = point_of extra }) ≡ states.Kept kept = sym h ∙ same in
+        let l : (record { id = id; point = point_of extra }) ≡ kept = cc (k) in ap (λ (x : Kept). x.id) l
+
+    held : Option Body → State
+    held o = state_in (option_map (λ (body : Body). let c : Committed = record { body = body; bytes = on_shape b.shape (committed_bytes b disk) } in c) o)
+
+    go : (last : Option Body) → b.last ≡ last → committed_bytes b disk Id ≡ kept.id
+    go None e = absurd (let h : states.Nothing ≡ states.Kept kept = sym (ap held e) ∙ is in cc (h))
+    go (Some body) e = sym (on_relay b.shape (committed_bytes b disk) shape) ∙ by_kind body.kind body.extra (on_shape b.shape (committed_bytes b disk) Id) _ _ refl refl (sym (ap held e) ∙ is)
+
+pub entry_state : (n : ℕ) (b : BundleView) (kind extra : ℕ) (old : DiskView) (kept : Kept) → IsBundleOf n b → StandsBy n (states.Kept kept) (Some b) old → next_state b old kind extra ≡ state_of kind extra kept.id
+entry_state n b kind extra old kept own stands = next_same b old kind extra (own.none_staged Id (is_part b.shape own.shape)) ∙ ap (state_of kind extra) (kept_bytes b old kept own.shape stands.1)
+
+-- an entry for the same identifier, over a bundle that keeps it
+pub entry_through : (n : ℕ) (x b : BundleView) (kind extra : ℕ) (old new : DiskView) (kept : Kept) → x ≡ b → IsBundleOf n b → StandsBy n (states.Kept kept) (Some b) old
+    → Throughout (IsOfRelay n) (IsEither n (state_on x old) (next_state x old kind extra)) old new → Throughout (IsOfRelay n) (IsEither n (states.Kept kept) (state_of kind extra kept.id)) old new
+entry_through n x b kind extra old new kept view own stands run =
+    after_is n (states.Kept kept) (next_state b old kind extra) (state_of kind extra kept.id) old new (entry_state n b kind extra old kept own stands)
+    (before_is n (state_on b old) (states.Kept kept) (next_state b old kind extra) old new stands.1
+    (subst (λ (y : BundleView). Throughout (IsOfRelay n) (IsEither n (state_on y old) (next_state y old kind extra)) old new) view run))
+
+-- the files are made, and then an identifier is kept in them
+pub made_through : (n : ℕ) (b : BundleView) (after : State) (old mid new : DiskView) → Throughout (IsOfRelay n) (λ image. Keeps n image states.Nothing) old mid → state_on b mid ≡ states.Nothing
+    → Throughout (IsOfRelay n) (IsEither n (state_on b mid) after) mid new → Throughout (IsOfRelay n) (IsOneOf n states.Nothing after) old new
+made_through n b after old mid new first is second = followed (IsOfRelay n) (IsOneOf n states.Nothing after) old mid new
+    (widened (IsOfRelay n) (IsOfRelay n) _ _ old mid (λ g own. own) (λ image keeps beside. inl keeps) first)
+    (either_one n states.Nothing after mid new (before_is n (state_on b mid) states.Nothing after mid new is second))
+
+-- an identifier is kept in files that stand on a disk
+pub files_through : (n : ℕ) (state after : State) (files : Option BundleView) (b : BundleView) (old new : DiskView) → files ≡ Some b → StandsBy n state files old → Throughout (IsOfRelay n) (IsOneOf n (state_on b old) after) old new
+    → Throughout (IsOfRelay n) (IsOneOf n state after) old new
+files_through n state after files b old new is stands run =
+    subst (λ (s : State). Throughout (IsOfRelay n) (IsOneOf n s after) old new) (subst (λ (f : Option BundleView). StandsBy n state f old) is stands).1 run
+
+pub unmade_through : (n : ℕ) (state after : State) (files : Option BundleView) (old new : DiskView) → files ≡ None → state ≢ states.Done → StandsBy n state files old → Throughout (IsOfRelay n) (IsOneOf n states.Nothing after) old new
+    → Throughout (IsOfRelay n) (IsOneOf n state after) old new
+unmade_through n state after files old new is undone stands run = elim (subst (λ (f : Option BundleView). StandsBy n state f old) is stands) [
+  | inl done ↦ absurd (undone done)
+  | inr none ↦ subst (λ (s : State). Throughout (IsOfRelay n) (IsOneOf n s after) old new) (sym none.0) run
+]
+
+pub undone_unmade : (n : ℕ) (files : Option BundleView) (disk : DiskView) → files ≡ None → StandsUndone n files disk → IsUnmade n disk
+undone_unmade n files disk is stands = elim (subst (λ (f : Option BundleView). StandsBy n stands.state f disk) is stands.stands) [
+  | inl done ↦ absurd (stands.undone done)
+  | inr none ↦ none.1
+]
+
+pub undone_represents : (n : ℕ) (files : Option BundleView) (b : BundleView) (disk : DiskView) → files ≡ Some b → StandsUndone n files disk → Represents b disk
+undone_represents n files b disk is stands = (subst (λ (f : Option BundleView). StandsBy n stands.state f disk) is stands.stands).0
+
+-- ---- the calls
+
+-- the point of an entry
+pub point_next : (point : ℕ) → point_of (point + 1) ≡ Some point
+point_next point = ap point_of (let e : point + 1 ≡ suc point = omega arith in e)
+
+pub is_kept : (state : State) → keeps_id state ≡ true → (kept : Kept) × (state ≡ states.Kept kept)
+is_kept states.Nothing e = absurd (cc)
+is_kept (states.Kept kept) e = (kept, refl)
+is_kept states.Done e = absurd (cc)
+
+-- what an entry makes of a state, over the files of a keeping
+pub keeps_through : (n m : ℕ) (state after : State) (files held : Option BundleView) (old new : DiskView) → m ≡ n → held ≡ files → keeps_id state ≡ true → StandsBy n state files old
+    → ((kept : Kept) → state ≡ states.Kept kept → (next : State) × (next ≡ after) × (StandsBy m (states.Kept kept) held old → Throughout (IsOfRelay m) (IsEither m (states.Kept kept) next) old new))
+    → Throughout (IsOfRelay n) (IsOneOf n state after) old new
+keeps_through n m state after files held old new number is keeps stands run =
+    let kept = is_kept state keeps in
+    let next = run kept.0 kept.1 in
+    let there : StandsBy m (states.Kept kept.0) held old = subst (λ (k : ℕ). StandsBy k (states.Kept kept.0) held old) (sym number) (subst (λ (f : Option BundleView). StandsBy n (states.Kept kept.0) f old) (sym is) (subst (λ (s : State). StandsBy n s files old) kept.1 stands)) in
+    subst (λ (s : State). Throughout (IsOfRelay n) (IsOneOf n s after) old new) (sym kept.1)
+    (subst (λ (s : State). Throughout (IsOfRelay n) (IsOneOf n (states.Kept kept.0) s) old new) next.1
+    (either_one n (states.Kept kept.0) next.0 old new (subst (λ (k : ℕ). Throughout (IsOfRelay k) (IsEither k (states.Kept kept.0) next.0) old new) number (next.2 there))))
+
+pub keeps_state : (n m : ℕ) (state after : State) (files held : Option BundleView) (old : DiskView) (found : State) → m ≡ n → held ≡ files → keeps_id state ≡ true → StandsBy n state files old
+    → ((kept : Kept) → state ≡ states.Kept kept → (next : State) × (next ≡ after) × (StandsBy m (states.Kept kept) held old → found ≡ next)) → found ≡ after
+keeps_state n m state after files held old found number is keeps stands made =
+    let kept = is_kept state keeps in
+    let next = made kept.0 kept.1 in
+    let there : StandsBy m (states.Kept kept.0) held old = subst (λ (k : ℕ). StandsBy k (states.Kept kept.0) held old) (sym number) (subst (λ (f : Option BundleView). StandsBy n (states.Kept kept.0) f old) (sym is) (subst (λ (s : State). StandsBy n s files old) kept.1 stands)) in
+    next.2 there ∙ next.1
+
+-- a bundle that is there keeps its state in each crash image
+pub now_keeps : (n m : ℕ) (b : BundleView) (disk : DiskView) (state : State) → m ≡ n → IsBundleOf m b → Represents b disk → state_on b disk ≡ state → (image : Image) → IsCrashImage disk image → Keeps n image state
+now_keeps n m b disk state number own at is image left = subst (λ (k : ℕ). Keeps k image state) number (subst (Keeps m image) is (each_keeps m b disk own.owner own.shape at image left))
+
+-- an identifier is kept in the files of a keeping
+pub id_through : (n m : ℕ) (state after : State) (files held : Option BundleView) (old new : DiskView) → m ≡ n → held ≡ files → state ≢ states.Done → StandsBy n state files old
+    → ((s : State) → s ≢ states.Done → StandsBy m s held old → Throughout (IsOfRelay m) (IsOneOf m s after) old new) → Throughout (IsOfRelay n) (IsOneOf n state after) old new
+id_through n m state after files held old new number is undone stands run =
+    subst (λ (k : ℕ). Throughout (IsOfRelay k) (IsOneOf k state after) old new) number
+    (run state undone (subst (λ (k : ℕ). StandsBy k state held old) (sym number) (subst (λ (f : Option BundleView). StandsBy n state f old) (sym is) stands)))

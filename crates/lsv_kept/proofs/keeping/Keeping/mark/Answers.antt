@@ -1,0 +1,41 @@
+use Rattle.std.proofs.Common.{◌≡◌, ◌∙◌, ◌+◌, Option, Some, None, ap, refl, sym, subst, inl}
+use Rattle.lsv_bundle.specs.Value.{BundleView}
+use Rattle.lsv_kept.specs.Inner.{IsKeeping}
+use Rattle.lsv_kept.specs.Kept.{state_of}
+use Rattle.lsv_kept.specs.Value.{KeepingView, with_point}
+use Rattle.lsv_kept.specs.declared.state.Kept.{Kept}
+use Rattle.lsv_kept.specs.declared.state.State.{State}
+use Rattle.lsv_kept.specs.declared.state.State.TheVariants as states
+use Rattle.lsv_kept.proofs.Keepings.{keeps_state, keeps_through, now_keeps, point_next}
+use Rattle.lsv_kept.proofs.keeping.Keeping.mark.Goals as goal
+
+pub returns-in_err-bundle-clause-any_moment : goal.returns-in_err-bundle-clause-any_moment
+returns-in_err-bundle-clause-any_moment g c told whole =
+    let w = c.args.self.now in
+    keeps_through w.number c.self.inside.number w.state (states.Done) w.files c.take.result (g.D.Disk.view c.args.disk.now) (g.D.Disk.view c.add_entry.new.disk)
+    (ap (λ (k : KeepingView). k.number) c.self.view_is) (c.take.ensures.value ∙ ap (λ (k : KeepingView). k.files) c.self.view_is) c.requires.kept (c.requires.stands told whole)
+    (λ kept is. (states.Done, refl, λ there. c.add_entry.ensures.any_moment told kept there))
+
+pub returns-clause-any_moment : goal.returns-clause-any_moment
+returns-clause-any_moment g c told whole =
+    let w = c.args.self.now in
+    keeps_through w.number c.self.inside.number w.state (states.Done) w.files c.take.result (g.D.Disk.view c.args.disk.now) (g.D.Disk.view c.add_entry.new.disk)
+    (ap (λ (k : KeepingView). k.number) c.self.view_is) (c.take.ensures.value ∙ ap (λ (k : KeepingView). k.files) c.self.view_is) c.requires.kept (c.requires.stands told whole)
+    (λ kept is. (states.Done, refl, λ there. c.add_entry.ensures.any_moment told kept there))
+
+pub returns-clause-stands : goal.returns-clause-stands
+returns-clause-stands g c told =
+    let w = c.args.self.now in (
+      c.in_ok-bundle.ensures.represents told,
+      keeps_state w.number c.self.inside.number w.state (states.Done) w.files c.take.result (g.D.Disk.view c.args.disk.now) _
+          (ap (λ (k : KeepingView). k.number) c.self.view_is) (c.take.ensures.value ∙ ap (λ (k : KeepingView). k.files) c.self.view_is) c.requires.kept (c.requires.stands told c.in_ok-check_whole.ensures.whole)
+          (λ kept is. (states.Done, refl, λ there. c.in_ok-bundle.ensures.state told kept there)),
+    )
+
+pub returns-clause-acknowledged : goal.returns-clause-acknowledged
+returns-clause-acknowledged g c told =
+    let w = c.args.self.now in
+    now_keeps w.number c.self.inside.number c.in_ok-bundle.bundle (g.D.Disk.view c.add_entry.new.disk) states.Done (ap (λ (k : KeepingView). k.number) c.self.view_is) c.in_ok-bundle.ensures.bundle (c.in_ok-bundle.ensures.represents told)
+    (keeps_state w.number c.self.inside.number w.state (states.Done) w.files c.take.result (g.D.Disk.view c.args.disk.now) _
+    (ap (λ (k : KeepingView). k.number) c.self.view_is) (c.take.ensures.value ∙ ap (λ (k : KeepingView). k.files) c.self.view_is) c.requires.kept (c.requires.stands told c.in_ok-check_whole.ensures.whole)
+    (λ kept is. (states.Done, refl, λ there. c.in_ok-bundle.ensures.state told kept there)))
