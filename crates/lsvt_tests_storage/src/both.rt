@@ -35,9 +35,11 @@ fn story(alloc: Global) -> Result<(MemDisk, Result<(), BundleFault>), Fail> {
 fn two_bundles_are_flushed_one_after_the_other(rt: HostRuntime) -> Result<(), Fail> {
     let (disk, answer) = story(rt.alloc())?;
     assert_eq!(rt; answer, Ok(()));
-    let lines = disk.bytes(FileId::new(EVENTS, Part::Lines));
-    assert_eq!(rt; lines, Some(b"one".as_slice()));
-    let id = disk.bytes(FileId::new(RELAY, Part::Id));
-    assert_eq!(rt; id, Some(b"seven".as_slice()));
+    let lines = disk
+        .bytes(FileId::new(EVENTS, Part::Lines))
+        .ok_or("absent")?;
+    assert_eq!(rt; lines, b"one".as_slice());
+    let id = disk.bytes(FileId::new(RELAY, Part::Id)).ok_or("absent")?;
+    assert_eq!(rt; id, b"seven".as_slice());
     Ok(())
 }

@@ -14,8 +14,8 @@ fn the_theorems_hold_of_these_numbers(rt: HostRuntime) -> Result<(), Fail> {
     let mut disk = MemDisk::new(rt.alloc(), &[])?;
     assert_eq!(rt; last_drawn(&mut disk, 3), Ok(None));
     let mut numbers = Numbers::open(&mut disk, 3, 8)?;
-    assert_eq!(rt; last_drawn(&mut disk, 3), Ok(Some((0, 8))));
     assert_eq!(rt; numbers.draw(&mut disk).map(LogNo::get), Ok(4));
+    assert_eq!(rt; last_drawn(&mut disk, 3), Ok(Some((4, 8))));
     an_image_has_one_last_number();
     each_image_has_the_last_number(&numbers, &disk);
     numbers_stay(&numbers, &disk, &disk, PhantomData::<Nothing>);
