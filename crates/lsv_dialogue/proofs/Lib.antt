@@ -1,0 +1,9 @@
+pub mod BatchLemmas
+pub mod EndLemmas
+pub mod EventLemmas
+pub mod FrameLemmas
+pub mod LinkLemmas
+pub mod PutLemmas
+pub mod ReadLemmas
+pub mod RunLemmas
+pub mod StandLemmas

@@ -1,0 +1,18 @@
+use Rattle.std.proofs.Common.{◌≡◌, ◌++◌, List, ℕ, sym, ◌∙◌, ap, subst, take, drop}
+use Rattle.lsv_link.specs.Link.{LinkState}
+use Rattle.lsv_dialogue.specs.Stands.{Writes}
+use Rattle.lsv_dialogue.proofs.LinkLemmas.{continues_then, stays_connected, taken_front, writes_more, writes_one, writes_stays}
+use Rattle.lsv_dialogue.proofs.put.write_all.Goals as goal
+
+pub writes-preserved : goal.writes-preserved
+writes-preserved g c =
+    let (front, is, wrote) = c.writes.invariant.puts in
+    let whole = taken_front c.args.bytes.now front c.writes.rest.now c.in-Bytes.count is in
+    let more : g.L.Link.tells → Writes (front ++ take c.in-Bytes.count c.writes.rest.now) (g.L.Link.state c.args.link.now) (g.L.Link.state c.write.new.self) =
+    λ t. writes_more front (take c.in-Bytes.count c.writes.rest.now) (g.L.Link.state c.args.link.now) (g.L.Link.state c.writes.link) (g.L.Link.state c.write.new.self) (wrote t)
+    (writes_one c.in-Bytes.count c.writes.rest.now (g.L.Link.state c.writes.link) (g.L.Link.state c.write.new.self) (c.writes.invariant.connected t) (c.in-Bytes.ensures.change t)) in
+    record {
+      puts = (front ++ take c.in-Bytes.count c.writes.rest.now, whole ∙ ap (λ (x : List ℕ). (front ++ take c.in-Bytes.count c.writes.rest.now) ++ x) (sym c.split_at.ensures.back), more);
+      connected = λ t. stays_connected (g.L.Link.state c.args.link.now) (g.L.Link.state c.write.new.self) (writes_stays (front ++ take c.in-Bytes.count c.writes.rest.now) (g.L.Link.state c.args.link.now) (g.L.Link.state c.write.new.self) (more t));
+      continues = continues_then _ _ _ c.writes.invariant.continues c.in-Bytes.ensures.cause.continues;
+    }

@@ -1,0 +1,4 @@
+pub mod Events
+pub mod Puts
+pub mod Ends
+pub mod Stands

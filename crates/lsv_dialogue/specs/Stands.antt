@@ -1,0 +1,135 @@
+-- How a conversation stands between two pieces of it: what only the proofs need.
+use Rattle.std.specs.Prelude.{◌≡◌, ◌≤◌, ℕ, Bool, true, List, [], ◌∷◌, ◌++◌, length, Option, Some, None}
+use Rattle.std.specs.List.{AllByRecursion}
+use Rattle.lsv_words.specs.Causes.{HasRisen}
+use Rattle.lsv_words.specs.Pieces.{IsPrefix}
+use Rattle.lsv_msg.specs.declared.messages.ServerMessage.{ServerMessage}
+use Rattle.lsv_msg.specs.declared.messages.ClientMessage.{ClientMessage}
+use Rattle.lsv_link.specs.declared.connection.Connection.{Connection}
+use Rattle.lsv_link.specs.Link.{LinkCounts, LinkState, Continues, open_of}
+use Rattle.lsv_dialogue.specs.Events.{Event, AreGood, HasHeard, heard, said}
+use Rattle.lsv_dialogue.specs.Puts.{PutsPart, PutsUpTo, PutsWhole}
+use Rattle.lsv_dialogue.specs.Ends.{BeginsBad, Broke, Ended, StaysOpen}
+use Rattle.lsv_dialogue.specs.declared.ends.TheConstants.{MOST_HEARD, MOST_PUT}
+use Rattle.lsv_dialogue.specs.declared.ends.Judged.{Judged}
+use Rattle.lsv_dialogue.specs.declared.ends.End.{End}
+use Rattle.lsv_dialogue.specs.declared.ends.TalkFault.{TalkFault}
+use Rattle.lsv_dialogue.specs.declared.talk.TheConstants.{BUFFER}
+use Rattle.lsv_dialogue.specs.declared.talk.Halt.{Halt}
+use Rattle.lsv_dialogue.specs.declared.talk.Halt.TheVariants as halts
+use Rattle.lsv_dialogue.specs.declared.talk.Spoken.{Spoken}
+use Rattle.lsv_dialogue.specs.declared.talk.Spoken.TheVariants as spoken
+use Rattle.lsv_dialogue.specs.declared.talk.Talk.{Talk}
+use Rattle.lsv_dialogue.specs.declared.put.Batch.{Batch}
+use Rattle.lsv_dialogue.specs.declared.read.Next.{Next}
+use Rattle.lsv_dialogue.specs.declared.read.Next.TheVariants as nexts
+use Rattle.lsv_wire.specs.Frame.{IsPartial, IsTooLong}
+
+-- the message, if there is one
+abbrev pub as_list : Option ServerMessage → List ServerMessage
+as_list None = []
+as_list (Some m) = m ∷ []
+
+-- a link's counts, and what it tells
+abbrev pub View : Type 0
+View = LinkCounts × LinkState
+
+-- the connection with these bytes written
+abbrev pub with_output : List ℕ → Connection → Connection
+with_output bytes conn = record conn { output = conn.output ++ bytes }
+
+-- these bytes were written on the open connection, and nothing else changed
+abbrev pub Writes : List ℕ → LinkState → LinkState → Type 0
+Writes bytes old new = new ≡ record { past = old.past; now = Some (with_output bytes (open_of old)) }
+
+-- why writing stopped, by the counts
+abbrev pub IsHaltedBy : LinkCounts → LinkCounts → Halt → Type 0
+IsHaltedBy before after halts.NotYet = HasRisen before.full after.full
+IsHaltedBy before after halts.Failed = HasRisen before.faults after.faults
+IsHaltedBy before after (halts.TooLong n) = Unit {0}
+
+-- how much of these messages the bytes are
+abbrev pub PutsBy : Option Halt → Type 0 → List ℕ → List ClientMessage → Type 0
+PutsBy None tells output messages = PutsWhole tells output messages
+PutsBy (Some halts.NotYet) tells output messages = PutsPart tells output messages
+PutsBy (Some halts.Failed) tells output messages = PutsPart tells output messages
+PutsBy (Some (halts.TooLong n)) tells output messages = PutsUpTo n tells output messages
+
+-- why writing stopped, if it did
+abbrev pub halt_of : Spoken → Option Halt
+halt_of spoken.Quiet = None
+halt_of spoken.Owing = None
+halt_of (spoken.Halted halt) = Some halt
+
+-- it goes on
+abbrev pub IsGoing : Spoken → Type 0
+IsGoing s = halt_of s ≡ None
+
+-- the least count of messages that were said then
+abbrev pub floor : Spoken → ℕ
+floor spoken.Quiet = 0
+floor spoken.Owing = MOST_PUT
+floor (spoken.Halted halt) = 0
+
+-- some bytes were written of these messages, as the halt says
+pub record PutsMore (halt : Option Halt) (tells : Type 0) (messages : List ClientMessage) (old new : LinkState) : Type 0 where
+  pub bytes : List ℕ
+  pub puts : PutsBy halt (Unit {0}) bytes messages
+  pub wrote : tells → Writes bytes old new
+
+-- some of these bytes were written, and all of them if that is so
+pub record WritesFront (tells whole : Type 0) (bytes : List ℕ) (old new : LinkState) : Type 0 where
+  pub front : List ℕ
+  pub is : IsPrefix front bytes
+  pub all : whole → front ≡ bytes
+  pub wrote : tells → Writes front old new
+
+-- the bytes are the frames of these messages, up to one that is too long, if there is one
+abbrev pub AreFrames : Option ℕ → List ℕ → List ClientMessage → Type 0
+AreFrames None bytes messages = PutsWhole (Unit {0}) bytes messages
+AreFrames (Some n) bytes messages = PutsUpTo n (Unit {0}) bytes messages
+
+-- the batch has the frames of these messages
+abbrev pub IsBatch : List ClientMessage → Batch → Type 0
+IsBatch messages batch = AreFrames batch.too_long batch.bytes messages
+
+-- what stands next in the framer's bytes, and what is left of them
+abbrev pub IsNext : Next → List ℕ → List ℕ → Type 0
+IsNext (nexts.Message m) old new = (input : List ℕ) (before : List ServerMessage) → HasHeard input before old → HasHeard input (before ++ m ∷ []) new
+IsNext nexts.Nothing old new = IsPartial old × (new ≡ old)
+IsNext (nexts.Malformed fault) old new = BeginsBad fault old × (new ≡ old)
+IsNext (nexts.TooLarge n) old new = IsTooLong old n × (new ≡ old)
+
+-- some bytes were read, and the framer has them too, if it kept them; nothing was written
+pub record HasRead (tells kept : Type 0) (old new : List ℕ) (before after : LinkState) : Type 0 where
+  pub more : List ℕ
+  pub framer : kept → new ≡ old ++ more
+  pub input : tells → (open_of after).input ≡ (open_of before).input ++ more
+  pub output : tells → (open_of after).output ≡ (open_of before).output
+  pub stays : tells → StaysOpen before after
+
+-- how a conversation stands that began with the link so: the events made the speaker what it is, what was said was written, and what was read are the messages heard, those pending, and the framer's bytes
+pub record Stands (Talks : List Event → Type 0) (still tells : Type 0) (begun : View) (pending : List ServerMessage) (least : ℕ) (talk : Talk) (now : View) : Type 0 where
+  pub events : List Event
+  pub talks : Talks events
+  pub good : AreGood (heard events)
+  pub count : talk.heard ≡ length (heard events)
+  pub few : length (heard events ++ pending) ≤ MOST_HEARD
+  pub many : least ≤ length (said events)
+  pub puts : PutsBy (halt_of talk.spoken) tells (open_of now.1).output (said events)
+  pub quiet : talk.spoken ≡ spoken.Quiet → still
+  pub halted : (halt : Halt) → talk.spoken ≡ spoken.Halted halt → IsHaltedBy begun.0 now.0 halt
+  pub hears : tells → HasHeard (open_of now.1).input (heard events ++ pending) talk.framer
+  pub stays : tells → StaysOpen begun.1 now.1
+  pub room : length talk.buffer.items ≡ BUFFER
+  pub continues : Continues begun.0 now.0
+
+-- a conversation that ended so, over a link that stays open
+pub record Finishes (Talks : List Event → Type 0) (judges : ServerMessage → Judged) (over : Bool) (quiet tells : Type 0) (begun now : View) (end : End) : Type 0 where
+  pub stays : tells → StaysOpen begun.1 now.1
+  pub ended : Ended Talks judges over quiet tells begun.0 now.0 (open_of now.1) end
+
+-- a conversation that broke off so, over a link that stays open
+pub record Breaks {F : Type 0} (Talks : List Event → Type 0) (Fails : List Event → F → Type 0) (tells : Type 0) (begun now : View) (fault : TalkFault F) : Type 0 where
+  pub stays : tells → StaysOpen begun.1 now.1
+  pub broke : Broke Talks Fails tells begun.0 now.0 (open_of now.1) fault
