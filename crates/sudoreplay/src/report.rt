@@ -46,12 +46,10 @@ pub fn report(rt: &HostRuntime, words: &List<Bytes>, status: ReplayStatus) {
         (Task::List(words), ReplayStatus::BadExpression(at)) => search::say(rt, words, at),
         (Task::List(_), ReplayStatus::Shown) => logs::say_unlisted(rt, dir, false),
         (Task::List(_), ReplayStatus::Damaged(_)) => logs::say_unlisted(rt, dir, true),
-        (Task::Play(_, id) | Task::Follow(_, id), ReplayStatus::Damaged(part)) => {
-            report_damage(rt, dir, id, part);
-        }
-        (Task::Play(_, id) | Task::Follow(_, id), ReplayStatus::Absent) => {
-            report_absence(rt, dir, id);
-        }
+        (Task::Play(_, id), ReplayStatus::Damaged(part)) => report_damage(rt, dir, id, part),
+        (Task::Follow(_, id), ReplayStatus::Damaged(part)) => report_damage(rt, dir, id, part),
+        (Task::Play(_, id), ReplayStatus::Absent) => report_absence(rt, dir, id),
+        (Task::Follow(_, id), ReplayStatus::Absent) => report_absence(rt, dir, id),
         _ => {}
     }
 }
