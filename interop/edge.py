@@ -293,6 +293,53 @@ def part_refused_client_reads_its_error(program: str, _: str) -> None:
         link.close()
 
 
+def part_held_link_costs_no_turns(program: str, _: str) -> None:
+    """A client that sends and never reads isn't read on, and the server rests while nothing can move."""
+    if os.geteuid() != 0:
+        raise Skipped("as root alone")
+    with Guarded(program, parent="/dev/shm") as on:
+        same("turns of a second in which nothing moves", in_child(lambda: turns_of_a_held_link(on)), "few")
+
+
+def turns_of_a_held_link(on: Guarded) -> str:
+    """How often the server sleeps while a client reads none of its commit points, in a network with short buffers."""
+    in_namespace(NEW_NET, set_loopback_up)
+    for name in ("rmem", "wmem"):
+        with open(f"/proc/sys/net/ipv4/tcp_{name}", "w", encoding="utf-8") as file:
+            file.write("4096 8192 8192")
+    on.start()
+    link = socket.create_connection(("127.0.0.1", on.place.port), timeout=10)
+    link.sendall(client.hello() + ACCEPT)
+    link.setblocking(False)
+    record = client.record((5, "ttyout", MARK))
+    ends = time.monotonic() + 60
+    sent, left, refused_since = 0, b"", None
+    while refused_since is None or time.monotonic() - refused_since < 1:
+        if time.monotonic() > ends:
+            return f"not held after {sent} records"
+        try:
+            left = left or record
+            left = left[link.send(left):]
+            sent, refused_since = sent + (not left), None
+            time.sleep(0.0001)
+        except BlockingIOError:
+            refused_since = refused_since or time.monotonic()
+            time.sleep(0.01)
+    pid = on.server.process.pid
+    before = sleeps_of(pid)
+    time.sleep(2)
+    turns = (sleeps_of(pid) - before) // 2
+    link.close()
+    on.stop()
+    return "few" if turns <= 100 else str(turns)
+
+
+def sleeps_of(pid: int) -> int:
+    """How often a process has given up the processor by itself."""
+    with open(f"/proc/{pid}/status", encoding="utf-8") as file:
+        return next(int(line.split()[1]) for line in file if line.startswith("voluntary_ctxt_switches"))
+
+
 def heard_at_once(link: socket.socket) -> bytes | None:
     """What has come, None if nothing has."""
     try:
