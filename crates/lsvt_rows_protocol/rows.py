@@ -9,6 +9,7 @@ it, that answer was worked out apart from this program too, and both must agree.
 """
 from __future__ import annotations
 
+import hashlib
 import json
 import random
 import re
@@ -1178,6 +1179,109 @@ def of_events(c: Cases) -> None:
             c.case(asked, *map(digits, printed))
 
 
+def brief(b: bytes) -> str:
+    """Bytes as they are printed: of many their count and their digest."""
+    return digits(b) if len(b) <= 65_536 else f"{len(b)}:{hashlib.md5(b).hexdigest()}"
+
+
+def many(before: bytes, byte: int, times: int, after: bytes = b"") -> tuple[str, bytes]:
+    """A word for bytes of which one comes many times, and these bytes."""
+    word = "+".join([digits(before), f"{byte:02x}*{times}", digits(after)])
+    return word, before + bytes([byte]) * times + after
+
+
+def data(delay: bytes, length: int) -> tuple[str, bytes]:
+    """Terminal output with this many bytes of data."""
+    buffer = delay + varint(2 << 3 | 2) + varint(length)
+    return many(varint(7 << 3 | 2) + varint(len(buffer) + length) + buffer, 7, length)
+
+
+def at_limits(c: Cases) -> None:
+    """Messages, frames, records and replies of the greatest length, and of one byte more."""
+    c.title("at the limit of a message")
+    too_long = f"a message of {LARGEST + 1} bytes is longer than a frame holds"
+    too_large = f"a message of {LARGEST + 1} bytes is longer than {LARGEST}"
+    second = field(1, b"\x08\x01")
+    env = many(varint(1 << 3 | 2), 0, 0)[1]
+    text = varint(3 << 3 | 2) + varint(2_097_000)
+    one = field(1, b"env") + text
+    info = varint(2 << 3 | 2) + varint(len(one) + 2_097_000) + one
+    accept = env + varint(len(second) + len(info) + 2_097_000 + 2) + second + info
+    for word, b in (many(accept, 7, 2_097_000, b"\x18\x01"), data(second, 2_097_100), data(b"", LARGEST - 8)):
+        c.case(f"again {word}", brief(b))
+    assert len(data(b"", LARGEST - 8)[1]) == LARGEST
+    c.case(f"again {data(b'', LARGEST - 7)[0]}", too_long)
+    for length in (LARGEST - 4, LARGEST - 3):
+        word, b = many(varint(4 << 3 | 2) + varint(length), 7, length)
+        c.case(f"reply {word}", brief(frame(b)) if len(b) == LARGEST else f"{too_long} -")
+    none = field(1, b"")
+    for delay, length, answer in ((none, LARGEST, "a request"), (none, LARGEST + 1, "message too large"),
+                                  (b"", LARGEST + 1, "bad time")):
+        c.case(f"judged {data(delay, length)[0]}", answer)
+    word, b = many(b"", 5, LARGEST)
+    c.case(f"framed {word[2:-2]}", brief(frame(b)))
+    c.case(f"framed 05*{LARGEST + 1}", too_large)
+    c.case(f"frames {(LARGEST).to_bytes(4, 'big').hex()}+05*{LARGEST}", f"piece {brief(b)}")
+    over = f"piece {LARGEST + 1} is too large"
+    c.case("frames 00200001 0000000000000000 0000000000000000", over, over, over)
+    hello = frame(field(13, field(1, b"sudo")))
+    large = f"{(100_000).to_bytes(4, 'big').hex()}+05*100000"
+    printed = [f"piece {brief(bytes([5]) * 100_000)}", f"piece {digits(hello[4:])}"]
+    c.case(f"frames {large} {hello.hex()} {large} {hello.hex()}", *printed * 2)
+    line = digits(b"4 0.000000001 2097152\n")
+    c.case(f"lay-again 4:1:07*{LARGEST}", f"{line} - - - - {brief(bytes([7]) * LARGEST)}")
+    word, b = many(b'{"info":{"env":"', ord("x"), LARGEST, b'"},"submit_time":{"nanoseconds":0,"seconds":0}}\n')
+    c.case(f"head-again {word}", brief(b))
+    c.title("written varints, fields and frames")
+    c.case(f"put 0 127 300 {2**64 - 1}", "007fac02ffffffffffffffffff01")
+    c.case(f"put 2:500000000 13:x7375646f {2**29 - 1}:x-", "1080cab5ee016a047375646ffaffffff0f00")
+    c.case("framed 120808011080cab5ee01", "0000000a120808011080cab5ee01")
+    c.title("an accept opens a session with all four keys")
+    keys = ("command", "runuser", "submituser", "submithost")
+    for missing in (None, *keys):
+        asked = {key: "x" for key in keys if key != missing}
+        entries = b"".join(field(2, field(1, key) + field(3, value)) for key, value in asked.items())
+        line = json.dumps({"info": asked, "submit_time": {"nanoseconds": 0, "seconds": 1}}, sort_keys=True,
+                          separators=(",", ":")) + "\n"
+        c.case(f"opening {digits(field(1, second + entries))}", "missing key" if missing else digits(line.encode()))
+        c.case(f"opening {digits(field(1, entries))}", "bad time")
+
+
+def of_memory(c: Cases) -> None:
+    """Points, log numbers, sources, sinks and texts."""
+    c.title("points and log numbers")
+    last = 2**63 - 1
+    for nanos, more, printed in ((last, 0, f"Some({last})"), (last, 1, "None"), (last, 2**64 - 1, "None"),
+                                 (5, 7, "Some(12)")):
+        c.case(f"point {nanos} {more}", f"{nanos} {nanos // 10**9} {nanos % 10**9} {printed}")
+    c.case(f"point {2**63} 0", "no point")
+    for number, text in ((1, b"000001"), (35, b"00000Z"), (36, b"000010"), (1296, b"000100"), (371, b"0000AB"),
+                         (2_176_782_335, b"ZZZZZZ")):
+        c.case(f"digits {number}", text.hex())
+        assert number_of(text.decode()) == number
+    for number in (0, 2_176_782_336):
+        c.case(f"digits {number}", "no log number")
+    c.title("sources, sinks and texts fail at each call in turn, and give the rest")
+    pieces = "-,616263,-,6465"
+    c.case(f"source 0 {pieces} 2,2,2,2,2", "2 6162", "1 63ff", "2 6465", "0 ffff", "0 ffff", "0 refused")
+    for failing in range(1, 5):
+        left, printed = [b"abc", b"de"], []
+        for call in range(1, 6):
+            piece = b"" if call == failing or not left else left.pop(0)
+            word = "a read failed" if call == failing else str(len(piece))
+            printed.append(f"{word} {piece.ljust(8, bytes([255])).hex()}")
+        c.case(f"source {failing} {pieces} 8,8,8,8,8", *printed, "0 refused")
+    for failing in range(1, 5):
+        kept = [text for at, text in enumerate(("6162", "6364", "6566"), 1) if at != failing]
+        c.case(f"sink {failing} 6162,6364,6566", *["a write failed"] * (failing < 4), f"{''.join(kept)}, 0 refused")
+    for failing in range(1, 5):
+        answers = [digits(b"one"), digits(b"two"), "no text"]
+        if failing < 4:
+            answers[failing - 1] = "a reading of a text failed"
+        known = f"/a={digits(b'one')},/b={digits(b'two')},/a={digits(b'six')}"
+        c.case(f"texts {failing} {known} /a,/b,/c", *answers, "0 refused")
+
+
 def at_random(c: Cases) -> None:
     """Messages, bytes and records that are drawn."""
     c.title("at random")
@@ -1199,7 +1303,7 @@ def at_random(c: Cases) -> None:
 def main() -> None:
     """Writes all cases."""
     cases = Cases()
-    for add in (sessions, replies, forms, texts, of_events, at_random):
+    for add in (sessions, replies, forms, texts, of_events, at_limits, of_memory, at_random):
         add(cases)
     cases.write(sys.argv[1])
 

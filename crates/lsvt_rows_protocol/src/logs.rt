@@ -22,6 +22,16 @@ pub fn head(rt: &HostRuntime, digits: &str) -> Result<()> {
     Ok(())
 }
 
+/// The line alone that is written of the text of a log.json.
+pub fn head_again(rt: &HostRuntime, word: &str) -> Result<()> {
+    let alloc = rt.alloc();
+    match read_head(alloc, bytes_of(alloc, word)?.as_slice()) {
+        Ok(head) => println!(rt; "{}", digits_of(alloc, &write_head(alloc, &head)?)?)?,
+        Err(fault) => println!(rt; "{fault}")?,
+    }
+    Ok(())
+}
+
 /// The text of an exit.json, and the line that is written of it.
 pub fn exit(rt: &HostRuntime, digits: &str) -> Result<()> {
     let alloc = rt.alloc();
@@ -63,6 +73,16 @@ pub fn laid(rt: &HostRuntime, words: &str) -> Result<()> {
     let alloc = rt.alloc();
     let records = records_of(alloc, words)?;
     show(rt, &lay(alloc, records.as_slice())?)
+}
+
+/// The layout of the records that are read of their layout.
+pub fn laid_again(rt: &HostRuntime, words: &str) -> Result<()> {
+    let alloc = rt.alloc();
+    let l = lay(alloc, records_of(alloc, words)?.as_slice())?;
+    match read_log(alloc, &l) {
+        Ok(records) => show(rt, &lay(alloc, records.as_slice())?),
+        Err(fault) => Ok(println!(rt; "{fault}")?),
+    }
 }
 
 /// The records of a layout, which has these six texts.

@@ -2,6 +2,7 @@
 //! word and its arguments, with a space between each; README.md says which.
 #![tactic(auto)]
 
+mod base;
 mod events;
 mod logs;
 mod messages;
@@ -18,13 +19,26 @@ fn answer(rt: &HostRuntime, case: &str) -> Result<()> {
         "client" => messages::client(rt, rest),
         "server" => messages::server(rt, rest),
         "request" => messages::request(rt, rest),
+        "again" => messages::again(rt, rest),
+        "reply" => messages::reply(rt, rest),
+        "judged" => messages::judged(rt, rest),
+        "opening" => messages::opening(rt, rest),
         "json" => messages::json(rt, rest),
         "fields" => messages::fields(rt, rest),
         "frames" => messages::frames(rt, rest),
+        "framed" => messages::framed(rt, rest),
+        "put" => messages::put(rt, rest),
         "head" => logs::head(rt, rest),
+        "head-again" => logs::head_again(rt, rest),
         "exit" => logs::exit(rt, rest),
         "number" => logs::number(rt, rest),
+        "digits" => base::digits(rt, rest),
+        "point" => base::point(rt, rest),
+        "source" => base::source(rt, rest),
+        "sink" => base::sink(rt, rest),
+        "texts" => base::texts(rt, rest),
         "lay" => logs::laid(rt, rest),
+        "lay-again" => logs::laid_again(rt, rest),
         "read" => logs::read(rt, rest),
         "mask" => logs::masked(rt, rest),
         "resume" => logs::resumed(rt, rest),

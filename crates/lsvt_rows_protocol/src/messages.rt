@@ -1,11 +1,16 @@
 //! Cases of frames, fields and messages.
 
 use crate::words::{bytes_of, digits_of};
+use anyhow::anyhow;
 use lsv_base::{Bytes, NoMem};
 use lsv_info::{write_exit, write_head};
-use lsv_msg::{decode_client, decode_server, encode_client, encode_server, put_server};
-use lsv_request::{Request, request_of};
-use lsv_wire::{FrameFault, Framer, read_field};
+use lsv_msg::{
+    ClientMessage, decode_client, decode_server, encode_client, encode_server, put_server,
+};
+use lsv_request::{Request, head_of, request_of};
+use lsv_wire::{
+    FrameFault, Framer, LAST_FIELD_NUMBER, frame, put_bytes, put_number, put_varint, read_field,
+};
 use std::alloc::Global;
 
 /// A message of a client, and its canonical bytes.
@@ -51,6 +56,89 @@ pub fn request(rt: &HostRuntime, digits: &str) -> anyhow::Result<()> {
         Ok(request) => println!(rt; "{request:?}")?,
         Err(refusal) => println!(rt; "{}", refusal.text())?,
     }
+    Ok(())
+}
+
+/// The canonical bytes alone of a message of a client, or why it isn't written.
+pub fn again(rt: &HostRuntime, word: &str) -> anyhow::Result<()> {
+    let alloc = rt.alloc();
+    let message = decode_client(alloc, bytes_of(alloc, word)?.as_slice())?;
+    match encode_client(alloc, &message.copy(alloc)?) {
+        Ok(canonical) => println!(rt; "{}", digits_of(alloc, &canonical)?)?,
+        Err(fault) => println!(rt; "{fault}")?,
+    }
+    Ok(())
+}
+
+/// The frame of a message of a server, or why it isn't written; then nothing is.
+pub fn reply(rt: &HostRuntime, word: &str) -> anyhow::Result<()> {
+    let alloc = rt.alloc();
+    let message = decode_server(alloc, bytes_of(alloc, word)?.as_slice())?;
+    let mut framed = Bytes::new(alloc);
+    if let Err(fault) = put_server(alloc, &mut framed, &message) {
+        print!(rt; "{fault} ")?;
+    }
+    println!(rt; "{}", digits_of(alloc, &framed)?)?;
+    Ok(())
+}
+
+/// Whether a message of a client asks for something, or the text of its refusal.
+pub fn judged(rt: &HostRuntime, word: &str) -> anyhow::Result<()> {
+    let alloc = rt.alloc();
+    match request_of(decode_client(alloc, bytes_of(alloc, word)?.as_slice())?) {
+        Ok(_) => println!(rt; "a request")?,
+        Err(refusal) => println!(rt; "{}", refusal.text())?,
+    }
+    Ok(())
+}
+
+/// The line of the head that an accept opens a session with, or the text of its refusal.
+pub fn opening(rt: &HostRuntime, word: &str) -> anyhow::Result<()> {
+    let alloc = rt.alloc();
+    let ClientMessage::Accept(accept) = decode_client(alloc, bytes_of(alloc, word)?.as_slice())?
+    else {
+        return Err(anyhow!("an accept"));
+    };
+    match head_of(accept.into_inner()) {
+        Ok(head) => println!(rt; "{}", digits_of(alloc, &write_head(alloc, &head)?)?)?,
+        Err(refusal) => println!(rt; "{}", refusal.text())?,
+    }
+    Ok(())
+}
+
+/// The frame of bytes, or why there is none.
+pub fn framed(rt: &HostRuntime, word: &str) -> anyhow::Result<()> {
+    let alloc = rt.alloc();
+    match frame(alloc, bytes_of(alloc, word)?.as_slice()) {
+        Ok(bytes) => println!(rt; "{}", digits_of(alloc, &bytes)?)?,
+        Err(fault) => println!(rt; "{fault}")?,
+    }
+    Ok(())
+}
+
+/// Adds a varint, or a field of a number or of bytes: its parts have colons between them.
+fn put_one(alloc: Global, out: &mut Bytes, word: &str) -> anyhow::Result<()> {
+    let Some((field, value)) = word.split_once(':') else {
+        return Ok(put_varint(out, word.parse::<u64>()?)?);
+    };
+    let field = field.parse::<u32>()?;
+    if field == 0 || field > LAST_FIELD_NUMBER {
+        return Err(anyhow!("a field"));
+    }
+    match value.strip_prefix("x") {
+        Some(digits) => put_bytes(out, field, bytes_of(alloc, digits)?.as_slice())?,
+        None => put_number(out, field, value.parse::<u64>()?)?,
+    }
+    Ok(())
+}
+
+/// What is written of varints and fields, one after another.
+pub fn put(rt: &HostRuntime, words: &str) -> anyhow::Result<()> {
+    let mut out = Bytes::new(rt.alloc());
+    for word in words.split_whitespace() {
+        put_one(rt.alloc(), &mut out, word)?;
+    }
+    println!(rt; "{}", digits_of(rt.alloc(), &out)?)?;
     Ok(())
 }
 

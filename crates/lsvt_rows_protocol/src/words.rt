@@ -3,22 +3,41 @@
 use anyhow::{Result, anyhow};
 use lsv_base::{Bytes, List};
 use lsv_record::{Record, Stream};
+use md5::{Digest, Md5};
 use std::alloc::Global;
 
-/// The bytes of hexadecimal digits, of which `-` is none.
-pub fn bytes_of(alloc: Global, digits: &str) -> Result<Bytes> {
-    if digits == "-" {
-        return Ok(Bytes::new(alloc));
+/// More bytes than these are printed as their count and their digest.
+const MOST: usize = 65_536;
+
+/// The bytes of a word: hexadecimal digits, `-` for none, or a byte that comes N times by `*N`, with `+` between such parts.
+pub fn bytes_of(alloc: Global, word: &str) -> Result<Bytes> {
+    let mut bytes = Bytes::new(alloc);
+    for part in word.split('+') {
+        match part.split_once('*') {
+            Some((digits, times)) => {
+                let part = hex::decode(alloc, digits)?;
+                let byte = part.first().copied().ok_or(anyhow!("a byte"))?;
+                bytes.add(&vec![in alloc; byte; times.parse::<usize>()?]?)?;
+            }
+            None if part == "-" => (),
+            None => bytes.add(&hex::decode(alloc, part)?)?,
+        }
     }
-    Ok(Bytes::from_vec(hex::decode(alloc, digits)?))
+    Ok(bytes)
 }
 
 /// The digits of bytes, and `-` of none.
 pub fn digits_of(alloc: Global, bytes: &Bytes) -> Result<String> {
-    if bytes.as_slice().is_empty() {
+    let bytes = bytes.as_slice();
+    if bytes.is_empty() {
         return Ok(String::from_str(alloc, "-")?);
     }
-    Ok(hex::encode(alloc, bytes.as_slice())?)
+    if bytes.len() <= MOST {
+        return Ok(hex::encode(alloc, bytes)?);
+    }
+    let digest = Md5::digest(bytes);
+    let digits = hex::encode(alloc, digest.as_slice())?;
+    Ok(format!(in alloc; "{}:{digits}", bytes.len())?)
 }
 
 /// The stream of an event's number.

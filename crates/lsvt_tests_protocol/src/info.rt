@@ -50,22 +50,6 @@ fn one_entry(alloc: Global, key: &[u8], value: Value) -> Result<Info, NoMem> {
     })
 }
 
-#[test]
-fn a_head_of_the_largest_message_is_written_and_read(rt: HostRuntime) -> Result<(), Fail> {
-    let alloc = rt.alloc();
-    let large = Bytes::from_vec(vec![in alloc; b'x'; 2_097_152]?);
-    let head = Head {
-        submit: TimeSpec { sec: 0, nsec: 0 },
-        info: one_entry(alloc, b"env", Value::Text(large.copy(alloc)?))?,
-    };
-    let line = write_head(alloc, &head.copy(alloc)?)?;
-    // {"info":{"env":""},"submit_time":{"nanoseconds":0,"seconds":0}} and a line feed.
-    assert_eq!(rt; line.as_slice().len(), 2_097_152 + 64);
-    let back = read_head(alloc, line.as_slice()).map_err(|_| "a head")?;
-    assert_eq!(rt; back.info.text_of(b"env"), Some(large.as_slice()));
-    Ok(())
-}
-
 fn line_of_info(alloc: Global, info: &Info) -> Result<Bytes, NoMem> {
     what_is_shown_has_no_float();
     json_line(alloc, &info_json(alloc, info)?)

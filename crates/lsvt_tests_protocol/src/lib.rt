@@ -8,8 +8,4 @@ mod info;
 #[cfg(test)]
 mod msg;
 #[cfg(test)]
-mod record;
-#[cfg(test)]
 mod request;
-#[cfg(test)]
-mod wire;

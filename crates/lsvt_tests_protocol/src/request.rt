@@ -1,19 +1,11 @@
 use lsv_base::{Bytes, List, NoMem, TimeSpec};
 use lsv_info::{Entry, Exit, Head, Info, Value};
-use lsv_msg::{AcceptMessage, ClientMessage, IoBuffer};
 use lsv_record::{Record, Stream};
 use lsv_request::*;
 use std::alloc::Global;
 use std::test::Fail;
 
-/// A message, and why it is refused.
-type Judged = (ClientMessage, Option<Refusal>);
-
 const KEYS: [&[u8]; 4] = [b"command", b"runuser", b"submituser", b"submithost"];
-
-fn time(sec: i64, nsec: i32) -> Option<TimeSpec> {
-    Some(TimeSpec { sec, nsec })
-}
 
 fn info(alloc: Global, keys: &[&[u8]]) -> Result<Info, NoMem> {
     let mut entries = Vec::new(alloc);
@@ -26,60 +18,6 @@ fn info(alloc: Global, keys: &[&[u8]]) -> Result<Info, NoMem> {
     Ok(Info {
         entries: List::from_vec(entries),
     })
-}
-
-fn accept(
-    alloc: Global,
-    submit_time: Option<TimeSpec>,
-    keys: &[&[u8]],
-) -> Result<AcceptMessage, NoMem> {
-    Ok(AcceptMessage {
-        submit_time,
-        info_msgs: info(alloc, keys)?,
-        expect_iobufs: true,
-    })
-}
-
-fn output(delay: Option<TimeSpec>, bytes: Vec<u8>) -> ClientMessage {
-    ClientMessage::Ttyout(IoBuffer {
-        delay,
-        bytes: Bytes::from_vec(bytes),
-    })
-}
-
-/// Data of the limit are taken, and a byte more isn't.
-fn records(alloc: Global) -> Result<Vec<Judged>, NoMem> {
-    let bad = Some(Refusal::BadTime);
-    let large = Some(Refusal::MessageTooLarge);
-    let mut rows = Vec::new(alloc);
-    rows.push((output(time(0, 0), vec![in alloc; 7u8; 2_097_152]?), None))?;
-    rows.push((output(time(0, 0), vec![in alloc; 7u8; 2_097_153]?), large))?;
-    rows.push((output(None, vec![in alloc; 7u8; 2_097_153]?), bad))?;
-    Ok(rows)
-}
-
-#[test]
-fn the_data_of_a_record_have_a_limit(rt: HostRuntime) -> Result<(), Fail> {
-    for (message, why) in records(rt.alloc())? {
-        assert_eq!(rt; request_of(message).err(), why);
-    }
-    Ok(())
-}
-
-#[test]
-fn a_session_opens_with_all_four_keys(rt: HostRuntime) -> Result<(), Fail> {
-    let alloc = rt.alloc();
-    let head = head_of(accept(alloc, time(1, 0), &KEYS)?).map_err(|_| "all keys are there")?;
-    assert!(rt; has_keys(&head.info));
-    for missing in 0..4usize {
-        let mut keys = Vec::from_slice(alloc, &KEYS)?;
-        drop(keys.remove(missing));
-        let refused = head_of(accept(alloc, time(1, 0), &keys)?);
-        assert_eq!(rt; refused.err(), Some(Refusal::MissingKey));
-        let untimed = head_of(accept(alloc, None, &keys)?);
-        assert_eq!(rt; untimed.err(), Some(Refusal::BadTime));
-    }
-    Ok(())
 }
 
 #[test]
