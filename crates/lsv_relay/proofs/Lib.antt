@@ -1,0 +1,12 @@
+pub mod Going
+pub mod Logs
+pub mod Moments
+pub mod Opening
+pub mod Reading
+pub mod Running
+pub mod Saying
+pub mod Starting
+pub mod Stepping
+pub mod Stored
+pub mod Taking
+pub mod Talking

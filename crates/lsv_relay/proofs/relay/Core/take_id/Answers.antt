@@ -1,0 +1,49 @@
+use Rattle.std.proofs.Common.{◌∙◌, None, length, refl, sym, ap, true}
+use Rattle.std.specs.Prelude.{nat_lt}
+use Rattle.lsv_kept.specs.Value.{is_done}
+use Rattle.lsv_kept.specs.declared.state.State.{State}
+use Rattle.lsv_kept.specs.declared.state.State.TheVariants as states
+use Rattle.lsv_relay.specs.Talk.{Talk, hears_id}
+use Rattle.lsv_relay.specs.Value.{state_of, talk_of}
+use Rattle.lsv_relay.proofs.Taking.{id_ignored, id_kept, kept_through, last_false, middle_false, nothing_through, now_durable, short_id, undone}
+use Rattle.lsv_relay.proofs.relay.Core.take_id.Goals as goal
+
+pub returns-then-ignores_id-clause-taken : goal.returns-then-ignores_id-clause-taken
+returns-then-ignores_id-clause-taken g c =
+    let w = c.args.self.now in
+    record { talk_is = id_ignored c.args.id.now (talk_of w) (sym c.ignores_id.ensures ∙ c.if-ignores_id.true); waits_is = refl; total = refl; whole = c.requires.whole }
+
+pub returns-then-ignores_id-clause-any_moment : goal.returns-then-ignores_id-clause-any_moment
+returns-then-ignores_id-clause-any_moment g c told =
+    let w = c.args.self.now in
+    nothing_through w.number (state_of w) (hears_id c.args.id.now (talk_of w)).state (g.D.Disk.view c.args.disk.now) (g.met.D.Disk.only_now told c.args.disk.now)
+
+pub keep_id-requires-clause-undone : goal.keep_id-requires-clause-undone
+keep_id-requires-clause-undone g c =
+    let w = c.args.self.now in
+    undone (state_of w) (last_false w.meter.known (nat_lt 4096 (length c.args.id.now)) (is_done (state_of w)) (sym c.ignores_id.ensures ∙ c.if-ignores_id.false))
+
+pub keep_id-requires-clause-short : goal.keep_id-requires-clause-short
+keep_id-requires-clause-short g c =
+    let w = c.args.self.now in
+    short_id (length c.args.id.now) (middle_false w.meter.known (nat_lt 4096 (length c.args.id.now)) (is_done (state_of w)) (sym c.ignores_id.ensures ∙ c.if-ignores_id.false))
+
+pub returns-in_err-keep_id-clause-any_moment : goal.returns-in_err-keep_id-clause-any_moment
+returns-in_err-keep_id-clause-any_moment g c told =
+    let w = c.args.self.now in
+    kept_through w.keeping.number w.number (state_of w) (states.Kept (record { id = c.args.id.now; point = None })) (hears_id c.args.id.now (talk_of w)).state (g.D.Disk.view c.args.disk.now) (g.D.Disk.view c.keep_id.new.disk) c.requires.sound.0 (ap (λ (t : Talk). t.state) (id_kept c.args.id.now (talk_of w) (sym c.ignores_id.ensures ∙ c.if-ignores_id.false))) (c.keep_id.ensures.any_moment told c.requires.whole)
+
+pub returns-clause-any_moment : goal.returns-clause-any_moment
+returns-clause-any_moment g c told =
+    let w = c.args.self.now in
+    kept_through w.keeping.number w.number (state_of w) (states.Kept (record { id = c.args.id.now; point = None })) (hears_id c.args.id.now (talk_of w)).state (g.D.Disk.view c.args.disk.now) (g.D.Disk.view c.keep_id.new.disk) c.requires.sound.0 (ap (λ (t : Talk). t.state) (id_kept c.args.id.now (talk_of w) (sym c.ignores_id.ensures ∙ c.if-ignores_id.false))) (c.keep_id.ensures.any_moment told c.requires.whole)
+
+pub returns-clause-taken : goal.returns-clause-taken
+returns-clause-taken g c =
+    let w = c.args.self.now in
+    record { talk_is = ap (λ (s : State). let t : Talk = record (talk_of w) { state = s; known = true } in t) c.in_ok-keep_id.ensures.state ∙ (id_kept c.args.id.now (talk_of w) (sym c.ignores_id.ensures ∙ c.if-ignores_id.false)); waits_is = refl; total = refl; whole = c.in_ok-keep_id.ensures.whole }
+
+pub returns-clause-durable : goal.returns-clause-durable
+returns-clause-durable g c told before =
+    let w = c.args.self.now in
+    now_durable w.keeping.number w.number _ (g.D.Disk.view c.keep_id.new.disk) c.requires.sound.0 (c.in_ok-keep_id.ensures.acknowledged told)

@@ -1,0 +1,87 @@
+-- What only the proofs need of a relay's steps.
+use Rattle.std.specs.Prelude.{◌≡◌, ◌⊎◌, ◌+◌, ◌-◌, ◌^◌, min, ◌++◌, ◌∷◌, ℕ, Bool, true, false, not, List, [], length, map, Ok}
+use Rattle.lsv_disk.specs.View.{DiskView}
+use Rattle.lsv_disk.specs.declared.file.Part.TheVariants.{Exit as ExitPart}
+use Rattle.lsv_info.specs.Reading.{exit_of}
+use Rattle.lsv_info.specs.declared.times.Exit.{Exit}
+use Rattle.lsv_iolog.specs.Reading.{IsWhole, ViewState, committed_text}
+use Rattle.lsv_msg.specs.declared.messages.ClientMessage.{ClientMessage}
+use Rattle.lsv_record.specs.Records.{elapsed}
+use Rattle.lsv_record.specs.declared.records.Record.{Record}
+use Rattle.lsv_request.specs.Stored.{exit_message, record_message}
+use Rattle.lsv_relay.specs.Talk.{Talk, begun}
+use Rattle.lsv_relay.specs.Talks.{HasLog, IsWay, Way, opening_of, resumes, sent_before, skipped}
+use Rattle.lsv_relay.specs.Value.{IsQuiet, RelayView, is_broken, state_of, talk_of}
+use Rattle.lsv_relay.specs.declared.relay.Place.{Place}
+use Rattle.lsv_relay.specs.declared.relay.Place.TheVariants as places
+
+-- a connection started: the log was opened, the records that are passed over were read, and these are its opening
+pub record HasStarted (old new : RelayView) (opening : List ClientMessage) (disk : DiskView) : Type 0 where
+  pub view : ViewState
+  pub way : Way
+  pub records : List Record
+  pub log : HasLog old.number view records disk
+  pub is_way : IsWay (state_of old) old.number disk records way
+  pub passed : length records ≡ skipped way
+  pub at : new.at ≡ places.Sends view
+  pub opening_is : opening ≡ opening_of way view.head
+  pub total : new.meter.total ≡ view.body.elapsed
+  pub waits : new.meter.waits ≡ not (resumes way)
+  pub talk_is : talk_of new ≡ begun (state_of old) (resumes way) (sent_before way)
+
+-- these are the messages of the next records, after those that were read
+pub record GivesRecords (old new : RelayView) (view next : ViewState) (after : DiskView) (messages : List ClientMessage) (records : List Record) : Type 0 where
+  pub at : new.at ≡ places.Sends next
+  pub more : List Record
+  pub messages_are : messages ≡ map record_message more
+  pub log : HasLog old.number next (records ++ more) after
+  pub same : (next.head ≡ view.head) × (next.body ≡ view.body)
+  pub meter : new.meter ≡ record old.meter { sent = min (old.meter.sent + elapsed more) (2 ^ 64 - 1) }
+
+-- this is the message of the exit, after all records
+pub record GivesExit (old new : RelayView) (view next : ViewState) (after : DiskView) (messages : List ClientMessage) (records : List Record) : Type 0 where
+  pub at : new.at ≡ places.Over
+  pub exit : Exit
+  pub messages_are : messages ≡ exit_message exit ∷ []
+  pub exit_is : exit_of (committed_text old.number view.body after ExitPart) ≡ Ok exit
+  pub log : HasLog old.number next records after
+  pub whole : IsWhole next records after
+  pub same : (next.head ≡ view.head) × (next.body ≡ view.body)
+  pub meter : new.meter ≡ record old.meter { ended = true }
+
+-- a message was taken: the connection is this far, and its transcript stands where it stood
+pub record HasTaken (old new : RelayView) (talk : Talk) (waits : Bool) : Type 0 where
+  pub talk_is : talk_of new ≡ talk
+  pub waits_is : new.meter.waits ≡ waits
+  pub total : new.meter.total ≡ old.meter.total
+  pub whole : is_broken new ≡ false
+
+-- of the same log, and the transcript stands where it stood
+pub record IsSamePlace (old new : RelayView) : Type 0 where
+  pub number : new.number ≡ old.number
+  pub at : new.at ≡ old.at
+
+-- records are still sent
+abbrev pub IsSending : Place → Type 0
+IsSending places.Idle = ⊥
+IsSending places.Starts = ⊥
+IsSending (places.Sends view) = Unit {0}
+IsSending places.Over = ⊥
+
+-- the log that is read has this number
+abbrev pub IsLogOf : ℕ → Place → Type 0
+IsLogOf n places.Idle = Unit {0}
+IsLogOf n places.Starts = Unit {0}
+IsLogOf n (places.Sends view) = view.number ≡ n
+IsLogOf n places.Over = Unit {0}
+
+-- what is kept, and the log that is read, are of the relay's number
+abbrev pub IsRelay : RelayView → Type 0
+IsRelay relay = (relay.keeping.number ≡ relay.number) × IsLogOf relay.number relay.at
+
+-- nothing more may be sent yet, and nothing was done; or the next records were read, or the exit
+abbrev pub Answers : (old new : RelayView) (before after : DiskView) (messages : List ClientMessage) → Type 0
+Answers old new before after messages =
+    (IsQuiet old × (messages ≡ []) × (new ≡ old))
+    ⊎ ((view next : ViewState) × (old.at ≡ places.Sends view) × (old.meter.waits ≡ false)
+    × ((records : List Record) → HasLog old.number view records before → GivesRecords old new view next after messages records ⊎ GivesExit old new view next after messages records))

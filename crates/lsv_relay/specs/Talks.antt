@@ -1,0 +1,154 @@
+-- What a relay has said on a connection, by the records that it read of the log, and what was kept at each moment.
+use Rattle.std.specs.Prelude.{◌≡◌, ◌≤◌, ℕ, ◌+◌, Bool, true, false, not, ◌&&◌, List, [], ◌∷◌, ◌++◌, length, take, drop, map, Option, Some, None, Ok}
+use Rattle.std.specs.List.{list_any}
+use Rattle.lsv_bundle.specs.Committed.{HasEntry}
+use Rattle.lsv_bundle.specs.declared.body.Body.{Body}
+use Rattle.lsv_dialogue.specs.Events.{Event, heard, said}
+use Rattle.lsv_disk.specs.Throughout.{Throughout}
+use Rattle.lsv_disk.specs.View.{DiskView, Image, IsCrashImage}
+use Rattle.lsv_disk.specs.declared.file.Part.TheVariants.{Exit as ExitPart, Head as HeadPart}
+use Rattle.lsv_info.specs.Reading.{exit_of, head_of}
+use Rattle.lsv_info.specs.declared.times.Exit.{Exit}
+use Rattle.lsv_info.specs.declared.times.Head.{Head}
+use Rattle.lsv_iolog.specs.Reading.{IsBehind, IsWhole, ViewState, committed_laid, committed_text}
+use Rattle.lsv_iolog.specs.Recovered as logs
+use Rattle.lsv_kept.specs.Kept.{IsOfRelay, IsOneOf, Keeps}
+use Rattle.lsv_kept.specs.declared.state.State.{State}
+use Rattle.lsv_kept.specs.declared.state.State.TheVariants as states
+use Rattle.lsv_msg.specs.declared.messages.ClientMessage.{ClientMessage}
+use Rattle.lsv_msg.specs.declared.messages.ServerMessage.{ServerMessage}
+use Rattle.lsv_record.specs.Layout.{Begins, IsLayout}
+use Rattle.lsv_record.specs.Points.{first}
+use Rattle.lsv_record.specs.Records.{elapsed}
+use Rattle.lsv_record.specs.declared.records.Record.{Record}
+use Rattle.lsv_request.specs.Stored.{exit_message, head_message, record_message}
+use Rattle.lsv_transcript.specs.Transcript.{hello_message, is_id, restart_message}
+use Rattle.lsv_relay.specs.Talk.{Talk, begun, goes_on, hears_any}
+use Rattle.lsv_relay.specs.Value.{IsStarted, RelayView, Stands, state_of, talk_of}
+use Rattle.lsv_relay.specs.declared.relay.Place.{Place}
+use Rattle.lsv_relay.specs.declared.relay.Place.TheVariants as places
+
+-- ---- How a connection opens
+
+-- it asks the upstream to go on with a log after its first n records, which end at the point; or it sends the log whole
+pub data Way : Type 0 where
+  Resumes : (id : List ℕ) (point n : ℕ) → Way
+  Anew : Way
+
+-- the messages that open it
+abbrev pub opening_of : Way → Head → List ClientMessage
+opening_of (Resumes id point n) head = hello_message ∷ restart_message id point ∷ []
+opening_of Anew head = hello_message ∷ head_message head ∷ []
+
+abbrev pub resumes : Way → Bool
+resumes (Resumes id point n) = true
+resumes Anew = false
+
+-- the number of records that are passed over
+abbrev pub skipped : Way → ℕ
+skipped (Resumes id point n) = n
+skipped Anew = 0
+
+-- and their elapsed time
+abbrev pub sent_before : Way → ℕ
+sent_before (Resumes id point n) = point
+sent_before Anew = 0
+
+-- these are all records of the log, as its files read
+pub record AreAllOf (n : ℕ) (disk : DiskView) (records : List Record) : Type 0 where
+  pub body : Body
+  pub entry : HasEntry (logs.owner_of n) body disk.reads
+  pub begins : Begins (committed_laid n body disk) records
+  pub layout : IsLayout (committed_laid n body disk) records
+  pub count : body.count ≡ length records
+  pub time : body.elapsed ≡ elapsed records
+
+-- it goes on at the kept point if a record ends there; else none of all records of the log ends there
+abbrev pub IsWay : (state : State) (n : ℕ) (disk : DiskView) (records : List Record) → Way → Type 0
+IsWay state n disk records (Resumes id point skipped) = (state ≡ states.Kept (record { id = id; point = Some point })) × (first records point ≡ Some skipped)
+IsWay state n disk records Anew = (id : List ℕ) (point : ℕ) → state ≡ states.Kept (record { id = id; point = Some point }) → (rs : List Record) → AreAllOf n disk rs → first rs point ≡ None
+
+-- ---- What was kept at each moment
+
+-- what was kept after each of the events so far
+abbrev pub states_of : (total : ℕ) → Talk → List Event → ℕ → State
+states_of total talk events j = (goes_on total (take j events) talk).state
+
+-- since that disk each crash image of each moment keeps the state after some events, or after one more, or nothing: of more events at later moments
+pub record InOrder (n : ℕ) (began disk : DiskView) (after : ℕ → State) (many : ℕ) : Type 0 where
+  pub frame : Throughout (IsOfRelay n) (λ image. Unit {0}) began disk
+  -- the number of events before a moment
+  pub place : ℕ → ℕ
+  pub order : (k m : ℕ) → k ≤ m → place k ≤ place m
+  pub within : (k : ℕ) → place k ≤ many
+  pub each : (k : ℕ) (image : Image) → began.moment ≤ k → k ≤ disk.moment → disk.crash_images_at k image → IsOneOf n (after (place k)) (after (place k + 1)) image
+
+-- a crash leaves what is kept
+abbrev pub IsDurable : ℕ → State → DiskView → Type 0
+IsDurable n state disk = (image : Image) → IsCrashImage disk image → Keeps n image state
+
+-- if a crash left the first state before, the image keeps this or the other one, or nothing
+abbrev pub KeepsOneOf : ℕ → State → State → DiskView → Image → Type 0
+KeepsOneOf n before after disk image = IsDurable n before disk → IsOneOf n before after image
+
+-- ---- What was said
+
+-- a complete log as its files read, of which these records were read
+pub record HasLog (n : ℕ) (view : ViewState) (records : List Record) (disk : DiskView) : Type 0 where
+  pub number : view.number ≡ n
+  pub entry : HasEntry (logs.owner_of n) view.body disk.reads
+  pub complete : view.body.kind ≡ 3
+  pub head : head_of (committed_text n view.body disk HeadPart) ≡ Ok view.head
+  pub behind : IsBehind view records disk
+
+-- the log as its files read, and what was said of it: the opening, the records that were read after those passed over, and this ending
+pub record IsSaid (began : DiskView) (state : State) (relay : RelayView) (view : ViewState) (disk : DiskView) (events : List Event) (ending : List ClientMessage) : Type 0 where
+  pub records : List Record
+  pub log : HasLog relay.number view records disk
+  pub way : Way
+  pub is_way : IsWay state relay.number disk records way
+  pub total : relay.meter.total ≡ view.body.elapsed
+  pub sent : relay.meter.sent ≡ elapsed records
+  pub said_is : said events ≡ opening_of way view.head ++ (map record_message (drop (skipped way) records) ++ ending)
+  pub waits : relay.meter.waits ≡ (not (resumes way) && not (list_any is_id (heard events)))
+  pub none_yet : relay.meter.waits ≡ true → records ≡ []
+  pub talk_is : talk_of relay ≡ goes_on view.body.elapsed events (begun state (resumes way) (sent_before way))
+  pub moments : InOrder relay.number began disk (states_of view.body.elapsed (begun state (resumes way) (sent_before way)) events) (length events)
+
+-- all of the log was said, and its exit
+pub record IsAllSaid (began : DiskView) (state : State) (relay : RelayView) (disk : DiskView) (events : List Event) : Type 0 where
+  pub view : ViewState
+  pub exit : Exit
+  pub is : IsSaid began state relay view disk events (exit_message exit ∷ [])
+  pub whole : IsWhole view is.records disk
+  pub exit_is : exit_of (committed_text relay.number view.body disk ExitPart) ≡ Ok exit
+  pub heard_id : relay.meter.waits ≡ false
+
+-- nothing was said or heard, and each crash image keeps what was kept
+pub record IsUnsaid (began : DiskView) (state : State) (relay : RelayView) (disk : DiskView) (events : List Event) : Type 0 where
+  pub none : events ≡ []
+  pub same : state_of relay ≡ state
+  pub moments : Throughout (IsOfRelay relay.number) (λ image. Keeps relay.number image state) began disk
+
+abbrev pub TalksAt : (began : DiskView) (state : State) (relay : RelayView) (disk : DiskView) (events : List Event) → Place → Type 0
+TalksAt began state relay disk events places.Idle = ⊥
+TalksAt began state relay disk events places.Starts = IsUnsaid began state relay disk events
+TalksAt began state relay disk events (places.Sends view) = IsSaid began state relay view disk events []
+TalksAt began state relay disk events places.Over = IsAllSaid began state relay disk events
+
+-- a connection that began on that disk with this kept: what was heard and said since made the relay, and what the disk keeps, what they are
+pub record Talks (began : DiskView) (state : State) (relay : RelayView) (disk : DiskView) (events : List Event) : Type 0 where
+  pub whole : relay.keeping.broken ≡ false
+  pub stands : Stands relay disk
+  pub durable : IsDurable relay.number (state_of relay) disk
+  pub at : TalksAt began state relay disk events relay.at
+
+-- ---- One step
+
+-- a step with this message, if there is one, kept what hearing it makes of what was kept: each crash image of each moment keeps the one or the other, or nothing
+pub record KeptThrough (old : RelayView) (got : Option ServerMessage) (before after : DiskView) : Type 0 where
+  pub total : ℕ
+  pub talk : Talk
+  pub same : talk.state ≡ state_of old
+  pub started : IsStarted old.at → (talk ≡ talk_of old) × (total ≡ old.meter.total)
+  pub run : Throughout (IsOfRelay old.number) (KeepsOneOf old.number (state_of old) (hears_any total got talk).state before) before after

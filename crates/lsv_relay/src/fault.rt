@@ -1,0 +1,54 @@
+use lsv_base::NoMem;
+use lsv_bundle::BundleFault;
+use lsv_iolog::LogFault;
+use thiserror::Error;
+
+/// Why a call of a relay failed. Each call gives only those that it names.
+#[derive(Clone, Copy, Debug, PartialEq, Eq, Error)]
+pub enum RelayFault {
+    /// The log has no exit yet.
+    #[error("the log is not complete")]
+    Incomplete,
+    /// The log is absent or damaged, or a read of it failed.
+    #[error("{0}")]
+    Log(LogFault),
+    /// What is kept of the relaying is damaged, or a device call on its files failed.
+    #[error("{0}")]
+    State(BundleFault),
+    /// Out of memory.
+    #[error("out of memory")]
+    NoMem,
+}
+
+impl From<NoMem> for RelayFault {
+    ghost use Rattle.std.specs.Prelude.{◌≡◌};
+    ghost use Rattle.lsv_relay.specs.declared.fault.RelayFault.TheVariants as faults;
+
+    ghost from_gives = { λ _ fault. fault ≡ faults.NoMem };
+
+    fn from(_: NoMem) -> Self {
+        RelayFault::NoMem
+    }
+}
+
+impl From<LogFault> for RelayFault {
+    ghost use Rattle.std.specs.Prelude.{◌≡◌};
+    ghost use Rattle.lsv_relay.specs.declared.fault.RelayFault.TheVariants as faults;
+
+    ghost from_gives = { λ fault given. given ≡ faults.Log fault };
+
+    fn from(fault: LogFault) -> Self {
+        RelayFault::Log(fault)
+    }
+}
+
+impl From<BundleFault> for RelayFault {
+    ghost use Rattle.std.specs.Prelude.{◌≡◌};
+    ghost use Rattle.lsv_relay.specs.declared.fault.RelayFault.TheVariants as faults;
+
+    ghost from_gives = { λ fault given. given ≡ faults.State fault };
+
+    fn from(fault: BundleFault) -> Self {
+        RelayFault::State(fault)
+    }
+}
