@@ -239,12 +239,12 @@ module _ {D : Type 0} (tells links : Type 0) (view : D → DiskView) (began disk
   BrokeBy fault = Ran links host link link' (λ conn. Broke Spoken Broken links before after conn fault)
 
   -- what the conversation says of its end, and what is answered of it
-  record Talked (end : Result End (TalkFault RelayFault)) (answer : Result RelayEnd RelayFault) : Type 0 where
-    told : IsTold done (is_broken relay) end answer
-    ended : IfOk end WentTo
-    broke : IfErr end BrokeBy
+  pub record Talked (end : Result End (TalkFault RelayFault)) (answer : Result RelayEnd RelayFault) : Type 0 where
+    pub told : IsTold done (is_broken relay) end answer
+    pub ended : IfOk end WentTo
+    pub broke : IfErr end BrokeBy
 
-  talked_of : (begun : RelayView) (end : Result End (TalkFault RelayFault)) (answer : Result RelayEnd RelayFault) → IsTold done (is_broken relay) end answer
+  pub talked_of : (begun : RelayView) (end : Result End (TalkFault RelayFault)) (answer : Result RelayEnd RelayFault) → IsTold done (is_broken relay) end answer
       → IfOk end (λ e. (start : D × RelayView) → Spoke tells view start.0 start.1.number (state_of start.1) begun began [] → Ran links host link link' (λ conn. Ended (Spoke tells view start.0 start.1.number (state_of start.1) relay disk) judge done quiet links before after conn e))
       → IfErr end (λ f. (start : D × RelayView) → Spoke tells view start.0 start.1.number (state_of start.1) begun began []
       → Ran links host link link' (λ conn. Broke (Spoke tells view start.0 start.1.number (state_of start.1) relay disk) (BreaksOff tells view start.0 start.1.number (state_of start.1) relay disk) links before after conn f))
@@ -252,12 +252,12 @@ module _ {D : Type 0} (tells links : Type 0) (view : D → DiskView) (began disk
   talked_of begun (Ok e) answer told ended broke begins = record { told = told; ended = ended (began, old) begins; broke = tt }
   talked_of begun (Err f) answer told ended broke begins = record { told = told; ended = tt; broke = broke (began, old) begins }
 
-  ended_clause : (end : Result End (TalkFault RelayFault)) (answer : Result RelayEnd RelayFault) → Talked end answer → IfOk answer (λ a. (e : End) × (a ≡ end_of done e) × WentTo e)
+  pub ended_clause : (end : Result End (TalkFault RelayFault)) (answer : Result RelayEnd RelayFault) → Talked end answer → IfOk answer (λ a. (e : End) × (a ≡ end_of done e) × WentTo e)
   ended_clause (Ok e) answer t = subst (λ (r : Result RelayEnd RelayFault). IfOk r (λ a. (e : End) × (a ≡ end_of done e) × WentTo e)) (sym t.told) (e, refl, t.ended)
   ended_clause (Err talks.NoMem) answer t = subst (λ (r : Result RelayEnd RelayFault). IfOk r (λ a. (e : End) × (a ≡ end_of done e) × WentTo e)) (sym t.told) tt
   ended_clause (Err (talks.Speaker fault)) answer t = subst (λ (r : Result RelayEnd RelayFault). IfOk r (λ a. (e : End) × (a ≡ end_of done e) × WentTo e)) (sym t.told) tt
 
-  broke_clause : (end : Result End (TalkFault RelayFault)) (answer : Result RelayEnd RelayFault) → Talked end answer
+  pub broke_clause : (end : Result End (TalkFault RelayFault)) (answer : Result RelayEnd RelayFault) → Talked end answer
       → IfErr answer (λ a. (fault : TalkFault RelayFault) × IsTold done (is_broken relay) (Err fault) (Err a) × BrokeBy fault)
   broke_clause (Ok e) answer t = subst (λ (r : Result RelayEnd RelayFault). IfErr r (λ a. (fault : TalkFault RelayFault) × IsTold done (is_broken relay) (Err fault) (Err a) × BrokeBy fault)) (sym t.told) tt
   broke_clause (Err talks.NoMem) answer t =
@@ -275,7 +275,7 @@ module _ {D : Type 0} (tells links : Type 0) (view : D → DiskView) (began disk
   over_done ends.Over went is = went.went.cause.0
   over_done (ends.Stopped cause) went is = absurd (cc)
 
-  done_clause : (end : Result End (TalkFault RelayFault)) (answer : Result RelayEnd RelayFault) → Talked end answer → IfOk answer (λ a. (a ≡ relays.Done) ↔ (done ≡ true))
+  pub done_clause : (end : Result End (TalkFault RelayFault)) (answer : Result RelayEnd RelayFault) → Talked end answer → IfOk answer (λ a. (a ≡ relays.Done) ↔ (done ≡ true))
   done_clause (Ok e) answer t = subst (λ (r : Result RelayEnd RelayFault). IfOk r (λ a. (a ≡ relays.Done) ↔ (done ≡ true))) (sym t.told) (done_end done e (over_done e t.ended))
   done_clause (Err talks.NoMem) answer t = subst (λ (r : Result RelayEnd RelayFault). IfOk r (λ a. (a ≡ relays.Done) ↔ (done ≡ true))) (sym t.told) tt
   done_clause (Err (talks.Speaker fault)) answer t = subst (λ (r : Result RelayEnd RelayFault). IfOk r (λ a. (a ≡ relays.Done) ↔ (done ≡ true))) (sym t.told) tt
@@ -294,7 +294,7 @@ module _ {D : Type 0} (tells links : Type 0) (view : D → DiskView) (began disk
       λ is. ap is_done (once old.number (view disk).reads (state_of relay) states.Done keeps ((marked old.number (view disk).reads).0 is)),
     )
 
-    marked_clause : (end : Result End (TalkFault RelayFault)) (answer : Result RelayEnd RelayFault) → Talked end answer → tells → IfOk answer (λ a. (a ≡ relays.Done) ↔ Marked)
+    pub marked_clause : (end : Result End (TalkFault RelayFault)) (answer : Result RelayEnd RelayFault) → Talked end answer → tells → IfOk answer (λ a. (a ≡ relays.Done) ↔ Marked)
     marked_clause (Ok e) answer t told =
         let keeps = keeps_now t.ended.went.events t.ended.went.talks told in
         let ends_so = done_end done e (over_done e t.ended) in
@@ -315,7 +315,7 @@ module _ {D : Type 0} (tells links : Type 0) (view : D → DiskView) (began disk
           let here : Keeps old.number (view disk).reads (state_of relay) = subst (λ (k : ℕ). Keeps k (view disk).reads (state_of relay)) (own ∙ b.number) keeps in
           not_done undone (once old.number (view disk).reads (state_of relay) states.Done here ((marked old.number (view disk).reads).0 is))
 
-      unmarked_clause : (end : Result End (TalkFault RelayFault)) (answer : Result RelayEnd RelayFault) → Talked end answer → tells → IfErr answer (λ a. IsPlain a → Marked → ⊥)
+      pub unmarked_clause : (end : Result End (TalkFault RelayFault)) (answer : Result RelayEnd RelayFault) → Talked end answer → tells → IfErr answer (λ a. IsPlain a → Marked → ⊥)
       unmarked_clause (Ok e) answer t told = subst (λ (r : Result RelayEnd RelayFault). IfErr r (λ a. IsPlain a → Marked → ⊥)) (sym t.told) tt
       unmarked_clause (Err talks.NoMem) answer t told = subst (λ (r : Result RelayEnd RelayFault). IfErr r (λ a. IsPlain a → Marked → ⊥)) (sym t.told) (λ plain is. plain.0 refl)
       unmarked_clause (Err (talks.Speaker fault)) answer t told =
@@ -323,12 +323,12 @@ module _ {D : Type 0} (tells links : Type 0) (view : D → DiskView) (began disk
           (told_is done (is_broken relay) (λ a. IsPlain a → Marked → ⊥) (λ plain is. plain.0 refl) (λ plain is. plain.1 refl) (λ plain is. plain.2 refl)
           (λ undone whole f plain is. unmarked_if t.broke.went.events fault t.broke.went.fails told undone whole is) fault)
 
-  touches_clause : (end : Result End (TalkFault RelayFault)) (answer : Result RelayEnd RelayFault) → Talked end answer → tells → Touches old.number (view began) (view disk)
+  pub touches_clause : (end : Result End (TalkFault RelayFault)) (answer : Result RelayEnd RelayFault) → Talked end answer → tells → Touches old.number (view began) (view disk)
   touches_clause (Ok e) answer t told = spoke_touches tells view began old.number (state_of old) relay disk t.ended.went.events t.ended.went.talks told
   touches_clause (Err talks.NoMem) answer t told = spoke_touches tells view began old.number (state_of old) relay disk t.broke.went.events t.broke.went.fails told
   touches_clause (Err (talks.Speaker fault)) answer t told = breaks_touches tells view began old.number (state_of old) relay disk t.broke.went.events fault t.broke.went.fails told
 
-  log_clause : (end : Result End (TalkFault RelayFault)) (answer : Result RelayEnd RelayFault) → Talked end answer → HasOwnCause (IsOfLog old.number) (IsErrOf answer (faults.Log logs.Disk)) (view began) (view disk)
+  pub log_clause : (end : Result End (TalkFault RelayFault)) (answer : Result RelayEnd RelayFault) → Talked end answer → HasOwnCause (IsOfLog old.number) (IsErrOf answer (faults.Log logs.Disk)) (view began) (view disk)
   log_clause (Ok e) answer t = record { monotone = t.ended.went.talks.0.monotone; risen = λ is. absurd (let x : Ok (end_of done e) ≡ Err (faults.Log logs.Disk) = sym t.told ∙ is in cc) }
   log_clause (Err talks.NoMem) answer t = record { monotone = t.broke.went.fails.0.monotone; risen = λ is. absurd (let e : Err faults.NoMem ≡ Err (faults.Log logs.Disk) = sym t.told ∙ is in cc) }
   log_clause (Err (talks.Speaker fault)) answer t = record {
@@ -336,7 +336,7 @@ module _ {D : Type 0} (tells links : Type 0) (view : D → DiskView) (began disk
     risen = λ is. t.broke.went.fails.causes.log.risen (log_told done (is_broken relay) fault (let e : Err (told_of done (is_broken relay) fault) ≡ Err (faults.Log logs.Disk) = sym t.told ∙ is in cc));
   }
 
-  state_clause : (end : Result End (TalkFault RelayFault)) (answer : Result RelayEnd RelayFault) → Talked end answer → HasOwnCause (IsOfRelay old.number) (IsErrOf answer (faults.State bundles.Disk)) (view began) (view disk)
+  pub state_clause : (end : Result End (TalkFault RelayFault)) (answer : Result RelayEnd RelayFault) → Talked end answer → HasOwnCause (IsOfRelay old.number) (IsErrOf answer (faults.State bundles.Disk)) (view began) (view disk)
   state_clause (Ok e) answer t = record { monotone = t.ended.went.talks.0.monotone; risen = λ is. absurd (let x : Ok (end_of done e) ≡ Err (faults.State bundles.Disk) = sym t.told ∙ is in cc) }
   state_clause (Err talks.NoMem) answer t = record { monotone = t.broke.went.fails.0.monotone; risen = λ is. absurd (let e : Err faults.NoMem ≡ Err (faults.State bundles.Disk) = sym t.told ∙ is in cc) }
   state_clause (Err (talks.Speaker fault)) answer t = record {
@@ -344,40 +344,6 @@ module _ {D : Type 0} (tells links : Type 0) (view : D → DiskView) (began disk
     risen = λ is. t.broke.went.fails.causes.state.risen (state_told done (is_broken relay) fault (let e : Err (told_of done (is_broken relay) fault) ≡ Err (faults.State bundles.Disk) = sym t.told ∙ is in cc));
   }
 
-  continues_clause : (end : Result End (TalkFault RelayFault)) (answer : Result RelayEnd RelayFault) → Talked end answer → Continues before after
+  pub continues_clause : (end : Result End (TalkFault RelayFault)) (answer : Result RelayEnd RelayFault) → Talked end answer → Continues before after
   continues_clause (Ok e) answer t = t.ended.went.matches.continues
   continues_clause (Err fault) answer t = t.broke.went.matches.continues
-
-  -- all that is answered of one connection
-  pub record Answered (answer : Result RelayEnd RelayFault) : Type 0 where
-    pub ends : IfOk answer (λ a. (a ≡ relays.Done) ↔ (done ≡ true))
-    pub went : IfOk answer (λ a. (e : End) × (a ≡ end_of done e) × WentTo e)
-    pub broke_off : IfErr answer (λ a. (fault : TalkFault RelayFault) × IsTold done (is_broken relay) (Err fault) (Err a) × BrokeBy fault)
-    pub marks : tells → IfOk answer (λ a. (a ≡ relays.Done) ↔ IsMarked old.number (view disk).reads)
-    pub leaves_unmarked : tells → IfErr answer (λ a. IsPlain a → IsMarked old.number (view disk).reads → ⊥)
-    pub touches : tells → Touches old.number (view began) (view disk)
-    pub log : HasOwnCause (IsOfLog old.number) (IsErrOf answer (faults.Log logs.Disk)) (view began) (view disk)
-    pub state : HasOwnCause (IsOfRelay old.number) (IsErrOf answer (faults.State bundles.Disk)) (view began) (view disk)
-    pub continues : Continues before after
-
-  answered_by : (once : (n : ℕ) (image : Image) (one two : State) → Keeps n image one → Keeps n image two → one ≡ two) (marked : (n : ℕ) (image : Image) → IsMarked n image ↔ Keeps n image states.Done) (now : tells → IsCrashImage (view disk) (view disk).reads)
-      (own : relay.keeping.number ≡ relay.number) (left : Leaves relay (view disk)) (end : Result End (TalkFault RelayFault)) (answer : Result RelayEnd RelayFault) → Talked end answer → Answered answer
-  answered_by once marked now own left end answer t = record {
-    ends = done_clause end answer t;
-    went = ended_clause end answer t;
-    broke_off = broke_clause end answer t;
-    marks = marked_clause once marked now end answer t;
-    leaves_unmarked = unmarked_clause once marked now own left end answer t;
-    touches = touches_clause end answer t;
-    log = log_clause end answer t;
-    state = state_clause end answer t;
-    continues = continues_clause end answer t;
-  }
-
-  pub answered : (once : (n : ℕ) (image : Image) (one two : State) → Keeps n image one → Keeps n image two → one ≡ two) (marked : (n : ℕ) (image : Image) → IsMarked n image ↔ Keeps n image states.Done) (now : tells → IsCrashImage (view disk) (view disk).reads)
-      (own : relay.keeping.number ≡ relay.number) (left : Leaves relay (view disk)) (begun : RelayView) (end : Result End (TalkFault RelayFault)) (answer : Result RelayEnd RelayFault) → IsTold done (is_broken relay) end answer
-      → IfOk end (λ e. (start : D × RelayView) → Spoke tells view start.0 start.1.number (state_of start.1) begun began [] → Ran links host link link' (λ conn. Ended (Spoke tells view start.0 start.1.number (state_of start.1) relay disk) judge done quiet links before after conn e))
-      → IfErr end (λ f. (start : D × RelayView) → Spoke tells view start.0 start.1.number (state_of start.1) begun began []
-      → Ran links host link link' (λ conn. Broke (Spoke tells view start.0 start.1.number (state_of start.1) relay disk) (BreaksOff tells view start.0 start.1.number (state_of start.1) relay disk) links before after conn f))
-      → Spoke tells view began old.number (state_of old) begun began [] → Answered answer
-  answered once marked now own left begun end answer told ended broke begins = answered_by once marked now own left end answer (talked_of begun end answer told ended broke begins)
