@@ -58,7 +58,7 @@ help: ## list these targets
 
 prove build: ## prove and build both programs (an hour or more at first)
 	@bash tools/prove sudo_logsrvd once -f data/conf
-	@bash tools/prove sudoreplay -d store -l
+	@bash tools/prove sudoreplay -d data/store -l
 
 $(QUICK)/sudo_logsrvd: $(SOURCES) tools/quick-build
 	@bash tools/quick-build $(QUICK) sudo_logsrvd sudoreplay
