@@ -13,7 +13,7 @@ use Rattle.lsv_dialogue.specs.declared.put.Batch.{Batch}
 use Rattle.lsv_dialogue.specs.declared.talk.Halt.{Halt}
 use Rattle.lsv_dialogue.specs.declared.talk.Halt.TheVariants as halts
 use Rattle.lsv_dialogue.proofs.FrameLemmas.{frames_append}
-use Rattle.lsv_dialogue.proofs.PutLemmas.{by_part, sendable_append}
+use Rattle.lsv_dialogue.proofs.PutLemmas.{by_part, bytes_most, sendable_append, up_to_less}
 
 pub whole_none : (bytes : List ℕ) → bytes ≡ [] → PutsWhole (Unit {0}) bytes []
 whole_none bytes e = record { sendable = tt; bytes = λ t. e }
@@ -96,8 +96,13 @@ part_front bytes front ms (rest, is) p = record {
 }
 
 -- the link took no more
-pub put_halted : (tells whole : Type 0) (halt : Halt) (ms : List ClientMessage) (batch : Batch) (a b : LinkState) → IsBatch ms batch → WritesFront tells whole batch.bytes a b → ((n : ℕ) → halt ≡ halts.TooLong n → ⊥) → PutsMore (Some halt) tells ms a b
-put_halted tells whole halt ms batch a b is w other = record { bytes = w.front; puts = go halt other; wrote = w.wrote }
+pub put_halted : (tells whole : Type 0) (halt : Halt) (ms : List ClientMessage) (batch : Batch) (a b : LinkState) → IsBatch ms batch → WritesFront tells whole batch.bytes a b → (whole → ⊥) → ((n : ℕ) → halt ≡ halts.TooLong n → ⊥) → PutsMore (Some halt) tells ms a b
+put_halted tells whole halt ms batch a b is w not other = record {
+  bytes = w.front;
+  puts = go halt other;
+  less = λ h e. let less = w.less not in let most = bytes_most batch.bytes ms (batch_part ms batch batch.too_long refl is) in omega (arith, less, most);
+  wrote = w.wrote;
+}
   where
     part : PutsPart (Unit {0}) w.front ms
     part = part_front batch.bytes w.front ms w.is (batch_part ms batch batch.too_long refl is)
@@ -109,10 +114,10 @@ put_halted tells whole halt ms batch a b is w other = record { bytes = w.front; 
 
 -- all was written
 pub put_whole : (tells whole : Type 0) (ms : List ClientMessage) (batch : Batch) (a b : LinkState) → IsBatch ms batch → batch.too_long ≡ None → WritesFront tells whole batch.bytes a b → whole → PutsMore None tells ms a b
-put_whole tells whole ms batch a b is e w all = record { bytes = batch.bytes; puts = batch_whole ms batch e is; wrote = λ t. subst (λ (x : List ℕ). Writes x a b) (w.all all) (w.wrote t) }
+put_whole tells whole ms batch a b is e w all = record { bytes = batch.bytes; puts = batch_whole ms batch e is; less = λ h e. absurd cc; wrote = λ t. subst (λ (x : List ℕ). Writes x a b) (w.all all) (w.wrote t) }
 
 pub put_up_to : (tells whole : Type 0) (n : ℕ) (ms : List ClientMessage) (batch : Batch) (a b : LinkState) → IsBatch ms batch → batch.too_long ≡ Some n → WritesFront tells whole batch.bytes a b → whole → PutsMore (Some (halts.TooLong n)) tells ms a b
-put_up_to tells whole n ms batch a b is e w all = record { bytes = batch.bytes; puts = batch_up_to n ms batch e is; wrote = λ t. subst (λ (x : List ℕ). Writes x a b) (w.all all) (w.wrote t) }
+put_up_to tells whole n ms batch a b is e w all = record { bytes = batch.bytes; puts = batch_up_to n ms batch e is; less = λ h k. up_to_less n batch.bytes ms (batch_up_to n ms batch e is); wrote = λ t. subst (λ (x : List ℕ). Writes x a b) (w.all all) (w.wrote t) }
 
 -- one that is too long, whatever its length, ends the batch
 pub batch_ended_by : (ms : List ClientMessage) (i : ℕ) (m : ClientMessage) (batch : Batch) → i < length ms → m ≡ get_or ms i m → IsSome batch.too_long → IsBatch (take i ms ++ m ∷ []) batch → IsBatch ms batch
@@ -125,3 +130,9 @@ batch_ended_by ms i m batch lt e long b = go batch.too_long refl long
 pub none_of : {A : Type 0} (o : Option A) → is_some o ≡ false → o ≡ None
 none_of None e = refl
 none_of (Some x) e = absurd cc
+
+pub some_not_none : {A : Type 0} (x : A) (o : Option A) → o ≡ Some x → o ≡ None → ⊥
+some_not_none x o some none = let no : Some x ≡ None = sym some ∙ none in cc
+
+pub none_not_some : {A : Type 0} (x : A) → (let o : Option A = None in o) ≡ Some x → ⊥
+none_not_some x e = cc

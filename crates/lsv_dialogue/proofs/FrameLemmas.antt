@@ -1,5 +1,6 @@
 -- Frames are read, and written, one after another.
-use Rattle.std.proofs.Common.{◌≡◌, ◌++◌, ◌∷◌, List, [], ℕ, map, refl, sym, ◌∙◌, ap, append_assoc, append-nil, Ok}
+use Rattle.std.proofs.Common.{◌≡◌, ◌≤◌, ◌++◌, ◌∷◌, List, [], ℕ, length, map, refl, sym, ◌∙◌, ap, append_assoc, append-nil, length-append, arith, Ok}
+use Rattle.std.specs.Int.{w32, to_be_bytes}
 use Rattle.std.specs.List.{flat_map, AllByRecursion}
 use Rattle.lsv_wire.specs.Frame.{frame_of, IsMessage}
 use Rattle.lsv_msg.specs.Messages.{client_bytes, server_in}
@@ -47,3 +48,7 @@ hear_more input input' rest rest' more messages h i r = record {
 pub frames_append : (xs ys : List ClientMessage) → frames_of (xs ++ ys) ≡ frames_of xs ++ frames_of ys
 frames_append [] ys = refl
 frames_append (x ∷ xs) ys = ap (λ (b : List ℕ). frame_of (client_bytes x) ++ b) (frames_append xs ys) ∙ sym (append_assoc (frame_of (client_bytes x)) (frames_of xs) (frames_of ys))
+
+-- a frame has bytes
+pub frames_some : (m : ClientMessage) (ms : List ClientMessage) → 4 ≤ length (frames_of (m ∷ ms))
+frames_some m ms = omega (arith, length-append (frame_of (client_bytes m)) (frames_of ms), length-append (to_be_bytes w32 (length (client_bytes m))) (client_bytes m))

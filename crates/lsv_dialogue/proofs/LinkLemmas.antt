@@ -1,5 +1,5 @@
 -- What writing and reading make of a link.
-use Rattle.std.proofs.Common.{◌≡◌, ◌≤◌, ◌++◌, List, [], ℕ, refl, sym, ◌∙◌, ap, append_assoc, append-nil, arith, false, Option, Some, None, unwrap_or, option_map, take, drop}
+use Rattle.std.proofs.Common.{◌≡◌, ◌≢◌, ◌≤◌, ◌<◌, ◌++◌, List, [], ℕ, length, refl, sym, ◌∙◌, ap, append_assoc, append-nil, length-append, arith, false, Option, Some, None, unwrap_or, option_map, take, drop}
 use Rattle.lsv_words.specs.Causes.{HasRisen}
 use Rattle.std.proofs.lemmas.List.{take-append-drop}
 use Rattle.lsv_port.specs.declared.port.Gave.{Gave}
@@ -7,7 +7,7 @@ use Rattle.lsv_port.specs.declared.port.Gave.TheVariants as gave
 use Rattle.lsv_link.specs.declared.connection.Connection.{Connection}
 use Rattle.lsv_link.specs.Link.{Continues, IsConnected, LinkCounts, LinkState, after_write, open_of, unused, written_on}
 use Rattle.lsv_dialogue.specs.Ends.{StaysOpen}
-use Rattle.lsv_dialogue.specs.Stands.{IsHaltedBy, Writes, WritesFront, with_output}
+use Rattle.lsv_dialogue.specs.Stands.{HasLooked, HasPut, IsHaltedBy, Writes, WritesFront}
 use Rattle.lsv_dialogue.specs.declared.talk.Halt.{Halt}
 use Rattle.lsv_dialogue.specs.declared.talk.Halt.TheVariants as halts
 
@@ -37,21 +37,29 @@ halted_before a b c halts.NotYet y x = risen_before a.full b.full c.full y x.ful
 halted_before a b c halts.Failed y x = risen_before a.faults b.faults c.faults y x.faults
 halted_before a b c (halts.TooLong n) y x = tt
 
+-- a read after it, or writing after it
+pub looked_then : (came : Type 0) (a b c : LinkCounts) → HasLooked came b c → Continues a b → Continues a c
+looked_then came a b c h x = continues_then a b c x h.continues
+
+pub put_none : (took : Type 0) (a : LinkCounts) → HasPut took a a
+put_none took a = record { continues = continues_same a; full = λ t. refl; waits = refl }
+
+pub put_then : (took : Type 0) (a b c : LinkCounts) → HasPut (Unit {0}) a b → HasPut took b c → HasPut took a c
+put_then took a b c x y = record { continues = continues_then a b c x.continues y.continues; full = λ t. y.full t ∙ x.full tt; waits = y.waits ∙ x.waits }
+
+pub put_by : (took took' : Type 0) (a b : LinkCounts) → (took' → took) → HasPut took a b → HasPut took' a b
+put_by took took' a b f x = record { continues = x.continues; full = λ t. x.full (f t); waits = x.waits }
+
 -- ---- The open connection
 
 pub open_there : (s : LinkState) (conn : Connection) → s.now ≡ Some conn → open_of s ≡ conn
 open_there s conn e = ap (λ (o : Option Connection). unwrap_or o (unused [] false)) e
 
-state_there : (s : LinkState) (c : IsConnected s) → s ≡ record { past = s.past; now = Some (open_of s) }
-state_there s c =
-    let e : s.now ≡ Some (open_of s) = c.is_open ∙ ap (λ (x : Connection). Some x) (sym (open_there s c.conn c.is_open)) in
-    ap (λ (o : Option Connection). let t : LinkState = record { past = s.past; now = o } in t) e
-
 pub stays_same : (s : LinkState) → IsConnected s → StaysOpen s s
-stays_same s c = record { past = refl; host = refl; is_open = c.is_open ∙ ap (λ (x : Connection). Some x) (sym (open_there s c.conn c.is_open)) }
+stays_same s c = record { past = refl; missed = refl; host = refl; connected = refl; is_open = c.is_open ∙ ap (λ (x : Connection). Some x) (sym (open_there s c.conn c.is_open)) }
 
 pub stays_then : (a b c : LinkState) → StaysOpen a b → StaysOpen b c → StaysOpen a c
-stays_then a b c x y = record { past = y.past ∙ x.past; host = y.host ∙ x.host; is_open = y.is_open }
+stays_then a b c x y = record { past = y.past ∙ x.past; missed = y.missed ∙ x.missed; host = y.host ∙ x.host; connected = y.connected ∙ x.connected; is_open = y.is_open }
 
 pub stays_connected : (a b : LinkState) → StaysOpen a b → IsConnected b
 stays_connected a b x = record { conn = open_of b; is_open = x.is_open }
@@ -59,51 +67,67 @@ stays_connected a b x = record { conn = open_of b; is_open = x.is_open }
 -- ---- Writing
 
 pub writes_none : (s : LinkState) → IsConnected s → Writes [] s s
-writes_none s c = state_there s c ∙ ap (λ (o : List ℕ). let t : LinkState = record { past = s.past; now = Some (record (open_of s) { output = o }) } in t) (sym (append-nil (open_of s).output))
-
-open_written : (bytes : List ℕ) (a b : LinkState) → Writes bytes a b → open_of b ≡ with_output bytes (open_of a)
-open_written bytes a b w = ap open_of w
+writes_none s c = record { stays = stays_same s c; output = sym (append-nil (open_of s).output); input = refl }
 
 pub writes_more : (front more : List ℕ) (a b c : LinkState) → Writes front a b → Writes more b c → Writes (front ++ more) a c
-writes_more front more a b c x y =
-    let past : b.past ≡ a.past = ap (λ (s : LinkState). s.past) x in
-    let its : with_output more (open_of b) ≡ with_output (front ++ more) (open_of a) =
-    ap (with_output more) (open_written front a b x) ∙ ap (λ (o : List ℕ). record (open_of a) { output = o }) (append_assoc (open_of a).output front more) in
-    y ∙ (ap (λ (p : List Connection). let t : LinkState = record { past = p; now = Some (with_output more (open_of b)) } in t) past
-    ∙ ap (λ (k : Connection). let t : LinkState = record { past = a.past; now = Some k } in t) its)
+writes_more front more a b c x y = record {
+  stays = stays_then a b c x.stays y.stays;
+  output = y.output ∙ (ap (λ (o : List ℕ). o ++ more) x.output ∙ append_assoc (open_of a).output front more);
+  input = y.input ∙ x.input;
+}
+
+-- the state after a write
+written : (answer : Gave) (bytes : List ℕ) (a b : LinkState) (c : IsConnected a) → b ≡ after_write answer bytes a → b ≡ record a { now = Some (written_on answer bytes (open_of a)) }
+written answer bytes a b c e = e ∙ ap (λ (o : Option Connection). let t : LinkState = record a { now = option_map (written_on answer bytes) o } in t) (stays_same a c).is_open
 
 -- one write that took these bytes
 pub writes_one : (n : ℕ) (bytes : List ℕ) (a b : LinkState) → IsConnected a → b ≡ after_write (gave.Bytes n) bytes a → Writes (take n bytes) a b
-writes_one n bytes a b c e = e ∙ ap (λ (o : Option Connection). let t : LinkState = record { past = a.past; now = option_map (written_on (gave.Bytes n) bytes) o } in t) (stays_same a c).is_open
-
-pub writes_stays : (bytes : List ℕ) (a b : LinkState) → Writes bytes a b → StaysOpen a b
-writes_stays bytes a b w = record {
-  past = ap (λ (s : LinkState). s.past) w;
-  host = ap (λ (s : LinkState). (open_of s).host) w;
-  is_open = ap (λ (s : LinkState). s.now) w ∙ ap (λ (x : Connection). Some x) (sym (open_written bytes a b w));
-}
-
-pub writes_output : (bytes : List ℕ) (a b : LinkState) → Writes bytes a b → (open_of b).output ≡ (open_of a).output ++ bytes
-writes_output bytes a b w = ap (λ (s : LinkState). (open_of s).output) w
-
-pub writes_input : (bytes : List ℕ) (a b : LinkState) → Writes bytes a b → (open_of b).input ≡ (open_of a).input
-writes_input bytes a b w = ap (λ (s : LinkState). (open_of s).input) w
+writes_one n bytes a b c e =
+    let is = written (gave.Bytes n) bytes a b c e in record {
+      stays = record {
+        past = ap (λ (s : LinkState). s.past) is;
+        missed = ap (λ (s : LinkState). s.missed) is;
+        host = ap (λ (s : LinkState). (open_of s).host) is;
+        connected = ap (λ (s : LinkState). (open_of s).connected) is;
+        is_open = ap (λ (s : LinkState). s.now) is ∙ ap (λ (x : Connection). Some x) (sym (ap open_of is));
+      };
+      output = ap (λ (s : LinkState). (open_of s).output) is;
+      input = ap (λ (s : LinkState). (open_of s).input) is;
+    }
 
 -- a write that put nothing
-unchanged : (answer : Gave) (bytes : List ℕ) (s : LinkState) → IsConnected s → ((conn : Connection) → written_on answer bytes conn ≡ conn) → after_write answer bytes s ≡ s
-unchanged answer bytes s c same =
-    ap (λ (o : Option Connection). let t : LinkState = record { past = s.past; now = option_map (written_on answer bytes) o } in t) c.is_open
-    ∙ (ap (λ (k : Connection). let t : LinkState = record { past = s.past; now = Some k } in t) (same c.conn) ∙ ap (λ (o : Option Connection). let t : LinkState = record { past = s.past; now = o } in t) (sym c.is_open))
+writes_nothing : (answer : Gave) (bytes : List ℕ) (a b : LinkState) → IsConnected a → b ≡ after_write answer bytes a → (written_on answer bytes (open_of a) ≡ record (open_of a) { dry = false }) → Writes [] a b
+writes_nothing answer bytes a b c e same =
+    let is : b ≡ record a { now = Some (record (open_of a) { dry = false }) } = written answer bytes a b c e ∙ ap (λ (k : Connection). let t : LinkState = record a { now = Some k } in t) same in record {
+      stays = record {
+        past = ap (λ (s : LinkState). s.past) is;
+        missed = ap (λ (s : LinkState). s.missed) is;
+        host = ap (λ (s : LinkState). (open_of s).host) is;
+        connected = ap (λ (s : LinkState). (open_of s).connected) is;
+        is_open = ap (λ (s : LinkState). s.now) is ∙ ap (λ (x : Connection). Some x) (sym (ap open_of is));
+      };
+      output = ap (λ (s : LinkState). (open_of s).output) is ∙ sym (append-nil (open_of a).output);
+      input = ap (λ (s : LinkState). (open_of s).input) is;
+    }
+
+same_front : (front : List ℕ) (a c : LinkState) → Writes (front ++ []) a c → Writes front a c
+same_front front a c w = record { stays = w.stays; output = w.output ∙ ap (λ (x : List ℕ). (open_of a).output ++ x) (append-nil front); input = w.input }
 
 pub writes_not_yet : (front bytes : List ℕ) (a b c : LinkState) → Writes front a b → IsConnected b → c ≡ after_write gave.NotYet bytes b → Writes front a c
-writes_not_yet front bytes a b c w k e = e ∙ (unchanged gave.NotYet bytes b k (λ conn. refl) ∙ w)
+writes_not_yet front bytes a b c w k e = same_front front a c (writes_more front [] a b c w (writes_nothing gave.NotYet bytes b c k e refl))
 
 pub writes_failed : (front bytes : List ℕ) (a b c : LinkState) → Writes front a b → IsConnected b → c ≡ after_write gave.Failed bytes b → Writes front a c
-writes_failed front bytes a b c w k e = e ∙ (unchanged gave.Failed bytes b k (λ conn. refl) ∙ w)
+writes_failed front bytes a b c w k e = same_front front a c (writes_more front [] a b c w (writes_nothing gave.Failed bytes b c k e refl))
 
 pub taken_front : (whole front rest : List ℕ) (n : ℕ) → whole ≡ front ++ rest → whole ≡ (front ++ take n rest) ++ drop n rest
 taken_front whole front rest n e = e ∙ (ap (λ (x : List ℕ). front ++ x) (sym (take-append-drop n rest)) ∙ sym (append_assoc front (take n rest) (drop n rest)))
 
 -- the first part of the bytes was written
-pub front_of : (tells whole : Type 0) (bytes front rest : List ℕ) (a b : LinkState) → bytes ≡ front ++ rest → (tells → Writes front a b) → (whole → rest ≡ []) → WritesFront tells whole bytes a b
-front_of tells whole bytes front rest a b e w all = record { front = front; is = (rest, e); all = λ k. sym (append-nil front) ∙ (ap (λ (x : List ℕ). front ++ x) (sym (all k)) ∙ sym e); wrote = w }
+pub front_of : (tells whole : Type 0) (bytes front rest : List ℕ) (a b : LinkState) → bytes ≡ front ++ rest → (tells → Writes front a b) → (whole → rest ≡ []) → ((whole → ⊥) → 0 < length rest) → WritesFront tells whole bytes a b
+front_of tells whole bytes front rest a b e w all some = record {
+  front = front;
+  is = (rest, e);
+  all = λ k. sym (append-nil front) ∙ (ap (λ (x : List ℕ). front ++ x) (sym (all k)) ∙ sym e);
+  less = λ not. let more = some not in let both = ap length e in omega (arith, more, both, length-append front rest);
+  wrote = w;
+}

@@ -1,16 +1,17 @@
 -- What was written of what was said, piece by piece.
-use Rattle.std.proofs.Common.{◌≡◌, ◌≤◌, ◌++◌, ◌∷◌, List, [], ℕ, refl, sym, ◌∙◌, ap, subst, append_assoc, append-nil, Option, Some, None}
+use Rattle.std.proofs.Common.{◌≡◌, ◌≤◌, ◌<◌, ◌++◌, ◌∷◌, List, [], ℕ, length, refl, sym, ◌∙◌, ap, subst, append_assoc, append-nil, length-append, arith, Option, Some, None}
 use Rattle.lsv_words.specs.Pieces.{IsPrefix}
 use Rattle.lsv_wire.specs.Frame.{IsMessage}
 use Rattle.lsv_msg.specs.Messages.{client_bytes}
 use Rattle.lsv_msg.specs.declared.messages.ClientMessage.{ClientMessage}
 use Rattle.lsv_dialogue.specs.Events.{frames_of}
-use Rattle.lsv_dialogue.specs.Puts.{AreSendable, PutsPart, PutsUpTo, PutsWhole}
+use Rattle.lsv_dialogue.specs.Ends.{IsUnput}
+use Rattle.lsv_dialogue.specs.Puts.{AreSendable, PutsFirst, PutsPart, PutsUpTo, PutsWhole}
 use Rattle.lsv_dialogue.specs.Stands.{PutsBy}
 use Rattle.lsv_dialogue.specs.declared.talk.Halt.{Halt}
 use Rattle.lsv_dialogue.specs.declared.talk.Halt.TheVariants as halts
 use Rattle.lsv_dialogue.proofs.EventLemmas.{all_append}
-use Rattle.lsv_dialogue.proofs.FrameLemmas.{frames_append}
+use Rattle.lsv_dialogue.proofs.FrameLemmas.{frames_append, frames_some}
 
 pub sendable_append : (xs ys : List ClientMessage) → AreSendable xs → AreSendable ys → AreSendable (xs ++ ys)
 sendable_append xs ys a b = all_append (λ m. IsMessage (client_bytes m)) xs ys a b
@@ -101,3 +102,60 @@ puts_same None tells o o' ms e p = record { sendable = p.sendable; bytes = λ t.
 puts_same (Some halts.NotYet) tells o o' ms e p = same_part tells o o' ms e p
 puts_same (Some halts.Failed) tells o o' ms e p = same_part tells o o' ms e p
 puts_same (Some (halts.TooLong n)) tells o o' ms e p = record { front = p.front; long = p.long; unsent = p.unsent; is = p.is; sendable = p.sendable; bytes = λ t. e t ∙ p.bytes t; size = p.size; above = p.above }
+
+-- all was written, and more may be later
+pub first_whole : (tells : Type 0) (output : List ℕ) (ms : List ClientMessage) → PutsWhole tells output ms → PutsFirst tells output ms
+first_whole tells output ms w = record { sendable = w.sendable; bytes = λ t. ([], w.bytes t ∙ sym (append-nil (frames_of ms))) }
+
+pub first_later : (tells : Type 0) (output output' : List ℕ) (ms : List ClientMessage) → (tells → IsPrefix output output') → PutsFirst tells output ms → PutsFirst tells output' ms
+first_later tells output output' ms more p = record {
+  sendable = p.sendable;
+  bytes = λ t.
+      let (rest, is) = p.bytes t in
+      let (rest', is') = more t in (rest ++ rest', is' ∙ (ap (λ (x : List ℕ). x ++ rest') is ∙ append_assoc (frames_of ms) rest rest'));
+}
+
+-- ---- How many bytes were written
+
+-- no more bytes were written than the frames have
+part_most : (tells : Type 0) (output : List ℕ) (ms : List ClientMessage) → PutsPart tells output ms → tells → length output ≤ length (frames_of ms)
+part_most tells output ms p t =
+    let front = ap length (p.bytes t).1 in
+    let all = ap (λ (x : List ClientMessage). length (frames_of x)) p.is in
+    let both = ap length (frames_append p.front p.unsent) in
+    omega (arith, front, all, both, length-append output (p.bytes t).0, length-append (frames_of p.front) (frames_of p.unsent))
+
+-- a further message wasn't written
+pub part_less : (tells : Type 0) (output : List ℕ) (ms : List ClientMessage) (m : ClientMessage) (more : List ClientMessage) → PutsPart tells output ms → IsUnput tells output (ms ++ m ∷ more)
+part_less tells output ms m more p = λ t.
+    let most = part_most tells output ms p t in
+    let both = ap length (frames_append ms (m ∷ more)) in
+    omega (arith, most, both, length-append (frames_of ms) (frames_of (m ∷ more)), frames_some m more)
+
+pub less_more : (tells : Type 0) (output : List ℕ) (ms more : List ClientMessage) → IsUnput tells output ms → IsUnput tells output (ms ++ more)
+less_more tells output ms more less = λ t.
+    let few = less t in
+    let both = ap length (frames_append ms more) in
+    omega (arith, few, both, length-append (frames_of ms) (frames_of more))
+
+-- all was written, and then not all of more
+pub joined_less : (tells : Type 0) (output bytes output' : List ℕ) (ms more : List ClientMessage) → PutsWhole tells output ms → (tells → output' ≡ output ++ bytes) → length bytes < length (frames_of more) → IsUnput tells output' (ms ++ more)
+joined_less tells output bytes output' ms more w o' less = λ t.
+    let before = ap length (w.bytes t) in
+    let after = ap length (o' t) in
+    let both = ap length (frames_append ms more) in
+    omega (arith, before, after, both, less, length-append output bytes, length-append (frames_of ms) (frames_of more))
+
+pub less_same : (tells : Type 0) (o o' : List ℕ) (ms : List ClientMessage) → (tells → o' ≡ o) → IsUnput tells o ms → IsUnput tells o' ms
+less_same tells o o' ms e less = λ t. let few = less t in let same = ap length (e t) in omega (arith, few, same)
+
+-- the bytes of a part
+pub bytes_most : (bytes : List ℕ) (ms : List ClientMessage) → PutsPart (Unit {0}) bytes ms → length bytes ≤ length (frames_of ms)
+bytes_most bytes ms p = part_most (Unit {0}) bytes ms p tt
+
+pub up_to_less : (n : ℕ) (bytes : List ℕ) (ms : List ClientMessage) → PutsUpTo n (Unit {0}) bytes ms → length bytes < length (frames_of ms)
+up_to_less n bytes ms u =
+    let front = ap length (u.bytes tt) in
+    let all = ap (λ (x : List ClientMessage). length (frames_of x)) u.is in
+    let both = ap length (frames_append u.front (u.long ∷ u.unsent)) in
+    omega (arith, front, all, both, length-append (frames_of u.front) (frames_of (u.long ∷ u.unsent)), frames_some u.long u.unsent)

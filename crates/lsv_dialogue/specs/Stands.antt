@@ -1,5 +1,5 @@
 -- How a conversation stands between two pieces of it: what only the proofs need.
-use Rattle.std.specs.Prelude.{◌≡◌, ◌≤◌, ℕ, Bool, true, List, [], ◌∷◌, ◌++◌, length, Option, Some, None}
+use Rattle.std.specs.Prelude.{◌≡◌, ◌≢◌, ◌≤◌, ◌<◌, ℕ, Bool, true, false, List, [], ◌∷◌, ◌++◌, length, Option, Some, None}
 use Rattle.std.specs.List.{AllByRecursion}
 use Rattle.lsv_words.specs.Causes.{HasRisen}
 use Rattle.lsv_words.specs.Pieces.{IsPrefix}
@@ -7,9 +7,9 @@ use Rattle.lsv_msg.specs.declared.messages.ServerMessage.{ServerMessage}
 use Rattle.lsv_msg.specs.declared.messages.ClientMessage.{ClientMessage}
 use Rattle.lsv_link.specs.declared.connection.Connection.{Connection}
 use Rattle.lsv_link.specs.Link.{LinkCounts, LinkState, Continues, open_of}
-use Rattle.lsv_dialogue.specs.Events.{Event, AreGood, HasHeard, heard, said}
-use Rattle.lsv_dialogue.specs.Puts.{PutsPart, PutsUpTo, PutsWhole}
-use Rattle.lsv_dialogue.specs.Ends.{BeginsBad, Broke, Ended, StaysOpen}
+use Rattle.lsv_dialogue.specs.Events.{Event, AreGood, AreInTime, AreTaken, Failing, HasHeard, Taking, frames_of, heard, said, said_since}
+use Rattle.lsv_dialogue.specs.Puts.{ArePutFirst, PutsPart, PutsUpTo, PutsWhole}
+use Rattle.lsv_dialogue.specs.Ends.{BeginsBad, Broke, Ended, IsUnfinished, IsUnput, StaysOpen, Wants}
 use Rattle.lsv_dialogue.specs.declared.ends.TheConstants.{MOST_HEARD, MOST_PUT}
 use Rattle.lsv_dialogue.specs.declared.ends.Judged.{Judged}
 use Rattle.lsv_dialogue.specs.declared.ends.End.{End}
@@ -34,19 +34,29 @@ as_list (Some m) = m ∷ []
 abbrev pub View : Type 0
 View = LinkCounts × LinkState
 
--- the connection with these bytes written
-abbrev pub with_output : List ℕ → Connection → Connection
-with_output bytes conn = record conn { output = conn.output ++ bytes }
-
--- these bytes were written on the open connection, and nothing else changed
-abbrev pub Writes : List ℕ → LinkState → LinkState → Type 0
-Writes bytes old new = new ≡ record { past = old.past; now = Some (with_output bytes (open_of old)) }
+-- these bytes were written on the open connection, and nothing was read
+pub record Writes (bytes : List ℕ) (old new : LinkState) : Type 0 where
+  pub stays : StaysOpen old new
+  pub output : (open_of new).output ≡ (open_of old).output ++ bytes
+  pub input : (open_of new).input ≡ (open_of old).input
 
 -- why writing stopped, by the counts
 abbrev pub IsHaltedBy : LinkCounts → LinkCounts → Halt → Type 0
 IsHaltedBy before after halts.NotYet = HasRisen before.full after.full
 IsHaltedBy before after halts.Failed = HasRisen before.faults after.faults
 IsHaltedBy before after (halts.TooLong n) = Unit {0}
+
+-- no count fell by a read, and none but the faults rose, unless it waited in vain
+pub record HasLooked (came : Type 0) (before after : LinkCounts) : Type 0 where
+  pub continues : Continues before after
+  pub full : after.full ≡ before.full
+  pub waits : came → after.waits ≡ before.waits
+
+-- no count fell by writing, and none but the faults rose, unless a write put nothing
+pub record HasPut (took : Type 0) (before after : LinkCounts) : Type 0 where
+  pub continues : Continues before after
+  pub full : took → after.full ≡ before.full
+  pub waits : after.waits ≡ before.waits
 
 -- how much of these messages the bytes are
 abbrev pub PutsBy : Option Halt → Type 0 → List ℕ → List ClientMessage → Type 0
@@ -71,17 +81,24 @@ floor spoken.Quiet = 0
 floor spoken.Owing = MOST_PUT
 floor (spoken.Halted halt) = 0
 
+-- the least count of messages that were said since, after this message was heard, if there is one
+abbrev pub since : Option ServerMessage → ℕ → ℕ
+since None least = least
+since (Some m) least = 0
+
 -- some bytes were written of these messages, as the halt says
 pub record PutsMore (halt : Option Halt) (tells : Type 0) (messages : List ClientMessage) (old new : LinkState) : Type 0 where
   pub bytes : List ℕ
   pub puts : PutsBy halt (Unit {0}) bytes messages
+  pub less : (h : Halt) → halt ≡ Some h → length bytes < length (frames_of messages)
   pub wrote : tells → Writes bytes old new
 
--- some of these bytes were written, and all of them if that is so
+-- some of these bytes were written, all of them if that is so, and else not all
 pub record WritesFront (tells whole : Type 0) (bytes : List ℕ) (old new : LinkState) : Type 0 where
   pub front : List ℕ
   pub is : IsPrefix front bytes
   pub all : whole → front ≡ bytes
+  pub less : (whole → ⊥) → length front < length bytes
   pub wrote : tells → Writes front old new
 
 -- the bytes are the frames of these messages, up to one that is too long, if there is one
@@ -108,28 +125,45 @@ pub record HasRead (tells kept : Type 0) (old new : List ℕ) (before after : Li
   pub output : tells → (open_of after).output ≡ (open_of before).output
   pub stays : tells → StaysOpen before after
 
+-- no message but an error or an abort was late, or writing failed
+abbrev pub IsTimelyBy : Option Halt → List Event → Type 0
+IsTimelyBy None events = AreInTime events
+IsTimelyBy (Some halts.NotYet) events = AreInTime events
+IsTimelyBy (Some halts.Failed) events = Unit {0}
+IsTimelyBy (Some (halts.TooLong n)) events = AreInTime events
+
 -- how a conversation stands that began with the link so: the events made the speaker what it is, what was said was written, and what was read are the messages heard, those pending, and the framer's bytes
-pub record Stands (Talks : List Event → Type 0) (still tells : Type 0) (begun : View) (pending : List ServerMessage) (least : ℕ) (talk : Talk) (now : View) : Type 0 where
+pub record Stands {S W : Type 0} (Talks : S → W → List Event → Type 0) (judges : S → ServerMessage → Judged) (Quiet : S → Type 0) (over : S → Bool) (tells : Type 0) (begun : View) (pending : List ServerMessage) (least : ℕ) (talk : Talk) (speaker : S) (world : W) (now : View) : Type 0 where
   pub events : List Event
-  pub talks : Talks events
+  pub talks : Talks speaker world events
+  pub taken : AreTaken Talks judges Quiet over events
+  pub first : ArePutFirst tells (open_of now.1).output events
+  pub timely : IsTimelyBy (halt_of talk.spoken) events
   pub good : AreGood (heard events)
   pub count : talk.heard ≡ length (heard events)
   pub few : length (heard events ++ pending) ≤ MOST_HEARD
-  pub many : least ≤ length (said events)
+  pub many : least ≤ said_since 0 events
+  pub some : (halt : Halt) → talk.spoken ≡ spoken.Halted halt → said events ≢ []
+  pub wants : talk.spoken ≢ spoken.Quiet → over speaker ≡ false
   pub puts : PutsBy (halt_of talk.spoken) tells (open_of now.1).output (said events)
-  pub quiet : talk.spoken ≡ spoken.Quiet → still
+  pub less : (halt : Halt) → talk.spoken ≡ spoken.Halted halt → IsUnput tells (open_of now.1).output (said events)
+  pub quiet : talk.spoken ≡ spoken.Quiet → Quiet speaker
   pub halted : (halt : Halt) → talk.spoken ≡ spoken.Halted halt → IsHaltedBy begun.0 now.0 halt
+  pub full : talk.spoken ≢ spoken.Halted halts.NotYet → now.0.full ≡ begun.0.full
+  pub waits : now.0.waits ≡ begun.0.waits
   pub hears : tells → HasHeard (open_of now.1).input (heard events ++ pending) talk.framer
   pub stays : tells → StaysOpen begun.1 now.1
+  pub made : tells → (open_of now.1).connected ≡ true
   pub room : length talk.buffer.items ≡ BUFFER
   pub continues : Continues begun.0 now.0
 
 -- a conversation that ended so, over a link that stays open
-pub record Finishes (Talks : List Event → Type 0) (judges : ServerMessage → Judged) (over : Bool) (quiet tells : Type 0) (begun now : View) (end : End) : Type 0 where
+pub record Finishes {S W : Type 0} (Talks : S → W → List Event → Type 0) (judges : S → ServerMessage → Judged) (Quiet : S → Type 0) (over : S → Bool) (tells : Type 0) (begun : View) (speaker : S) (world : W) (now : View) (end : End) : Type 0 where
   pub stays : tells → StaysOpen begun.1 now.1
-  pub ended : Ended Talks judges over quiet tells begun.0 now.0 (open_of now.1) end
+  pub ended : Ended (Taking Talks judges Quiet over speaker world) (judges speaker) (over speaker) (Quiet speaker) tells begun.0 now.0 (open_of now.1) end
+  pub unfinished : IsUnfinished (Wants Talks over Quiet) tells end (open_of now.1).output ended.events
 
 -- a conversation that broke off so, over a link that stays open
-pub record Breaks {F : Type 0} (Talks : List Event → Type 0) (Fails : List Event → F → Type 0) (tells : Type 0) (begun now : View) (fault : TalkFault F) : Type 0 where
+pub record Breaks {S W F : Type 0} (Talks : S → W → List Event → Type 0) (Fails : S → W → List Event → F → Type 0) (judges : S → ServerMessage → Judged) (Quiet : S → Type 0) (over : S → Bool) (tells : Type 0) (begun : View) (speaker : S) (world : W) (now : View) (fault : TalkFault F) : Type 0 where
   pub stays : tells → StaysOpen begun.1 now.1
-  pub broke : Broke Talks Fails tells begun.0 now.0 (open_of now.1) fault
+  pub broke : Broke (Taking Talks judges Quiet over speaker world) (Failing Fails Talks judges Quiet over speaker world) tells begun.0 now.0 (open_of now.1) fault

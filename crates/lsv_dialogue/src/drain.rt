@@ -1,6 +1,6 @@
 //! After a failed write: what has come is read and taken, without waiting, since a server may have said why it ended.
 
-ghost use Rattle.std.specs.Prelude.{◌≡◌, ◌∷◌, [], ℕ, Some, IfErr, IfOk, MatchOption};
+ghost use Rattle.std.specs.Prelude.{◌≡◌, ◌∷◌, [], false, Some, IfErr, IfOk, MatchOption};
 ghost use Rattle.lsv_dialogue.specs.Stands.{Breaks, Finishes, Stands, View, halt_of};
 
 use crate::read::{Came, Next};
@@ -11,7 +11,7 @@ use lsv_link::Link;
 use lsv_msg::ServerMessage;
 
 impl Talk {
-    /// Hands a message to the speaker, and puts nothing of what it says then. What ends the conversation, if anything.
+    /// Hands a message to the speaker, which says nothing more. What ends the conversation, if anything.
     fn take_unput<W, S: Speaker<W>, L: Link>(
         &mut self,
         speaker: &mut S,
@@ -19,10 +19,11 @@ impl Talk {
         link: &L,
         message: ServerMessage,
     ) -> Result<Option<End>, TalkFault<S::Fault>>
-        requires stands { (start : S.Start) × (begun : View) × Stands (S.talks start speaker.old world.old) (S.is_quiet speaker.old) L.tells begun (message ∷ []) 0 self.old (L.counts link.now, L.state link.now) }
+        requires stands { (start : S.Start) × (begun : View) × Stands (S.talks start) S.judges S.is_quiet S.over L.tells begun (message ∷ []) 0 self.old speaker.old world.old (L.counts link.now, L.state link.now) }
         requires failed { halt_of self.old.spoken ≡ Some Halt.Failed }
-        ensures goes { IfOk result (λ end. (start : S.Start) (begun : View) → Stands (S.talks start speaker.old world.old) (S.is_quiet speaker.old) L.tells begun (message ∷ []) 0 self.old (L.counts link.now, L.state link.now) → MatchOption end (Stands (S.talks start speaker.new world.new) (S.is_quiet speaker.new) L.tells begun [] 0 self.new (L.counts link.now, L.state link.now) × (halt_of self.new.spoken ≡ Some Halt.Failed)) (Finishes (S.talks start speaker.new world.new) (S.judges speaker.new) (S.over speaker.new) (S.is_quiet speaker.new) L.tells begun (L.counts link.now, L.state link.now))) }
-        ensures broke { IfErr result (λ fault. (start : S.Start) (begun : View) → Stands (S.talks start speaker.old world.old) (S.is_quiet speaker.old) L.tells begun (message ∷ []) 0 self.old (L.counts link.now, L.state link.now) → Breaks (S.talks start speaker.new world.new) (S.fails start speaker.new world.new) L.tells begun (L.counts link.now, L.state link.now) fault) }
+        requires wants { S.over speaker.old ≡ false }
+        ensures goes { IfOk result (λ end. (start : S.Start) (begun : View) → Stands (S.talks start) S.judges S.is_quiet S.over L.tells begun (message ∷ []) 0 self.old speaker.old world.old (L.counts link.now, L.state link.now) → MatchOption end (Stands (S.talks start) S.judges S.is_quiet S.over L.tells begun [] 0 self.new speaker.new world.new (L.counts link.now, L.state link.now) × (halt_of self.new.spoken ≡ Some Halt.Failed) × (S.over speaker.new ≡ false)) (Finishes (S.talks start) S.judges S.is_quiet S.over L.tells begun speaker.new world.new (L.counts link.now, L.state link.now))) }
+        ensures broke { IfErr result (λ fault. (start : S.Start) (begun : View) → Stands (S.talks start) S.judges S.is_quiet S.over L.tells begun (message ∷ []) 0 self.old speaker.old world.old (L.counts link.now, L.state link.now) → Breaks (S.talks start) (S.fails start) S.judges S.is_quiet S.over L.tells begun speaker.new world.new (L.counts link.now, L.state link.now) fault) }
     {
         let Judged::Takes = speaker.judge(&message) else {
             return Ok(Some(End::Stopped(Cause::Failed)));
@@ -30,8 +31,8 @@ impl Talk {
         if has_text(&message) {
             return Ok(Some(self.take_last(speaker, world, link, message)?));
         }
-        match speaker.step(world, Some(&message)) {
-            Ok(_unput) => {}
+        match speaker.hear_late(world, &message) {
+            Ok(()) => {}
             Err(fault) => return Err(TalkFault::Speaker(fault)),
         }
         self.heard += 1;
@@ -45,10 +46,11 @@ impl Talk {
         world: &mut W,
         link: &mut L,
     ) -> Result<Option<End>, TalkFault<S::Fault>>
-        requires stands { (start : S.Start) × (begun : View) × Stands (S.talks start speaker.old world.old) (S.is_quiet speaker.old) L.tells begun [] 0 self.old (L.counts link.old, L.state link.old) }
+        requires stands { (start : S.Start) × (begun : View) × Stands (S.talks start) S.judges S.is_quiet S.over L.tells begun [] 0 self.old speaker.old world.old (L.counts link.old, L.state link.old) }
         requires failed { halt_of self.old.spoken ≡ Some Halt.Failed }
-        ensures goes { IfOk result (λ end. (start : S.Start) (begun : View) → Stands (S.talks start speaker.old world.old) (S.is_quiet speaker.old) L.tells begun [] 0 self.old (L.counts link.old, L.state link.old) → MatchOption end (Stands (S.talks start speaker.new world.new) (S.is_quiet speaker.new) L.tells begun [] 0 self.new (L.counts link.new, L.state link.new) × (halt_of self.new.spoken ≡ Some Halt.Failed)) (Finishes (S.talks start speaker.new world.new) (S.judges speaker.new) (S.over speaker.new) (S.is_quiet speaker.new) L.tells begun (L.counts link.new, L.state link.new))) }
-        ensures broke { IfErr result (λ fault. (start : S.Start) (begun : View) → Stands (S.talks start speaker.old world.old) (S.is_quiet speaker.old) L.tells begun [] 0 self.old (L.counts link.old, L.state link.old) → Breaks (S.talks start speaker.new world.new) (S.fails start speaker.new world.new) L.tells begun (L.counts link.new, L.state link.new) fault) }
+        requires wants { S.over speaker.old ≡ false }
+        ensures goes { IfOk result (λ end. (start : S.Start) (begun : View) → Stands (S.talks start) S.judges S.is_quiet S.over L.tells begun [] 0 self.old speaker.old world.old (L.counts link.old, L.state link.old) → MatchOption end (Stands (S.talks start) S.judges S.is_quiet S.over L.tells begun [] 0 self.new speaker.new world.new (L.counts link.new, L.state link.new) × (halt_of self.new.spoken ≡ Some Halt.Failed) × (S.over speaker.new ≡ false)) (Finishes (S.talks start) S.judges S.is_quiet S.over L.tells begun speaker.new world.new (L.counts link.new, L.state link.new))) }
+        ensures broke { IfErr result (λ fault. (start : S.Start) (begun : View) → Stands (S.talks start) S.judges S.is_quiet S.over L.tells begun [] 0 self.old speaker.old world.old (L.counts link.old, L.state link.old) → Breaks (S.talks start) (S.fails start) S.judges S.is_quiet S.over L.tells begun speaker.new world.new (L.counts link.new, L.state link.new) fault) }
     {
         if self.heard >= MOST_HEARD {
             return Ok(Some(End::Stopped(Cause::Failed)));
@@ -79,10 +81,11 @@ impl Talk {
         link: &mut L,
         halt: Halt,
     ) -> Result<End, TalkFault<S::Fault>>
-        requires stands { (start : S.Start) × (begun : View) × Stands (S.talks start speaker.old world.old) (S.is_quiet speaker.old) L.tells begun [] 0 self.old (L.counts link.old, L.state link.old) }
+        requires stands { (start : S.Start) × (begun : View) × Stands (S.talks start) S.judges S.is_quiet S.over L.tells begun [] 0 self.old speaker.old world.old (L.counts link.old, L.state link.old) }
         requires halted { halt_of self.old.spoken ≡ Some halt }
-        ensures ended { IfOk result (λ end. (start : S.Start) (begun : View) → Stands (S.talks start speaker.old world.old) (S.is_quiet speaker.old) L.tells begun [] 0 self.old (L.counts link.old, L.state link.old) → Finishes (S.talks start speaker.new world.new) (S.judges speaker.new) (S.over speaker.new) (S.is_quiet speaker.new) L.tells begun (L.counts link.new, L.state link.new) end) }
-        ensures broke { IfErr result (λ fault. (start : S.Start) (begun : View) → Stands (S.talks start speaker.old world.old) (S.is_quiet speaker.old) L.tells begun [] 0 self.old (L.counts link.old, L.state link.old) → Breaks (S.talks start speaker.new world.new) (S.fails start speaker.new world.new) L.tells begun (L.counts link.new, L.state link.new) fault) }
+        requires wants { S.over speaker.old ≡ false }
+        ensures ended { IfOk result (λ end. (start : S.Start) (begun : View) → Stands (S.talks start) S.judges S.is_quiet S.over L.tells begun [] 0 self.old speaker.old world.old (L.counts link.old, L.state link.old) → Finishes (S.talks start) S.judges S.is_quiet S.over L.tells begun speaker.new world.new (L.counts link.new, L.state link.new) end) }
+        ensures broke { IfErr result (λ fault. (start : S.Start) (begun : View) → Stands (S.talks start) S.judges S.is_quiet S.over L.tells begun [] 0 self.old speaker.old world.old (L.counts link.old, L.state link.old) → Breaks (S.talks start) (S.fails start) S.judges S.is_quiet S.over L.tells begun speaker.new world.new (L.counts link.new, L.state link.new) fault) }
     {
         match halt {
             Halt::NotYet => return Ok(End::Stopped(Cause::NotYet)),

@@ -1,20 +1,20 @@
 //! What a conversation does with a message that was read, and with each round.
 
-ghost use Rattle.std.specs.Prelude.{◌≡◌, ◌<◌, ◌∷◌, [], ℕ, true, is_some, IfErr, IfOk, MatchOption};
+ghost use Rattle.std.specs.Prelude.{◌≡◌, ◌≢◌, ◌<◌, ◌∷◌, [], true, false, is_some, IfErr, IfOk, MatchOption};
 ghost use Rattle.lsv_wire.specs.Frame.{IsPartial};
 ghost use Rattle.lsv_dialogue.specs.Events.{text_of};
 ghost use Rattle.lsv_dialogue.specs.declared.ends.Judged.TheVariants as judged;
 ghost use Rattle.lsv_dialogue.specs.Stands.{Breaks, Finishes, IsGoing, Stands, View, floor};
 
 use crate::read::{Came, Next};
-use crate::talk::{Spoken, Talk};
+use crate::talk::{Halt, Spoken, Talk};
 use crate::text::{has_text, into_text};
 use crate::{Cause, End, Judged, MOST_HEARD, Speaker, TalkFault};
 use lsv_link::Link;
 use lsv_msg::ServerMessage;
 
 impl Talk {
-    /// Hands an error or an abort to the speaker. It is the last message, and what the speaker would say isn't put.
+    /// Hands an error or an abort to the speaker. It is the last message, and nothing is said after it.
     pub(crate) fn take_last<W, S: Speaker<W>, L: Link>(
         &mut self,
         speaker: &mut S,
@@ -22,14 +22,16 @@ impl Talk {
         link: &L,
         message: ServerMessage,
     ) -> Result<End, TalkFault<S::Fault>>
-        requires stands { (start : S.Start) × (begun : View) × (least : ℕ) × Stands (S.talks start speaker.old world.old) (S.is_quiet speaker.old) L.tells begun (message ∷ []) least self.old (L.counts link.now, L.state link.now) }
+        requires stands { (start : S.Start) × (begun : View) × Stands (S.talks start) S.judges S.is_quiet S.over L.tells begun (message ∷ []) (floor self.old.spoken) self.old speaker.old world.old (L.counts link.now, L.state link.now) }
+        requires wants { S.over speaker.old ≡ false }
         requires takes { S.judges speaker.old message ≡ judged.Takes }
         requires text { is_some (text_of message) ≡ true }
-        ensures ended { IfOk result (λ end. (start : S.Start) (begun : View) (least : ℕ) → Stands (S.talks start speaker.old world.old) (S.is_quiet speaker.old) L.tells begun (message ∷ []) least self.old (L.counts link.now, L.state link.now) → Finishes (S.talks start speaker.new world.new) (S.judges speaker.new) (S.over speaker.new) (S.is_quiet speaker.new) L.tells begun (L.counts link.now, L.state link.now) end) }
-        ensures broke { IfErr result (λ fault. (start : S.Start) (begun : View) (least : ℕ) → Stands (S.talks start speaker.old world.old) (S.is_quiet speaker.old) L.tells begun (message ∷ []) least self.old (L.counts link.now, L.state link.now) → Breaks (S.talks start speaker.new world.new) (S.fails start speaker.new world.new) L.tells begun (L.counts link.now, L.state link.now) fault) }
+        requires writes { self.old.spoken ≢ Spoken.Halted Halt.NotYet }
+        ensures ended { IfOk result (λ end. (start : S.Start) (begun : View) → Stands (S.talks start) S.judges S.is_quiet S.over L.tells begun (message ∷ []) (floor self.old.spoken) self.old speaker.old world.old (L.counts link.now, L.state link.now) → Finishes (S.talks start) S.judges S.is_quiet S.over L.tells begun speaker.new world.new (L.counts link.now, L.state link.now) end) }
+        ensures broke { IfErr result (λ fault. (start : S.Start) (begun : View) → Stands (S.talks start) S.judges S.is_quiet S.over L.tells begun (message ∷ []) (floor self.old.spoken) self.old speaker.old world.old (L.counts link.now, L.state link.now) → Breaks (S.talks start) (S.fails start) S.judges S.is_quiet S.over L.tells begun speaker.new world.new (L.counts link.now, L.state link.now) fault) }
     {
-        match speaker.step(world, Some(&message)) {
-            Ok(_unput) => {}
+        match speaker.hear_late(world, &message) {
+            Ok(()) => {}
             Err(fault) => return Err(TalkFault::Speaker(fault)),
         }
         match into_text(message) {
@@ -46,10 +48,11 @@ impl Talk {
         link: &mut L,
         message: ServerMessage,
     ) -> Result<Option<End>, TalkFault<S::Fault>>
-        requires stands { (start : S.Start) × (begun : View) × (least : ℕ) × Stands (S.talks start speaker.old world.old) (S.is_quiet speaker.old) L.tells begun (message ∷ []) least self.old (L.counts link.old, L.state link.old) }
+        requires stands { (start : S.Start) × (begun : View) × Stands (S.talks start) S.judges S.is_quiet S.over L.tells begun (message ∷ []) (floor self.old.spoken) self.old speaker.old world.old (L.counts link.old, L.state link.old) }
         requires going { IsGoing self.old.spoken }
-        ensures goes { IfOk result (λ end. (start : S.Start) (begun : View) (least : ℕ) → Stands (S.talks start speaker.old world.old) (S.is_quiet speaker.old) L.tells begun (message ∷ []) least self.old (L.counts link.old, L.state link.old) → MatchOption end (Stands (S.talks start speaker.new world.new) (S.is_quiet speaker.new) L.tells begun [] (floor self.new.spoken) self.new (L.counts link.new, L.state link.new)) (Finishes (S.talks start speaker.new world.new) (S.judges speaker.new) (S.over speaker.new) (S.is_quiet speaker.new) L.tells begun (L.counts link.new, L.state link.new))) }
-        ensures broke { IfErr result (λ fault. (start : S.Start) (begun : View) (least : ℕ) → Stands (S.talks start speaker.old world.old) (S.is_quiet speaker.old) L.tells begun (message ∷ []) least self.old (L.counts link.old, L.state link.old) → Breaks (S.talks start speaker.new world.new) (S.fails start speaker.new world.new) L.tells begun (L.counts link.new, L.state link.new) fault) }
+        requires wants { S.over speaker.old ≡ false }
+        ensures goes { IfOk result (λ end. (start : S.Start) (begun : View) → Stands (S.talks start) S.judges S.is_quiet S.over L.tells begun (message ∷ []) (floor self.old.spoken) self.old speaker.old world.old (L.counts link.old, L.state link.old) → MatchOption end (Stands (S.talks start) S.judges S.is_quiet S.over L.tells begun [] (floor self.new.spoken) self.new speaker.new world.new (L.counts link.new, L.state link.new)) (Finishes (S.talks start) S.judges S.is_quiet S.over L.tells begun speaker.new world.new (L.counts link.new, L.state link.new))) }
+        ensures broke { IfErr result (λ fault. (start : S.Start) (begun : View) → Stands (S.talks start) S.judges S.is_quiet S.over L.tells begun (message ∷ []) (floor self.old.spoken) self.old speaker.old world.old (L.counts link.old, L.state link.old) → Breaks (S.talks start) (S.fails start) S.judges S.is_quiet S.over L.tells begun speaker.new world.new (L.counts link.new, L.state link.new) fault) }
     {
         match speaker.judge(&message) {
             Judged::Takes => {}
@@ -74,12 +77,13 @@ impl Talk {
         world: &W,
         link: &mut L,
     ) -> Result<Option<End>, TalkFault<S::Fault>>
-        requires stands { (start : S.Start) × (begun : View) × Stands (S.talks start speaker.now world.now) (S.is_quiet speaker.now) L.tells begun [] (floor self.old.spoken) self.old (L.counts link.old, L.state link.old) }
+        requires stands { (start : S.Start) × (begun : View) × Stands (S.talks start) S.judges S.is_quiet S.over L.tells begun [] (floor self.old.spoken) self.old speaker.now world.now (L.counts link.old, L.state link.old) }
         requires quiet { self.old.spoken ≡ Spoken.Quiet }
+        requires wants { S.over speaker.now ≡ false }
         requires partial { IsPartial self.old.framer }
         requires more { self.old.heard < MOST_HEARD }
-        ensures goes { IfOk result (λ end. (start : S.Start) (begun : View) → Stands (S.talks start speaker.now world.now) (S.is_quiet speaker.now) L.tells begun [] (floor self.old.spoken) self.old (L.counts link.old, L.state link.old) → MatchOption end (Stands (S.talks start speaker.now world.now) (S.is_quiet speaker.now) L.tells begun [] (floor self.new.spoken) self.new (L.counts link.new, L.state link.new)) (Finishes (S.talks start speaker.now world.now) (S.judges speaker.now) (S.over speaker.now) (S.is_quiet speaker.now) L.tells begun (L.counts link.new, L.state link.new))) }
-        ensures broke { IfErr result (λ fault. (start : S.Start) (begun : View) → Stands (S.talks start speaker.now world.now) (S.is_quiet speaker.now) L.tells begun [] (floor self.old.spoken) self.old (L.counts link.old, L.state link.old) → Breaks (S.talks start speaker.now world.now) (S.fails start speaker.now world.now) L.tells begun (L.counts link.new, L.state link.new) fault) }
+        ensures goes { IfOk result (λ end. (start : S.Start) (begun : View) → Stands (S.talks start) S.judges S.is_quiet S.over L.tells begun [] (floor self.old.spoken) self.old speaker.now world.now (L.counts link.old, L.state link.old) → MatchOption end (Stands (S.talks start) S.judges S.is_quiet S.over L.tells begun [] (floor self.new.spoken) self.new speaker.now world.now (L.counts link.new, L.state link.new)) (Finishes (S.talks start) S.judges S.is_quiet S.over L.tells begun speaker.now world.now (L.counts link.new, L.state link.new))) }
+        ensures broke { IfErr result (λ fault. (start : S.Start) (begun : View) → Stands (S.talks start) S.judges S.is_quiet S.over L.tells begun [] (floor self.old.spoken) self.old speaker.now world.now (L.counts link.old, L.state link.old) → Breaks (S.talks start) (S.fails start) S.judges S.is_quiet S.over L.tells begun speaker.now world.now (L.counts link.new, L.state link.new) fault) }
     {
         let Ok(came) = self.read_more(link, true) else {
             return Err(TalkFault::NoMem);
@@ -99,12 +103,13 @@ impl Talk {
         world: &mut W,
         link: &mut L,
     ) -> Result<Option<End>, TalkFault<S::Fault>>
-        requires stands { (start : S.Start) × (begun : View) × Stands (S.talks start speaker.old world.old) (S.is_quiet speaker.old) L.tells begun [] (floor self.old.spoken) self.old (L.counts link.old, L.state link.old) }
+        requires stands { (start : S.Start) × (begun : View) × Stands (S.talks start) S.judges S.is_quiet S.over L.tells begun [] (floor self.old.spoken) self.old speaker.old world.old (L.counts link.old, L.state link.old) }
         requires going { IsGoing self.old.spoken }
+        requires wants { S.over speaker.old ≡ false }
         requires partial { IsPartial self.old.framer }
         requires more { self.old.heard < MOST_HEARD }
-        ensures goes { IfOk result (λ end. (start : S.Start) (begun : View) → Stands (S.talks start speaker.old world.old) (S.is_quiet speaker.old) L.tells begun [] (floor self.old.spoken) self.old (L.counts link.old, L.state link.old) → MatchOption end (Stands (S.talks start speaker.new world.new) (S.is_quiet speaker.new) L.tells begun [] (floor self.new.spoken) self.new (L.counts link.new, L.state link.new)) (Finishes (S.talks start speaker.new world.new) (S.judges speaker.new) (S.over speaker.new) (S.is_quiet speaker.new) L.tells begun (L.counts link.new, L.state link.new))) }
-        ensures broke { IfErr result (λ fault. (start : S.Start) (begun : View) → Stands (S.talks start speaker.old world.old) (S.is_quiet speaker.old) L.tells begun [] (floor self.old.spoken) self.old (L.counts link.old, L.state link.old) → Breaks (S.talks start speaker.new world.new) (S.fails start speaker.new world.new) L.tells begun (L.counts link.new, L.state link.new) fault) }
+        ensures goes { IfOk result (λ end. (start : S.Start) (begun : View) → Stands (S.talks start) S.judges S.is_quiet S.over L.tells begun [] (floor self.old.spoken) self.old speaker.old world.old (L.counts link.old, L.state link.old) → MatchOption end (Stands (S.talks start) S.judges S.is_quiet S.over L.tells begun [] (floor self.new.spoken) self.new speaker.new world.new (L.counts link.new, L.state link.new)) (Finishes (S.talks start) S.judges S.is_quiet S.over L.tells begun speaker.new world.new (L.counts link.new, L.state link.new))) }
+        ensures broke { IfErr result (λ fault. (start : S.Start) (begun : View) → Stands (S.talks start) S.judges S.is_quiet S.over L.tells begun [] (floor self.old.spoken) self.old speaker.old world.old (L.counts link.old, L.state link.old) → Breaks (S.talks start) (S.fails start) S.judges S.is_quiet S.over L.tells begun speaker.new world.new (L.counts link.new, L.state link.new) fault) }
     {
         let Ok(came) = self.read_more(link, false) else {
             return Err(TalkFault::NoMem);
@@ -125,9 +130,9 @@ impl Talk {
         world: &mut W,
         link: &mut L,
     ) -> Result<Option<End>, TalkFault<S::Fault>>
-        requires stands { (start : S.Start) × (begun : View) × Stands (S.talks start speaker.old world.old) (S.is_quiet speaker.old) L.tells begun [] (floor self.old.spoken) self.old (L.counts link.old, L.state link.old) }
-        ensures goes { IfOk result (λ end. (start : S.Start) (begun : View) → Stands (S.talks start speaker.old world.old) (S.is_quiet speaker.old) L.tells begun [] (floor self.old.spoken) self.old (L.counts link.old, L.state link.old) → MatchOption end (Stands (S.talks start speaker.new world.new) (S.is_quiet speaker.new) L.tells begun [] (floor self.new.spoken) self.new (L.counts link.new, L.state link.new)) (Finishes (S.talks start speaker.new world.new) (S.judges speaker.new) (S.over speaker.new) (S.is_quiet speaker.new) L.tells begun (L.counts link.new, L.state link.new))) }
-        ensures broke { IfErr result (λ fault. (start : S.Start) (begun : View) → Stands (S.talks start speaker.old world.old) (S.is_quiet speaker.old) L.tells begun [] (floor self.old.spoken) self.old (L.counts link.old, L.state link.old) → Breaks (S.talks start speaker.new world.new) (S.fails start speaker.new world.new) L.tells begun (L.counts link.new, L.state link.new) fault) }
+        requires stands { (start : S.Start) × (begun : View) × Stands (S.talks start) S.judges S.is_quiet S.over L.tells begun [] (floor self.old.spoken) self.old speaker.old world.old (L.counts link.old, L.state link.old) }
+        ensures goes { IfOk result (λ end. (start : S.Start) (begun : View) → Stands (S.talks start) S.judges S.is_quiet S.over L.tells begun [] (floor self.old.spoken) self.old speaker.old world.old (L.counts link.old, L.state link.old) → MatchOption end (Stands (S.talks start) S.judges S.is_quiet S.over L.tells begun [] (floor self.new.spoken) self.new speaker.new world.new (L.counts link.new, L.state link.new)) (Finishes (S.talks start) S.judges S.is_quiet S.over L.tells begun speaker.new world.new (L.counts link.new, L.state link.new))) }
+        ensures broke { IfErr result (λ fault. (start : S.Start) (begun : View) → Stands (S.talks start) S.judges S.is_quiet S.over L.tells begun [] (floor self.old.spoken) self.old speaker.old world.old (L.counts link.old, L.state link.old) → Breaks (S.talks start) (S.fails start) S.judges S.is_quiet S.over L.tells begun speaker.new world.new (L.counts link.new, L.state link.new) fault) }
     {
         if let Spoken::Halted(halt) = self.spoken {
             return Ok(Some(self.halted(speaker, world, link, halt)?));

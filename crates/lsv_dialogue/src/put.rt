@@ -1,9 +1,9 @@
 //! The messages of a step are put together in one piece, and written.
 
-ghost use Rattle.std.specs.Prelude.{◌≡◌, ◌++◌, ◌∷◌, [], ℕ, List, None, Some, IfOk, IfSome, OnOk, OnErr};
-ghost use Rattle.lsv_link.specs.Link.{Continues, IsConnected};
+ghost use Rattle.std.specs.Prelude.{◌≡◌, ◌≢◌, ◌++◌, ◌∷◌, [], ℕ, List, None, Some, IfOk, IfSome, OnOk, OnErr};
+ghost use Rattle.lsv_link.specs.Link.{IsConnected};
 ghost use Rattle.lsv_msg.specs.declared.messages.ClientMessage.{ClientMessage};
-ghost use Rattle.lsv_dialogue.specs.Stands.{IsBatch, IsHaltedBy, PutsMore, WritesFront};
+ghost use Rattle.lsv_dialogue.specs.Stands.{HasPut, IsBatch, IsHaltedBy, PutsMore, WritesFront};
 
 use crate::talk::Halt;
 use lsv_base::{Bytes, NoMem};
@@ -27,7 +27,7 @@ fn write_all<L: Link>(link: &mut L, bytes: &[u8]) -> Option<Halt>
     ensures wrote { WritesFront L.tells (result ≡ None) bytes.now (L.state link.old) (L.state link.new) }
     ensures link { (n : ℕ) → result ≡ Some (Halt.TooLong n) → ⊥ }
     ensures cause { IfSome result (IsHaltedBy (L.counts link.old) (L.counts link.new)) }
-    ensures continues { Continues (L.counts link.old) (L.counts link.new) }
+    ensures counts { HasPut (result ≢ Some Halt.NotYet) (L.counts link.old) (L.counts link.new) }
 {
     let mut rest = bytes;
     'writes: while !rest.is_empty() {
@@ -89,7 +89,7 @@ pub(crate) fn put_all<L: Link>(
     ensures puts { IfOk result (λ halt. PutsMore halt L.tells messages.now (L.state link.old) (L.state link.new)) }
     ensures same { OnErr result ((L.state link.new ≡ L.state link.old) × (L.counts link.new ≡ L.counts link.old)) }
     ensures cause { IfOk result (λ halt. IfSome halt (IsHaltedBy (L.counts link.old) (L.counts link.new))) }
-    ensures continues { Continues (L.counts link.old) (L.counts link.new) }
+    ensures counts { IfOk result (λ halt. HasPut (halt ≢ Some Halt.NotYet) (L.counts link.old) (L.counts link.new)) }
 {
     let batch = batch_of(alloc, messages)?;
     if let Some(halt) = write_all(link, batch.bytes.as_slice()) {

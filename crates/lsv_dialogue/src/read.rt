@@ -1,9 +1,9 @@
 //! What comes over the link is read, and cut into messages.
 
-ghost use Rattle.std.specs.Prelude.{◌≡◌, ◌≢◌, length, true, IfOk, IsOk, OnErr};
+ghost use Rattle.std.specs.Prelude.{◌≡◌, ◌≢◌, length, true, IfOk, IsOk, Ok, OnErr};
 ghost use Rattle.lsv_words.specs.Causes.{HasRisen};
-ghost use Rattle.lsv_link.specs.Link.{Continues, IsConnected, open_of};
-ghost use Rattle.lsv_dialogue.specs.Stands.{HasRead, IsNext};
+ghost use Rattle.lsv_link.specs.Link.{IsConnected, open_of};
+ghost use Rattle.lsv_dialogue.specs.Stands.{HasLooked, HasRead, IsNext};
 
 use crate::talk::{BUFFER, Talk};
 use lsv_base::NoMem;
@@ -60,13 +60,14 @@ impl Talk {
         requires room { length self.old.buffer.items ≡ BUFFER }
         ensures read { HasRead L.tells (IsOk result) self.old.framer self.new.framer (L.state link.old) (L.state link.new) }
         ensures none { IfOk result (λ came. came ≢ Came.More → self.new.framer ≡ self.old.framer) }
+        ensures dry { L.tells → IfOk result (λ came. came ≢ Came.More → (open_of (L.state link.new)).dry ≡ true) }
         ensures ended { L.tells → IfOk result (λ came. came ≡ Came.End → (open_of (L.state link.new)).ended ≡ true) }
         ensures waited { IfOk result (λ came. came ≡ Came.Nothing → wait ≡ true → HasRisen (L.counts link.old).waits (L.counts link.new).waits) }
         ensures failed { IfOk result (λ came. came ≡ Came.Failed → HasRisen (L.counts link.old).faults (L.counts link.new).faults) }
+        ensures counts { HasLooked (result ≡ Ok Came.Nothing → wait ≡ true → ⊥) (L.counts link.old) (L.counts link.new) }
         ensures rest { self.new ≡ record self.old { framer = self.new.framer; buffer = self.new.buffer } }
         ensures refused { OnErr result (self.new.framer ≡ self.old.framer) }
         ensures room { length self.new.buffer.items ≡ BUFFER }
-        ensures continues { Continues (L.counts link.old) (L.counts link.new) }
     {
         match link.read(&mut self.buffer, wait) {
             Took::Bytes(count) => {

@@ -1,10 +1,10 @@
 //! How a conversation stands, and what is said in it.
 
-ghost use Rattle.std.specs.Prelude.{◌≡◌, ◌+◌, ◌≤◌, ℕ, [], length, None, IfOk, IfErr, IfSome, OnOk};
+ghost use Rattle.std.specs.Prelude.{◌≡◌, ◌≢◌, ◌+◌, ◌≤◌, ℕ, [], length, false, None, IfOk, IfErr, IfSome, OnOk};
 ghost use Rattle.std.specs.Option.{option_copied};
 ghost use Rattle.lsv_dialogue.specs.Events.{text_of};
 ghost use Rattle.lsv_dialogue.specs.declared.ends.Judged.TheVariants as judged;
-ghost use Rattle.lsv_dialogue.specs.Stands.{Breaks, IsGoing, Stands, View, as_list, floor, halt_of};
+ghost use Rattle.lsv_dialogue.specs.Stands.{Breaks, IsGoing, Stands, View, as_list, floor, halt_of, since};
 
 use crate::put::put_all;
 use crate::{MOST_PUT, Speaker, TalkFault};
@@ -96,15 +96,17 @@ impl Talk {
         link: &mut L,
         got: Option<&ServerMessage>,
     ) -> Result<usize, TalkFault<S::Fault>>
-        requires stands { (start : S.Start) × (begun : View) × (least : ℕ) × Stands (S.talks start speaker.old world.old) (S.is_quiet speaker.old) L.tells begun (as_list (option_copied got)) least self.old (L.counts link.old, L.state link.old) }
+        requires stands { (start : S.Start) × (begun : View) × (least : ℕ) × Stands (S.talks start) S.judges S.is_quiet S.over L.tells begun (as_list (option_copied got)) least self.old speaker.old world.old (L.counts link.old, L.state link.old) }
         requires going { IsGoing self.old.spoken }
+        requires wants { S.over speaker.old ≡ false }
         requires takes { IfSome (option_copied got) (λ message. S.judges speaker.old message ≡ judged.Takes) }
         requires good { IfSome (option_copied got) (λ message. text_of message ≡ None) }
-        ensures stands { IfOk result (λ n. (start : S.Start) (begun : View) (least : ℕ) → Stands (S.talks start speaker.old world.old) (S.is_quiet speaker.old) L.tells begun (as_list (option_copied got.entry)) least self.old (L.counts link.old, L.state link.old)
-            → Stands (S.talks start speaker.new world.new) (S.is_quiet speaker.new) L.tells begun [] (least + n) self.new (L.counts link.new, L.state link.new)) }
+        ensures stands { IfOk result (λ n. (start : S.Start) (begun : View) (least : ℕ) → IfSome (option_copied got.entry) (λ message. floor self.old.spoken ≤ least) → Stands (S.talks start) S.judges S.is_quiet S.over L.tells begun (as_list (option_copied got.entry)) least self.old speaker.old world.old (L.counts link.old, L.state link.old)
+            → Stands (S.talks start) S.judges S.is_quiet S.over L.tells begun [] (since (option_copied got.entry) least + n) self.new speaker.new world.new (L.counts link.new, L.state link.new)) }
         ensures some { IfOk result (λ n. self.new.spoken ≡ Spoken.Owing → 1 ≤ n) }
-        ensures broke { IfErr result (λ fault. (start : S.Start) (begun : View) (least : ℕ) → Stands (S.talks start speaker.old world.old) (S.is_quiet speaker.old) L.tells begun (as_list (option_copied got.entry)) least self.old (L.counts link.old, L.state link.old)
-            → Breaks (S.talks start speaker.new world.new) (S.fails start speaker.new world.new) L.tells begun (L.counts link.new, L.state link.new) fault) }
+        ensures wants { OnOk result (self.new.spoken ≢ Spoken.Quiet → S.over speaker.new ≡ false) }
+        ensures broke { IfErr result (λ fault. (start : S.Start) (begun : View) (least : ℕ) → IfSome (option_copied got.entry) (λ message. floor self.old.spoken ≤ least) → Stands (S.talks start) S.judges S.is_quiet S.over L.tells begun (as_list (option_copied got.entry)) least self.old speaker.old world.old (L.counts link.old, L.state link.old)
+            → Breaks (S.talks start) (S.fails start) S.judges S.is_quiet S.over L.tells begun speaker.new world.new (L.counts link.new, L.state link.new) fault) }
     {
         let messages = match speaker.step(world, got) {
             Ok(messages) => messages,
@@ -130,12 +132,13 @@ impl Talk {
         world: &mut W,
         link: &mut L,
     ) -> Result<(), TalkFault<S::Fault>>
-        requires stands { (start : S.Start) × (begun : View) × Stands (S.talks start speaker.old world.old) (S.is_quiet speaker.old) L.tells begun [] 0 self.old (L.counts link.old, L.state link.old) }
+        requires stands { (start : S.Start) × (begun : View) × Stands (S.talks start) S.judges S.is_quiet S.over L.tells begun [] 0 self.old speaker.old world.old (L.counts link.old, L.state link.old) }
         requires going { IsGoing self.old.spoken }
-        ensures stands { OnOk result ((start : S.Start) (begun : View) → Stands (S.talks start speaker.old world.old) (S.is_quiet speaker.old) L.tells begun [] 0 self.old (L.counts link.old, L.state link.old)
-            → Stands (S.talks start speaker.new world.new) (S.is_quiet speaker.new) L.tells begun [] (floor self.new.spoken) self.new (L.counts link.new, L.state link.new)) }
-        ensures broke { IfErr result (λ fault. (start : S.Start) (begun : View) → Stands (S.talks start speaker.old world.old) (S.is_quiet speaker.old) L.tells begun [] 0 self.old (L.counts link.old, L.state link.old)
-            → Breaks (S.talks start speaker.new world.new) (S.fails start speaker.new world.new) L.tells begun (L.counts link.new, L.state link.new) fault) }
+        requires wants { S.over speaker.old ≡ false }
+        ensures stands { OnOk result ((start : S.Start) (begun : View) → Stands (S.talks start) S.judges S.is_quiet S.over L.tells begun [] 0 self.old speaker.old world.old (L.counts link.old, L.state link.old)
+            → Stands (S.talks start) S.judges S.is_quiet S.over L.tells begun [] (floor self.new.spoken) self.new speaker.new world.new (L.counts link.new, L.state link.new)) }
+        ensures broke { IfErr result (λ fault. (start : S.Start) (begun : View) → Stands (S.talks start) S.judges S.is_quiet S.over L.tells begun [] 0 self.old speaker.old world.old (L.counts link.old, L.state link.old)
+            → Breaks (S.talks start) (S.fails start) S.judges S.is_quiet S.over L.tells begun speaker.new world.new (L.counts link.new, L.state link.new) fault) }
     {
         let mut put: usize = 0;
         'steps: for _ in 0..MOST_PUT {

@@ -1,6 +1,7 @@
 -- What images keep of a relaying, while entries are added to its bundle.
-use Rattle.std.proofs.Common.{◌≡◌, ◌≢◌, ◌⊎◌, inl, inr, ℕ, suc, ◌+◌, List, [], ◌∷◌, ◌++◌, length, take, map, Option, Some, None, option_map, Bool, true, false, Result, Ok, Err, OnOk, refl, sym, ◌∙◌, ap, subst, arith}
+use Rattle.std.proofs.Common.{◌≡◌, ◌≢◌, ◌⊎◌, inl, inr, ℕ, suc, ◌+◌, List, [], ◌∷◌, ◌++◌, length, take, map, Option, Some, None, option_map, Bool, true, false, Result, Ok, Err, OnOk, IsOk, IsErrAnd, refl, sym, ◌∙◌, ap, subst, arith}
 use Rattle.std.specs.Prelude.{◌==◌}
+use Rattle.std.proofs.lemmas.Bool.{false≢true}
 use Rattle.lsv_disk.specs.Bytes.{bytes_of}
 use Rattle.lsv_disk.specs.Files.{file_of}
 use Rattle.lsv_disk.specs.Throughout.{Throughout}
@@ -12,15 +13,15 @@ use Rattle.lsv_disk.specs.declared.file.Part.TheVariants.{Id}
 use Rattle.lsv_disk.proofs.Composition.{OnlyNow, followed, started, widened}
 use Rattle.lsv_journal.specs.Last.{LastAt}
 use Rattle.lsv_bundle.specs.declared.body.Body.{Body}
-use Rattle.lsv_bundle.specs.Committed.{BundleHolds, Committed, HoldsEntry, IsBeforeOrAfter, IsBeingMade, committed, committed_bytes, committed_cut, committed_next}
+use Rattle.lsv_bundle.specs.Committed.{BundleHolds, Committed, HasEntry, HoldsEntry, IsBeforeOrAfter, IsBeingMade, committed, committed_bytes, committed_cut, committed_next}
 use Rattle.lsv_bundle.specs.Shape.{IsPart, IsWritable, journal_of, on_shape}
 use Rattle.lsv_bundle.specs.Value.{BundleView, IsCommitted, IsFresh, IsStaged, NoneStaged, committed_length, staged, unstaged}
 use Rattle.lsv_bundle.specs.declared.shape.Shape.{Shape}
 use Rattle.lsv_bundle.specs.declared.shape.Shape.TheVariants as shapes
 use Rattle.lsv_bundle.specs.Represents.{Represents}
 use Rattle.lsv_bundle.proofs.Laws.{represents_holds, staging_committed, staging_lengths, writes_owner}
-use Rattle.lsv_kept.specs.Inner.{IsBundleOf, IsEither, StandsUndone, next_state}
-use Rattle.lsv_kept.specs.Kept.{IsOfRelay, IsOneOf, Keeps, owner_of, point_of, state_in, state_of}
+use Rattle.lsv_kept.specs.Inner.{EndsIn, HasLastOf, IsBundleOf, IsChangedFrom, StandsUndone, next_state}
+use Rattle.lsv_kept.specs.Kept.{Changes, HasLast, IsChanged, IsOfRelay, IsOneOf, IsReplaced, Keeps, LeavesLast, Replaces, owner_of, point_of, state_in, state_of}
 use Rattle.lsv_kept.specs.Value.{IsUnmade, StandsBy, keeps_id, state_on}
 use Rattle.lsv_kept.specs.declared.state.Kept.{Kept}
 use Rattle.lsv_kept.specs.declared.state.State.{State}
@@ -48,15 +49,35 @@ keeps_entry n b image entry state owner shape holds is = record {
   is = is;
 }
 
+-- the last entry of an image that holds what is committed
+last_entry : (n : ℕ) (b : BundleView) (disk : DiskView) (image : Image) (kind extra : ℕ) → b.owner ≡ owner_of n → BundleHolds b.owner b.shape (committed b disk) image → EndsIn kind extra b → HasLast n kind extra image
+last_entry n b disk image kind extra owner holds ends =
+    let there : HoldsEntry b.owner b.shape (record { body = ends.body; bytes = on_shape b.shape (committed_bytes b disk) }) image =
+    subst (λ (o : Option Body). BundleHolds b.owner b.shape (option_map (λ (body : Body). let c : Committed = record { body = body; bytes = on_shape b.shape (committed_bytes b disk) } in c) o) image) ends.last holds in record {
+      body = ends.body;
+      entry = subst (λ (o : Owner). HasEntry o ends.body image) owner (record { is_body = there.is_body; last = there.last });
+      kind_is = ends.kind_is;
+      extra_is = ends.extra_is;
+    }
+
+-- and of one that holds a new entry
+new_entry : (n : ℕ) (b : BundleView) (entry : Committed) (image : Image) (kind extra : ℕ) → b.owner ≡ owner_of n → HoldsEntry b.owner b.shape entry image → entry.body.kind ≡ kind → entry.body.extra ≡ extra → HasLast n kind extra image
+new_entry n b entry image kind extra owner there kind_is extra_is = record {
+  body = entry.body;
+  entry = subst (λ (o : Owner). HasEntry o entry.body image) owner (record { is_body = there.is_body; last = there.last });
+  kind_is = kind_is;
+  extra_is = extra_is;
+}
+
 -- while an entry is added, each image keeps what is kept before or after it
-pub either_through : (n : ℕ) (b : BundleView) (old new : DiskView) (entry : Committed) (state : State) → b.owner ≡ owner_of n → b.shape ≡ shapes.Relay → state_in (Some entry) ≡ state
+pub either_through : (n : ℕ) (b : BundleView) (old new : DiskView) (entry : Committed) (kind extra : ℕ) (state : State) → b.owner ≡ owner_of n → b.shape ≡ shapes.Relay → state_in (Some entry) ≡ state → entry.body.kind ≡ kind → entry.body.extra ≡ extra
     → (Touched : FileId → Type 0) → ((g : FileId) → Touched g → IsOfRelay n g) → Throughout Touched (IsBeforeOrAfter b.owner b.shape (committed b old) (Some entry)) old new
-    → Throughout (IsOfRelay n) (IsEither n (state_on b old) state) old new
-either_through n b old new entry state owner shape is Touched own run = widened Touched (IsOfRelay n) _ _ old new own (λ image holds beside. each image holds) run
+    → Throughout (IsOfRelay n) (IsChangedFrom n b old kind extra state) old new
+either_through n b old new entry kind extra state owner shape is kind_is extra_is Touched own run = widened Touched (IsOfRelay n) _ _ old new own (λ image holds beside. each image holds) run
   where
-    each : (image : Image) → IsBeforeOrAfter b.owner b.shape (committed b old) (Some entry) image → IsEither n (state_on b old) state image
-    each image (inl before) = inl (keeps_entry n b image (committed b old) (state_on b old) owner shape before refl)
-    each image (inr after) = inr (keeps_entry n b image (Some entry) state owner shape after is)
+    each : (image : Image) → IsBeforeOrAfter b.owner b.shape (committed b old) (Some entry) image → IsChangedFrom n b old kind extra state image
+    each image (inl before) = inl (keeps_entry n b image (committed b old) (state_on b old) owner shape before refl, λ k e ends. last_entry n b old image k e owner before ends)
+    each image (inr after) = inr (keeps_entry n b image (Some entry) state owner shape after is, new_entry n b entry image kind extra owner after kind_is extra_is)
 
 pub writable_own : (n : ℕ) (b : BundleView) → b.owner ≡ owner_of n → (g : FileId) → IsWritable b.owner b.shape g → IsOfRelay n g
 writable_own n b owner g w = writes_owner b.owner b.shape g w ∙ owner
@@ -126,37 +147,80 @@ staged_state old new disk bytes of = ap state_in (staging_committed old new disk
 
 -- ---- moments
 
--- one of two states, and then one of two others of which the first is the second of those
-pub then_either : (n : ℕ) (before after : State) (old mid new : DiskView) → Throughout (IsOfRelay n) (IsEither n before states.Nothing) old mid → Throughout (IsOfRelay n) (IsEither n states.Nothing after) mid new
-    → Throughout (IsOfRelay n) (IsOneOf n before after) old new
-then_either n before after old mid new first second = followed (IsOfRelay n) (IsOneOf n before after) old mid new
-    (widened (IsOfRelay n) (IsOfRelay n) _ _ old mid (λ g own. own) (λ image holds beside. one image holds) first)
-    (widened (IsOfRelay n) (IsOfRelay n) _ _ mid new (λ g own. own) (λ image holds beside. inr holds) second)
+-- the last entry of a bundle is one that was cut or kept
+pub ends_in : (b : BundleView) (body : Body) (kind extra : ℕ) → b.last ≡ Some body → body.kind ≡ kind → body.extra ≡ extra → EndsIn kind extra b
+ends_in b body kind extra last kind_is extra_is = record { body = body; last = last; kind_is = kind_is; extra_is = extra_is }
+
+-- a cut alone
+pub cut_only : (n : ℕ) (b : BundleView) (id : List ℕ) (old new : DiskView) → Throughout (IsOfRelay n) (IsChangedFrom n b old 2 0 states.Nothing) old new → Throughout (IsOfRelay n) (IsReplaced n (state_on b old) id) old new
+cut_only n b id old new run = widened (IsOfRelay n) (IsOfRelay n) _ _ old new (λ g own. own) (λ image holds beside. one image holds) run
   where
-    one : (image : Image) → IsEither n before states.Nothing image → IsOneOf n before after image
-    one image (inl is) = inl is
-    one image (inr is) = inr (inl is)
+    one : (image : Image) → IsChangedFrom n b old 2 0 states.Nothing image → IsReplaced n (state_on b old) id image
+    one image (inl before) = inl before.0
+    one image (inr after) = inr (inl after)
 
-pub either_one : (n : ℕ) (before after : State) (old new : DiskView) → Throughout (IsOfRelay n) (IsEither n before after) old new → Throughout (IsOfRelay n) (IsOneOf n before after) old new
-either_one n before after old new run = widened (IsOfRelay n) (IsOfRelay n) _ _ old new (λ g own. own) (λ image holds beside. one image holds) run
+-- a cut, and then an identifier
+pub then_replaced : (n : ℕ) (b c : BundleView) (id : List ℕ) (old mid new : DiskView) → EndsIn 2 0 c → state_on c mid ≡ states.Nothing → Throughout (IsOfRelay n) (IsChangedFrom n b old 2 0 states.Nothing) old mid
+    → Throughout (IsOfRelay n) (IsChangedFrom n c mid 1 0 (state_of 1 0 id)) mid new → Throughout (IsOfRelay n) (IsReplaced n (state_on b old) id) old new
+then_replaced n b c id old mid new ends is first second = followed (IsOfRelay n) (IsReplaced n (state_on b old) id) old mid new
+    (widened (IsOfRelay n) (IsOfRelay n) _ _ old mid (λ g own. own) (λ image holds beside. cut image holds) first)
+    (widened (IsOfRelay n) (IsOfRelay n) _ _ mid new (λ g own. own) (λ image holds beside. kept image holds) second)
   where
-    one : (image : Image) → IsEither n before after image → IsOneOf n before after image
+    cut : (image : Image) → IsChangedFrom n b old 2 0 states.Nothing image → IsReplaced n (state_on b old) id image
+    cut image (inl before) = inl before.0
+    cut image (inr after) = inr (inl after)
+
+    kept : (image : Image) → IsChangedFrom n c mid 1 0 (state_of 1 0 id) image → IsReplaced n (state_on b old) id image
+    kept image (inl before) = inr (inl (subst (Keeps n image) is before.0, before.1 2 0 ends))
+    kept image (inr after) = inr (inr after)
+
+-- an identifier where none was kept
+pub at_once : (n : ℕ) (b : BundleView) (id : List ℕ) (old new : DiskView) → Throughout (IsOfRelay n) (IsChangedFrom n b old 1 0 (state_of 1 0 id)) old new → Throughout (IsOfRelay n) (IsReplaced n (state_on b old) id) old new
+at_once n b id old new run = widened (IsOfRelay n) (IsOfRelay n) _ _ old new (λ g own. own) (λ image holds beside. one image holds) run
+  where
+    one : (image : Image) → IsChangedFrom n b old 1 0 (state_of 1 0 id) image → IsReplaced n (state_on b old) id image
+    one image (inl before) = inl before.0
+    one image (inr after) = inr (inr after)
+
+-- without the entries
+pub one_changed : (n : ℕ) (before : State) (kind extra : ℕ) (after : State) (old new : DiskView) → Throughout (IsOfRelay n) (IsChanged n before kind extra after) old new → Throughout (IsOfRelay n) (IsOneOf n before after) old new
+one_changed n before kind extra after old new run = widened (IsOfRelay n) (IsOfRelay n) _ _ old new (λ g own. own) (λ image holds beside. one image holds) run
+  where
+    one : (image : Image) → IsChanged n before kind extra after image → IsOneOf n before after image
     one image (inl is) = inl is
-    one image (inr is) = inr (inr is)
+    one image (inr is) = inr (inr is.0)
 
-pub before_is : (n : ℕ) (one two after : State) (old new : DiskView) → one ≡ two → Throughout (IsOfRelay n) (IsEither n one after) old new → Throughout (IsOfRelay n) (IsEither n two after) old new
-before_is n one two after old new is run = subst (λ (s : State). Throughout (IsOfRelay n) (IsEither n s after) old new) is run
+pub one_replaced : (n : ℕ) (before : State) (id : List ℕ) (old new : DiskView) → Throughout (IsOfRelay n) (IsReplaced n before id) old new → Throughout (IsOfRelay n) (IsOneOf n before (state_of 1 0 id)) old new
+one_replaced n before id old new run = widened (IsOfRelay n) (IsOfRelay n) _ _ old new (λ g own. own) (λ image holds beside. one image holds) run
+  where
+    one : (image : Image) → IsReplaced n before id image → IsOneOf n before (state_of 1 0 id) image
+    one image (inl is) = inl is
+    one image (inr (inl is)) = inr (inl is.0)
+    one image (inr (inr is)) = inr (inr is.0)
 
-pub after_is : (n : ℕ) (before one two : State) (old new : DiskView) → one ≡ two → Throughout (IsOfRelay n) (IsEither n before one) old new → Throughout (IsOfRelay n) (IsEither n before two) old new
-after_is n before one two old new is run = subst (λ (s : State). Throughout (IsOfRelay n) (IsEither n before s) old new) is run
+pub after_is : (n : ℕ) (b : BundleView) (disk : DiskView) (kind extra : ℕ) (one two : State) (old new : DiskView) → one ≡ two → Throughout (IsOfRelay n) (IsChangedFrom n b disk kind extra one) old new → Throughout (IsOfRelay n) (IsChangedFrom n b disk kind extra two) old new
+after_is n b disk kind extra one two old new is run = subst (λ (s : State). Throughout (IsOfRelay n) (IsChangedFrom n b disk kind extra s) old new) is run
+
+-- of another value of the bundle that commits the same
+pub before_is : (n : ℕ) (b c : BundleView) (disk : DiskView) (kind extra : ℕ) (after : State) (old new : DiskView) → state_on c disk ≡ state_on b disk → c.last ≡ b.last → Throughout (IsOfRelay n) (IsChangedFrom n c disk kind extra after) old new → Throughout (IsOfRelay n) (IsChangedFrom n b disk kind extra after) old new
+before_is n b c disk kind extra after old new is last run = widened (IsOfRelay n) (IsOfRelay n) _ _ old new (λ g own. own) (λ image holds beside. one image holds) run
+  where
+    one : (image : Image) → IsChangedFrom n c disk kind extra after image → IsChangedFrom n b disk kind extra after image
+    one image (inl before) = inl (subst (Keeps n image) is before.0, λ k e ends. before.1 k e (record { body = ends.body; last = last ∙ ends.last; kind_is = ends.kind_is; extra_is = ends.extra_is }))
+    one image (inr it) = inr it
 
 -- each crash image keeps what the bundle keeps
 pub each_keeps : (n : ℕ) (b : BundleView) (disk : DiskView) → b.owner ≡ owner_of n → b.shape ≡ shapes.Relay → Represents b disk → (image : Image) → IsCrashImage disk image → Keeps n image (state_on b disk)
 each_keeps n b disk owner shape at image left = keeps_entry n b image (committed b disk) (state_on b disk) owner shape (represents_holds b disk at image (λ file own. left file)) refl
 
 -- nothing was done
-pub rests : (n : ℕ) (b : BundleView) (disk : DiskView) (after : State) → IsBundleOf n b → Represents b disk → OnlyNow disk → Throughout (IsOfRelay n) (IsEither n (state_on b disk) after) disk disk
-rests n b disk after is at now = started (IsOfRelay n) _ disk now (λ image left. inl (each_keeps n b disk is.owner is.shape at image left))
+pub rests : (n : ℕ) (b : BundleView) (disk : DiskView) (kind extra : ℕ) (after : State) → IsBundleOf n b → Represents b disk → OnlyNow disk → Throughout (IsOfRelay n) (IsChangedFrom n b disk kind extra after) disk disk
+rests n b disk kind extra after is at now =
+    started (IsOfRelay n) _ disk now (λ image left. inl (each_keeps n b disk is.owner is.shape at image left, λ k e ends. last_entry n b disk image k e is.owner (represents_holds b disk at image (λ file own. left file)) ends))
+
+-- the last entry is in each crash image
+pub last_left : (n m : ℕ) (b : BundleView) (disk : DiskView) (kind extra : ℕ) → m ≡ n → IsBundleOf m b → Represents b disk → EndsIn kind extra b → LeavesLast n kind extra disk
+last_left n m b disk kind extra number own at ends image left = subst (λ (k : ℕ). HasLast k kind extra image) number (last_entry m b disk image kind extra own.owner (represents_holds b disk at image (λ file its. left file)) ends)
 
 -- ---- the files of a relaying
 
@@ -181,32 +245,38 @@ kept_bytes b disk kept shape is = go b.last refl
 pub entry_state : (n : ℕ) (b : BundleView) (kind extra : ℕ) (old : DiskView) (kept : Kept) → IsBundleOf n b → StandsBy n (states.Kept kept) (Some b) old → next_state b old kind extra ≡ state_of kind extra kept.id
 entry_state n b kind extra old kept own stands = next_same b old kind extra (own.none_staged Id (is_part b.shape own.shape)) ∙ ap (state_of kind extra) (kept_bytes b old kept own.shape stands.1)
 
+-- of what the files keep
+pub changed_from : (n : ℕ) (b : BundleView) (disk : DiskView) (before : State) (kind extra : ℕ) (after : State) (old new : DiskView) → state_on b disk ≡ before → Throughout (IsOfRelay n) (IsChangedFrom n b disk kind extra after) old new → Throughout (IsOfRelay n) (IsChanged n before kind extra after) old new
+changed_from n b disk before kind extra after old new is run = widened (IsOfRelay n) (IsOfRelay n) _ _ old new (λ g own. own) (λ image holds beside. one image holds) run
+  where
+    one : (image : Image) → IsChangedFrom n b disk kind extra after image → IsChanged n before kind extra after image
+    one image (inl it) = inl (subst (Keeps n image) is it.0)
+    one image (inr it) = inr it
+
 -- an entry for the same identifier, over a bundle that keeps it
-pub entry_through : (n : ℕ) (x b : BundleView) (kind extra : ℕ) (old new : DiskView) (kept : Kept) → x ≡ b → IsBundleOf n b → StandsBy n (states.Kept kept) (Some b) old
-    → Throughout (IsOfRelay n) (IsEither n (state_on x old) (next_state x old kind extra)) old new → Throughout (IsOfRelay n) (IsEither n (states.Kept kept) (state_of kind extra kept.id)) old new
-entry_through n x b kind extra old new kept view own stands run =
-    after_is n (states.Kept kept) (next_state b old kind extra) (state_of kind extra kept.id) old new (entry_state n b kind extra old kept own stands)
-    (before_is n (state_on b old) (states.Kept kept) (next_state b old kind extra) old new stands.1
-    (subst (λ (y : BundleView). Throughout (IsOfRelay n) (IsEither n (state_on y old) (next_state y old kind extra)) old new) view run))
+pub entry_through : (n : ℕ) (b : BundleView) (kind extra : ℕ) (old new : DiskView) (kept : Kept) → IsBundleOf n b → StandsBy n (states.Kept kept) (Some b) old
+    → Throughout (IsOfRelay n) (IsChangedFrom n b old kind extra (next_state b old kind extra)) old new → Throughout (IsOfRelay n) (IsChanged n (states.Kept kept) kind extra (state_of kind extra kept.id)) old new
+entry_through n b kind extra old new kept own stands run =
+    changed_from n b old (states.Kept kept) kind extra (state_of kind extra kept.id) old new stands.1 (after_is n b old kind extra (next_state b old kind extra) (state_of kind extra kept.id) old new (entry_state n b kind extra old kept own stands) run)
 
 -- the files are made, and then an identifier is kept in them
-pub made_through : (n : ℕ) (b : BundleView) (after : State) (old mid new : DiskView) → Throughout (IsOfRelay n) (λ image. Keeps n image states.Nothing) old mid → state_on b mid ≡ states.Nothing
-    → Throughout (IsOfRelay n) (IsEither n (state_on b mid) after) mid new → Throughout (IsOfRelay n) (IsOneOf n states.Nothing after) old new
-made_through n b after old mid new first is second = followed (IsOfRelay n) (IsOneOf n states.Nothing after) old mid new
+pub made_through : (n : ℕ) (b : BundleView) (id : List ℕ) (old mid new : DiskView) → Throughout (IsOfRelay n) (λ image. Keeps n image states.Nothing) old mid → state_on b mid ≡ states.Nothing
+    → Throughout (IsOfRelay n) (IsChangedFrom n b mid 1 0 (state_of 1 0 id)) mid new → Throughout (IsOfRelay n) (IsReplaced n states.Nothing id) old new
+made_through n b id old mid new first is second = followed (IsOfRelay n) (IsReplaced n states.Nothing id) old mid new
     (widened (IsOfRelay n) (IsOfRelay n) _ _ old mid (λ g own. own) (λ image keeps beside. inl keeps) first)
-    (either_one n states.Nothing after mid new (before_is n (state_on b mid) states.Nothing after mid new is second))
+    (subst (λ (s : State). Throughout (IsOfRelay n) (IsReplaced n s id) mid new) is (at_once n b id mid new second))
 
 -- an identifier is kept in files that stand on a disk
-pub files_through : (n : ℕ) (state after : State) (files : Option BundleView) (b : BundleView) (old new : DiskView) → files ≡ Some b → StandsBy n state files old → Throughout (IsOfRelay n) (IsOneOf n (state_on b old) after) old new
-    → Throughout (IsOfRelay n) (IsOneOf n state after) old new
-files_through n state after files b old new is stands run =
-    subst (λ (s : State). Throughout (IsOfRelay n) (IsOneOf n s after) old new) (subst (λ (f : Option BundleView). StandsBy n state f old) is stands).1 run
+pub files_through : (n : ℕ) (state : State) (id : List ℕ) (files : Option BundleView) (b : BundleView) (old new : DiskView) → files ≡ Some b → StandsBy n state files old → Throughout (IsOfRelay n) (IsReplaced n (state_on b old) id) old new
+    → Throughout (IsOfRelay n) (IsReplaced n state id) old new
+files_through n state id files b old new is stands run =
+    subst (λ (s : State). Throughout (IsOfRelay n) (IsReplaced n s id) old new) (subst (λ (f : Option BundleView). StandsBy n state f old) is stands).1 run
 
-pub unmade_through : (n : ℕ) (state after : State) (files : Option BundleView) (old new : DiskView) → files ≡ None → state ≢ states.Done → StandsBy n state files old → Throughout (IsOfRelay n) (IsOneOf n states.Nothing after) old new
-    → Throughout (IsOfRelay n) (IsOneOf n state after) old new
-unmade_through n state after files old new is undone stands run = elim (subst (λ (f : Option BundleView). StandsBy n state f old) is stands) [
+pub unmade_through : (n : ℕ) (state : State) (id : List ℕ) (files : Option BundleView) (old new : DiskView) → files ≡ None → state ≢ states.Done → StandsBy n state files old → Throughout (IsOfRelay n) (IsReplaced n states.Nothing id) old new
+    → Throughout (IsOfRelay n) (IsReplaced n state id) old new
+unmade_through n state id files old new is undone stands run = elim (subst (λ (f : Option BundleView). StandsBy n state f old) is stands) [
   | inl done ↦ absurd (undone done)
-  | inr none ↦ subst (λ (s : State). Throughout (IsOfRelay n) (IsOneOf n s after) old new) (sym none.0) run
+  | inr none ↦ subst (λ (s : State). Throughout (IsOfRelay n) (IsReplaced n s id) old new) (sym none.0) run
 ]
 
 pub undone_unmade : (n : ℕ) (files : Option BundleView) (disk : DiskView) → files ≡ None → StandsUndone n files disk → IsUnmade n disk
@@ -230,16 +300,16 @@ is_kept (states.Kept kept) e = (kept, refl)
 is_kept states.Done e = absurd (cc)
 
 -- what an entry makes of a state, over the files of a keeping
-pub keeps_through : (n m : ℕ) (state after : State) (files held : Option BundleView) (old new : DiskView) → m ≡ n → held ≡ files → keeps_id state ≡ true → StandsBy n state files old
-    → ((kept : Kept) → state ≡ states.Kept kept → (next : State) × (next ≡ after) × (StandsBy m (states.Kept kept) held old → Throughout (IsOfRelay m) (IsEither m (states.Kept kept) next) old new))
-    → Throughout (IsOfRelay n) (IsOneOf n state after) old new
-keeps_through n m state after files held old new number is keeps stands run =
+pub keeps_through : (n m : ℕ) (state : State) (kind extra : ℕ) (after : State) (files held : Option BundleView) (old new : DiskView) → m ≡ n → held ≡ files → keeps_id state ≡ true → StandsBy n state files old
+    → ((kept : Kept) → state ≡ states.Kept kept → (next : State) × (next ≡ after) × (StandsBy m (states.Kept kept) held old → Throughout (IsOfRelay m) (IsChanged m (states.Kept kept) kind extra next) old new))
+    → Throughout (IsOfRelay n) (IsChanged n state kind extra after) old new
+keeps_through n m state kind extra after files held old new number is keeps stands run =
     let kept = is_kept state keeps in
     let next = run kept.0 kept.1 in
     let there : StandsBy m (states.Kept kept.0) held old = subst (λ (k : ℕ). StandsBy k (states.Kept kept.0) held old) (sym number) (subst (λ (f : Option BundleView). StandsBy n (states.Kept kept.0) f old) (sym is) (subst (λ (s : State). StandsBy n s files old) kept.1 stands)) in
-    subst (λ (s : State). Throughout (IsOfRelay n) (IsOneOf n s after) old new) (sym kept.1)
-    (subst (λ (s : State). Throughout (IsOfRelay n) (IsOneOf n (states.Kept kept.0) s) old new) next.1
-    (either_one n (states.Kept kept.0) next.0 old new (subst (λ (k : ℕ). Throughout (IsOfRelay k) (IsEither k (states.Kept kept.0) next.0) old new) number (next.2 there))))
+    subst (λ (s : State). Throughout (IsOfRelay n) (IsChanged n s kind extra after) old new) (sym kept.1)
+    (subst (λ (s : State). Throughout (IsOfRelay n) (IsChanged n (states.Kept kept.0) kind extra s) old new) next.1
+    (subst (λ (k : ℕ). Throughout (IsOfRelay k) (IsChanged k (states.Kept kept.0) kind extra next.0) old new) number (next.2 there)))
 
 pub keeps_state : (n m : ℕ) (state after : State) (files held : Option BundleView) (old : DiskView) (found : State) → m ≡ n → held ≡ files → keeps_id state ≡ true → StandsBy n state files old
     → ((kept : Kept) → state ≡ states.Kept kept → (next : State) × (next ≡ after) × (StandsBy m (states.Kept kept) held old → found ≡ next)) → found ≡ after
@@ -254,8 +324,20 @@ pub now_keeps : (n m : ℕ) (b : BundleView) (disk : DiskView) (state : State) �
 now_keeps n m b disk state number own at is image left = subst (λ (k : ℕ). Keeps k image state) number (subst (Keeps m image) is (each_keeps m b disk own.owner own.shape at image left))
 
 -- an identifier is kept in the files of a keeping
-pub id_through : (n m : ℕ) (state after : State) (files held : Option BundleView) (old new : DiskView) → m ≡ n → held ≡ files → state ≢ states.Done → StandsBy n state files old
-    → ((s : State) → s ≢ states.Done → StandsBy m s held old → Throughout (IsOfRelay m) (IsOneOf m s after) old new) → Throughout (IsOfRelay n) (IsOneOf n state after) old new
-id_through n m state after files held old new number is undone stands run =
-    subst (λ (k : ℕ). Throughout (IsOfRelay k) (IsOneOf k state after) old new) number
+pub id_through : (n m : ℕ) (state : State) (id : List ℕ) (files held : Option BundleView) (old new : DiskView) → m ≡ n → held ≡ files → state ≢ states.Done → StandsBy n state files old
+    → ((s : State) → s ≢ states.Done → StandsBy m s held old → Throughout (IsOfRelay m) (IsReplaced m s id) old new) → Throughout (IsOfRelay n) (IsReplaced n state id) old new
+id_through n m state id files held old new number is undone stands run =
+    subst (λ (k : ℕ). Throughout (IsOfRelay k) (IsReplaced k state id) old new) number
     (run state undone (subst (λ (k : ℕ). StandsBy k state held old) (sym number) (subst (λ (f : Option BundleView). StandsBy n state f old) (sym is) stands)))
+
+-- ---- what a call that keeps something says
+
+pub err_not_ok : {T E : Type 0} (r : Result T E) (e : E) → IsErrAnd r (λ y. y ≡ e) → IsOk r → ⊥
+err_not_ok (Ok x) e is ok = absurd is
+err_not_ok (Err y) e is ok = absurd (false≢true ok)
+
+pub changes_by : (ok : Type 0) (n : ℕ) (before : State) (kind extra : ℕ) (after : State) (old new : DiskView) → Throughout (IsOfRelay n) (IsChanged n before kind extra after) old new → (ok → LeavesLast n kind extra new) → Changes ok n before kind extra after old new
+changes_by ok n before kind extra after old new moments left = record { moments = moments; left = left }
+
+pub replaces_by : (ok : Type 0) (n : ℕ) (before : State) (id : List ℕ) (old new : DiskView) → Throughout (IsOfRelay n) (IsReplaced n before id) old new → (ok → LeavesLast n 1 0 new) → Replaces ok n before id old new
+replaces_by ok n before id old new moments left = record { moments = moments; left = left }

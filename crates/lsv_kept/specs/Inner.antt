@@ -3,11 +3,12 @@ use Rattle.std.specs.Prelude.{◌≡◌, ◌≢◌, ◌⊎◌, ◌++◌, ℕ, fa
 use Rattle.lsv_disk.specs.declared.file.Part.TheVariants.{Id}
 use Rattle.lsv_disk.specs.View.{DiskView, Image}
 use Rattle.lsv_bundle.specs.Committed.{committed_bytes}
+use Rattle.lsv_bundle.specs.declared.body.Body.{Body}
 use Rattle.lsv_bundle.specs.Represents.{Represents}
 use Rattle.lsv_bundle.specs.Value.{BundleView, NoneStaged, staged}
 use Rattle.lsv_bundle.specs.declared.shape.Shape.TheVariants as shapes
-use Rattle.lsv_kept.specs.Kept.{Keeps, owner_of, state_of}
-use Rattle.lsv_kept.specs.Value.{KeepingView, StandsBy}
+use Rattle.lsv_kept.specs.Kept.{HasLast, Keeps, owner_of, state_of}
+use Rattle.lsv_kept.specs.Value.{KeepingView, StandsBy, state_on}
 use Rattle.lsv_kept.specs.declared.state.Kept.{Kept}
 use Rattle.lsv_kept.specs.declared.state.State.{State}
 use Rattle.lsv_kept.specs.declared.state.State.TheVariants as states
@@ -23,9 +24,20 @@ pub record IsBundleOf (n : ℕ) (bundle : BundleView) : Type 0 where
 abbrev pub next_state : BundleView → DiskView → (kind extra : ℕ) → State
 next_state bundle disk kind extra = state_of kind extra (committed_bytes bundle disk Id ++ staged bundle Id)
 
--- an image keeps the one or the other
-abbrev pub IsEither : ℕ → State → State → Image → Type 0
-IsEither n before after image = Keeps n image before ⊎ Keeps n image after
+-- the last entry of a bundle is of this kind, and has this extra number
+pub record EndsIn (kind extra : ℕ) (bundle : BundleView) : Type 0 where
+  pub body : Body
+  pub last : bundle.last ≡ Some body
+  pub kind_is : body.kind ≡ kind
+  pub extra_is : body.extra ≡ extra
+
+-- an image has the last entry of a bundle, if there is one
+abbrev pub HasLastOf : ℕ → BundleView → Image → Type 0
+HasLastOf n bundle image = (kind extra : ℕ) → EndsIn kind extra bundle → HasLast n kind extra image
+
+-- an image keeps what the bundle keeps, by its last entry, or what is kept after by an entry of this kind and extra number
+abbrev pub IsChangedFrom : (n : ℕ) → BundleView → DiskView → (kind extra : ℕ) (after : State) → Image → Type 0
+IsChangedFrom n bundle disk kind extra after image = (Keeps n image (state_on bundle disk) × HasLastOf n bundle image) ⊎ (Keeps n image after × HasLast n kind extra image)
 
 -- there is such a bundle
 abbrev pub IsBundleIn : ℕ → Option BundleView → Type 0

@@ -6,6 +6,7 @@ use Rattle.lsv_disk.specs.declared.file.Owner.TheVariants as owners
 use Rattle.lsv_disk.specs.declared.file.Part.{Part}
 use Rattle.lsv_disk.specs.declared.file.Part.TheVariants.{Id}
 use Rattle.lsv_disk.specs.Files.{file_of}
+use Rattle.lsv_disk.specs.Throughout.{Throughout}
 use Rattle.lsv_disk.specs.View.{DiskView, Image, IsCrashImage}
 use Rattle.lsv_bundle.specs.Body.{length_of}
 use Rattle.lsv_bundle.specs.Committed.{BundleHolds, Committed, HasEntry, IsDamaged, IsShort}
@@ -49,6 +50,36 @@ pub record Keeps (n : ℕ) (image : Image) (state : State) : Type 0 where
 -- an image keeps what was kept before, or what is kept after, or nothing
 abbrev pub IsOneOf : ℕ → State → State → Image → Type 0
 IsOneOf n before after image = Keeps n image before ⊎ Keeps n image states.Nothing ⊎ Keeps n image after
+
+-- in an image the last entry is of this kind, and has this extra number
+pub record HasLast (n kind extra : ℕ) (image : Image) : Type 0 where
+  pub body : Body
+  pub entry : HasEntry (owner_of n) body image
+  pub kind_is : body.kind ≡ kind
+  pub extra_is : body.extra ≡ extra
+
+-- an image keeps what was kept before, or what is kept after by an entry of this kind and extra number
+abbrev pub IsChanged : (n : ℕ) (before : State) (kind extra : ℕ) (after : State) → Image → Type 0
+IsChanged n before kind extra after image = Keeps n image before ⊎ (Keeps n image after × HasLast n kind extra image)
+
+-- an image keeps what was kept before, or nothing by a cut, or this identifier
+abbrev pub IsReplaced : (n : ℕ) (before : State) (id : List ℕ) → Image → Type 0
+IsReplaced n before id image =
+    Keeps n image before ⊎ (Keeps n image states.Nothing × HasLast n 2 0 image) ⊎ (Keeps n image (states.Kept (record { id = id; point = None })) × HasLast n 1 0 image)
+
+-- each crash image has such an entry last
+abbrev pub LeavesLast : (n kind extra : ℕ) → DiskView → Type 0
+LeavesLast n kind extra disk = (image : Image) → IsCrashImage disk image → HasLast n kind extra image
+
+-- by one entry: at no moment is anything else kept than before or after, and after a call that succeeded the entry is in each crash image
+pub record Changes (succeeded : Type 0) (n : ℕ) (before : State) (kind extra : ℕ) (after : State) (old new : DiskView) : Type 0 where
+  pub moments : Throughout (IsOfRelay n) (IsChanged n before kind extra after) old new
+  pub left : succeeded → LeavesLast n kind extra new
+
+-- by an identifier, in place of another after a cut
+pub record Replaces (succeeded : Type 0) (n : ℕ) (before : State) (id : List ℕ) (old new : DiskView) : Type 0 where
+  pub moments : Throughout (IsOfRelay n) (IsReplaced n before id) old new
+  pub left : succeeded → LeavesLast n 1 0 new
 
 -- in an image the log is marked as relayed: the last entry is of kind 3, and the data file is there with its length
 pub record IsMarked (n : ℕ) (image : Image) : Type 0 where

@@ -10,8 +10,8 @@ ghost use Rattle.lsv_disk.specs.Throughout.{Throughout};
 ghost use Rattle.lsv_disk.specs.View.{HasOwnCause, Image, IsCrashImage};
 ghost use Rattle.lsv_disk.specs.declared.file.Part.{Part};
 ghost use Rattle.lsv_journal.specs.Last.{LastAt, MayBeMade};
-ghost use Rattle.lsv_kept.specs.Inner.{IsBundleIn, IsBundleOf, IsEither, RepresentsIn, StandsUndone, next_state};
-ghost use Rattle.lsv_kept.specs.Kept.{IsOfRelay, IsOneOf, Keeps, owner_of, state_of};
+ghost use Rattle.lsv_kept.specs.Inner.{EndsIn, IsBundleIn, IsBundleOf, IsChangedFrom, RepresentsIn, StandsUndone, next_state};
+ghost use Rattle.lsv_kept.specs.Kept.{IsChanged, IsOfRelay, IsReplaced, Keeps, owner_of, state_of};
 ghost use Rattle.lsv_kept.specs.Value.{IsUnmade, StandsBy, state_on};
 ghost use Rattle.lsv_kept.specs.declared.state.Kept.{Kept};
 ghost use Rattle.lsv_kept.specs.declared.state.State.{State};
@@ -62,7 +62,8 @@ pub(crate) fn commit<D: Disk>(
     ensures bundle { OnOk result (IsBundleOf number bundle.new) }
     ensures state { D.tells → OnOk result (state_on bundle.new (D.view disk.new) ≡ next_state bundle.old (D.view disk.old) kind extra) }
     ensures represents { D.tells → OnOk result (Represents bundle.new (D.view disk.new)) }
-    ensures any_moment { D.tells → Throughout (IsOfRelay number) (IsEither number (state_on bundle.old (D.view disk.old)) (next_state bundle.old (D.view disk.old) kind extra)) (D.view disk.old) (D.view disk.new) }
+    ensures any_moment { D.tells → Throughout (IsOfRelay number) (IsChangedFrom number bundle.old (D.view disk.old) kind extra (next_state bundle.old (D.view disk.old) kind extra)) (D.view disk.old) (D.view disk.new) }
+    ensures last { OnOk result (EndsIn kind extra bundle.new) }
     ensures fault { IfErr result (λ e. e ≡ BundleFault.Disk) }
     ensures cause { HasOwnCause (IsOfRelay number) (IsErrOf result BundleFault.Disk) (D.view disk.old) (D.view disk.new) }
 {
@@ -81,7 +82,8 @@ pub(crate) fn clear<D: Disk>(
     ensures empty { OnOk result (committed_length bundle.new Part.Id ≡ 0) }
     ensures state { D.tells → OnOk result (state_on bundle.new (D.view disk.new) ≡ states.Nothing) }
     ensures represents { D.tells → OnOk result (Represents bundle.new (D.view disk.new)) }
-    ensures any_moment { D.tells → Throughout (IsOfRelay number) (IsEither number (state_on bundle.old (D.view disk.old)) states.Nothing) (D.view disk.old) (D.view disk.new) }
+    ensures any_moment { D.tells → Throughout (IsOfRelay number) (IsChangedFrom number bundle.old (D.view disk.old) 2 0 states.Nothing) (D.view disk.old) (D.view disk.new) }
+    ensures last { OnOk result (EndsIn 2 0 bundle.new) }
     ensures fault { IfErr result (λ e. e ≡ BundleFault.Disk) }
     ensures cause { HasOwnCause (IsOfRelay number) (IsErrOf result BundleFault.Disk) (D.view disk.old) (D.view disk.new) }
 {
@@ -111,7 +113,8 @@ pub(crate) fn put_id<D: Disk>(
     ensures bundle { OnOk result (IsBundleOf number bundle.new) }
     ensures state { D.tells → OnOk result (state_on bundle.new (D.view disk.new) ≡ state_of 1 0 id.now) }
     ensures represents { D.tells → OnOk result (Represents bundle.new (D.view disk.new)) }
-    ensures any_moment { D.tells → Throughout (IsOfRelay number) (IsEither number (state_on bundle.old (D.view disk.old)) (state_of 1 0 id.now)) (D.view disk.old) (D.view disk.new) }
+    ensures any_moment { D.tells → Throughout (IsOfRelay number) (IsChangedFrom number bundle.old (D.view disk.old) 1 0 (state_of 1 0 id.now)) (D.view disk.old) (D.view disk.new) }
+    ensures last { OnOk result (EndsIn 1 0 bundle.new) }
     ensures fault { IfErr result (λ e. (e ≡ BundleFault.Disk) ⊎ (e ≡ BundleFault.NoMem)) }
     ensures cause { HasOwnCause (IsOfRelay number) (IsErrOf result BundleFault.Disk) (D.view disk.old) (D.view disk.new) }
 {
@@ -135,7 +138,8 @@ pub(crate) fn replace_id<D: Disk>(
     ensures bundle { OnOk result (IsBundleOf number bundle.new) }
     ensures state { D.tells → OnOk result (state_on bundle.new (D.view disk.new) ≡ state_of 1 0 id.now) }
     ensures represents { D.tells → OnOk result (Represents bundle.new (D.view disk.new)) }
-    ensures any_moment { D.tells → Throughout (IsOfRelay number) (IsOneOf number (state_on bundle.old (D.view disk.old)) (state_of 1 0 id.now)) (D.view disk.old) (D.view disk.new) }
+    ensures any_moment { D.tells → Throughout (IsOfRelay number) (IsReplaced number (state_on bundle.old (D.view disk.old)) id.now) (D.view disk.old) (D.view disk.new) }
+    ensures last { OnOk result (EndsIn 1 0 bundle.new) }
     ensures fault { IfErr result (λ e. (e ≡ BundleFault.Disk) ⊎ (e ≡ BundleFault.NoMem)) }
     ensures cause { HasOwnCause (IsOfRelay number) (IsErrOf result BundleFault.Disk) (D.view disk.old) (D.view disk.new) }
 {
@@ -155,7 +159,8 @@ pub(crate) fn first_id<D: Disk>(
     ensures bundle { IfOk result (IsBundleOf number) }
     ensures state { D.tells → IfOk result (λ b. state_on b (D.view disk.new) ≡ state_of 1 0 id.now) }
     ensures represents { D.tells → IfOk result (λ b. Represents b (D.view disk.new)) }
-    ensures any_moment { D.tells → Throughout (IsOfRelay number) (IsOneOf number states.Nothing (state_of 1 0 id.now)) (D.view disk.old) (D.view disk.new) }
+    ensures any_moment { D.tells → Throughout (IsOfRelay number) (IsReplaced number states.Nothing id.now) (D.view disk.old) (D.view disk.new) }
+    ensures last { IfOk result (EndsIn 1 0) }
     ensures fault { IfErr result (λ e. (e ≡ BundleFault.Disk) ⊎ (e ≡ BundleFault.NoMem)) }
     ensures cause { HasOwnCause (IsOfRelay number) (IsErrOf result BundleFault.Disk) (D.view disk.old) (D.view disk.new) }
 {
@@ -178,7 +183,8 @@ pub(crate) fn next_id<D: Disk>(
     ensures bundle { IfOk result (IsBundleOf number) }
     ensures state { D.tells → IfOk result (λ b. state_on b (D.view disk.new) ≡ state_of 1 0 id.now) }
     ensures represents { D.tells → IfOk result (λ b. Represents b (D.view disk.new)) }
-    ensures any_moment { D.tells → Throughout (IsOfRelay number) (IsOneOf number (state_on bundle (D.view disk.old)) (state_of 1 0 id.now)) (D.view disk.old) (D.view disk.new) }
+    ensures any_moment { D.tells → Throughout (IsOfRelay number) (IsReplaced number (state_on bundle (D.view disk.old)) id.now) (D.view disk.old) (D.view disk.new) }
+    ensures last { IfOk result (EndsIn 1 0) }
     ensures fault { IfErr result (λ e. (e ≡ BundleFault.Disk) ⊎ (e ≡ BundleFault.NoMem)) }
     ensures cause { HasOwnCause (IsOfRelay number) (IsErrOf result BundleFault.Disk) (D.view disk.old) (D.view disk.new) }
 {
@@ -206,7 +212,8 @@ pub(crate) fn with_id<D: Disk>(
     ensures bundle { IfOk result (IsBundleOf number) }
     ensures state { D.tells → IfOk result (λ b. state_on b (D.view disk.new) ≡ state_of 1 0 id.now) }
     ensures represents { D.tells → IfOk result (λ b. Represents b (D.view disk.new)) }
-    ensures any_moment { D.tells → (state : State) → state ≢ states.Done → StandsBy number state files (D.view disk.old) → Throughout (IsOfRelay number) (IsOneOf number state (state_of 1 0 id.now)) (D.view disk.old) (D.view disk.new) }
+    ensures any_moment { D.tells → (state : State) → state ≢ states.Done → StandsBy number state files (D.view disk.old) → Throughout (IsOfRelay number) (IsReplaced number state id.now) (D.view disk.old) (D.view disk.new) }
+    ensures last { IfOk result (EndsIn 1 0) }
     ensures fault { IfErr result (λ e. (e ≡ BundleFault.Disk) ⊎ (e ≡ BundleFault.NoMem)) }
     ensures cause { HasOwnCause (IsOfRelay number) (IsErrOf result BundleFault.Disk) (D.view disk.old) (D.view disk.new) }
 {
@@ -229,7 +236,8 @@ pub(crate) fn add_entry<D: Disk>(
     ensures bundle { IfOk result (IsBundleOf number) }
     ensures state { D.tells → (kept : Kept) → StandsBy number (states.Kept kept) files (D.view disk.old) → IfOk result (λ b. state_on b (D.view disk.new) ≡ state_of kind extra kept.id) }
     ensures represents { D.tells → IfOk result (λ b. Represents b (D.view disk.new)) }
-    ensures any_moment { D.tells → (kept : Kept) → StandsBy number (states.Kept kept) files (D.view disk.old) → Throughout (IsOfRelay number) (IsEither number (states.Kept kept) (state_of kind extra kept.id)) (D.view disk.old) (D.view disk.new) }
+    ensures any_moment { D.tells → (kept : Kept) → StandsBy number (states.Kept kept) files (D.view disk.old) → Throughout (IsOfRelay number) (IsChanged number (states.Kept kept) kind extra (state_of kind extra kept.id)) (D.view disk.old) (D.view disk.new) }
+    ensures last { IfOk result (EndsIn kind extra) }
     ensures fault { IfErr result (λ e. e ≡ BundleFault.Disk) }
     ensures cause { HasOwnCause (IsOfRelay number) (IsErrOf result BundleFault.Disk) (D.view disk.old) (D.view disk.new) }
 {
@@ -250,7 +258,8 @@ pub(crate) fn cleared<D: Disk>(
     ensures bundle { IfOk result (IsBundleOf number) }
     ensures state { D.tells → IfOk result (λ n. state_on n (D.view disk.new) ≡ states.Nothing) }
     ensures represents { D.tells → IfOk result (λ n. Represents n (D.view disk.new)) }
-    ensures any_moment { D.tells → (kept : Kept) → StandsBy number (states.Kept kept) files (D.view disk.old) → Throughout (IsOfRelay number) (IsEither number (states.Kept kept) states.Nothing) (D.view disk.old) (D.view disk.new) }
+    ensures any_moment { D.tells → (kept : Kept) → StandsBy number (states.Kept kept) files (D.view disk.old) → Throughout (IsOfRelay number) (IsChanged number (states.Kept kept) 2 0 states.Nothing) (D.view disk.old) (D.view disk.new) }
+    ensures last { IfOk result (EndsIn 2 0) }
     ensures fault { IfErr result (λ e. e ≡ BundleFault.Disk) }
     ensures cause { HasOwnCause (IsOfRelay number) (IsErrOf result BundleFault.Disk) (D.view disk.old) (D.view disk.new) }
 {
@@ -273,7 +282,8 @@ fn with_entry<D: Disk>(
     ensures bundle { IfOk result (IsBundleOf number) }
     ensures state { D.tells → IfOk result (λ b. state_on b (D.view disk.new) ≡ next_state bundle (D.view disk.old) kind extra) }
     ensures represents { D.tells → IfOk result (λ b. Represents b (D.view disk.new)) }
-    ensures any_moment { D.tells → Throughout (IsOfRelay number) (IsEither number (state_on bundle (D.view disk.old)) (next_state bundle (D.view disk.old) kind extra)) (D.view disk.old) (D.view disk.new) }
+    ensures any_moment { D.tells → Throughout (IsOfRelay number) (IsChangedFrom number bundle (D.view disk.old) kind extra (next_state bundle (D.view disk.old) kind extra)) (D.view disk.old) (D.view disk.new) }
+    ensures last { IfOk result (EndsIn kind extra) }
     ensures fault { IfErr result (λ e. e ≡ BundleFault.Disk) }
     ensures cause { HasOwnCause (IsOfRelay number) (IsErrOf result BundleFault.Disk) (D.view disk.old) (D.view disk.new) }
 {
@@ -289,7 +299,8 @@ fn without_id<D: Disk>(disk: &mut D, bundle: Bundle, number: LogNo) -> Result<Bu
     ensures bundle { IfOk result (IsBundleOf number) }
     ensures state { D.tells → IfOk result (λ b. state_on b (D.view disk.new) ≡ states.Nothing) }
     ensures represents { D.tells → IfOk result (λ b. Represents b (D.view disk.new)) }
-    ensures any_moment { D.tells → Throughout (IsOfRelay number) (IsEither number (state_on bundle (D.view disk.old)) states.Nothing) (D.view disk.old) (D.view disk.new) }
+    ensures any_moment { D.tells → Throughout (IsOfRelay number) (IsChangedFrom number bundle (D.view disk.old) 2 0 states.Nothing) (D.view disk.old) (D.view disk.new) }
+    ensures last { IfOk result (EndsIn 2 0) }
     ensures fault { IfErr result (λ e. e ≡ BundleFault.Disk) }
     ensures cause { HasOwnCause (IsOfRelay number) (IsErrOf result BundleFault.Disk) (D.view disk.old) (D.view disk.new) }
 {

@@ -1,4 +1,4 @@
-ghost use Rattle.std.specs.Prelude.{◌≡◌, ◌≢◌, ◌⊎◌, ◌≤◌, ◌<◌, ◌^◌, false, true, Some, None, length, IfOk, IfErr, IsErr, OnOk, OnErr, IsErrOf};
+ghost use Rattle.std.specs.Prelude.{◌≡◌, ◌≢◌, ◌⊎◌, ◌≤◌, ◌<◌, ◌+◌, ◌^◌, false, true, Some, None, length, IfOk, IfErr, IsOk, IsErr, OnOk, OnErr, IsErrOf};
 ghost use Rattle.lsv_bundle.specs.Calls.{IsOpenFault};
 ghost use Rattle.lsv_bundle.specs.declared.fault.BundleFault.{BundleFault};
 ghost use Rattle.lsv_disk.specs.Throughout.{Throughout};
@@ -6,7 +6,7 @@ ghost use Rattle.lsv_disk.specs.View.{HasOwnCause, Image, IsCrashImage};
 ghost use Rattle.lsv_disk.specs.declared.file.Part.{Part};
 ghost use Rattle.lsv_kept.specs.Faults.{IsCommitFault};
 ghost use Rattle.lsv_kept.specs.Inner.{IsKeeping};
-ghost use Rattle.lsv_kept.specs.Kept.{IsAsBefore, IsOfRelay, IsOneOf, IsStateDamage, Keeps};
+ghost use Rattle.lsv_kept.specs.Kept.{Changes, IsAsBefore, IsOfRelay, IsOneOf, IsStateDamage, Keeps, Replaces};
 ghost use Rattle.lsv_kept.specs.Value.{Stands, is_done, keeps_id, with_point};
 ghost use Rattle.lsv_kept.specs.declared.state.Kept.{Kept};
 ghost use Rattle.lsv_kept.specs.declared.state.State.TheVariants as states;
@@ -120,13 +120,15 @@ impl Keeping {
         self.broken
     }
 
-    /// Keeps this identifier, without a commit point, in place of what is kept.
+    /// Keeps this identifier, without a commit point, in place of what is kept. An identifier that is kept is cut first,
+    /// by an entry of kind 2 with no extra number. The entry of the new one has kind 1 and none.
     pub fn keep_id<D: Disk>(&mut self, disk: &mut D, id: &Bytes) -> Result<(), BundleFault>
         requires undone { self.old.state ≢ states.Done }
         requires short { length id.now ≤ 4096 }
         requires stands { D.tells → self.old.broken ≡ false → Stands self.old (D.view disk.old) }
         ensures state { OnOk result (self.new.state ≡ states.Kept (record { id = id.now; point = None })) }
         ensures any_moment { D.tells → self.old.broken ≡ false → Throughout (IsOfRelay self.old.number) (IsOneOf self.old.number self.old.state (states.Kept (record { id = id.now; point = None }))) (D.view disk.old) (D.view disk.new) }
+        ensures changes { D.tells → self.old.broken ≡ false → Replaces (IsOk result) self.old.number self.old.state id.now (D.view disk.old) (D.view disk.new) }
         ensures acknowledged { D.tells → OnOk result ((image : Image) → IsCrashImage (D.view disk.new) image → Keeps self.old.number image self.new.state) }
         ensures stands { D.tells → OnOk result (Stands self.new (D.view disk.new)) }
         ensures whole { OnOk result (self.new.broken ≡ false) }
@@ -153,13 +155,15 @@ impl Keeping {
         Ok(())
     }
 
-    /// Keeps this commit point of the identifier that is kept, in nanoseconds.
+    /// Keeps this commit point of the identifier that is kept, in nanoseconds, by one entry of kind 1, whose extra number
+    /// is the point plus 1.
     pub fn keep_point<D: Disk>(&mut self, disk: &mut D, point: u64) -> Result<(), BundleFault>
         requires kept { keeps_id self.old.state ≡ true }
         requires small { point < 2 ^ 63 }
         requires stands { D.tells → self.old.broken ≡ false → Stands self.old (D.view disk.old) }
         ensures state { OnOk result (self.new.state ≡ with_point point self.old.state) }
         ensures any_moment { D.tells → self.old.broken ≡ false → Throughout (IsOfRelay self.old.number) (IsOneOf self.old.number self.old.state (with_point point self.old.state)) (D.view disk.old) (D.view disk.new) }
+        ensures changes { D.tells → self.old.broken ≡ false → Changes (IsOk result) self.old.number self.old.state 1 (point + 1) (with_point point self.old.state) (D.view disk.old) (D.view disk.new) }
         ensures acknowledged { D.tells → OnOk result ((image : Image) → IsCrashImage (D.view disk.new) image → Keeps self.old.number image self.new.state) }
         ensures stands { D.tells → OnOk result (Stands self.new (D.view disk.new)) }
         ensures whole { OnOk result (self.new.broken ≡ false) }
@@ -178,13 +182,15 @@ impl Keeping {
         Ok(())
     }
 
-    /// Marks the log as relayed, whose elapsed time this is, in nanoseconds.
+    /// Marks the log as relayed, whose elapsed time this is, in nanoseconds, by one entry of kind 3, whose extra number is
+    /// that time plus 1.
     pub fn mark<D: Disk>(&mut self, disk: &mut D, total: u64) -> Result<(), BundleFault>
         requires kept { keeps_id self.old.state ≡ true }
         requires small { total < 2 ^ 63 }
         requires stands { D.tells → self.old.broken ≡ false → Stands self.old (D.view disk.old) }
         ensures state { OnOk result (self.new.state ≡ states.Done) }
         ensures any_moment { D.tells → self.old.broken ≡ false → Throughout (IsOfRelay self.old.number) (IsOneOf self.old.number self.old.state states.Done) (D.view disk.old) (D.view disk.new) }
+        ensures changes { D.tells → self.old.broken ≡ false → Changes (IsOk result) self.old.number self.old.state 3 (total + 1) states.Done (D.view disk.old) (D.view disk.new) }
         ensures acknowledged { D.tells → OnOk result ((image : Image) → IsCrashImage (D.view disk.new) image → Keeps self.old.number image self.new.state) }
         ensures stands { D.tells → OnOk result (Stands self.new (D.view disk.new)) }
         ensures whole { OnOk result (self.new.broken ≡ false) }
@@ -203,12 +209,13 @@ impl Keeping {
         Ok(())
     }
 
-    /// Keeps the identifier no longer.
+    /// Keeps the identifier no longer, by an entry of kind 2 with no extra number.
     pub fn forget<D: Disk>(&mut self, disk: &mut D) -> Result<(), BundleFault>
         requires kept { keeps_id self.old.state ≡ true }
         requires stands { D.tells → self.old.broken ≡ false → Stands self.old (D.view disk.old) }
         ensures state { OnOk result (self.new.state ≡ states.Nothing) }
         ensures any_moment { D.tells → self.old.broken ≡ false → Throughout (IsOfRelay self.old.number) (IsOneOf self.old.number self.old.state states.Nothing) (D.view disk.old) (D.view disk.new) }
+        ensures changes { D.tells → self.old.broken ≡ false → Changes (IsOk result) self.old.number self.old.state 2 0 states.Nothing (D.view disk.old) (D.view disk.new) }
         ensures acknowledged { D.tells → OnOk result ((image : Image) → IsCrashImage (D.view disk.new) image → Keeps self.old.number image self.new.state) }
         ensures stands { D.tells → OnOk result (Stands self.new (D.view disk.new)) }
         ensures whole { OnOk result (self.new.broken ≡ false) }

@@ -28,8 +28,8 @@ const CUT: u8 = 2;
 /// No identifier that is kept has more bytes.
 const LONGEST_ID: u64 = 4096;
 
-/// Whether a log is marked as relayed, as the files of the relaying read: nothing is synced or written. `Damaged(Id)`
-/// exactly if the identifier's file is absent or shorter than the last entry says.
+/// Whether a log is marked as relayed, as the files of the relaying read: nothing is synced or written. `Damaged(Id)` only
+/// if the identifier's file is absent or shorter than the last entry says, or the identifier has more than 4,096 bytes.
 pub fn is_marked<D: Disk>(disk: &mut D, number: LogNo) -> Result<bool, BundleFault>
     ensures marked { D.tells → IfOk result (λ b. (b ≡ true) ↔ IsMarked number (D.view disk.old).reads) }
     ensures reads { D.tells → OnlyReads (D.view disk.old) (D.view disk.new) }

@@ -1,6 +1,7 @@
 -- What is known of an outgoing link, and what each answer of it says.
-use Rattle.std.specs.Prelude.{◌≡◌, ◌⊎◌, ℕ, ◌≤◌, Bool, true, false, List, [], ◌∷◌, ◌++◌, take, Option, Some, None, option_map, unwrap_or, Result, Ok, Err}
+use Rattle.std.specs.Prelude.{◌≡◌, ◌≢◌, ◌⊎◌, ℕ, ◌≤◌, Bool, true, false, List, [], ◌∷◌, ◌++◌, take, Option, Some, None, option_map, unwrap_or, Result, Ok, Err}
 use Rattle.lsv_words.specs.Causes.{HasRisen}
+use Rattle.lsv_base.specs.Script.{one_more}
 use Rattle.lsv_port.specs.declared.port.Took.{Took}
 use Rattle.lsv_port.specs.declared.port.Took.TheVariants as took
 use Rattle.lsv_port.specs.declared.port.Gave.{Gave}
@@ -8,10 +9,11 @@ use Rattle.lsv_port.specs.declared.port.Gave.TheVariants as gave
 use Rattle.lsv_link.specs.declared.connection.Connection.{Connection}
 use Rattle.lsv_link.specs.declared.link.LinkFault.{LinkFault}
 
--- the connections that were closed or failed, in order, and the one that is open
+-- the connections that were closed or failed, in order, the one that is open, and the number of failed ones that are missing among them, since a link in memory had no room
 pub record LinkState : Type 0 where
   pub past : List Connection
   pub now : Option Connection
+  pub missed : ℕ
 
 -- how often a call failed, a write answered NotYet, and a read that may wait answered NotYet
 pub record LinkCounts : Type 0 where
@@ -26,7 +28,7 @@ pub record IsConnected (s : LinkState) : Type 0 where
 
 -- a connection to this host on which nothing was read or written
 abbrev pub unused : List ℕ → Bool → Connection
-unused host connected = record { host = host; connected = connected; input = []; output = []; ended = false }
+unused host connected = record { host = host; connected = connected; input = []; output = []; ended = false; dry = false }
 
 -- the connections, with one more if there is one
 abbrev pub joined : List Connection → Option Connection → List Connection
@@ -39,33 +41,37 @@ all_of s = joined s.past s.now
 
 -- the link after its open connection was closed
 abbrev pub after_close : LinkState → LinkState
-after_close s = record { past = all_of s; now = None }
+after_close s = record s { past = all_of s; now = None }
 
 -- the link after a connection to this host was made
 abbrev pub after_connect : List ℕ → LinkState → LinkState
-after_connect host s = record { past = all_of s; now = Some (unused host true) }
+after_connect host s = record s { past = all_of s; now = Some (unused host true) }
 
 -- the link after a connection to this host couldn't be made: it is one of the connections too
 abbrev pub after_refusal : List ℕ → LinkState → LinkState
-after_refusal host s = record { past = all_of s ++ unused host false ∷ []; now = None }
+after_refusal host s = record s { past = all_of s ++ unused host false ∷ []; now = None }
 
--- what a connect says. If it failed, it is among the connections, unless a link in memory had no room for it
+-- the link after a connection couldn't be made, and isn't among the connections, since a link in memory had no room for it: that is counted
+abbrev pub after_miss : LinkState → LinkState
+after_miss s = record { past = all_of s; now = None; missed = one_more s.missed }
+
+-- what a connect says. If it failed, it is among the connections, or it is missing, and that was counted
 abbrev pub Connects : Result (Unit {0}) LinkFault → List ℕ → LinkState → LinkState → Type 0
 Connects (Ok u) host old new = new ≡ after_connect host old
-Connects (Err fault) host old new = (new ≡ after_refusal host old) ⊎ (new ≡ after_close old)
+Connects (Err fault) host old new = (new ≡ after_refusal host old) ⊎ (new ≡ after_miss old)
 
 -- the connection after a read with this answer, if its buffer then holds these bytes
 abbrev pub read_on : Took → List ℕ → Connection → Connection
-read_on (took.Bytes n) buf conn = record conn { input = conn.input ++ take n buf }
-read_on took.NotYet buf conn = conn
-read_on took.End buf conn = record conn { ended = true }
-read_on took.Failed buf conn = conn
+read_on (took.Bytes n) buf conn = record conn { input = conn.input ++ take n buf; dry = false }
+read_on took.NotYet buf conn = record conn { dry = true }
+read_on took.End buf conn = record conn { ended = true; dry = true }
+read_on took.Failed buf conn = record conn { dry = true }
 
 -- the connection after a write of these bytes with this answer
 abbrev pub written_on : Gave → List ℕ → Connection → Connection
-written_on (gave.Bytes n) bytes conn = record conn { output = conn.output ++ take n bytes }
-written_on gave.NotYet bytes conn = conn
-written_on gave.Failed bytes conn = conn
+written_on (gave.Bytes n) bytes conn = record conn { output = conn.output ++ take n bytes; dry = false }
+written_on gave.NotYet bytes conn = record conn { dry = false }
+written_on gave.Failed bytes conn = record conn { dry = false }
 
 -- the link after a read
 abbrev pub after_read : Took → List ℕ → LinkState → LinkState
@@ -81,22 +87,31 @@ pub record Continues (old new : LinkCounts) : Type 0 where
   pub full : old.full ≤ new.full
   pub waits : old.waits ≤ new.waits
 
--- no count fell, and if the connect failed that of the faults rose
+-- no count fell; that of the faults rose if the connect failed, and no other did
 pub record HasConnectCause (failed : Type 0) (old new : LinkCounts) : Type 0 where
   pub continues : Continues old new
   pub risen : failed → HasRisen old.faults new.faults
+  pub made : (failed → ⊥) → new.faults ≡ old.faults
+  pub full : new.full ≡ old.full
+  pub waits : new.waits ≡ old.waits
 
--- no count fell; if the read failed that of the faults rose, and if it waited for nothing that of the waits
+-- no count fell; that of the faults rose if the read failed, that of the waits if it waited for nothing, and no other did
 pub record HasReadCause (answer : Took) (wait : Bool) (old new : LinkCounts) : Type 0 where
   pub continues : Continues old new
   pub failed : answer ≡ took.Failed → HasRisen old.faults new.faults
   pub waited : answer ≡ took.NotYet → wait ≡ true → HasRisen old.waits new.waits
+  pub answered : answer ≢ took.Failed → new.faults ≡ old.faults
+  pub full : new.full ≡ old.full
+  pub came : (answer ≡ took.NotYet → wait ≡ true → ⊥) → new.waits ≡ old.waits
 
--- no count fell; if the write failed that of the faults rose, and if it put nothing that of the full ones
+-- no count fell; that of the faults rose if the write failed, that of the full ones if it put nothing, and no other did
 pub record HasWriteCause (answer : Gave) (old new : LinkCounts) : Type 0 where
   pub continues : Continues old new
   pub failed : answer ≡ gave.Failed → HasRisen old.faults new.faults
   pub full : answer ≡ gave.NotYet → HasRisen old.full new.full
+  pub answered : answer ≢ gave.Failed → new.faults ≡ old.faults
+  pub put : answer ≢ gave.NotYet → new.full ≡ old.full
+  pub waits : new.waits ≡ old.waits
 
 -- the open connection, or an unused one if there is none
 abbrev pub open_of : LinkState → Connection

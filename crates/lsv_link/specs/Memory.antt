@@ -9,7 +9,7 @@ use Rattle.lsv_port.specs.declared.port.Gave.TheVariants as gave
 use Rattle.lsv_link.specs.declared.connection.Connection.{Connection}
 use Rattle.lsv_link.specs.declared.memory.Cut.{Cut}
 use Rattle.lsv_link.specs.declared.memory.Cut.TheVariants.{End, Silent}
-use Rattle.lsv_link.specs.Link.{LinkState, LinkCounts, all_of}
+use Rattle.lsv_link.specs.Link.{LinkState, LinkCounts, after_connect, after_miss, after_refusal, all_of}
 
 -- a link in memory: the answer and the cut of each connection, the connections so far, how its calls went, and how often a read waited for nothing
 pub record LinkValue : Type 0 where
@@ -78,11 +78,34 @@ pub record Answers (Answer : Type 0) (fault should result : Answer) (old new : S
   pub listed : IsListed old → (result ≡ fault) × (new ≡ failed old)
   pub other : (IsListed old → ⊥) → ((result ≡ should) × (new ≡ answered old)) ⊎ ((result ≡ fault) × (new ≡ unserved old))
 
--- a connect whose number is listed fails, and so does one for which there is no answer; another succeeds, unless memory ran out, and that was counted
-pub record Tries (failed_now : Type 0) (old new : LinkValue) : Type 0 where
-  pub listed : IsListed old.script → failed_now × (new.script ≡ failed old.script)
-  pub unanswered : (HasAnswer old → ⊥) → failed_now
-  pub other : (IsListed old.script → ⊥) → HasAnswer old → ((failed_now → ⊥) × (new.script ≡ answered old.script)) ⊎ (failed_now × (new.script ≡ unserved old.script))
+-- a connect failed: it is among the connections, or memory ran out, and that was counted
+abbrev pub FailsToConnect : List ℕ → (old new : LinkValue) → Type 0
+FailsToConnect host old new = ((new.script ≡ failed old.script) × (new.state ≡ after_refusal host old.state)) ⊎ ((new.script ≡ unserved old.script) × (new.state ≡ after_miss old.state))
+
+-- a connection was made, unless memory ran out, and that was counted
+abbrev pub Makes : (failed_now : Type 0) → List ℕ → (old new : LinkValue) → Type 0
+Makes failed_now host old new = ((failed_now → ⊥) × (new.script ≡ answered old.script) × (new.state ≡ after_connect host old.state)) ⊎ (failed_now × (new.script ≡ unserved old.script) × (new.state ≡ after_miss old.state))
+
+-- a connect whose number is listed fails, and so does one for which there is no answer; another succeeds, unless memory ran out
+pub record Tries (failed_now : Type 0) (host : List ℕ) (old new : LinkValue) : Type 0 where
+  pub listed : IsListed old.script → failed_now × FailsToConnect host old new
+  pub unanswered : (HasAnswer old → ⊥) → failed_now × FailsToConnect host old new
+  pub other : (IsListed old.script → ⊥) → HasAnswer old → Makes failed_now host old new
+
+-- how often a read waited for nothing, after one with this answer
+abbrev pub waits_after : Took → (wait : Bool) → ℕ → ℕ
+waits_after (took.Bytes n) wait waits = waits
+waits_after took.NotYet wait waits = if wait then one_more waits else waits
+waits_after took.End wait waits = waits
+waits_after took.Failed wait waits = waits
+
+-- the connection, if its last call was, or was not, a read that gave nothing
+abbrev pub noted : (dry : Bool) → Connection → Connection
+noted dry conn = record conn { dry = dry }
+
+-- the bytes that were written on it
+abbrev pub output_of : Connection → List ℕ
+output_of conn = conn.output
 
 -- the counts that a link in memory tells: its writes never wait
 abbrev pub counts_of : LinkValue → LinkCounts

@@ -13,4 +13,6 @@ pub struct Connection {
     pub output: Bytes,
     /// Whether a read gave the end of the input.
     pub ended: bool,
+    /// Whether the last call on it was a read that gave nothing: nothing was there, or the input had ended, or it failed.
+    pub dry: bool,
 }

@@ -1,6 +1,6 @@
 ghost use Rattle.std.specs.Prelude.{◌≡◌, ◌<◌, length, IsErr};
 ghost use Rattle.lsv_port.specs.Port.{TakesWithin, GivesWithin};
-ghost use Rattle.lsv_link.specs.Link.{LinkState, LinkCounts, Continues, HasConnectCause, HasReadCause, HasWriteCause, Connects, IsConnected, after_read, after_write, after_close};
+ghost use Rattle.lsv_link.specs.Link.{LinkState, LinkCounts, HasConnectCause, HasReadCause, HasWriteCause, Connects, IsConnected, after_read, after_write, after_close};
 
 use lsv_port::{Gave, Took};
 use thiserror::Error;
@@ -20,7 +20,7 @@ pub trait Link {
     /// The connections so far: what was read and written on each.
     ghost state: { Self → LinkState };
 
-    /// How often its calls failed, or answered that they would have to wait.
+    /// How often its calls failed, or answered that they would have to wait. Each count rises by such an answer alone.
     ghost counts: { Self → LinkCounts };
 
     /// Connects to a host, `host:port` or `[address]:port`. A connection that is open is closed first.
@@ -48,5 +48,5 @@ pub trait Link {
     /// Closes the open connection, if there is one. It stays as it was last.
     fn close(&mut self)
         ensures change { tells → state self.new ≡ after_close (state self.old) }
-        ensures continues { Continues (counts self.old) (counts self.new) };
+        ensures same { counts self.new ≡ counts self.old };
 }

@@ -1,9 +1,9 @@
-ghost use Rattle.std.specs.Prelude.{◌≡◌, ◌<◌, [], ℕ, length, take, drop, false, IsErr, IfOk, OnOk, OnErr, None, vec_len, vec_capacity, slice_get};
+ghost use Rattle.std.specs.Prelude.{◌≡◌, ◌<◌, [], ℕ, length, take, drop, false, IsErr, IfOk, OnOk, OnErr, None, Some, vec_len, vec_capacity, slice_get, option_map};
 ghost use Rattle.std.specs.Option.{option_copied};
-ghost use Rattle.lsv_base.specs.Script.{script_of};
+ghost use Rattle.lsv_base.specs.Script.{one_more, script_of};
 ghost use Rattle.lsv_port.specs.Port.{TakesWithin, GivesWithin};
-ghost use Rattle.lsv_link.specs.Link.{Continues, HasConnectCause, HasReadCause, HasWriteCause, Connects, IsConnected, all_of, read_on, unused, after_read, after_write, after_close};
-ghost use Rattle.lsv_link.specs.Memory.{Answers, IsSameScript, Tries, counts_of, is_end, most, took_from, took_of, unread};
+ghost use Rattle.lsv_link.specs.Link.{HasConnectCause, HasReadCause, HasWriteCause, Connects, IsConnected, all_of, read_on, unused, after_read, after_write, after_close};
+ghost use Rattle.lsv_link.specs.Memory.{Answers, IsSameScript, Tries, counts_of, is_end, most, noted, output_of, took_from, took_of, unread, waits_after};
 
 use crate::{Connection, Link, LinkFault};
 use lsv_base::{Bytes, NoMem, Script};
@@ -29,6 +29,8 @@ pub struct MemLink {
     cuts: Vec<Cut>,
     past: Vec<Connection>,
     current: Option<Connection>,
+    /// How many failed connections are missing among the past ones, since memory ran out.
+    missed: u64,
     script: Script,
     waits: u64,
 }
@@ -39,7 +41,7 @@ impl Model for MemLink {
 
     ghost Value = { LinkValue };
 
-    ghost view = { λ l. record { answers = l.answers.items; cuts = l.cuts.items; state = record { past = l.past.items; now = l.current }; script = l.script; waits = l.waits } };
+    ghost view = { λ l. record { answers = l.answers.items; cuts = l.cuts.items; state = record { past = l.past.items; now = l.current; missed = l.missed }; script = l.script; waits = l.waits } };
 
     ghost invariant = { λ l. IsSome l.current → IsPlaced (vec_len l.past) l.answers.items l.cuts.items × (vec_len l.past < vec_capacity l.past) };
 }
@@ -49,7 +51,7 @@ impl MemLink {
     pub fn new(alloc: Global, answers: Vec<Bytes>, cuts: Vec<Cut>, fail: Vec<u64>) -> Self
         ensures answers { result.answers ≡ answers.items }
         ensures cuts { result.cuts ≡ cuts.items }
-        ensures state { result.state ≡ record { past = []; now = None } }
+        ensures state { result.state ≡ record { past = []; now = None; missed = 0 } }
         ensures script { result.script ≡ script_of fail.items }
         ensures waits { result.waits ≡ 0 }
     {
@@ -59,6 +61,7 @@ impl MemLink {
             cuts,
             past: Vec::new(alloc),
             current: None,
+            missed: 0,
             script: Script::new(fail),
             waits: 0,
         }
@@ -71,6 +74,27 @@ impl MemLink {
         self.script.refused
     }
 
+    /// How many connections there are: those that were closed or failed, and the open one.
+    pub fn connections(&self) -> usize
+        ensures { result ≡ length (all_of self.now.state) }
+    {
+        match self.current {
+            Some(_) => self.past.len() + 1,
+            None => self.past.len(),
+        }
+    }
+
+    /// The bytes that were written on a connection, by its place from 0 on.
+    pub fn sent(&self, place: usize) -> &[u8]
+        requires { place < length (all_of self.now.state) }
+        ensures { option_map output_of (slice_get (all_of self.now.state) place) ≡ Some result.now }
+    {
+        match self.connection(place) {
+            Some(conn) => conn.output.as_slice(),
+            None => unreachable!(),
+        }
+    }
+
     /// A connection by its place, from 0 on: those that were closed or failed, and the open one.
     pub fn connection(&self, place: usize) -> Option<&Connection>
         ensures { option_copied result ≡ slice_get (all_of self.now.state) place }
@@ -79,6 +103,23 @@ impl MemLink {
             return self.current.as_ref();
         }
         self.past.get(place)
+    }
+
+    /// Notes whether the last call on the open connection was a read that gave nothing.
+    fn note(&mut self, dry: bool)
+        ensures { self.new ≡ record self.old { state = record self.old.state { now = option_map (noted dry) self.old.state.now } } }
+    {
+        if let Some(mut conn) = self.current.take() {
+            conn.dry = dry;
+            self.current = Some(conn);
+        }
+    }
+
+    /// Counts a connection that is missing, since memory ran out.
+    fn miss(&mut self)
+        ensures { self.new ≡ record self.old { state = record self.old.state { missed = one_more self.old.state.missed } } }
+    {
+        self.missed = self.missed.saturating_add(1);
     }
 }
 
@@ -95,6 +136,7 @@ fn prepare(alloc: Global, past: &mut Vec<Connection>, host: &str) -> Result<Conn
         input: Bytes::new(alloc),
         output: Bytes::new(alloc),
         ended: false,
+        dry: false,
     })
 }
 
@@ -118,6 +160,7 @@ fn give(conn: &mut Connection, sent: &[u8], cut: Cut, buf: &mut [u8]) -> Result<
     let read = conn.input.as_slice().len().min(sent.len());
     let left = &sent[read..];
     if left.is_empty() {
+        conn.dry = true;
         if let Cut::Silent(_) = cut {
             return Ok(Took::NotYet);
         }
@@ -127,6 +170,7 @@ fn give(conn: &mut Connection, sent: &[u8], cut: Cut, buf: &mut [u8]) -> Result<
     let count = left.len().min(buf.len());
     let front = &left[..count];
     conn.input.add(front)?;
+    conn.dry = false;
     buf[..count].copy_from_slice(front);
     Ok(Took::Bytes(count))
 }
@@ -142,19 +186,24 @@ impl Link for MemLink {
     fn connect(&mut self, host: &str) -> Result<(), LinkFault>
         ensures change { Connects result host.now self.old.state self.new.state }
         ensures cause { HasConnectCause (IsErr result) (counts_of self.old) (counts_of self.new) }
-        ensures tries { Tries (IsErr result) self.old self.new }
+        ensures tries { Tries (IsErr result) host.now self.old self.new }
         ensures same { IsSameScript self.old self.new }
     {
         self.close();
         let made = prepare(self.alloc, &mut self.past, host);
         if self.script.fails() {
-            if let Ok(conn) = made {
-                self.past.push_reserved(conn);
+            match made {
+                Ok(conn) => self.past.push_reserved(conn),
+                Err(NoMem) => {
+                    self.script.refused = self.script.refused.saturating_add(1);
+                    self.miss();
+                }
             }
             return Err(LinkFault);
         }
         let Ok(mut conn) = made else {
             self.script.refuse();
+            self.miss();
             return Err(LinkFault);
         };
         if self.past.len() < self.answers.len() && self.past.len() < self.cuts.len() {
@@ -176,9 +225,11 @@ impl Link for MemLink {
         ensures cause { HasReadCause result wait (counts_of self.old) (counts_of self.new) }
         ensures answer { Answers Took Took.Failed (took_of self.old (length buf.old)) result self.old.script self.new.script }
         ensures given { (n : ℕ) → result ≡ Took.Bytes n → take n buf.new ≡ take n (unread self.old) }
+        ensures waits { self.new.waits ≡ waits_after result wait self.old.waits }
         ensures same { IsSameScript self.old self.new }
     {
         if self.script.fails() {
+            self.note(true);
             return Took::Failed;
         }
         let place = self.past.len();
@@ -197,6 +248,7 @@ impl Link for MemLink {
                 took
             }
             Err(NoMem) => {
+                self.note(true);
                 self.script.refuse();
                 Took::Failed
             }
@@ -214,12 +266,14 @@ impl Link for MemLink {
         ensures same { IsSameScript self.old self.new }
     {
         if self.script.fails() {
+            self.note(false);
             return Gave::Failed;
         }
         let Some(mut conn) = self.current.take() else {
             unreachable!();
         };
         let added = conn.output.add(bytes);
+        conn.dry = false;
         self.current = Some(conn);
         if added.is_err() {
             self.script.refuse();
@@ -230,7 +284,7 @@ impl Link for MemLink {
 
     fn close(&mut self)
         ensures change { self.new.state ≡ after_close self.old.state }
-        ensures continues { Continues (counts_of self.old) (counts_of self.new) }
+        ensures same { counts_of self.new ≡ counts_of self.old }
         ensures rest { self.new ≡ record self.old { state = self.new.state } }
     {
         if let Some(conn) = self.current.take() {

@@ -1,10 +1,14 @@
+pub mod Causes
+pub mod Done
 pub mod Going
+pub mod Late
 pub mod Logs
 pub mod Moments
 pub mod Opening
 pub mod Reading
 pub mod Running
 pub mod Saying
+pub mod Sound
 pub mod Starting
 pub mod Stepping
 pub mod Stored

@@ -1,5 +1,5 @@
 -- What was kept at each moment, with one step more.
-use Rattle.std.proofs.Common.{◌≡◌, ◌⊎◌, inl, inr, ℕ, ◌+◌, ◌≤◌, ◌<◌, Option, refl, sym, ◌∙◌, ap, subst, arith}
+use Rattle.std.proofs.Common.{◌≡◌, ◌⊎◌, inl, inr, List, ℕ, ◌+◌, ◌≤◌, ◌<◌, Option, refl, sym, ◌∙◌, ap, subst, arith}
 use Rattle.std.specs.Prelude.{Bool, true, false, nat_le, if◌then◌else◌}
 use Rattle.std.proofs.lemmas.Bool.Decides.{nat_tests}
 use Rattle.lsv_disk.specs.Throughout.{OnlyReads, Throughout}
@@ -8,9 +8,12 @@ use Rattle.lsv_disk.proofs.Composition.{followed, unchanged_crash, unchanged_thr
 use Rattle.lsv_kept.specs.Kept.{IsOfRelay, IsOneOf, Keeps}
 use Rattle.lsv_kept.specs.declared.state.State.{State}
 use Rattle.lsv_msg.specs.declared.messages.ServerMessage.{ServerMessage}
-use Rattle.lsv_relay.specs.Talk.{hears_any}
-use Rattle.lsv_relay.specs.Talks.{InOrder, IsDurable, KeepsOneOf, KeptThrough}
-use Rattle.lsv_relay.specs.Value.{IsStarted, RelayView, state_of, talk_of}
+use Rattle.lsv_msg.specs.declared.messages.ClientMessage.{ClientMessage}
+use Rattle.lsv_relay.specs.Inner.{HasStarted}
+use Rattle.lsv_relay.specs.Talk.{begun, hears_any}
+use Rattle.lsv_relay.specs.Talks.{InOrder, IsDurable, KeepsOneOf, KeptThrough, Way.Anew}
+use Rattle.lsv_relay.specs.Value.{IsStarted, RelayView, is_broken, state_of, talk_of}
+use Rattle.lsv_relay.specs.declared.relay.Place.TheVariants as places
 
 -- some calls that touch files of the relaying alone
 abbrev pub Frame : ℕ → DiskView → DiskView → Type 0
@@ -125,27 +128,32 @@ reads_then n before now old mid new durable reads run = followed (IsOfRelay n) (
 
 -- ---- what a step kept
 
--- it was only read
-pub kept_reads : (relay : RelayView) (got : Option ServerMessage) (old new : DiskView) → OnlyReads old new → KeptThrough relay got old new
-kept_reads relay got old new reads = record {
-  total = relay.meter.total;
-  talk = talk_of relay;
+-- before the opening, it was only read
+pub kept_reads : (relay next : RelayView) (got : Option ServerMessage) (old new : DiskView) → relay.at ≡ places.Starts → next ≡ relay → OnlyReads old new → KeptThrough relay next got old new
+kept_reads relay next got old new at same reads = record {
+  total = 0;
+  talk = begun (state_of relay) false 0;
   same = refl;
-  started = λ _. (refl, refl);
+  started = λ started. absurd (subst IsStarted at started);
+  fresh = λ _. (Anew, refl);
   run = unchanged_throughout (IsOfRelay relay.number) _ old new (λ image left durable. inl (durable image left)) reads.unchanged;
+  left = λ whole. inl (ap state_of same);
 }
 
 -- and then something was kept
-pub reads_kept : (relay next : RelayView) (got : Option ServerMessage) (old mid new : DiskView) → (IsStarted relay.at → ⊥) → next.number ≡ relay.number → state_of next ≡ state_of relay → OnlyReads old mid
-    → Throughout (IsOfRelay next.number) (KeepsOneOf next.number (state_of next) (hears_any next.meter.total got (talk_of next)).state mid) mid new → KeptThrough relay got old new
-reads_kept relay next got old mid new fresh number same reads run = record {
+pub reads_kept : (relay next last : RelayView) (got : Option ServerMessage) (opening : List ClientMessage) (old mid new : DiskView) → relay.at ≡ places.Starts → next.number ≡ relay.number → state_of next ≡ state_of relay → HasStarted relay next opening mid → OnlyReads old mid
+    → Throughout (IsOfRelay next.number) (KeepsOneOf next.number (state_of next) (hears_any next.meter.total got (talk_of next)).state mid) mid new
+    → (is_broken last ≡ false → state_of last ≡ (hears_any next.meter.total got (talk_of next)).state) → KeptThrough relay last got old new
+reads_kept relay next last got opening old mid new at number same begins reads run left = record {
   total = next.meter.total;
   talk = talk_of next;
   same = same;
-  started = λ started. absurd (fresh started);
+  started = λ started. absurd (subst IsStarted at started);
+  fresh = λ _. (begins.way, begins.talk_is);
   run = followed (IsOfRelay relay.number) (KeepsOneOf relay.number (state_of relay) now old) old mid new
       (unchanged_throughout (IsOfRelay relay.number) _ old mid (λ image left durable. inl (durable image left)) reads.unchanged)
       (widened (IsOfRelay relay.number) (IsOfRelay relay.number) _ _ mid new (λ g own. own) (λ image holds beside durable. holds (reads_durable relay.number (state_of relay) old mid durable reads)) here);
+  left = λ whole. inr (left whole);
 }
   where
     now : State
@@ -155,19 +163,26 @@ reads_kept relay next got old mid new fresh number same reads run = record {
     here = subst (λ (s : State). Throughout (IsOfRelay relay.number) (KeepsOneOf relay.number s now mid) mid new) same
         (subst (λ (n : ℕ). Throughout (IsOfRelay n) (KeepsOneOf n (state_of next) now mid) mid new) number run)
 
+not_fresh : (relay : RelayView) (P : Type 0) → IsStarted relay.at → relay.at ≡ places.Starts → P
+not_fresh relay P started at = absurd (subst IsStarted at started)
+
 -- something was kept, and then it was only read
-pub kept_then_reads : (relay : RelayView) (got : Option ServerMessage) (old mid new : DiskView) → ((image : Image) → IsCrashImage mid image → mid.crash_images_at mid.moment image) → OnlyReads mid new
-    → Throughout (IsOfRelay relay.number) (KeepsOneOf relay.number (state_of relay) (hears_any relay.meter.total got (talk_of relay)).state old) old mid → KeptThrough relay got old new
-kept_then_reads relay got old mid new now reads run = record {
+pub kept_then_reads : (relay next : RelayView) (got : Option ServerMessage) (old mid new : DiskView) → IsStarted relay.at → ((image : Image) → IsCrashImage mid image → mid.crash_images_at mid.moment image) → OnlyReads mid new
+    → Throughout (IsOfRelay relay.number) (KeepsOneOf relay.number (state_of relay) (hears_any relay.meter.total got (talk_of relay)).state old) old mid
+    → state_of next ≡ (hears_any relay.meter.total got (talk_of relay)).state → KeptThrough relay next got old new
+kept_then_reads relay next got old mid new started now reads run heard = record {
   total = relay.meter.total;
   talk = talk_of relay;
   same = refl;
   started = λ _. (refl, refl);
+  fresh = not_fresh relay _ started;
   run = followed (IsOfRelay relay.number) _ old mid new run
       (unchanged_throughout (IsOfRelay relay.number) _ mid new (λ image left. run.each mid.moment image run.later (let h : mid.moment ≤ mid.moment = omega arith in h) (now image left)) reads.unchanged);
+  left = λ whole. inr heard;
 }
 
--- something was kept, and the step failed
-pub kept_alone : (relay : RelayView) (got : Option ServerMessage) (old new : DiskView)
-    → Throughout (IsOfRelay relay.number) (KeepsOneOf relay.number (state_of relay) (hears_any relay.meter.total got (talk_of relay)).state old) old new → KeptThrough relay got old new
-kept_alone relay got old new run = record { total = relay.meter.total; talk = talk_of relay; same = refl; started = λ _. (refl, refl); run = run }
+-- something was kept
+pub kept_alone : (relay next : RelayView) (got : Option ServerMessage) (old new : DiskView) → IsStarted relay.at
+    → Throughout (IsOfRelay relay.number) (KeepsOneOf relay.number (state_of relay) (hears_any relay.meter.total got (talk_of relay)).state old) old new
+    → (is_broken next ≡ false → state_of next ≡ (hears_any relay.meter.total got (talk_of relay)).state) → KeptThrough relay next got old new
+kept_alone relay next got old new started run left = record { total = relay.meter.total; talk = talk_of relay; same = refl; started = λ _. (refl, refl); fresh = not_fresh relay _ started; run = run; left = λ whole. inr (left whole) }

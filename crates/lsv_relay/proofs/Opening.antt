@@ -1,6 +1,5 @@
 -- A relay is opened: the log is only read, and then what is kept is opened.
 use Rattle.std.proofs.Common.{◌≡◌, ◌≢◌, inl, inr, ℕ, Result, Ok, Err, IsErr, IsErrAnd, refl, sym, ◌∙◌, ap, subst}
-use Rattle.lsv_bundle.specs.declared.fault.BundleFault.{BundleFault}
 use Rattle.lsv_disk.specs.declared.file.FileId.{FileId}
 use Rattle.lsv_disk.specs.declared.file.Owner.TheVariants as owners
 use Rattle.lsv_disk.specs.declared.file.Part.TheVariants.{Slots}
@@ -18,7 +17,6 @@ use Rattle.lsv_kept.proofs.Opening.{reads_as_before, same_image}
 use Rattle.lsv_kept.proofs.Unique.{marked_keeps}
 use Rattle.lsv_relay.specs.Value.{RelayView, state_of}
 use Rattle.lsv_relay.specs.declared.fault.RelayFault.{RelayFault}
-use Rattle.lsv_relay.specs.declared.fault.RelayFault.TheVariants as faults
 
 -- what is said of how a disk reads was so before it was only read
 pub as_read : (P : Image → Type 0) (old new : DiskView) → OnlyReads old new → P new.reads → P old.reads
@@ -53,9 +51,6 @@ is_err (Err e) never = refl
 pub err_same : {T : Type 0} (r : Result T RelayFault) (e d : RelayFault) → IsErrAnd r (λ x. x ≡ e) → r ≡ Err d → e ≡ d
 err_same (Ok x) e d is same = absurd is
 err_same (Err y) e d is same = let at : y ≡ d = cc in sym is ∙ at
-
-pub same_state : (a b : BundleFault) → faults.State a ≡ faults.State b → a ≡ b
-same_state a b e = cc
 
 -- ---- what is kept when it is opened
 

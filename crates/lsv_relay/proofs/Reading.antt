@@ -86,6 +86,7 @@ gives_records old new view next batch d0 d1 reads moves gives at meter records l
       at = at;
       more = g.more;
       messages_are = g.messages_are;
+      piece = g.piece;
       log = log_next old.number view next records (records ++ g.more) d0 d1 reads log moves g.behind;
       same = (moves.head, moves.body);
       meter = meter ∙ ap (λ (e : ℕ). let m : Meter = record old.meter { sent = min (old.meter.sent + e) (2 ^ 64 - 1) } in m) g.elapsed_is;

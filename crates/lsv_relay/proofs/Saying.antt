@@ -4,7 +4,7 @@ use Rattle.std.specs.Prelude.{Bool, true, false, not, nat_lt, if◌then◌else�
 use Rattle.std.specs.List.{All, list_any}
 use Rattle.std.proofs.lemmas.List.Elements.{All-head, All-tail}
 use Rattle.std.proofs.lemmas.List.Folds.{list_any-append}
-use Rattle.lsv_dialogue.specs.Events.{Event, Event.Heard, Event.Said, all_said, as_heard, heard, said}
+use Rattle.lsv_dialogue.specs.Events.{Event, Event.Heard, Event.Late, Event.Said, all_said, as_heard, heard, said}
 use Rattle.lsv_info.specs.declared.times.Exit.{Exit}
 use Rattle.lsv_info.specs.declared.times.Head.{Head}
 use Rattle.lsv_msg.specs.declared.messages.ClientMessage.{ClientMessage}
@@ -37,11 +37,13 @@ pub said_append : (xs ys : List Event) → said (xs ++ ys) ≡ said xs ++ said y
 said_append [] ys = refl
 said_append (Heard m ∷ xs) ys = said_append xs ys
 said_append (Said m ∷ xs) ys = ap (λ (l : List ClientMessage). m ∷ l) (said_append xs ys)
+said_append (Late m ∷ xs) ys = said_append xs ys
 
 pub heard_append : (xs ys : List Event) → heard (xs ++ ys) ≡ heard xs ++ heard ys
 heard_append [] ys = refl
 heard_append (Heard m ∷ xs) ys = ap (λ (l : List ServerMessage). m ∷ l) (heard_append xs ys)
 heard_append (Said m ∷ xs) ys = heard_append xs ys
+heard_append (Late m ∷ xs) ys = ap (λ (l : List ServerMessage). m ∷ l) (heard_append xs ys)
 
 pub said_all : (ms : List ClientMessage) → said (all_said ms) ≡ ms
 said_all [] = refl
@@ -91,7 +93,7 @@ waits_less (Some m) false e = absurd (cc)
 
 -- ---- what is said changes the time that was sent
 
-not_exit : (r : Record) → is_exit (record_message r) ≡ false
+pub not_exit : (r : Record) → is_exit (record_message r) ≡ false
 not_exit (Io delay stream.Stdin bytes) = refl
 not_exit (Io delay stream.Stdout bytes) = refl
 not_exit (Io delay stream.Stderr bytes) = refl
@@ -134,7 +136,7 @@ said_state total [] talk = refl
 said_state total (m ∷ ms) talk = said_state total ms (says m talk) ∙ says_same m talk
 
 -- what is heard changes nothing of what was sent
-hears_sent : (total : ℕ) (m : ServerMessage) (talk : Talk) → (hears total m talk).sent ≡ talk.sent
+pub hears_sent : (total : ℕ) (m : ServerMessage) (talk : Talk) → (hears total m talk).sent ≡ talk.sent
 hears_sent total (server.Hello m) talk = refl
 hears_sent total (server.LogId id) talk = either (talk.known || nat_lt longest_id (length id) || is_done talk.state) talk _ refl
   where

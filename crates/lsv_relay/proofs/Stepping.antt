@@ -25,7 +25,7 @@ use Rattle.lsv_request.specs.Stored.{exit_message, record_message}
 use Rattle.lsv_transcript.specs.Transcript.{is_id}
 use Rattle.lsv_relay.specs.Inner.{Answers, GivesExit, GivesRecords, HasTaken, IsSamePlace}
 use Rattle.lsv_relay.specs.Talk.{Talk, begun, goes_on, hears_any}
-use Rattle.lsv_relay.specs.Talks.{HasLog, InOrder, IsAllSaid, IsDurable, IsSaid, IsWay, KeepsOneOf, Talks, TalksAt, Way, opening_of, resumes, Way.Anew, Way.Resumes, sent_before, skipped, states_of}
+use Rattle.lsv_relay.specs.Talks.{HasLog, InOrder, IsAllSaid, IsDurable, IsPiece, IsSaid, IsWay, KeepsOneOf, Talks, TalksAt, Way, opening_of, resumes, Way.Anew, Way.Resumes, sent_before, skipped, states_of}
 use Rattle.lsv_relay.specs.Value.{IsStarted, RelayView, Stands, state_of, talk_of, waits_after}
 use Rattle.lsv_relay.specs.declared.relay.Meter.{Meter}
 use Rattle.lsv_relay.specs.declared.relay.Place.{Place}
@@ -276,6 +276,27 @@ module _ (began : DiskView) (state : State) (r0 r1 r2 : RelayView) (d0 d1 d2 : D
       still None e = e
       still (Some m) e = ap (λ (b : Bool). b && not (is_id m)) e
   at_follows places.Over at started talks (inr (other, next, there, waits, gives)) = absurd (let h : places.Over ≡ places.Sends other = sym (same01.at ∙ at) ∙ there in cc (h))
+
+  none_long : (l : List ClientMessage) → l ≡ [] → length l ≤ 1
+  none_long l none = let h : length l ≡ 0 = ap length none in omega (arith, h)
+
+  one_piece : (view next : ViewState) (records : List Record) → GivesRecords r1 r2 view next d2 ms records ⊎ GivesExit r1 r2 view next d2 ms records → IsPiece ms
+  one_piece view next records (inl gives) = inr (gives.more, gives.messages_are, gives.piece)
+  one_piece view next records (inr gives) = inl (let h : length ms ≡ 1 = ap length gives.messages_are in omega (arith, h))
+
+  piece_at : (p : Place) → r0.at ≡ p → IsStarted p → TalksAt began state r0 d0 events p → Answers r1 r2 d1 d2 ms → IsPiece ms
+  piece_at places.Idle at started talks answers = absurd started
+  piece_at places.Starts at started talks answers = absurd started
+  piece_at (places.Sends view) at started talks (inl (quiet, none, same)) = inl (none_long ms none)
+  piece_at (places.Sends view) at started talks (inr (other, next, there, waits, gives)) =
+      let one : other ≡ view = same_view other view r1.at there (same01.at ∙ at) in
+      one_piece other next talks.records (gives talks.records (subst (λ (v : ViewState). HasLog r1.number v talks.records d1) (sym one) (log_there view talks.records talks.log)))
+  piece_at places.Over at started talks (inl (quiet, none, same)) = inl (none_long ms none)
+  piece_at places.Over at started talks (inr (other, next, there, waits, gives)) = absurd (let h : places.Over ≡ places.Sends other = sym (same01.at ∙ at) ∙ there in cc (h))
+
+  -- what a step says is a piece of the log
+  pub step_piece : IsStarted r0.at → Talks began state r0 d0 events → Answers r1 r2 d1 d2 ms → IsPiece ms
+  step_piece started talks answers = piece_at r0.at refl started talks.at answers
 
   -- so a step goes on
   pub step_talks : IsStarted r0.at → Talks began state r0 d0 events → Answers r1 r2 d1 d2 ms → Stands r2 d2 → r2.keeping.broken ≡ false → Talks began state r2 d2 (events ++ (as_heard got ++ all_said ms))

@@ -32,9 +32,9 @@ use Rattle.lsv_record.specs.declared.records.Record.{Record}
 use Rattle.lsv_record.proofs.Once.{one_begins, one_layout}
 use Rattle.lsv_record.proofs.Points.{first_append}
 use Rattle.lsv_request.specs.Stored.{exit_message, record_message}
-use Rattle.lsv_transcript.specs.Transcript.{Transcript, anew, from_record, is_id, may_say, resumed}
+use Rattle.lsv_transcript.specs.Transcript.{Transcript, anew, from_record, is_id, may_say, relayed_by, resumed}
 use Rattle.lsv_relay.specs.Talks.{AreAllOf, HasLog, IsAllSaid, IsSaid, IsWay, Talks, TalksAt, Way, Way.Anew, Way.Resumes, opening_of, resumes, skipped}
-use Rattle.lsv_relay.specs.Transcripts.{IsStartOf, begins_at, begins_by}
+use Rattle.lsv_relay.specs.Transcripts.{IsStartOf, begins_at}
 use Rattle.lsv_relay.specs.Value.{IsQuietAt, RelayView}
 use Rattle.lsv_relay.specs.declared.relay.Place.{Place}
 use Rattle.lsv_relay.specs.declared.relay.Place.TheVariants as places
@@ -42,7 +42,7 @@ use Rattle.lsv_relay.proofs.Stepping.{drop_more, skipped_within}
 
 -- ---- the log that is read is the stored one
 
-taken_begins : (file : Option (List ℕ)) (k : ℕ) (prefix : List ℕ) → HasPrefix prefix file → HasPrefix (take k (bytes_of file)) file
+pub taken_begins : (file : Option (List ℕ)) (k : ℕ) (prefix : List ℕ) → HasPrefix prefix file → HasPrefix (take k (bytes_of file)) file
 taken_begins None k prefix is = absurd is
 taken_begins (Some bytes) k prefix is = (drop k bytes, sym (take-append-drop k bytes))
 
@@ -100,7 +100,7 @@ module _ (n : ℕ) (view : ViewState) (records : List Record) (disk : DiskView) 
 
 -- ---- the transcript
 
-of_state : (rs : List Record) (head : Head) (exit : Option Exit) (state : State) (id : List ℕ) (point : ℕ) → state ≡ states.Kept (record { id = id; point = Some point }) → begins_at rs head exit state ≡ begins_by rs head exit id (Some point)
+of_state : (rs : List Record) (head : Head) (exit : Option Exit) (state : State) (id : List ℕ) (point : ℕ) → state ≡ states.Kept (record { id = id; point = Some point }) → begins_at rs head exit state ≡ relayed_by rs head exit id (Some point)
 of_state rs head exit state id point is = ap (begins_at rs head exit) is
 
 resumes_at : (rs : List Record) (head : Head) (exit : Option Exit) (state : State) (id : List ℕ) (point k : ℕ) → state ≡ states.Kept (record { id = id; point = Some point }) → first rs point ≡ Some k → begins_at rs head exit state ≡ resumed rs exit id point k
@@ -110,9 +110,9 @@ anew_at : (rs : List Record) (head : Head) (exit : Option Exit) (state : State) 
 anew_at rs head exit states.Nothing none = refl
 anew_at rs head exit (states.Kept kept) none = by_point kept.point refl
   where
-    by_point : (p : Option ℕ) → kept.point ≡ p → begins_by rs head exit kept.id kept.point ≡ anew rs head exit
-    by_point None e = ap (begins_by rs head exit kept.id) e
-    by_point (Some point) e = ap (begins_by rs head exit kept.id) e ∙ (rw (none kept.id point (ap (λ (q : Option ℕ). states.Kept (record { id = kept.id; point = q })) e)) refl)
+    by_point : (p : Option ℕ) → kept.point ≡ p → relayed_by rs head exit kept.id kept.point ≡ anew rs head exit
+    by_point None e = ap (relayed_by rs head exit kept.id) e
+    by_point (Some point) e = ap (relayed_by rs head exit kept.id) e ∙ (rw (none kept.id point (ap (λ (q : Option ℕ). states.Kept (record { id = kept.id; point = q })) e)) refl)
 anew_at rs head exit states.Done none = refl
 
 drop_none : (k : ℕ) → (let xs : List Record = drop k [] in xs) ≡ []

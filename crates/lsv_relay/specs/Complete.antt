@@ -1,12 +1,19 @@
--- Whether the log of a number is complete, as an image of the disk has it.
-use Rattle.std.specs.Prelude.{◌≡◌, ◌≢◌, ℕ}
-use Rattle.lsv_disk.specs.View.{Image}
+-- Whether the log of a number is complete, as an image of the disk has it, and whether it can be read.
+use Rattle.std.specs.Prelude.{◌≡◌, ◌≢◌, ◌⊎◌, ℕ, false, Ok}
+use Rattle.lsv_disk.specs.View.{DiskView, Image}
 use Rattle.lsv_disk.specs.declared.file.Part.{Part}
+use Rattle.lsv_disk.specs.declared.file.Part.TheVariants.{Exit as ExitPart}
 use Rattle.lsv_bundle.specs.Committed.{HasEntry}
 use Rattle.lsv_bundle.specs.declared.body.Body.{Body}
+use Rattle.lsv_info.specs.Reading.{exit_of}
+use Rattle.lsv_info.specs.declared.times.Exit.{Exit}
 use Rattle.lsv_iolog.specs.Damage.{IsViewDamage}
+use Rattle.lsv_iolog.specs.Reading.{committed_laid, committed_text}
 use Rattle.lsv_iolog.specs.Recovered.{owner_of}
 use Rattle.lsv_kept.specs.Kept.{IsMarked}
+use Rattle.lsv_kept.specs.Value.{is_done}
+use Rattle.lsv_kept.specs.declared.state.State.{State}
+use Rattle.lsv_transcript.specs.Reading.{HasFaultAfter}
 
 -- the log's last entry is of kind 3
 pub record IsComplete (n : ℕ) (image : Image) : Type 0 where
@@ -20,8 +27,20 @@ pub record IsIncomplete (n : ℕ) (image : Image) : Type 0 where
   pub entry : HasEntry (owner_of n) body image
   pub kind : body.kind ≢ 3
 
+-- a complete log was opened, of which this is kept: if it isn't relayed, its files and its head are sound
+pub record IsReadable (n : ℕ) (state : State) (image : Image) : Type 0 where
+  pub complete : IsComplete n image
+  pub sound : is_done state ≡ false → (part : Part) → IsViewDamage n part image → ⊥
+
 -- a log that is complete and isn't relayed can't be opened: a file is absent or short, or its head is no head
 pub record IsUnreadable (n : ℕ) (part : Part) (image : Image) : Type 0 where
   pub complete : IsComplete n image
   pub unmarked : IsMarked n image → ⊥
   pub damage : IsViewDamage n part image
+
+-- a complete log can't be read to its end, as its files read: this part is at fault after some of its records, or its exit is none
+pub record IsLogDamage (n : ℕ) (part : Part) (disk : DiskView) : Type 0 where
+  pub body : Body
+  pub entry : HasEntry (owner_of n) body disk.reads
+  pub complete : body.kind ≡ 3
+  pub fault : HasFaultAfter (committed_laid n body disk) body part ⊎ ((part ≡ ExitPart) × ((exit : Exit) → exit_of (committed_text n body disk ExitPart) ≡ Ok exit → ⊥))

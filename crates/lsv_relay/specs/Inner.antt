@@ -9,6 +9,7 @@ use Rattle.lsv_msg.specs.declared.messages.ClientMessage.{ClientMessage}
 use Rattle.lsv_record.specs.Records.{elapsed}
 use Rattle.lsv_record.specs.declared.records.Record.{Record}
 use Rattle.lsv_request.specs.Stored.{exit_message, record_message}
+use Rattle.lsv_transcript.specs.Reading.{ArePiece}
 use Rattle.lsv_relay.specs.Talk.{Talk, begun}
 use Rattle.lsv_relay.specs.Talks.{HasLog, IsWay, Way, opening_of, resumes, sent_before, skipped}
 use Rattle.lsv_relay.specs.Value.{IsQuiet, RelayView, is_broken, state_of, talk_of}
@@ -35,6 +36,7 @@ pub record GivesRecords (old new : RelayView) (view next : ViewState) (after : D
   pub more : List Record
   pub messages_are : messages ≡ map record_message more
   pub log : HasLog old.number next (records ++ more) after
+  pub piece : ArePiece more
   pub same : (next.head ≡ view.head) × (next.body ≡ view.body)
   pub meter : new.meter ≡ record old.meter { sent = min (old.meter.sent + elapsed more) (2 ^ 64 - 1) }
 
@@ -68,16 +70,16 @@ IsSending places.Starts = ⊥
 IsSending (places.Sends view) = Unit {0}
 IsSending places.Over = ⊥
 
--- the log that is read has this number
-abbrev pub IsLogOf : ℕ → Place → Type 0
-IsLogOf n places.Idle = Unit {0}
-IsLogOf n places.Starts = Unit {0}
-IsLogOf n (places.Sends view) = view.number ≡ n
-IsLogOf n places.Over = Unit {0}
+-- the log that is read has this number, and its exit wasn't handed out
+abbrev pub IsLogOf : ℕ → (ended : Bool) → Place → Type 0
+IsLogOf n ended places.Idle = Unit {0}
+IsLogOf n ended places.Starts = Unit {0}
+IsLogOf n ended (places.Sends view) = (view.number ≡ n) × (ended ≡ false)
+IsLogOf n ended places.Over = Unit {0}
 
--- what is kept, and the log that is read, are of the relay's number
+-- what is kept, and the log that is read, are of the relay's number, and records follow no exit
 abbrev pub IsRelay : RelayView → Type 0
-IsRelay relay = (relay.keeping.number ≡ relay.number) × IsLogOf relay.number relay.at
+IsRelay relay = (relay.keeping.number ≡ relay.number) × IsLogOf relay.number relay.meter.ended relay.at
 
 -- nothing more may be sent yet, and nothing was done; or the next records were read, or the exit
 abbrev pub Answers : (old new : RelayView) (before after : DiskView) (messages : List ClientMessage) → Type 0

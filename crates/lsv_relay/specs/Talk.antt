@@ -1,7 +1,7 @@
 -- What becomes of the relaying of a log by what is heard and said on a connection, in order.
-use Rattle.std.specs.Prelude.{ℕ, ◌+◌, ◌==◌, ◌&&◌, ◌||◌, not, nat_lt, Bool, true, false, if◌then◌else◌, List, [], ◌∷◌, length, Option, Some, None, Result, Ok, Err}
+use Rattle.std.specs.Prelude.{◌≡◌, ◌⊎◌, ℕ, ◌+◌, ◌==◌, ◌&&◌, ◌||◌, not, nat_lt, Bool, true, false, if◌then◌else◌, List, [], ◌∷◌, length, Option, Some, None, Result, Ok, Err}
 use Rattle.lsv_base.specs.Time.{nanos_of}
-use Rattle.lsv_dialogue.specs.Events.{Event, Event.Heard, Event.Said}
+use Rattle.lsv_dialogue.specs.Events.{Event, Event.Heard, Event.Late, Event.Said}
 use Rattle.lsv_kept.specs.Value.{is_done, keeps_id, with_point}
 use Rattle.lsv_kept.specs.declared.state.State.{State}
 use Rattle.lsv_kept.specs.declared.state.State.TheVariants as states
@@ -93,15 +93,24 @@ abbrev pub hears_any : (total : ℕ) → Option ServerMessage → Talk → Talk
 hears_any total None talk = talk
 hears_any total (Some m) talk = hears total m talk
 
+-- a message that comes too late finds the exit as if it hadn't been said, since it may not have been put: it marks nothing
+abbrev pub hears_late : (total : ℕ) → ServerMessage → Talk → Talk
+hears_late total m talk = hears total m (record talk { ended = false })
+
 -- ---- In order
 
 abbrev pub goes : (total : ℕ) → Event → Talk → Talk
 goes total (Heard m) talk = hears total m talk
 goes total (Said m) talk = says m talk
+goes total (Late m) talk = hears_late total m talk
 
 abbrev pub goes_on : (total : ℕ) → List Event → Talk → Talk
 goes_on total [] talk = talk
 goes_on total (e ∷ events) talk = goes_on total events (goes total e talk)
+
+-- this message was heard, in time or too late
+abbrev pub Hears : ServerMessage → Event → Type 0
+Hears m e = (e ≡ Heard m) ⊎ (e ≡ Late m)
 
 -- ---- Why a connection ends by a message
 

@@ -1,5 +1,5 @@
 -- What a relay has said on a connection, by the records that it read of the log, and what was kept at each moment.
-use Rattle.std.specs.Prelude.{◌≡◌, ◌≤◌, ℕ, ◌+◌, Bool, true, false, not, ◌&&◌, List, [], ◌∷◌, ◌++◌, length, take, drop, map, Option, Some, None, Ok}
+use Rattle.std.specs.Prelude.{◌≡◌, ◌≢◌, ◌⊎◌, ◌↔◌, ◌≤◌, ℕ, ◌+◌, Bool, true, false, not, ◌&&◌, List, [], ◌∷◌, ◌++◌, length, take, drop, map, Option, Some, None, Ok}
 use Rattle.std.specs.List.{list_any}
 use Rattle.lsv_bundle.specs.Committed.{HasEntry}
 use Rattle.lsv_bundle.specs.declared.body.Body.{Body}
@@ -13,6 +13,7 @@ use Rattle.lsv_info.specs.declared.times.Head.{Head}
 use Rattle.lsv_iolog.specs.Reading.{IsBehind, IsWhole, ViewState, committed_laid, committed_text}
 use Rattle.lsv_iolog.specs.Recovered as logs
 use Rattle.lsv_kept.specs.Kept.{IsOfRelay, IsOneOf, Keeps}
+use Rattle.lsv_kept.specs.Value.{is_done}
 use Rattle.lsv_kept.specs.declared.state.State.{State}
 use Rattle.lsv_kept.specs.declared.state.State.TheVariants as states
 use Rattle.lsv_msg.specs.declared.messages.ClientMessage.{ClientMessage}
@@ -22,9 +23,10 @@ use Rattle.lsv_record.specs.Points.{first}
 use Rattle.lsv_record.specs.Records.{elapsed}
 use Rattle.lsv_record.specs.declared.records.Record.{Record}
 use Rattle.lsv_request.specs.Stored.{exit_message, head_message, record_message}
+use Rattle.lsv_transcript.specs.Reading.{ArePiece}
 use Rattle.lsv_transcript.specs.Transcript.{hello_message, is_id, restart_message}
 use Rattle.lsv_relay.specs.Talk.{Talk, begun, goes_on, hears_any}
-use Rattle.lsv_relay.specs.Value.{IsStarted, RelayView, Stands, state_of, talk_of}
+use Rattle.lsv_relay.specs.Value.{IsQuiet, IsQuietAfter, IsStarted, RelayView, Stands, is_broken, state_of, talk_of}
 use Rattle.lsv_relay.specs.declared.relay.Place.{Place}
 use Rattle.lsv_relay.specs.declared.relay.Place.TheVariants as places
 
@@ -145,10 +147,31 @@ pub record Talks (began : DiskView) (state : State) (relay : RelayView) (disk : 
 
 -- ---- One step
 
+-- what a step says once the opening was handed out: nothing, one message, or those of records, of which all but the last bring at most 64 KiB of data
+abbrev pub IsPiece : List ClientMessage → Type 0
+IsPiece messages = (length messages ≤ 1) ⊎ ((more : List Record) × (messages ≡ map record_message more) × ArePiece more)
+
+-- a step that succeeded says these messages; it says none exactly if nothing more may be sent before a further message
+pub record Says (old new : RelayView) (got : Option ServerMessage) (messages : List ClientMessage) : Type 0 where
+  pub few : length messages ≤ 16
+  pub quiet : (messages ≡ []) ↔ IsQuietAfter got old
+  pub rests : messages ≡ [] → IsQuiet new
+  -- a step that says something marks no log
+  pub busy : messages ≢ [] → is_done (state_of old) ≡ false → is_done (state_of new) ≡ false
+  pub whole : is_broken new ≡ false
+
+-- the relay as if its exit hadn't been said: so it takes a message that comes too late
+abbrev pub unended : RelayView → RelayView
+unended relay = record relay { meter = record relay.meter { ended = false } }
+
 -- a step with this message, if there is one, kept what hearing it makes of what was kept: each crash image of each moment keeps the one or the other, or nothing
-pub record KeptThrough (old : RelayView) (got : Option ServerMessage) (before after : DiskView) : Type 0 where
+pub record KeptThrough (old new : RelayView) (got : Option ServerMessage) (before after : DiskView) : Type 0 where
   pub total : ℕ
   pub talk : Talk
   pub same : talk.state ≡ state_of old
   pub started : IsStarted old.at → (talk ≡ talk_of old) × (total ≡ old.meter.total)
+  -- before the opening the connection stands at its beginning
+  pub fresh : old.at ≡ places.Starts → (way : Way) × (talk ≡ begun (state_of old) (resumes way) (sent_before way))
   pub run : Throughout (IsOfRelay old.number) (KeepsOneOf old.number (state_of old) (hears_any total got talk).state before) before after
+  -- a relay that is whole has the one or the other
+  pub left : is_broken new ≡ false → (state_of new ≡ state_of old) ⊎ (state_of new ≡ (hears_any total got talk).state)

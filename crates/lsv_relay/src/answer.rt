@@ -1,19 +1,21 @@
 //! What is sent next: the messages of the next records, and at last that of the exit.
-ghost use Rattle.std.specs.Prelude.{◌≡◌, ◌≢◌, ◌≤◌, ◌↔◌, true, [], List, length, IfOk, IfErr, IsErrOf};
+ghost use Rattle.std.specs.Prelude.{◌≡◌, ◌≢◌, ◌≤◌, ◌↔◌, ℕ, true, [], List, length, IfOk, IfErr, IsErrOf};
 ghost use Rattle.lsv_disk.specs.Throughout.{OnlyReads};
 ghost use Rattle.lsv_disk.specs.View.{HasOwnCause};
 ghost use Rattle.lsv_disk.specs.declared.file.Part.{Part};
 ghost use Rattle.lsv_info.specs.Reading.{exit_of};
 ghost use Rattle.lsv_info.specs.declared.times.Exit.{Exit};
-ghost use Rattle.lsv_iolog.specs.Reading.{IsBehind, IsWhole, committed_text};
+ghost use Rattle.lsv_iolog.specs.Reading.{IsBehind, IsWhole, ViewState, committed_text};
 ghost use Rattle.lsv_iolog.specs.Recovered as logs;
 ghost use Rattle.lsv_iolog.specs.declared.fault.LogFault.{LogFault};
 ghost use Rattle.lsv_record.specs.declared.records.Record.{Record};
-ghost use Rattle.lsv_relay.specs.Faults.{IsLogFault};
-ghost use Rattle.lsv_relay.specs.Inner.{Answers, IsRelay};
+ghost use Rattle.lsv_relay.specs.Faults.{IsLogFault, IsReadCause};
+ghost use Rattle.lsv_relay.specs.Inner.{Answers, IsRelay, IsSending};
+ghost use Rattle.lsv_relay.specs.Talks.{HasLog};
 ghost use Rattle.lsv_relay.specs.Value.{IsQuiet, IsStarted};
 ghost use Rattle.lsv_relay.specs.declared.answer.Next.{Next};
 ghost use Rattle.lsv_relay.specs.declared.fault.RelayFault.{RelayFault};
+ghost use Rattle.lsv_relay.specs.declared.relay.Place.TheVariants as places;
 ghost use Rattle.lsv_transcript.specs.Reading.{GivesNext};
 ghost use Rattle.lsv_transcript.specs.declared.messages.Batch.{Batch};
 
@@ -29,7 +31,7 @@ use lsv_request::exit_message;
 use lsv_transcript::{Batch, next_messages};
 use std::alloc::Global;
 
-/// At most so many messages are handed out at once.
+/// No more messages are handed out at once.
 const MOST: usize = 16;
 
 /// What comes next of a log.
@@ -52,10 +54,12 @@ impl Core {
         ensures few { IfOk result (λ messages. length messages ≤ 16) }
         ensures quiet { IfOk result (λ messages. (messages ≡ []) ↔ IsQuiet self.old) }
         ensures rests { IfOk result (λ messages. messages ≡ [] → IsQuiet self.new) }
+        ensures busy { IfOk result (λ messages. messages ≢ [] → IsSending self.old.at) }
         ensures started { IsStarted self.new.at }
         ensures same { (self.new.number ≡ self.old.number) × (self.new.keeping ≡ self.old.keeping) }
         ensures reads { D.tells → OnlyReads (D.view disk.old) (D.view disk.new) }
-        ensures fault { IfErr result IsLogFault }
+        ensures fault { IfErr result (λ fault. IsLogFault fault × IsSending self.old.at) }
+        ensures why { D.tells → IfErr result (λ fault. (view : ViewState) (records : List Record) → self.old.at ≡ places.Sends view → HasLog self.old.number view records (D.view disk.old) → IsReadCause self.old.number (D.view disk.old) fault) }
         ensures cause { HasOwnCause (logs.IsOfLog self.old.number) (IsErrOf result (RelayFault.Log LogFault.Disk)) (D.view disk.old) (D.view disk.new) }
     {
         if self.meter.waits {
@@ -91,6 +95,7 @@ fn next_of<D: Disk>(alloc: Global, disk: &mut D, log: &mut LogView) -> Result<Ne
     ensures same { (log.new.number ≡ log.old.number) × (log.new.head ≡ log.old.head) × (log.new.body ≡ log.old.body) }
     ensures reads { D.tells → OnlyReads (D.view disk.old) (D.view disk.new) }
     ensures fault { IfErr result IsLogFault }
+    ensures why { D.tells → IfErr result (λ fault. (n : ℕ) (records : List Record) → HasLog n log.old records (D.view disk.old) → IsReadCause n (D.view disk.old) fault) }
     ensures cause { HasOwnCause (logs.IsOfLog log.old.number) (IsErrOf result (RelayFault.Log LogFault.Disk)) (D.view disk.old) (D.view disk.new) }
 {
     let batch = next_messages(alloc, disk, log, MOST)?;

@@ -3,7 +3,7 @@ use lsv_bundle::BundleFault;
 use lsv_iolog::LogFault;
 use thiserror::Error;
 
-/// Why a call of a relay failed. Each call gives only those that it names.
+/// Why a call of a relay failed. Each call gives only those that it names. `NoMem` never stands within another fault.
 #[derive(Clone, Copy, Debug, PartialEq, Eq, Error)]
 pub enum RelayFault {
     /// The log has no exit yet.
@@ -33,22 +33,28 @@ impl From<NoMem> for RelayFault {
 
 impl From<LogFault> for RelayFault {
     ghost use Rattle.std.specs.Prelude.{◌≡◌};
-    ghost use Rattle.lsv_relay.specs.declared.fault.RelayFault.TheVariants as faults;
+    ghost use Rattle.lsv_relay.specs.Faults.{of_log};
 
-    ghost from_gives = { λ fault given. given ≡ faults.Log fault };
+    ghost from_gives = { λ fault given. given ≡ of_log fault };
 
     fn from(fault: LogFault) -> Self {
-        RelayFault::Log(fault)
+        match fault {
+            LogFault::NoMem => RelayFault::NoMem,
+            fault => RelayFault::Log(fault),
+        }
     }
 }
 
 impl From<BundleFault> for RelayFault {
     ghost use Rattle.std.specs.Prelude.{◌≡◌};
-    ghost use Rattle.lsv_relay.specs.declared.fault.RelayFault.TheVariants as faults;
+    ghost use Rattle.lsv_relay.specs.Faults.{of_state};
 
-    ghost from_gives = { λ fault given. given ≡ faults.State fault };
+    ghost from_gives = { λ fault given. given ≡ of_state fault };
 
     fn from(fault: BundleFault) -> Self {
-        RelayFault::State(fault)
+        match fault {
+            BundleFault::NoMem => RelayFault::NoMem,
+            fault => RelayFault::State(fault),
+        }
     }
 }

@@ -12,6 +12,6 @@ mod steps;
 mod take;
 
 pub use fault::RelayFault;
-pub use laws::{a_stored_log_is_relayed, what_is_relayed};
+pub use laws::{a_crash_leaves_what_is_kept, a_stored_log_is_relayed, what_is_relayed};
 pub use relay::Relay;
 pub use run::RelayEnd;

@@ -11,7 +11,7 @@ ghost use Rattle.lsv_iolog.specs.declared.fault.LogFault.{LogFault};
 ghost use Rattle.lsv_kept.specs.Kept.{IsMarked, IsOfRelay};
 ghost use Rattle.lsv_kept.specs.Value.{is_done};
 ghost use Rattle.lsv_link.specs.Link.{Continues};
-ghost use Rattle.lsv_relay.specs.Ends.{BreaksOff, IsPlain, IsTold, Spoke, end_of, told_of};
+ghost use Rattle.lsv_relay.specs.Ends.{BrokeOff, IsPlain, Took, answer_of, end_of, fault_of, is_over};
 ghost use Rattle.lsv_relay.specs.Value.{IsQuiet, Stands, is_broken, judge_point, judges, state_of};
 ghost use Rattle.lsv_relay.specs.declared.fault.RelayFault.{RelayFault};
 
@@ -36,8 +36,7 @@ pub enum RelayEnd {
 }
 
 impl<D: Disk> Speaker<D> for Relay {
-    ghost use Rattle.lsv_kept.specs.Value.{is_done};
-    ghost use Rattle.lsv_relay.specs.Ends.{BreaksOff, Spoke};
+    ghost use Rattle.lsv_relay.specs.Ends.{BreaksOff, Spoke, is_over};
     ghost use Rattle.lsv_relay.specs.Value.{IsQuiet, RelayView, judges, state_of};
 
     type Fault = RelayFault;
@@ -52,7 +51,7 @@ impl<D: Disk> Speaker<D> for Relay {
 
     ghost is_quiet = { IsQuiet };
 
-    ghost over = { λ relay. is_done (state_of relay) };
+    ghost over = { is_over };
 
     fn judge(&self, message: &ServerMessage) -> Judged {
         match message {
@@ -70,6 +69,10 @@ impl<D: Disk> Speaker<D> for Relay {
         got: Option<&ServerMessage>,
     ) -> Result<List<ClientMessage>, RelayFault> {
         Relay::step(self, world, got)
+    }
+
+    fn hear_late(&mut self, world: &mut D, message: &ServerMessage) -> Result<(), RelayFault> {
+        Relay::hear_late(self, world, message)
     }
 
     fn is_over(&self) -> bool {
@@ -90,11 +93,11 @@ impl Relay {
     }
 
     /// One connection to a host, `host:port` or `[address]:port`. The log is relayed exactly if the end is `Done`: then
-    /// the upstream sent a commit point at its elapsed time after the exit was handed out. If the log is relayed already,
-    /// nobody is connected to.
+    /// the whole exit was put on this connection, and after it the upstream sent a commit point at the log's elapsed
+    /// time. `Pending` has its cause. If the log is relayed already, nobody is connected to.
     ///
-    /// A `State` fault leaves the relay broken until it is opened again; a broken relay connects to nobody and answers
-    /// `State(Broken)`.
+    /// The faults are those of `step`, by their causes. `State(Disk)` leaves the relay broken until it is opened again; a
+    /// broken relay connects to nobody and answers `State(Broken)`.
     pub fn run_one<D: Disk, L: Link>(
         &mut self,
         disk: &mut D,
@@ -105,10 +108,10 @@ impl Relay {
         ensures done { IfOk result (λ end. (end ≡ RelayEnd.Done) ↔ (is_done (state_of self.new) ≡ true)) }
         ensures already { is_done (state_of self.old) ≡ true → (result ≡ Ok RelayEnd.Done) × (self.new ≡ self.old) × (disk.new ≡ disk.old) × (link.new ≡ link.old) }
         ensures broken { is_done (state_of self.old) ≡ false → is_broken self.old ≡ true → (result ≡ Err (RelayFault.State BundleFault.Broken)) × (self.new ≡ self.old) × (disk.new ≡ disk.old) × (link.new ≡ link.old) }
-        ensures ended { is_done (state_of self.old) ≡ false → IfOk result (λ answer. (end : End) × (answer ≡ end_of (is_done (state_of self.new)) end) × Ran L.tells host.now (L.state link.old) (L.state link.new)
-            (λ conn. Ended (Spoke D.tells D.view disk.old self.old.number (state_of self.old) self.new disk.new) (judges self.new) (is_done (state_of self.new)) (IsQuiet self.new) L.tells (L.counts link.old) (L.counts link.new) conn end)) }
-        ensures broke { is_done (state_of self.old) ≡ false → is_broken self.old ≡ false → IfErr result (λ answer. (fault : TalkFault RelayFault) × IsTold (is_done (state_of self.new)) (is_broken self.new) (Err fault) (Err answer) × Ran L.tells host.now (L.state link.old) (L.state link.new)
-            (λ conn. Broke (Spoke D.tells D.view disk.old self.old.number (state_of self.old) self.new disk.new) (BreaksOff D.tells D.view disk.old self.old.number (state_of self.old) self.new disk.new) L.tells (L.counts link.old) (L.counts link.new) conn fault)) }
+        ensures ended { is_done (state_of self.old) ≡ false → IfOk result (λ answer. (end : End) × (answer ≡ end_of end) × Ran L.tells host.now (L.state link.old) (L.state link.new)
+            (λ conn. Ended (Took D.tells D.view disk.old self.old.number (state_of self.old) self.new disk.new) (judges self.new) (is_over self.new) (IsQuiet self.new) L.tells (L.counts link.old) (L.counts link.new) conn end)) }
+        ensures broke { is_done (state_of self.old) ≡ false → is_broken self.old ≡ false → IfErr result (λ answer. (fault : TalkFault RelayFault) × (answer ≡ fault_of fault) × Ran L.tells host.now (L.state link.old) (L.state link.new)
+            (λ conn. Broke (Took D.tells D.view disk.old self.old.number (state_of self.old) self.new disk.new) (BrokeOff D.tells D.view disk.old self.old.number (state_of self.old) self.new disk.new) L.tells (L.counts link.old) (L.counts link.new) conn fault)) }
         ensures marked { D.tells → is_done (state_of self.old) ≡ false → IfOk result (λ end. (end ≡ RelayEnd.Done) ↔ IsMarked self.old.number (D.view disk.new).reads) }
         ensures unmarked { D.tells → is_done (state_of self.old) ≡ false → is_broken self.old ≡ false → IfErr result (λ fault. IsPlain fault → IsMarked self.old.number (D.view disk.new).reads → ⊥) }
         ensures touches { D.tells → is_done (state_of self.old) ≡ false → is_broken self.old ≡ false → Throughout (IsOfRelay self.old.number) (λ image. Unit {0}) (D.view disk.old) (D.view disk.new) }
@@ -128,47 +131,19 @@ impl Relay {
         let alloc = self.core.alloc;
         let end = run(alloc, self, disk, link, host);
         a_crash_leaves_what_stands(&self.core.keeping, disk);
-        self.answered(end)
+        answered(end)
     }
+}
 
-    /// What is answered of a conversation.
-    fn answered(&self, end: Result<End, TalkFault<RelayFault>>) -> Result<RelayEnd, RelayFault>
-        ensures { IsTold (is_done (state_of self.now)) (is_broken self.now) end result }
-    {
-        match end {
-            Ok(end) => Ok(self.end_of(end)),
-            Err(TalkFault::NoMem) => Err(RelayFault::NoMem),
-            Err(TalkFault::Speaker(fault)) => Err(self.told_of(fault)),
-        }
-    }
-
-    /// What is answered of a conversation that came to its end.
-    fn end_of(&self, end: End) -> RelayEnd
-        ensures { result ≡ end_of (is_done (state_of self.now)) end }
-    {
-        if self.is_done() {
-            return RelayEnd::Done;
-        }
-        match end {
-            End::Over => RelayEnd::Done,
-            End::Stopped(cause) => RelayEnd::Pending(cause),
-        }
-    }
-
-    /// What is answered of a step that failed.
-    fn told_of(&self, fault: RelayFault) -> RelayFault
-        ensures { result ≡ told_of (is_done (state_of self.now)) (is_broken self.now) fault }
-    {
-        match fault {
-            RelayFault::NoMem => RelayFault::NoMem,
-            RelayFault::Log(LogFault::Disk) | RelayFault::State(BundleFault::Disk) => fault,
-            // Never comes: a relay that isn't broken doesn't answer that it is, and keeps nothing that is damaged.
-            RelayFault::State(_) => RelayFault::NoMem,
-            // Never so: a fault of the log leaves the relay whole, and a log that is relayed isn't read.
-            RelayFault::Incomplete | RelayFault::Log(_)
-                if self.is_done() || self.core.keeping.is_broken() => { RelayFault::NoMem }
-            RelayFault::Incomplete | RelayFault::Log(_) => fault,
-        }
+/// What is answered of a conversation.
+fn answered(end: Result<End, TalkFault<RelayFault>>) -> Result<RelayEnd, RelayFault>
+    ensures { result ≡ answer_of end }
+{
+    match end {
+        Ok(End::Over) => Ok(RelayEnd::Done),
+        Ok(End::Stopped(cause)) => Ok(RelayEnd::Pending(cause)),
+        Err(TalkFault::NoMem) => Err(RelayFault::NoMem),
+        Err(TalkFault::Speaker(fault)) => Err(fault),
     }
 }
 

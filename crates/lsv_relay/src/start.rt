@@ -10,7 +10,7 @@ ghost use Rattle.lsv_iolog.specs.declared.fault.LogFault.{LogFault};
 ghost use Rattle.lsv_record.specs.Points.{first};
 ghost use Rattle.lsv_record.specs.declared.records.Record.{Record};
 ghost use Rattle.lsv_relay.specs.Complete.{IsComplete, IsIncomplete};
-ghost use Rattle.lsv_relay.specs.Faults.{IsLogFault};
+ghost use Rattle.lsv_relay.specs.Faults.{IsLogCause, IsLogFault};
 ghost use Rattle.lsv_relay.specs.Inner.{HasStarted, IsRelay, IsSending};
 ghost use Rattle.lsv_relay.specs.Talks.{AreAllOf, HasLog, IsWay, Way, opening_of};
 ghost use Rattle.lsv_relay.specs.Value.{state_of};
@@ -46,6 +46,7 @@ impl Core {
         ensures stays { IfErr result (λ _. self.new ≡ self.old) }
         ensures reads { D.tells → OnlyReads (D.view disk.old) (D.view disk.new) }
         ensures fault { IfErr result IsLogFault }
+        ensures why { D.tells → IfErr result (IsLogCause self.old.number (D.view disk.old)) }
         ensures cause { HasOwnCause (logs.IsOfLog self.old.number) (IsErrOf result (RelayFault.Log LogFault.Disk)) (D.view disk.old) (D.view disk.new) }
     {
         let State::Kept(kept) = self.keeping.state() else {
@@ -76,6 +77,7 @@ impl Core {
         ensures stays { IfErr result (λ _. self.new ≡ self.old) }
         ensures reads { D.tells → OnlyReads (D.view disk.old) (D.view disk.new) }
         ensures fault { IfErr result IsLogFault }
+        ensures why { D.tells → IfErr result (IsLogCause self.old.number (D.view disk.old)) }
         ensures cause { HasOwnCause (logs.IsOfLog self.old.number) (IsErrOf result (RelayFault.Log LogFault.Disk)) (D.view disk.old) (D.view disk.new) }
     {
         let log = open_complete(self.alloc, disk, self.number)?;
@@ -109,7 +111,7 @@ pub(crate) fn check_complete<D: Disk>(disk: &mut D, number: LogNo) -> Result<(),
     Ok(())
 }
 
-/// Opens a complete log.
+/// Opens a complete log. A fault is as `LogView::open` says, and `Incomplete` if the log isn't complete.
 pub(crate) fn open_complete<D: Disk>(
     alloc: Global,
     disk: &mut D,
@@ -120,6 +122,7 @@ pub(crate) fn open_complete<D: Disk>(
     ensures damaged { D.tells → (part : Part) → result ≡ Err (RelayFault.Log (LogFault.Damaged part)) → IsViewDamage number part (D.view disk.old).reads }
     ensures incomplete { D.tells → result ≡ Err RelayFault.Incomplete → IsIncomplete number (D.view disk.old).reads }
     ensures complete { D.tells → IfOk result (λ log. IsComplete number (D.view disk.old).reads) }
+    ensures readable { D.tells → IfOk result (λ log. (part : Part) → IsViewDamage number part (D.view disk.old).reads → ⊥) }
     ensures absent { D.tells → result ≡ Err (RelayFault.Log LogFault.Absent) → logs.Replays (D.view disk.old).reads number None }
     ensures reads { D.tells → OnlyReads (D.view disk.old) (D.view disk.new) }
     ensures fault { IfErr result IsLogFault }
@@ -144,6 +147,7 @@ fn open_at<D: Disk>(
     ensures none { D.tells → IfOk result (λ o. IfNone o ((records : List Record) → AreAllOf number (D.view disk.new) records → first records point ≡ None)) }
     ensures reads { D.tells → OnlyReads (D.view disk.old) (D.view disk.new) }
     ensures fault { IfErr result IsLogFault }
+    ensures why { D.tells → IfErr result (IsLogCause number (D.view disk.old)) }
     ensures cause { HasOwnCause (logs.IsOfLog number) (IsErrOf result (RelayFault.Log LogFault.Disk)) (D.view disk.old) (D.view disk.new) }
 {
     let mut log = open_complete(alloc, disk, number)?;

@@ -1,5 +1,5 @@
 //! The two kinds of steps: the first one opens a connection.
-ghost use Rattle.std.specs.Prelude.{◌≡◌, ◌≢◌, ◌≤◌, ◌↔◌, ◌++◌, List, [], length, false, IfOk, IfErr, IsErrOf};
+ghost use Rattle.std.specs.Prelude.{◌≡◌, ◌≢◌, ◌++◌, List, false, IfOk, IfErr, IsErrOf};
 ghost use Rattle.std.specs.Option.{option_copied};
 ghost use Rattle.lsv_bundle.specs.declared.fault.BundleFault.{BundleFault};
 ghost use Rattle.lsv_dialogue.specs.Events.{Event, all_said, as_heard};
@@ -8,10 +8,10 @@ ghost use Rattle.lsv_iolog.specs.Recovered as logs;
 ghost use Rattle.lsv_iolog.specs.declared.fault.LogFault.{LogFault};
 ghost use Rattle.lsv_kept.specs.Kept.{IsOfRelay};
 ghost use Rattle.lsv_kept.specs.declared.state.State.{State};
-ghost use Rattle.lsv_relay.specs.Faults.{IsStepFault};
+ghost use Rattle.lsv_relay.specs.Faults.{IsLogCause, IsStepFault};
 ghost use Rattle.lsv_relay.specs.Inner.{IsRelay};
-ghost use Rattle.lsv_relay.specs.Talks.{KeptThrough, Talks};
-ghost use Rattle.lsv_relay.specs.Value.{IsQuiet, IsQuietAfter, IsStarted, Stands, is_broken};
+ghost use Rattle.lsv_relay.specs.Talks.{IsPiece, KeptThrough, Says, Talks};
+ghost use Rattle.lsv_relay.specs.Value.{IsStarted, Stands, is_broken};
 ghost use Rattle.lsv_relay.specs.declared.fault.RelayFault.{RelayFault};
 ghost use Rattle.lsv_relay.specs.declared.relay.Place.TheVariants as places;
 
@@ -35,13 +35,15 @@ impl Core {
         ensures sound { IsRelay self.new }
         ensures talks { D.tells → IfOk result (λ messages. (began : D) (state : State) (events : List Event) → Talks (D.view began) state self.old (D.view disk.old) events
             → Talks (D.view began) state self.new (D.view disk.new) (events ++ (as_heard (option_copied got.entry) ++ all_said messages))) }
-        ensures few { IfOk result (λ messages. length messages ≤ 16) }
-        ensures quiet { IfOk result (λ messages. (messages ≡ []) ↔ IsQuietAfter (option_copied got.entry) self.old) }
-        ensures rests { IfOk result (λ messages. messages ≡ [] → IsQuiet self.new) }
-        ensures any_moment { D.tells → KeptThrough self.old (option_copied got.entry) (D.view disk.old) (D.view disk.new) }
+        ensures piece { D.tells → IfOk result (λ messages. (began : D) (state : State) (events : List Event) → Talks (D.view began) state self.old (D.view disk.old) events
+            → IsStarted self.old.at → IsPiece messages) }
+        ensures says { IfOk result (Says self.old self.new (option_copied got.entry)) }
+        ensures any_moment { D.tells → KeptThrough self.old self.new (option_copied got.entry) (D.view disk.old) (D.view disk.new) }
         ensures stands { D.tells → is_broken self.new ≡ false → Stands self.new (D.view disk.new) }
         ensures same { (self.new.number ≡ self.old.number) × (self.new.at ≢ places.Idle) }
-        ensures fault { IfErr result IsStepFault }
+        ensures fault { IfErr result (IsStepFault self.old self.new) }
+        ensures why { D.tells → IfErr result (λ fault. (began : D) (state : State) (events : List Event) → Talks (D.view began) state self.old (D.view disk.old) events
+            → IsLogCause self.old.number (D.view disk.old) fault) }
         ensures log { HasOwnCause (logs.IsOfLog self.old.number) (IsErrOf result (RelayFault.Log LogFault.Disk)) (D.view disk.old) (D.view disk.new) }
         ensures state { HasOwnCause (IsOfRelay self.old.number) (IsErrOf result (RelayFault.State BundleFault.Disk)) (D.view disk.old) (D.view disk.new) }
     {
@@ -64,13 +66,13 @@ impl Core {
         ensures sound { IsRelay self.new }
         ensures talks { D.tells → IfOk result (λ messages. (began : D) (state : State) (events : List Event) → Talks (D.view began) state self.old (D.view disk.old) events
             → Talks (D.view began) state self.new (D.view disk.new) (events ++ (as_heard (option_copied got.entry) ++ all_said messages))) }
-        ensures few { IfOk result (λ messages. length messages ≤ 16) }
-        ensures quiet { IfOk result (λ messages. (messages ≡ []) ↔ IsQuietAfter (option_copied got.entry) self.old) }
-        ensures rests { IfOk result (λ messages. messages ≡ [] → IsQuiet self.new) }
-        ensures any_moment { D.tells → KeptThrough self.old (option_copied got.entry) (D.view disk.old) (D.view disk.new) }
+        ensures says { IfOk result (Says self.old self.new (option_copied got.entry)) }
+        ensures any_moment { D.tells → KeptThrough self.old self.new (option_copied got.entry) (D.view disk.old) (D.view disk.new) }
         ensures stands { D.tells → is_broken self.new ≡ false → Stands self.new (D.view disk.new) }
         ensures same { (self.new.number ≡ self.old.number) × (self.new.at ≢ places.Idle) }
-        ensures fault { IfErr result IsStepFault }
+        ensures fault { IfErr result (IsStepFault self.old self.new) }
+        ensures why { D.tells → IfErr result (λ fault. (began : D) (state : State) (events : List Event) → Talks (D.view began) state self.old (D.view disk.old) events
+            → IsLogCause self.old.number (D.view disk.old) fault) }
         ensures log { HasOwnCause (logs.IsOfLog self.old.number) (IsErrOf result (RelayFault.Log LogFault.Disk)) (D.view disk.old) (D.view disk.new) }
         ensures state { HasOwnCause (IsOfRelay self.old.number) (IsErrOf result (RelayFault.State BundleFault.Disk)) (D.view disk.old) (D.view disk.new) }
     {
@@ -92,13 +94,15 @@ impl Core {
         ensures sound { IsRelay self.new }
         ensures talks { D.tells → IfOk result (λ messages. (began : D) (state : State) (events : List Event) → Talks (D.view began) state self.old (D.view disk.old) events
             → Talks (D.view began) state self.new (D.view disk.new) (events ++ (as_heard (option_copied got.entry) ++ all_said messages))) }
-        ensures few { IfOk result (λ messages. length messages ≤ 16) }
-        ensures quiet { IfOk result (λ messages. (messages ≡ []) ↔ IsQuietAfter (option_copied got.entry) self.old) }
-        ensures rests { IfOk result (λ messages. messages ≡ [] → IsQuiet self.new) }
-        ensures any_moment { D.tells → KeptThrough self.old (option_copied got.entry) (D.view disk.old) (D.view disk.new) }
+        ensures piece { D.tells → IfOk result (λ messages. (began : D) (state : State) (events : List Event) → Talks (D.view began) state self.old (D.view disk.old) events
+            → IsPiece messages) }
+        ensures says { IfOk result (Says self.old self.new (option_copied got.entry)) }
+        ensures any_moment { D.tells → KeptThrough self.old self.new (option_copied got.entry) (D.view disk.old) (D.view disk.new) }
         ensures stands { D.tells → is_broken self.new ≡ false → Stands self.new (D.view disk.new) }
         ensures same { (self.new.number ≡ self.old.number) × (self.new.at ≢ places.Idle) }
-        ensures fault { IfErr result IsStepFault }
+        ensures fault { IfErr result (IsStepFault self.old self.new) }
+        ensures why { D.tells → IfErr result (λ fault. (began : D) (state : State) (events : List Event) → Talks (D.view began) state self.old (D.view disk.old) events
+            → IsLogCause self.old.number (D.view disk.old) fault) }
         ensures log { HasOwnCause (logs.IsOfLog self.old.number) (IsErrOf result (RelayFault.Log LogFault.Disk)) (D.view disk.old) (D.view disk.new) }
         ensures state { HasOwnCause (IsOfRelay self.old.number) (IsErrOf result (RelayFault.State BundleFault.Disk)) (D.view disk.old) (D.view disk.new) }
     {

@@ -1,17 +1,19 @@
 //! A message of the upstream is taken: what it makes of what is kept is kept before the next one.
-ghost use Rattle.std.specs.Prelude.{◌≡◌, ◌<◌, ◌^◌, not, nat_lt, ◌==◌, ◌&&◌, ◌||◌, length, true, false, IfErr, OnOk, OnErr, IsErrOf};
+ghost use Rattle.std.specs.Prelude.{◌≡◌, ◌<◌, ◌^◌, not, nat_lt, ◌==◌, ◌&&◌, ◌||◌, ◌++◌, length, true, false, List, Some, IfErr, OnOk, OnErr, IsErrOf};
 ghost use Rattle.std.specs.Option.{option_copied};
 ghost use Rattle.lsv_base.specs.Time.{nanos_of};
 ghost use Rattle.lsv_bundle.specs.declared.fault.BundleFault.{BundleFault};
+ghost use Rattle.lsv_dialogue.specs.Events.{Event, as_late};
 ghost use Rattle.lsv_disk.specs.Throughout.{Throughout};
 ghost use Rattle.lsv_disk.specs.View.{HasOwnCause};
 ghost use Rattle.lsv_kept.specs.Kept.{IsOfRelay};
 ghost use Rattle.lsv_kept.specs.Value.{is_done, keeps_id};
+ghost use Rattle.lsv_kept.specs.declared.state.State.{State};
 ghost use Rattle.lsv_relay.specs.Faults.{IsStateFault};
 ghost use Rattle.lsv_relay.specs.Inner.{HasTaken, IsRelay, IsSamePlace};
 ghost use Rattle.lsv_relay.specs.Talk.{acknowledged, hears, hears_any, hears_error, hears_id, hears_point};
-ghost use Rattle.lsv_relay.specs.Talks.{IsDurable, KeepsOneOf};
-ghost use Rattle.lsv_relay.specs.Value.{Stands, is_broken, state_of, talk_of, waits_after};
+ghost use Rattle.lsv_relay.specs.Talks.{IsDurable, KeepsOneOf, KeptThrough, Talks, unended};
+ghost use Rattle.lsv_relay.specs.Value.{IsStarted, Stands, is_broken, state_of, talk_of, waits_after};
 ghost use Rattle.lsv_relay.specs.declared.fault.RelayFault.{RelayFault};
 ghost use Rattle.lsv_transcript.specs.Transcript.{is_id};
 
@@ -50,6 +52,32 @@ impl Core {
         self.take_message(disk, message)
     }
 
+    /// Takes a message that comes too late for an answer: the exit counts as not handed out.
+    pub(crate) fn take_late<D: Disk>(
+        &mut self,
+        disk: &mut D,
+        message: &ServerMessage,
+    ) -> Result<(), RelayFault>
+        requires sound { IsRelay self.old }
+        requires whole { is_broken self.old ≡ false }
+        requires stands { D.tells → Stands self.old (D.view disk.old) }
+        ensures talks { D.tells → IsStarted self.old.at → OnOk result ((began : D) (state : State) (events : List Event) → Talks (D.view began) state self.old (D.view disk.old) events
+            → Talks (D.view began) state self.new (D.view disk.new) (events ++ as_late message.now)) }
+        ensures wants { OnOk result (is_done (state_of self.old) ≡ false → is_done (state_of self.new) ≡ false) }
+        ensures whole { OnOk result (is_broken self.new ≡ false) }
+        ensures any_moment { D.tells → IsStarted self.old.at → KeptThrough (unended self.old) self.new (Some message.now) (D.view disk.old) (D.view disk.new) }
+        ensures same { IsSamePlace self.old self.new }
+        ensures sound { IsRelay self.new }
+        ensures stands { D.tells → OnOk result (Stands self.new (D.view disk.new)) }
+        ensures fails { OnErr result (is_broken self.new ≡ true) }
+        ensures fault { IfErr result IsStateFault }
+        ensures cause { HasOwnCause (IsOfRelay self.old.number) (IsErrOf result (RelayFault.State BundleFault.Disk)) (D.view disk.old) (D.view disk.new) }
+    {
+        self.meter.ended = false;
+        self.take_message(disk, message)
+    }
+
+    /// Takes this message.
     fn take_message<D: Disk>(
         &mut self,
         disk: &mut D,

@@ -4,6 +4,7 @@ use Rattle.std.specs.List.{list_any}
 use Rattle.lsv_base.specs.Time.{time_of}
 use Rattle.lsv_info.specs.declared.times.Exit.{Exit}
 use Rattle.lsv_info.specs.declared.times.Head.{Head}
+use Rattle.lsv_msg.specs.declared.messages.ClientHello.{ClientHello}
 use Rattle.lsv_msg.specs.declared.messages.ClientMessage.{ClientMessage}
 use Rattle.lsv_msg.specs.declared.messages.ClientMessage.TheVariants as client
 use Rattle.lsv_msg.specs.declared.messages.ServerMessage.{ServerMessage}
@@ -23,9 +24,17 @@ pub record Transcript : Type 0 where
   -- these are sent after the opening
   pub rest : List ClientMessage
 
+-- all of them
+abbrev pub all_of : Transcript → List ClientMessage
+all_of t = t.opening ++ t.rest
+
+-- how a client greets
+abbrev pub greeting : ClientHello
+greeting = record { client_id = codes "lsv 1" }
+
 -- the hello of a client
 abbrev pub hello_message : ClientMessage
-hello_message = client.Hello (record { client_id = codes "lsv 1" })
+hello_message = client.Hello greeting
 
 -- the peer shall go on with the log of this identifier, from this point on
 abbrev pub restart_message : (id : List ℕ) (point : ℕ) → ClientMessage
@@ -65,6 +74,21 @@ resumed_at rs head exit id point = after (first rs point)
     after : Option ℕ → Transcript
     after None = anew rs head exit
     after (Some n) = resumed rs exit id point n
+
+-- what is kept of a log between the connections of a relay: the peer's identifier of it, and the last commit point for it, if there is one
+pub record KeptPlace : Type 0 where
+  pub id : List ℕ
+  pub point : Option ℕ
+
+-- the log goes on at a kept point, if there is one
+abbrev pub relayed_by : List Record → Head → Option Exit → (id : List ℕ) → Option ℕ → Transcript
+relayed_by rs head exit id None = anew rs head exit
+relayed_by rs head exit id (Some point) = resumed_at rs head exit id point
+
+-- what a relay sends on a connection, by what was kept when it began
+abbrev pub relayed : List Record → Head → Option Exit → Option KeptPlace → Transcript
+relayed rs head exit None = anew rs head exit
+relayed rs head exit (Some kept) = relayed_by rs head exit kept.id kept.point
 
 -- whether this message brings an identifier
 abbrev pub is_id : ServerMessage → Bool

@@ -6,7 +6,6 @@ use Rattle.lsv_base.specs.LogNo.{digits_of, log_no_in}
 use Rattle.lsv_base.specs.Time.{nanos_of, time_of}
 use Rattle.lsv_info.specs.declared.times.Exit.{Exit}
 use Rattle.lsv_info.specs.declared.times.Head.{Head}
-use Rattle.lsv_msg.specs.declared.messages.ClientHello.{ClientHello}
 use Rattle.lsv_msg.specs.declared.messages.ClientMessage.{ClientMessage}
 use Rattle.lsv_record.specs.Points.{first}
 use Rattle.lsv_record.specs.Records.{IsValid}
@@ -19,8 +18,10 @@ use Rattle.lsv_request.specs.declared.request.Request.TheVariants as request
 use Rattle.lsv_request.specs.declared.request.Restart.{Restart}
 use Rattle.lsv_session.specs.declared.job.Body.{Body}
 use Rattle.lsv_session.specs.declared.job.Body.TheVariants as body
+use Rattle.lsv_transcript.specs.Transcript as transcript
+use Rattle.lsv_transcript.specs.Transcript.{all_of, anew, from_record, restart_message, resumed}
 use Rattle.lsv_machine.specs.History.{request_in}
-use Rattle.lsv_upstream.specs.Jobs.{BringsFirst, NoMessages, exit_messages, played_anew, played_on, restart_message}
+use Rattle.lsv_upstream.specs.Jobs.{BringsFirst, NoMessages}
 use Rattle.lsv_upstream.specs.Playing.{BringsAsked, StillAsks, StillAsks.Greets, StillAsks.Opens, StillAsks.Resumes, asks_from, ending}
 use Rattle.lsv_upstream.proofs.Members.{In, in_append, in_left, in_map}
 
@@ -35,6 +36,14 @@ pub record Words : Type 0 where
 -- these messages ask this, one after another
 abbrev pub Ask : List ClientMessage → List Request → Type 0
 Ask messages asks = map request_of messages ≡ map (λ q. Ok q) asks
+
+-- a log from its start: a hello, the accept, all records, and the exit
+abbrev pub played_anew : Head → List Record → Option Exit → List ClientMessage
+played_anew head rs exit = all_of (anew rs head exit)
+
+-- a log after its first n records: a hello, the restart, the other records, and the exit
+abbrev pub played_on : (id : List ℕ) (point n : ℕ) → List Record → Option Exit → List ClientMessage
+played_on id point n rs exit = all_of (resumed rs exit id point n)
 
 -- what a log from its start asks
 abbrev pub asks_anew : Head → List Record → Option Exit → List Request
@@ -56,19 +65,19 @@ module _ (words : Words) where
       let more = records_ask rs (All-tail IsValid r rs all) in
       rw (now, more) refl
 
-  exit_asks_it : (exit : Option Exit) → ((e : Exit) → exit ≡ Some e → IsSome (nanos_of e.run)) → Ask (exit_messages exit) (ending exit)
+  exit_asks_it : (exit : Option Exit) → ((e : Exit) → exit ≡ Some e → IsSome (nanos_of e.run)) → Ask (transcript.ending exit) (ending exit)
   exit_asks_it None timed = refl
   exit_asks_it (Some e) timed = let now = words.exit_asks e (timed e refl) in rw now refl
 
-  rest_asks : (rs : List Record) (exit : Option Exit) (n : ℕ) → All IsValid rs → ((e : Exit) → exit ≡ Some e → IsSome (nanos_of e.run)) → Ask (map record_message (drop n rs) ++ exit_messages exit) (asks_from rs exit n)
+  rest_asks : (rs : List Record) (exit : Option Exit) (n : ℕ) → All IsValid rs → ((e : Exit) → exit ≡ Some e → IsSome (nanos_of e.run)) → Ask (from_record rs exit n) (asks_from rs exit n)
   rest_asks rs exit n all timed =
-      map_append request_of (map record_message (drop n rs)) (exit_messages exit)
-      ∙ (ap (λ (z : List (Result Request Refusal)). z ++ map request_of (exit_messages exit)) (records_ask (drop n rs) (All-drop IsValid n rs all))
+      map_append request_of (map record_message (drop n rs)) (transcript.ending exit)
+      ∙ (ap (λ (z : List (Result Request Refusal)). z ++ map request_of (transcript.ending exit)) (records_ask (drop n rs) (All-drop IsValid n rs all))
       ∙ (ap (λ (z : List (Result Request Refusal)). map (λ q. Ok q) (map (λ r. request.Record r) (drop n rs)) ++ z) (exit_asks_it exit timed)
       ∙ sym (map_append (λ q. Ok q) (map (λ r. request.Record r) (drop n rs)) (ending exit))))
 
-  pub anew_asks : (hello : ClientHello) (head : Head) (rs : List Record) (exit : Option Exit) → All IsValid rs → IsSome (nanos_of head.submit) → ((e : Exit) → exit ≡ Some e → IsSome (nanos_of e.run)) → Ask (played_anew hello head rs exit) (asks_anew head rs exit)
-  anew_asks hello head rs exit all begun timed =
+  pub anew_asks : (head : Head) (rs : List Record) (exit : Option Exit) → All IsValid rs → IsSome (nanos_of head.submit) → ((e : Exit) → exit ≡ Some e → IsSome (nanos_of e.run)) → Ask (played_anew head rs exit) (asks_anew head rs exit)
+  anew_asks head rs exit all begun timed =
       let it = words.head_asks head begun in
       let rest = rest_asks rs exit 0 all timed in
       rw (it, rest) refl
@@ -76,9 +85,9 @@ module _ (words : Words) where
   pub restart_asks : (id : List ℕ) (log point : ℕ) → log_no_in id ≡ Some log → point < 2 ^ 63 → request_of (restart_message id point) ≡ Ok (request.Restart (record { log = log; point = point }))
   restart_asks id log point is low = let t = words.time_is point low in rw (t, is) refl
 
-  pub on_asks : (hello : ClientHello) (id : List ℕ) (log point n : ℕ) (rs : List Record) (exit : Option Exit) → log_no_in id ≡ Some log → point < 2 ^ 63 → All IsValid rs → ((e : Exit) → exit ≡ Some e → IsSome (nanos_of e.run))
-      → Ask (played_on hello id point n rs exit) (asks_on log point n rs exit)
-  on_asks hello id log point n rs exit is low all timed =
+  pub on_asks : (id : List ℕ) (log point n : ℕ) (rs : List Record) (exit : Option Exit) → log_no_in id ≡ Some log → point < 2 ^ 63 → All IsValid rs → ((e : Exit) → exit ≡ Some e → IsSome (nanos_of e.run))
+      → Ask (played_on id point n rs exit) (asks_on log point n rs exit)
+  on_asks id log point n rs exit is low all timed =
       let it = restart_asks id log point is low in
       let rest = rest_asks rs exit n all timed in
       rw (it, rest) refl

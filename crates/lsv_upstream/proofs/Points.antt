@@ -1,16 +1,16 @@
 -- Records through a point: of lists that begin alike, of a list cut short, and of a list after another.
 use Rattle.std.proofs.Common.{◌≡◌, ◌≤◌, ◌<◌, ◌+◌, ◌-◌, ℕ, zero, suc, List, [], ◌∷◌, ◌++◌, length, take, map, refl, sym, ◌∙◌, ap, subst, arith, Option, Some, None}
-use Rattle.std.specs.Prelude.{Bool, true, false, if◌then◌else◌, nat_le, max}
+use Rattle.std.specs.Prelude.{Bool, true, false, if◌then◌else◌, nat_lt, max}
 use Rattle.std.proofs.lemmas.Bool.Decides.{nat_tests}
 use Rattle.lsv_record.specs.Points.{IsFirst, cut, first, kept, one_more}
 use Rattle.lsv_record.specs.Records.{delay_of, elapsed}
 use Rattle.lsv_record.specs.declared.records.Record.{Record}
 use Rattle.lsv_record.proofs.Points.{FirstBy.here, FirstBy.later, FirstBy.past, first_append, first_by, first_end, first_some, first_there}
+use Rattle.lsv_transcript.specs.Plan.{reached, through}
 use Rattle.lsv_machine.specs.Durable.{IsPrefix}
 use Rattle.lsv_machine.specs.History.{Ledger}
 use Rattle.lsv_machine.proofs.RecordLemmas.{prefix_trans, take_prefix}
 use Rattle.lsv_upstream.specs.Held.{HoldsThrough}
-use Rattle.lsv_upstream.specs.Sent.{count_upto, reached_by}
 
 pub take_take : (n m : ℕ) (rs : List Record) → n ≤ m → take n (take m rs) ≡ take n rs
 take_take zero m rs low = refl
@@ -47,52 +47,52 @@ cut_begins_alike xs ys zs c n same_ also e = let f = first_alike xs ys c n same_
 -- ---- A list cut short
 
 -- what is reached of a list begins it, and begins with all that is skipped
-pub reached_begins : (o : Option ℕ) (n : ℕ) (rs : List Record) → take n (reached_by o n rs) ≡ take n rs
+pub reached_begins : (o : Option ℕ) (n : ℕ) (rs : List Record) → take n (reached rs o n) ≡ take n rs
 reached_begins None n rs = refl
-reached_begins (Some time) n rs = take_take n (max n (count_upto time rs)) rs (omega arith)
+reached_begins (Some time) n rs = take_take n (max n (through rs time)) rs (omega arith)
 
-pub reached_prefix : (o : Option ℕ) (n : ℕ) (rs : List Record) → (m : ℕ) × (reached_by o n rs ≡ take m rs)
+pub reached_prefix : (o : Option ℕ) (n : ℕ) (rs : List Record) → (m : ℕ) × (reached rs o n ≡ take m rs)
 reached_prefix None n rs = (length rs, sym (whole rs))
   where
     whole : (xs : List Record) → take (length xs) xs ≡ xs
     whole [] = refl
     whole (x ∷ xs) = ap (λ (y : List Record). x ∷ y) (whole xs)
-reached_prefix (Some time) n rs = (max n (count_upto time rs), refl)
+reached_prefix (Some time) n rs = (max n (through rs time), refl)
 
 -- if nothing is reached, no record ends at 0
-none_at_start : (o : Option ℕ) (n : ℕ) (rs : List Record) (f : ℕ) → reached_by o n rs ≡ [] → first rs 0 ≡ Some f → ⊥
+none_at_start : (o : Option ℕ) (n : ℕ) (rs : List Record) (f : ℕ) → reached rs o n ≡ [] → first rs 0 ≡ Some f → ⊥
 none_at_start o n [] f e at = cc
 none_at_start None n (r ∷ rs) f e at = cc
 none_at_start (Some time) n (r ∷ rs) f e at = elim (first_by r rs 0) [
-  | here d g ↦ go (max n (count_upto time (r ∷ rs))) refl (counted d)
+  | here d g ↦ go (max n (through (r ∷ rs) time)) refl (counted d)
   | past d g ↦ cc
   | later d g ↦ omega arith
 ]
   where
-    counted : delay_of r ≡ 0 → 1 ≤ count_upto time (r ∷ rs)
-    counted d = at_least (nat_le (delay_of r) time) refl
+    counted : delay_of r ≡ 0 → 1 ≤ through (r ∷ rs) time
+    counted d = at_least (nat_lt time (delay_of r)) refl
       where
-        at_least : (b : Bool) → nat_le (delay_of r) time ≡ b → 1 ≤ (if b then suc (count_upto (time - delay_of r) rs) else 0)
-        at_least true q = omega arith
-        at_least false q = absurd (let x : time < delay_of r = grind (arith, nat_tests) in omega (arith, d, x))
+        at_least : (b : Bool) → nat_lt time (delay_of r) ≡ b → 1 ≤ (if b then 0 else suc (through rs (time - delay_of r)))
+        at_least false q = omega arith
+        at_least true q = absurd (let x : time < delay_of r = grind (arith, nat_tests) in omega (arith, d, x))
 
-    go : (m : ℕ) → max n (count_upto time (r ∷ rs)) ≡ m → 1 ≤ count_upto time (r ∷ rs) → ⊥
+    go : (m : ℕ) → max n (through (r ∷ rs) time) ≡ m → 1 ≤ through (r ∷ rs) time → ⊥
     go zero q some = omega (arith, q, some)
     go (suc m) q some = let x : take (suc m) (r ∷ rs) ≡ [] = ap (λ k. take k (r ∷ rs)) (sym q) ∙ e in cc
 
 -- what is held through the end of what is reached is held of the whole list
-pub holds_of_reached : (o : Option ℕ) (n : ℕ) (rs : List Record) (l : Ledger) → HoldsThrough (reached_by o n rs) (elapsed (reached_by o n rs)) l → HoldsThrough rs (elapsed (reached_by o n rs)) l
-holds_of_reached o n rs l h = record { prefix = prefix_trans l.sent (reached_by o n rs) rs h.prefix begins; promises = λ f at. h.promises f (ends f at (reached_by o n rs) refl) }
+pub holds_of_reached : (o : Option ℕ) (n : ℕ) (rs : List Record) (l : Ledger) → HoldsThrough (reached rs o n) (elapsed (reached rs o n)) l → HoldsThrough rs (elapsed (reached rs o n)) l
+holds_of_reached o n rs l h = record { prefix = prefix_trans l.sent (reached rs o n) rs h.prefix begins; promises = λ f at. h.promises f (ends f at (reached rs o n) refl) }
   where
-    begins : IsPrefix (reached_by o n rs) rs
+    begins : IsPrefix (reached rs o n) rs
     begins = let (m, e) = reached_prefix o n rs in subst (λ (x : List Record). IsPrefix x rs) (sym e) (take_prefix m rs)
 
-    ends : (f : ℕ) → first rs (elapsed (reached_by o n rs)) ≡ Some f → (xs : List Record) → reached_by o n rs ≡ xs → first (reached_by o n rs) (elapsed (reached_by o n rs)) ≡ Some f
+    ends : (f : ℕ) → first rs (elapsed (reached rs o n)) ≡ Some f → (xs : List Record) → reached rs o n ≡ xs → first (reached rs o n) (elapsed (reached rs o n)) ≡ Some f
     ends f at [] e = absurd (none_at_start o n rs f e (subst (λ (x : List Record). first rs (elapsed x) ≡ Some f) e at))
     ends f at (x ∷ xs) e =
         let (g, own) = first_end x xs in
-        let own' : first (reached_by o n rs) (elapsed (reached_by o n rs)) ≡ Some g = subst (λ (y : List Record). first y (elapsed y) ≡ Some g) (sym e) own in
-        let whole : first rs (elapsed (reached_by o n rs)) ≡ Some g = subst (λ (y : List Record). first y (elapsed (reached_by o n rs)) ≡ Some g) begins.is (first_append (reached_by o n rs) begins.rest (elapsed (reached_by o n rs)) g own') in
+        let own' : first (reached rs o n) (elapsed (reached rs o n)) ≡ Some g = subst (λ (y : List Record). first y (elapsed y) ≡ Some g) (sym e) own in
+        let whole : first rs (elapsed (reached rs o n)) ≡ Some g = subst (λ (y : List Record). first y (elapsed (reached rs o n)) ≡ Some g) begins.is (first_append (reached rs o n) begins.rest (elapsed (reached rs o n)) g own') in
         let same_ : g ≡ f = cc in
         own' ∙ ap Some same_
 

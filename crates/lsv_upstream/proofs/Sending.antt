@@ -1,12 +1,11 @@
 -- A log that one connection sends is held through the point that its sender awaits.
 use Rattle.std.proofs.Common.{◌≡◌, ◌<◌, ◌^◌, ℕ, List, [], ◌∷◌, ◌++◌, take, drop, map, refl, sym, ◌∙◌, ap, subst, inl, inr, Option, Some, None, ◌⊎◌}
-use Rattle.std.specs.Prelude.{Bool, true, false, if◌then◌else◌, Ok, Err, All, IsSome, unwrap_or}
+use Rattle.std.specs.Prelude.{Bool, true, false, if◌then◌else◌, Ok, Err, All, IsSome, option_map}
 use Rattle.std.proofs.lemmas.List.Elements.{All-drop, All-head, All-tail, All-take}
 use Rattle.lsv_base.specs.LogNo.{log_no_in}
 use Rattle.lsv_base.specs.Time.{nanos_of, time_of}
 use Rattle.lsv_info.specs.declared.times.Exit.{Exit}
 use Rattle.lsv_info.specs.declared.times.Head.{Head}
-use Rattle.lsv_msg.specs.declared.messages.ClientHello.{ClientHello}
 use Rattle.lsv_msg.specs.declared.messages.ClientMessage.{ClientMessage}
 use Rattle.lsv_record.specs.Points.{cut, first}
 use Rattle.lsv_record.specs.Records.{IsValid, elapsed}
@@ -23,6 +22,9 @@ use Rattle.lsv_session.specs.Transcript.{bodies_of}
 use Rattle.lsv_session.specs.declared.connection.ConnId.{ConnId}
 use Rattle.lsv_session.specs.declared.job.Body.{Body}
 use Rattle.lsv_session.specs.declared.job.Body.TheVariants as body
+use Rattle.lsv_transcript.specs.Plan.{Plan, ResumeAt, exit_by, plan_from, reached, sent_after, sent_anew}
+use Rattle.lsv_transcript.specs.Transcript as transcript
+use Rattle.lsv_transcript.specs.Transcript.{all_of, restart_message}
 use Rattle.lsv_machine.specs.Failures.{Act}
 use Rattle.lsv_machine.specs.History.{Ledger, blank, ledger, noted, request_in, tells_log, writes}
 use Rattle.lsv_machine.specs.Machine.{IsOfLane, Machine, Settings, same}
@@ -34,12 +36,12 @@ use Rattle.lsv_machine.proofs.Silent.{step_sound, tail_sound}
 use Rattle.lsv_machine.proofs.Shown.{ByDelays}
 use Rattle.lsv_machine.proofs.StepLooks.{step_seen}
 use Rattle.lsv_upstream.specs.Held.{GetsPoint, HoldsThrough, HasPoint, answers_at, up_to}
-use Rattle.lsv_upstream.specs.Jobs.{BringsFirst, IsStorable, exit_messages, jobs_of, played_anew, played_on, restart_message}
+use Rattle.lsv_upstream.specs.Jobs.{BringsFirst, IsStorable, jobs_of}
 use Rattle.lsv_upstream.specs.Playing.{BringsAsked, HasBegun, IsNext, OwnExpected, OwnRun, StillAsks, StillAsks.Over, all_asks_after, asks_after}
 use Rattle.lsv_upstream.specs.Runs.{RunsOn, ServerRun, history_at}
-use Rattle.lsv_upstream.specs.Sent.{BeginsAlike, ResumeAt, Sending, aim, exit_by, reached, resumed_at, sender_messages, sent_from, skips}
+use Rattle.lsv_upstream.specs.Sent.{BeginsAlike}
 use Rattle.lsv_upstream.proofs.Answering.{told_by}
-use Rattle.lsv_upstream.proofs.Asks.{Words, anew_asks, anew_shape, asks_anew, asks_on, body_asks, brings_asked, ends_ask_nothing, no_restart_anew, on_asks, on_shape, restart_on}
+use Rattle.lsv_upstream.proofs.Asks.{Words, anew_asks, anew_shape, asks_anew, asks_on, body_asks, brings_asked, ends_ask_nothing, no_restart_anew, on_asks, on_shape, played_anew, played_on, restart_on}
 use Rattle.lsv_upstream.proofs.Begun.{RestartsIn, run_began}
 use Rattle.lsv_upstream.proofs.Lists.{split_first}
 use Rattle.lsv_upstream.proofs.Members.{In, append_nothing, append_three, in_append, in_left, in_map}
@@ -72,13 +74,10 @@ later_in q (body.Msg m) (x ∷ asks) i = inr i
 later_in q (body.Bad f) asks i = absurd i
 later_in q body.Gone asks i = absurd i
 
-module _ (n : ℕ) (rs : List Record) (s : Sending) (before : List Happened) (r : ServerRun) (k : ConnId) (on : RunsOn r.set.lane r.set.lanes n before r) (alike_ : BeginsAlike n rs s before r k) where
-  -- the records that are reached, and how many are skipped
+module _ (n : ℕ) (rs : List Record) (stop : Option ℕ) (skipped : ℕ) (before : List Happened) (r : ServerRun) (k : ConnId) (on : RunsOn r.set.lane r.set.lanes n before r) (alike_ : BeginsAlike n rs skipped before r k) where
+  -- the records that are reached
   abbrev mine : List Record
-  mine = reached s rs
-
-  abbrev skipped : ℕ
-  skipped = skips s.from rs
+  mine = reached rs stop skipped
 
   -- a restart that is asked is at a point at which the records that are skipped end
   abbrev pub AtPlace : Restart → Type 0
@@ -88,7 +87,7 @@ module _ (n : ℕ) (rs : List Record) (s : Sending) (before : List Happened) (r 
   begun_by past later act split own place restart kept asks p there =
       let at = place restart asks in
       let same_start = alike_ past later act restart split own asks p in
-      let begins = reached_begins s.upto skipped rs in
+      let begins = reached_begins stop skipped rs in
       let kept_is : Some kept ≡ Some skipped = sym there ∙ first_alike mine rs restart.point skipped begins at in
       let is : kept ≡ skipped = cc in
       subst (λ (x : ℕ). cut (ledger (history_at before r past) n).sent restart.point ≡ take x mine) (sym is) (cut_begins_alike (ledger (history_at before r past) n).sent rs mine restart.point skipped same_start begins at)
@@ -173,9 +172,9 @@ teller_asks set n k (Tailed tail ∷ h) m end sound (mid, ended, rest) i = telle
 teller_asks set n k (Begins texts ∷ h) m end sound runs i = absurd runs
 
 -- a log of no identifier is not gone on with, and none is begun
-unnamed_opens_nothing : (words : Words) (hello : ClientHello) (id : List ℕ) (point m : ℕ) (rs : List Record) (exit : Option Exit) → log_no_in id ≡ None → All IsValid rs → ((e : Exit) → exit ≡ Some e → IsSome (nanos_of e.run))
-    → (bodies : List Body) (b : Body) (q : Request) → BringsFirst (played_on hello id point m rs exit) bodies → In b bodies → request_in b ≡ Ok q → is_opening q ≡ false
-unnamed_opens_nothing words hello id point m rs exit none valid timed bodies b q f i asks = elim (in_append b (map (λ x. body.Msg x) f.brought) f.ends (subst (In b) f.jobs i)) [
+unnamed_opens_nothing : (words : Words) (id : List ℕ) (point m : ℕ) (rs : List Record) (exit : Option Exit) → log_no_in id ≡ None → All IsValid rs → ((e : Exit) → exit ≡ Some e → IsSome (nanos_of e.run))
+    → (bodies : List Body) (b : Body) (q : Request) → BringsFirst (played_on id point m rs exit) bodies → In b bodies → request_in b ≡ Ok q → is_opening q ≡ false
+unnamed_opens_nothing words id point m rs exit none valid timed bodies b q f i asks = elim (in_append b (map (λ x. body.Msg x) f.brought) f.ends (subst (In b) f.jobs i)) [
   | inr end ↦ absurd (ends_ask_nothing f.ends b q f.no_messages end asks)
   | inl here ↦
       let (x, j, e) = in_map (λ x. body.Msg x) b f.brought here in
@@ -197,7 +196,7 @@ unnamed_opens_nothing words hello id point m rs exit none valid timed bodies b q
         sym (ap is_opening c)
     rest_records (y ∷ ys) all x (inr j) e = rest_records ys (All-tail IsValid y ys all) x j e
 
-    exit_one : (o : Option Exit) → exit ≡ o → (x : ClientMessage) → In x (exit_messages o) → request_of x ≡ Ok q → is_opening q ≡ false
+    exit_one : (o : Option Exit) → exit ≡ o → (x : ClientMessage) → In x (transcript.ending o) → request_of x ≡ Ok q → is_opening q ≡ false
     exit_one None p x j e = absurd j
     exit_one (Some y) p x (inl t) e =
         let a : Ok (request.Exit y) ≡ Ok q = sym (words.exit_asks y (timed y p)) ∙ (ap request_of t ∙ e) in
@@ -205,10 +204,10 @@ unnamed_opens_nothing words hello id point m rs exit none valid timed bodies b q
         sym (ap is_opening c)
     exit_one (Some y) p x (inr j) e = absurd j
 
-    one : (x : ClientMessage) → In x (played_on hello id point m rs exit) → request_of x ≡ Ok q → is_opening q ≡ false
+    one : (x : ClientMessage) → In x (played_on id point m rs exit) → request_of x ≡ Ok q → is_opening q ≡ false
     one x (inl p) e = let a : Ok request.Hello ≡ Ok q = ap request_of p ∙ e in let c : request.Hello ≡ q = cc in sym (ap is_opening c)
     one x (inr (inl p)) e = absurd (restart_refused q (ap request_of p ∙ e))
-    one x (inr (inr j)) e = elim (in_append x (map record_message (drop m rs)) (exit_messages exit) j) [
+    one x (inr (inr j)) e = elim (in_append x (map record_message (drop m rs)) (transcript.ending exit) j) [
       | inl r ↦ rest_records (drop m rs) (All-drop IsValid m rs valid) x r e
       | inr l ↦ exit_one exit refl x l e
     ]
@@ -225,131 +224,135 @@ bodies_append b k (Did act ∷ g) h i = go (bodies_append b k g h) (connections.
 bodies_append b k (Tailed tail ∷ g) h i = bodies_append b k g h i
 bodies_append b k (Begins texts ∷ g) h i = bodies_append b k g h i
 
-module _ (by : ByDelays) (words : Words) (n : ℕ) (hello : ClientHello) (head : Head) (rs : List Record) (exit : Option Exit) (s : Sending) (before : List Happened) (r : ServerRun) (k : ConnId)
-    (stored : IsStorable head rs exit) (of_lane : IsOfLane r.set.lane r.set.lanes n) (on : RunsOn r.set.lane r.set.lanes n before r)
-    (brings : BringsFirst (sender_messages hello head rs exit s) (bodies_of k (jobs_of r.events))) (alike_ : BeginsAlike n rs s before r k) (at : GetsPoint n before r k (aim s rs)) where
-  -- the records that are reached, and the exit that is sent
-  abbrev pub reaches : List Record
-  reaches = reached s rs
+module _ (by : ByDelays) (words : Words) (n : ℕ) (head : Head) (rs : List Record) (exit : Option Exit) (stop : Option ℕ) (before : List Happened) (r : ServerRun) (k : ConnId)
+    (stored : IsStorable head rs exit) (of_lane : IsOfLane r.set.lane r.set.lanes n) (on : RunsOn r.set.lane r.set.lanes n before r) where
+  -- ---- These records are passed over
 
-  abbrev pub its_exit : Option Exit
-  its_exit = exit_by s.upto exit
+  module _ (skipped : ℕ) (alike_ : BeginsAlike n rs skipped before r k) (at : GetsPoint n before r k (elapsed (reached rs stop skipped))) where
+    -- the records that are reached, and the exit that is sent
+    abbrev pub reaches : List Record
+    reaches = reached rs stop skipped
 
-  reached_valid : All IsValid reaches
-  reached_valid = let (m, e) = reached_prefix s.upto (skips s.from rs) rs in subst (All IsValid) (sym e) (All-take IsValid m rs stored.valid)
+    abbrev pub its_exit : Option Exit
+    its_exit = exit_by stop exit
 
-  exit_timed : (e : Exit) → its_exit ≡ Some e → IsSome (nanos_of e.run)
-  exit_timed e q = go s.upto q
+    reached_valid : All IsValid reaches
+    reached_valid = let (m, e) = reached_prefix stop skipped rs in subst (All IsValid) (sym e) (All-take IsValid m rs stored.valid)
+
+    exit_timed : (e : Exit) → its_exit ≡ Some e → IsSome (nanos_of e.run)
+    exit_timed e q = go stop q
+      where
+        go : (o : Option ℕ) → exit_by o exit ≡ Some e → IsSome (nanos_of e.run)
+        go None x = stored.ended e x
+        go (Some time) x = absurd (cc)
+
+    -- what is asked, its shape, and where its restart is
+    record Asked : Type 0 where
+      asks : List Request
+      shape : StillAsks reaches its_exit asks
+      lists : BringsAsked asks (bodies_of k (jobs_of r.events))
+      places : (restart : Restart) → In (request.Restart restart) asks → first rs restart.point ≡ Some skipped
+
+    -- no log is begun or gone on with
+    abbrev AsksNoLog : Type 0
+    AsksNoLog = (b : Body) (q : Request) → In b (bodies_of k (jobs_of r.events)) → request_in b ≡ Ok q → is_opening q ≡ false
+
+    from_start : BringsFirst (played_anew head reaches its_exit) (bodies_of k (jobs_of r.events)) → Asked ⊎ AsksNoLog
+    from_start brings = inl (record {
+      asks = asks_anew head reaches its_exit;
+      shape = anew_shape head reaches its_exit;
+      lists = brings_asked (played_anew head reaches its_exit) (asks_anew head reaches its_exit) (bodies_of k (jobs_of r.events)) (anew_asks words head reaches its_exit reached_valid stored.begun exit_timed) brings;
+      places = λ restart i. absurd (no_restart_anew head reaches its_exit restart i);
+    })
+
+    from_place : (place : ResumeAt) → first rs place.point ≡ Some skipped → BringsFirst (played_on place.id place.point skipped reaches its_exit) (bodies_of k (jobs_of r.events)) → Asked ⊎ AsksNoLog
+    from_place place e brings = number (log_no_in place.id) refl
+      where
+        low : place.point < 2 ^ 63
+        low = below rs place.point skipped e stored.in_time
+
+        begins : first reaches place.point ≡ Some skipped
+        begins = first_alike reaches rs place.point skipped (reached_begins stop skipped rs) e
+
+        number : (y : Option ℕ) → log_no_in place.id ≡ y → Asked ⊎ AsksNoLog
+        number (Some log) is = inl (record {
+          asks = asks_on log place.point skipped reaches its_exit;
+          shape = on_shape log place.point skipped reaches its_exit begins;
+          lists = brings_asked (played_on place.id place.point skipped reaches its_exit) (asks_on log place.point skipped reaches its_exit) (bodies_of k (jobs_of r.events)) (on_asks words place.id log place.point skipped reaches its_exit is low reached_valid exit_timed) brings;
+          places = λ restart i. let p = (restart_on log place.point skipped reaches its_exit restart i).1 in ap (first rs) p ∙ e;
+        })
+        number None is = inr (λ b q i asks. unnamed_opens_nothing words place.id place.point skipped reaches its_exit is reached_valid exit_timed (bodies_of k (jobs_of r.events)) b q brings i asks)
+
+    -- who asks for neither writes nothing
+    no_writer : AsksNoLog → ⊥
+    no_writer none = go (run_began n k at.past (noted n (ledger before n) (Begins r.texts)) (subst (λ l. writes l k ≡ true) (ledger_run n before r at.past) at.writing))
+      where
+        past_in : (b : Body) → In b (bodies_of k (jobs_of at.past)) → In b (bodies_of k (jobs_of r.events))
+        past_in b i = subst (λ h. In b (bodies_of k (jobs_of h))) (sym at.is) (bodies_append b k at.past (at.event ∷ at.later) i)
+
+        go : (writes (noted n (ledger before n) (Begins r.texts)) k ≡ true) ⊎ (In k (tellers n at.past) ⊎ RestartsIn n k at.past) → ⊥
+        go (inl x) = cc
+        go (inr (inl told)) =
+            let (m, ran, rest) = split_run r.set at.past (at.event ∷ at.later) r.start r.end (subst (λ h. Run r.set r.start h r.end) at.is on.runs) in
+            let (b, i, (accept, asks)) = teller_asks r.set n k at.past r.start m (starts_sound r.set r.texts r.start on.starts) ran told in
+            let x = none b (request.Accept accept) (past_in b i) asks in cc
+        go (inr (inr restarts)) =
+            let (b, i, (restart, asks, log_is)) = restart_body n k at.past restarts in
+            let x = none b (request.Restart restart) (past_in b i) asks in cc
+
+    reached_held : Asked ⊎ AsksNoLog → HoldsThrough rs (elapsed reaches) (ledger (up_to before r at) n)
+    reached_held asked = elim asked [
+      | inr none ↦ absurd (no_writer none)
+      | inl its ↦ holds_of_reached stop skipped rs (ledger (up_to before r at) n) (held its)
+    ]
+      where
+        held : Asked → HoldsThrough reaches (elapsed reaches) (ledger (up_to before r at) n)
+        held its = subst (HoldsThrough reaches (elapsed reaches)) (sym one) (go at.event at.brings two.2 rest)
+          where
+            follow : (now : ConnId → List Request) × OwnExpected reaches n (λ j. same j k) (λ j. its.asks) (history_at before r []) r.events now
+            follow = own_follow n rs stop skipped before r k on alike_ [] r.events refl (λ j. its.asks) its.lists its.places
+
+            ran : (mid : Machine) × Run r.set r.start at.past mid × Run r.set mid (at.event ∷ at.later) r.end
+            ran = split_run r.set at.past (at.event ∷ at.later) r.start r.end (subst (λ h. Run r.set r.start h r.end) at.is on.runs)
+
+            rest : Run r.set ran.0 (at.event ∷ at.later) r.end
+            rest = ran.2
+
+            two : (mid : ConnId → List Request) × OwnExpected reaches n (λ j. same j k) (λ j. its.asks) (history_at before r []) at.past mid × OwnExpected reaches n (λ j. same j k) mid (history_at before r [] ++ at.past) (at.event ∷ at.later) follow.0
+            two = split_own reaches n (λ j. same j k) (λ j. its.asks) (history_at before r []) at.past (at.event ∷ at.later) follow.0 (subst (λ h. OwnExpected reaches n (λ j. same j k) (λ j. its.asks) (history_at before r []) h follow.0) at.is follow.1)
+
+            part : OwnRun n reaches its_exit before at.past r.set ran.0 (λ j. same j k) two.0
+            part = record { texts = r.texts; start = r.start; coming = λ j. its.asks; of_lane = of_lane; starts = on.starts; good = on.good; shapes = λ j o. its.shape; follows = two.1; runs = ran.1 }
+
+            l : Ledger
+            l = ledger (history_at before r at.past) n
+
+            one : ledger (up_to before r at) n ≡ noted n l at.event
+            one = ap (λ (x : List Happened). ledger x n) (sym (append_three before (Begins r.texts ∷ at.past) (at.event ∷ []))) ∙ ledger_append n blank (history_at before r at.past) (at.event ∷ [])
+
+            go : (x : Happened) → HasPoint k (elapsed reaches) (answers_at x) → OwnExpected reaches n (λ j. same j k) two.0 (history_at before r [] ++ at.past) (x ∷ at.later) follow.0 → Run r.set ran.0 (x ∷ at.later) r.end → HoldsThrough reaches (elapsed reaches) (noted n l x)
+            go (Tailed tail) told own (after, ended, more) = own_acknowledged by n reaches its_exit before at.past r.set ran.0 after (λ j. same j k) two.0 tail k part ended (same_refl k) at.writing told
+            go (Did act) told (begun, next, own) (after, step, more) =
+                let p = tells_to act.job.conn k (elapsed reaches) act.answers (step_seen r.set ran.0 act after step).to told in
+                let o : same act.job.conn k ≡ true = subst (λ j. same act.job.conn j ≡ true) p (same_refl act.job.conn) in
+                own_exit by n reaches its_exit before at.past r.set ran.0 after (λ j. same j k) two.0 act (elapsed reaches) o (next o) part step
+                (subst (λ j. writes l j ≡ true) (sym p) at.writing) (subst (λ j. HasPoint j (elapsed reaches) act.answers) (sym p) told)
+            go (Begins texts) told own runs = absurd told
+
+  -- ---- A plan
+
+  -- what is held by a plan
+  abbrev Holds : Plan → Type 0
+  Holds plan = BringsFirst (all_of plan.transcript) (bodies_of k (jobs_of r.events)) → BeginsAlike n rs plan.transcript.skipped before r k → (at : GetsPoint n before r k plan.aim) → HoldsThrough rs plan.aim (ledger (up_to before r at) n)
+
+  pub sent_held : (from : Option ResumeAt) (plan : Plan) → plan_from rs head exit from stop ≡ Some plan → Holds plan
+  sent_held None plan planned =
+      let is : sent_anew rs head exit stop ≡ plan = cc in
+      subst Holds is (λ brings alike_ at. reached_held 0 alike_ at (from_start 0 alike_ at brings))
+  sent_held (Some place) plan planned = there (first rs place.point) refl planned
     where
-      go : (o : Option ℕ) → exit_by o exit ≡ Some e → IsSome (nanos_of e.run)
-      go None x = stored.ended e x
-      go (Some time) x = absurd (cc)
-
-  -- what is asked, its shape, and where its restart is
-  record Plan : Type 0 where
-    asks : List Request
-    shape : StillAsks reaches its_exit asks
-    lists : BringsAsked asks (bodies_of k (jobs_of r.events))
-    places : (restart : Restart) → In (request.Restart restart) asks → first rs restart.point ≡ Some (skips s.from rs)
-
-  plan_or : Plan ⊎ ((b : Body) (q : Request) → In b (bodies_of k (jobs_of r.events)) → request_in b ≡ Ok q → is_opening q ≡ false)
-  plan_or = go s.from refl
-    where
-      go : (o : Option ResumeAt) → s.from ≡ o → Plan ⊎ ((b : Body) (q : Request) → In b (bodies_of k (jobs_of r.events)) → request_in b ≡ Ok q → is_opening q ≡ false)
-      go None f = inl (record {
-        asks = asks_anew head reaches its_exit;
-        shape = anew_shape head reaches its_exit;
-        lists = brings_asked (sender_messages hello head rs exit s) (asks_anew head reaches its_exit) (bodies_of k (jobs_of r.events)) (ap (map request_of) messages_are ∙ anew_asks words hello head reaches its_exit reached_valid stored.begun exit_timed) brings;
-        places = λ restart i. absurd (no_restart_anew head reaches its_exit restart i);
-      })
-        where
-          messages_are : sender_messages hello head rs exit s ≡ played_anew hello head reaches its_exit
-          messages_are = ap (λ (o : Option ResumeAt). sent_from hello head rs o reaches its_exit) f
-      go (Some place) f = there (first rs place.point) refl
-        where
-          messages_at : (x : Option ℕ) → first rs place.point ≡ x → sender_messages hello head rs exit s ≡ resumed_at hello place x reaches its_exit
-          messages_at x e = ap (λ (o : Option ResumeAt). sent_from hello head rs o reaches its_exit) f ∙ ap (λ (y : Option ℕ). resumed_at hello place y reaches its_exit) e
-
-          skips_are : (m : ℕ) → first rs place.point ≡ Some m → skips s.from rs ≡ m
-          skips_are m e = ap (λ (o : Option ResumeAt). skips o rs) f ∙ ap (λ (o : Option ℕ). unwrap_or o 0) e
-
-          there : (x : Option ℕ) → first rs place.point ≡ x → Plan ⊎ ((b : Body) (q : Request) → In b (bodies_of k (jobs_of r.events)) → request_in b ≡ Ok q → is_opening q ≡ false)
-          there None e = inl (record {
-            asks = [];
-            shape = Over [] refl;
-            lists = brings_asked (sender_messages hello head rs exit s) [] (bodies_of k (jobs_of r.events)) (ap (map request_of) (messages_at None e)) brings;
-            places = λ restart i. absurd i;
-          })
-          there (Some m) e = number (log_no_in place.id) refl
-            where
-              low : place.point < 2 ^ 63
-              low = below rs place.point m e stored.in_time
-
-              begins : first reaches place.point ≡ Some m
-              begins = first_alike reaches rs place.point m (subst (λ (x : ℕ). take x reaches ≡ take x rs) (skips_are m e) (reached_begins s.upto (skips s.from rs) rs)) e
-
-              number : (y : Option ℕ) → log_no_in place.id ≡ y → Plan ⊎ ((b : Body) (q : Request) → In b (bodies_of k (jobs_of r.events)) → request_in b ≡ Ok q → is_opening q ≡ false)
-              number (Some log) is = inl (record {
-                asks = asks_on log place.point m reaches its_exit;
-                shape = on_shape log place.point m reaches its_exit begins;
-                lists = brings_asked (sender_messages hello head rs exit s) (asks_on log place.point m reaches its_exit) (bodies_of k (jobs_of r.events))
-                    (ap (map request_of) (messages_at (Some m) e) ∙ on_asks words hello place.id log place.point m reaches its_exit is low reached_valid exit_timed) brings;
-                places = λ restart i. let p = (restart_on log place.point m reaches its_exit restart i).1 in ap (first rs) p ∙ (e ∙ ap Some (sym (skips_are m e)));
-              })
-              number None is = inr (λ b q i asks. unnamed_opens_nothing words hello place.id place.point m reaches its_exit is reached_valid exit_timed (bodies_of k (jobs_of r.events)) b q (subst (λ (x : List ClientMessage). BringsFirst x (bodies_of k (jobs_of r.events))) (messages_at (Some m) e) brings) i asks)
-
-  -- who asks for neither writes nothing
-  no_writer : ((b : Body) (q : Request) → In b (bodies_of k (jobs_of r.events)) → request_in b ≡ Ok q → is_opening q ≡ false) → ⊥
-  no_writer none = go (run_began n k at.past (noted n (ledger before n) (Begins r.texts)) (subst (λ l. writes l k ≡ true) (ledger_run n before r at.past) at.writing))
-    where
-      past_in : (b : Body) → In b (bodies_of k (jobs_of at.past)) → In b (bodies_of k (jobs_of r.events))
-      past_in b i = subst (λ h. In b (bodies_of k (jobs_of h))) (sym at.is) (bodies_append b k at.past (at.event ∷ at.later) i)
-
-      go : (writes (noted n (ledger before n) (Begins r.texts)) k ≡ true) ⊎ (In k (tellers n at.past) ⊎ RestartsIn n k at.past) → ⊥
-      go (inl x) = cc
-      go (inr (inl told)) =
-          let (m, ran, rest) = split_run r.set at.past (at.event ∷ at.later) r.start r.end (subst (λ h. Run r.set r.start h r.end) at.is on.runs) in
-          let (b, i, (accept, asks)) = teller_asks r.set n k at.past r.start m (starts_sound r.set r.texts r.start on.starts) ran told in
-          let x = none b (request.Accept accept) (past_in b i) asks in cc
-      go (inr (inr restarts)) =
-          let (b, i, (restart, asks, log_is)) = restart_body n k at.past restarts in
-          let x = none b (request.Restart restart) (past_in b i) asks in cc
-
-  pub sent_held : HoldsThrough rs (aim s rs) (ledger (up_to before r at) n)
-  sent_held = elim plan_or [
-    | inr none ↦ absurd (no_writer none)
-    | inl plan ↦ holds_of_reached s.upto (skips s.from rs) rs (ledger (up_to before r at) n) (held plan)
-  ]
-    where
-      held : Plan → HoldsThrough reaches (elapsed reaches) (ledger (up_to before r at) n)
-      held plan = subst (HoldsThrough reaches (elapsed reaches)) (sym one) (go at.event at.brings two.2 rest)
-        where
-          follow : (now : ConnId → List Request) × OwnExpected reaches n (λ j. same j k) (λ j. plan.asks) (history_at before r []) r.events now
-          follow = own_follow n rs s before r k on alike_ [] r.events refl (λ j. plan.asks) plan.lists plan.places
-
-          ran : (mid : Machine) × Run r.set r.start at.past mid × Run r.set mid (at.event ∷ at.later) r.end
-          ran = split_run r.set at.past (at.event ∷ at.later) r.start r.end (subst (λ h. Run r.set r.start h r.end) at.is on.runs)
-
-          rest : Run r.set ran.0 (at.event ∷ at.later) r.end
-          rest = ran.2
-
-          two : (mid : ConnId → List Request) × OwnExpected reaches n (λ j. same j k) (λ j. plan.asks) (history_at before r []) at.past mid × OwnExpected reaches n (λ j. same j k) mid (history_at before r [] ++ at.past) (at.event ∷ at.later) follow.0
-          two = split_own reaches n (λ j. same j k) (λ j. plan.asks) (history_at before r []) at.past (at.event ∷ at.later) follow.0 (subst (λ h. OwnExpected reaches n (λ j. same j k) (λ j. plan.asks) (history_at before r []) h follow.0) at.is follow.1)
-
-          part : OwnRun n reaches its_exit before at.past r.set ran.0 (λ j. same j k) two.0
-          part = record { texts = r.texts; start = r.start; coming = λ j. plan.asks; of_lane = of_lane; starts = on.starts; good = on.good; shapes = λ j o. plan.shape; follows = two.1; runs = ran.1 }
-
-          l : Ledger
-          l = ledger (history_at before r at.past) n
-
-          one : ledger (up_to before r at) n ≡ noted n l at.event
-          one = ap (λ (x : List Happened). ledger x n) (sym (append_three before (Begins r.texts ∷ at.past) (at.event ∷ []))) ∙ ledger_append n blank (history_at before r at.past) (at.event ∷ [])
-
-          go : (x : Happened) → HasPoint k (elapsed reaches) (answers_at x) → OwnExpected reaches n (λ j. same j k) two.0 (history_at before r [] ++ at.past) (x ∷ at.later) follow.0 → Run r.set ran.0 (x ∷ at.later) r.end → HoldsThrough reaches (elapsed reaches) (noted n l x)
-          go (Tailed tail) told own (after, ended, more) = own_acknowledged by n reaches its_exit before at.past r.set ran.0 after (λ j. same j k) two.0 tail k part ended (same_refl k) at.writing told
-          go (Did act) told (begun, next, own) (after, step, more) =
-              let p = tells_to act.job.conn k (elapsed reaches) act.answers (step_seen r.set ran.0 act after step).to told in
-              let o : same act.job.conn k ≡ true = subst (λ j. same act.job.conn j ≡ true) p (same_refl act.job.conn) in
-              own_exit by n reaches its_exit before at.past r.set ran.0 after (λ j. same j k) two.0 act (elapsed reaches) o (next o) part step
-              (subst (λ j. writes l j ≡ true) (sym p) at.writing) (subst (λ j. HasPoint j (elapsed reaches) act.answers) (sym p) told)
-          go (Begins texts) told own runs = absurd told
+      there : (x : Option ℕ) → first rs place.point ≡ x → option_map (sent_after rs exit stop place) x ≡ Some plan → Holds plan
+      there None e planned = absurd (cc)
+      there (Some m) e planned =
+          let is : sent_after rs exit stop place m ≡ plan = cc in
+          subst Holds is (λ brings alike_ at. reached_held m alike_ at (from_place m alike_ at place e brings))

@@ -20,6 +20,8 @@ use Rattle.lsv_session.specs.Connections.{server_hello}
 use Rattle.lsv_session.specs.Transcript.{bodies_of, said_to}
 use Rattle.lsv_session.specs.declared.connection.ConnId.{ConnId}
 use Rattle.lsv_session.specs.declared.job.Body.{Body}
+use Rattle.lsv_transcript.specs.Transcript.{KeptPlace, all_of, relayed_by}
+use Rattle.lsv_transcript.specs.Transcript as transcript
 use Rattle.lsv_machine.specs.Answers.{reply_of}
 use Rattle.lsv_machine.specs.History.{ledger, noted, request_in, tells_log, writes}
 use Rattle.lsv_machine.specs.Machine.{Machine, Settings, same}
@@ -31,7 +33,7 @@ use Rattle.lsv_machine.proofs.Silent.{step_sound, tail_sound}
 use Rattle.lsv_upstream.specs.Held.{NoRestartBut}
 use Rattle.lsv_upstream.specs.Jobs.{IsStorable, all_answers, jobs_of}
 use Rattle.lsv_upstream.specs.Playing.{AllExpected, BringsAsked, IsAside, OthersAreAside, StillAsks}
-use Rattle.lsv_upstream.specs.Relayed.{EachWasRead, IsRelayed, KeptPlace, KeptWasRead, OnlyVisitsRestart, PlaysLog, RunOf, Visit, WasRead, is_visit, played_after, played_at, relay_messages}
+use Rattle.lsv_upstream.specs.Relayed.{EachWasRead, IsRelayed, KeptWasRead, OnlyVisitsRestart, PlaysLog, RunOf, Visit, WasRead, is_visit}
 use Rattle.lsv_upstream.specs.Runs.{AllRunOn, RunsOn, ServerRun, history_at, history_of}
 use Rattle.lsv_upstream.proofs.Answering.{told_by}
 use Rattle.lsv_upstream.proofs.Asks.{Ask, Words, anew_asks, anew_shape, asks_anew, asks_on, body_asks, brings_asked, no_restart_anew, on_asks, on_shape, restart_on}
@@ -87,20 +89,24 @@ module _ (head : Head) (rs : List Record) (exit : Option Exit) where
   IsNumber (Some kept) = (n : ℕ) × (log_no_in kept.id ≡ Some n)
 
   module _ (words : Words) (stored : IsStorable head rs exit) where
-    pub by_asks : (hello : _) (o : Option KeptPlace) → IsNumber o → Ask (relay_messages hello head rs exit o) (asks_by o)
-    by_asks hello None is = anew_asks words hello head rs exit stored.valid stored.begun stored.ended
-    by_asks hello (Some kept) (n, number) = from kept.point
+    whole_asks : Ask (all_of (transcript.anew rs head exit)) (asks_anew head rs exit)
+    whole_asks = anew_asks words head rs exit stored.valid stored.begun stored.ended
+
+    pub by_asks : (o : Option KeptPlace) → IsNumber o → Ask (all_of (transcript.relayed rs head exit o)) (asks_by o)
+    by_asks None is = whole_asks
+    by_asks (Some kept) (n, number) = from kept.point
       where
-        from : (o : Option ℕ) → Ask (played_after hello head rs exit kept.id o) (asks_from_point kept.id o)
-        from None = anew_asks words hello head rs exit stored.valid stored.begun stored.ended
+        from : (o : Option ℕ) → Ask (all_of (relayed_by rs head exit kept.id o)) (asks_from_point kept.id o)
+        from None = whole_asks
         from (Some point) = at (first rs point) refl
           where
-            at : (x : Option ℕ) → first rs point ≡ x → Ask (played_at hello head rs exit kept.id point x) (asks_at kept.id point x)
-            at None e = anew_asks words hello head rs exit stored.valid stored.begun stored.ended
+            at : (x : Option ℕ) → first rs point ≡ x → Ask (all_of (relayed_by rs head exit kept.id (Some point))) (asks_from_point kept.id (Some point))
+            at None e = rw e whole_asks
             at (Some i) e =
                 let low : point < 2 ^ 63 = below rs point i e stored.in_time in
                 let its : log_no_in kept.id ≡ Some (number_in kept.id) = number ∙ ap Some (sym (ap (λ (o : Option ℕ). unwrap_or o 0) number)) in
-                on_asks words hello kept.id (number_in kept.id) point i rs exit its low stored.valid stored.ended
+                let rest = on_asks words kept.id (number_in kept.id) point i rs exit its low stored.valid stored.ended in
+                rw e rest
 
 -- ---- Where the visits are
 
@@ -279,7 +285,7 @@ module _ (words : Words) (lane lanes n : ℕ) (head : Head) (rs : List Record) (
 
   -- what a visit brings
   brings : (v : Visit) (i : In v visits) → BringsAsked (asks_by head rs exit v.kept) (bodies_of v.conn (jobs_of (plays v i).at.its.events))
-  brings v i = let p = plays v i in brings_asked (relay_messages v.hello head rs exit v.kept) (asks_by head rs exit v.kept) (bodies_of v.conn (jobs_of p.at.its.events)) (by_asks head rs exit words stored v.hello v.kept (kept_number v i)) p.jobs
+  brings v i = let p = plays v i in brings_asked (all_of (transcript.relayed rs head exit v.kept)) (asks_by head rs exit v.kept) (bodies_of v.conn (jobs_of p.at.its.events)) (by_asks head rs exit words stored v.kept (kept_number v i)) p.jobs
 
   -- a visit that asks to go on with a log has its identifier kept
   restarts_kept : (o : Option KeptPlace) (restart : Restart) → KeptWasRead visits o → In (request.Restart restart) (asks_by head rs exit o) → restart.log ≡ n → (w : Visit) × In w visits × ((at : RunOf runs w) × In w.conn (tellers n at.its.events))

@@ -2,8 +2,6 @@
 use Rattle.std.specs.Prelude.{ℕ, List, [], ◌∷◌, ◌++◌, Some, None, codes}
 use Rattle.lsv_base.specs.LogNo.{digits_of}
 use Rattle.lsv_base.specs.Time.{time_of}
-use Rattle.lsv_msg.specs.declared.messages.ClientHello.{ClientHello}
-use Rattle.lsv_msg.specs.declared.messages.ClientMessage.TheVariants as client
 use Rattle.lsv_msg.specs.declared.messages.ServerMessage.TheVariants as server
 use Rattle.lsv_record.specs.declared.records.Record.{Record}
 use Rattle.lsv_record.specs.declared.records.Record.TheVariants.{Io}
@@ -11,17 +9,13 @@ use Rattle.lsv_record.specs.declared.records.Stream.TheVariants.{Ttyout}
 use Rattle.lsv_session.specs.Connections.{server_hello}
 use Rattle.lsv_session.specs.declared.job.Body.TheVariants.{Msg}
 use Rattle.lsv_session.specs.declared.job.Job.{Job}
+use Rattle.lsv_transcript.specs.Transcript.{KeptPlace, hello_message}
 use Rattle.lsv_machine.specs.Answers.{Saying.CommitPoint, Saying.LogId, farewell, say}
 use Rattle.lsv_machine.specs.Examples.{accepts_with_keys, conn, did, goes, one_byte, one_lane, restarts, sends, starting, two_committed}
 use Rattle.lsv_machine.specs.Machine.{LogState.Absent, Machine}
 use Rattle.lsv_machine.specs.Turns.{Happened, Happened.Tailed, Tail, all_acted}
-use Rattle.lsv_upstream.specs.Relayed.{KeptPlace, Visit}
+use Rattle.lsv_upstream.specs.Relayed.{Visit}
 use Rattle.lsv_upstream.specs.Runs.{ServerRun}
-use Rattle.lsv_upstream.specs.Sent.{Sending}
-
--- a client's hello
-abbrev pub hello : ClientHello
-hello = record { client_id = codes "lsv 1" }
 
 -- a byte of terminal output after these nanoseconds
 abbrev pub output : (delay byte : ℕ) → Record
@@ -35,14 +29,6 @@ three = output 15 1 ∷ output 0 2 ∷ output 20 3 ∷ []
 abbrev pub kept_at : ℕ → KeptPlace
 kept_at point = record { id = codes "000001"; point = Some point }
 
--- a sender sends the records up to these nanoseconds, into a new log
-abbrev pub sends_upto : ℕ → Sending
-sends_upto time = record { from = None; upto = Some time }
-
--- a sender goes on with log 1 at a point, and sends the records up to these nanoseconds
-abbrev pub goes_on_upto : (point time : ℕ) → Sending
-goes_on_upto point time = record { from = Some (record { id = codes "000001"; point = point }); upto = Some time }
-
 -- Connection 1 sent two records of log 1, each with the byte 5 after 1 ns, and went. Connection 4 goes on with it at 1 ns, and sends the byte 9.
 abbrev pub another_goes_on : List Happened
 another_goes_on = two_committed ++ all_acted (did (goes 1) (farewell (conn 1)) ∷ did (restarts 4) [] ∷ did (sends 4 9) [] ∷ [])
@@ -55,7 +41,7 @@ one = one_byte 5 ∷ []
 
 -- the connection's hello
 abbrev pub greets : ℕ → Job
-greets k = record { conn = conn k; body = Msg (client.Hello hello) }
+greets k = record { conn = conn k; body = Msg hello_message }
 
 -- connection 1 brings the log from its start in one turn, and gets the number 1 and a commit point at 1 ns
 abbrev pub before_point : List Happened
@@ -71,4 +57,4 @@ upstream_run end = record { set = one_lane; texts = []; start = starting Absent 
 
 -- the relay's connection: nothing was kept, and all answers were read
 abbrev pub relay_visit : Visit
-relay_visit = record { run = 0; conn = conn 1; hello = hello; kept = None; read = server_hello ∷ server.LogId (digits_of 1) ∷ server.CommitPoint (time_of 1) ∷ [] }
+relay_visit = record { run = 0; conn = conn 1; kept = None; read = server_hello ∷ server.LogId (digits_of 1) ∷ server.CommitPoint (time_of 1) ∷ [] }

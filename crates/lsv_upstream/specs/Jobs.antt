@@ -1,15 +1,12 @@
--- What one client's connection brings to a server and reads from it, and the messages of a stored log.
-use Rattle.std.specs.Prelude.{◌≡◌, ◌<◌, ◌^◌, ℕ, List, [], ◌∷◌, ◌++◌, drop, map, Option, Some, None, All, IsSome}
-use Rattle.lsv_base.specs.Time.{nanos_of, time_of}
+-- What one client's connection brings to a server and reads from it.
+use Rattle.std.specs.Prelude.{◌≡◌, ◌<◌, ◌^◌, ℕ, List, [], ◌∷◌, ◌++◌, map, Option, Some, None, All, IsSome}
+use Rattle.lsv_base.specs.Time.{nanos_of}
 use Rattle.lsv_info.specs.declared.times.Exit.{Exit}
 use Rattle.lsv_info.specs.declared.times.Head.{Head}
-use Rattle.lsv_msg.specs.declared.messages.ClientHello.{ClientHello}
 use Rattle.lsv_msg.specs.declared.messages.ClientMessage.{ClientMessage}
-use Rattle.lsv_msg.specs.declared.messages.ClientMessage.TheVariants as client
 use Rattle.lsv_msg.specs.declared.messages.ServerMessage.{ServerMessage}
 use Rattle.lsv_record.specs.Records.{IsValid, elapsed}
 use Rattle.lsv_record.specs.declared.records.Record.{Record}
-use Rattle.lsv_request.specs.Stored.{exit_message, head_message, record_message}
 use Rattle.lsv_session.specs.Connections.{server_hello}
 use Rattle.lsv_session.specs.Transcript.{said_to}
 use Rattle.lsv_session.specs.declared.connection.ConnId.{ConnId}
@@ -20,7 +17,7 @@ use Rattle.lsv_machine.specs.Answers.{Answer, reply_of}
 use Rattle.lsv_machine.specs.Turns.{Happened, Happened.Did, Happened.Tailed, Happened.Begins}
 use Rattle.lsv_upstream.specs.Held.{answers_at}
 
--- ---- The messages of a stored log
+-- ---- A stored log
 
 -- what a stored log may have: valid records of less than 2 ^ 63 ns in all, and valid times of its head and exit
 pub record IsStorable (head : Head) (rs : List Record) (exit : Option Exit) : Type 0 where
@@ -28,23 +25,6 @@ pub record IsStorable (head : Head) (rs : List Record) (exit : Option Exit) : Ty
   pub in_time : elapsed rs < 2 ^ 63
   pub begun : IsSome (nanos_of head.submit)
   pub ended : (e : Exit) → exit ≡ Some e → IsSome (nanos_of e.run)
-
--- the message of an exit, if there is one
-abbrev pub exit_messages : Option Exit → List ClientMessage
-exit_messages None = []
-exit_messages (Some exit) = exit_message exit ∷ []
-
--- the request to go on with the log of an identifier at a point
-abbrev pub restart_message : (id : List ℕ) (point : ℕ) → ClientMessage
-restart_message id point = client.Restart (record { log_id = id; resume_point = Some (time_of point) })
-
--- a log from its start: a hello, the accept, all records, and the exit
-abbrev pub played_anew : ClientHello → Head → List Record → Option Exit → List ClientMessage
-played_anew hello head rs exit = client.Hello hello ∷ head_message head ∷ map record_message rs ++ exit_messages exit
-
--- a log after its first n records: a hello, the restart, the other records, and the exit
-abbrev pub played_on : ClientHello → (id : List ℕ) (point n : ℕ) → List Record → Option Exit → List ClientMessage
-played_on hello id point n rs exit = client.Hello hello ∷ restart_message id point ∷ map record_message (drop n rs) ++ exit_messages exit
 
 -- ---- What a connection brings and reads
 

@@ -3,40 +3,18 @@ use Rattle.std.specs.Prelude.{◌≡◌, ◌==◌, ◌&&◌, ℕ, suc, Bool, Lis
 use Rattle.std.specs.List.{list_any}
 use Rattle.lsv_info.specs.declared.times.Exit.{Exit}
 use Rattle.lsv_info.specs.declared.times.Head.{Head}
-use Rattle.lsv_msg.specs.declared.messages.ClientHello.{ClientHello}
-use Rattle.lsv_msg.specs.declared.messages.ClientMessage.{ClientMessage}
 use Rattle.lsv_msg.specs.declared.messages.ServerMessage.{ServerMessage}
 use Rattle.lsv_msg.specs.declared.messages.ServerMessage.TheVariants as server
-use Rattle.lsv_record.specs.Points.{first}
 use Rattle.lsv_record.specs.Records.{elapsed}
 use Rattle.lsv_record.specs.declared.records.Record.{Record}
 use Rattle.lsv_session.specs.Transcript.{bodies_of}
 use Rattle.lsv_session.specs.declared.connection.ConnId.{ConnId}
+use Rattle.lsv_transcript.specs.Transcript.{KeptPlace, all_of, relayed}
 use Rattle.lsv_machine.specs.Machine.{IsOfLane, same}
 use Rattle.lsv_machine.specs.Turns.{Happened}
 use Rattle.lsv_upstream.specs.Held.{GetsPoint, NoRestartBut, up_to}
-use Rattle.lsv_upstream.specs.Jobs.{BringsFirst, ReadsFirst, jobs_of, played_anew, played_on}
+use Rattle.lsv_upstream.specs.Jobs.{BringsFirst, ReadsFirst, jobs_of}
 use Rattle.lsv_upstream.specs.Runs.{AllRunOn, ServerRun, history_of}
-
--- what a relay keeps of a log between connections: the upstream's identifier, and the last commit point for it, if any
-pub record KeptPlace : Type 0 where
-  pub id : List ℕ
-  pub point : Option ℕ
-
--- the messages of a connection that begins with an identifier and a point: after the first n records, or the whole log if none end there
-abbrev pub played_at : ClientHello → Head → List Record → Option Exit → (id : List ℕ) (point : ℕ) → Option ℕ → List ClientMessage
-played_at hello head rs exit id point None = played_anew hello head rs exit
-played_at hello head rs exit id point (Some n) = played_on hello id point n rs exit
-
--- the same of an identifier and what is kept of its commit points
-abbrev pub played_after : ClientHello → Head → List Record → Option Exit → (id : List ℕ) → Option ℕ → List ClientMessage
-played_after hello head rs exit id None = played_anew hello head rs exit
-played_after hello head rs exit id (Some point) = played_at hello head rs exit id point (first rs point)
-
--- the messages of a relay's connection: the log after a kept point at which a record ends, or else the whole log
-abbrev pub relay_messages : ClientHello → Head → List Record → Option Exit → Option KeptPlace → List ClientMessage
-relay_messages hello head rs exit None = played_anew hello head rs exit
-relay_messages hello head rs exit (Some kept) = played_after hello head rs exit kept.id kept.point
 
 -- one connection of a relay
 pub record Visit : Type 0 where
@@ -44,7 +22,6 @@ pub record Visit : Type 0 where
   pub run : ℕ
   -- its name in that run
   pub conn : ConnId
-  pub hello : ClientHello
   -- what was kept at its start
   pub kept : Option KeptPlace
   -- the messages that it read
@@ -61,7 +38,7 @@ pub record RunOf (runs : List ServerRun) (v : Visit) : Type 0 where
 -- a visit brings a first part of its messages, and reads a first part of what the upstream says to it
 pub record PlaysLog (head : Head) (rs : List Record) (exit : Option Exit) (runs : List ServerRun) (v : Visit) : Type 0 where
   pub at : RunOf runs v
-  pub jobs : BringsFirst (relay_messages v.hello head rs exit v.kept) (bodies_of v.conn (jobs_of at.its.events))
+  pub jobs : BringsFirst (all_of (relayed rs head exit v.kept)) (bodies_of v.conn (jobs_of at.its.events))
   pub read : ReadsFirst v.read v.conn at.its.events
 
 -- an identifier was read on one of these visits

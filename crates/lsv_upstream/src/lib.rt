@@ -13,5 +13,6 @@ pub use examples::{
 pub use laws::{
     a_connection_that_gets_a_point_still_writes, a_passed_on_log_is_held, a_relayed_log_is_held,
     a_sent_log_is_held, what_is_promised_is_in_the_images, what_was_read_was_answered,
+    what_was_sent_is_brought,
 };
 pub use steps::a_played_log_is_held;

@@ -5,4 +5,4 @@ use Rattle.lsv_dialogue.proofs.conversation.converse.Given as goal
 abbrev pub invariant-rounds : goal.invariant-rounds
 invariant-rounds g l =
     (start : g.S.Speaker.Start) → g.S.Speaker.talks start l.fn.speaker l.fn.world []
-    → Stands (g.S.Speaker.talks start l.speaker l.world) (g.S.Speaker.is_quiet l.speaker) g.L.Link.tells (g.L.Link.counts l.fn.link, g.L.Link.state l.fn.link) [] (floor l.talk.spoken) l.talk (g.L.Link.counts l.link, g.L.Link.state l.link)
+    → Stands (g.S.Speaker.talks start) g.S.Speaker.judges g.S.Speaker.is_quiet g.S.Speaker.over g.L.Link.tells (g.L.Link.counts l.fn.link, g.L.Link.state l.fn.link) [] (floor l.talk.spoken) l.talk l.speaker l.world (g.L.Link.counts l.link, g.L.Link.state l.link)

@@ -10,7 +10,7 @@ use Rattle.lsv_kept.proofs.commit.add_entry.Goals as goal
 pub returns-clause-any_moment : goal.returns-clause-any_moment
 returns-clause-any_moment g c told kept stands =
     let b = c.in-Some.bundle in
-    entry_through c.args.number b b c.args.kind c.args.extra (g.D.Disk.view c.args.disk.now) (g.D.Disk.view c.with_entry.new.disk) kept refl (subst (IsBundleIn c.args.number) c.in-Some.is c.requires.files)
+    entry_through c.args.number b c.args.kind c.args.extra (g.D.Disk.view c.args.disk.now) (g.D.Disk.view c.with_entry.new.disk) kept (subst (IsBundleIn c.args.number) c.in-Some.is c.requires.files)
     (subst (λ (f : Option BundleView). StandsBy c.args.number (states.Kept kept) f (g.D.Disk.view c.args.disk.now)) c.in-Some.is stands) (c.with_entry.ensures.any_moment told)
 
 pub returns-clause-state : goal.returns-clause-state

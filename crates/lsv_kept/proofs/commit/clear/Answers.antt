@@ -3,7 +3,8 @@ use Rattle.lsv_disk.specs.declared.file.Part.TheVariants.{Id}
 use Rattle.lsv_disk.proofs.Composition.{on_ok_map}
 use Rattle.lsv_bundle.specs.Shape.{journal_of}
 use Rattle.lsv_bundle.specs.Value.{committed_length}
-use Rattle.lsv_kept.proofs.Keepings.{either_through, is_part, journal_own}
+use Rattle.lsv_kept.proofs.Keepings.{either_through, ends_in, is_part, journal_own}
+use Rattle.lsv_kept.specs.Inner.{EndsIn}
 use Rattle.lsv_kept.specs.declared.state.State.TheVariants as states
 use Rattle.lsv_kept.proofs.commit.clear.Goals as goal
 
@@ -13,5 +14,8 @@ returns-clause-empty g c = on_ok_map c.cut.result _ (committed_length c.cut.new.
 pub returns-clause-any_moment : goal.returns-clause-any_moment
 returns-clause-any_moment g c told =
     let b = c.args.bundle.now in
-    either_through c.args.number b (g.D.Disk.view c.args.disk.now) (g.D.Disk.view c.cut.new.disk) _ states.Nothing c.requires.bundle.owner c.requires.bundle.shape refl
+    either_through c.args.number b (g.D.Disk.view c.args.disk.now) (g.D.Disk.view c.cut.new.disk) _ 2 0 states.Nothing c.requires.bundle.owner c.requires.bundle.shape refl refl refl
     (λ f. f ≡ journal_of b.owner) (journal_own c.args.number b c.requires.bundle.owner) (c.cut.ensures.any_moment told c.requires.bundle.whole)
+
+pub returns-clause-last : goal.returns-clause-last
+returns-clause-last g c = on_ok_map c.cut.result _ (EndsIn 2 0 c.cut.new.self) (λ is. ends_in _ _ _ _ is.last refl refl) c.cut.ensures.value

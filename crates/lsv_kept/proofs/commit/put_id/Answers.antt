@@ -3,7 +3,7 @@ use Rattle.lsv_disk.proofs.Composition.{on_ok_map}
 use Rattle.lsv_bundle.proofs.Laws.{staging_represents}
 use Rattle.lsv_kept.specs.Inner.{next_state}
 use Rattle.lsv_kept.specs.Kept.{state_of}
-use Rattle.lsv_kept.specs.Value.{state_on}
+use Rattle.lsv_bundle.specs.Value.{BundleView}
 use Rattle.lsv_kept.proofs.Keepings.{after_is, before_is, next_of, rests, staged_as, staged_state}
 use Rattle.lsv_kept.proofs.commit.put_id.Goals as goal
 
@@ -22,9 +22,9 @@ returns-in-Ok-clause-any_moment g c told =
     let old = g.D.Disk.view c.args.disk.now in
     let new = g.D.Disk.view c.commit.new.disk in
     let staged = staged_as c.args.number b c.stage.new.self c.args.id.now c.requires.bundle c.in-Ok.ensures.value in
-    after_is c.args.number (state_on b old) (next_state c.stage.new.self old 1 0) (state_of 1 0 c.args.id.now) old new (next_of c.stage.new.self old 1 0 c.args.id.now (staged.4 ∙ c.requires.empty) staged.3)
-    (before_is c.args.number (state_on c.stage.new.self old) (state_on b old) (next_state c.stage.new.self old 1 0) old new (staged_state b c.stage.new.self old _ c.in-Ok.ensures.value) (c.commit.ensures.any_moment told))
+    before_is c.args.number b c.stage.new.self old 1 0 (state_of 1 0 c.args.id.now) old new (staged_state b c.stage.new.self old _ c.in-Ok.ensures.value) (ap (λ (x : BundleView). x.last) c.in-Ok.ensures.value.same)
+    (after_is c.args.number c.stage.new.self old 1 0 (next_state c.stage.new.self old 1 0) (state_of 1 0 c.args.id.now) old new (next_of c.stage.new.self old 1 0 c.args.id.now (staged.4 ∙ c.requires.empty) staged.3) (c.commit.ensures.any_moment told))
 
 pub returns-in-Err-clause-any_moment : goal.returns-in-Err-clause-any_moment
 returns-in-Err-clause-any_moment g c told =
-    rests c.args.number c.args.bundle.now (g.D.Disk.view c.args.disk.now) (state_of 1 0 c.args.id.now) c.requires.bundle (c.requires.represents told) (g.met.D.Disk.only_now told c.args.disk.now)
+    rests c.args.number c.args.bundle.now (g.D.Disk.view c.args.disk.now) 1 0 (state_of 1 0 c.args.id.now) c.requires.bundle (c.requires.represents told) (g.met.D.Disk.only_now told c.args.disk.now)

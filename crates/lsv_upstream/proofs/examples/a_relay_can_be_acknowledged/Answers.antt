@@ -2,9 +2,9 @@ use Rattle.std.proofs.Common.{[], ◌∷◌, ◌++◌, refl, subst, inl, inr, ar
 use Rattle.lsv_machine.specs.Examples.{full_head, one_lane, starting}
 use Rattle.lsv_machine.specs.Machine.{LogState.Absent, Machine}
 use Rattle.lsv_machine.specs.Turns.{Happened.Tailed, Run}
-use Rattle.lsv_upstream.specs.Examples.{before_point, hello, one, turn_end, relay_visit, upstream_run}
-use Rattle.lsv_upstream.specs.Jobs.{played_anew}
+use Rattle.lsv_upstream.specs.Examples.{before_point, one, turn_end, relay_visit, upstream_run}
 use Rattle.lsv_upstream.specs.Relayed.{IsAcknowledged, IsRelayed, PlaysLog, Visit}
+use Rattle.lsv_upstream.proofs.Asks.{played_anew}
 use Rattle.lsv_upstream.proofs.Members.{In, in_of}
 use Rattle.lsv_upstream.proofs.Starting.{starts_empty, whole_run}
 use Rattle.lsv_upstream.proofs.examples.a_relay_can_be_acknowledged.Goals as goal
@@ -12,7 +12,7 @@ use Rattle.lsv_upstream.proofs.examples.a_relay_can_be_acknowledged.Goals as goa
 plays : (end : Machine) → PlaysLog full_head one None (upstream_run end ∷ []) relay_visit
 plays end = record {
   at = record { before = []; its = upstream_run end; after = []; is = refl; place = refl };
-  jobs = record { brought = played_anew hello full_head one None; later = []; whole = refl; ends = []; no_messages = tt; jobs = refl };
+  jobs = record { brought = played_anew full_head one None; later = []; whole = refl; ends = []; no_messages = tt; jobs = refl };
   read = record { later = []; whole = refl };
 }
 

@@ -7,4 +7,4 @@ returns c =
     let by = c.a_cut_ends_at_the_first_record_of_its_point.ensures.delays in
     let asks = c.what_is_stored_is_requested_again.ensures in
     let words : Words = record { record_asks = asks.record; head_asks = asks.head; exit_asks = asks.exit; time_is = c.nanoseconds_are_one_time.ensures.value; number_is = c.digits_are_read_back.ensures.computed } in
-    record { held = λ n hello head rs exit s before r k stored of_lane on brings alike_ at. sent_held by words n hello head rs exit s before r k stored of_lane on brings alike_ at }
+    record { held = λ n head rs exit from stop plan before r k stored of_lane on planned brings alike_ at. sent_held by words n head rs exit stop before r k stored of_lane on from plan planned brings alike_ at }

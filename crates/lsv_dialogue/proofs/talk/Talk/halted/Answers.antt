@@ -7,10 +7,10 @@ use Rattle.lsv_dialogue.specs.declared.talk.Halt.{Halt}
 use Rattle.lsv_dialogue.proofs.talk.Talk.halted.Goals as goal
 
 pub returns-in-NotYet-clause-ended : goal.returns-in-NotYet-clause-ended
-returns-in-NotYet-clause-ended g c = λ start begun st. end_full _ _ _ _ _ begun _ _ 0 st (c.requires.halted ∙ ap (λ (h : Halt). Some h) c.in-NotYet.is)
+returns-in-NotYet-clause-ended g c = λ start begun st. end_full _ _ _ _ _ begun _ _ _ _ 0 st c.requires.wants (c.requires.halted ∙ ap (λ (h : Halt). Some h) c.in-NotYet.is)
 
 pub returns-in-TooLong-clause-ended : goal.returns-in-TooLong-clause-ended
-returns-in-TooLong-clause-ended g c = λ start begun st. end_too_long _ _ _ _ _ begun _ _ 0 c.in-TooLong.length st (c.requires.halted ∙ ap (λ (h : Halt). Some h) c.in-TooLong.is)
+returns-in-TooLong-clause-ended g c = λ start begun st. end_too_long _ _ _ _ _ begun _ _ _ _ 0 c.in-TooLong.length st c.requires.wants (c.requires.halted ∙ ap (λ (h : Halt). Some h) c.in-TooLong.is)
 
 pub returns-in_err-end-clause-broke : goal.returns-in_err-end-clause-broke
 returns-in_err-end-clause-broke g c = at_exit _ c.from_residual.result _ c.from_residual.ensures.1 (λ start begun st. c.in_err-end.ensures.broke start begun (c.rounds.invariant.stands start begun st))
@@ -25,7 +25,8 @@ rounds-preserved g c =
     record {
       stands = λ start begun st. let both = MatchOption-at_none _ _ c.in_default.is (c.in_ok-end.ensures.goes start begun (c.rounds.invariant.stands start begun st)) in both.0;
       failed = first.1;
+      wants = first.2;
     }
 
 pub returns-clause-broke : goal.returns-clause-broke
-returns-clause-broke g c = λ start begun st. broken _ _ _ _ begun 0 _ _ (c.rounds.invariant.stands start begun st)
+returns-clause-broke g c = λ start begun st. broken _ _ _ _ _ _ begun 0 _ _ _ _ (c.rounds.invariant.stands start begun st)

@@ -3,7 +3,10 @@ use Rattle.lsv_kept.specs.Value as keeping
 use Rattle.lsv_kept.specs.Value.{KeepingView}
 use Rattle.lsv_kept.proofs.Staying.{stands_read}
 use Rattle.lsv_relay.specs.Value.{RelayView}
-use Rattle.lsv_relay.proofs.Going.{apart_true, first_goes, never_quiet, sending_busy, starts_busy, starts_unstarted}
+use Rattle.lsv_relay.specs.Faults.{IsStepFault}
+use Rattle.lsv_relay.specs.Talk.{Talk}
+use Rattle.lsv_relay.proofs.Causes.{err_is, log_step_fault, state_no_cause, state_step_fault}
+use Rattle.lsv_relay.proofs.Going.{apart_true, first_goes, leaves_first, says_first, sending_busy, starts_busy}
 use Rattle.lsv_relay.proofs.Moments.{kept_reads, reads_kept}
 use Rattle.lsv_relay.proofs.relay.Core.first_step.Goals as goal
 
@@ -25,17 +28,44 @@ returns-in_err-opening-clause-stands g c told whole =
 pub returns-in_err-opening-clause-any_moment : goal.returns-in_err-opening-clause-any_moment
 returns-in_err-opening-clause-any_moment g c told =
     let w = c.args.self.now in
-    kept_reads w _ (g.D.Disk.view c.args.disk.now) (g.D.Disk.view c.start.new.disk) (c.start.ensures.reads told)
+    kept_reads w c.start.new.self _ (g.D.Disk.view c.args.disk.now) (g.D.Disk.view c.start.new.disk) c.requires.at c.in_err-opening.ensures.stays (c.start.ensures.reads told)
 
 pub returns-in_err-take-clause-any_moment : goal.returns-in_err-take-clause-any_moment
 returns-in_err-take-clause-any_moment g c told =
     let w = c.args.self.now in
-    reads_kept w c.start.new.self _ (g.D.Disk.view c.args.disk.now) (g.D.Disk.view c.start.new.disk) (g.D.Disk.view c.take.new.disk) (starts_unstarted w.at c.requires.at) c.start.ensures.same.0 (ap (λ (k : KeepingView). k.state) c.start.ensures.same.1) (c.start.ensures.reads told) (c.take.ensures.any_moment told)
+    reads_kept w c.start.new.self c.take.new.self _ c.in_ok-opening.opening (g.D.Disk.view c.args.disk.now) (g.D.Disk.view c.start.new.disk) (g.D.Disk.view c.take.new.disk) c.requires.at c.start.ensures.same.0 (ap (λ (k : KeepingView). k.state) c.start.ensures.same.1) (c.in_ok-opening.ensures.started told) (c.start.ensures.reads told) (c.take.ensures.any_moment told)
+    (λ whole. absurd (apart_true c.take.new.self.keeping.broken c.in_err-take.ensures.fails whole))
 
 pub returns-clause-any_moment : goal.returns-clause-any_moment
 returns-clause-any_moment g c told =
     let w = c.args.self.now in
-    reads_kept w c.start.new.self _ (g.D.Disk.view c.args.disk.now) (g.D.Disk.view c.start.new.disk) (g.D.Disk.view c.take.new.disk) (starts_unstarted w.at c.requires.at) c.start.ensures.same.0 (ap (λ (k : KeepingView). k.state) c.start.ensures.same.1) (c.start.ensures.reads told) (c.take.ensures.any_moment told)
+    reads_kept w c.start.new.self c.take.new.self _ c.in_ok-opening.opening (g.D.Disk.view c.args.disk.now) (g.D.Disk.view c.start.new.disk) (g.D.Disk.view c.take.new.disk) c.requires.at c.start.ensures.same.0 (ap (λ (k : KeepingView). k.state) c.start.ensures.same.1) (c.in_ok-opening.ensures.started told) (c.start.ensures.reads told) (c.take.ensures.any_moment told)
+    (λ whole. ap (λ (t : Talk). t.state) c.in_ok-take.ensures.taken.talk_is)
+
+pub returns-in_err-opening-clause-fault : goal.returns-in_err-opening-clause-fault
+returns-in_err-opening-clause-fault g c =
+    let w = c.args.self.now in
+    err_is c.from_residual.result c.in_err-opening.field-0.0 (IsStepFault w c.start.new.self) c.from_residual.ensures.1 (log_step_fault w c.start.new.self c.in_err-opening.field-0.0 c.in_err-opening.ensures.fault (leaves_first w c.start.new.self c.requires.at c.in_err-opening.ensures.stays c.requires.whole))
+
+pub returns-in_err-take-clause-fault : goal.returns-in_err-take-clause-fault
+returns-in_err-take-clause-fault g c =
+    let w = c.args.self.now in
+    err_is c.from_residual-in_err-take.result c.in_err-take.field-0.0 (IsStepFault w c.take.new.self) c.from_residual-in_err-take.ensures.1 (state_step_fault w c.take.new.self c.in_err-take.field-0.0 c.in_err-take.ensures.fault c.in_err-take.ensures.fails)
+
+pub returns-in_err-opening-clause-why : goal.returns-in_err-opening-clause-why
+returns-in_err-opening-clause-why g c told =
+    let w = c.args.self.now in
+    err_is c.from_residual.result c.in_err-opening.field-0.0 _ c.from_residual.ensures.1 (λ began state events talks. c.in_err-opening.ensures.why told)
+
+pub returns-in_err-take-clause-why : goal.returns-in_err-take-clause-why
+returns-in_err-take-clause-why g c told =
+    let w = c.args.self.now in
+    err_is c.from_residual-in_err-take.result c.in_err-take.field-0.0 _ c.from_residual-in_err-take.ensures.1 (λ began state events talks. state_no_cause w.number (g.D.Disk.view c.args.disk.now) c.in_err-take.field-0.0 c.in_err-take.ensures.fault)
+
+pub returns-clause-says : goal.returns-clause-says
+returns-clause-says g c =
+    let w = c.args.self.now in
+    says_first w c.start.new.self c.take.new.self _ c.in_ok-opening.opening c.requires.at c.in_ok-opening.ensures.few c.in_ok-opening.ensures.some c.start.ensures.sound c.in_ok-opening.ensures.sends c.start.ensures.same.1 c.in_ok-take.ensures.taken
 
 pub returns-in_err-opening-clause-same : goal.returns-in_err-opening-clause-same
 returns-in_err-opening-clause-same g c =
@@ -61,16 +91,6 @@ pub returns-clause-stands : goal.returns-clause-stands
 returns-clause-stands g c told whole =
     let w = c.args.self.now in
     c.in_ok-take.ensures.stands told
-
-pub returns-clause-quiet : goal.returns-clause-quiet
-returns-clause-quiet g c =
-    let w = c.args.self.now in
-    (λ none. absurd (c.in_ok-opening.ensures.some none), λ quiet. absurd (never_quiet _ w.at c.requires.at quiet))
-
-pub returns-clause-rests : goal.returns-clause-rests
-returns-clause-rests g c none =
-    let w = c.args.self.now in
-    absurd (c.in_ok-opening.ensures.some none)
 
 pub returns-clause-talks : goal.returns-clause-talks
 returns-clause-talks g c told began state events talks =

@@ -5,6 +5,7 @@ use Rattle.lsv_kept.specs.declared.state.State.TheVariants as states
 use Rattle.lsv_relay.specs.Talk.{Talk, hears_error}
 use Rattle.lsv_relay.specs.Value.{state_of, talk_of}
 use Rattle.lsv_relay.proofs.Taking.{error_drops, error_ignored, kept_through, nothing_through, now_durable, second_true}
+use Rattle.lsv_relay.proofs.Causes.{kept_err, kept_own}
 use Rattle.lsv_relay.proofs.relay.Core.take_error.Goals as goal
 
 pub forget-requires-clause-kept : goal.forget-requires-clause-kept
@@ -41,3 +42,13 @@ pub returns-clause-any_moment : goal.returns-clause-any_moment
 returns-clause-any_moment g c told =
     let w = c.args.self.now in
     nothing_through w.number (state_of w) (hears_error (talk_of w)).state (g.D.Disk.view c.args.disk.now) (g.met.D.Disk.only_now told c.args.disk.now)
+
+pub returns-in_err-forget-clause-fault : goal.returns-in_err-forget-clause-fault
+returns-in_err-forget-clause-fault g c =
+    let w = c.args.self.now in
+    kept_err c.forget.result c.from_residual.result c.in_err-forget.field-0.0 w.keeping.broken c.in_err-forget.was c.from_residual.ensures.1 c.in_err-forget.ensures.fault (λ is. (c.forget.ensures.broken is).0) c.requires.whole
+
+pub returns-in_err-forget-clause-cause : goal.returns-in_err-forget-clause-cause
+returns-in_err-forget-clause-cause g c =
+    let w = c.args.self.now in
+    kept_own w.keeping.number w.number c.forget.result c.from_residual.result c.in_err-forget.field-0.0 (g.D.Disk.view c.args.disk.now) (g.D.Disk.view c.forget.new.disk) c.requires.sound.0 c.in_err-forget.was c.from_residual.ensures.1 c.forget.ensures.cause

@@ -6,6 +6,7 @@ use Rattle.lsv_kept.specs.declared.state.State.TheVariants as states
 use Rattle.lsv_relay.specs.Talk.{Talk, hears_id}
 use Rattle.lsv_relay.specs.Value.{state_of, talk_of}
 use Rattle.lsv_relay.proofs.Taking.{id_ignored, id_kept, kept_through, last_false, middle_false, nothing_through, now_durable, short_id, undone}
+use Rattle.lsv_relay.proofs.Causes.{kept_err, kept_own}
 use Rattle.lsv_relay.proofs.relay.Core.take_id.Goals as goal
 
 pub returns-then-ignores_id-clause-taken : goal.returns-then-ignores_id-clause-taken
@@ -47,3 +48,13 @@ pub returns-clause-durable : goal.returns-clause-durable
 returns-clause-durable g c told before =
     let w = c.args.self.now in
     now_durable w.keeping.number w.number _ (g.D.Disk.view c.keep_id.new.disk) c.requires.sound.0 (c.in_ok-keep_id.ensures.acknowledged told)
+
+pub returns-in_err-keep_id-clause-fault : goal.returns-in_err-keep_id-clause-fault
+returns-in_err-keep_id-clause-fault g c =
+    let w = c.args.self.now in
+    kept_err c.keep_id.result c.from_residual.result c.in_err-keep_id.field-0.0 w.keeping.broken c.in_err-keep_id.was c.from_residual.ensures.1 c.in_err-keep_id.ensures.fault (λ is. (c.keep_id.ensures.broken is).0) c.requires.whole
+
+pub returns-in_err-keep_id-clause-cause : goal.returns-in_err-keep_id-clause-cause
+returns-in_err-keep_id-clause-cause g c =
+    let w = c.args.self.now in
+    kept_own w.keeping.number w.number c.keep_id.result c.from_residual.result c.in_err-keep_id.field-0.0 (g.D.Disk.view c.args.disk.now) (g.D.Disk.view c.keep_id.new.disk) c.requires.sound.0 c.in_err-keep_id.was c.from_residual.ensures.1 c.keep_id.ensures.cause
