@@ -78,9 +78,9 @@ NUMBERS_OLDER = "DIR/seq2: its last number is 000005, and there is log 000007, s
 
 # sudo_logsrvd: words, and the line in front of that of the status
 COMMANDS = [
-    ([], "a command is missing: serve, once or load"),
-    (["-h"], "-h: no such command; there are serve, once and load; see sudo_logsrvd(8)"),
-    (["server"], "server: no such command; there are serve, once and load; see sudo_logsrvd(8)"),
+    ([], "a command is missing: serve, relay, once or load"),
+    (["-h"], "-h: no such command; there are serve, relay, once and load; see sudo_logsrvd(8)"),
+    (["server"], "server: no such command; there are serve, relay, once and load; see sudo_logsrvd(8)"),
     (["once", "-V"], "-V: no such option here; see sudo_logsrvd(8)"),
     (["once", "--lanes", "1"], "--lanes: no such option here; see sudo_logsrvd(8)"),
     (["serve", "-f"], "-f needs a value; see sudo_logsrvd(8)"),
@@ -90,6 +90,8 @@ COMMANDS = [
     (["load"], "load needs the number of connections"),
     (["load", "10001"], "load 10001: the number of connections is from 1 to 10000"),
     (["serve", "now"], '"now" is one word too many'),
+    (["relay", "--lanes", "1"], "--lanes: no such option here; see sudo_logsrvd(8)"),
+    (["relay", "now"], '"now" is one word too many'),
 ]
 # settings, and the lines that are refused
 SETTINGS = [
@@ -171,7 +173,7 @@ class Said:
         for words, lines in USAGE:
             self.says(self.replay, words, [*lines, "usage"], 2, behind=1)
         for words, line in COMMANDS:
-            self.says(self.program, words, [line, "usage"], 2, behind=3)
+            self.says(self.program, words, [line, "usage"], 2, behind=4)
 
     def searches(self):
         for words, at, line in SEARCHES:

@@ -206,7 +206,7 @@ def shown_settings(text: bytes) -> str:
 # ---- the command words
 
 RANGES = {"--lanes": (1, 1), "--stop-after": (1, 2**32 - 1), "count": (1, 10_000)}
-OPTIONS = {"once": {"-f"}, "serve": {"-f", "--lanes", "--stop-after"}, "load": {"-f"}}
+OPTIONS = {"once": {"-f"}, "serve": {"-f", "--lanes", "--stop-after"}, "load": {"-f"}, "relay": {"-f"}}
 DEFAULT_CONF = "/etc/sudo_logsrvd.conf"
 
 
@@ -537,6 +537,7 @@ def words_rows() -> None:
     row("nothing", shown_words([]), "usage")
     for options in [[], ["-f c"]]:
         words(" ".join(["once"] + options))
+        words(" ".join(["relay"] + options))
     choices = ["-f /etc/c", "--lanes 1", "--stop-after 7"]
     for count in range(4):
         for order in itertools.permutations(choices, count):
@@ -546,6 +547,8 @@ def words_rows() -> None:
     words("once", 'once "/etc/sudo_logsrvd.conf" lanes 1')
     words("serve --stop-after 7 -f c --lanes 1", 'serve "c" lanes 1 stop after 7')
     words("load 3 -f c", '3 load "c" lanes 1')
+    words("relay", 'relay "/etc/sudo_logsrvd.conf" lanes 1')
+    words("relay -f c", 'relay "c" lanes 1')
     words("once -x", "usage")
 
 
@@ -582,7 +585,8 @@ def refused_rows() -> None:
         "serve --stop-after", "serve --stop-after 1 --stop-after 2",
         "serve --stop_after 1", "serve --lane 1", "serve --stop 1", "serve -l 1", "serve 3", "serve once", "once serve",
         "load", "load -f c", "load 3 4", "load 3 --stop-after 1",
-        "load 3 --lanes 1", "load --count 3", "load -f 3", "relay", "relay -f c", "live", "live -f c", "help",
+        "load 3 --lanes 1", "load --count 3", "load -f 3", "relay x", "relay -f", "relay -f a -f b", "relay --lanes 1",
+        "relay --stop-after 1", "relay 3", "relay once", "relay -x", "Relay", "relays", "live", "live -f c", "help",
         "help once", "-h", "--help", "-V", "--version", "version",
         "once help", "once --help", "once -h", "once -V", "once --version", "serve --help", "load --help", "load help",
         "-f c once", "--lanes 1 serve", "sudo_logsrvd once", "-x", "--x", "serve -x 1",

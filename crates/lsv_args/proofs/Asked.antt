@@ -16,9 +16,9 @@ use Rattle.clap.specs.Simple.{App, Shape, built, built_leaf, entered, inherited,
 use Rattle.clap.specs.Takes.{is_given}
 use Rattle.clap.specs.ValueTests.{accepts}
 use Rattle.clap.specs.Walk.{answers_to, Row, Rule, Text, Walk, default_rows, finished, first_of, has_row, nothing_held, rows_after, reading_by, settled, walk, walk_from, walked, walked_from, with_default, word_met}
-use Rattle.lsv_args.specs.Commands.{commands, from_to, load, most_lanes, once, serve}
+use Rattle.lsv_args.specs.Commands.{commands, from_to, load, most_lanes, once, relay, serve}
 use Rattle.lsv_args.proofs.Numbers.{number_accepted}
-use Rattle.lsv_args.specs.Reading.{Asked, HasRanges, IsInRange, number_of, asked, asked_by, number, number_in, options_of, Once, Serve, Load}
+use Rattle.lsv_args.specs.Reading.{Asked, HasRanges, IsInRange, number_of, asked, asked_by, number, number_in, options_of, Once, Serve, Load, Relay}
 use Rattle.lsv_args.proofs.Walks.{AllPlain, HasValue, IsPlainRule, both_none, settled_passes, step_passes, word_passes}
 
 turn_by : (id : Text) (acc : Text → Bool) (s : Shape) (w : Walk) (word : Text) (o : Option (Text × List Text)) → s.args_override_self ≡ false → AllPlain id acc s.rules
@@ -62,16 +62,17 @@ level_passes id acc s words single all none =
 abbrev Asks : Shape → List Text → Type 0
 Asks s words = level_fault s [] nothing_held words false [] ≡ [] → (x : Asked) × (asked_by s.name (rows_after s.rules [] words) ≡ Some x) × IsInRange x
 
-abbrev sub_of : Bool → Bool → Bool → Shape → Shape → Shape → Option Shape
-sub_of t u v a b c = cond t (Some a) (cond u (Some b) (cond v (Some c) None))
+abbrev sub_of : Bool → Bool → Bool → Bool → Shape → Shape → Shape → Shape → Option Shape
+sub_of t u v w a b c d = cond t (Some a) (cond u (Some b) (cond v (Some c) (cond w (Some d) None)))
 
-by_sub : (t u v : Bool) (a b c : Shape) (words : List Text) → Asks a words → Asks b words → Asks c words
-    → is_some (option_map (λ s. rows_at s words) (sub_of t u v a b c)) ≡ true → option_map_or (λ s. level_fault s [] nothing_held words false []) (sub_of t u v a b c) [] ≡ []
-    → (x : Asked) × (option_and_then (λ (s : Text × List Row). asked_by s.0 s.1) (option_map (λ s. rows_at s words) (sub_of t u v a b c)) ≡ Some x) × IsInRange x
-by_sub true u v a b c words f g h some none = f none
-by_sub false true v a b c words f g h some none = g none
-by_sub false false true a b c words f g h some none = h none
-by_sub false false false a b c words f g h some none = absurd (cc)
+by_sub : (t u v w : Bool) (a b c d : Shape) (words : List Text) → Asks a words → Asks b words → Asks c words → Asks d words
+    → is_some (option_map (λ s. rows_at s words) (sub_of t u v w a b c d)) ≡ true → option_map_or (λ s. level_fault s [] nothing_held words false []) (sub_of t u v w a b c d) [] ≡ []
+    → (x : Asked) × (option_and_then (λ (s : Text × List Row). asked_by s.0 s.1) (option_map (λ s. rows_at s words) (sub_of t u v w a b c d)) ≡ Some x) × IsInRange x
+by_sub true u v w a b c d words f g h i some none = f none
+by_sub false true v w a b c d words f g h i some none = g none
+by_sub false false true w a b c d words f g h i some none = h none
+by_sub false false false true a b c d words f g h i some none = i none
+by_sub false false false false a b c d words f g h i some none = absurd (cc)
 
 given_by : (t : Bool) → check_kinds false false (true && (false || ((true && not t) || false))) ≡ [] → t ≡ true
 given_by true e = refl
@@ -157,6 +158,12 @@ load_lanes = (record { sets = refl; one = refl; passes = λ e v. absurd (cc); de
 load_stop : AllPlain (codes "stop-after") stop_value (made load).rules
 load_stop = (record { sets = refl; one = refl; passes = λ e v. absurd (cc); defaults = refl }, (record { sets = refl; one = refl; passes = λ e v. absurd (cc); defaults = refl }, tt))
 
+pub relay_lanes : AllPlain (codes "lanes") lanes_value (made relay).rules
+relay_lanes = (record { sets = refl; one = refl; passes = λ e v. absurd (cc); defaults = refl }, tt)
+
+relay_stop : AllPlain (codes "stop-after") stop_value (made relay).rules
+relay_stop = (record { sets = refl; one = refl; passes = λ e v. absurd (cc); defaults = refl }, tt)
+
 asks_once : (words : List Text) → Asks (made once) words
 asks_once words none =
     (Once (options_of (rows_after (made once).rules [] words)), refl, ranges_of (made once) words refl once_lanes once_stop none)
@@ -164,6 +171,10 @@ asks_once words none =
 asks_serve : (words : List Text) → Asks (made serve) words
 asks_serve words none =
     (Serve (options_of (rows_after (made serve).rules [] words)), refl, ranges_of (made serve) words refl serve_lanes serve_stop none)
+
+asks_relay : (words : List Text) → Asks (made relay) words
+asks_relay words none =
+    (Relay (options_of (rows_after (made relay).rules [] words)), refl, ranges_of (made relay) words refl relay_lanes relay_stop none)
 
 pub load_plain : AllPlain (codes "count") load_count (made load).rules
 unfolding load_count
@@ -181,8 +192,8 @@ asks_load words none =
 
 stop_some : (stop : Option (Text × List Text)) → is_some (entered (built commands) stop) ≡ true → entered_fault (built commands) stop ≡ [] → (x : Asked) × (option_and_then (λ (s : Text × List Row). asked_by s.0 s.1) (entered (built commands) stop) ≡ Some x) × IsInRange x
 stop_some None some none = absurd (cc)
-stop_some (Some p) some none = by_sub (answers_to p.0 (label_of (made once))) (answers_to p.0 (label_of (made serve))) (answers_to p.0 (label_of (made load))) (made once) (made serve) (made load) p.1
-    (asks_once p.1) (asks_serve p.1) (asks_load p.1) some none
+stop_some (Some p) some none = by_sub (answers_to p.0 (label_of (made once))) (answers_to p.0 (label_of (made serve))) (answers_to p.0 (label_of (made load))) (answers_to p.0 (label_of (made relay))) (made once) (made serve) (made load) (made relay) p.1
+    (asks_once p.1) (asks_serve p.1) (asks_load p.1) (asks_relay p.1) some none
 
 -- the last check is of the subcommand alone
 sub_wanted : (t : Bool) → check_kinds (not t && false) (not t && true) (true && false) ≡ [] → t ≡ true

@@ -6,3 +6,4 @@ mod Walks
 mod Options
 mod FormLemmas
 mod OtherForms
+mod RelayForms

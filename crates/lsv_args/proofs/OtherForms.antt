@@ -48,7 +48,7 @@ load_reads position (b ∷ bytes) good = let e = not_true (b == 45) good in reco
 
 -- ---- `once`
 
-abbrev file_rows : Option Text → List Row
+abbrev pub file_rows : Option Text → List Row
 file_rows None = []
 file_rows (Some v) = row_of (filled conf) v ∷ []
 
@@ -67,7 +67,7 @@ once_level file good =
 once_rows : (file : Option Text) → is_file file ≡ true → rows_after onced.rules [] (file_words file) ≡ file_rows file
 once_rows file good = defaults_none (codes "lanes") lanes_value (settled onced.rules (walk onced.rules [] nothing_held (file_words file)).held).rows onced.rules once_lanes ∙ (once_walk file good).found
 
-file_told : (file : Option Text) → options_of (file_rows file) ≡ told_file file
+pub file_told : (file : Option Text) → options_of (file_rows file) ≡ told_file file
 file_told None = refl
 file_told (Some v) = refl
 

@@ -37,6 +37,10 @@ once = with_rule (new_app (codes "once")) conf
 abbrev pub serve : App
 serve = with_rule (with_rule (with_rule (new_app (codes "serve")) conf) lanes) stop_after
 
+-- `relay [-f FILE]`
+abbrev pub relay : App
+relay = with_rule (new_app (codes "relay")) conf
+
 -- `load [-f FILE] N`
 abbrev pub load : App
 load = with_rule (with_rule (new_app (codes "load")) conf) count
@@ -49,4 +53,4 @@ program = let a = new_app (codes "sudo_logsrvd") in record a {
 
 -- the commands
 abbrev pub commands : App
-commands = with_subcommand (with_subcommand (with_subcommand program once.top) serve.top) load.top
+commands = with_subcommand (with_subcommand (with_subcommand (with_subcommand program once.top) serve.top) load.top) relay.top

@@ -73,7 +73,7 @@ told given = record {
   stop_after = option_and_then number_in (stop_after_in given);
 }
 
--- ---- `once` and `load`
+-- ---- `once`, `load` and `relay`
 
 -- the words of `-f FILE`, where it is given
 abbrev pub file_words : Option (List ℕ) → List (List ℕ)

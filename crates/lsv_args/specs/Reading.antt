@@ -51,6 +51,7 @@ asked_by name rows =
     if bytes_eq name (codes "once") then Some (Once (options_of rows))
     else if bytes_eq name (codes "serve") then Some (Serve (options_of rows))
     else if bytes_eq name (codes "load") then option_map (Load (options_of rows)) (number rows "count")
+    else if bytes_eq name (codes "relay") then Some (Relay (options_of rows))
     else None
 
 -- what words ask for that clap doesn't refuse

@@ -1,7 +1,7 @@
 ghost use Rattle.std.specs.Prelude.{◌≡◌, false, IfOk};
 ghost use Rattle.clap.specs.Words.{app_of, rule_of};
 ghost use Rattle.clap.specs.declared.builder.command.Command.TheViews.{out-Command};
-ghost use Rattle.lsv_args.specs.Commands.{commands, conf, count, lanes, load, once, serve, stop_after};
+ghost use Rattle.lsv_args.specs.Commands.{commands, conf, count, lanes, load, once, relay, serve, stop_after};
 
 use clap::{Arg, Command, value_parser};
 use std::alloc::{AllocError, Global};
@@ -75,6 +75,13 @@ fn load<'a>(alloc: Global) -> Result<Command<'a>, AllocError>
         .arg(count(alloc))
 }
 
+/// `relay [-f FILE]`
+fn relay<'a>(alloc: Global) -> Result<Command<'a>, AllocError>
+    ensures { IfOk result (λ c. (app_of c ≡ relay) × ((out-Command c).has_globals ≡ false)) }
+{
+    Command::new(alloc, "relay").arg(conf(alloc))
+}
+
 /// The commands of the program. There is no word for help or for the version.
 pub fn commands<'a>(alloc: Global) -> Result<Command<'a>, AllocError>
     ensures { IfOk result (λ c. app_of c ≡ commands) }
@@ -87,5 +94,6 @@ pub fn commands<'a>(alloc: Global) -> Result<Command<'a>, AllocError>
         .subcommand_required(true)
         .subcommand(once(alloc)?)?
         .subcommand(serve(alloc)?)?
-        .subcommand(load(alloc)?)
+        .subcommand(load(alloc)?)?
+        .subcommand(relay(alloc)?)
 }

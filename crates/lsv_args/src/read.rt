@@ -86,6 +86,7 @@ fn command_of(alloc: Global, name: &str, found: &ArgMatches<'_>) -> Result<Comma
             let count = number(found, "count").ok_or(ArgFault::Usage)?;
             Ok(Command::Load(opts_of(alloc, found)?, count))
         }
+        "relay" => Ok(Command::Relay(opts_of(alloc, found)?)),
         _ => Err(ArgFault::Usage),
     }
 }
@@ -106,7 +107,7 @@ fn matched<'a>(alloc: Global, words: &'a [&'a str]) -> Result<ArgMatches<'a>, Ar
     }
 }
 
-/// Reads the words behind the program's name. A command that isn't built yet is refused as any unknown word.
+/// Reads the words after the program's name.
 pub fn read_words(alloc: Global, words: &List<Bytes>) -> Result<Command, ArgFault>
     requires { IsTrue (list_all is_utf8 words.now) }
     ensures ok { IfOk result (λ c. asked words.now ≡ Some (asked_in c)) }

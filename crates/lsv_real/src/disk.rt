@@ -37,6 +37,22 @@ impl FileDisk {
         }
     }
 
+    /// Takes the store at these places for a relay: of its calls those on files of relaying alone may be made.
+    pub fn open_for_relay(&mut self, dir: &str, events: &str)
+        ensures { self.new.faults ≡ self.old.faults }
+    {
+        self.store = None;
+        match Store::open_for_relay(self.rt, dir, events) {
+            Ok(store) => self.store = Some(store),
+            Err(fault) => report_no_store(&self.rt, self.program, dir, events, &fault),
+        }
+    }
+
+    /// Whether it has a store.
+    pub fn has_store(&self) -> bool {
+        self.store.is_some()
+    }
+
     /// A failure is a fault, counted and told.
     fn told<T: Drop>(
         &mut self,

@@ -23,6 +23,7 @@ mod port;
 mod read_only;
 mod reader;
 mod refusal;
+mod relay_disk;
 mod span;
 mod standard;
 mod store;
@@ -39,6 +40,7 @@ pub use look::{Lack, NoStore, folder_of_log, has_numbers, is_denied, lack_of, no
 pub use made::{InodeTable, Made, NewFile};
 pub use port::MioPort;
 pub use read_only::ReadOnlyDisk;
+pub use relay_disk::RelayDisk;
 pub use standard::open_standard;
 pub use streams::{StdScreen, StdSink, StdSource};
 pub use texts::FileTexts;

@@ -141,6 +141,12 @@ pub fn lock_file(rt: &HostRuntime, alloc: Global, dir: &str) -> Result<File, Loc
     locked(open_lock(rt, path.as_str())?)
 }
 
+/// Takes the lock of the file `relay.lock` in the folder of the logs, by which relays exclude each other.
+pub fn lock_of_relays(rt: &HostRuntime, alloc: Global, dir: &str) -> Result<File, LockFault> {
+    let path = format!(in alloc; "{dir}/relay.lock").map_err(no_memory)?;
+    locked(open_lock(rt, path.as_str())?)
+}
+
 /// Opens the file of the lock, and makes it where it isn't there: one that is there keeps its mode.
 fn open_lock(rt: &HostRuntime, path: &str) -> io::Result<File> {
     match make_file(rt, path) {

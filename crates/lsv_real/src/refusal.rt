@@ -126,6 +126,9 @@ pub fn report_no_store(
         StoreFault::EventsInUse => {
             eprintln!(rt; "{program}: {events}: lock: another server uses this event log")
         }
+        StoreFault::RelayInUse => {
+            eprintln!(rt; "{program}: {dir}: relay.lock: another relay uses this store")
+        }
         StoreFault::Uncovered(Uncovered::NoLast) => eprintln!(rt;
             "{program}: {dir}: it holds logs, and seq2 doesn't tell the last number: put seq2 back from a copy, or let iolog_dir be a new folder; nothing is changed"
         ),

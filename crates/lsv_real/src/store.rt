@@ -7,7 +7,9 @@ use crate::drawn::{Uncovered, find_uncovered};
 use crate::folders::Folders;
 use crate::handle::Handle;
 use crate::limit::{SizeLimit, files_within, lacks_descriptor, most_descriptors};
-use crate::lock::{EventsLocks, LockFault, lock_file, lock_folder, make_file, open_file, set_mode};
+use crate::lock::{
+    EventsLocks, LockFault, lock_file, lock_folder, lock_of_relays, make_file, open_file, set_mode,
+};
 use crate::made::{InodeTable, Made, NewFile};
 use crate::path::{Place, Places, joined, log_name};
 use crate::refusal::report_tail;
@@ -33,6 +35,8 @@ pub enum StoreFault {
     InUse,
     /// Another server has the lock of the event log.
     EventsInUse,
+    /// Another relay has the lock of relays.
+    RelayInUse,
     /// There is a log that the number files don't cover.
     Uncovered(Uncovered),
     /// No line of the event log ends after so many bytes, which its journal counts.
@@ -113,7 +117,7 @@ enum Making {
     Together,
 }
 
-/// The files of a store. While it stands, nobody else has its lock.
+/// The files of a store, or those of relaying alone. While it stands, nobody else has its lock.
 #[derive(Drop)]
 pub struct Store {
     rt: HostRuntime,
@@ -131,7 +135,9 @@ pub struct Store {
     found_whole: Option<Owner>,
     limit: SizeLimit,
     events_locks: EventsLocks,
-    _folder_lock: File,
+    /// Whether only files of relaying are made and written, beside a server.
+    relays: bool,
+    _folder_lock: Option<File>,
     _file_lock: File,
 }
 
@@ -175,8 +181,33 @@ impl Store {
             found_whole: None,
             limit: SizeLimit::now(),
             events_locks,
-            _folder_lock: folder_lock,
+            relays: false,
+            _folder_lock: Some(folder_lock),
             _file_lock: file_lock,
+        })
+    }
+
+    /// Takes the lock of relays, and no lock of a server: one may run, start or end meanwhile. No folder is made, and nothing is
+    /// looked at.
+    pub fn open_for_relay(rt: HostRuntime, dir: &str, events: &str) -> Result<Store, StoreFault> {
+        let alloc = rt.alloc();
+        let lock = of_lock(StoreFault::RelayInUse, lock_of_relays(&rt, alloc, dir))?;
+        let most_open = files_within(most_descriptors());
+        Ok(Store {
+            rt,
+            alloc,
+            places: Places::new(alloc, dir, events)?,
+            folders: of_step(Step::Prepare, Folders::new(rt))?,
+            handles: of_step(Step::Prepare, bounded(alloc, most_open))?,
+            most_open,
+            left: HashMap::new(alloc),
+            looked: None,
+            found_whole: None,
+            limit: SizeLimit::now(),
+            events_locks: EventsLocks::new(rt, alloc),
+            relays: true,
+            _folder_lock: None,
+            _file_lock: lock,
         })
     }
 
@@ -266,6 +297,11 @@ impl Store {
 
     /// Waits until the names of a folder and of those above it are on the disk.
     fn sync_names(&mut self, folder: &str) -> io::Result<()> {
+        if self.relays {
+            // The server synced them before it answered the number of the log. Two programs may not sync a shared folder at once:
+            // on ext4 without a journal the second could answer before the first one's write is done.
+            return Ok(());
+        }
         match self.folders.sync_names(folder) {
             Err(e) if lacks_descriptor(&e) => {
                 self.close_oldest()?;

@@ -1,6 +1,6 @@
 -- A run whose connection is legal, where nothing is in the way, serves it.
-use Rattle.std.proofs.Common.{◌≡◌, ◌≢◌, ◌≤◌, ◌<◌, ◌+◌, ◌-◌, ◌^◌, ◌⊎◌, ℕ, List, [], ◌∷◌, ◌++◌, map, refl, sym, ◌∙◌, ap, subst, inl, inr, arith, Option, Some, None, append_assoc, append-nil}
-use Rattle.std.specs.Prelude.{◌==◌, ◌||◌, ◌&&◌, Bool, true, false, if◌then◌else◌, nat_lt}
+use Rattle.std.proofs.Common.{◌≡◌, ◌≤◌, ◌<◌, ◌+◌, ◌-◌, ◌^◌, ℕ, List, [], ◌∷◌, ◌++◌, map, refl, sym, ◌∙◌, ap, subst, inl, inr, arith, Option, Some, None, append_assoc, append-nil}
+use Rattle.std.specs.Prelude.{◌==◌, ◌||◌, ◌&&◌, Bool, true, false, nat_lt}
 use Rattle.std.specs.List.{concat, flat_map, list_any}
 use Rattle.std.specs.Option.{option_map}
 use Rattle.std.proofs.lemmas.List.{map-append}
@@ -49,7 +49,7 @@ use Rattle.lsv_turns.specs.Turns as tape
 use Rattle.lsv_serve.specs.Tape.{Leaves, TapeTurn, TurnsOf, bodies_in, once_conn, replies_in, shuts, turn_of, was_shut}
 use Rattle.lsv_serve.specs.World.{World}
 use Rattle.lsv_serve.specs.declared.status.Status.{Status}
-use Rattle.lsv_serve.specs.declared.status.Status.TheVariants.{Served, Usage, Conf, Store, ReadFault, WriteFault, PortFault, NoMem}
+use Rattle.lsv_serve.specs.declared.status.Status.TheVariants.{NoUpstream, Pending, Served, Usage, Conf, Store, ReadFault, WriteFault, PortFault, NoMem}
 
 -- ---- Counts that didn't rise
 
@@ -410,6 +410,8 @@ module _ (kind : Kind) (log_exit : Bool) (texts : List (List ℕ)) (old new : Wo
   completes ReadFault not_usage cause = λ src snk told runs last lines bodies u. absurd (u.no_read_failed cause)
   completes WriteFault not_usage cause = λ src snk told runs last lines bodies u. absurd (u.no_write_failed cause)
   completes PortFault not_usage cause = absurd cause
+  completes NoUpstream not_usage cause = absurd cause
+  completes (Pending left) not_usage cause = absurd cause
   completes NoMem not_usage cause = λ src snk told runs last lines bodies u. absurd (u.had_memory refl)
 
 -- the same of a run of the program whose settings are read
@@ -426,4 +428,6 @@ completes_set lines faults faults' kind log_exit texts old new (Store fault) not
 completes_set lines faults faults' kind log_exit texts old new ReadFault not_usage calm cause none = completes kind log_exit texts old new ReadFault not_usage cause.1
 completes_set lines faults faults' kind log_exit texts old new WriteFault not_usage calm cause none = completes kind log_exit texts old new WriteFault not_usage cause.1
 completes_set lines faults faults' kind log_exit texts old new PortFault not_usage calm cause none = absurd cause
+completes_set lines faults faults' kind log_exit texts old new NoUpstream not_usage calm cause none = absurd cause
+completes_set lines faults faults' kind log_exit texts old new (Pending left) not_usage calm cause none = absurd cause
 completes_set lines faults faults' kind log_exit texts old new NoMem not_usage calm cause none = completes kind log_exit texts old new NoMem not_usage tt

@@ -16,7 +16,7 @@ use Rattle.lsv_keeper.specs.Tails.{TurnGives}
 use Rattle.lsv_keeper.specs.Value.{IsResting, KeeperView}
 use Rattle.lsv_serve.specs.declared.server.End.TheVariants as ends
 use Rattle.lsv_serve.specs.declared.status.Status.{Status}
-use Rattle.lsv_serve.specs.declared.status.Status.TheVariants.{Served, Usage, Conf, Store, ReadFault, WriteFault, PortFault, NoMem}
+use Rattle.lsv_serve.specs.declared.status.Status.TheVariants.{NoUpstream, Pending, Served, Usage, Conf, Store, ReadFault, WriteFault, PortFault, NoMem}
 use Rattle.lsv_serve.specs.Causes.{HasStatusCause}
 use Rattle.lsv_serve.specs.InnerRun.{Ended, MayEnd, Serves, Standing, TurnDone}
 use Rattle.lsv_lane.specs.Store.{AreTurns, Conforms}
@@ -66,6 +66,8 @@ ends_last WriteFault reads may = subst (λ (b : Bool). Leaves b []) (sym may) re
 ends_last NoMem reads may = refl
 ends_last ReadFault reads may = absurd may
 ends_last PortFault reads may = absurd may
+ends_last NoUpstream reads may = absurd may
+ends_last (Pending left) reads may = absurd may
 ends_last Usage reads may = absurd may
 ends_last (Conf line) reads may = absurd may
 ends_last (Store fault) reads may = absurd may
@@ -114,6 +116,8 @@ module _ (set : Settings) (texts : List (List ℕ)) (old now : World) (v : Keepe
   goes ReadFault shut may = (inr (inl refl), may)
   goes WriteFault shut may = (inr (inr refl), may)
   goes PortFault shut may = absurd may
+  goes NoUpstream shut may = absurd may
+  goes (Pending left) shut may = absurd may
   goes NoMem shut may = absurd may
   goes Usage shut may = absurd may
   goes (Conf line) shut may = absurd may

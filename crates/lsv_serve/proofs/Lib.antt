@@ -12,4 +12,5 @@ pub mod PostLemmas
 pub mod ServeLemmas
 pub mod LoadLemmas
 pub mod TextLemmas
+pub mod RelayLemmas
 mod CompleteLemmas

@@ -1,5 +1,5 @@
 -- A run of `load`.
-use Rattle.std.proofs.Common.{◌≡◌, ◌⊎◌, ◌≤◌, inl, inr, [], List, ℕ, Option, None, refl, sym, subst, ◌∙◌, append-nil, arith}
+use Rattle.std.proofs.Common.{◌≡◌, inl, inr, [], List, ℕ, Option, None, refl, sym, subst, arith}
 use Rattle.lsv_conf.specs.Lines.{first_refused}
 use Rattle.lsv_disk.specs.Throughout.{OnlyReads}
 use Rattle.lsv_disk.specs.View.{DiskView, Image, IsCrashImage, IsLeftAlone}
@@ -18,7 +18,7 @@ use Rattle.lsv_load.specs.Whole.{SumsUpAll}
 use Rattle.lsv_load.specs.declared.run.LoadEnd.{LoadEnd}
 use Rattle.lsv_load.specs.declared.run.LoadEnd.TheVariants as ends
 use Rattle.lsv_serve.specs.declared.status.Status.{Status}
-use Rattle.lsv_serve.specs.declared.status.Status.TheVariants.{Served, Usage, Conf, Store, ReadFault, WriteFault, PortFault, NoMem}
+use Rattle.lsv_serve.specs.declared.status.Status.TheVariants.{NoUpstream, Pending, Served, Usage, Conf, Store, ReadFault, WriteFault, PortFault, NoMem}
 use Rattle.lsv_serve.specs.Causes.{HasPlaces, HasPlacesAt}
 use Rattle.lsv_serve.specs.InnerServe.{LoadsBy, TellsLoad}
 use Rattle.lsv_serve.specs.Load.{CompletesLoad, HasLoadCause, LoadsAs, LoadsTo, OfSummary, while_up}
@@ -80,6 +80,8 @@ of_summary so (Conf line) x = tt
 of_summary so Usage x = tt
 of_summary so ReadFault x = tt
 of_summary so PortFault x = tt
+of_summary so NoUpstream x = tt
+of_summary so (Pending left) x = tt
 
 module _ {D : Type 0} (taping : Type 0) (view : D → DiskView) (count : ℕ) (old new : World) (found left : D) (tape new_tape : List TapeTurn) where
   runs_to : (set : Settings) (texts : List (List ℕ)) (status : Status) (end : LoadEnd) → RunsLoad old.disk_tells taping view set texts count found left tape new_tape end

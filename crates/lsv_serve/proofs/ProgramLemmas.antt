@@ -6,7 +6,7 @@ use Rattle.lsv_disk.specs.View.{DiskView, Image, IsCrashImage}
 use Rattle.lsv_machine.specs.Machine.{Settings}
 use Rattle.lsv_keeper.specs.Reading.{reading_of}
 use Rattle.lsv_serve.specs.declared.status.Status.{Status}
-use Rattle.lsv_serve.specs.declared.status.Status.TheVariants.{Served, Usage, Conf, Store, ReadFault, WriteFault, PortFault, NoMem}
+use Rattle.lsv_serve.specs.declared.status.Status.TheVariants.{NoUpstream, Pending, Served, Usage, Conf, Store, ReadFault, WriteFault, PortFault, NoMem}
 use Rattle.lsv_serve.specs.Causes.{HasConfCause, HasPlaces, HasPlacesAt, HasProgramCause, HasStatusCause}
 use Rattle.lsv_serve.specs.Once.{RunsOnce}
 use Rattle.lsv_serve.specs.World.{World}
@@ -21,6 +21,8 @@ program_cause lines faults faults' old new (Store fault) none c = (none, c)
 program_cause lines faults faults' old new ReadFault none c = (none, c)
 program_cause lines faults faults' old new WriteFault none c = (none, c)
 program_cause lines faults faults' old new PortFault none c = c
+program_cause lines faults faults' old new NoUpstream none c = c
+program_cause lines faults faults' old new (Pending left) none c = c
 program_cause lines faults faults' old new NoMem none c = tt
 
 -- a connection's run doesn't end with a line of the settings
@@ -36,6 +38,8 @@ places_given logs events before after old new (Store fault) not_usage c p = p
 places_given logs events before after old new ReadFault not_usage c p = p
 places_given logs events before after old new WriteFault not_usage c p = p
 places_given logs events before after old new PortFault not_usage c p = p
+places_given logs events before after old new NoUpstream not_usage c p = absurd c
+places_given logs events before after old new (Pending left) not_usage c p = p
 places_given logs events before after old new NoMem not_usage c p = inl p
 
 -- ---- Settings that weren't read

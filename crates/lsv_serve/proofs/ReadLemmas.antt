@@ -19,7 +19,7 @@ use Rattle.lsv_keeper.specs.Tails.{TurnGives}
 use Rattle.lsv_keeper.specs.Value.{KeeperView, SameSet, settings_of}
 use Rattle.lsv_serve.specs.declared.server.End.{End}
 use Rattle.lsv_serve.specs.declared.server.End.TheVariants as ends
-use Rattle.lsv_serve.specs.declared.status.Status.TheVariants.{Served, Usage, Conf, Store, ReadFault, WriteFault, PortFault, NoMem}
+use Rattle.lsv_serve.specs.declared.status.Status.TheVariants.{NoUpstream, Pending, Served, Usage, Conf, Store, ReadFault, WriteFault, PortFault, NoMem}
 use Rattle.lsv_serve.specs.Causes.{HasStatusCause}
 use Rattle.lsv_serve.specs.InnerRun.{AnswerEnds, Begun, Cuts, Ended, HasRead, HelloEnds, MayEnd, Standing, Takes, TurnDone, UnderWay, Unput, status_in}
 use Rattle.lsv_serve.specs.Tape.{PutsAll, PutsFor, TapeTurn, bodies_in, once_conn, replies_in, shuts, was_shut}
@@ -241,7 +241,11 @@ module _ (set : Settings) (texts : List (List ℕ)) (old : World) where
   ended_answering (ends.Open ReadFault) now v over unread replies put faults u more a = absurd a
   ended_answering (ends.Open NoMem) now v over unread replies put faults u more a = absurd a
   ended_answering (ends.Open PortFault) now v over unread replies put faults u more a = absurd a
+  ended_answering (ends.Open NoUpstream) now v over unread replies put faults u more a = absurd a
+  ended_answering (ends.Open (Pending left)) now v over unread replies put faults u more a = absurd a
   ended_answering (ends.Last PortFault) now v over unread replies put faults u more a = absurd a
+  ended_answering (ends.Last NoUpstream) now v over unread replies put faults u more a = absurd a
+  ended_answering (ends.Last (Pending left)) now v over unread replies put faults u more a = absurd a
 
   -- ---- The hello
 
@@ -309,4 +313,8 @@ module _ (set : Settings) (texts : List (List ℕ)) (old : World) where
   ended_greeting (ends.Open ReadFault) now v put faults b more h = absurd h
   ended_greeting (ends.Open NoMem) now v put faults b more h = absurd h
   ended_greeting (ends.Open PortFault) now v put faults b more h = absurd h
+  ended_greeting (ends.Open NoUpstream) now v put faults b more h = absurd h
+  ended_greeting (ends.Open (Pending left)) now v put faults b more h = absurd h
   ended_greeting (ends.Last PortFault) now v put faults b more h = absurd h
+  ended_greeting (ends.Last NoUpstream) now v put faults b more h = absurd h
+  ended_greeting (ends.Last (Pending left)) now v put faults b more h = absurd h

@@ -1,7 +1,6 @@
 -- A run of `serve`: its ports as posts, its links, its end, and a run that did nothing.
-use Rattle.std.proofs.Common.{◌≡◌, ◌<◌, ◌++◌, ◌∷◌, ◌⊎◌, inl, inr, [], List, ℕ, Option, Some, None, map, length, true, refl, sym, ap, subst, ◌∙◌, append-nil}
+use Rattle.std.proofs.Common.{◌≡◌, ◌<◌, inl, inr, [], List, ℕ, Option, Some, None, map, length, true, refl, sym, ap, subst, ◌∙◌, append-nil}
 use Rattle.std.specs.Prelude.{option_map, slice_get}
-use Rattle.std.proofs.Math.ListN.{get_or}
 use Rattle.std.proofs.lemmas.List.{length-map}
 use Rattle.std.proofs.lemmas.Option.{get_or_from_slice_get, slice_get-get_or, slice_get-map, slice_get_within}
 use Rattle.lsv_conf.specs.Lines.{Placed, first_refused}
@@ -19,7 +18,6 @@ use Rattle.lsv_server.specs.Runs.{HasEndCause, IsUp, RunsStore}
 use Rattle.lsv_server.specs.declared.run.End.{End}
 use Rattle.lsv_server.specs.declared.run.End.TheVariants as ends
 use Rattle.lsv_serve.specs.declared.status.Status.{Status}
-use Rattle.lsv_serve.specs.declared.status.Status.TheVariants.{NoMem}
 use Rattle.lsv_serve.specs.Causes.{HasPlaces, HasPlacesAt}
 use Rattle.lsv_serve.specs.InnerServe.{RunsAs, nothing, port_at, told}
 use Rattle.lsv_serve.specs.Program.{lines_in, machine_of, prompts_of, set_by}

@@ -26,7 +26,7 @@ use Rattle.lsv_turns.specs.Turns.{LaneTurn}
 use Rattle.lsv_lane.specs.Store.{IsFresh, KeepsStore, OwnerFailed}
 use Rattle.lsv_server.specs.Runs.{HasStoreCause}
 use Rattle.lsv_serve.specs.declared.status.Status.{Status}
-use Rattle.lsv_serve.specs.declared.status.Status.TheVariants.{Served, Usage, Conf, Store, ReadFault, WriteFault, PortFault, NoMem}
+use Rattle.lsv_serve.specs.declared.status.Status.TheVariants.{NoUpstream, Pending, Served, Usage, Conf, Store, ReadFault, WriteFault, PortFault, NoMem}
 use Rattle.lsv_serve.specs.Causes.{HasStatusCause}
 use Rattle.lsv_serve.specs.InnerRun.{Begun, store_status}
 use Rattle.lsv_serve.specs.Once.{IsOpened, RunsOnce, once_settings}
@@ -142,6 +142,8 @@ module _ (old : World) (after : DiskView) (alone : IsLeftAlone old.disk_tells ol
   cause_before new ReadFault c = c
   cause_before new WriteFault c = c
   cause_before new PortFault c = c
+  cause_before new NoUpstream c = c
+  cause_before new (Pending left) c = c
   cause_before new NoMem c = c
 
 -- ---- A run without turns

@@ -6,7 +6,7 @@ use Rattle.lsv_conf.specs.Settings.{told}
 use Rattle.lsv_disk.specs.View.{DiskView}
 use Rattle.lsv_server.specs.Runs.{HasStoreCause}
 use Rattle.lsv_serve.specs.declared.status.Status.{Status}
-use Rattle.lsv_serve.specs.declared.status.Status.TheVariants.{Served, Usage, Conf, Store, ReadFault, WriteFault, PortFault, NoMem}
+use Rattle.lsv_serve.specs.declared.status.Status.TheVariants.{NoUpstream, Pending, Served, Usage, Conf, Store, ReadFault, WriteFault, PortFault, NoMem}
 use Rattle.lsv_serve.specs.World.{World}
 
 -- why a connection's run ended so: a read failed, or a write, or the store wasn't opened
@@ -18,6 +18,8 @@ HasStatusCause old new (Store fault) = HasStoreCause old.disk_tells old.disk new
 HasStatusCause old new ReadFault = HasRisen old.read_faults new.read_faults
 HasStatusCause old new WriteFault = HasRisen old.write_faults new.write_faults
 HasStatusCause old new PortFault = ⊥
+HasStatusCause old new NoUpstream = ⊥
+HasStatusCause old new (Pending left) = ⊥
 HasStatusCause old new NoMem = Unit {0}
 
 -- why settings weren't read: with 0 the reading of their file failed, with another number this line is the first that is refused
@@ -33,6 +35,8 @@ HasProgramCause lines faults faults' old new (Store fault) = (first_refused line
 HasProgramCause lines faults faults' old new ReadFault = (first_refused lines ≡ None) × HasStatusCause old new ReadFault
 HasProgramCause lines faults faults' old new WriteFault = (first_refused lines ≡ None) × HasStatusCause old new WriteFault
 HasProgramCause lines faults faults' old new PortFault = ⊥
+HasProgramCause lines faults faults' old new NoUpstream = ⊥
+HasProgramCause lines faults faults' old new (Pending left) = ⊥
 HasProgramCause lines faults faults' old new NoMem = Unit {0}
 
 -- the places of the store that the disk was given are this folder of logs and this event log; or out of memory it has none
@@ -48,4 +52,6 @@ HasPlacesAt logs events old new (Store fault) = HasPlaces logs events new
 HasPlacesAt logs events old new ReadFault = HasPlaces logs events new
 HasPlacesAt logs events old new WriteFault = HasPlaces logs events new
 HasPlacesAt logs events old new PortFault = HasPlaces logs events new
+HasPlacesAt logs events old new NoUpstream = new.places ≡ old.places
+HasPlacesAt logs events old new (Pending left) = HasPlaces logs events new
 HasPlacesAt logs events old new NoMem = HasPlaces logs events new ⊎ (new.places ≡ old.places)

@@ -5,6 +5,7 @@ pub mod Once
 pub mod Program
 pub mod Serve
 pub mod Load
+pub mod Relay
 pub mod InnerServe
 pub mod Causes
 pub mod InnerRun

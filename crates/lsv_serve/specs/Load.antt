@@ -16,7 +16,7 @@ use Rattle.lsv_load.specs.Runs.{RunsLoad, view_of}
 use Rattle.lsv_load.specs.Whole.{SumsUpAll}
 use Rattle.lsv_load.specs.declared.run.LoadEnd.TheVariants as ends
 use Rattle.lsv_serve.specs.declared.status.Status.{Status}
-use Rattle.lsv_serve.specs.declared.status.Status.TheVariants.{Served, Usage, Conf, Store, ReadFault, WriteFault, PortFault, NoMem}
+use Rattle.lsv_serve.specs.declared.status.Status.TheVariants.{NoUpstream, Pending, Served, Usage, Conf, Store, ReadFault, WriteFault, PortFault, NoMem}
 use Rattle.lsv_serve.specs.Causes.{HasConfCause, HasPlacesAt}
 use Rattle.lsv_serve.specs.Program.{lines_in, machine_of, prompts_of, set_by}
 use Rattle.lsv_serve.specs.World.{World}
@@ -48,6 +48,8 @@ LoadsTo {D} tape_tells view set texts count old new found left tape new_tape (Co
 LoadsTo {D} tape_tells view set texts count old new found left tape new_tape Usage = ⊥
 LoadsTo {D} tape_tells view set texts count old new found left tape new_tape ReadFault = ⊥
 LoadsTo {D} tape_tells view set texts count old new found left tape new_tape PortFault = ⊥
+LoadsTo {D} tape_tells view set texts count old new found left tape new_tape NoUpstream = ⊥
+LoadsTo {D} tape_tells view set texts count old new found left tape new_tape (Pending logs) = ⊥
 
 -- why a run ended so: its settings weren't read, or no line of them is refused
 abbrev pub HasLoadCause : (lines : List Placed) (faults faults' : ℕ) → Status → Type 0
@@ -59,6 +61,8 @@ HasLoadCause lines faults faults' (Conf line) = HasConfCause lines faults faults
 HasLoadCause lines faults faults' Usage = ⊥
 HasLoadCause lines faults faults' ReadFault = ⊥
 HasLoadCause lines faults faults' PortFault = ⊥
+HasLoadCause lines faults faults' NoUpstream = ⊥
+HasLoadCause lines faults faults' (Pending left) = ⊥
 
 -- what was kept of the store where it was opened
 abbrev pub while_up : {opened : Type 0} {set : Settings} {texts : List (List ℕ)} {o : Outside} {turns : List LaneTurn} → opened → KeepsStore opened set texts o turns → KeepsStore (Unit {0}) set texts o turns
@@ -80,6 +84,8 @@ OfSummary (Conf line) so = Unit {0}
 OfSummary Usage so = Unit {0}
 OfSummary ReadFault so = Unit {0}
 OfSummary PortFault so = Unit {0}
+OfSummary NoUpstream so = Unit {0}
+OfSummary (Pending left) so = Unit {0}
 
 -- a run of `load` with the settings file as it was found
 pub record LoadsAs {D : Type 0} (tape_tells : Type 0) (view : D → DiskView) (set : Option (List ℕ)) (faults faults' : ℕ) (count : ℕ) (old new : World) (found left : D) (tape new_tape : List TapeTurn) (status : Status) : Type 0 where

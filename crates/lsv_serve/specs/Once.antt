@@ -8,7 +8,7 @@ use Rattle.lsv_machine.specs.Machine.{Settings}
 use Rattle.lsv_machine.specs.Recovery.{Outside}
 use Rattle.lsv_lane.specs.Store.{KeepsStore, lane_settings}
 use Rattle.lsv_serve.specs.declared.status.Status.{Status}
-use Rattle.lsv_serve.specs.declared.status.Status.TheVariants.{Served, Usage, Conf, Store, ReadFault, WriteFault, PortFault, NoMem}
+use Rattle.lsv_serve.specs.declared.status.Status.TheVariants.{NoUpstream, Pending, Served, Usage, Conf, Store, ReadFault, WriteFault, PortFault, NoMem}
 use Rattle.lsv_serve.specs.Tape.{EndsFor, PutsFor, ShutLast, Tape, TurnsOf, once_conn, replies_in, turn_of, turns_in, was_shut}
 use Rattle.lsv_serve.specs.World.{World}
 
@@ -45,6 +45,8 @@ IsOpened Served tape = Unit {0}
 IsOpened ReadFault tape = Unit {0}
 IsOpened WriteFault tape = Unit {0}
 IsOpened PortFault tape = ⊥
+IsOpened NoUpstream tape = ⊥
+IsOpened (Pending left) tape = ⊥
 IsOpened NoMem tape = turns_in tape ≢ []
 IsOpened Usage tape = ⊥
 IsOpened (Conf line) tape = ⊥

@@ -1,5 +1,5 @@
 -- What the words of the program and its settings file ask for.
-use Rattle.std.specs.Prelude.{◌≡◌, ℕ, List, [], Option, Some, IsTrue, unwrap_or, if◌then◌else◌}
+use Rattle.std.specs.Prelude.{◌≡◌, ℕ, List, [], Option, Some, None, IsTrue, unwrap_or, if◌then◌else◌}
 use Rattle.std.specs.List.{list_all}
 use Rattle.std.specs.Str.{is_utf8}
 use Rattle.clap.specs.Words.{fault_of}
@@ -32,6 +32,10 @@ machine_of set = once_settings set.format set.log_exit
 -- the texts behind which what is typed is masked: where passwords are stored as they are typed, none
 abbrev pub prompts_of : conf.Settings → List (List ℕ)
 prompts_of set = if set.log_passwords then [] else set.prompts
+
+-- the host to which logs are relayed: none if the settings name none, or don't ask for it
+abbrev pub upstream_of : conf.Settings → Option (List ℕ)
+upstream_of set = if set.store_first then set.relay_host else None
 
 -- this holds of the settings file as it was found, which is as the texts tell it, where they tell
 abbrev pub AsFound : (tells : Type 0) (file : List ℕ) (texts : List ℕ → Option (List ℕ)) (Holds : Option (List ℕ) → Type 0) → Type 0

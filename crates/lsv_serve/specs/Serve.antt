@@ -19,7 +19,7 @@ use Rattle.lsv_server.specs.Runs.{HasStoreCause, RunsStore}
 use Rattle.lsv_server.specs.declared.run.End.{End}
 use Rattle.lsv_server.specs.declared.run.End.TheVariants as ends
 use Rattle.lsv_serve.specs.declared.status.Status.{Status}
-use Rattle.lsv_serve.specs.declared.status.Status.TheVariants.{Served, Usage, Conf, Store, ReadFault, WriteFault, PortFault, NoMem}
+use Rattle.lsv_serve.specs.declared.status.Status.TheVariants.{NoUpstream, Pending, Served, Usage, Conf, Store, ReadFault, WriteFault, PortFault, NoMem}
 use Rattle.lsv_serve.specs.Causes.{HasConfCause, HasPlacesAt}
 use Rattle.lsv_serve.specs.Program.{lines_in, machine_of, prompts_of, set_by}
 
@@ -74,6 +74,8 @@ pub record IsIdle (set : Settings) (texts : List (List ℕ)) (old new : ServerWo
 abbrev pub RunsServe : Settings → List (List ℕ) → (old new : ServerWorld) → Status → Type 0
 RunsServe set texts old new Served = RunsTo set texts old new (ends.Over Stopped)
 RunsServe set texts old new PortFault = RunsTo set texts old new (ends.Over Failed)
+RunsServe set texts old new NoUpstream = ⊥
+RunsServe set texts old new (Pending left) = ⊥
 RunsServe set texts old new (Store fault) = RunsTo set texts old new (ends.Store fault)
 RunsServe set texts old new NoMem = RunsTo set texts old new ends.NoMem
 RunsServe set texts old new (Conf line) = IsIdle set texts old new
@@ -85,6 +87,8 @@ RunsServe set texts old new WriteFault = ⊥
 abbrev pub HasServeCause : (lines : List Placed) (faults faults' : ℕ) → (old new : ServerWorld) → Status → Type 0
 HasServeCause lines faults faults' old new Served = first_refused lines ≡ None
 HasServeCause lines faults faults' old new PortFault = first_refused lines ≡ None
+HasServeCause lines faults faults' old new NoUpstream = ⊥
+HasServeCause lines faults faults' old new (Pending left) = ⊥
 HasServeCause lines faults faults' old new (Store fault) = (first_refused lines ≡ None) × HasStoreCause old.disk_tells old.disk new.disk fault
 HasServeCause lines faults faults' old new NoMem = Unit {0}
 HasServeCause lines faults faults' old new (Conf line) = HasConfCause lines faults faults' line

@@ -14,7 +14,7 @@ use Rattle.lsv_session.specs.declared.job.Job.{Job}
 use Rattle.lsv_session.specs.declared.reply.Reply.{Reply}
 use Rattle.lsv_turns.specs.Turns.{LaneTurn, is_shut}
 use Rattle.lsv_serve.specs.declared.status.Status.{Status}
-use Rattle.lsv_serve.specs.declared.status.Status.TheVariants.{Served, Usage, Conf, Store, ReadFault, WriteFault, PortFault, NoMem}
+use Rattle.lsv_serve.specs.declared.status.Status.TheVariants.{NoUpstream, Pending, Served, Usage, Conf, Store, ReadFault, WriteFault, PortFault, NoMem}
 
 -- ---- Turns
 
@@ -92,6 +92,8 @@ EndsFor Served tape = Leaves (was_shut tape.reads) tape.leaving
 EndsFor ReadFault tape = (was_shut tape.reads ≡ false) × IsGone tape.leaving
 EndsFor WriteFault tape = Leaves (was_shut tape.reads) tape.leaving
 EndsFor PortFault tape = turns_in tape ≡ []
+EndsFor NoUpstream tape = turns_in tape ≡ []
+EndsFor (Pending left) tape = turns_in tape ≡ []
 EndsFor NoMem tape = tape.leaving ≡ []
 EndsFor Usage tape = turns_in tape ≡ []
 EndsFor (Conf line) tape = turns_in tape ≡ []
@@ -122,6 +124,8 @@ PutsFor Served turns bytes = PutsAll turns bytes
 PutsFor ReadFault turns bytes = PutsAll turns bytes
 PutsFor WriteFault turns bytes = PutsPart turns bytes
 PutsFor PortFault turns bytes = bytes ≡ []
+PutsFor NoUpstream turns bytes = bytes ≡ []
+PutsFor (Pending left) turns bytes = bytes ≡ []
 PutsFor NoMem turns bytes = PutsPart turns bytes
 PutsFor Usage turns bytes = bytes ≡ []
 PutsFor (Conf line) turns bytes = bytes ≡ []

@@ -46,6 +46,7 @@ fn load_by<
     C: Clock,
     G: Tape,
     T,
+    L,
     N,
     F: LineWriter + Drop,
     H: Search + Drop,
@@ -53,10 +54,10 @@ fn load_by<
     alloc: Global,
     options: Options,
     count: u32,
-    out: Outside<S, K, P, D, C, G, T, N>,
+    out: Outside<S, K, P, D, C, G, T, L, N>,
     formatter: Formatter<F>,
     prompt: Prompt<H>,
-) -> (Outside<S, K, P, D, C, G, T, N>, Status)
+) -> (Outside<S, K, P, D, C, G, T, L, N>, Status)
     requires first { 1 ≤ count }
     requires last { count ≤ 10000 }
     requires fresh { D.tells → IsFresh 0 1 (D.view out.disk) }
@@ -65,7 +66,7 @@ fn load_by<
         (world_of ⟦<S as Source>⟧ ⟦<K as Sink>⟧ ⟦<D as Disk>⟧ result.0.source result.0.sink result.0.disk)
         out.disk result.0.disk (G.turns out.tape) (G.turns result.0.tape) result.1 }
     ensures places { D.tells → HasPlaces options.logs options.events (D.view result.0.disk) }
-    ensures beside { (result.0.source ≡ out.source) × (result.0.ports ≡ out.ports) × (result.0.texts ≡ out.texts) }
+    ensures beside { (result.0.source ≡ out.source) × (result.0.ports ≡ out.ports) × (result.0.texts ≡ out.texts) × (result.0.link ≡ out.link) }
 {
     let Outside {
         source,
@@ -75,6 +76,7 @@ fn load_by<
         clock,
         tape,
         texts,
+        link,
         notices,
     } = out;
     give_places(&mut disk, &options);
@@ -100,6 +102,7 @@ fn load_by<
         clock,
         tape,
         texts,
+        link,
         notices,
     };
     (out, status)
@@ -115,6 +118,7 @@ pub fn serve_load<
     C: Clock,
     G: Tape,
     T,
+    L,
     N,
     F: LineWriter + Drop,
     J: LineWriter + Drop,
@@ -123,9 +127,9 @@ pub fn serve_load<
     alloc: Global,
     options: Options,
     count: u32,
-    out: Outside<S, K, P, D, C, G, T, N>,
+    out: Outside<S, K, P, D, C, G, T, L, N>,
     kept: Kept<F, J, H>,
-) -> (Outside<S, K, P, D, C, G, T, N>, Status)
+) -> (Outside<S, K, P, D, C, G, T, L, N>, Status)
     requires sudo { kept.sudo.kind ≡ kinds.Sudo }
     requires json { kept.json.kind ≡ kinds.Json }
     requires first { 1 ≤ count }
@@ -136,7 +140,7 @@ pub fn serve_load<
         (world_of ⟦<S as Source>⟧ ⟦<K as Sink>⟧ ⟦<D as Disk>⟧ result.0.source result.0.sink result.0.disk)
         out.disk result.0.disk (G.turns out.tape) (G.turns result.0.tape) result.1 }
     ensures places { D.tells → HasPlaces options.logs options.events (D.view result.0.disk) }
-    ensures beside { (result.0.source ≡ out.source) × (result.0.ports ≡ out.ports) × (result.0.texts ≡ out.texts) }
+    ensures beside { (result.0.source ≡ out.source) × (result.0.ports ≡ out.ports) × (result.0.texts ≡ out.texts) × (result.0.link ≡ out.link) }
 {
     match options.form {
         Kind::Sudo => load_by(alloc, options, count, out, kept.sudo, kept.prompt),

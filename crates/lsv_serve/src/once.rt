@@ -34,6 +34,7 @@ pub fn run_once<
     C: Clock,
     G,
     T,
+    L,
     N,
     F: LineWriter + Drop,
     J: LineWriter + Drop,
@@ -41,7 +42,7 @@ pub fn run_once<
 >(
     alloc: Global,
     options: Options,
-    out: &mut Outside<S, K, P, D, C, G, T, N>,
+    out: &mut Outside<S, K, P, D, C, G, T, L, N>,
     kept: Kept<F, J, H>,
 ) -> Status
     requires sudo { kept.sudo.kind ≡ kinds.Sudo }
@@ -59,6 +60,7 @@ pub fn run_once<
     ensures not_usage { result ≡ Status.Usage → ⊥ }
     ensures places { D.tells → HasPlaces options.logs options.events (D.view out.new.disk) }
     ensures fresh_again { D.tells → NumbersFit (reading_of 0 1) 0 1 (IsCrashImage (D.view out.old.disk)) → NumbersFit (reading_of 0 1) 0 1 (IsCrashImage (D.view out.new.disk)) }
+    ensures beside { (out.new.ports ≡ out.old.ports) × (out.new.tape ≡ out.old.tape) × (out.new.texts ≡ out.old.texts) × (out.new.link ≡ out.old.link) }
 {
     give_places(&mut out.disk, &options);
     let Options {
@@ -90,12 +92,13 @@ fn serve_store<
     C: Clock,
     G,
     T,
+    L,
     N,
     F: LineWriter + Drop,
     H: Search + Drop,
 >(
     alloc: Global,
-    out: &mut Outside<S, K, P, D, C, G, T, N>,
+    out: &mut Outside<S, K, P, D, C, G, T, L, N>,
     formatter: Formatter<F>,
     log_exit: bool,
     prompts: List<Bytes>,
@@ -110,6 +113,7 @@ fn serve_store<
         (world_of ⟦<S as Source>⟧ ⟦<K as Sink>⟧ ⟦<D as Disk>⟧ out.new.source out.new.sink out.new.disk) result }
     ensures not_usage { result ≡ Status.Usage → ⊥ }
     ensures same_places { D.tells → (D.view out.new.disk).places ≡ (D.view out.old.disk).places }
+    ensures beside { (out.new.ports ≡ out.old.ports) × (out.new.tape ≡ out.old.tape) × (out.new.texts ≡ out.old.texts) × (out.new.link ≡ out.old.link) }
 {
     let keeper = match Keeper::open(
         alloc,

@@ -1,4 +1,5 @@
-ghost use Rattle.std.specs.Prelude.{IsTrue};
+ghost use Rattle.std.specs.Prelude.{IsTrue, true};
+ghost use Rattle.std.specs.Option.{option_map_or};
 ghost use Rattle.std.specs.Str.{is_utf8};
 
 use lsv_base::{Bytes, List};
@@ -6,18 +7,25 @@ use lsv_event::Kind;
 use lsv_hook::{Formatter, LineWriter};
 use lsv_mask::{Prompt, Search};
 
-/// What the program stands in: where the bytes of `once` come from and go to, the ports of `serve`, the disk of the store,
-/// what tells the time, what the turns of `serve` and `load` are kept on, where the settings file is read, and who is told
-/// that it serves.
+/// The outside of the program.
 #[derive(Drop)]
-pub struct Outside<S, K, P, D, C, G, T, N> {
+pub struct Outside<S, K, P, D, C, G, T, L, N> {
+    /// The input of `once`.
     pub source: S,
+    /// The output of `once` and of `load`.
     pub sink: K,
+    /// The ports of `serve`.
     pub ports: Vec<P>,
+    /// The disk of the store.
     pub disk: D,
     pub clock: C,
+    /// It keeps the turns of `serve` and of `load`.
     pub tape: G,
+    /// The settings file is read of these.
     pub texts: T,
+    /// The link of `relay` to the other server.
+    pub link: L,
+    /// Reports of how `serve` and `relay` go.
     pub notices: N,
 }
 
@@ -44,7 +52,10 @@ pub struct Options {
     pub events: Bytes,
     /// The address at which a server listens.
     pub listen: Bytes,
+    /// The host to which logs are relayed, if any is.
+    pub upstream: Option<Bytes>,
     pub ghost logs_is_text: { IsTrue (is_utf8 logs) },
     pub ghost events_is_text: { IsTrue (is_utf8 events) },
     pub ghost listen_is_text: { IsTrue (is_utf8 listen) },
+    pub ghost upstream_is_text: { IsTrue (option_map_or is_utf8 upstream true) },
 }

@@ -2,7 +2,7 @@
 
 ghost use Rattle.std.specs.Prelude.{◌≡◌, ◌≤◌, ◌⊎◌, ℕ, List, [], Option, Some, None, length, slice_get, Err, IfOk, IfErr, OnOk, unwrap_or};
 ghost use Rattle.lsv_args.specs.Reading as told;
-ghost use Rattle.lsv_args.specs.Reading.{Asked, IsInRange, Load, Once, Serve, asked_in};
+ghost use Rattle.lsv_args.specs.Reading.{Asked, IsInRange, Load, Once, Relay, Serve, asked_in};
 ghost use Rattle.lsv_conf.specs.Lines.{first_refused};
 ghost use Rattle.lsv_conf.specs.Settings.{settings_in};
 ghost use Rattle.lsv_words.specs.Causes.{HasRisen};
@@ -12,13 +12,15 @@ ghost use Rattle.lsv_post.specs.Ports.{IsUnopened};
 ghost use Rattle.lsv_serve.specs.Causes.{HasConfCause};
 ghost use Rattle.lsv_serve.specs.Complete.{OnceAs};
 ghost use Rattle.lsv_serve.specs.Load.{LoadsAs};
-ghost use Rattle.lsv_serve.specs.Program.{AsFound, Asks, lines_in, prompts_of, set_by};
+ghost use Rattle.lsv_serve.specs.Program.{AsFound, Asks, lines_in, prompts_of, set_by, upstream_of};
+ghost use Rattle.lsv_serve.specs.Relay.{RelaysAs, relay_of};
 ghost use Rattle.lsv_serve.specs.Serve.{ServesAs, server_of};
 ghost use Rattle.lsv_serve.specs.World.{world_of};
 
 use crate::load::serve_load;
 use crate::once::run_once;
 use crate::outside::{Kept, Options, Outside};
+use crate::relay::run_relay;
 use crate::serve::run_serve;
 use crate::status::Status;
 use crate::text::{are_texts, text_of};
@@ -26,7 +28,9 @@ use lsv_args::{ArgFault, Command, Opts, read_words};
 use lsv_base::{Bytes, Clock, List, Sink, Source, TextFault, Texts};
 use lsv_conf::{Conf, ConfFault, read_conf};
 use lsv_disk::Disk;
+use lsv_forward::RelayNotices;
 use lsv_hook::LineWriter;
+use lsv_link::Link;
 use lsv_load::a_load_sums_up_all_its_conversations;
 use lsv_mask::Search;
 use lsv_port::Port;
@@ -92,9 +96,12 @@ fn options_of(alloc: Global, conf: Conf) -> Options
     ensures logs { result.logs ≡ conf.iolog_dir }
     ensures events { result.events ≡ conf.path }
     ensures listen { result.listen ≡ conf.listen }
+    ensures upstream { result.upstream ≡ upstream_of (settings_in conf) }
 {
     let Conf {
         listen,
+        relay_host,
+        store_first,
         iolog_dir,
         log_passwords,
         format,
@@ -114,6 +121,7 @@ fn options_of(alloc: Global, conf: Conf) -> Options
         logs: iolog_dir,
         events: path,
         listen,
+        upstream: if store_first { relay_host } else { None },
     }
 }
 
@@ -126,6 +134,7 @@ fn once<
     C: Clock,
     G,
     T: Texts,
+    L,
     N,
     F: LineWriter + Drop,
     J: LineWriter + Drop,
@@ -133,7 +142,7 @@ fn once<
 >(
     alloc: Global,
     opts: &Opts,
-    out: &mut Outside<S, K, P, D, C, G, T, N>,
+    out: &mut Outside<S, K, P, D, C, G, T, L, N>,
     kept: Kept<F, J, H>,
 ) -> Status
     requires sudo { kept.sudo.kind ≡ kinds.Sudo }
@@ -144,6 +153,7 @@ fn once<
         (world_of ⟦<S as Source>⟧ ⟦<K as Sink>⟧ ⟦<D as Disk>⟧ out.new.source out.new.sink out.new.disk) result) }
     ensures unserved { (line : ℕ) → result ≡ Status.Conf line → (out.new.source ≡ out.old.source) × (out.new.sink ≡ out.old.sink) × (out.new.disk ≡ out.old.disk) × (out.new.clock ≡ out.old.clock) }
     ensures not_usage { result ≡ Status.Usage → ⊥ }
+    ensures beside { (out.new.ports ≡ out.old.ports) × (out.new.tape ≡ out.old.tape) × (out.new.link ≡ out.old.link) }
 {
     let found = match found_file(alloc, &mut out.texts, opts) {
         Ok(found) => found,
@@ -164,6 +174,7 @@ fn serve<
     C: Clock,
     G: Tape,
     T: Texts,
+    L,
     N: Notices,
     F: LineWriter + Drop,
     J: LineWriter + Drop,
@@ -171,9 +182,9 @@ fn serve<
 >(
     alloc: Global,
     opts: &Opts,
-    out: Outside<S, K, P, D, C, G, T, N>,
+    out: Outside<S, K, P, D, C, G, T, L, N>,
     kept: Kept<F, J, H>,
-) -> (Outside<S, K, P, D, C, G, T, N>, Status)
+) -> (Outside<S, K, P, D, C, G, T, L, N>, Status)
     requires sudo { kept.sudo.kind ≡ kinds.Sudo }
     requires json { kept.json.kind ≡ kinds.Json }
     requires fresh { D.tells → IsFresh 0 1 (D.view out.disk) }
@@ -184,7 +195,7 @@ fn serve<
         (server_of ⟦<P as Port>⟧ ⟦<D as Disk>⟧ ⟦<G as Tape>⟧ result.0.ports.items result.0.disk result.0.tape) result.1) }
     ensures unserved { (line : ℕ) → result.1 ≡ Status.Conf line → (result.0.source ≡ out.source) × (result.0.sink ≡ out.sink) × (result.0.disk ≡ out.disk) × (result.0.clock ≡ out.clock) }
     ensures not_usage { result.1 ≡ Status.Usage → ⊥ }
-    ensures beside { (result.0.source ≡ out.source) × (result.0.sink ≡ out.sink) }
+    ensures beside { (result.0.source ≡ out.source) × (result.0.sink ≡ out.sink) × (result.0.link ≡ out.link) }
 {
     let mut out = out;
     let found = match found_file(alloc, &mut out.texts, opts) {
@@ -206,6 +217,7 @@ fn load<
     C: Clock,
     G: Tape,
     T: Texts,
+    L,
     N,
     F: LineWriter + Drop,
     J: LineWriter + Drop,
@@ -214,9 +226,9 @@ fn load<
     alloc: Global,
     opts: &Opts,
     count: u32,
-    out: Outside<S, K, P, D, C, G, T, N>,
+    out: Outside<S, K, P, D, C, G, T, L, N>,
     kept: Kept<F, J, H>,
-) -> (Outside<S, K, P, D, C, G, T, N>, Status)
+) -> (Outside<S, K, P, D, C, G, T, L, N>, Status)
     requires sudo { kept.sudo.kind ≡ kinds.Sudo }
     requires json { kept.json.kind ≡ kinds.Json }
     requires first { 1 ≤ count }
@@ -228,6 +240,7 @@ fn load<
         out.disk result.0.disk (G.turns out.tape) (G.turns result.0.tape) result.1) }
     ensures unserved { (line : ℕ) → result.1 ≡ Status.Conf line → (result.0.source ≡ out.source) × (result.0.sink ≡ out.sink) × (result.0.disk ≡ out.disk) × (result.0.clock ≡ out.clock) }
     ensures not_usage { result.1 ≡ Status.Usage → ⊥ }
+    ensures beside { (result.0.source ≡ out.source) × (result.0.ports ≡ out.ports) × (result.0.link ≡ out.link) }
 {
     a_load_sums_up_all_its_conversations::<D, G>();
     let mut out = out;
@@ -241,10 +254,32 @@ fn load<
     }
 }
 
-/// `sudo_logsrvd`, behind its name. The command `once` serves one connection, from the source to the sink; `serve` those that come
-/// at the ports; `load` generated ones, whose summary goes to the sink. They go by the settings of their file; where there is no
-/// such file these are the defaults. Keys that the settings
-/// pass over are not told by this call.
+/// The command `relay`, by the settings of its file.
+fn relay<S, K, P, D: Disk, C, G, T: Texts, L: Link, N: RelayNotices>(
+    alloc: Global,
+    opts: &Opts,
+    out: &mut Outside<S, K, P, D, C, G, T, L, N>,
+) -> Status
+    ensures relays { AsFound T.tells opts.now.conf (T.texts out.old.texts) (λ found. RelaysAs D.view found (T.faults out.old.texts) (T.faults out.new.texts)
+        (relay_of ⟦<D as Disk>⟧ ⟦<L as Link>⟧ out.old.disk out.old.link) (relay_of ⟦<D as Disk>⟧ ⟦<L as Link>⟧ out.new.disk out.new.link) result) }
+    ensures unserved { (line : ℕ) → result ≡ Status.Conf line → (out.new.source ≡ out.old.source) × (out.new.sink ≡ out.old.sink) × (out.new.disk ≡ out.old.disk) × (out.new.clock ≡ out.old.clock) }
+    ensures not_usage { result ≡ Status.Usage → ⊥ }
+    ensures beside { (out.new.source ≡ out.old.source) × (out.new.sink ≡ out.old.sink) × (out.new.ports ≡ out.old.ports) × (out.new.clock ≡ out.old.clock) × (out.new.tape ≡ out.old.tape) }
+{
+    let found = match found_file(alloc, &mut out.texts, opts) {
+        Ok(found) => found,
+        Err(status) => return status,
+    };
+    match conf_in(alloc, &found) {
+        Ok(conf) => run_relay(alloc, &options_of(alloc, conf), out),
+        Err(status) => status,
+    }
+}
+
+/// `sudo_logsrvd`, after its name. The command `once` serves one connection, from the source to the sink; `serve` those that come
+/// at the ports; `load` generated ones, whose summary goes to the sink. The command `relay` sends complete logs to another server.
+/// They go by the settings of their file; if it doesn't exist these are the defaults. Keys that the settings pass over are not
+/// reported by this call.
 pub fn logsrvd<
     S: Source,
     K: Sink,
@@ -253,16 +288,17 @@ pub fn logsrvd<
     C: Clock,
     G: Tape,
     T: Texts,
-    N: Notices,
+    L: Link,
+    N: Notices + RelayNotices,
     F: LineWriter + Drop,
     J: LineWriter + Drop,
     H: Search + Drop,
 >(
     alloc: Global,
     words: &List<Bytes>,
-    out: Outside<S, K, P, D, C, G, T, N>,
+    out: Outside<S, K, P, D, C, G, T, L, N>,
     kept: Kept<F, J, H>,
-) -> (Outside<S, K, P, D, C, G, T, N>, Status)
+) -> (Outside<S, K, P, D, C, G, T, L, N>, Status)
     requires sudo { kept.sudo.kind ≡ kinds.Sudo }
     requires json { kept.json.kind ≡ kinds.Json }
     requires fresh { D.tells → IsFresh 0 1 (D.view out.disk) }
@@ -282,7 +318,12 @@ pub fn logsrvd<
         (world_of ⟦<S as Source>⟧ ⟦<K as Sink>⟧ ⟦<D as Disk>⟧ out.source out.sink out.disk)
         (world_of ⟦<S as Source>⟧ ⟦<K as Sink>⟧ ⟦<D as Disk>⟧ result.0.source result.0.sink result.0.disk)
         out.disk result.0.disk (G.turns out.tape) (G.turns result.0.tape) result.1) }
-    ensures beside { (o : told.Options) → Asks words.now (Serve o) → (result.0.source ≡ out.source) × (result.0.sink ≡ out.sink) }
+    ensures relays { (o : told.Options) → Asks words.now (Relay o) → AsFound T.tells o.conf (T.texts out.texts) (λ found. RelaysAs D.view found (T.faults out.texts) (T.faults result.0.texts)
+        (relay_of ⟦<D as Disk>⟧ ⟦<L as Link>⟧ out.disk out.link) (relay_of ⟦<D as Disk>⟧ ⟦<L as Link>⟧ result.0.disk result.0.link) result.1) }
+    ensures beside_once { (o : told.Options) → Asks words.now (Once o) → (result.0.ports ≡ out.ports) × (result.0.tape ≡ out.tape) × (result.0.link ≡ out.link) }
+    ensures beside_serve { (o : told.Options) → Asks words.now (Serve o) → (result.0.source ≡ out.source) × (result.0.sink ≡ out.sink) × (result.0.link ≡ out.link) }
+    ensures beside_load { (o : told.Options) (count : ℕ) → Asks words.now (Load o count) → (result.0.source ≡ out.source) × (result.0.ports ≡ out.ports) × (result.0.link ≡ out.link) }
+    ensures beside_relay { (o : told.Options) → Asks words.now (Relay o) → (result.0.source ≡ out.source) × (result.0.sink ≡ out.sink) × (result.0.ports ≡ out.ports) × (result.0.clock ≡ out.clock) × (result.0.tape ≡ out.tape) }
 {
     let command = match command_of(alloc, words) {
         Ok(command) => command,
@@ -297,6 +338,10 @@ pub fn logsrvd<
         }
         Command::Serve(opts) => serve(alloc, &opts, out, kept),
         Command::Load(opts, count) => load(alloc, &opts, count, out, kept),
-        Command::Relay(_) => (out, Status::Usage),
+        Command::Relay(opts) => {
+            let mut out = out;
+            let status = relay(alloc, &opts, &mut out);
+            (out, status)
+        }
     }
 }

@@ -85,15 +85,16 @@ fn serve_outside<
     C: Clock,
     G: Tape,
     T,
+    L,
     N: Notices,
     F: LineWriter + Drop,
     H: Search + Drop,
 >(
     alloc: Global,
-    out: Outside<S, K, P, D, C, G, T, N>,
+    out: Outside<S, K, P, D, C, G, T, L, N>,
     plan: Plan<F, H>,
     site: &Site<'_>,
-) -> (Outside<S, K, P, D, C, G, T, N>, End)
+) -> (Outside<S, K, P, D, C, G, T, L, N>, End)
     requires fresh { D.tells → IsFresh 0 1 (D.view out.disk) }
     requires few { length out.ports.items ≤ 64 }
     requires idle { P.tells → (i : ℕ) (port : P) → slice_get out.ports.items i ≡ Some port → IsUnopened (P.state port) }
@@ -102,7 +103,7 @@ fn serve_outside<
         (server_of ⟦<P as Port>⟧ ⟦<D as Disk>⟧ ⟦<G as Tape>⟧ result.0.ports.items result.0.disk result.0.tape) result.1 }
     ensures cause { HasEndCause D.tells (D.view out.disk) (D.view result.0.disk) result.1 }
     ensures places { D.tells → (D.view result.0.disk).places ≡ (D.view out.disk).places }
-    ensures beside { (result.0.source ≡ out.source) × (result.0.sink ≡ out.sink) × (result.0.texts ≡ out.texts) }
+    ensures beside { (result.0.source ≡ out.source) × (result.0.sink ≡ out.sink) × (result.0.texts ≡ out.texts) × (result.0.link ≡ out.link) }
 {
     let Outside {
         source,
@@ -112,6 +113,7 @@ fn serve_outside<
         clock,
         tape,
         texts,
+        link,
         mut notices,
     } = out;
     let bay = Bay { disk, clock, tape };
@@ -125,6 +127,7 @@ fn serve_outside<
         clock,
         tape,
         texts,
+        link,
         notices,
     };
     (out, end)
@@ -139,6 +142,7 @@ fn serve_by<
     C: Clock,
     G: Tape,
     T,
+    L,
     N: Notices,
     F: LineWriter + Drop,
     H: Search + Drop,
@@ -146,10 +150,10 @@ fn serve_by<
     alloc: Global,
     options: Options,
     stop_after: Option<u32>,
-    out: Outside<S, K, P, D, C, G, T, N>,
+    out: Outside<S, K, P, D, C, G, T, L, N>,
     formatter: Formatter<F>,
     prompt: Prompt<H>,
-) -> (Outside<S, K, P, D, C, G, T, N>, Status)
+) -> (Outside<S, K, P, D, C, G, T, L, N>, Status)
     requires fresh { D.tells → IsFresh 0 1 (D.view out.disk) }
     requires few { length out.ports.items ≤ 64 }
     requires idle { P.tells → (i : ℕ) (port : P) → slice_get out.ports.items i ≡ Some port → IsUnopened (P.state port) }
@@ -157,7 +161,7 @@ fn serve_by<
         (server_of ⟦<P as Port>⟧ ⟦<D as Disk>⟧ ⟦<G as Tape>⟧ out.ports.items out.disk out.tape)
         (server_of ⟦<P as Port>⟧ ⟦<D as Disk>⟧ ⟦<G as Tape>⟧ result.0.ports.items result.0.disk result.0.tape) result.1 }
     ensures places { D.tells → HasPlaces options.logs options.events (D.view result.0.disk) }
-    ensures beside { (result.0.source ≡ out.source) × (result.0.sink ≡ out.sink) × (result.0.texts ≡ out.texts) }
+    ensures beside { (result.0.source ≡ out.source) × (result.0.sink ≡ out.sink) × (result.0.texts ≡ out.texts) × (result.0.link ≡ out.link) }
 {
     let mut out = out;
     give_places(&mut out.disk, &options);
@@ -195,6 +199,7 @@ pub fn run_serve<
     C: Clock,
     G: Tape,
     T,
+    L,
     N: Notices,
     F: LineWriter + Drop,
     J: LineWriter + Drop,
@@ -203,9 +208,9 @@ pub fn run_serve<
     alloc: Global,
     options: Options,
     stop_after: Option<u32>,
-    out: Outside<S, K, P, D, C, G, T, N>,
+    out: Outside<S, K, P, D, C, G, T, L, N>,
     kept: Kept<F, J, H>,
-) -> (Outside<S, K, P, D, C, G, T, N>, Status)
+) -> (Outside<S, K, P, D, C, G, T, L, N>, Status)
     requires sudo { kept.sudo.kind ≡ kinds.Sudo }
     requires json { kept.json.kind ≡ kinds.Json }
     requires fresh { D.tells → IsFresh 0 1 (D.view out.disk) }
@@ -215,7 +220,7 @@ pub fn run_serve<
         (server_of ⟦<P as Port>⟧ ⟦<D as Disk>⟧ ⟦<G as Tape>⟧ out.ports.items out.disk out.tape)
         (server_of ⟦<P as Port>⟧ ⟦<D as Disk>⟧ ⟦<G as Tape>⟧ result.0.ports.items result.0.disk result.0.tape) result.1 }
     ensures places { D.tells → HasPlaces options.logs options.events (D.view result.0.disk) }
-    ensures beside { (result.0.source ≡ out.source) × (result.0.sink ≡ out.sink) × (result.0.texts ≡ out.texts) }
+    ensures beside { (result.0.source ≡ out.source) × (result.0.sink ≡ out.sink) × (result.0.texts ≡ out.texts) × (result.0.link ≡ out.link) }
 {
     match options.form {
         Kind::Sudo => serve_by(alloc, options, stop_after, out, kept.sudo, kept.prompt),

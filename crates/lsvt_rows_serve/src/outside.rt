@@ -1,6 +1,7 @@
 //! A clock that stands still, and who keeps what a server tells at its start.
 
-use lsv_base::{Bytes, Clock, TimeSpec};
+use lsv_base::{Bytes, Clock, LogNo, TimeSpec};
+use lsv_forward::{Outcome, RelayNotices};
 use lsv_server::{Notices, Site};
 use std::alloc::Global;
 
@@ -49,4 +50,10 @@ impl Notices for Heard {
             last,
         });
     }
+}
+
+impl RelayNotices for Heard {
+    fn relaying(&mut self, _number: LogNo, _last: u32) {}
+
+    fn relayed(&mut self, _number: LogNo, _outcome: &Outcome) {}
 }

@@ -8,6 +8,7 @@ use crate::show::show_all;
 use anyhow::{Result, anyhow};
 use lsv_base::{Bytes, List, MemSink, MemSource, MemTexts, NoMem, Text};
 use lsv_hook::{Formatter, JsonLines, SudoLines};
+use lsv_link::MemLink;
 use lsv_mask::{Prompt, TextSearch};
 use lsv_port::{MemPort, Step};
 use lsv_serve::{Kept, Outside, logsrvd};
@@ -28,6 +29,7 @@ pub type MemOutside = Outside<
     Still,
     MemTape,
     MemTexts,
+    MemLink,
     Heard,
 >;
 
@@ -114,6 +116,7 @@ fn outside(alloc: Global, world: &mut World, ports: Vec<Watched>) -> Result<MemO
         clock: Still,
         tape: MemTape::new(alloc),
         texts,
+        link: MemLink::new(alloc, Vec::new(alloc), Vec::new(alloc), Vec::new(alloc)),
         notices: Heard {
             alloc,
             told: Vec::new(alloc),

@@ -3,11 +3,13 @@
 use lsv_conf::Conf;
 use lsv_disk::Owner;
 use lsv_keeper::StoreFault;
+use lsv_serve::Status;
 use std::str;
 
 /// The forms of the commands that are built.
 pub fn show_forms(rt: &HostRuntime) {
     let _ = eprintln!(rt; "usage: sudo_logsrvd serve [-f FILE] [--lanes N] [--stop-after N]");
+    let _ = eprintln!(rt; "       sudo_logsrvd relay [-f FILE]");
     let _ = eprintln!(rt; "       sudo_logsrvd once [-f FILE]");
     let _ = eprintln!(rt; "       sudo_logsrvd load N [-f FILE]");
 }
@@ -35,6 +37,15 @@ pub fn advise(rt: &HostRuntime, fault: StoreFault, conf: &Conf) {
             );
         }
         StoreFault::Device(_) | StoreFault::NoMem => {}
+    }
+}
+
+/// Says what to do about a relay that has nobody to send to.
+pub fn advise_relay(rt: &HostRuntime, status: Status) {
+    if status == Status::NoUpstream {
+        let _ = eprintln!(rt;
+            "sudo_logsrvd: nothing is relayed: in [relay] of the settings, relay_host names the other server, and store_first = true asks for it"
+        );
     }
 }
 

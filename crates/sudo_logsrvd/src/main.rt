@@ -6,17 +6,22 @@ ghost use Rattle.std.specs.Prelude.{◌≡◌, length, IfOk};
 mod advice;
 mod descriptors;
 mod herald;
+mod relays;
 mod told;
 mod usage;
 
-use crate::advice::{advise, show_forms};
+use crate::advice::{advise, advise_relay, show_forms};
 use crate::herald::Herald;
 use crate::told::ToldTexts;
 use lsv_base::{Bytes, List};
+use lsv_disk::Disk;
 use lsv_hook::Formatter;
 use lsv_mask::{Prompt, TextSearch};
-use lsv_real::{FileDisk, FileTexts, MioPort, StdSink, StdSource, WallClock, open_standard};
+use lsv_real::{
+    FileDisk, FileTexts, MioPort, RelayDisk, StdSink, StdSource, WallClock, open_standard,
+};
 use lsv_serve::{Kept, Outside, Status, logsrvd};
+use lsv_tcp::TcpLink;
 use lsv_turns::NoTape;
 use std::alloc::Global;
 use std::env;
@@ -60,11 +65,36 @@ fn run(rt: HostRuntime) -> Status {
     let alloc = rt.alloc();
     let words = match words(&rt, alloc) {
         Ok(words) => words,
-        Err(status) => return status,
+        Err(status) => {
+            if status == Status::Usage {
+                let _ = eprintln!(rt; "sudo_logsrvd: a word isn't UTF-8");
+            }
+            return status;
+        }
     };
     if let Err(status) = descriptors::check(&rt, &words) {
         return status;
     }
+    if is_relay(&words) {
+        run_over(rt, &words, RelayDisk::new(rt, "sudo_logsrvd"))
+    } else {
+        run_over(rt, &words, FileDisk::new(rt, "sudo_logsrvd"))
+    }
+}
+
+/// Whether the first of the words is the command `relay`.
+fn is_relay(words: &List<Bytes>) -> bool {
+    match words.as_slice() {
+        [first, ..] => first.as_slice() == b"relay".as_slice(),
+        [] => false,
+    }
+}
+
+/// Runs what the words ask for over this disk.
+fn run_over<D: Disk + Drop>(rt: HostRuntime, words: &List<Bytes>, disk: D) -> Status
+    requires { D.tells → ⊥ }
+{
+    let alloc = rt.alloc();
     let ports = match ports(rt) {
         Ok(ports) => ports,
         Err(status) => return status,
@@ -73,7 +103,7 @@ fn run(rt: HostRuntime) -> Status {
         source: StdSource::new(rt),
         sink: StdSink::new(rt),
         ports,
-        disk: FileDisk::new(rt, "sudo_logsrvd"),
+        disk,
         clock: WallClock::new(rt),
         tape: NoTape,
         texts: ToldTexts {
@@ -81,6 +111,7 @@ fn run(rt: HostRuntime) -> Status {
             files: FileTexts::new(rt, "sudo_logsrvd"),
             conf: None,
         },
+        link: TcpLink::new(rt, rt, "sudo_logsrvd"),
         notices: Herald { rt },
     };
     let kept = Kept {
@@ -88,12 +119,13 @@ fn run(rt: HostRuntime) -> Status {
         json: Formatter::json(),
         prompt: Prompt::new(TextSearch),
     };
-    let (out, status) = logsrvd(alloc, &words, out, kept);
+    let (out, status) = logsrvd(alloc, words, out, kept);
     if let (Status::Store(fault), Some(conf)) = (status, &out.texts.conf) {
         advise(&rt, fault, conf);
     }
+    advise_relay(&rt, status);
     if status == Status::Usage {
-        usage::say(&rt, &words);
+        usage::say(&rt, words);
     }
     status
 }

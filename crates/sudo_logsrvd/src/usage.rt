@@ -35,11 +35,11 @@ const MOST_SERVED: i64 = u32::MAX as i64;
 pub fn say(rt: &HostRuntime, words: &List<Bytes>) {
     match trouble_in(words.as_slice()) {
         Some(Trouble::NoCommand) => {
-            let _ = eprintln!(rt; "sudo_logsrvd: a command is missing: serve, once or load");
+            let _ = eprintln!(rt; "sudo_logsrvd: a command is missing: serve, relay, once or load");
         }
         Some(Trouble::OtherCommand(word)) => {
             let _ = eprintln!(rt;
-                "sudo_logsrvd: {word}: no such command; there are serve, once and load; see sudo_logsrvd(8)"
+                "sudo_logsrvd: {word}: no such command; there are serve, relay, once and load; see sudo_logsrvd(8)"
             );
         }
         Some(Trouble::Unknown(word)) => {
@@ -98,7 +98,7 @@ fn trouble_in(words: &[Bytes]) -> Option<Trouble<'_>> {
         return Some(Trouble::NoCommand);
     };
     let command = text_of(first);
-    if command != "serve" && command != "once" && command != "load" {
+    if command != "serve" && command != "relay" && command != "once" && command != "load" {
         return Some(Trouble::OtherCommand(command));
     }
     let mut walk = Walk {

@@ -1,5 +1,6 @@
 use Rattle.lsv_args.proofs.FormLemmas.{serve_asked, serve_taken}
 use Rattle.lsv_args.proofs.OtherForms.{load_asked, load_taken, once_asked, once_taken}
+use Rattle.lsv_args.proofs.RelayForms.{relay_asked, relay_taken}
 use Rattle.lsv_args.proofs.forms.options_stand_in_any_order.Goals as goal
 
 pub returns-clause-taken : goal.returns-clause-taken
@@ -19,3 +20,9 @@ returns-clause-load_taken c = load_taken
 
 pub returns-clause-load_asked : goal.returns-clause-load_asked
 returns-clause-load_asked c = load_asked
+
+pub returns-clause-relay_taken : goal.returns-clause-relay_taken
+returns-clause-relay_taken c = relay_taken
+
+pub returns-clause-relay_asked : goal.returns-clause-relay_asked
+returns-clause-relay_asked c = relay_asked

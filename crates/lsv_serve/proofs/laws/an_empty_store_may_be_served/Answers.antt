@@ -1,4 +1,4 @@
-use Rattle.std.proofs.Common.{◌≡◌, ℕ, refl, ◌∙◌, ap, inr, None}
+use Rattle.std.proofs.Common.{◌≡◌, refl, ap, inr, None}
 use Rattle.std.specs.Option.{option_map}
 use Rattle.lsv_disk.specs.View.{Image}
 use Rattle.lsv_disk.specs.declared.file.FileId.{FileId}

@@ -1,10 +1,12 @@
-use Rattle.std.proofs.Common.{◌≡◌, ◌∙◌, refl, ap, inl, List, ℕ, Option, Err}
-use Rattle.lsv_args.specs.Reading.{Load, Once, Serve}
+use Rattle.std.proofs.Common.{◌∙◌, refl, ap, inl, List, ℕ, Option, Err}
+use Rattle.lsv_args.specs.Reading.{Load, Once, Relay, Serve}
 use Rattle.lsv_serve.specs.declared.status.Status.TheVariants as status
+use Rattle.lsv_serve.specs.Relay.{RelayWorld, relay_of}
 use Rattle.lsv_serve.specs.Serve.{ServerWorld, server_of}
 use Rattle.lsv_serve.specs.World.{World, world_of}
 use Rattle.lsv_serve.proofs.LoadLemmas.{loads_unread}
 use Rattle.lsv_serve.proofs.OnceLemmas.{once_unread}
+use Rattle.lsv_serve.proofs.RelayLemmas.{relays_unread}
 use Rattle.lsv_serve.proofs.ServeLemmas.{serves_unread}
 use Rattle.lsv_serve.proofs.program.logsrvd.Goals as goal
 
@@ -52,3 +54,22 @@ returns-in-Load-clause-other_words g c = λ none. absurd (none _ c.in-Ok.ensures
 
 pub returns-in-Load-clause-unchanged : goal.returns-in-Load-clause-unchanged
 returns-in-Load-clause-unchanged g c = λ none. absurd (none _ c.in-Ok.ensures.ok)
+
+pub returns-in-Err-Usage-clause-relays : goal.returns-in-Err-Usage-clause-relays
+returns-in-Err-Usage-clause-relays g c = λ o asks. absurd (c.command_of.ensures.usage (c.in-Err-Usage.is ∙ ap Err c.in-Err-Usage.field-0-is) (Relay o) asks)
+
+pub returns-in-Err-NoMem-clause-relays : goal.returns-in-Err-NoMem-clause-relays
+returns-in-Err-NoMem-clause-relays g c = λ o asks.
+    let w : RelayWorld = relay_of g.D.Disk g.L.Link c.args.out.disk c.args.out.link in
+    let found : Option (List ℕ) = g.T.Texts.texts c.args.out.texts o.conf in (
+      found,
+      λ told. refl,
+      relays_unread g.D.Disk.view found (g.T.Texts.faults c.args.out.texts) (g.T.Texts.faults c.args.out.texts) w status.NoMem
+          (λ told. record { reads_itself = g.met.D.Disk.reads_itself told c.args.out.disk; is_now = g.met.D.Disk.is_now told c.args.out.disk; only_now = g.met.D.Disk.only_now told c.args.out.disk }) (inl refl),
+    )
+
+pub returns-in-Relay-clause-other_words : goal.returns-in-Relay-clause-other_words
+returns-in-Relay-clause-other_words g c = λ none. absurd (none _ c.in-Ok.ensures.ok)
+
+pub returns-in-Relay-clause-unchanged : goal.returns-in-Relay-clause-unchanged
+returns-in-Relay-clause-unchanged g c = λ none. absurd (none _ c.in-Ok.ensures.ok)

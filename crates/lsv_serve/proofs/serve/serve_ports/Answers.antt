@@ -1,4 +1,4 @@
-use Rattle.std.proofs.Common.{◌≡◌, [], List, ℕ, map, length, sym, ap, subst, ◌∙◌, arith}
+use Rattle.std.proofs.Common.{◌≡◌, List, map, length, sym, ap, subst, ◌∙◌, arith}
 use Rattle.lsv_post.specs.Ports.{view_by}
 use Rattle.lsv_post.specs.declared.post.WorkerPost.{WorkerPost}
 use Rattle.lsv_reactor.specs.Links.{PortView, ServesPorts}

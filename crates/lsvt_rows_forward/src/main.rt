@@ -1,0 +1,67 @@
+//! Reads scripts from standard input, a line each, and prints what `relay` makes of them over a store and a link in memory.
+//! README.md says which lines there are.
+#![tactic(auto)]
+
+mod outside;
+mod run;
+mod show;
+
+use crate::run::World;
+use anyhow::{Result, anyhow};
+use lsv_base::Bytes;
+use lsv_link::Cut;
+use std::alloc::Global;
+use std::io::{BufRead, BufReader};
+use std::process::ExitCode;
+
+/// The bytes of digits, of which there may be none.
+fn bytes_of(alloc: Global, digits: &str) -> Result<Bytes> {
+    Ok(Bytes::from_vec(hex::decode(alloc, digits)?))
+}
+
+/// A connection more of the link: how its input is cut, and the bytes that it has.
+fn add_answer(alloc: Global, world: &mut World, words: &str) -> Result<()> {
+    let (how, rest) = words.split_once(' ').ok_or(anyhow!("a cut"))?;
+    let (most, digits) = rest.split_once(' ').unwrap_or((rest, ""));
+    let most = most.parse::<u64>()?;
+    let cut = match how {
+        "end" => Cut::End(most),
+        "silent" => Cut::Silent(most),
+        _ => return Err(anyhow!("end or silent")),
+    };
+    world.add_answer(bytes_of(alloc, digits)?, cut)
+}
+
+/// Does what a line says. One of another form is printed as it is.
+fn answer(rt: &HostRuntime, world: &mut World, line: &str) -> Result<()> {
+    let alloc = rt.alloc();
+    let (word, rest) = line.split_once(' ').unwrap_or((line, ""));
+    match word {
+        "store" => *world = World::new(alloc)?,
+        "conf" => world.add_line(alloc, rest)?,
+        "session" => world.add_piece(bytes_of(alloc, rest)?)?,
+        "answer" => add_answer(alloc, world, rest)?,
+        "fail" => world.fail(rest.parse::<u64>()?)?,
+        "run" => run::show(rt, world, rest)?,
+        _ => println!(rt; "{line}")?,
+    }
+    Ok(())
+}
+
+fn answer_all(rt: &HostRuntime) -> Result<()> {
+    let mut world = World::new(rt.alloc())?;
+    for line in BufReader::new(rt.alloc(), rt.reader())?.lines(rt.alloc()) {
+        answer(rt, &mut world, line?.as_str())?;
+    }
+    Ok(())
+}
+
+fn main(rt: HostRuntime) -> ExitCode {
+    match answer_all(&rt) {
+        Ok(()) => ExitCode::SUCCESS,
+        Err(e) => {
+            let _ = eprintln!(rt; "lsvt_rows_forward: {e}");
+            ExitCode::FAILURE
+        }
+    }
+}

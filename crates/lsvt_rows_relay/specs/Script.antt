@@ -1,0 +1,20 @@
+-- What the speaker of the script makes of a message.
+use Rattle.std.specs.Prelude.{ℕ, length, nat_lt, Bool, false, not, Option, Some, None, if◌then◌else◌}
+use Rattle.lsv_msg.specs.declared.messages.ServerMessage.{ServerMessage}
+use Rattle.lsv_msg.specs.declared.messages.ServerMessage.TheVariants as server
+use Rattle.lsv_dialogue.specs.declared.ends.Judged.{Judged}
+use Rattle.lsv_dialogue.specs.declared.ends.Judged.TheVariants as judged
+use Rattle.lsvt_rows_relay.specs.declared.scripted.Scripted.{Scripted}
+
+-- an identifier above eight bytes is too long, and all else is taken
+abbrev pub judged_of : ServerMessage → Judged
+judged_of (server.Hello m) = judged.Takes
+judged_of (server.CommitPoint t) = judged.Takes
+judged_of (server.LogId id) = if nat_lt 8 (length id) then judged.LongId (length id) else judged.Takes
+judged_of (server.Error text) = judged.Takes
+judged_of (server.Abort text) = judged.Takes
+
+-- so many messages were heard, if it is over at all
+abbrev pub is_over : ℕ → Option ℕ → Bool
+is_over heard None = false
+is_over heard (Some count) = not (nat_lt heard count)
