@@ -1,0 +1,10 @@
+pub mod Batches
+pub mod Events
+pub mod Opened
+pub mod Running
+pub mod Stepping
+pub mod Stored
+pub mod Talking
+pub mod Telling
+pub mod Unsent
+pub mod Words

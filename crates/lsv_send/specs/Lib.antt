@@ -1,0 +1,15 @@
+pub mod Begun
+pub mod Disk
+pub mod Faults
+pub mod Handing
+pub mod Judging
+pub mod Lines
+pub mod Opening
+pub mod Plan
+pub mod Print
+pub mod Reached
+pub mod Ready
+pub mod Sending
+pub mod Status
+pub mod Talks
+pub mod Words

@@ -1,0 +1,345 @@
+//! What is handed out of a log, and what the server's messages change.
+ghost use Rattle.std.specs.Prelude.{◌≡◌, ◌≢◌, ◌↔◌, ◌++◌, ◌||◌, [], true, false, Err, None, IfOk, IfErr, OnOk, IsTrue, List};
+ghost use Rattle.lsv_base.specs.Outside.{HasCause};
+ghost use Rattle.lsv_disk.specs.Throughout.{OnlyReads};
+ghost use Rattle.lsv_disk.specs.View.{HasOwnCause};
+ghost use Rattle.lsv_disk.specs.declared.file.Part.{Part};
+ghost use Rattle.lsv_disk.specs.declared.file.Part.TheVariants as parts;
+ghost use Rattle.lsv_iolog.specs.Faults.{IsNextFault};
+ghost use Rattle.lsv_iolog.specs.Recovered.{IsOfLog};
+ghost use Rattle.lsv_iolog.specs.declared.fault.LogFault.TheVariants as logs;
+ghost use Rattle.lsv_dialogue.specs.Events.{Event, all_said};
+ghost use Rattle.lsv_send.specs.Judging.{hears, hears_late, is_done, is_over, is_silent, judged, judged_id, judged_point};
+ghost use Rattle.lsv_send.specs.Lines.{line_of};
+ghost use Rattle.lsv_transcript.specs.Transcript.{is_id};
+ghost use Rattle.lsv_send.specs.Print.{IsTakeFault, PrintsBy};
+ghost use Rattle.lsv_send.specs.Faults.{IsStuck, LacksExit};
+ghost use Rattle.lsv_send.specs.Handing.{CanRecord, IsExitBy, IsPast, Source};
+ghost use Rattle.lsv_send.specs.Reached.{commits, is_point};
+ghost use Rattle.lsv_send.specs.Talks.{Ends, HasSpoken, IsOf, KeepsStart, Told, ended_by, most_of, start_at};
+ghost use Rattle.lsv_send.specs.declared.fault.SendFault.TheVariants as faults;
+
+use crate::fault::SendFault;
+use crate::messages::ending;
+use crate::print::print;
+use lsv_base::{List, Point, Sink};
+use lsv_disk::Disk;
+use lsv_info::Exit;
+use lsv_iolog::{LogFault, LogView};
+use lsv_msg::{ClientMessage, ServerMessage};
+use lsv_transcript::next_messages;
+use std::alloc::Global;
+use std::mem;
+
+/// No identifier of a server is longer.
+const LONGEST_ID: usize = 4_096;
+
+/// At most this many messages are handed out at once.
+const MOST: usize = 16;
+
+/// How far a log was handed out.
+#[derive(Clone, Copy, Debug, PartialEq, Eq)]
+pub enum Place {
+    /// Nothing was.
+    Opening,
+    /// The opening was, and an identifier of the server is waited for.
+    Waiting,
+    /// The opening was, and the records so far.
+    Records,
+    /// All was, by the last answer.
+    Closing,
+    /// All was, by an earlier answer.
+    Over,
+}
+
+/// Hands out a log. It holds one batch of messages at most.
+#[derive(Drop)]
+pub struct Sender {
+    pub alloc: Global,
+    pub log: LogView,
+    /// What is handed out first.
+    pub opening: List<ClientMessage>,
+    /// The place after the opening.
+    pub begins: Place,
+    /// The elapsed time up to which records are handed out, if there is one; then no exit is.
+    pub stop: Option<Point>,
+    pub place: Place,
+    /// The elapsed time of the records that were handed out or passed over, in nanoseconds.
+    pub sent: u64,
+    /// Whether an identifier of the server came.
+    pub known: bool,
+    /// Whether a record or the exit was handed out.
+    pub more: bool,
+    /// Whether a commit point at `sent` came after the last message that was handed out.
+    pub reached: bool,
+}
+
+impl Sender {
+    /// Whether all that was waited for came: the last commit point, or, if neither a record nor an exit was sent, the
+    /// identifier.
+    pub fn is_over(&self) -> bool
+        ensures { result ≡ is_over self.now }
+    {
+        self.place == Place::Over && (!self.more || self.reached)
+    }
+
+    /// Prints the line of a message, and takes it, unless it can't be of a server that has what was sent.
+    pub fn take<K: Sink>(&mut self, sink: &mut K, m: &ServerMessage) -> Result<(), SendFault>
+        ensures ok { OnOk result ((judged self.old m.now ≡ None) × (self.new ≡ hears m.now self.old)) }
+        ensures put { K.tells → OnOk result (K.put sink.new ≡ K.put sink.old ++ line_of m.now) }
+        ensures some { K.tells → IfErr result (λ e. PrintsBy e (line_of m.now) (K.put sink.old) (K.put sink.new)) }
+        ensures fault { IfErr result (IsTakeFault (judged self.old m.now)) }
+        ensures cause { HasCause (result ≡ Err faults.Sink) (K.faults sink.old) (K.faults sink.new) }
+    {
+        self.show(sink, m)?;
+        self.hear(m);
+        Ok(())
+    }
+
+    /// Does so with a message that comes too late for an answer: a commit point isn't the one that is waited for then.
+    pub fn take_late<K: Sink>(&mut self, sink: &mut K, m: &ServerMessage) -> Result<(), SendFault>
+        ensures ok { OnOk result ((judged self.old m.now ≡ None) × (self.new ≡ hears_late m.now self.old)) }
+        ensures put { K.tells → OnOk result (K.put sink.new ≡ K.put sink.old ++ line_of m.now) }
+        ensures some { K.tells → IfErr result (λ e. PrintsBy e (line_of m.now) (K.put sink.old) (K.put sink.new)) }
+        ensures fault { IfErr result (IsTakeFault (judged self.old m.now)) }
+        ensures cause { HasCause (result ≡ Err faults.Sink) (K.faults sink.old) (K.faults sink.new) }
+    {
+        self.show(sink, m)?;
+        self.known = self.known || is_id(m);
+        Ok(())
+    }
+
+    /// Prints the line of a message, and judges it.
+    fn show<K: Sink>(&self, sink: &mut K, m: &ServerMessage) -> Result<(), SendFault>
+        ensures ok { OnOk result (judged self.now m.now ≡ None) }
+        ensures put { K.tells → OnOk result (K.put sink.new ≡ K.put sink.old ++ line_of m.now) }
+        ensures some { K.tells → IfErr result (λ e. PrintsBy e (line_of m.now) (K.put sink.old) (K.put sink.new)) }
+        ensures fault { IfErr result (IsTakeFault (judged self.now m.now)) }
+        ensures cause { HasCause (result ≡ Err faults.Sink) (K.faults sink.old) (K.faults sink.new) }
+    {
+        print(self.alloc, sink, m)?;
+        match self.judge(m) {
+            Some(fault) => Err(fault),
+            None => Ok(()),
+        }
+    }
+
+    /// Why a message isn't taken, if it isn't.
+    fn judge(&self, m: &ServerMessage) -> Option<SendFault>
+        ensures { result ≡ judged self.now m.now }
+    {
+        if self.is_over() {
+            return None;
+        }
+        match m {
+            ServerMessage::LogId(id) => judge_id(id.as_slice()),
+            ServerMessage::CommitPoint(time) => judge_point(self.sent, time.point()),
+            ServerMessage::Hello(_) | ServerMessage::Error(_) | ServerMessage::Abort(_) => None,
+        }
+    }
+
+    /// Takes a message.
+    fn hear(&mut self, m: &ServerMessage)
+        ensures { self.new ≡ hears m.now self.old }
+    {
+        self.known = self.known || is_id(m);
+        self.reached = self.reached || commits(self.sent, m);
+    }
+
+    /// Hands out what may be said next.
+    pub fn say<D: Disk>(&mut self, disk: &mut D) -> Result<List<ClientMessage>, LogFault>
+        ensures told { D.tells → IfOk result (λ ms. (source : Source) (begun : D) (events : List Event) → IsOf source self.old → Told (start_at source (D.view begun)) self.old (D.view disk.old) events → Told (start_at source (D.view begun)) self.new (D.view disk.new) (events ++ all_said ms)) }
+        ensures start { IfOk result (λ _. KeepsStart self.old self.new) }
+        ensures quiet { IfOk result (λ ms. ms ≡ [] → (self.old.place ≡ Place.Opening → self.old.opening ≢ []) → is_silent self.new.place self.new.known ≡ true) }
+        ensures busy { IfOk result (λ ms. ms ≢ [] → is_done self.old.begins ≡ false → is_done self.new.place ≡ false) }
+        ensures after { IfOk result (λ _. HasSpoken self.new) }
+        ensures reads { D.tells → OnlyReads (D.view disk.old) (D.view disk.new) }
+        ensures going { IfErr result (λ _. CanRecord self.old.place self.old.known) }
+        ensures stuck { D.tells → IfErr result (λ fault. (source : Source) (begun : D) (events : List Event) → IsOf source self.old → (t : Told (start_at source (D.view begun)) self.old (D.view disk.old) events) → IsStuck source (D.view begun).reads (source.skipped ++ t.hands.more) fault) }
+        ensures fault { IfErr result IsNextFault }
+        ensures cause { HasOwnCause (IsOfLog self.old.log.number) (result ≡ Err logs.Disk) (D.view disk.old) (D.view disk.new) }
+    {
+        match self.place {
+            Place::Opening => Ok(self.say_opening()),
+            Place::Waiting if !self.known => Ok(List::new(self.alloc)),
+            Place::Waiting | Place::Records => self.say_records(disk),
+            Place::Closing | Place::Over => {
+                self.place = Place::Over;
+                Ok(List::new(self.alloc))
+            }
+        }
+    }
+
+    /// Hands out the opening.
+    fn say_opening(&mut self) -> List<ClientMessage>
+        ensures { (result ≡ self.old.opening) × (self.new ≡ record self.old { opening = []; place = self.old.begins; reached = false }) }
+    {
+        self.place = self.begins;
+        self.reached = false;
+        mem::replace(&mut self.opening, List::new(self.alloc))
+    }
+
+    /// Hands out the next records, or after the last one the ending.
+    fn say_records<D: Disk>(&mut self, disk: &mut D) -> Result<List<ClientMessage>, LogFault>
+        requires place { CanRecord self.old.place self.old.known }
+        ensures told { D.tells → IfOk result (λ ms. (source : Source) (begun : D) (events : List Event) → IsOf source self.old → Told (start_at source (D.view begun)) self.old (D.view disk.old) events → Told (start_at source (D.view begun)) self.new (D.view disk.new) (events ++ all_said ms)) }
+        ensures start { IfOk result (λ _. KeepsStart self.old self.new) }
+        ensures quiet { IfOk result (λ ms. ms ≡ [] → is_silent self.new.place self.new.known ≡ true) }
+        ensures busy { IfOk result (λ ms. ms ≢ [] → is_done self.new.place ≡ false) }
+        ensures after { IfOk result (λ _. HasSpoken self.new) }
+        ensures reads { D.tells → OnlyReads (D.view disk.old) (D.view disk.new) }
+        ensures stuck { D.tells → IfErr result (λ fault. (source : Source) (begun : D) (events : List Event) → IsOf source self.old → (t : Told (start_at source (D.view begun)) self.old (D.view disk.old) events) → IsStuck source (D.view begun).reads (source.skipped ++ t.hands.more) fault) }
+        ensures fault { IfErr result IsNextFault }
+        ensures cause { HasOwnCause (IsOfLog self.old.log.number) (result ≡ Err logs.Disk) (D.view disk.old) (D.view disk.new) }
+    {
+        let most = self.most();
+        let batch = next_messages(self.alloc, disk, &mut self.log, most)?;
+        if batch.messages.as_slice().is_empty() {
+            return self.say_ending(disk);
+        }
+        let through = self.sent.saturating_add(batch.elapsed);
+        if self.is_past(through) {
+            return self.say_ending(disk);
+        }
+        self.sent = through;
+        self.place = Place::Records;
+        self.more = true;
+        self.reached = false;
+        Ok(batch.messages)
+    }
+
+    /// The most records that are handed out at once: with a stop one, since the next may end after it.
+    fn most(&self) -> usize
+        ensures { result ≡ most_of self.now.stop }
+    {
+        match self.stop {
+            Some(_) => 1,
+            None => MOST,
+        }
+    }
+
+    /// Whether an elapsed time is after the stop.
+    fn is_past(&self, through: u64) -> bool
+        ensures { IsTrue result ↔ IsPast self.now.stop through }
+    {
+        match self.stop {
+            Some(stop) => stop.nanos() < through,
+            None => false,
+        }
+    }
+
+    /// Hands out the exit, if one is to be sent.
+    fn say_ending<D: Disk>(&mut self, disk: &mut D) -> Result<List<ClientMessage>, LogFault>
+        ensures ends { D.tells → IfOk result (λ ms. Ends self.old self.new (D.view disk.old).reads ms) }
+        ensures start { IfOk result (λ _. KeepsStart self.old self.new) }
+        ensures quiet { IfOk result (λ ms. ms ≡ [] → is_silent self.new.place self.new.known ≡ true) }
+        ensures busy { IfOk result (λ ms. ms ≢ [] → is_done self.new.place ≡ false) }
+        ensures after { IfOk result (λ _. HasSpoken self.new) }
+        ensures reads { D.tells → OnlyReads (D.view disk.old) (D.view disk.new) }
+        ensures damaged { D.tells → (part : Part) → result ≡ Err (logs.Damaged part) → (part ≡ parts.Exit) × (self.old.stop ≡ None) × LacksExit self.old.log.number self.old.log.body (D.view disk.old).reads }
+        ensures fault { IfErr result IsNextFault }
+        ensures cause { HasOwnCause (IsOfLog self.old.log.number) (result ≡ Err logs.Disk) (D.view disk.old) (D.view disk.new) }
+    {
+        let last = self.last_exit(disk)?;
+        let is_last = last.is_some();
+        let messages = ending(self.alloc, last)?;
+        self.end(is_last);
+        Ok(messages)
+    }
+
+    /// The exit that is to be sent, if there is one.
+    fn last_exit<D: Disk>(&mut self, disk: &mut D) -> Result<Option<Exit>, LogFault>
+        ensures last { D.tells → IfOk result (IsExitBy self.old.stop self.old.log.number self.old.log.body (D.view disk.old).reads) }
+        ensures same { self.new ≡ self.old }
+        ensures reads { D.tells → OnlyReads (D.view disk.old) (D.view disk.new) }
+        ensures damaged { D.tells → (part : Part) → result ≡ Err (logs.Damaged part) → (part ≡ parts.Exit) × (self.old.stop ≡ None) × LacksExit self.old.log.number self.old.log.body (D.view disk.old).reads }
+        ensures fault { IfErr result IsNextFault }
+        ensures cause { HasOwnCause (IsOfLog self.old.log.number) (result ≡ Err logs.Disk) (D.view disk.old) (D.view disk.new) }
+    {
+        match self.stop {
+            Some(_) => Ok(None),
+            None => self.log.exit(disk),
+        }
+    }
+
+    /// All was handed out, and an exit or not.
+    fn end(&mut self, is_last: bool)
+        ensures { self.new ≡ ended_by is_last self.old }
+    {
+        if is_last {
+            self.place = Place::Closing;
+            self.more = true;
+            self.reached = false;
+        } else {
+            self.place = Place::Over;
+        }
+    }
+}
+
+/// Why an identifier isn't taken, if it isn't.
+fn judge_id(id: &[u8]) -> Option<SendFault>
+    ensures { result ≡ judged_id id.now }
+{
+    if id.len() > LONGEST_ID {
+        Some(SendFault::LongId(id.len() as u64))
+    } else {
+        None
+    }
+}
+
+/// Why a commit point isn't taken, if it isn't.
+fn judge_point(sent: u64, point: Option<Point>) -> Option<SendFault>
+    ensures { result ≡ judged_point sent point }
+{
+    match point {
+        None => Some(SendFault::Strange(greatest_point())),
+        Some(point) if point.nanos() > sent => Some(SendFault::Strange(point)),
+        Some(_) => None,
+    }
+}
+
+/// Whether a message brings an identifier.
+fn is_id(m: &ServerMessage) -> bool
+    ensures { result ≡ is_id m.now }
+{
+    match m {
+        ServerMessage::LogId(_) => true,
+        ServerMessage::Hello(_)
+        | ServerMessage::CommitPoint(_)
+        | ServerMessage::Error(_)
+        | ServerMessage::Abort(_) => false,
+    }
+}
+
+/// Whether a message is a commit point at this elapsed time.
+fn commits(sent: u64, m: &ServerMessage) -> bool
+    ensures { result ≡ commits sent m.now }
+{
+    match m {
+        ServerMessage::CommitPoint(time) => is_point(sent, time.point()),
+        ServerMessage::Hello(_)
+        | ServerMessage::LogId(_)
+        | ServerMessage::Error(_)
+        | ServerMessage::Abort(_) => false,
+    }
+}
+
+/// Whether a commit point is this elapsed time.
+fn is_point(sent: u64, point: Option<Point>) -> bool
+    ensures { result ≡ is_point sent point }
+{
+    match point {
+        Some(point) => point.nanos() == sent,
+        None => false,
+    }
+}
+
+/// The greatest point.
+fn greatest_point() -> Point
+    ensures { result ≡ 9223372036854775807 }
+{
+    let Some(point) = Point::new((1 << 63) - 1) else {
+        unreachable!();
+    };
+    point
+}

@@ -1,0 +1,288 @@
+#!/usr/bin/env python3
+"""Tries `sudo_sendlog`: ours and sudo's own, each to this server and to sudo's own, of one session.
+
+usage: sendlog.py --server SERVER PROGRAM
+
+SERVER is sudo_logsrvd of this repository, and PROGRAM its sudo_sendlog. The peers are those of Debian's package sudo;
+what needs them is skipped without them. The session is stored in both layouts: ours for PROGRAM, and for the peer as
+contrib/sudo-layout writes it. What each server stored is compared with the records that were sent. Between PROGRAM and
+a server a port cuts the connection off after some bytes; the session then goes on with `-i` and `-r`, and is complete
+at the server. It ends with 1 if something differs.
+"""
+from __future__ import annotations
+
+import argparse
+import os
+import shutil
+import socket
+import subprocess
+import sys
+import tempfile
+import threading
+import time
+from collections.abc import Callable, Sequence
+from typing import Any
+
+import servers
+from oracle import lines, store
+from oracle.records import SECOND, Record, elapsed, ends
+from oracle.sudo import read_session
+
+INFO: dict[str, Any] = {
+    "columns": 80, "command": "/usr/bin/id", "lines": 24, "runargv": ["id", "-u"], "rungid": 0, "rungroup": "root",
+    "runuid": 0,
+    "runuser": "root", "submitcwd": "/home/ann", "submithost": "web1", "submituser": "ann", "ttyname": "/dev/pts/0",
+}
+SUBMIT = 1_700_000_000 * SECOND
+# no record without a delay, since sudo's own client loses its place among such
+RECORDS: list[Record] = [(1_000_000 * (1 + n % 7), "ttyout", b"%08d\r\n" % n) for n in range(2_000)]
+RECORDS[500] = (2_000_000, "winsize", 30, 100)
+IDENTIFIER = "000001"
+HERE = os.path.dirname(os.path.dirname(os.path.abspath(__file__)))
+
+
+class Differs(Exception):
+    """Something isn't as it should be."""
+
+
+def same(what: str, found: object, wanted: object) -> None:
+    """Both are equal."""
+    if found != wanted:
+        raise Differs(f"{what}: {str(found)[:300]!r} in place of {str(wanted)[:300]!r}")
+
+
+class Cut:
+    """A port that hands bytes on to a server, and ends both ways after some bytes of the client."""
+
+    def __init__(self, port: int, after: int) -> None:
+        """One connection is served."""
+        self.listener = socket.create_server(("127.0.0.1", 0))
+        self.port = self.listener.getsockname()[1]
+        self.server, self.after = port, after
+        self.thread = threading.Thread(target=self.serve, daemon=True)
+        self.thread.start()
+
+    def serve(self) -> None:
+        """Hands on what comes."""
+        client, _ = self.listener.accept()
+        server = socket.create_connection(("127.0.0.1", self.server))
+        back = threading.Thread(target=self.hand_back, args=(server, client), daemon=True)
+        back.start()
+        left = self.after
+        while left > 0 and (piece := client.recv(min(left, 4096))):
+            server.sendall(piece)
+            left -= len(piece)
+        # until a commit point had time to come
+        back.join(1.5)
+        for link in (client, server):
+            link.shutdown(socket.SHUT_RDWR)
+            link.close()
+
+    @staticmethod
+    def hand_back(server: socket.socket, client: socket.socket) -> None:
+        """Hands on what the server sends."""
+        try:
+            while piece := server.recv(4096):
+                client.sendall(piece)
+        except OSError:
+            pass
+
+
+class Try:
+    """A session in both layouts, and the programs."""
+
+    def __init__(self, server: str, program: str) -> None:
+        """Writes the session."""
+        self.server, self.program = server, program
+        self.folder = tempfile.mkdtemp(prefix="sendlog")
+        self.store = os.path.join(self.folder, "store")
+        store.write_log(self.store, 1, lines.head(SUBMIT, INFO), RECORDS, lines.exit_line(elapsed(RECORDS), 0))
+        store.write_numbers(self.store, 1)
+        self.layout = os.path.join(self.folder, "layout")
+        layout = os.path.join(HERE, "contrib", "sudo-layout")
+        done = subprocess.run([layout, "-d", self.store, "-o", self.layout, IDENTIFIER], check=False)
+        same("status of sudo-layout", done.returncode, 0)
+
+    def ours(self, port: int, *words: str, status: int = 0) -> list[str]:
+        """Runs our sender, and gives the lines that it prints."""
+        done = subprocess.run([self.program, "-d", self.store, "-h", "127.0.0.1", "-p", str(port), *words, IDENTIFIER],
+            capture_output=True, text=True, timeout=120, check=False)
+        if done.returncode != status:
+            raise Differs(f"our sudo_sendlog {words}: status {done.returncode}: {done.stdout}{done.stderr}")
+        return done.stdout.splitlines()
+
+    def theirs(self, port: int, *words: str) -> None:
+        """Runs sudo's own sender."""
+        peer = servers.tool("sudo_sendlog")
+        folder = os.path.join(self.layout, "00", "00", "01")
+        done = subprocess.run([str(peer), "-h", "127.0.0.1", "-p", str(port), *words, folder], capture_output=True,
+            text=True, timeout=120, check=False)
+        same(f"status of sudo's sudo_sendlog, {done.stderr}", done.returncode, 0)
+
+    def at_ours(self, part: Callable[[servers.Serve, servers.Place], None]) -> None:
+        """A part with our server."""
+        place = servers.Place()
+        server = servers.Serve(self.server, place).start()
+        try:
+            part(server, place)
+        finally:
+            server.kill()
+            shutil.rmtree(place.folder)
+
+    def at_theirs(self, part: Callable[[servers.Serve, servers.Place], None]) -> None:
+        """A part with sudo's own server."""
+        place = servers.Place(servers.SUDO)
+        server = servers.Sudo(str(servers.tool("sudo_logsrvd")), place).start()
+        try:
+            part(server, place)
+        finally:
+            server.kill()
+            shutil.rmtree(place.folder)
+
+
+def log_of_ours(place: servers.Place, digits: str = "000001") -> tuple[list[Record], bool]:
+    """The records that our server stored, and whether the session is complete."""
+    log = store.read_log(place.store, digits)
+    if log is None:
+        raise Differs(f"our server has no log {digits}")
+    return list(log.records), log.exit is not None
+
+
+def log_of_theirs(place: servers.Place, digits: str = "000001") -> tuple[list[Record], bool]:
+    """The records that sudo's own server stored, and whether the session is complete."""
+    session = read_session(store.folder_of(place.store, digits))
+    if session is None:
+        raise Differs(f"sudo's server has no log {digits}")
+    return session[1], session[2]
+
+
+WHOLE = (RECORDS, True)
+
+
+def check_lines(printed: Sequence[str]) -> str:
+    """The lines of a whole session; gives the identifier."""
+    same("the first line", printed[0][:3], "id ")
+    last = elapsed(RECORDS)
+    same("the last line", printed[-1], f"commit {last // SECOND}.{last % SECOND:09}")
+    return printed[0][3:]
+
+
+def sends_whole(on: Try) -> None:
+    """A whole session to our server, by both senders: the logs are the same."""
+    def part(server: servers.Serve, place: servers.Place) -> None:
+        """With one server."""
+        same("identifier at our server", check_lines(on.ours(server.port)), "000001")
+        same("our sender at our server", log_of_ours(place), WHOLE)
+        if servers.tool("sudo_sendlog"):
+            on.theirs(server.port)
+            same("sudo's sender at our server", log_of_ours(place, "000002"), WHOLE)
+    on.at_ours(part)
+
+
+def sends_part(on: Try) -> None:
+    """The first records to our server, and the rest after them."""
+    points = ends(RECORDS)
+    def part(server: servers.Serve, place: servers.Place) -> None:
+        """With one server."""
+        point = f"{points[999] // SECOND}.{points[999] % SECOND:09}"
+        same("last line", on.ours(server.port, "-s", point)[-1], f"commit {point}")
+        same("a part at our server", log_of_ours(place), (RECORDS[:1000], False))
+        on.ours(server.port, "-i", "000001", "-r", point)
+        same("the rest at our server", log_of_ours(place), WHOLE)
+        on.ours(server.port, "-i", "000001", "-r", point, status=8)
+        on.ours(server.port, "-i", "000001", "-r", "0.0000001", status=4)
+    on.at_ours(part)
+
+
+def sends_events(on: Try) -> None:
+    """An accept and a reject alone."""
+    def part(server: servers.Serve, place: servers.Place) -> None:
+        """With one server."""
+        same("lines of an accept", on.ours(server.port, "-A"), [])
+        same("lines of a reject", on.ours(server.port, "-R", "not on a sunday"), [])
+        # the server writes an event after it took it; a session is complete after both
+        on.ours(server.port)
+        told = store.lines(place.events) or []
+        same("the accept", any(b'"accept"' in line for line in told), True)
+        same("the reject", any(b"not on a sunday" in line for line in told), True)
+    on.at_ours(part)
+
+
+def goes_on(on: Try, at: Callable[[Callable[[servers.Serve, servers.Place], None]], None],
+    read: Callable[[servers.Place], tuple[list[Record], bool]]) -> None:
+    """A connection that is cut off, and the session that goes on."""
+    def part(server: servers.Serve, place: servers.Place) -> None:
+        """With one server."""
+        printed = on.ours(Cut(server.port, 20_000).port, status=8)
+        same("the first line of a cut session", printed[0][:3], "id ")
+        points = [line[7:] for line in printed if line.startswith("commit ")]
+        if not points:
+            # sudo's own server sends none in its first seconds
+            return
+        # the server has to see the end of the first connection
+        time.sleep(1)
+        on.ours(server.port, "-i", printed[0][3:], "-r", points[-1])
+        same("a session that went on", read(place), WHOLE)
+    at(part)
+
+
+def to_theirs(on: Try) -> None:
+    """A whole session to sudo's own server, by both senders."""
+    def part(server: servers.Serve, place: servers.Place) -> None:
+        """With one server."""
+        check_lines(on.ours(server.port))
+        same("our sender at sudo's server", log_of_theirs(place), WHOLE)
+        on.theirs(server.port)
+        same("sudo's sender at sudo's server", log_of_theirs(place, "000002"), WHOLE)
+    on.at_theirs(part)
+
+
+def part_to_theirs(on: Try) -> None:
+    """The first records to sudo's own server, and the rest after them."""
+    points = ends(RECORDS)
+    def part(server: servers.Serve, place: servers.Place) -> None:
+        """With one server."""
+        point = f"{points[999] // SECOND}.{points[999] % SECOND:09}"
+        printed = on.ours(server.port, "-s", point)
+        same("last line", printed[-1], f"commit {point}")
+        same("a part at sudo's server", log_of_theirs(place), (RECORDS[:1000], False))
+        on.ours(server.port, "-i", printed[0][3:], "-r", point)
+        same("the rest at sudo's server", log_of_theirs(place), WHOLE)
+        on.ours(server.port, "-i", printed[0][3:], "-r", point, status=8)
+    on.at_theirs(part)
+
+
+def main() -> int:
+    """Tries each part."""
+    words = argparse.ArgumentParser(description="Tries sudo_sendlog with both servers.")
+    words.add_argument("--server", required=True)
+    words.add_argument("program")
+    given = words.parse_args()
+    on = Try(os.path.abspath(given.server), os.path.abspath(given.program))
+    parts: list[tuple[str, Callable[[], None]]] = [
+        ("a whole session", lambda: sends_whole(on)),
+        ("parts of a session", lambda: sends_part(on)),
+        ("an accept and a reject", lambda: sends_events(on)),
+        ("a cut connection", lambda: goes_on(on, on.at_ours, log_of_ours)),
+    ]
+    if servers.tool("sudo_logsrvd") and servers.tool("sudo_sendlog"):
+        parts.append(("sudo's own server", lambda: to_theirs(on)))
+        parts.append(("parts of a session to sudo's own server", lambda: part_to_theirs(on)))
+        parts.append(("a cut connection to sudo's own server", lambda: goes_on(on, on.at_theirs, log_of_theirs)))
+    else:
+        print("sendlog: sudo's own server is skipped, without Debian's package sudo")
+    bad = 0
+    for name, part in parts:
+        try:
+            part()
+        except (Differs, store.Damaged, servers.Failed, subprocess.TimeoutExpired) as fault:
+            print(f"sendlog: {name}: {fault}")
+            bad = 1
+    shutil.rmtree(on.folder)
+    if not bad:
+        print(f"sendlog: {len(parts)} parts, ok")
+    return bad
+
+
+if __name__ == "__main__":
+    sys.exit(main())
