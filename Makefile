@@ -25,6 +25,7 @@ CRATE = crates/sudo_logsrvd
 PROGRAM = $(CRATE)/out/sudo_logsrvd
 REPLAY_CRATE = crates/sudoreplay
 REPLAY = $(REPLAY_CRATE)/out/sudoreplay
+SENDLOG = crates/sudo_sendlog/out/sudo_sendlog
 MEASURES = crates/lsvt_bench
 
 # Programs that were built without a proof, for a first look: `make run` alone uses them.
@@ -38,12 +39,16 @@ AS ?= serve
 INSTALLED = \
 	$(SBINDIR)/$(FRONT)sudo_logsrvd \
 	$(BINDIR)/$(FRONT)sudoreplay \
+	$(BINDIR)/$(FRONT)sudo_sendlog \
 	$(BINDIR)/$(FRONT)sudo-layout \
 	$(UNITDIR)/$(FRONT)sudo_logsrvd.service \
+	$(UNITDIR)/$(FRONT)sudo_logsrvd-relay.service \
+	$(UNITDIR)/$(FRONT)sudo_logsrvd-relay.timer \
 	$(SYSUSERSDIR)/$(NAME).conf \
 	$(MANDIR)/man1/$(FRONT)sudo-layout.1 \
 	$(MANDIR)/man8/$(FRONT)sudo_logsrvd.8 \
 	$(MANDIR)/man8/$(FRONT)sudoreplay.8 \
+	$(MANDIR)/man8/$(FRONT)sudo_sendlog.8 \
 	$(MANDIR)/man5/$(FRONT)sudo_logsrvd.conf.5
 
 PAGES = README.md CHANGELOG.md LICENSE bench/RESULTS.md \
@@ -56,9 +61,10 @@ all: prove
 help: ## list these targets
 	@sed -n 's/^\([a-z][a-z -]*\):.*## /\1\t/p' $(firstword $(MAKEFILE_LIST)) | expand -t 15
 
-prove build: ## prove and build both programs (an hour or more at first)
+prove build: ## prove and build the programs (an hour or more at first)
 	@bash tools/prove sudo_logsrvd once -f data/conf
 	@bash tools/prove sudoreplay -d data/store -l
+	@bash tools/prove sudo_sendlog
 
 $(QUICK)/sudo_logsrvd: $(SOURCES) tools/quick-build
 	@bash tools/quick-build $(QUICK) sudo_logsrvd sudoreplay
@@ -96,6 +102,8 @@ bench: build measures ## measure, also beside sudo's own server if it is install
 	python3 bench/bench.py $(PROGRAM) $(MEASURES)/out/lsvt_bench
 	python3 bench/replay.py $(REPLAY)
 	python3 bench/serve.py $(PROGRAM)
+	python3 bench/sendlog.py $(PROGRAM) $(SENDLOG)
+	python3 bench/relay.py $(PROGRAM)
 
 interop: build ## try the programs with sudo's own clients
 	bash interop/run once serve
@@ -108,15 +116,17 @@ power: build measures ## the same on file systems whose power is cut, as root
 
 # The settings are put in place if there are none, and are never overwritten.
 install: ## install what `make` proved and built; it proves nothing
-	@for program in $(PROGRAM) $(REPLAY); do \
+	@for program in $(PROGRAM) $(REPLAY) $(SENDLOG); do \
 	  [ -x $$program ] || { echo "make install: $$program is missing: run make first, as another user than root. Programs of 'make run' are not proved, and are not installed." >&2; exit 1; }; \
 	done
 	install -D -m 755 $(PROGRAM) $(DESTDIR)$(SBINDIR)/$(FRONT)sudo_logsrvd
 	install -D -m 755 $(REPLAY) $(DESTDIR)$(BINDIR)/$(FRONT)sudoreplay
+	install -D -m 755 $(SENDLOG) $(DESTDIR)$(BINDIR)/$(FRONT)sudo_sendlog
 	install -D -m 755 contrib/sudo-layout $(DESTDIR)$(BINDIR)/$(FRONT)sudo-layout
 	install -D -m 644 man/sudo-layout.1 $(DESTDIR)$(MANDIR)/man1/$(FRONT)sudo-layout.1
 	install -D -m 644 man/sudo_logsrvd.8 $(DESTDIR)$(MANDIR)/man8/$(FRONT)sudo_logsrvd.8
 	install -D -m 644 man/sudoreplay.8 $(DESTDIR)$(MANDIR)/man8/$(FRONT)sudoreplay.8
+	install -D -m 644 man/sudo_sendlog.8 $(DESTDIR)$(MANDIR)/man8/$(FRONT)sudo_sendlog.8
 	install -D -m 644 man/sudo_logsrvd.conf.5 $(DESTDIR)$(MANDIR)/man5/$(FRONT)sudo_logsrvd.conf.5
 	install -d $(DESTDIR)$(DOCDIR)/examples
 	install -m 644 $(PAGES) $(DESTDIR)$(DOCDIR)
@@ -129,9 +139,11 @@ install: ## install what `make` proved and built; it proves nothing
 	  chmod 644 $(DESTDIR)$(DOCDIR)/examples/$$sample || exit 1; \
 	done
 	install -d $(DESTDIR)$(UNITDIR)
-	sed -e 's#/usr/local/sbin/sudo_logsrvd#$(SBINDIR)/$(FRONT)sudo_logsrvd#' -e 's#/etc/sudo_logsrvd.conf#$(SYSCONFDIR)/sudo_logsrvd.conf#' \
-	  -e 's#man:#man:$(FRONT)#g' etc/sudo_logsrvd.service >$(DESTDIR)$(UNITDIR)/$(FRONT)sudo_logsrvd.service
-	chmod 644 $(DESTDIR)$(UNITDIR)/$(FRONT)sudo_logsrvd.service
+	for unit in sudo_logsrvd.service sudo_logsrvd-relay.service sudo_logsrvd-relay.timer; do \
+	  sed -e 's#/usr/local/sbin/sudo_logsrvd#$(SBINDIR)/$(FRONT)sudo_logsrvd#' -e 's#/etc/sudo_logsrvd.conf#$(SYSCONFDIR)/sudo_logsrvd.conf#' \
+	  -e 's#\bsudo_logsrvd\(-relay\)\?\.\(service\|timer\)#$(FRONT)&#g' -e 's#man:#man:$(FRONT)#g' etc/$$unit >$(DESTDIR)$(UNITDIR)/$(FRONT)$$unit && \
+	  chmod 644 $(DESTDIR)$(UNITDIR)/$(FRONT)$$unit || exit 1; \
+	done
 	install -D -m 644 etc/sysusers $(DESTDIR)$(SYSUSERSDIR)/$(NAME).conf
 	@if [ -e $(DESTDIR)$(SYSCONFDIR)/sudo_logsrvd.conf ]; then \
 	  echo "make install: $(DESTDIR)$(SYSCONFDIR)/sudo_logsrvd.conf is there, and stays as it is"; \
@@ -145,10 +157,10 @@ uninstall: ## remove what `make install` put in place, but the settings; no stor
 	rm -rf $(DESTDIR)$(DOCDIR)
 
 installed: ## try an installed tree, in a folder of its own
-	bash interop/installed $(PROGRAM) $(REPLAY)
+	bash interop/installed $(PROGRAM) $(REPLAY) $(SENDLOG)
 
 pages: ## check the manual pages against what the programs take and say
-	python3 interop/pages.py $(PROGRAM) $(REPLAY)
+	python3 interop/pages.py $(PROGRAM) $(REPLAY) $(SENDLOG)
 
 # Of what is committed; in an unpacked tarball, of what is there without what was built.
 dist: ## make a tarball in out/

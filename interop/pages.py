@@ -1,9 +1,10 @@
 #!/usr/bin/env python3
 """Reads the manual pages against the programs: the same commands, options, settings, defaults, statuses and messages.
 
-usage: pages.py PROGRAM REPLAY
+usage: pages.py PROGRAM REPLAY [SENDLOG]
 
-PROGRAM is sudo_logsrvd, REPLAY sudoreplay. Each option that a page shows must be taken, and no other letter; each
+PROGRAM is sudo_logsrvd, REPLAY sudoreplay, SENDLOG sudo_sendlog.
+Each option that a page shows must be taken, and no other letter; each
 setting of sudo_logsrvd.conf(5) must be known with its default, and each key that the page says is passed over must
 be reported as that. The sample in etc/ must hold each setting with its default. The numbers and texts of the
 statuses, and the texts that a client gets, are compared with the sources. It ends with 1 where something differs.
@@ -38,9 +39,10 @@ def sections(page: str) -> dict[str, str]:
 class Pages:
     """The programs whose pages are read, and how often they were asked and differed."""
 
-    def __init__(self, program: str, replay: str) -> None:
+    def __init__(self, program: str, replay: str, sendlog: str | None = None) -> None:
         """Nothing was asked yet."""
         self.program, self.replay = os.path.realpath(program), os.path.realpath(replay)
+        self.sendlog = sendlog and os.path.realpath(sendlog)
         self.folder = tempfile.mkdtemp()
         self.asked = self.differ = 0
         self.unknown: set[str] | None = None
@@ -106,6 +108,25 @@ class Pages:
             for program in (self.program, self.replay):
                 self.same(f"status of {words}", self.run(program, *words).returncode, 2)
         self.same("status of help", self.run(self.program, "help").returncode, 2)
+
+    def sender(self) -> None:
+        """The options of sudo_sendlog, whose words name a log that isn't there, and its form."""
+        if not self.sendlog:
+            return
+        values, others = {"p": "1"}, {"i": ["-r", "1"], "r": ["-i", "x"]}
+        shown = set(re.findall(r"^\.It Fl (\w)", sections("man/sudo_sendlog.8")["DESCRIPTION"], flags=re.M))
+        taken = set()
+        for letter in string.ascii_letters + string.digits:
+            front = [] if letter == "d" else ["-d", "empty"]
+            for value in ([], ["empty" if letter == "d" else values.get(letter, "1")]):
+                words = [*front, "-" + letter, *value, *others.get(letter, []), "000001"]
+                if self.run(self.sendlog, *words).returncode == 4:
+                    taken.add(letter)
+        self.same("options of sudo_sendlog", sorted(taken), sorted(shown))
+        reason, form = self.run(self.sendlog, "--none").stderr.decode().splitlines()
+        self.same("reason of a usage error of sudo_sendlog", reason.split("--none")[0], "sudo_sendlog: ")
+        self.same("the form of sudo_sendlog", sorted(re.findall(r"(?<!\w)-(\w)", form)),
+            sorted(re.findall(r"Fl (\S+)", sections("man/sudo_sendlog.8")["SYNOPSIS"])))
 
     def script(self) -> None:
         """The options of sudo-layout, as of the programs."""
@@ -229,7 +250,8 @@ class Pages:
     def statuses(self) -> None:
         """Numbers and texts of the statuses, as the sources have them, and texts that a client gets."""
         for page, source in (("man/sudo_logsrvd.8", "crates/lsv_serve/src/status.rt"),
-            ("man/sudoreplay.8", "crates/lsv_replay/src/status.rt")):
+            ("man/sudoreplay.8", "crates/lsv_replay/src/status.rt"),
+            ("man/sudo_sendlog.8", "crates/lsv_send/src/status.rt")):
             code = text_of(source)
             numbers = dict(re.findall(r"\w*Status::(\w+)(?:\(_\))? => (\d+),", code))
             texts = dict(re.findall(r'\w*Status::(\w+)(?:\(_\))? => (?:Bytes::of\(alloc, b)?"([a-z ]+)"', code))
@@ -258,9 +280,9 @@ class Pages:
 
 def main() -> int:
     """Reads all pages."""
-    pages = Pages(*sys.argv[1:3])
-    for step in (pages.options, pages.script, pages.forms, pages.settings, pages.passed, pages.refused, pages.statuses,
-        pages.sudoreplays):
+    pages = Pages(*sys.argv[1:4])
+    for step in (pages.options, pages.sender, pages.script, pages.forms, pages.settings, pages.passed,
+        pages.refused, pages.statuses, pages.sudoreplays):
         step()
     print(f"{pages.asked} asked, {pages.differ} differ")
     return 1 if pages.differ else 0
