@@ -159,6 +159,18 @@ fn show_cause(rt: &HostRuntime, number: u8, cause: &Cause) -> Result<()> {
     Ok(())
 }
 
+/// Prints two statuses that came one after the other.
+fn show_change(rt: &HostRuntime, kind: &str, before: u64, number: u64) -> Result<()> {
+    println!(rt; "{kind} {before} then {number}")?;
+    Ok(())
+}
+
+/// Prints the last status before nothing failed, and whether all that was put and printed was a prefix of the whole.
+fn show_end(rt: &HostRuntime, kind: &str, before: u64, are_prefixes: bool) -> Result<()> {
+    println!(rt; "{kind} {before} then 0, {are_prefixes}")?;
+    Ok(())
+}
+
 /// Runs the program with each call of one kind failing in turn, until none is left to fail. Prints each status that
 /// comes, once. It also prints whether what was put was each time a prefix of the whole. What was printed is looked at
 /// too, unless the link fails: then what the server still says is read and printed.
@@ -175,11 +187,10 @@ pub fn each(rt: &HostRuntime, setting: &Setting, rest: &str) -> Result<()> {
         are_prefixes = are_prefixes && is_prefix;
         let number = u64::from(ran.status.number());
         if number == 0 {
-            println!(rt; "{kind} {seen} then 0, {are_prefixes}")?;
-            return Ok(());
+            return show_end(rt, kind, seen, are_prefixes);
         }
         if seen != 0 && seen != number {
-            println!(rt; "{kind} {seen} then {number}")?;
+            show_change(rt, kind, seen, number)?;
         }
         seen = number;
     }
