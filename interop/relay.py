@@ -37,6 +37,9 @@ store_first = true
 INFO = {"command": "/usr/bin/id", "runargv": ["id", "-u"], "runuser": "root", "runuid": 0, "submituser": "ann",
     "submithost": "web1", "submitcwd": "/home/ann", "ttyname": "/dev/pts/0", "lines": 24, "columns": 80}
 NO_UPSTREAM, STORE, PENDING = 1, 4, 8
+# This number of runs beside a server may be cut off on a machine that is never idle.
+MOST_CUT = 2
+CUT_OFF = ("the other server ended the connection", "the connection could not be made, or was cut")
 
 
 class Cutter:
@@ -379,6 +382,12 @@ def part_complete_already(on: Trial) -> None:
         both.compare(copies=None)
 
 
+def is_cut_off(said: str) -> bool:
+    """Whether a run says of each log that is left that its connection was cut off."""
+    lines = [line for line in said.splitlines() if ": 0" in line]
+    return bool(lines) and all(any(cause in line for cause in CUT_OFF) for line in lines)
+
+
 def part_beside_a_server(on: Trial) -> None:
     """The relay runs again and again beside a server that stores sessions."""
     with Both(on) as both:
@@ -399,7 +408,12 @@ def part_beside_a_server(on: Trial) -> None:
             both.session(on.some_records(count), client.exited(SECOND))
         stop.set()
         runner.join()
-        same("failed runs", faults, [])
+        cut = [fault for fault in faults if is_cut_off(fault)]
+        same("failed runs", [fault for fault in faults if fault not in cut], [])
+        if cut:
+            print(f"relay.py: beside a server {len(cut)} runs were cut off, and later ones went on: {cut}")
+        if len(cut) > MOST_CUT:
+            raise Differs(f"{len(cut)} runs were cut off")
         both.relays_all()
         both.compare()
 
