@@ -40,7 +40,7 @@ MOST_MEMORY = 6.0
 
 
 class Sink:
-    """A port that reads each connection to the end of its frames, and acknowledges a time after so many of them."""
+    """A port that reads each connection to the end of its frames, and acknowledges a time after a number of them."""
 
     def __init__(self, frames: int, time: int) -> None:
         """`frames` are those of a whole log: hello, accept, records and exit."""
@@ -82,7 +82,7 @@ class Sink:
 
 
 def relayed(program: str, count: int, size: int) -> tuple[float, float]:
-    """The processor seconds and the MiB of one run that relays a log of so many records of so many bytes."""
+    """The processor seconds and the MiB of one run that relays a log: its number of records, and the bytes of each."""
     folder = tempfile.mkdtemp(prefix="relay", dir="/dev/shm" if os.path.isdir("/dev/shm") else None)
     try:
         records: list[Record] = [(SECOND // 100, "ttyout", b"x" * size)] * count

@@ -50,7 +50,7 @@ def best(runners: Sequence[Sequence[str]]) -> tuple[list[float], list[int]]:
 
 
 def measure(server: str, program: str, peer: str | None, count: int) -> list[float]:
-    """Prints the cost of a record of so many, and gives the times."""
+    """Prints the cost of a record of this number of them, and gives the times."""
     folder = tempfile.mkdtemp(dir="/dev/shm")
     records = [(1_000_000, "ttyout", b"0123456789")] * count
     place = servers.Place(parent="/dev/shm")

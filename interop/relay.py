@@ -43,7 +43,7 @@ CUT_OFF = ("the other server ended the connection", "the connection could not be
 
 
 class Cutter:
-    """A port before a server, which cuts each connection as it is told.
+    """A port before a server, which cuts each connection as its fields say.
 
     `sent` and `answered` are the bytes that are let through in each direction, None for all of them.
     """
@@ -186,7 +186,7 @@ class Both:
         return done.returncode, done.stderr.decode(errors="replace")
 
     def relays_all(self, tries: int = 1) -> None:
-        """Relays until all is relayed, in so many runs at most."""
+        """Relays until all is relayed, in at most this number of runs."""
         for _ in range(tries):
             status, said = self.relay()
             if status == 0:
@@ -213,7 +213,7 @@ class Both:
         return found
 
     def compare(self, copies: int | None = 1) -> None:
-        """Each log is at the other server, whole, and so many times; None for at least once."""
+        """Each log is at the other server, whole, and this number of times; None for at least once."""
         far = self.far_sessions()
         for log in self.mine():
             whole = [session for session in far if session[1] and session[0] == log.records]

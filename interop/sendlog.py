@@ -202,9 +202,9 @@ def sends_events(on: Try) -> None:
         same("lines of a reject", on.ours(server.port, "-R", "not on a sunday"), [])
         # the server writes an event after it took it; a session is complete after both
         on.ours(server.port)
-        told = store.lines(place.events) or []
-        same("the accept", any(b'"accept"' in line for line in told), True)
-        same("the reject", any(b"not on a sunday" in line for line in told), True)
+        lines = store.lines(place.events) or []
+        same("the accept", any(b'"accept"' in line for line in lines), True)
+        same("the reject", any(b"not on a sunday" in line for line in lines), True)
     on.at_ours(part)
 
 

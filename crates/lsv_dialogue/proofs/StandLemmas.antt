@@ -229,7 +229,7 @@ module _ {S W : Type 0} (T : S → W → List Event → Type 0) (J : S → Serve
         continues = continues_then begun.0 a.0 b.0 st.continues counts.continues;
       }
 
-  -- more was read, while so many were said as the floor asks for
+  -- more was read, after as many were said as the floor asks for
   pub after_read_floor : (kept came : Type 0) (talk talk' : Talk) (s : S) (w : W) (a b : View)
       → Stands T J Q O tells begun [] (floor talk.spoken) talk s w a → kept → HasRead tells kept talk.framer talk'.framer a.1 b.1 → talk' ≡ record talk { framer = talk'.framer; buffer = talk'.buffer } → length talk'.buffer.items ≡ BUFFER → HasLooked came a.0 b.0 → came
       → Stands T J Q O tells begun [] (floor talk'.spoken) talk' s w b

@@ -1,7 +1,7 @@
 use crate::Outcome;
 use lsv_base::LogNo;
 
-/// What whoever runs a relay is told. Nothing is promised of it.
+/// What is shown to whoever runs a relay. Nothing is promised of it.
 pub trait RelayNotices {
     /// A connection is made for this log. The greatest number of the store's logs.
     fn relaying(&mut self, number: LogNo, last: u32);

@@ -189,7 +189,7 @@ read_cause_back n old new same (faults.Log reads.NoMem) is = is
 read_cause_back n old new same (faults.State fault) is = is
 read_cause_back n old new same faults.NoMem is = is
 
--- a fault behind the opening is one of reading
+-- a fault after the opening is one of reading
 pub read_log_cause : (n : ℕ) (disk : DiskView) (e : RelayFault) → IsReadCause n disk e → IsLogCause n disk e
 read_log_cause n disk faults.Incomplete is = absurd is
 read_log_cause n disk (faults.Log reads.Absent) is = absurd is
@@ -253,7 +253,7 @@ exit_cause n disk e (inl is) damaged = subst (λ (x : LogFault). IsReadCause n d
 exit_cause n disk e (inr (inl is)) damaged = subst (λ (x : LogFault). IsReadCause n disk (of_log x)) (sym is) (damaged is)
 exit_cause n disk e (inr (inr is)) damaged = subst (λ (x : LogFault). IsReadCause n disk (of_log x)) (sym is) tt
 
--- a log that is complete, and of which a part is at fault
+-- a log is complete, and a part of it is at fault
 pub damage_of : (n : ℕ) (part : Part) (view : ViewState) (records : List Record) (disk : DiskView) → HasLog n view records disk
     → HasFaultAfter (committed_laid view.number view.body disk) view.body part ⊎ ((part ≡ ExitPart) × ((exit : Exit) → exit_of (committed_text view.number view.body disk ExitPart) ≡ Ok exit → ⊥)) → IsLogDamage n part disk
 damage_of n part view records disk log fault = record {

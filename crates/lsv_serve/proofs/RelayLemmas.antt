@@ -291,7 +291,7 @@ module _ {D : Type 0} (view : D → DiskView) (old : RelayWorld) (after : DiskVi
   runs_placed host upstream new WriteFault run is runs = absurd runs
   runs_placed host upstream new PortFault run is runs = absurd runs
 
--- a run for a host has its places behind it
+-- after a run for a host the disk has its places
 pub places_behind : {D : Type 0} (view : D → DiskView) (host : List ℕ) (old new : RelayWorld) (logs events : List ℕ) (disk : DiskView) (status : Status) → RunsRelay view (Some host) old new status → ((line : ℕ) → status ≡ Conf line → ⊥)
     → HasPlaces logs events new.disk → HasPlacesAt logs events disk new.disk status
 places_behind view host old new logs events disk Served runs read places = places

@@ -14,7 +14,7 @@ judged_of (server.LogId id) = if nat_lt 8 (length id) then judged.LongId (length
 judged_of (server.Error text) = judged.Takes
 judged_of (server.Abort text) = judged.Takes
 
--- so many messages were heard, if it is over at all
+-- it is over after this number of messages, if at all
 abbrev pub is_over : ℕ → Option ℕ → Bool
 is_over heard None = false
 is_over heard (Some count) = not (nat_lt heard count)

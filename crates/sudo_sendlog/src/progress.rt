@@ -5,7 +5,7 @@ use std::cell::Cell;
 /// The file descriptor of standard error.
 const STDERR: i32 = 2;
 
-/// The line is drawn again after so many records.
+/// The line is drawn again after this number of records.
 const STEP: u64 = 256;
 
 /// How far a log was sent.
