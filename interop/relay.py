@@ -500,6 +500,21 @@ def part_no_store(on: Trial) -> None:
         same("files", os.listdir(both.place.store), [])
 
 
+def part_lock_of_another(on: Trial) -> None:
+    """A relay.lock that can't be opened is named, and nothing is connected to."""
+    with Both(on) as both:
+        both.session([(SECOND, "ttyout", b"x")], client.exited(SECOND))
+        lock = os.path.join(both.place.store, "relay.lock")
+        os.mkdir(lock)
+        status, said = both.relay()
+        same("status", status, STORE)
+        if "relay.lock: " not in said or "let that user own relay.lock" not in said:
+            raise Differs(said)
+        same("connections", both.cutter.count, 0)
+        os.rmdir(lock)
+        both.relays_all(1)
+
+
 def part_damaged(on: Trial) -> None:
     """A damaged log and a damaged relaying are said, and the other logs are relayed."""
     with Both(on) as both:

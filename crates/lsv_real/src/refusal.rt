@@ -129,6 +129,9 @@ pub fn report_no_store(
         StoreFault::RelayInUse => {
             eprintln!(rt; "{program}: {dir}: relay.lock: another relay uses this store")
         }
+        StoreFault::RelayLock(e) => eprintln!(rt;
+            "{program}: {dir}: relay.lock: {e}: run the relay as the user who runs the server, and let that user own relay.lock"
+        ),
         StoreFault::Uncovered(Uncovered::NoLast) => eprintln!(rt;
             "{program}: {dir}: it holds logs, and seq2 doesn't tell the last number: put seq2 back from a copy, or let iolog_dir be a new folder; nothing is changed"
         ),

@@ -37,6 +37,8 @@ pub enum StoreFault {
     EventsInUse,
     /// Another relay has the lock of relays.
     RelayInUse,
+    /// The file of the lock of relays can't be opened or made.
+    RelayLock(io::Error),
     /// There is a log that the number files don't cover.
     Uncovered(Uncovered),
     /// No line of the event log ends after so many bytes, which its journal counts.
@@ -94,6 +96,15 @@ fn of_lock<T>(held: StoreFault, answer: Result<T, LockFault>) -> Result<T, Store
         Ok(t) => Ok(t),
         Err(LockFault::Held) => Err(held),
         Err(LockFault::Io(e)) => Err(StoreFault::Io(Step::Lock, e)),
+    }
+}
+
+/// The fault of the lock of relays, if it wasn't taken.
+fn of_relay_lock<T>(answer: Result<T, LockFault>) -> Result<T, StoreFault> {
+    match answer {
+        Ok(t) => Ok(t),
+        Err(LockFault::Held) => Err(StoreFault::RelayInUse),
+        Err(LockFault::Io(e)) => Err(StoreFault::RelayLock(e)),
     }
 }
 
@@ -191,7 +202,7 @@ impl Store {
     /// looked at.
     pub fn open_for_relay(rt: HostRuntime, dir: &str, events: &str) -> Result<Store, StoreFault> {
         let alloc = rt.alloc();
-        let lock = of_lock(StoreFault::RelayInUse, lock_of_relays(&rt, alloc, dir))?;
+        let lock = of_relay_lock(lock_of_relays(&rt, alloc, dir))?;
         let most_open = files_within(most_descriptors());
         Ok(Store {
             rt,
