@@ -8,7 +8,7 @@ use Rattle.lsv_replay_args.specs.Request.{is_set_text}
 use Rattle.lsv_send_args.specs.Port.{is_port}
 use Rattle.lsv_send_args.specs.Program.{program}
 use Rattle.lsv_send_args.specs.declared.fault.Unfit.{Unfit}
-use Rattle.lsv_send_args.specs.declared.fault.Unfit.TheVariants.{Port, ResumePoint, StopPoint, IdAlone, PointAlone, AcceptAndReject, AloneWithId, AloneWithStop}
+use Rattle.lsv_send_args.specs.declared.fault.Unfit.TheVariants.{Port, ResumePoint, StopPoint, IdAlone, PointAlone, AcceptAndReject, AloneWithId, AloneWithPoint, AloneWithStop}
 
 -- ---- What is asked for
 
@@ -46,7 +46,7 @@ records_of None (Some point) stop = Err PointAlone
 abbrev pub alone : Sending → (id : Option (List ℕ)) (resume stop : Option ℕ) → Result Sending Unfit
 alone what None None None = Ok what
 alone what (Some id) resume stop = Err AloneWithId
-alone what None (Some point) stop = Err PointAlone
+alone what None (Some point) stop = Err AloneWithPoint
 alone what None None (Some stop) = Err AloneWithStop
 
 -- `-A` and `-R` exclude each other

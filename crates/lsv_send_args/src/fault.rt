@@ -24,6 +24,8 @@ pub enum Unfit {
     AcceptAndReject,
     #[error("-A and -R send no records, so -i isn't taken with them")]
     AloneWithId,
+    #[error("-A and -R send no records, so -r isn't taken with them")]
+    AloneWithPoint,
     #[error("-A and -R send no records, so -s isn't taken with them")]
     AloneWithStop,
 }

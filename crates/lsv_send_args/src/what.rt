@@ -82,7 +82,7 @@ impl Choice<'_> {
         Ok(What::Records(goes, self.stop))
     }
 
-    /// No record is sent: neither `-i` with `-r` nor `-s` is taken.
+    /// No record is sent: `-i`, `-r` and `-s` aren't taken.
     fn alone(&self) -> Result<(), WordsFault>
         ensures ok { OnOk result ((what : Sending) → alone what (option_map (λ t. t.now) self.now.id) self.now.resume self.now.stop ≡ Ok what) }
         ensures unfit { (u : Unfit) → result ≡ Err (WordsFault.Unfit u) → (what : Sending) → alone what (option_map (λ t. t.now) self.now.id) self.now.resume self.now.stop ≡ Err u }
@@ -91,7 +91,7 @@ impl Choice<'_> {
         match (self.id, self.resume, self.stop) {
             (None, None, None) => Ok(()),
             (Some(_), _, _) => Err(WordsFault::Unfit(Unfit::AloneWithId)),
-            (None, Some(_), _) => Err(WordsFault::Unfit(Unfit::PointAlone)),
+            (None, Some(_), _) => Err(WordsFault::Unfit(Unfit::AloneWithPoint)),
             (None, None, Some(_)) => Err(WordsFault::Unfit(Unfit::AloneWithStop)),
         }
     }
