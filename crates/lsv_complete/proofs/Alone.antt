@@ -55,7 +55,7 @@ module _ (k : ConnId) where
   own_tail tail = record { answers = answers_to k tail.answers; failed = [] }
 
   abbrev pub own_turn : Turn → Turn
-  own_turn turn = record { now = turn.now; acts = own_acts turn.acts; tail = own_tail turn.tail; ended = turn.ended }
+  own_turn turn = record { now = turn.now; acts = own_acts turn.acts; tail = own_tail turn.tail; ended = turn.ended; text = turn.text }
 
   -- what happens, of this connection alone
   abbrev pub own : List Happened → List Happened

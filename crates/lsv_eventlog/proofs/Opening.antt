@@ -22,7 +22,7 @@ use Rattle.lsv_bundle.specs.Represents.{Represents}
 use Rattle.lsv_bundle.specs.Value.{BundleView, IsFresh, staged}
 use Rattle.lsv_bundle.proofs.Laws.{one_body, represents_holds}
 use Rattle.lsv_eventlog.specs.Inner.{IsEventLog}
-use Rattle.lsv_eventlog.specs.Value.{CountsAsIn, EventLogView, IsOpened, count_in, line_count}
+use Rattle.lsv_eventlog.specs.Value.{CountsAsIn, EventLogView, IsOpened, count_in, kind_of, line_count}
 use Rattle.lsv_eventlog.proofs.Laws.{bundle_text}
 use Rattle.lsv_eventlog.specs.Moments.{IsAsBefore}
 use Rattle.lsv_eventlog.specs.Recovered.{HoldsLines, IsOfEventLog}
@@ -152,11 +152,13 @@ counts_entry lane image log body last has = record {
       let read : Some (encoded body) ≡ Some (encoded other) = sym has.last ∙ there.last in
       ap count_in last ∙ ap (λ (b : Body). b.count) (one_body body other has.is_body there.is_body (let same : encoded body ≡ encoded other = cc (read) in same));
   without = λ none. absurd (let read : Some (encoded body) ≡ None = sym has.last ∙ none in let never : ⊥ = cc (read) in never);
+  made = λ none. absurd (let read : Some (encoded body) ≡ None = sym has.last ∙ none in let never : ⊥ = cc (read) in never);
 }
 
 -- and none where there was no entry
-pub counts_none : (lane : ℕ) (image : Image) (log : EventLogView) → LastAt 89 (journal_of (Events lane)) image ≡ None → line_count log ≡ 0 → CountsAsIn lane image log
-counts_none lane image log none zero = record {
+pub counts_none : (lane : ℕ) (image : Image) (log : EventLogView) → LastAt 89 (journal_of (Events lane)) image ≡ None → (line_count log ≡ 0) × (kind_of log ≡ Some 0) → CountsAsIn lane image log
+counts_none lane image log none made = record {
   by_entry = λ body there. absurd (let read : Some (encoded body) ≡ None = sym there.last ∙ none in let never : ⊥ = cc (read) in never);
-  without = λ _. zero;
+  without = λ _. made.0;
+  made = λ _. made.1;
 }

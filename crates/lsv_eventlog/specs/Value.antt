@@ -1,5 +1,5 @@
 -- An event log's value, as contracts see it.
-use Rattle.std.specs.Prelude.{◌≡◌, ℕ, ◌+◌, ◌-◌, ◌^◌, Bool, false, List, [], ◌++◌, min, Option, Some, None}
+use Rattle.std.specs.Prelude.{◌≡◌, ℕ, ◌+◌, ◌-◌, ◌^◌, Bool, false, List, [], ◌++◌, min, Option, Some, None, option_map}
 use Rattle.lsv_disk.specs.declared.file.Owner.TheVariants.{Events}
 use Rattle.lsv_disk.specs.declared.file.Part.TheVariants.{Lines}
 use Rattle.lsv_disk.specs.View.{Image, DiskView}
@@ -31,6 +31,10 @@ added_text log = staged log.bundle Lines
 -- how many bytes the committed and the added lines have
 abbrev pub text_length : EventLogView → ℕ
 text_length log = next_length log.bundle Lines
+
+-- the kind of the last entry
+abbrev pub kind_of : EventLogView → Option ℕ
+kind_of log = option_map (λ (body : Body). body.kind) log.bundle.last
 
 -- how many lines the last entry counts
 abbrev pub count_in : Option Body → ℕ
@@ -76,7 +80,8 @@ pub record IsOpened (lane : ℕ) (log : EventLogView) : Type 0 where
   pub none_added : log.added ≡ 0
   pub none_staged : added_text log ≡ []
 
--- it counts as many lines as the last entry of the lane's event log in that image, and none where that has no entry
+-- it counts as many lines as the last entry of the lane's event log in that image. Without an entry it counts none, and its own entry is of kind 0
 pub record CountsAsIn (lane : ℕ) (image : Image) (log : EventLogView) : Type 0 where
   pub by_entry : (body : Body) → HasEntry (Events lane) body image → line_count log ≡ body.count
   pub without : LastAt 89 (journal_of (Events lane)) image ≡ None → line_count log ≡ 0
+  pub made : LastAt 89 (journal_of (Events lane)) image ≡ None → kind_of log ≡ Some 0

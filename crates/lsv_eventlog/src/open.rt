@@ -11,7 +11,7 @@ ghost use Rattle.lsv_bundle.specs.Committed.{IsDamaged};
 ghost use Rattle.lsv_bundle.specs.Calls.{IsOpenFault};
 ghost use Rattle.lsv_eventlog.specs.Inner.{IsEventLog};
 ghost use Rattle.lsv_eventlog.specs.Recovered.{HoldsLines, IsOfEventLog};
-ghost use Rattle.lsv_eventlog.specs.Value.{CountsAsIn, IsOpened, Represents, committed_text, line_count};
+ghost use Rattle.lsv_eventlog.specs.Value.{CountsAsIn, IsOpened, Represents, committed_text, kind_of, line_count};
 ghost use Rattle.lsv_eventlog.specs.Moments.{IsAsBefore};
 
 use crate::EventLog;
@@ -58,7 +58,7 @@ fn make<D: Disk>(alloc: Global, disk: &mut D, lane: u32) -> Result<EventLog, Bun
     requires no_entry { D.tells → (image : Image) → IsCrashImage (D.view disk.old) image → LastAt 89 (journal_of (Events lane)) image ≡ None }
     ensures sound { IfOk result IsEventLog }
     ensures value { IfOk result (IsOpened lane) }
-    ensures count { IfOk result (λ log. line_count log ≡ 0) }
+    ensures count { IfOk result (λ log. (line_count log ≡ 0) × (kind_of log ≡ Some 0)) }
     ensures empty { D.tells → IfOk result (λ log. committed_text log (D.view disk.new) ≡ []) }
     ensures represents { D.tells → IfOk result (λ log. Represents log (D.view disk.new)) }
     ensures any_moment { D.tells → Throughout (IsOfEventLog lane) (λ image. HoldsLines image lane []) (D.view disk.old) (D.view disk.new) }
@@ -76,10 +76,10 @@ fn make<D: Disk>(alloc: Global, disk: &mut D, lane: u32) -> Result<EventLog, Bun
 }
 
 impl EventLog {
-    /// Opens the event log of a lane, and makes it where it has no entry, also of what a making that a crash or a
-    /// fault ended has left. Where there is an entry it is taken over at most, and where the slots have it nothing is
-    /// written. `Damaged(Lines)` where its lines are absent or fewer than the last entry says; `Disk` only where a device
-    /// call on a file of this log failed. Also where it fails it reads as before.
+    /// Opens the event log of a lane. Where it has no entry it makes it, by an entry of kind 0, also of what a making that
+    /// a crash or a fault ended has left. Where there is an entry it is taken over at most, and where the slots have it
+    /// nothing is written. `Damaged(Lines)` where its lines are absent or fewer than the last entry says; `Disk` only where
+    /// a device call on a file of this log failed. Also where it fails it reads as before.
     pub fn open<D: Disk>(alloc: Global, disk: &mut D, lane: u32) -> Result<EventLog, BundleFault>
         ensures sound { IfOk result IsEventLog }
         ensures value { IfOk result (IsOpened lane) }

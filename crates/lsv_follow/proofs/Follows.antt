@@ -10,7 +10,7 @@ use Rattle.lsv_bundle.specs.Committed.{HasEntry}
 use Rattle.lsv_bundle.proofs.Laws.{one_body}
 use Rattle.lsv_iolog.specs.Damage.{IsViewDamage}
 use Rattle.lsv_iolog.specs.Later.{IsLater}
-use Rattle.lsv_iolog.specs.Reading.{AreThere, HasShrunk, IsBehind, IsFaultBehind, IsWhole, IsWindowOf, ViewState, committed_laid}
+use Rattle.lsv_iolog.specs.Reading.{AreThere, HasShrunk, IsBehind, IsFaultBehind, IsSoundBehind, IsWhole, IsWindowOf, ViewState, committed_laid}
 use Rattle.lsv_iolog.specs.Recovered.{HasExit, HoldsLog, Replays, owner_of}
 use Rattle.lsv_record.specs.declared.laid.Laid.{Laid}
 use Rattle.lsv_record.specs.declared.records.Record.{Record}
@@ -23,11 +23,12 @@ use Rattle.lsv_record.proofs.Once.{one_begins, one_layout}
 use Rattle.lsv_record.proofs.Tallies.{lines_are_timing}
 use Rattle.lsv_play.specs.declared.options.Options.{Options}
 use Rattle.lsv_play.specs.Playing.{play}
-use Rattle.lsv_playback.specs.Playing.{IsOpened, laid_at, text_at}
+use Rattle.lsv_playback.specs.Playing.{IsOpened, IsSoundSoFar, laid_at, text_at}
 use Rattle.lsv_playback.proofs.Stored.{begins_log, is_layout, some_of_all}
 use Rattle.lsv_playback.proofs.Undamaged.{no_view_damage, stored_undamaged}
 use Rattle.lsv_follow.specs.declared.follow.Seen.{Seen}
 use Rattle.lsv_follow.specs.declared.follow.Seen.TheVariants as seen
+use Rattle.lsv_follow.proofs.Fronts.{all_sound}
 use Rattle.lsv_follow.specs.Following.{HasCuts, HasGoneOn, HasShown, IsLookDamage, IsRenewed, Sees, cuts_seen}
 
 -- ---- the last entry is the log's
@@ -158,12 +159,18 @@ module _ (f : ViewState) (v : ViewState) (disk : DiskView) (now : Stored) (renew
 
   -- no part is at fault after them
   pub no_fault : (rs : List Record) (part : Part) → IsBehind v rs disk → IsFaultBehind (committed_laid v.number v.body disk) v.body rs part → ⊥
-  no_fault rs part behind fault =
-      let laid : Laid = laid_at f.number v.body disk.reads in
-      let begins : Begins laid rs = subst (λ (l : Laid). Begins l rs) (laid_is v refl refl) behind.begins in
-      let same : IsFaultBehind laid v.body rs part = subst (λ (l : Laid). IsFaultBehind l v.body rs part) (laid_is v refl refl) fault in
-      stored_undamaged (Unit {0}) any_way f.number disk.reads (play any_way rs) now part holds
-      (inr (record { body = v.body; head = v.head; opened = opened rs behind; records = (rs, record { begins = begins; fault = same }, refl) }))
+  no_fault rs part behind fault = none rs begins (all_sound laid v.body none rs begins) part (subst (λ (l : Laid). IsFaultBehind l v.body rs part) (laid_is v refl refl) fault)
+    where
+      laid : Laid
+      laid = laid_at f.number v.body disk.reads
+
+      begins : Begins laid rs
+      begins = subst (λ (l : Laid). Begins l rs) (laid_is v refl refl) behind.begins
+
+      none : (records : List Record) → Begins laid records → IsSoundSoFar laid v.body records → IsSoundBehind laid v.body records
+      none records from sound at bad =
+          stored_undamaged (Unit {0}) any_way f.number disk.reads (play any_way records) now at holds
+          (inr (record { body = v.body; head = v.head; opened = opened rs behind; records = (records, record { begins = from; sound = sound; fault = bad }, refl) }))
 
   -- what was shown with one record more
   pub shows_more : (w : ViewState) (shown : List Record) (r : Record) → w.number ≡ v.number → w.body ≡ v.body → IsBehind v shown disk → IsBehind w (shown ++ r ∷ []) disk → HasShown w (shown ++ r ∷ []) now

@@ -1,4 +1,5 @@
 pub mod Causes
 pub mod Ended
 pub mod Follows
+pub mod Fronts
 pub mod Looking

@@ -30,7 +30,7 @@ use Rattle.lsv_record.proofs.Layouts.{timing_of-append, stream_of-append}
 use Rattle.lsv_iolog.specs.Recovered.{owner_of, IsOfLog, laid_in, HasExit, IsLog}
 use Rattle.lsv_iolog.specs.Later.{IsLater}
 use Rattle.lsv_iolog.specs.Moments.{IsEither, IsThereLater}
-use Rattle.lsv_iolog.specs.Value.{IoLogView, LogValue, all_of, bare, flushed, SameCounts}
+use Rattle.lsv_iolog.specs.Value.{IoLogView, IsFlushOf, LogValue, all_of, bare, flushed, kind_of, SameCounts}
 use Rattle.lsv_iolog.specs.Represents.{Represents}
 use Rattle.lsv_iolog.specs.Inner.Invariant.{IsSettled}
 use Rattle.lsv_iolog.specs.Inner.Next.{cuts_in, next_entry}
@@ -201,3 +201,19 @@ flush_moment log value old new some at run =
 pub on_ok_always : {T E : Type 0} (r : Result T E) (P : Type 0) → P → OnOk r P
 on_ok_always (Ok x) P p = p
 on_ok_always (Err e) P p = tt
+
+-- the kind of the last entry
+pub last_kind : (log : IoLogView) (body : Body) → log.bundle.last ≡ Some body → kind_of log ≡ Some body.kind
+last_kind log body is = ap (option_map (λ (b : Body). b.kind)) is
+
+none_staged : (xs : List ℕ) → length xs ≡ 0 → xs ≡ []
+none_staged [] none = refl
+none_staged (x ∷ xs) none = absurd (let no_ : ⊥ = omega (arith, none) in no_)
+
+-- where no line is staged nothing happens
+pub idle_kind : (log : IoLogView) → length (staged log.bundle Timing) ≡ 0 → IsFlushOf log log
+idle_kind log none = record { some = λ some. absurd (some (none_staged (staged log.bundle Timing) none)); none = λ is. refl }
+
+-- else there is an entry of kind 1
+pub flush_kind : (old new : IoLogView) → length (staged old.bundle Timing) ≢ 0 → IsCommitted (next_entry old 1) (next_length old.bundle) old.bundle new.bundle → IsFlushOf old new
+flush_kind old new some value = record { some = λ staged_some. last_kind new (next_entry old 1) value.last; none = λ none. absurd (some (ap length none)) }

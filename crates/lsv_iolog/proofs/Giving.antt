@@ -1,11 +1,13 @@
 -- The next record of a log, as its committed bytes have it, or what is at fault there.
-use Rattle.std.proofs.Common.{◌≡◌, ◌⊎◌, inl, inr, ℕ, zero, suc, ◌+◌, ◌<◌, ◌≤◌, ◌^◌, List, [], ◌∷◌, ◌++◌, length, take, drop, map, get_or, refl, sym, ◌∙◌, ap, subst, arith, append_assoc, append-nil, length-append, length-drop}
+use Rattle.std.proofs.Common.{◌≡◌, ◌⊎◌, inl, inr, ℕ, zero, suc, cond, nat_eq, ◌+◌, ◌<◌, ◌≤◌, ◌^◌, List, [], ◌∷◌, ◌++◌, length, take, drop, map, get_or, refl, sym, ◌∙◌, ap, subst, arith, append_assoc, append-nil, length-append, length-drop}
+use Rattle.std.proofs.lemmas.Bool.{cases_eq, ne_eqb}
 use Rattle.std.proofs.lemmas.List.{length-take, drop_at, take-append-drop}
 use Rattle.std.proofs.lemmas.List.Elements.{All-cons, All-append, All-nil}
 use Rattle.std.proofs.lemmas.List.Sums.{sum_by-append}
 use Rattle.lsv_words.specs.Pieces.{piece, IsPrefix}
 use Rattle.lsv_disk.specs.declared.file.Part.{Part}
 use Rattle.lsv_disk.specs.declared.file.Part.TheVariants.{Timing}
+use Rattle.lsv_disk.specs.declared.file.Part.TheVariants as parts
 use Rattle.lsv_disk.specs.Throughout.{OnlyReads}
 use Rattle.lsv_disk.specs.View.{DiskView}
 use Rattle.lsv_bundle.specs.declared.body.Body.{Body}
@@ -17,20 +19,23 @@ use Rattle.lsv_record.specs.declared.laid.Laid.{Laid}
 use Rattle.lsv_record.specs.declared.records.Record.{Record}
 use Rattle.lsv_record.specs.declared.records.Record.TheVariants as records
 use Rattle.lsv_record.specs.declared.records.Shaped.{Shaped}
+use Rattle.lsv_record.specs.declared.records.Shaped.TheVariants as shapes_of
 use Rattle.lsv_record.specs.declared.records.Stream.{Stream}
 use Rattle.lsv_record.specs.declared.records.Stream.TheVariants.{Stdin, Stdout, Stderr, Ttyin, Ttyout}
 use Rattle.lsv_record.specs.Layout.{Begins, NextLine, stream_in}
 use Rattle.lsv_record.specs.Lines.{IsLineAt, IsBadAt, told_delay}
-use Rattle.lsv_record.specs.Records.{IsGood, IsValid, shape_of, delay_of, data_in, event_of, timing_of, stream_of, elapsed}
+use Rattle.lsv_record.specs.Records as record_texts
+use Rattle.lsv_record.specs.Records.{IsGood, IsValid, shape_of, shaped_line, delay_of, data_in, event_of, timing_of, stream_of, elapsed}
 use Rattle.lsv_record.specs.Tally.{Totals, lines_of, totals_of, told_count, told_data, with_line}
 use Rattle.lsv_record.proofs.Layouts.{stream_of-push, elapsed-push}
+use Rattle.lsv_record.proofs.Once.{one_line}
 use Rattle.lsv_record.proofs.Tallies.{totals_more, lines_are_timing, lines_tell_data, lines_tell_time, lines_grow}
 use Rattle.lsv_iolog.specs.declared.fault.LogFault.{LogFault}
 use Rattle.lsv_iolog.specs.declared.fault.LogFault.TheVariants as logs
 use Rattle.lsv_iolog.specs.Recovered.{part_of, laid_in}
-use Rattle.lsv_iolog.specs.Reading.{AreThere, IsWindowOf, GoesOn, LacksData, AllUsed, IsLeftOver, IsTimingFault, IsFaultBehind}
+use Rattle.lsv_iolog.specs.Reading.{AreThere, IsWindowOf, GoesOn, LacksData, AllUsed, IsLeftOver, IsStreamFault, IsTimingFault, IsFaultBehind, IsSoundBehind}
 use Rattle.lsv_iolog.specs.Inner.Scanning.{text_of, Scan, IsReading, IsBadLine, EachCounted, AllCounted, streams_before}
-use Rattle.lsv_iolog.specs.Inner.Judging.{IsBehindLines, AreWhole, IsWithin, LacksIn, IsEndFault, back_to}
+use Rattle.lsv_iolog.specs.Inner.Judging.{IsBehindLines, AreWhole, HasData, IsWithin, LacksIn, IsEndFault, back_to}
 use Rattle.lsv_iolog.proofs.Replaying.{same_laid}
 use Rattle.lsv_iolog.proofs.Scans.{text_same}
 use Rattle.lsv_iolog.proofs.Viewing.{still_there, text_long}
@@ -320,3 +325,120 @@ pub timing_alone : (e : LogFault) (part : Part) → e ≡ logs.Damaged part → 
 timing_alone e part is (inl disk) = absurd (let no_ : ⊥ = cc in no_)
 timing_alone e part is (inr (inl damaged)) = let h : logs.Damaged Timing ≡ logs.Damaged part = sym damaged ∙ is in cc
 timing_alone e part is (inr (inr mem)) = absurd (let no_ : ⊥ = cc in no_)
+
+-- ---- where a record is given, or the end, nothing is at fault
+
+line_long : (told : Shaped) → 1 ≤ length (shaped_line told)
+line_long told = omega (arith, length-append (record_texts.text_of told) (10 ∷ []))
+
+none_left : (xs : List ℕ) → drop (length xs) xs ≡ []
+none_left xs = ap (drop (length xs)) (sym (append-nil xs)) ∙ drop_at xs [] (length xs) refl
+
+-- no line stands at the end of a text
+no_line_at_end : (text : List ℕ) (at next : ℕ) (told : Shaped) → at ≡ length text → IsLineAt text at told next → ⊥
+no_line_at_end text at next told end line =
+    let none : [] ≡ shaped_line told ++ drop next text = sym (none_left text) ∙ ap (λ (k : ℕ). drop k text) (sym end) ∙ line.spelled in
+    let counts = ap length none in
+    omega (arith, counts, length-append (shaped_line told) (drop next text), line_long told)
+
+-- what is at fault is the timing, or a stream
+sound_behind : (l : Laid) (body : Body) (rs : List Record) → (IsTimingFault l body rs → ⊥) → ((before : List Stream) (s : Stream) → IsStreamFault l body rs before s → ⊥) → IsSoundBehind l body rs
+sound_behind l body rs timing stream Timing f = timing f
+sound_behind l body rs timing stream parts.Stdin f = stream [] Stdin f
+sound_behind l body rs timing stream parts.Stdout f = stream (Stdin ∷ []) Stdout f
+sound_behind l body rs timing stream parts.Stderr f = stream (Stdin ∷ Stdout ∷ []) Stderr f
+sound_behind l body rs timing stream parts.Ttyin f = stream (Stdin ∷ Stdout ∷ Stderr ∷ []) Ttyin f
+sound_behind l body rs timing stream parts.Ttyout f = stream (Stdin ∷ Stdout ∷ Stderr ∷ Ttyin ∷ []) Ttyout f
+sound_behind l body rs timing stream parts.Head f = f
+sound_behind l body rs timing stream parts.Exit f = f
+sound_behind l body rs timing stream parts.Lines f = f
+sound_behind l body rs timing stream parts.Id f = f
+sound_behind l body rs timing stream parts.Commit f = f
+sound_behind l body rs timing stream parts.Slots f = f
+
+-- the stream of an event
+at_event : ℕ → Stream
+at_event event = cond (nat_eq event 0) Stdin (cond (nat_eq event 1) Stdout (cond (nat_eq event 2) Stderr (cond (nat_eq event 3) Ttyin Ttyout)))
+
+at_its_event : (s : Stream) → at_event (event_of s) ≡ s
+unfolding at_event
+at_its_event Stdin = refl
+at_its_event Stdout = refl
+at_its_event Stderr = refl
+at_its_event Ttyin = refl
+at_its_event Ttyout = refl
+
+event_once : (s t : Stream) → event_of s ≡ event_of t → s ≡ t
+event_once s t e = sym (at_its_event s) ∙ ap at_event e ∙ at_its_event t
+
+-- a line that has its data lacks none
+data_there : (body : Body) (after : Totals) (told : Shaped) (s : Stream) → HasData body after told → (told_count s told ≡ 0) ⊎ (get_or after.data_bytes (event_of s) 0 ≤ length_of body (part_of s))
+data_there body after (shapes_of.Io delay stream count) s has = of (cases_eq (event_of s) (event_of stream)) where
+  of : (event_of s ≡ event_of stream) ⊎ (event_of s ≡ event_of stream → ⊥) → (told_count s (shapes_of.Io delay stream count) ≡ 0) ⊎ (get_or after.data_bytes (event_of s) 0 ≤ length_of body (part_of s))
+  of (inl same) = inr (subst (λ (t : Stream). get_or after.data_bytes (event_of t) 0 ≤ length_of body (part_of t)) (sym (event_once s stream same)) has)
+  of (inr other) = inl (rw (ne_eqb (event_of s) (event_of stream) other) refl)
+data_there body after (shapes_of.Winsize delay rows cols) s has = inl refl
+data_there body after (shapes_of.Suspend delay signal) s has = inl refl
+
+module _ (lines : Scan) (rs : List Record) (disk : DiskView) (is : IsBehindLines lines rs disk) (small : length_of lines.view.body Timing ≤ 2 ^ 40) where
+  abbrev l_of : Laid
+  l_of = laid_in (text_of lines.view disk)
+
+  not_big : 2 ^ 40 < length (text_of lines.view disk Timing) → ⊥
+  not_big big = let long = text_long lines.view disk Timing (is.there Timing tt) in omega (arith, long, small, big)
+
+  -- a line stands there, which goes on as the entry says, and its data are there
+  module _ (told : Shaped) (next : ℕ) (after : Totals) (stands : IsLineAt (text_of lines.view disk Timing) lines.tally.timing told next) (more : after ≡ with_line lines.tally told)
+      (within : IsWithin lines.view.body after) (has : HasData lines.view.body after told) where
+    here : NextLine l_of rs told
+    here = next_line lines rs disk told next is stands
+
+    goes : GoesOn lines.view.body rs told
+    goes = within_goes lines.tally lines.view.body rs told is.given (subst (IsWithin lines.view.body) more within)
+
+    same_told : (other : Shaped) → NextLine l_of rs other → other ≡ told
+    same_told other at = (one_line (text_of lines.view disk Timing) (length (timing_of rs)) at.0 here.0 other told at.1 here.1).0
+
+    not_ended : text_of lines.view disk Timing ≡ timing_of rs → ⊥
+    not_ended ends = no_line_at_end (text_of lines.view disk Timing) (length (timing_of rs)) here.0 told (ap length (sym ends)) here.1
+
+    timing_goes : IsTimingFault l_of lines.view.body rs → ⊥
+    timing_goes (inl bad) = bad.no_line told here.0 here.1
+    timing_goes (inr (inl (other, at, stops))) = stops (subst (GoesOn lines.view.body rs) (sym (same_told other at)) goes)
+    timing_goes (inr (inr (inl (ends, otherwise)))) = not_ended ends
+    timing_goes (inr (inr (inr big))) = not_big big
+
+    few : (s : Stream) → length (stream_in s l_of) < length (stream_of s rs) + told_count s told → (told_count s told ≡ 0) ⊎ (get_or after.data_bytes (event_of s) 0 ≤ length_of lines.view.body (part_of s)) → ⊥
+    few s lacks (inl none) = let less = prefix_less (stream_of s rs) (stream_in s l_of) (is.begins.streams s) in omega (arith, lacks, none, less)
+    few s lacks (inr enough) =
+        let long = stream_long lines rs disk s is in
+        let bytes = ap (λ (t : Totals). get_or t.data_bytes (event_of s) 0) more ∙ data_more lines.tally rs told s is.given in
+        omega (arith, lacks, enough, long, bytes)
+
+    stream_goes : (before : List Stream) (s : Stream) → IsStreamFault l_of lines.view.body rs before s → ⊥
+    stream_goes before s (inl (other, at, on, lacks)) =
+        few s (subst (λ (t : Shaped). length (stream_in s l_of) < length (stream_of s rs) + told_count s t) (same_told other at) lacks) (data_there lines.view.body after told s has)
+    stream_goes before s (inr over) = not_ended over.ends.timing
+
+    -- so nothing is at fault
+    pub going_sound : IsSoundBehind l_of lines.view.body rs
+    going_sound = sound_behind l_of lines.view.body rs timing_goes stream_goes
+
+  -- the lines end there, as the entry says
+  module _ (end : lines.tally.timing ≡ length_of lines.view.body Timing) (whole : AreWhole lines.view rs disk) where
+    at_end : length (timing_of rs) ≡ length (text_of lines.view disk Timing)
+    at_end = ap length (sym whole.layout.timing)
+
+    timing_ends_sound : IsTimingFault l_of lines.view.body rs → ⊥
+    timing_ends_sound (inl bad) = let before = bad.before_end in omega (arith, before, at_end)
+    timing_ends_sound (inr (inl (told, at, stops))) = no_line_at_end (text_of lines.view disk Timing) (length (timing_of rs)) at.0 told at_end at.1
+    timing_ends_sound (inr (inr (inl (ends, otherwise)))) = otherwise (record { timing = ends; count = whole.count; time = whole.time })
+    timing_ends_sound (inr (inr (inr big))) = not_big big
+
+    stream_ends_sound : (before : List Stream) (s : Stream) → IsStreamFault l_of lines.view.body rs before s → ⊥
+    stream_ends_sound before s (inl (told, at, on, lacks)) = no_line_at_end (text_of lines.view disk Timing) (length (timing_of rs)) at.0 told at_end at.1
+    stream_ends_sound before s (inr over) = let left = over.left in let same = ap length (whole.layout.streams s) in omega (arith, left, same)
+
+    -- so nothing is at fault
+    pub ending_sound : IsSoundBehind l_of lines.view.body rs
+    ending_sound = sound_behind l_of lines.view.body rs timing_ends_sound stream_ends_sound

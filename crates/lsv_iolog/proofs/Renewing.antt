@@ -1,5 +1,5 @@
 -- A log that is looked at again, and is a later state of what it was.
-use Rattle.std.proofs.Common.{◌≡◌, inl, inr, ℕ, ◌<◌, ◌^◌, List, [], ◌++◌, length, take, map, All, Option, Some, None, refl, sym, ◌∙◌, ap, subst, arith, append_assoc}
+use Rattle.std.proofs.Common.{◌≡◌, ◌≤◌, inl, inr, ℕ, ◌<◌, ◌^◌, List, [], ◌++◌, length, take, map, All, Option, Some, None, refl, sym, ◌∙◌, ap, subst, arith, append_assoc}
 use Rattle.std.proofs.lemmas.List.{take_at}
 use Rattle.std.proofs.lemmas.List.Elements.{All-take}
 use Rattle.lsv_disk.specs.Bytes.{bytes_of}
@@ -15,6 +15,7 @@ use Rattle.lsv_bundle.specs.Body.{encoded, length_of}
 use Rattle.lsv_bundle.specs.Committed.{HasPrefix, HasEntry}
 use Rattle.lsv_bundle.specs.Shape.{IsPart}
 use Rattle.lsv_bundle.proofs.Laws.{one_body}
+use Rattle.lsv_info.specs.declared.times.Head as info
 use Rattle.lsv_record.specs.declared.laid.Laid.{Laid}
 use Rattle.lsv_record.specs.declared.records.Record.{Record}
 use Rattle.lsv_record.specs.declared.records.Stream.{Stream}
@@ -22,13 +23,14 @@ use Rattle.lsv_record.specs.declared.records.Stream.TheVariants.{Stdin, Stdout, 
 use Rattle.lsv_record.specs.Layout.{Begins, layout_of, stream_in}
 use Rattle.lsv_record.specs.Points.{Stored}
 use Rattle.lsv_record.specs.Records.{IsValid, shape_of, timing_of, stream_of, elapsed}
-use Rattle.lsv_record.specs.Tally.{totals_of}
+use Rattle.lsv_record.specs.Tally.{Totals, totals_of}
 use Rattle.lsv_record.proofs.Layouts.{timing_of-append, stream_of-append, elapsed-append}
 use Rattle.lsv_iolog.specs.Recovered.{owner_of, HoldsLog}
 use Rattle.lsv_iolog.specs.Later.{IsLater}
-use Rattle.lsv_iolog.specs.Reading.{AreThere, ViewState, committed_text, committed_laid, IsWindowOf, IsBehind}
+use Rattle.lsv_iolog.specs.Reading.{AreThere, ViewState, committed_text, committed_laid, IsWindowOf, IsBehind, IsPlaced}
 use Rattle.lsv_iolog.proofs.Replaying.{same_laid}
 use Rattle.lsv_iolog.proofs.Giving.{tally_timing, prefix_less}
+use Rattle.lsv_iolog.proofs.Viewing.{all_there}
 use Rattle.lsv_iolog.proofs.Windows.{window_none}
 
 -- a file that begins with as many bytes
@@ -98,3 +100,12 @@ later_behind view old new was now rs more entry reads there is cuts holds later 
 
   begins : Begins (committed_laid view.number view.body new) rs
   begins = subst (λ (l : Laid). Begins l rs) (sym (committed_layout view.number view.body now old new entry reads holds)) (layout_begins now.records rs rest.0 rest.1 holds.is.valid holds.is.in_time)
+
+-- a view that reads on where as many bytes of timing are committed as were given
+pub placed_anew : (n : ℕ) (head : info.Head) (body : Body) (given : Totals) (disk : DiskView) → AreThere (owner_of n) body disk.reads → given.timing ≤ length_of body Timing
+    → IsPlaced (record { number = n; head = head; body = body; given = given; start = given.timing; window = [] }) disk
+placed_anew n head body given disk there enough = record {
+  there = there;
+  window = window_none (committed_text n body disk Timing) given.timing
+      (let long = all_there (disk.reads (file_of (owner_of n) Timing)) (length_of body Timing) (there Timing tt) in omega (arith, long, enough));
+}

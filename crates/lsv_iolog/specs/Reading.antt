@@ -1,5 +1,5 @@
 -- A log that is read record by record, by what its files read as.
-use Rattle.std.specs.Prelude.{◌≡◌, ℕ, ◌+◌, ◌<◌, ◌≤◌, ◌^◌, ◌⊎◌, List, [], ◌∷◌, length, map}
+use Rattle.std.specs.Prelude.{◌≡◌, ◌==◌, ℕ, ◌+◌, ◌<◌, ◌≤◌, ◌^◌, ◌⊎◌, Bool, List, [], ◌∷◌, length, map}
 use Rattle.lsv_words.specs.Pieces.{piece}
 use Rattle.lsv_disk.specs.Files.{file_of}
 use Rattle.lsv_disk.specs.declared.file.Owner.{Owner}
@@ -35,6 +35,10 @@ pub record ViewState : Type 0 where
   pub start : ℕ
   pub window : List ℕ
 
+-- the last entry is that of a complete log
+abbrev pub is_over : ViewState → Bool
+is_over view = view.body.kind == 3
+
 -- of the timing no more is held than 65,536 bytes
 abbrev pub HoldsLittle : ViewState → Type 0
 HoldsLittle view = length view.window ≤ 65536
@@ -62,6 +66,11 @@ pub record IsWindowOf (text : List ℕ) (start : ℕ) (window : List ℕ) (next 
 pub record IsBehind (view : ViewState) (records : List Record) (disk : DiskView) : Type 0 where
   pub begins : Begins (committed_laid view.number view.body disk) records
   pub given : view.given ≡ totals_of (map shape_of records)
+  pub there : AreThere (owner_of view.number) view.body disk.reads
+  pub window : IsWindowOf (committed_text view.number view.body disk Timing) view.start view.window view.given.timing
+
+-- each data file is there and as long as the entry says, and the next line begins in the window or at its end
+pub record IsPlaced (view : ViewState) (disk : DiskView) : Type 0 where
   pub there : AreThere (owner_of view.number) view.body disk.reads
   pub window : IsWindowOf (committed_text view.number view.body disk Timing) view.start view.window view.given.timing
 
@@ -130,3 +139,7 @@ IsFaultBehind l body records Lines = ⊥
 IsFaultBehind l body records Id = ⊥
 IsFaultBehind l body records Commit = ⊥
 IsFaultBehind l body records Slots = ⊥
+
+-- after these records nothing is at fault
+abbrev pub IsSoundBehind : Laid → Body → List Record → Type 0
+IsSoundBehind l body records = (part : Part) → IsFaultBehind l body records part → ⊥

@@ -1,8 +1,9 @@
 -- An open log, as contracts see it.
-use Rattle.std.specs.Prelude.{◌≡◌, ℕ, ◌==◌, Bool, false, List, [], ◌∷◌, ◌++◌, Some, None}
+use Rattle.std.specs.Prelude.{◌≡◌, ◌≢◌, ℕ, ◌==◌, Bool, false, List, [], ◌∷◌, ◌++◌, Option, Some, None, option_map}
 use Rattle.std.specs.Option.{option_map_or}
+use Rattle.lsv_disk.specs.declared.file.Part.TheVariants.{Timing}
 use Rattle.lsv_bundle.specs.declared.body.Body.{Body}
-use Rattle.lsv_bundle.specs.Value.{BundleView, NoneStaged}
+use Rattle.lsv_bundle.specs.Value.{BundleView, NoneStaged, staged}
 use Rattle.lsv_info.specs.declared.times.Head as info
 use Rattle.lsv_record.specs.declared.records.Record.{Record}
 use Rattle.lsv_record.specs.Points.{Stored}
@@ -23,6 +24,10 @@ pub record IoLogView : Type 0 where
 -- its last entry is that of a finished log
 abbrev pub is_complete : IoLogView → Bool
 is_complete log = option_map_or (λ (body : Body). body.kind == 3) log.bundle.last false
+
+-- the kind of its last entry
+abbrev pub kind_of : IoLogView → Option ℕ
+kind_of log = option_map (λ (body : Body). body.kind) log.bundle.last
 
 -- what a log's value stands for: a stored log, and records that are staged behind its own
 pub record LogValue : Type 0 where
@@ -59,6 +64,11 @@ pub record SameCounts (old new : IoLogView) : Type 0 where
   pub head : new.head ≡ old.head
   pub count : new.count ≡ old.count
   pub elapsed : new.elapsed ≡ old.elapsed
+
+-- a flush left the log so: what is staged is committed by an entry of kind 1, and where no line is staged the log is as it was
+pub record IsFlushOf (old new : IoLogView) : Type 0 where
+  pub some : staged old.bundle Timing ≢ [] → kind_of new ≡ Some 1
+  pub none : staged old.bundle Timing ≡ [] → new ≡ old
 
 -- nothing is staged
 abbrev pub IsFlushed : IoLogView → Type 0

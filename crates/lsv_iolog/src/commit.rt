@@ -11,7 +11,7 @@ ghost use Rattle.lsv_bundle.specs.Value.{next_length, IsCommitted};
 ghost use Rattle.lsv_info.specs.Layout.{exit_text};
 ghost use Rattle.lsv_iolog.specs.declared.fault.LogFault.{LogFault};
 ghost use Rattle.lsv_iolog.specs.Recovered.{IsOfLog};
-ghost use Rattle.lsv_iolog.specs.Value.{LogValue, is_complete, bare, flushed, finished, SameCounts, IsFlushed};
+ghost use Rattle.lsv_iolog.specs.Value.{LogValue, is_complete, bare, flushed, finished, kind_of, SameCounts, IsFlushed, IsFlushOf};
 ghost use Rattle.lsv_iolog.specs.Represents.{Represents};
 ghost use Rattle.lsv_iolog.specs.Inner.Next.{next_entry};
 ghost use Rattle.lsv_iolog.specs.Moments.{IsEither, IsThereLater, CallsOfLog};
@@ -23,8 +23,8 @@ use lsv_disk::{Disk, Part};
 use lsv_info::{Exit, write_exit};
 
 impl IoLog {
-    /// Commits all staged records, by one entry where there is one, and answers the nanoseconds from the start of the
-    /// log to its last record. At every moment a crash leaves the log as it was before or as it is now, and after Ok
+    /// Commits all staged records, by one entry of kind 1 where there is one, and answers the nanoseconds from the start
+    /// of the log to its last record. At every moment a crash leaves the log as it was before or as it is now, and after Ok
     /// the latter alone. `Disk` only where a device call on a file of this log failed; from then on `Broken`, until it
     /// is opened again. It takes no memory.
     pub fn flush<D: Disk>(&mut self, disk: &mut D) -> Result<Point, LogFault>
@@ -33,6 +33,7 @@ impl IoLog {
         ensures counts { SameCounts self.old self.new }
         ensures whole { OnOk result ((self.old.is_broken ≡ false) × (self.new.is_broken ≡ false)) }
         ensures going { is_complete self.old ≡ false → is_complete self.new ≡ false }
+        ensures kind { OnOk result (IsFlushOf self.old self.new) }
         ensures represents { D.tells → OnOk result ((value : LogValue) → Represents self.old value (D.view disk.old) → Represents self.new (bare (flushed value)) (D.view disk.new)) }
         ensures any_moment { D.tells → (value : LogValue) → Represents self.old value (D.view disk.old)
             → Throughout (IsOfLog self.old.number) (IsEither self.old.number (Some value.stored) (Some (flushed value))) (D.view disk.old) (D.view disk.new) }
@@ -55,7 +56,7 @@ impl IoLog {
         self.commit(disk, FLUSHED)
     }
 
-    /// Commits all staged records with the text of this exit, by one entry; the log wasn't complete, and is then. The
+    /// Commits all staged records with the text of this exit, by one entry of kind 3; the log wasn't complete, and is then. The
     /// exit's run time is valid. Crashes leave what they leave of a flush, and `Disk` and `Broken` come as there.
     /// `Full(Exit)` exactly where the exit's text is too long for its file, which then is unchanged: so it fits where the
     /// disk failed.
@@ -68,6 +69,7 @@ impl IoLog {
         ensures whole { OnOk result ((self.old.is_broken ≡ false) × (self.new.is_broken ≡ false)) }
         ensures flushed { OnOk result (IsFlushed self.new) }
         ensures complete { OnOk result (is_complete self.new ≡ true) }
+        ensures kind { OnOk result (kind_of self.new ≡ Some 3) }
         ensures incomplete { OnErr result (is_complete self.new ≡ false) }
         ensures represents { D.tells → OnOk result ((value : LogValue) → Represents self.old value (D.view disk.old) → Represents self.new (bare (finished value (exit_text exit.now))) (D.view disk.new)) }
         ensures any_moment { D.tells → (value : LogValue) → Represents self.old value (D.view disk.old)

@@ -22,7 +22,7 @@ ghost use Rattle.lsv_iolog.specs.Inner.Scanning.{text_of};
 ghost use Rattle.lsv_iolog.specs.declared.fault.LogFault.{LogFault};
 ghost use Rattle.lsv_iolog.specs.Recovered.{IsOfLog, owner_of};
 ghost use Rattle.lsv_iolog.specs.Later.{cut_log, drops};
-ghost use Rattle.lsv_iolog.specs.Value.{LogValue, is_complete, bare, SameCounts, IsFlushed};
+ghost use Rattle.lsv_iolog.specs.Value.{LogValue, is_complete, bare, kind_of, SameCounts, IsFlushed};
 ghost use Rattle.lsv_iolog.specs.Represents.{Represents};
 ghost use Rattle.lsv_iolog.specs.Moments.{IsEither, IsThereLater, IsCutFault};
 
@@ -39,8 +39,8 @@ use std::alloc::Global;
 const MOST_CUTS: u64 = (1 << 63) - 1;
 
 impl IoLog {
-    /// Keeps the records through the first that ends at this point, and counts a cut where it drops one. Nothing is
-    /// staged. `Broken` exactly where the log is; else `Complete` exactly where it is complete; else `NoPoint` exactly
+    /// Keeps the records through the first that ends at this point, by an entry of kind 2, and counts a cut where it drops
+    /// one. Nothing is staged. `Broken` exactly where the log is; else `Complete` exactly where it is complete; else `NoPoint` exactly
     /// where no record ends there; `Full(Slots)` exactly where the cuts would pass 2^63 - 1. At every moment a crash
     /// leaves the log as it was before or as it is cut, and after Ok the latter alone. `Disk` only where a device call
     /// failed: on the journal, once the point was found; or on the timing, which is read in pieces of at most 65,536
@@ -52,6 +52,7 @@ impl IoLog {
         ensures whole { OnOk result ((self.old.is_broken ≡ false) × (self.new.is_broken ≡ false)) }
         ensures going { OnOk result ((is_complete self.old ≡ false) × (is_complete self.new ≡ false)) }
         ensures flushed { OnOk result (IsFlushed self.new) }
+        ensures kind { OnOk result (kind_of self.new ≡ Some 2) }
         ensures elapsed { OnOk result (self.new.elapsed ≡ point) }
         ensures counts { OnErr result (SameCounts self.old self.new) }
         ensures kept { OnErr result (is_complete self.new ≡ is_complete self.old) }

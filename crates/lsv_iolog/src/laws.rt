@@ -9,6 +9,7 @@ ghost use Rattle.lsv_record.specs.Points.{Stored};
 ghost use Rattle.lsv_record.specs.Records.{IsValid};
 ghost use Rattle.lsv_iolog.specs.Recovered.{IsOfLog, Replays, ReplaysNothing, SameFiles, Decided};
 ghost use Rattle.lsv_iolog.specs.Damage.{IsDamagedAt};
+ghost use Rattle.lsv_iolog.specs.Later.{IsLater};
 ghost use Rattle.lsv_iolog.specs.Value.{LogValue, with_record};
 ghost use Rattle.lsv_iolog.specs.Represents.{Represents, Stages};
 
@@ -24,6 +25,12 @@ pub fn a_log_is_recovered_in_one_way()
     ensures absent { (image : Image) (n : ℕ) → ((file : FileId) → IsOfLog n file → image file ≡ None) → Replays image n None }
     ensures decided { (image : Image) (n : ℕ) → Decided image n }
     ensures damaged { (image : Image) (n : ℕ) (part : Part) → IsDamagedAt n part image → ReplaysNothing image n }
+{}
+
+/// The states of a log are in order: each is later than or equal to itself, and a state later than a later one is later.
+pub fn later_states_are_ordered()
+    ensures same { (log : Stored) → IsLater log log }
+    ensures further { (a b c : Stored) → IsLater a b → IsLater b c → IsLater a c }
 {}
 
 /// Each crash image replays what an open log has committed. It stays represented where calls on the disk touched none of

@@ -14,6 +14,6 @@ mod pieces;
 mod view;
 
 pub use fault::LogFault;
-pub use laws::{a_log_is_recovered_in_one_way, logs_stay};
+pub use laws::{a_log_is_recovered_in_one_way, later_states_are_ordered, logs_stay};
 pub use log::IoLog;
 pub use view::{LogView, Renewed};

@@ -12,7 +12,7 @@ ghost use Rattle.lsv_iolog.specs.declared.fault.LogFault.{LogFault};
 ghost use Rattle.lsv_bundle.specs.Value.{committed_length};
 ghost use Rattle.lsv_iolog.specs.Recovered.{owner_of, IsOfLog, IsUnmade, IsHeadText, Replays};
 ghost use Rattle.lsv_iolog.specs.Inner.Invariant.{IsSettled, HasCommitted};
-ghost use Rattle.lsv_iolog.specs.Value.{is_complete, bare, made, IsFlushed};
+ghost use Rattle.lsv_iolog.specs.Value.{is_complete, bare, kind_of, made, IsFlushed};
 ghost use Rattle.lsv_iolog.specs.Represents.{Represents};
 ghost use Rattle.lsv_iolog.specs.Moments.{IsEither, CallsOfLog};
 
@@ -146,7 +146,7 @@ fn make_files<D: Disk>(
 }
 
 impl IoLog {
-    /// Makes a log of this head, with no record. None of its files is there, and its head's time is valid. At every
+    /// Makes a log of this head, with no record, by an entry of kind 0. None of its files is there, and its head's time is valid. At every
     /// moment a crash leaves nothing of it or the whole log, and after Ok the log. `Disk` only where a device call on
     /// a file of this log failed, `Full(Head)` where the head's text has more than 2^40 bytes; then nothing of it is left
     /// whatever failed. Memory is asked for before the log is there: also at `NoMem` nothing of it is left, at no moment.
@@ -163,6 +163,7 @@ impl IoLog {
         ensures going { IfOk result (λ log. is_complete log ≡ false) }
         ensures flushed { IfOk result IsFlushed }
         ensures counts { IfOk result (λ log. (log.count ≡ 0) × (log.elapsed ≡ 0)) }
+        ensures kind { IfOk result (λ log. kind_of log ≡ Some 0) }
         ensures represents { D.tells → IfOk result (λ log. Represents log (bare (made (head_text head.now))) (D.view disk.new)) }
         ensures any_moment { D.tells → Throughout (IsOfLog number) (IsEither number None (Some (made (head_text head.now)))) (D.view disk.old) (D.view disk.new) }
         ensures nothing { D.tells → 2 ^ 40 < length (head_text head.now) → Throughout (IsOfLog number) (λ image. Replays image number None) (D.view disk.old) (D.view disk.new) }

@@ -18,8 +18,8 @@ ghost use Rattle.lsv_iolog.specs.Later.{IsLater};
 ghost use Rattle.lsv_iolog.specs.Damage.{IsViewDamage};
 ghost use Rattle.lsv_iolog.specs.Faults.{IsOpenFault, IsNextFault};
 ghost use Rattle.lsv_iolog.specs.Inner.Scanning.{text_of, IsReading, IsViewOf, AllCounted};
-ghost use Rattle.lsv_iolog.specs.Inner.Judging.{IsBehindLines, AreWhole, LacksIn, IsWithin, IsEndFault, back_to};
-ghost use Rattle.lsv_iolog.specs.Reading.{committed_text, committed_laid, AreThere, HasShrunk, HoldsLittle, IsBehind, IsWhole, IsFaultBehind};
+ghost use Rattle.lsv_iolog.specs.Inner.Judging.{IsBehindLines, AreWhole, HasData, LacksIn, IsWithin, IsEndFault, back_to};
+ghost use Rattle.lsv_iolog.specs.Reading.{committed_text, committed_laid, is_over, AreThere, HasShrunk, HoldsLittle, IsBehind, IsPlaced, IsWhole, IsFaultBehind, IsSoundBehind};
 
 use crate::LogFault;
 use crate::append::part_of;
@@ -113,6 +113,13 @@ impl LogView {
         self.lines.view().body
     }
 
+    /// Whether the last entry is that of a complete log, which grows no more.
+    pub fn is_over(&self) -> bool
+        ensures { result ≡ is_over self.now }
+    {
+        self.lines.view().body.kind == COMPLETE
+    }
+
     /// How the command ended. None exactly where the log is incomplete, `Damaged(Exit)` exactly where what is committed
     /// is no exit. `Disk` only where a device call on its file failed.
     pub fn exit<D: Disk>(&mut self, disk: &mut D) -> Result<Option<Exit>, LogFault>
@@ -140,7 +147,8 @@ impl LogView {
     /// Gives the next record. None exactly at the end. `Damaged(Timing)` exactly where the next line is bad, or the
     /// elapsed time through it reaches 2^63 nanoseconds, or the lines end or go on otherwise than the last entry says,
     /// `Damaged` of a stream exactly where too few of its bytes are committed for the line, or some are left over at the
-    /// end. `Disk` only where a device call on a file of this log failed. After a fault it stands where it stood.
+    /// end: so no record is given, and no end, after which a part is at fault. `Disk` only where a device call on a file
+    /// of this log failed. After a fault it stands where it stood.
     pub fn next<D: Disk>(&mut self, disk: &mut D) -> Result<Option<Record>, LogFault>
         ensures given { D.tells → IfOk result (λ o. IfSome o (λ r. (records : List Record) → IsBehind self.old records (D.view disk.old) → IsBehind self.new (records ++ r ∷ []) (D.view disk.new))) }
         ensures valid { IfOk result (λ o. IfSome o IsValid) }
@@ -150,6 +158,7 @@ impl LogView {
         ensures little { HoldsLittle self.new }
         ensures damaged { D.tells → (part : Part) → IsErrOf result (LogFault.Damaged part) → (records : List Record) → IsBehind self.old records (D.view disk.old)
             → IsFaultBehind (committed_laid self.old.number self.old.body (D.view disk.old)) self.old.body records part }
+        ensures sound { D.tells → OnOk result ((records : List Record) → IsBehind self.old records (D.view disk.old) → IsSoundBehind (committed_laid self.old.number self.old.body (D.view disk.old)) self.old.body records) }
         ensures reads { D.tells → OnlyReads (D.view disk.old) (D.view disk.new) }
         ensures fault { IfErr result IsNextFault }
         ensures cause { HasOwnCause (IsOfLog self.old.number) (IsErrOf result LogFault.Disk) (D.view disk.old) (D.view disk.new) }
@@ -163,14 +172,16 @@ impl LogView {
     }
 
     /// Looks at the log again. `Cut` exactly where it was cut since, and then the view is as it was; else the view has
-    /// the last entry, and stands behind the records that it gave. The faults are those of `open`, and `Damaged(Timing)`
-    /// where it wasn't cut and yet has fewer bytes of timing than were given.
+    /// the last entry, whose files are there and as long as it says, and stands after the records that it gave. The
+    /// faults are those of `open`, and `Damaged(Timing)` where it wasn't cut and yet has fewer bytes of timing than were
+    /// given.
     pub fn renew<D: Disk>(&mut self, disk: &mut D) -> Result<Renewed, LogFault>
         ensures cut { IfOk result (λ renewed. (cuts : ℕ) → renewed ≡ Renewed.Cut cuts → (cuts ≢ self.old.body.extra) × (self.new ≡ self.old)) }
         ensures cuts { D.tells → IfOk result (λ renewed. (cuts : ℕ) → renewed ≡ Renewed.Cut cuts → (body : Body) × HasEntry (owner_of self.old.number) body (D.view disk.old).reads × (cuts ≡ body.extra)) }
         ensures same { IfOk result (λ renewed. renewed ≡ Renewed.Same → (self.new.number ≡ self.old.number) × (self.new.body.extra ≡ self.old.body.extra) × (self.new.given ≡ self.old.given)) }
         ensures entry { D.tells → IfOk result (λ renewed. renewed ≡ Renewed.Same → HasEntry (owner_of self.old.number) self.new.body (D.view disk.old).reads) }
         ensures head { D.tells → IfOk result (λ renewed. renewed ≡ Renewed.Same → head_of (committed_text self.old.number self.new.body (D.view disk.new) Part.Head) ≡ Ok self.new.head) }
+        ensures placed { D.tells → IfOk result (λ renewed. renewed ≡ Renewed.Same → IsPlaced self.new (D.view disk.new)) }
         ensures later { D.tells → IfOk result (λ renewed. renewed ≡ Renewed.Same → (before now : Stored) (records more : List Record) → before.records ≡ records ++ more → before.cuts ≡ self.old.body.extra
             → Replays (D.view disk.old).reads self.old.number (Some now) → IsLater before now → self.old.given ≡ totals_of (map shape_of records) → IsBehind self.new records (D.view disk.new)) }
         ensures unchanged { OnErr result (self.new ≡ self.old) }
@@ -210,6 +221,7 @@ fn next_record<D: Disk>(
     ensures view { lines.new.view ≡ lines.old.view }
     ensures damaged { D.tells → (part : Part) → IsErrOf result (LogFault.Damaged part) → (records : List Record) → IsBehindLines lines.old records (D.view disk.old)
         → IsFaultBehind (laid_in (text_of lines.old.view (D.view disk.old))) lines.old.view.body records part }
+    ensures sound { D.tells → OnOk result ((records : List Record) → IsBehindLines lines.old records (D.view disk.old) → IsSoundBehind (laid_in (text_of lines.old.view (D.view disk.old))) lines.old.view.body records) }
     ensures reads { D.tells → OnlyReads (D.view disk.old) (D.view disk.new) }
     ensures fault { IfErr result IsNextFault }
     ensures cause { HasOwnCause (λ file. file.owner ≡ lines.old.view.owner) (IsErrOf result LogFault.Disk) (D.view disk.old) (D.view disk.new) }
@@ -238,6 +250,7 @@ fn told_record<D: Disk>(
     requires shape { view.now.shape ≡ shapes.Log }
     ensures shape { IfOk result (λ r. shape_of r ≡ told) }
     ensures data_bytes { D.tells → IfOk result (λ r. (s : Stream) → data_in s r ≡ piece (text_of view.now (D.view disk.old) (part_of s)) (get_or before.now.data_bytes (event_of s) 0) (told_count s told)) }
+    ensures enough { OnOk result (HasData view.now.body after.now told) }
     ensures lacks { D.tells → (part : Part) → IsErrOf result (LogFault.Damaged part) → LacksIn view.now before.now after.now told (D.view disk.old) part }
     ensures reads { D.tells → OnlyReads (D.view disk.old) (D.view disk.new) }
     ensures fault { IfErr result IsNextFault }
@@ -270,6 +283,7 @@ fn told_data<D: Disk>(
     requires shape { view.now.shape ≡ shapes.Log }
     ensures count { IfOk result (λ bytes. length bytes ≡ count) }
     ensures data_bytes { D.tells → IfOk result (λ bytes. bytes ≡ piece (text_of view.now (D.view disk.old) (part_of stream)) (get_or before.now.data_bytes (event_of stream) 0) count) }
+    ensures enough { OnOk result (get_or after.now.data_bytes (event_of stream) 0 ≤ length_of view.now.body (part_of stream)) }
     ensures lacks { D.tells → (part : Part) → IsErrOf result (LogFault.Damaged part) → (part ≡ part_of stream)
         × ((length_of view.now.body (part_of stream) < get_or after.now.data_bytes (event_of stream) 0)
         ⊎ (length (piece (text_of view.now (D.view disk.old) (part_of stream)) (get_or before.now.data_bytes (event_of stream) 0) count) < count)) }

@@ -37,7 +37,7 @@ use Rattle.lsv_keeper.specs.Accepting.{Begun, Making, MakingIf, Stopped, StopsFo
 use Rattle.lsv_keeper.specs.Reading.{reading_of}
 use Rattle.lsv_keeper.specs.Rows.{AllRose, Beside, Left, RowGives, RowIs}
 use Rattle.lsv_keeper.specs.Value.{Keeps, KeeperView, event_line, settings_of}
-use Rattle.lsv_keeper.proofs.Acting.{Ends, OwnIf, OwnKeeps, acted, concerns_ends, ends_owes, ends_refusal, ends_refused, ends_wants, keeps_before}
+use Rattle.lsv_keeper.proofs.Acting.{Ends, OwnIf, OwnKeeps, acted, concerns_ends, ends_owes, ends_refusal, ends_refused, ends_wants, keeps_before, IsAbout, about_none, about_some}
 use Rattle.lsv_keeper.proofs.Asking.{act_of, asks_in, fault_step, plain_asks, plain_step, wants_step}
 use Rattle.lsv_keeper.proofs.Counting.{counts_did, rose_none, rose_first}
 use Rattle.lsv_keeper.proofs.Frames.{Laws, beside_on, beside_wider, resting}
@@ -180,12 +180,17 @@ stopped_row v v1 v2 old mid new now job head m why laws laws1 k r a x left answe
     own (Some i) act making ends b = keeps_before v i act m old mid new (making_ends v i (head_text head) act m old mid making ends)
         (resting v.lane v.lanes None i mid new laws1 (λ q. let y : None ≡ Some i = q in absurd (cc)) b)
 
+    about_made : (o : Option ℕ) (act : Act) → MakingIf o (head_text head) v m old mid → IsAbout v.lane v.lanes o m act
+    about_made None act making = about_none v.lane v.lanes m act
+    about_made (Some i) act making = about_some v.lane v.lanes i m act (inl making.of_lane)
+
     row : (failed : List Owner) → AllRose failed old new → Ends job.conn answers → Step set m (act_of job answers failed [] now) (leaves job.conn Dead x.left) → RowIs v now job answers m v2 old new
     row failed up ends step = (
       leaves job.conn Dead left.left,
       acted v now job x.log (act_of job answers failed [] now) m (leaves job.conn Dead left.left) old new laws refl refl
           (subst (λ (y : Machine). Step set m (act_of job answers failed [] now) (leaves job.conn Dead y)) (sym stays) step)
           (counts_did (act_of job answers failed [] now) old new all.monotone up refl)
+          (about_made x.log (act_of job answers failed [] now) x.making)
           (concerns_ends x.log m (act_of job answers failed [] now) (λ n writes. absurd (let y : None ≡ Some n = sym idle ∙ writes in cc)) ends)
           all
           (own x.log (act_of job answers failed [] now) x.making ends late),
@@ -241,6 +246,7 @@ begun_row v v' old new now job head m n text laws r a x answers e = (
       (plain_step (settings_of v) now job n m after answers (say job.conn (LogId n) ∷ []) line x.drawn
       (plain_asks (settings_of v) now job n m (asked head) a ∙ begun_lined v now job.conn (m.states job.conn) head n m r x.within x.fits x.line_fits_in) e)
       (counts_did act old new x.beside.monotone (rose_none old new) refl)
+      (about_some v.lane v.lanes n m act (inl x.making.of_lane))
       (record {
         own = λ i writes. absurd (let y : None ≡ Some i = sym (idle_of (m.states job.conn) r) ∙ writes in cc);
         to = subst (AllTo job.conn) (sym e) (refl, tt);

@@ -17,7 +17,7 @@ use Rattle.lsv_keeper.specs.declared.logs.OpenLogs.{OpenLogs}
 use Rattle.lsv_keeper.specs.Logs.{open_logs}
 use Rattle.lsv_keeper.specs.Represents.{AllOwned, LogIs, Masks, Represents}
 use Rattle.lsv_keeper.specs.Room.{IsRoomier}
-use Rattle.lsv_keeper.specs.Value.{IsReserved, IsResting, Keeps, KeeperView, Owns, log_in, owed, settings_of}
+use Rattle.lsv_keeper.specs.Value.{AreLinked, AreWhole, IsReserved, IsResting, Keeps, KeeperView, Owns, log_in, owed, settings_of}
 use Rattle.lsv_keeper.proofs.Standing.{events_stay, represents_one}
 
 nowhere : (disk : DiskView) → Elsewhere (λ file. ⊥) disk disk
@@ -70,7 +70,7 @@ roomier_represents v v' disk m r at =
     subst (λ (x : KeeperView). Represents x disk m) (sym e) (same_tables v v'.table v.logs disk m r.sessions_are refl at)
 
 pub roomier_rests : (v v' : KeeperView) → IsRoomier v v' → IsResting v → IsResting v'
-roomier_rests v v' r rests = record { none_waits = ap (λ (x : KeeperView). x.waiting) r.others ∙ rests.none_waits; nobody_noted = ap (λ (x : KeeperView). x.noting) r.others ∙ rests.nobody_noted }
+roomier_rests v v' r rests = record { none_waits = ap (λ (x : KeeperView). x.waiting) r.others ∙ rests.none_waits; nobody_noted = ap (λ (x : KeeperView). x.noting) r.others ∙ rests.nobody_noted; linked = subst AreLinked (sym r.sessions_are) rests.linked; whole = subst AreWhole (sym (ap (λ (x : KeeperView). x.logs) r.others)) rests.whole }
 
 -- ---- A log that a connection comes to write
 

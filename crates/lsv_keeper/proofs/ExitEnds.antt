@@ -111,7 +111,7 @@ module _ (v v1 : KeeperView) (d0 d1 : DiskView) (m : Machine) (n : ℕ) (now : T
 
   log_x : Exits v now job exit (told_end job.conn (elapsed (all_of h.value))) (with_log n (There (with_exit (exit_text exit) (flushed h.value)) (length (all_of h.value))) m)
       (with_log n (There (with_exit (exit_text exit) (flushed h.value)) h.promised) m) m
-  log_x = exits_log v now job exit n h.promised (flushed h.value) m log_alive asks state h.there fits
+  log_x = exits_log v now job exit n h.promised (flushed h.value) m log_alive asks state (at.sound.owned job.conn) h.there fits
 
   set_alike : SetAlike v v1
   set_alike = record { lane = d.beside.lane; lanes = d.beside.lanes; log_exit = d.beside.log_exit; kind = d.beside.kind }

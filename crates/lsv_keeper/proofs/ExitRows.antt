@@ -45,7 +45,7 @@ use Rattle.lsv_keeper.specs.Represents.{Free, Held, LogIs, Represents}
 use Rattle.lsv_keeper.specs.Rows.{AllRose, Beside, IsPartOf, LineFault, OwnerRose, RowGives, RowIs}
 use Rattle.lsv_keeper.specs.Value.{KeeperView, event_line, log_in, settings_of}
 use Rattle.lsv_keeper.specs.declared.told.Told.TheVariants as told
-use Rattle.lsv_keeper.proofs.Acting.{Ends, Owned, OwnIf, OwnKeeps, acted, concerns_ends, ends_owes, ends_refused, ends_refusal, ends_wants, keeps_before, keeps_owned, owned, owned_owes, part_good}
+use Rattle.lsv_keeper.proofs.Acting.{Ends, Owned, OwnIf, OwnKeeps, acted, concerns_ends, ends_owes, ends_refused, ends_refusal, ends_wants, keeps_before, keeps_owned, owned, owned_owes, part_good, about_own, about_some}
 use Rattle.lsv_keeper.proofs.Counting.{counts_did, rose_none, rose_one, rose_second}
 use Rattle.lsv_keeper.proofs.Departing.{departs_changes, its_log, not_its, owner_then, rested}
 use Rattle.lsv_keeper.proofs.ExitSteps.{Exits, line_of_exit, lined_act, step_full, step_line_lost, step_line_wants, step_lined, step_log_failed, step_quiet}
@@ -330,6 +330,7 @@ module _ (v w w' : KeeperView) (now : TimeSpec) (job : Job) (exit : Exit) (said 
     leaves job.conn Dead whole,
     acted v now job (log_of (m.states job.conn)) (act_of job now said []) m (leaves job.conn Dead whole) one three laws refl refl
         (step_quiet v now job exit said whole left m x (sym same.log_exit ∙ none)) (counts_did (act_of job now said []) one three both.monotone (rose_none one three) refl)
+        (about_own v.lane v.lanes m (act_of job now said []) x.owned)
         (record {
           own = λ n e. e;
           to = says.to;
@@ -347,6 +348,7 @@ module _ (v w w' : KeeperView) (now : TimeSpec) (job : Job) (exit : Exit) (said 
             (step_lined v now job exit said whole left m x (sym same.log_exit ∙ has)
             (fits_then true (event_line w.kind now job.conn (request.Exit exit) (log_of (m.states job.conn))) (leaves job.conn Dead whole) line_then x.lines.0 x.fresh.0 fits))
             (counts_did (lined_act job now said line) one three both.monotone (rose_none one three) refl)
+            (about_own v.lane v.lanes m (lined_act job now said line) x.owned)
             (record {
               own = λ n e. e;
               to = says.to;
@@ -362,7 +364,7 @@ module _ (v w w' : KeeperView) (now : TimeSpec) (job : Job) (exit : Exit) (said 
   ends_row answers failed ends step rose keeps stands = (
     leaves job.conn Dead left,
     acted v now job (log_of (m.states job.conn)) (act_of job now answers failed) m (leaves job.conn Dead left) one three laws refl refl step
-        (counts_did (act_of job now answers failed) one three both.monotone rose refl) (concerns_ends (log_of (m.states job.conn)) m (act_of job now answers failed) (λ n e. e) ends)
+        (counts_did (act_of job now answers failed) one three both.monotone rose refl) (about_own v.lane v.lanes m (act_of job now answers failed) x.owned) (concerns_ends (log_of (m.states job.conn)) m (act_of job now answers failed) (λ n e. e) ends)
         both (own_on v (log_of (m.states job.conn)) (act_of job now answers failed) m one two three laws' keeps lane_second),
     stands,
   )
@@ -419,6 +421,7 @@ row_log_failed v v' old new m n now job exit laws laws' at alive asks state requ
       acted v now job (Some n) (act_of job now answers (owners.Log n ∷ [])) m (leaves job.conn Dead (with_log n (There x h.promised) m)) old new laws refl refl
           (step_log_failed v now job exit n answers (with_log n (There x h.promised) m) m alive asks state (There x h.promised, left, refl) is)
           (counts_did (act_of job now answers (owners.Log n ∷ [])) old new up (rose_one (owners.Log n) old new rose) refl)
+          (about_some v.lane v.lanes n m (act_of job now answers (owners.Log n ∷ [])) (inr (inl (job.conn, at.sound.owned job.conn n state))))
           (concerns_ends (Some n) m (act_of job now answers (owners.Log n ∷ [])) (λ i e. sym state ∙ e) ends)
           (beside_end v old new m n now job exit laws laws' at state request_is h moments up)
           (keeps_ended v old new m n now job exit laws laws' at state request_is h moments answers (owners.Log n ∷ []) ends),

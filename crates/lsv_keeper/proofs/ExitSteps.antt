@@ -29,6 +29,7 @@ use Rattle.lsv_keeper.proofs.Recording.{plain_asked}
 -- an exit, by what it tells where all goes well, the machine then but for its connection, and the machine where its event line is refused
 pub record Exits (v : KeeperView) (now : TimeSpec) (job : Job) (exit : Exit) (said : List Answer) (whole left m : Machine) : Type 0 where
   pub alive : is_dead (m.states job.conn) ≡ false
+  pub owned : (n : ℕ) → log_of (m.states job.conn) ≡ Some n → m.owner n ≡ Some job.conn
   pub asks : AsksFor (m.states job.conn) job.body (request.Exit exit)
   pub does : (i : ℕ) → exited job.conn (log_of (m.states job.conn)) (exit_text exit) m ≡ ends job.conn said whole
   pub soft : is_refused said ≡ false
@@ -171,6 +172,7 @@ pub exits_none : (v : KeeperView) (now : TimeSpec) (job : Job) (exit : Exit) (m 
     → log_of (m.states job.conn) ≡ None → Exits v now job exit (say job.conn Shut ∷ []) m m m
 exits_none v now job exit m alive asks none = record {
   alive = alive;
+  owned = λ n own. absurd (let x : None ≡ Some n = sym none ∙ own in cc);
   asks = asks;
   does = λ i. ap (λ (o : Option ℕ). exited job.conn o (exit_text exit) m) none;
   soft = refl;
@@ -182,11 +184,12 @@ exits_none v now job exit m alive asks none = record {
 
 -- a log whose exit fits
 pub exits_log : (v : KeeperView) (now : TimeSpec) (job : Job) (exit : Exit) (n promised : ℕ) (stored : Stored) (m : Machine) → is_dead (m.states job.conn) ≡ false → AsksFor (m.states job.conn) job.body (request.Exit exit)
-    → log_of (m.states job.conn) ≡ Some n → m.logs n ≡ There stored promised → fits_file (exit_text exit) ≡ true
+    → log_of (m.states job.conn) ≡ Some n → ((i : ℕ) → log_of (m.states job.conn) ≡ Some i → m.owner i ≡ Some job.conn) → m.logs n ≡ There stored promised → fits_file (exit_text exit) ≡ true
     → Exits v now job exit (say job.conn (CommitPoint (elapsed stored.records)) ∷ say job.conn Shut ∷ []) (with_log n (There (with_exit (exit_text exit) stored) (length stored.records)) m)
     (with_log n (There (with_exit (exit_text exit) stored) promised) m) m
-exits_log v now job exit n promised stored m alive asks own there fits = record {
+exits_log v now job exit n promised stored m alive asks own owned there fits = record {
   alive = alive;
+  owned = owned;
   asks = asks;
   does = λ i. ap (λ (o : Option ℕ). exited job.conn o (exit_text exit) m) own ∙ ap (λ (x : LogState). finished job.conn n (exit_text exit) x m) there ∙ rw fits refl;
   soft = refl;

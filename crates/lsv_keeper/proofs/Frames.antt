@@ -1,5 +1,5 @@
 -- What calls of a job leave as it was: the files of other logs, the numbers and the event log.
-use Rattle.std.proofs.Common.{◌≡◌, ◌≢◌, ◌≤◌, ◌<◌, ℕ, List, refl, sym, ◌∙◌, ap, subst, inl, inr, arith, Option, Some, None}
+use Rattle.std.proofs.Common.{◌⊎◌, ◌≡◌, ◌≢◌, ◌≤◌, ◌<◌, ℕ, List, refl, sym, ◌∙◌, ap, subst, inl, inr, arith, Option, Some, None}
 use Rattle.std.specs.Prelude.{Bool, true, false, if◌then◌else◌}
 use Rattle.lsv_disk.specs.Throughout.{Jointly, OnlyReads, Throughout}
 use Rattle.lsv_disk.specs.View.{DiskView, Elsewhere, Image, IsCrashImage}
@@ -16,7 +16,7 @@ use Rattle.lsv_seq.specs.Drawn.{numbers_file}
 use Rattle.lsv_seq.proofs.Images.{entry_local}
 use Rattle.lsv_seq.proofs.Laws.{drawn_alone, numbers_owner}
 use Rattle.lsv_machine.specs.Counts.{same_owner}
-use Rattle.lsv_machine.specs.Disks.{AsBefore, IsOfStore, KeepsNumbers, LinesAsBefore, LinesRest, NumbersFit, Rests, SameLines, SameLog, TouchesStore}
+use Rattle.lsv_machine.specs.Disks.{AsBefore, IsOfLaneStore, KeepsNumbers, LinesAsBefore, LinesRest, NumbersFit, Rests, SameLines, SameLog, TouchesStore}
 use Rattle.lsv_machine.specs.Machine.{IsOfLane}
 use Rattle.lsv_machine.proofs.Choices.{EqOr.equal, EqOr.unequal, eq_or}
 use Rattle.lsv_machine.proofs.Folds.{as_before_on, before_down, lines_rest_on, lines_still, moments_on, numbers_down, numbers_on, rests_on, rests_still, same_log, still}
@@ -44,19 +44,18 @@ job_apart lane n (Some i) other file own (inl t) = let e : owners.Log n ≡ owne
 job_apart lane n (Some i) other file own (inr (inl t)) = let e : owners.Log n ≡ owners.Numbers lane = sym own ∙ t in absurd (cc)
 job_apart lane n (Some i) other file own (inr (inr t)) = let e : owners.Log n ≡ owners.Events lane = sym own ∙ t in absurd (cc)
 
--- the files of a job are of the store
-job_store : (lane : ℕ) (o : Option ℕ) (file : FileId) → IsOfJob lane o file → IsOfStore lane file
-job_store lane None file (inl t) = inr (inl t)
-job_store lane None file (inr t) = inr (inr t)
-job_store lane (Some i) file (inl t) = inl (i, t)
-job_store lane (Some i) file (inr t) = inr t
+-- the files of a job are of the lane's store, where its log is the lane's or it was told of it
+job_store : (lane lanes : ℕ) (A : ℕ → Type 0) (o : Option ℕ) → ((n : ℕ) → o ≡ Some n → IsOfLane lane lanes n ⊎ A n) → (file : FileId) → IsOfJob lane o file → IsOfLaneStore lane lanes A file
+job_store lane lanes A None about file t = inr t
+job_store lane lanes A (Some i) about file (inl t) = inl (i, about i refl, t)
+job_store lane lanes A (Some i) about file (inr t) = inr t
 
-pub touches_store : (lane lanes : ℕ) (o : Option ℕ) (old new : DiskView) → Beside lane lanes o old new → TouchesStore lane old new
-touches_store lane lanes o old new b = widened (IsOfJob lane o) (IsOfStore lane) (λ image. Unit {0}) (λ image. Unit {0}) old new (job_store lane o) (λ image t rest. t) b.run
+pub touches_store : (lane lanes : ℕ) (A : ℕ → Type 0) (o : Option ℕ) (old new : DiskView) → ((n : ℕ) → o ≡ Some n → IsOfLane lane lanes n ⊎ A n) → Beside lane lanes o old new → TouchesStore lane lanes A old new
+touches_store lane lanes A o old new about b = widened (IsOfJob lane o) (IsOfLaneStore lane lanes A) (λ image. Unit {0}) (λ image. Unit {0}) old new (job_store lane lanes A o about) (λ image t rest. t) b.run
 
 -- so are those of the event log
-pub events_touch : (lane : ℕ) (P : Image → Type 0) (old new : DiskView) → Throughout (IsOfEventLog lane) P old new → TouchesStore lane old new
-events_touch lane P old new run = widened (IsOfEventLog lane) (IsOfStore lane) P (λ image. Unit {0}) old new (λ file own. inr (inr (of_lane lane file own))) (λ image p rest. tt) run
+pub events_touch : (lane lanes : ℕ) (A : ℕ → Type 0) (P : Image → Type 0) (old new : DiskView) → Throughout (IsOfEventLog lane) P old new → TouchesStore lane lanes A old new
+events_touch lane lanes A P old new run = widened (IsOfEventLog lane) (IsOfLaneStore lane lanes A) P (λ image. Unit {0}) old new (λ file own. inr (inr (of_lane lane file own))) (λ image p rest. tt) run
 
 -- nor do calls on the files of another log
 pub log_apart : (n i : ℕ) → n ≢ i → IsApart n (IsOfLog i)

@@ -15,7 +15,7 @@ use Rattle.lsv_keeper.specs.Reading.{reading_of}
 use Rattle.lsv_keeper.specs.Represents.{Represents}
 use Rattle.lsv_keeper.specs.Rows.{AllRose, Beside, ClosedIf, RowIs}
 use Rattle.lsv_keeper.specs.Value.{KeeperView, SameSet, event_line, settings_of}
-use Rattle.lsv_keeper.proofs.Acting.{Ends, OwnIf, OwnKeeps, acted, closed_keeps, concerns_ends, keeps_after}
+use Rattle.lsv_keeper.proofs.Acting.{Ends, OwnIf, OwnKeeps, acted, closed_keeps, concerns_ends, keeps_after, about_own}
 use Rattle.lsv_keeper.proofs.Counting.{counts_did}
 use Rattle.lsv_keeper.proofs.Frames.{Laws, beside_on, beside_wider, resting}
 
@@ -47,6 +47,7 @@ pub late_row : (v u v' : KeeperView) (now : TimeSpec) (act : Act) (m after : Mac
 late_row v u v' now act m after a b c laws laws' s at now_is unmarked ends step rose first beside closed at' = (
   after,
   acted v now act.job (log_of (m.states act.job.conn)) act m after a c laws refl now_is step (counts_did act a c whole.monotone rose unmarked)
+      (about_own v.lane v.lanes m act (λ n own. at.sound.owned act.job.conn n own))
       (concerns_ends (log_of (m.states act.job.conn)) m act (λ n e. e) ends) whole (own (log_of (m.states act.job.conn)) refl closed),
   at',
 )

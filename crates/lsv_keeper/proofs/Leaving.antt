@@ -25,7 +25,7 @@ use Rattle.lsv_keeper.specs.Represents.{Represents}
 use Rattle.lsv_keeper.specs.Rows.{AllRose, Beside, ClosedIf, Left, RowGives, RowIs}
 use Rattle.lsv_keeper.specs.Value.{KeeperView, settings_of}
 use Rattle.lsv_keeper.specs.declared.told.Told.TheVariants as told
-use Rattle.lsv_keeper.proofs.Acting.{Concerns, Ends, OwnIf, acted, closed_keeps, concerns_ends, concerns_silent, ends_farewell, ends_refusal, ends_wants}
+use Rattle.lsv_keeper.proofs.Acting.{Concerns, Ends, OwnIf, acted, closed_keeps, concerns_ends, concerns_silent, ends_farewell, ends_refusal, ends_wants, about_none, about_own}
 use Rattle.lsv_keeper.proofs.Counting.{counts_did, rose_none}
 use Rattle.lsv_keeper.proofs.Frames.{Laws, beside_none}
 use Rattle.lsv_keeper.proofs.Numbering.{numbers_fit}
@@ -80,6 +80,7 @@ pub ended_row : (v v' : KeeperView) (now : TimeSpec) (act : Act) (m after : Mach
 ended_row v v' now act m after old new laws at now_is unmarked ends step rose beside closed at' = (
   after,
   acted v now act.job (log_of (m.states act.job.conn)) act m after old new laws refl now_is step (counts_did act old new beside.monotone rose unmarked)
+      (about_own v.lane v.lanes m act (λ n own. at.sound.owned act.job.conn n own))
       (concerns_ends (log_of (m.states act.job.conn)) m act (λ n e. e) ends) beside
       (own_closed v act m old new at laws ends (log_of (m.states act.job.conn)) refl closed),
   at',
@@ -283,7 +284,7 @@ dropped_row v v' now job m after old new laws dead is beside at' answers e =
             unmarked = refl;
             now = ap (λ (d : Done). d.machine) (sym plainly);
           }))
-          (counts_did act old new beside.monotone (rose_none old new) refl) (silent_concerns m act e dead) beside tt,
+          (counts_did act old new beside.monotone (rose_none old new) refl) (about_none v.lane v.lanes m act) (silent_concerns m act e dead) beside tt,
       at',
     )
 

@@ -46,3 +46,5 @@ pub mod Making
 pub mod Judging
 pub mod Turning
 pub mod Syncing
+pub mod Causes
+pub mod Saying

@@ -36,6 +36,8 @@ looked_none n disk only_now = record {
   run = started (IsOfLog n) (IsAsBefore n disk) disk only_now (λ image is. record { before = image; was = is; same = record { forth = λ found x. x; back = λ found x. x } });
   reads = record { forth = λ found x. x; back = λ found x. x };
   unmade = λ unmade. reads_nothing disk only_now;
+  others = λ file other. refl;
+  unwritten = λ some file. refl;
 }
 
 -- and then it was read
@@ -47,6 +49,8 @@ looked_reads n old mid new laws looked reads = record {
       let same = same_files mid.reads new.reads n (λ file own. unchanged_reads mid new reads.unchanged file) in
       record { forth = λ found is. same.forth found (looked.reads.forth found is); back = λ found is. looked.reads.back found (same.back found is) };
   unmade = λ unmade. reads_trans old mid new (looked.unmade unmade) reads;
+  others = λ file other. reads.counts.writes file ∙ looked.others file other;
+  unwritten = λ some file. reads.counts.writes file ∙ looked.unwritten some file;
 }
 
 -- an open log is what each image holds

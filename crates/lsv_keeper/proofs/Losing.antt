@@ -11,7 +11,7 @@ use Rattle.lsv_record.specs.declared.records.Record.{Record}
 use Rattle.lsv_session.specs.declared.connection.ConnId.{ConnId}
 use Rattle.lsv_session.specs.declared.connection.ConnState.TheVariants.{Dead}
 use Rattle.lsv_machine.specs.Answers.{Answer}
-use Rattle.lsv_machine.specs.Disks.{AllGood, AsBefore, Rests}
+use Rattle.lsv_machine.specs.Disks.{AllGood, AsBefore, Rests, IsWritten}
 use Rattle.lsv_machine.specs.Failures.{Closes, IsRefused, LeavesLog, LosesTail}
 use Rattle.lsv_machine.specs.History.{Ledger, heard_all}
 use Rattle.lsv_machine.specs.Machine.{LogState, LogState.There, Machine, is_dead, leaves, log_of, same, with_log, without_conn}
@@ -89,7 +89,7 @@ module _ (k : ConnId) (v v' : KeeperView) (m : Machine) (old new : DiskView) (la
       settled_logs = left_settled;
       unsettled_logs = left_unsettled;
       numbers = left.beside.numbers;
-      files = touches_store v.lane v.lanes (log_of (m.states k)) old new left.beside;
+      files = touches_store v.lane v.lanes (IsWritten m) (log_of (m.states k)) old new (λ n own. inr (k, at.sound.owned k n own)) left.beside;
     };
     lines = left.beside.lines;
     text = (leaving_still left.failed (log_of (m.states k)) None m left.left left.log).lines;
@@ -140,7 +140,7 @@ lost_log n k v v' m old new laws at left answers told own rose its = record {
     settled_logs = λ l j s all. left_settled k v v' (none_waits m) old new laws at left answers told l j (waits_none (settings_of v) j m l s) all;
     unsettled_logs = λ l j s none. left_unsettled k v v' (none_waits m) old new laws at left answers told l j (waits_none (settings_of v) j m l s) none;
     numbers = left.beside.numbers;
-    files = touches_store v.lane v.lanes (log_of (m.states k)) old new left.beside;
+    files = touches_store v.lane v.lanes (IsWritten m) (log_of (m.states k)) old new (λ i own_is. inr (k, at.sound.owned k i own_is)) left.beside;
   };
   lines = left.beside.lines;
   text = refl;

@@ -1,4 +1,5 @@
 -- Opening a store: what it leaves at each moment, and what the keeper then stands for.
+use Rattle.std.proofs.lemmas.Bool.{cases_lt}
 use Rattle.std.proofs.Common.{◌≡◌, ◌≢◌, ◌≤◌, ◌<◌, ◌+◌, ◌*◌, ℕ, List, [], length, refl, sym, ◌∙◌, ap, subst, inl, inr, arith, Option, Some, None, Ok, Err, ◌⊎◌}
 use Rattle.std.specs.Prelude.{◌==◌, ◌&&◌, ◌||◌, ◌-◌, ◌%◌, ◌/◌, slice_index, nat_le, nat_lt, IfErr, IsErrAnd, IsErrOf, Bool, true, false, if◌then◌else◌, Result}
 use Rattle.std.proofs.Math.Nat.{mod-add-div'}
@@ -29,7 +30,7 @@ use Rattle.lsv_record.specs.Points.{Stored}
 use Rattle.lsv_seq.specs.declared.entry.Entry.{Entry}
 use Rattle.lsv_seq.specs.declared.fault.SeqFault.{SeqFault}
 use Rattle.lsv_seq.specs.declared.fault.SeqFault.TheVariants as seq_faults
-use Rattle.lsv_seq.proofs.Laws.{numbers_owner}
+use Rattle.lsv_seq.proofs.Laws.{entry_alone, left_as_some, numbers_owner}
 use Rattle.lsv_words.specs.Causes.{HasRisen}
 use Rattle.lsv_disk.specs.declared.file.Owner.{Owner}
 use Rattle.lsv_seq.specs.declared.numbers.Numbers.{Numbers}
@@ -38,7 +39,7 @@ use Rattle.lsv_seq.specs.Entry.{is_of_lane, most}
 use Rattle.lsv_seq.specs.Value.{lane_of, lanes_of, last_of, next_of, pending_of}
 use Rattle.lsv_session.specs.Table.{Sessions}
 use Rattle.lsv_session.specs.declared.connection.ConnState.TheVariants.{Fresh}
-use Rattle.lsv_machine.specs.Disks.{IsOfStore, KeepsNumbers, LinesAsBefore, NumbersFit}
+use Rattle.lsv_machine.specs.Disks.{IsOfLaneStore, KeepsNumbers, LinesAsBefore, NumbersFit}
 use Rattle.lsv_machine.specs.Durable.{Recovered}
 use Rattle.lsv_machine.specs.Keeping.{Opened, OpensStore}
 use Rattle.lsv_machine.specs.Machine.{IsOfLane, LogState, LogState.Absent, LogState.Damaged, LogState.There, Machine}
@@ -48,7 +49,7 @@ use Rattle.lsv_machine.specs.Work.{next_number}
 use Rattle.lsv_machine.proofs.Choices.{EqOr.equal, EqOr.unequal, eq_or}
 use Rattle.lsv_machine.proofs.Folds.{lines_rest_on, numbers_down, numbers_on}
 use Rattle.lsv_keeper.specs.Logs.{open_logs}
-use Rattle.lsv_keeper.specs.Opening.{IsEventsFault, IsNumbersFault, OpensAs, OpensEvents, OpensNumbers, events_fault, number_fault}
+use Rattle.lsv_keeper.specs.Opening.{IsEventsFault, IsNumbersFault, KeepsEntry, OpensAs, OpensEvents, OpensNumbers, events_fault, number_fault}
 use Rattle.lsv_keeper.specs.Reading.{IsBare, IsDrawn, reading_of}
 use Rattle.lsv_keeper.specs.Represents.{EventsAre, NumbersAre, Represents, pending_count}
 use Rattle.lsv_keeper.specs.Rows.{IsOfJob}
@@ -157,7 +158,7 @@ numbers_store lane lanes old new laws laws' run up = record {
   logs = λ n. let x = resting_apart lane lanes n (λ g. g ≡ numbers_file lane) (AtOpening lane lanes old) old new laws (log_not_numbers lane n) run in (x.moments, x.rests);
   numbers = λ fit. numbers_opening lane lanes old new laws laws' run fit;
   lines = lines_apart lane lanes (λ g. g ≡ numbers_file lane) (AtOpening lane lanes old) old new laws laws' (events_not_numbers lane) run;
-  files = widened (λ g. g ≡ numbers_file lane) (IsOfStore lane) (AtOpening lane lanes old) (λ image. Unit {0}) old new (λ file e. inr (inl (ap (λ (f : FileId). f.owner) e))) (λ image p rest. tt) run;
+  files = widened (λ g. g ≡ numbers_file lane) (IsOfLaneStore lane lanes (λ n. ⊥)) (AtOpening lane lanes old) (λ image. Unit {0}) old new (λ file e. inr (inl (ap (λ (f : FileId). f.owner) e))) (λ image p rest. tt) run;
 }
 
 -- so was the event log
@@ -173,7 +174,7 @@ events_store lane lanes old new laws laws' run to back up = record {
     now = λ image is. each new.moment run.later (omega arith) image (laws'.is_now image is);
     reads = record { to = to; back = back };
   };
-  files = events_touch lane (IsAsBefore lane old) old new run;
+  files = events_touch lane lanes (λ n. ⊥) (IsAsBefore lane old) old new run;
 }
   where
     each : (k : ℕ) → old.moment ≤ k → k ≤ new.moment → LinesAsBefore (reading_of lane lanes) (IsCrashImage old) (new.crash_images_at k)
@@ -186,7 +187,7 @@ store_on lane lanes a b c s t = record {
   logs = λ n. let x = resting_on lane lanes n a b c (record { moments = (s.logs n).0; rests = (s.logs n).1 }) (record { moments = (t.logs n).0; rests = (t.logs n).1 }) in (x.moments, x.rests);
   numbers = λ fit. let x = s.numbers fit in numbers_on (reading_of lane lanes) lane lanes a b c x (t.numbers x.now);
   lines = lines_rest_on (reading_of lane lanes) a b c s.lines t.lines;
-  files = followed (IsOfStore lane) (λ image. Unit {0}) a b c s.files t.files;
+  files = followed (IsOfLaneStore lane lanes (λ n. ⊥)) (λ image. Unit {0}) a b c s.files t.files;
 }
 
 -- ---- Why the event log isn't opened
@@ -222,6 +223,29 @@ numbers_run lane P old new run = widened (λ g. g ≡ numbers_file lane) (IsOfJo
 pub both_run : (lane : ℕ) (P Q : Image → Type 0) (old mid new : DiskView) → Throughout (λ g. g ≡ numbers_file lane) P old mid → Throughout (IsOfEventLog lane) Q mid new → Throughout (IsOfJob lane None) (λ image. Unit {0}) old new
 both_run lane P Q old mid new first second = followed (IsOfJob lane None) (λ image. Unit {0}) old mid new (numbers_run lane P old mid first)
     (widened (IsOfEventLog lane) (IsOfJob lane None) Q (λ image. Unit {0}) mid new (λ file own. inr (of_lane lane file own)) (λ image p rest. tt) second)
+
+-- ---- The last entry of the numbers
+
+-- while the numbers are opened
+pub numbers_entry : (lane : ℕ) (old new : DiskView) → Throughout (λ g. g ≡ numbers_file lane) (IsAsSomeCrash lane old) old new → entry_at lane new.reads ≡ entry_at lane old.reads → KeepsEntry lane old new
+numbers_entry lane old new run same = record { moments = λ k image from to left. run.each k image from to left; reads = same }
+
+numbers_not_events : (lane : ℕ) (file : FileId) → IsNumbersFile lane file → IsOfEventLog lane file → ⊥
+numbers_not_events lane file own t = let e : owners.Numbers lane ≡ owners.Events lane = sym (numbers_owner lane file own) ∙ of_lane lane file t in cc
+
+-- and while the event log is opened after them
+pub entry_on : (lane : ℕ) (P : Image → Type 0) (old mid new : DiskView) → Laws mid → old.moment ≤ mid.moment → KeepsEntry lane old mid → Throughout (IsOfEventLog lane) P mid new → KeepsEntry lane old new
+entry_on lane P old mid new laws later first run = record {
+  moments = moments;
+  reads = entry_alone lane mid.reads new.reads (λ g own. run.elsewhere.same g (numbers_not_events lane g own)) ∙ first.reads;
+}
+  where
+    moments : (k : ℕ) (image : Image) → old.moment ≤ k → k ≤ new.moment → new.crash_images_at k image → IsAsSomeCrash lane old image
+    moments k image from to left = elim (cases_lt mid.moment k) [
+      | inl after ↦ left_as_some lane old mid laws.reads_itself (λ was crash. first.moments mid.moment was later (omega arith) (laws.is_now was crash)) image
+          (λ g own. run.beside k image (omega arith) to left g (numbers_not_events lane g own))
+      | inr before ↦ first.moments k image from before (run.past k image before left)
+    ]
 
 -- ---- The last number
 

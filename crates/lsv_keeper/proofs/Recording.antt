@@ -1,5 +1,5 @@
 -- A record of a connection that writes a log.
-use Rattle.std.proofs.Common.{◌≡◌, ◌≤◌, ◌<◌, ◌+◌, ◌^◌, ℕ, List, [], ◌∷◌, ◌++◌, length, map, refl, sym, ◌∙◌, ap, subst, inl, arith, Option, Some, None, append_assoc}
+use Rattle.std.proofs.Common.{◌≡◌, ◌≤◌, ◌<◌, ◌+◌, ◌^◌, ℕ, List, [], ◌∷◌, ◌++◌, length, map, refl, sym, ◌∙◌, ap, subst, inl, inr, arith, Option, Some, None, append_assoc}
 use Rattle.std.specs.Prelude.{◌==◌, ◌&&◌, nat_lt, Bool, true, false, if◌then◌else◌, Result, Ok}
 use Rattle.std.proofs.lemmas.Bool.Decides.{nat_tests}
 use Rattle.std.proofs.lemmas.List.{take_at}
@@ -44,7 +44,7 @@ use Rattle.lsv_keeper.specs.Value.{KeeperView, log_in, settings_of}
 use Rattle.lsv_keeper.specs.declared.logs.OpenLog.{OpenLog}
 use Rattle.lsv_keeper.specs.declared.logs.OpenLogs.{OpenLogs}
 use Rattle.lsv_keeper.specs.declared.told.Told.TheVariants as told
-use Rattle.lsv_keeper.proofs.Acting.{Owned, acted, concerns_silent, keeps_parts}
+use Rattle.lsv_keeper.proofs.Acting.{Owned, acted, concerns_silent, keeps_parts, about_some}
 use Rattle.lsv_keeper.proofs.Counting.{counts_did, rose_none}
 use Rattle.lsv_keeper.proofs.Frames.{Laws, beside_none}
 use Rattle.lsv_keeper.proofs.Masking.{masks_covered}
@@ -233,6 +233,7 @@ record_staged v logs' waiting' now job n r its after m disk laws at asks state v
     act_is : Acted (reading_of v.lane v.lanes) (settings_of v) now job (map reply_of []) m (grown n (flushed h.value) h.promised r m) disk disk
     act_is = acted v now job (Some n) (record_act now job) m (grown n (flushed h.value) h.promised r m) disk disk laws refl refl step
         (counts_did (record_act now job) disk disk (λ file. omega arith) (rose_none disk disk) refl)
+        (about_some v.lane v.lanes n m (record_act now job) (inr (inl (job.conn, own))))
         (concerns_silent (Some n) m (record_act now job) refl (λ i e. sym state ∙ e)
         (λ i e. absurd (let f : reads_log i (is_dead (m.states job.conn)) (Ok (request.Record r)) [] ≡ true = subst (λ (w : Result Request Refusal). reads_log i (is_dead (m.states job.conn)) w [] ≡ true) request_is e in cc)))
         (beside_none v.lane v.lanes (Some n) disk laws (numbers_fit v disk m at))

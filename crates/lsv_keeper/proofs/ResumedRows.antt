@@ -1,5 +1,5 @@
 -- The row of a restart that is accepted.
-use Rattle.std.proofs.Common.{◌≡◌, ◌≤◌, ◌<◌, ℕ, List, [], ◌∷◌, length, take, append-nil, Option, Some, None, refl, sym, ◌∙◌, ap, subst, arith}
+use Rattle.std.proofs.Common.{◌≡◌, ◌≤◌, ◌<◌, ℕ, List, [], ◌∷◌, length, take, append-nil, Option, Some, None, refl, sym, ◌∙◌, ap, subst, inl, inr, arith}
 use Rattle.std.specs.Prelude.{◌==◌, false, if◌then◌else◌}
 use Rattle.std.proofs.lemmas.Grind.{common_steps}
 use Rattle.lsv_base.specs.declared.time.TimeSpec.{TimeSpec}
@@ -32,7 +32,7 @@ use Rattle.lsv_keeper.specs.Resuming.{IsResumed}
 use Rattle.lsv_keeper.specs.Rows.{Beside, RowIs}
 use Rattle.lsv_keeper.specs.Value.{IsReserved, Keeps, KeeperView, Owns, sessions_of, settings_of}
 use Rattle.lsv_keeper.specs.declared.logs.OpenLog.{OpenLog}
-use Rattle.lsv_keeper.proofs.Acting.{OwnKeeps, acted}
+use Rattle.lsv_keeper.proofs.Acting.{OwnKeeps, acted, about_some}
 use Rattle.lsv_keeper.proofs.Counting.{NoneFell, counts_did, rose_none}
 use Rattle.lsv_keeper.proofs.Frames.{Laws, log_apart}
 use Rattle.lsv_keeper.proofs.Numbering.{beside_asked}
@@ -169,6 +169,7 @@ module _ (v v1 v' : KeeperView) (old new : DiskView) (m : Machine) (job : Job) (
         resumes_at job.conn restart.log x resumed.stored m,
         acted v now job (Some restart.log) act m (resumes_at job.conn restart.log x resumed.stored m) old new laws refl refl (its_step x e)
             (counts_did act old new up (rose_none old new) refl)
+            (about_some v.lane v.lanes restart.log m act (inr (inr (inl (restart, a.request_is, refl)))))
             (concerns_restart now m job restart a act refl tt (λ i. refl))
             its_beside (its_keeps x e),
         stands_now x e act (its_step x e),

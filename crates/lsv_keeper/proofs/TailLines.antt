@@ -14,7 +14,7 @@ use Rattle.lsv_eventlog.specs.Value.{EventLogView}
 use Rattle.lsv_eventlog.proofs.Laws.{of_lane, one_text}
 use Rattle.lsv_session.specs.declared.connection.ConnId.{ConnId}
 use Rattle.lsv_session.specs.declared.reply.Reply.{Reply}
-use Rattle.lsv_machine.specs.Disks.{AllGood, AsBefore, KeepsNumbers, LinesAs, SameLines}
+use Rattle.lsv_machine.specs.Disks.{AllGood, AsBefore, KeepsNumbers, LinesAs, SameLines, IsWritten}
 use Rattle.lsv_machine.specs.History.{Ledger}
 use Rattle.lsv_machine.specs.Machine.{Machine}
 use Rattle.lsv_machine.specs.Tails.{no_answer}
@@ -103,7 +103,7 @@ lines_written v log m old new said laws laws' at before after was is run now lan
       settled_logs = λ l j s all. stays_good v m old new laws laws' at (IsEither v.lane before after) run l j all;
       unsettled_logs = λ l j s none. (let rest = log_rests v m old new laws laws' at (IsEither v.lane before after) run j in (rest.moments, rest.rests));
       numbers = numbers_keep v m old new laws laws' at (IsEither v.lane before after) run;
-      files = events_touch v.lane (IsEither v.lane before after) old new run;
+      files = events_touch v.lane v.lanes (IsWritten m) (IsEither v.lane before after) old new run;
     };
     lines = record {
       moments = record { later = run.later; past = run.past; keeps = run.keeps; each = λ k lo hi image left. held image (run.each k image lo hi left) };
@@ -193,7 +193,7 @@ events_failed v log m old new laws laws' at before after was is run lane sound b
           settled_logs = λ l j s all. stays_good v m old new laws laws' at (IsEither v.lane before after) run l j all;
           unsettled_logs = λ l j s none. (let rest = log_rests v m old new laws laws' at (IsEither v.lane before after) run j in (rest.moments, rest.rests));
           numbers = numbers_keep v m old new laws laws' at (IsEither v.lane before after) run;
-          files = events_touch v.lane (IsEither v.lane before after) old new run;
+          files = events_touch v.lane v.lanes (IsWritten m) (IsEither v.lane before after) old new run;
         };
         moments = record { later = run.later; past = run.past; keeps = run.keeps; each = λ k lo hi image left. as_was image (run.each k image lo hi left) };
         now = λ image i. as_was image (run.each new.moment image run.later (omega arith) (laws'.is_now image i));

@@ -21,6 +21,7 @@ use Rattle.lsv_machine.proofs.Folds.{each_down, lines_rest_on, moments_on, same_
 use Rattle.lsv_machine.proofs.RunFits.{all_refused, with_lines_together}
 use Rattle.lsv_machine.proofs.TailFolds.{ended_on, wider_refuses}
 use Rattle.lsv_keeper.specs.Tails.{Refused}
+use Rattle.lsv_machine.proofs.Owners.{refused_written}
 
 -- ---- Connections one after another
 
@@ -38,7 +39,7 @@ pub refused_more : (r : Reading) (set : Settings) (xs ys : List ConnId) (s t : T
     → Refused r set xs s m mid one two → Refused r set ys t mid after two three → Refused r set (xs ++ ys) (joined s t) m after one three
 refused_more r set xs ys s t m mid after one two three a b = record {
   ended = ended_on r set s t (λ x y. RefusesAll s.failed xs s.answers x y) (λ x y. RefusesAll t.failed ys t.answers x y) (λ x y. RefusesAll (s.failed ++ t.failed) (xs ++ ys) (s.answers ++ t.answers) x y)
-      m mid after one two three (λ n l stands. refused_stand set n s.failed xs s.answers m mid l stands a.ended.ends) both a.ended b.ended;
+      m mid after one two three (λ n l stands. refused_stand set n s.failed xs s.answers m mid l stands a.ended.ends) (refused_written s.failed xs s.answers m mid a.ended.ends) both a.ended b.ended;
   lines = lines_rest_on r one two three a.lines b.lines;
   text = b.text ∙ a.text;
 }
@@ -63,6 +64,7 @@ lines_lost r set wrote t m after one two three a b = record {
   ended = ended_on r set first t (λ x y. y ≡ with_lines wrote x) (λ x y. RefusesAll t.failed m.noting t.answers x y) (λ x y. FlushesLines set (Events set.lane ∷ t.failed) t.answers x y)
       m (with_lines wrote m) after one two three
       (λ n l stands. stands_of_fits set n (with_lines wrote m) l (with_lines_together (Unit {0}) set n m wrote l (fits_of_stands set n m l stands)))
+      (λ n is. is)
       (inr (record { did = Contains-append_left (Events set.lane ∷ []) t.failed (Events set.lane) here; wrote = wrote; refuses = wider_refuses t.failed (Events set.lane ∷ t.failed) m.noting t.answers (with_lines wrote m) after (Contains-append_right (Events set.lane ∷ []) t.failed) b.ended.ends }))
       a.ended b.ended;
   lines = record {

@@ -13,7 +13,7 @@ use Rattle.lsv_record.specs.Records.{elapsed}
 use Rattle.lsv_record.specs.declared.records.Record.{Record}
 use Rattle.lsv_session.specs.declared.connection.ConnId.{ConnId}
 use Rattle.lsv_machine.specs.Answers.{CommitPoint, say}
-use Rattle.lsv_machine.specs.Disks.{AllGood, AsBefore}
+use Rattle.lsv_machine.specs.Disks.{AllGood, AsBefore, IsWritten}
 use Rattle.lsv_machine.specs.Durable.{GoodAt, GoodFor}
 use Rattle.lsv_machine.specs.History.{Ledger, heard_all, noted, raised_to, writes}
 use Rattle.lsv_machine.specs.Machine.{LogState.There, Machine, Settings, with_log}
@@ -156,7 +156,7 @@ module _ (n : ℕ) (k : ConnId) (v : KeeperView) (m : Machine) (old new : DiskVi
       ];
       unsettled_logs = λ l j s none. (let rest = other_rests j (unwritten n j (settings_of v) k m l s own none) in (rest.moments, rest.rests));
       numbers = beside.numbers;
-      files = touches_store v.lane v.lanes (Some n) old new beside;
+      files = touches_store v.lane v.lanes (IsWritten m) (Some n) old new (λ i e. inr (k, ap m.owner (let x : Some n ≡ Some i = e in let y : i ≡ n = cc in y) ∙ own)) beside;
     };
     lines = beside.lines;
     text = refl;

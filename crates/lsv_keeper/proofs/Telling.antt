@@ -31,7 +31,7 @@ use Rattle.lsv_keeper.specs.Reading.{reading_of}
 use Rattle.lsv_keeper.specs.Represents.{Represents}
 use Rattle.lsv_keeper.specs.Rows.{AllRose, Beside, ClosedIf, Left, LineFault, RowIs}
 use Rattle.lsv_keeper.specs.Value.{Keeps, KeeperView, event_line, settings_of}
-use Rattle.lsv_keeper.proofs.Acting.{Ends, OwnIf, OwnKeeps, acted, closed_keeps, concerns_ends, concerns_silent, ends_refusal, ends_refused, ends_wants, keeps_after, keeps_rests}
+use Rattle.lsv_keeper.proofs.Acting.{Ends, OwnIf, OwnKeeps, acted, closed_keeps, concerns_ends, concerns_silent, ends_refusal, ends_refused, ends_wants, keeps_after, keeps_rests, about_none, about_own}
 use Rattle.lsv_keeper.proofs.Asking.{act_of, asks_alive, asks_in, contains_first, fault_step, leaves_more, next_may, plain_asks, plain_step, refused_step, silent_notes, wants_step}
 use Rattle.lsv_keeper.proofs.Counting.{counts_did, owner_first, rose_both, rose_none, rose_one, rose_second}
 use Rattle.lsv_keeper.proofs.Frames.{Laws, beside_on, beside_wider, resting}
@@ -102,6 +102,7 @@ told_stays v v' old new now job m what line laws b fits at a is answers e = (
   acted v now job (log_of (m.states job.conn)) act m (adds_line job.conn line m) old new laws refl refl
       (plain_step (settings_of v) now job (next_number (settings_of v) m + 0 * v.lanes) m (adds_line job.conn line m) answers [] line (next_may (settings_of v) m) (line_plain (settings_of v) now job what line next.Stays m (next_number (settings_of v) m + 0 * v.lanes) a is fits) e)
       (counts_did act old new b.monotone (rose_none old new) refl)
+      (about_own v.lane v.lanes m act (λ n own. at.sound.owned job.conn n own))
       (concerns_silent (log_of (m.states job.conn)) m act e (λ n own. own) reads_none)
       (beside_wider v.lane v.lanes (log_of (m.states job.conn)) old new b)
       (own (log_of (m.states job.conn))),
@@ -141,6 +142,7 @@ moved v v1 v2 old mid new now job m m1 its line state what laws k b left a idle 
       (plain_step (settings_of v) now job (next_number (settings_of v) m + 0 * v.lanes) m (leaves job.conn state left.left) answers its line (next_may (settings_of v) m)
       (p (next_number (settings_of v) m + 0 * v.lanes) ∙ ap (λ (x : Machine). record { answers = its; line = line; machine = leaves job.conn state x }) (sym stays)) e)
       (counts_did act old new all.monotone (rose_none old new) refl)
+      (about_none v.lane v.lanes m act)
       (record {
         own = λ n own. absurd (let x : None ≡ Some n = sym idle ∙ own in cc);
         to = subst (AllTo job.conn) (sym e) to;
@@ -213,6 +215,7 @@ line_refused v v1 v2 old mid new now job m what line nx why laws laws1 at1 k fau
       leaves job.conn Dead left.left,
       acted v now job (log_of (m.states job.conn)) (act_of job answers failed [] now) m (leaves job.conn Dead left.left) old new laws refl refl step
           (counts_did (act_of job answers failed [] now) old new all.monotone rose refl)
+          (about_own v.lane v.lanes m (act_of job answers failed [] now) (λ n own. at1.sound.owned job.conn n own))
           (concerns_ends (log_of (m.states job.conn)) m (act_of job answers failed [] now) (λ n own. own) ends)
           all
           (own (act_of job answers failed [] now) refl ends (log_of (m.states job.conn)) refl left.closed),

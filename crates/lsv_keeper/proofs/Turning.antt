@@ -93,7 +93,7 @@ answering_on told now done job v v' v'' was left later said said' said'' one two
         replies = d.replies ++ j.replies;
         after = j.after;
         told = j.told ∙ ap (λ (x : List Reply). x ++ j.replies) d.told ∙ append_assoc said d.replies j.replies;
-        going = going_more (reading_of v.lane v.lanes) (settings_of v) now done job d.replies j.replies m d.after j.after one two three d.going acted;
+        going = going_more (reading_of v.lane v.lanes) (settings_of v) now done job d.replies j.replies m d.after j.after one two three d.going acted at.sound;
         represents = j.represents;
       };
 }
@@ -104,14 +104,14 @@ of_each : (ns : List ℕ) (failed : List Owner) → ((n : ℕ) → IsOneOf n ns 
 of_each [] failed none = tt
 of_each (n ∷ ns) failed none = (none n (inl refl), of_each ns failed (λ i is. none i (inr is)))
 
-pub turn_given : (v one two three : KeeperView) (now : TimeSpec) (jobs : List Job) (m : Machine) (said first second third : List Reply) (old after_jobs after_lines new : DiskView) → Laws old → SameSet v one → SameSet one two
+pub turn_given : (v one two three : KeeperView) (now : TimeSpec) (jobs : List Job) (m : Machine) (said first second third : List Reply) (old after_jobs after_lines new : DiskView) → Represents v old m → SameSet v one → SameSet one two
     → (j : JobsGive v now jobs m said first one old after_jobs) → (l : LinesGive one j.after first second two after_jobs after_lines) → LogsGive l.after.waiting two l.after second third three after_lines new
     → TurnGives v now jobs m said third three old new
-turn_given v one two three now jobs m said first second third old after_jobs after_lines new laws s1 s2 j l g = record {
+turn_given v one two three now jobs m said first second third old after_jobs after_lines new at s1 s2 j l g = record {
   replies = j.replies ++ map reply_of whole.answers;
   after = none_waits g.after;
   told = replies_joined first second third l.tail.answers g.tail.answers l.told g.told ∙ ap (λ (x : List Reply). x ++ map reply_of whole.answers) j.told ∙ append_assoc said j.replies (map reply_of whole.answers);
-  turned = going_ends r set now jobs j.replies whole m j.after (none_waits g.after) old after_jobs new laws.reads_itself j.going ends;
+  turned = going_ends r set now jobs j.replies whole m j.after (none_waits g.after) old after_jobs new at.sound j.going ends;
   no_line = end_fresh set whole j.after (none_waits g.after) ends.ended.ends;
   represents = g.represents;
 }

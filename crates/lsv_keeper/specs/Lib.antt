@@ -15,3 +15,4 @@ pub mod Opening
 pub mod Accepting
 pub mod Syncs
 pub mod Syncing
+pub mod Causes

@@ -1,5 +1,5 @@
 -- What opening a store gives: what the keeper is set to, why a store isn't opened, and what an opened one stands for.
-use Rattle.std.specs.Prelude.{◌≡◌, ◌⊎◌, ℕ, Bool, List, [], None, Ok, Err}
+use Rattle.std.specs.Prelude.{◌≡◌, ◌≤◌, ◌⊎◌, ℕ, Bool, List, [], None, Ok, Err}
 use Rattle.lsv_bundle.specs.Committed.{IsDamaged}
 use Rattle.lsv_bundle.specs.declared.fault.BundleFault.{BundleFault}
 use Rattle.lsv_bundle.specs.declared.fault.BundleFault.TheVariants as bundle
@@ -8,7 +8,7 @@ use Rattle.lsv_disk.specs.Files.{file_of}
 use Rattle.lsv_disk.specs.View.{DiskView, Image}
 use Rattle.lsv_disk.specs.declared.file.Owner.TheVariants as owners
 use Rattle.lsv_event.specs.declared.event.Kind.{Kind}
-use Rattle.lsv_seq.specs.Drawn.{entry_at, judged, numbers_file}
+use Rattle.lsv_seq.specs.Drawn.{IsAsSomeCrash, entry_at, judged, numbers_file}
 use Rattle.lsv_seq.specs.Represents as numbers
 use Rattle.lsv_seq.specs.Value.{lane_of, lanes_of, last_of, pending_of}
 use Rattle.lsv_seq.specs.declared.fault.SeqFault.{SeqFault}
@@ -73,6 +73,11 @@ pub record OpensNumbers (lane lanes : ℕ) (found new : DiskView) (n : Numbers) 
   pub whole : pending_of n ≡ None
   pub read : judged lane lanes (entry_at lane found.reads) ≡ Ok (last_of n)
   pub represents : numbers.Represents n new
+
+-- the last entry of a lane's numbers stays: at each moment it is that of some crash image before, and it reads as it did
+pub record KeepsEntry (lane : ℕ) (found new : DiskView) : Type 0 where
+  pub moments : (k : ℕ) (image : Image) → found.moment ≤ k → k ≤ new.moment → new.crash_images_at k image → IsAsSomeCrash lane found image
+  pub reads : entry_at lane new.reads ≡ entry_at lane found.reads
 
 -- the event log of a lane, as it is opened: the lines that the disk reads as are committed, and none is added
 pub record OpensEvents (lane : ℕ) (found new : DiskView) (log : EventLogView) : Type 0 where

@@ -21,6 +21,7 @@ use Rattle.lsv_request.specs.declared.refusal.Refusal.{Refusal}
 use Rattle.lsv_request.specs.declared.refusal.Refusal.TheVariants as refusals
 use Rattle.lsv_keeper.specs.declared.logs.OpenLog.{OpenLog}
 use Rattle.lsv_keeper.specs.Represents.{Masks}
+use Rattle.lsv_journal.specs.Last.{HasSlotsEntry}
 
 -- ---- What is told
 
@@ -61,11 +62,13 @@ AllHold n stored images = (image : Image) → images image → Replays image n (
 abbrev pub AllCut : ℕ → ℕ → Stored → (Image → Type 0) → Type 0
 AllCut n point stored images = (image : Image) → images image → IsEither n (Some stored) (Some (cut_log stored point)) image
 
--- log n is read as it was, and at each moment each image holds of it what one held before; where it has no files nothing was synced
+-- log n is read as it was, and at each moment each image holds of it what one held before. If it has no files nothing was synced. No file but its journal was written, and not that if its slots have an entry
 pub record IsLooked (n : ℕ) (old new : DiskView) : Type 0 where
   pub run : Throughout (IsOfLog n) (IsAsBefore n old) old new
   pub reads : SameLog n old.reads new.reads
   pub unmade : IsUnmade n old → OnlyReads old new
+  pub others : (file : FileId) → file ≢ journal_of (owner_of n) → new.writes file ≡ old.writes file
+  pub unwritten : HasSlotsEntry 89 (journal_of (owner_of n)) old.reads → (file : FileId) → new.writes file ≡ old.writes file
 
 -- and it is this log, which each image holds now
 pub record IsFound (n : ℕ) (stored : Stored) (old new : DiskView) : Type 0 where

@@ -1,5 +1,5 @@
 -- A keeper, as contracts see it, and what it is set to.
-use Rattle.std.specs.Prelude.{ℕ, ◌+◌, ◌*◌, ◌≡◌, ◌≤◌, ◌==◌, if◌then◌else◌, Bool, List, [], length, Option, Some}
+use Rattle.std.specs.Prelude.{ℕ, ◌+◌, ◌*◌, ◌≡◌, ◌≤◌, ◌==◌, if◌then◌else◌, Bool, false, List, [], length, Option, Some}
 use Rattle.lsv_base.specs.declared.time.TimeSpec.{TimeSpec}
 use Rattle.lsv_event.specs.declared.event.Event.TheVariants as event
 use Rattle.lsv_event.specs.declared.event.Kind.{Kind}
@@ -13,7 +13,7 @@ use Rattle.lsv_session.specs.declared.connection.ConnId.{ConnId}
 use Rattle.lsv_session.specs.declared.connection.ConnState.TheVariants.{Running}
 use Rattle.lsv_session.specs.declared.table.Table.{Table}
 use Rattle.lsv_session.specs.Table.{Sessions, sessions, spare}
-use Rattle.lsv_machine.specs.Machine.{Settings, same}
+use Rattle.lsv_machine.specs.Machine.{Settings, log_of, same}
 use Rattle.lsv_keeper.specs.declared.logs.OpenLog.{OpenLog}
 use Rattle.lsv_keeper.specs.declared.logs.OpenLogs.{OpenLogs}
 use Rattle.lsv_keeper.specs.Logs.{open_logs, with_open}
@@ -108,10 +108,20 @@ pub record Owns (k : ConnId) (n : ℕ) (its : OpenLog) (old new : KeeperView) : 
   pub waiting : new.waiting ≡ old.waiting
   pub noting : new.noting ≡ old.noting
 
--- no turn is under way: no log waits, and nobody had an event line
+-- a connection that writes a log owns it
+abbrev pub AreLinked : Sessions → Type 0
+AreLinked s = (k : ConnId) (n : ℕ) → log_of (s.states k) ≡ Some n → s.owner n ≡ Some k
+
+-- no open log failed
+abbrev pub AreWhole : OpenLogs → Type 0
+AreWhole logs = (n : ℕ) (its : OpenLog) → open_logs logs n ≡ Some its → its.log.is_broken ≡ false
+
+-- no turn is under way: no log waits, and nobody had an event line; who writes a log owns it, and no open log failed
 pub record IsResting (v : KeeperView) : Type 0 where
   pub none_waits : v.waiting ≡ []
   pub nobody_noted : v.noting ≡ []
+  pub linked : AreLinked (sessions_of v)
+  pub whole : AreWhole v.logs
 
 -- it is set as before
 pub record SameSet (old new : KeeperView) : Type 0 where

@@ -1,6 +1,6 @@
 //! Accepts: an event alone, or a log that is opened.
 
-ghost use Rattle.std.specs.Prelude.{◌≡◌, ◌≤◌, ℕ, false, [], None, Ok, IfErr, IfOk, IsSome, OnErr, OnOk, vec_capacity};
+ghost use Rattle.std.specs.Prelude.{◌≡◌, ◌≤◌, ℕ, false, [], None, Ok, IfErr, IfOk, IsSome, OnErr, OnOk, vec_capacity, ◌∷◌, IsErrOf};
 ghost use Rattle.lsv_base.specs.LogNo.{digits_of};
 ghost use Rattle.lsv_base.specs.Time.{nanos_of};
 ghost use Rattle.lsv_mask.specs.Masking.{seen};
@@ -19,6 +19,7 @@ ghost use Rattle.lsv_keeper.specs.Rows.{Beside, IsTold, RowGives};
 ghost use Rattle.lsv_keeper.specs.Value.{IsReserved, Keeps, room, sessions_of, settings_of};
 ghost use Rattle.lsv_keeper.specs.Views.{view_of};
 ghost use Rattle.lsv_keeper.specs.Syncing.{IsPast, NoLog, NoLogSynced, Syncs};
+ghost use Rattle.lsv_keeper.specs.Causes.{Does, TellsFault};
 
 use crate::Keeper;
 use crate::logs::OpenLog;
@@ -104,6 +105,7 @@ impl<F: LineWriter, H: Search> Keeper<F, H> {
         ensures row { D.tells → (m : Machine) (job : Job) → Represents (view_of self.old) (D.view disk.old) m → job.conn ≡ conn → AsksFor (m.states conn) job.body (requests.Accept accept)
             → RowGives (view_of self.old) now job result m (view_of self.new) (D.view disk.old) (D.view disk.new) }
         ensures syncs { D.tells → (m : Machine) → Represents (view_of self.old) (D.view disk.old) m → Syncs NoLog (view_of self.old) (view_of self.new) (D.view disk.old) (D.view disk.new) }
+        ensures does { Does (conn ∷ []) (TellsFault result) (view_of self.old) (view_of self.new) (D.view disk.old) (D.view disk.new) }
     {
         let Accept {
             head,
@@ -136,6 +138,7 @@ impl<F: LineWriter, H: Search> Keeper<F, H> {
         ensures row { D.tells → (m : Machine) (job : Job) → Represents (view_of self.old) (D.view disk.old) m → job.conn ≡ conn → AsksFor (m.states conn) job.body (requests.Accept (accept_of head))
             → RowGives (view_of self.old) now job result m (view_of self.new) (D.view disk.old) (D.view disk.new) }
         ensures syncs { D.tells → (m : Machine) → Represents (view_of self.old) (D.view disk.old) m → Syncs NoLog (view_of self.old) (view_of self.new) (D.view disk.old) (D.view disk.new) }
+        ensures does { Does (conn ∷ []) (TellsFault result) (view_of self.old) (view_of self.new) (D.view disk.old) (D.view disk.new) }
     {
         match self.open_log(disk, now, conn, head) {
             Ok(opened) => Told::Log(opened.number, opened.id),
@@ -168,11 +171,17 @@ impl<F: LineWriter, H: Search> Keeper<F, H> {
         ensures stopped { D.tells → IfErr result (λ why. (m : Machine) → Represents (view_of self.old) (D.view disk.old) m
             → Stopped (view_of self.old) now conn (m.states conn) head m why (view_of self.new) (D.view disk.old) (D.view disk.new)) }
         ensures syncs { D.tells → (m : Machine) → Represents (view_of self.old) (D.view disk.old) m → Syncs NoLog (view_of self.old) (view_of self.new) (D.view disk.old) (D.view disk.new) }
+        ensures does { Does (conn ∷ []) (IsErrOf result Refusal.DeviceFault) (view_of self.old) (view_of self.new) (D.view disk.old) (D.view disk.new) }
     {
         let Ok(prepared) = self.prepare() else {
             return Err(Refusal::OutOfMemory);
         };
         let number = self.draw(disk)?;
+        // If the disk tells its files, nobody writes this log: a number is drawn once. A disk that tells nothing may have lost
+        // its numbers, and a log that is being written isn't made again.
+        if self.table.owner(number).is_some() {
+            return Err(Refusal::LogInUse);
+        }
         let log = match IoLog::create(self.alloc, disk, number, &head) {
             Ok(log) => log,
             Err(fault) => return Err(create_refusal(fault)),
@@ -218,6 +227,7 @@ impl<F: LineWriter, H: Search> Keeper<F, H> {
         ensures syncs { D.tells → NoLogSynced (D.view disk.old) (D.view disk.new) }
         ensures past { (n : ℕ) → IsPast (view_of self.old).numbers n → IsPast (view_of self.new).numbers n }
         ensures fresh { D.tells → IfOk result (λ n. (m : Machine) → Represents (view_of self.old) (D.view disk.old) m → IsPast (view_of self.old).numbers n → ⊥) }
+        ensures does { Does [] (IsErrOf result Refusal.DeviceFault) (view_of self.old) (view_of self.new) (D.view disk.old) (D.view disk.new) }
     {
         match self.numbers.draw(disk) {
             Ok(number) => Ok(number),

@@ -1,6 +1,6 @@
 //! Event lines.
 
-ghost use Rattle.std.specs.Prelude.{◌≡◌, ◌++◌, true, false, None, IfErr, OnOk, OnErr};
+ghost use Rattle.std.specs.Prelude.{◌≡◌, ◌++◌, true, false, None, IfErr, OnOk, OnErr, [], ◌∷◌, IsErrOf};
 ghost use Rattle.lsv_event.specs.Events.{IsTimed};
 ghost use Rattle.lsv_event.specs.Lines.{line_of};
 ghost use Rattle.lsv_eventlog.specs.Value.{is_broken};
@@ -12,6 +12,7 @@ ghost use Rattle.lsv_keeper.specs.Rows.{Beside, LineFault};
 ghost use Rattle.lsv_keeper.specs.Accepting.{failed_before, line_refusal};
 ghost use Rattle.lsv_keeper.specs.Value.{Keeps, KeeperView, SameSessions};
 ghost use Rattle.lsv_keeper.specs.Syncing.{NoLogSynced};
+ghost use Rattle.lsv_keeper.specs.Causes.{Does, LinesDo};
 
 use crate::Keeper;
 use lsv_bundle::BundleFault;
@@ -44,6 +45,7 @@ impl<F: LineWriter, H: Search> Keeper<F, H> {
             LineFault (view_of self.old).lane (line_of (view_of self.old).kind event.now) m why (D.view disk.old) (D.view disk.new) × Represents (view_of self.new) (D.view disk.new) m) }
         ensures beside { D.tells → (m : Machine) → Represents (view_of self.old) (D.view disk.old) m → Beside (view_of self.old).lane (view_of self.old).lanes None (D.view disk.old) (D.view disk.new) }
         ensures syncs { D.tells → NoLogSynced (D.view disk.old) (D.view disk.new) }
+        ensures does { Does (conn ∷ []) (IsErrOf result Refusal.DeviceFault) (view_of self.old) (view_of self.new) (D.view disk.old) (D.view disk.new) }
     {
         let Ok(line) = self.formatter.write(self.alloc, event) else {
             return Err(Refusal::OutOfMemory);
@@ -96,6 +98,7 @@ fn stage_line<D: Disk>(
         LineFault lane line.now m why (D.view disk.old) (D.view disk.new) × Represents (record v { events = events.new }) (D.view disk.new) m) }
     ensures beside { D.tells → (v : KeeperView) (m : Machine) → v.lane ≡ lane → v.events ≡ events.old → Represents v (D.view disk.old) m → Beside lane v.lanes None (D.view disk.old) (D.view disk.new) }
     ensures syncs { D.tells → NoLogSynced (D.view disk.old) (D.view disk.new) }
+    ensures does { LinesDo (IsErrOf result Refusal.DeviceFault) events.old events.new (D.view disk.old) (D.view disk.new) }
 {
     let Err(fault) = events.add(line) else {
         return Ok(());

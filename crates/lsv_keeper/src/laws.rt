@@ -9,11 +9,11 @@ ghost use Rattle.lsv_machine.specs.Disks.{AllWithin, NumbersFit, Past};
 ghost use Rattle.lsv_machine.specs.Durable.{Good};
 ghost use Rattle.lsv_machine.specs.History.{promised};
 ghost use Rattle.lsv_machine.specs.InnerSoFar.{SoFar, with_turn};
-ghost use Rattle.lsv_machine.specs.Keeping.{Opened, OpensStore, Turned};
+ghost use Rattle.lsv_machine.specs.Keeping.{KeepsLines, Opened, OpensStore, Turned};
 ghost use Rattle.lsv_machine.specs.Lives.{AllRuns, Chained, Life, Lived, left_by};
 ghost use Rattle.lsv_machine.specs.Machine.{IsOfLane, Machine, Settings};
 ghost use Rattle.lsv_machine.specs.Recovery.{Recovers, Story};
-ghost use Rattle.lsv_machine.specs.Turns.{Happened};
+ghost use Rattle.lsv_machine.specs.Turns.{Happened, turn_of};
 ghost use Rattle.lsv_keeper.specs.Reading.{IsDrawn, reading_of};
 ghost use Rattle.lsv_keeper.specs.Represents.{Represents};
 ghost use Rattle.lsv_keeper.specs.Room.{IsRoomier};
@@ -32,7 +32,15 @@ pub fn a_run_recovers_turn_by_turn<D: Disk>()
     ensures turn { (set : Settings) (texts : List (List ℕ)) (s : Story) (now : TimeSpec) (jobs : List Job) (replies : List Reply) (m after : Machine) (found old new : D) →
         SoFar (reading_of set.lane set.lanes) set texts (record { found = D.view found; left = D.view old }) m s →
         (t : Turned (reading_of set.lane set.lanes) set now jobs replies m after (D.view old) (D.view new)) →
-        SoFar (reading_of set.lane set.lanes) set texts (record { found = D.view found; left = D.view new }) after (with_turn s now t.acts t.tail (D.view new).moment) }
+        SoFar (reading_of set.lane set.lanes) set texts (record { found = D.view found; left = D.view new }) after (with_turn s now t.acts t.tail (D.view new).moment after.lines) }
+{}
+
+/// A turn keeps the event log: if each image held a text that the history allows, it does at each moment of the turn and at its
+/// end. The lines of the turn are there wholly or not at all.
+pub fn a_turn_keeps_event_lines<D: Disk>()
+    ensures { D.tells → (set : Settings) (now : TimeSpec) (jobs : List Job) (replies : List Reply) (m after : Machine) (old new : D) →
+        (t : Turned (reading_of set.lane set.lanes) set now jobs replies m after (D.view old) (D.view new)) →
+        KeepsLines (reading_of set.lane set.lanes) set t.acts (turn_of t.acts t.tail) m (D.view old) (D.view new) }
 {}
 
 /// Over every list of runs and stops from an empty store, each image that the last stop may have left is, log by log, within

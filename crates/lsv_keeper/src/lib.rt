@@ -24,6 +24,6 @@ mod work;
 pub use fault::StoreFault;
 pub use keeper::Keeper;
 pub use laws::{
-    a_number_that_was_told_is_drawn, a_run_recovers_turn_by_turn, all_runs_recover,
-    more_room_changes_nothing, runs_recover,
+    a_number_that_was_told_is_drawn, a_run_recovers_turn_by_turn, a_turn_keeps_event_lines,
+    all_runs_recover, more_room_changes_nothing, runs_recover,
 };

@@ -8,6 +8,7 @@ ghost use Rattle.lsv_record.specs.Records.{IsValid};
 ghost use Rattle.lsv_keeper.specs.Logs.{Appends, Covers, Flushes, IsAt, RefusesRecord, TakesRecord, log_refusal, open_logs, spare_logs, with_open};
 ghost use Rattle.lsv_keeper.specs.declared.logs.Appended.{Appended};
 ghost use Rattle.lsv_keeper.specs.declared.logs.OpenLog.{OpenLog};
+ghost use Rattle.lsv_keeper.specs.Causes.{FlushKeeps};
 
 use indexmap::IndexMap;
 use lsv_base::{Bytes, List, LogNo, NoMem, Point};
@@ -156,6 +157,7 @@ impl OpenLogs {
         requires represents { D.tells → (its : OpenLog) → open_logs self.old log ≡ Some its → its.log.is_broken ≡ false → (value : LogValue) × Represents its.log value (D.view disk.old) }
         ensures flushed { D.tells → (its : OpenLog) (value : LogValue) → open_logs self.old log ≡ Some its → Represents its.log value (D.view disk.old)
             → Flushes log its value result (open_logs self.old) (open_logs self.new) (D.view disk.old) (D.view disk.new) }
+        ensures keeps { FlushKeeps log result (open_logs self.old) (open_logs self.new) (D.view disk.old) (D.view disk.new) }
     {
         let its = self.map.get_mut(&log.get())?;
         match its.log.flush(disk) {

@@ -1,16 +1,17 @@
 //! Opening a store.
 
-ghost use Rattle.std.specs.Prelude.{◌≡◌, ◌<◌, ◌≤◌, ℕ, None, IfOk, IfErr, IsErrOf};
+ghost use Rattle.std.specs.Prelude.{◌≡◌, ◌≢◌, ◌<◌, ◌≤◌, ℕ, false, None, IfOk, IfErr, IsErrOf};
 ghost use Rattle.lsv_disk.specs.Throughout.{Throughout};
 ghost use Rattle.lsv_disk.specs.View.{HasOwnCause, IsCrashImage};
 ghost use Rattle.lsv_disk.specs.declared.file.Owner.{Owner};
 ghost use Rattle.lsv_seq.specs.Drawn.{entry_at, judged, numbers_file};
-ghost use Rattle.lsv_seq.specs.Value.{last_of};
+ghost use Rattle.lsv_seq.specs.Value.{last_of, pending_of};
 ghost use Rattle.lsv_eventlog.specs.Recovered.{HoldsLines, IsOfEventLog};
-ghost use Rattle.lsv_eventlog.specs.Value.{committed_text};
+ghost use Rattle.lsv_eventlog.specs.Value.{committed_text, is_broken};
 ghost use Rattle.lsv_machine.specs.Disks.{NumbersFit};
 ghost use Rattle.lsv_machine.specs.Keeping.{OpensStore};
-ghost use Rattle.lsv_keeper.specs.Opening.{IsEventsFault, IsNumbersFault, IsSetTo, IsStoreFault, OpensAs, OpensEvents, OpensNumbers, events_fault, number_fault};
+ghost use Rattle.lsv_keeper.specs.Causes.{HasFailed};
+ghost use Rattle.lsv_keeper.specs.Opening.{IsEventsFault, IsNumbersFault, IsSetTo, IsStoreFault, KeepsEntry, OpensAs, OpensEvents, OpensNumbers, events_fault, number_fault};
 ghost use Rattle.lsv_keeper.specs.Reading.{reading_of};
 ghost use Rattle.lsv_keeper.specs.Rows.{IsOfJob};
 ghost use Rattle.lsv_keeper.specs.Value.{IsResting};
@@ -36,6 +37,8 @@ fn open_numbers<D: Disk>(disk: &mut D, lane: u32, lanes: u32) -> Result<Numbers,
     ensures fault { D.tells → IfErr result (IsNumbersFault lane lanes (D.view disk.old).reads) }
     ensures store { D.tells → OpensStore (reading_of lane lanes) lane lanes (D.view disk.old) (D.view disk.new) }
     ensures run { D.tells → Throughout (λ g. g ≡ numbers_file lane) (λ _. Unit {0}) (D.view disk.old) (D.view disk.new) }
+    ensures kept { D.tells → entry_at lane (D.view disk.old).reads ≢ None → KeepsEntry lane (D.view disk.old) (D.view disk.new) }
+    ensures sound { IfOk result (λ n. pending_of n ≡ None) }
     ensures cause { (o : Owner) → HasOwnCause (λ f. f.owner ≡ o) (IsErrOf result (StoreFault.Device o)) (D.view disk.old) (D.view disk.new) }
 {
     match Numbers::open(disk, lane, lanes) {
@@ -61,6 +64,7 @@ fn open_events<D: Disk>(alloc: Global, disk: &mut D, lane: u32) -> Result<EventL
     ensures fault { D.tells → IfErr result (IsEventsFault lane (D.view disk.old).reads) }
     ensures store { D.tells → (lanes : ℕ) → OpensStore (reading_of lane lanes) lane lanes (D.view disk.old) (D.view disk.new) }
     ensures run { D.tells → Throughout (IsOfEventLog lane) (λ _. Unit {0}) (D.view disk.old) (D.view disk.new) }
+    ensures sound { IfOk result (λ l. is_broken l ≡ false) }
     ensures cause { (o : Owner) → HasOwnCause (λ f. f.owner ≡ o) (IsErrOf result (StoreFault.Device o)) (D.view disk.old) (D.view disk.new) }
 {
     match EventLog::open(alloc, disk, lane) {
@@ -87,7 +91,7 @@ impl<F: LineWriter + Drop, H: Search + Drop> Keeper<F, H> {
     /// has no entry is made. `Device` only where a device call on a file of that owner failed; `LanesDiffer` where the
     /// number file is of another number of lanes; `Damaged` of the number file where its last entry isn't one of the
     /// lane's, and of the event log's lines where these are absent or fewer than its last entry says. Whatever fails, no
-    /// log is touched, and the event log reads as before.
+    /// log is touched, the event log reads as before, and so does the last entry of the numbers if there was one.
     pub fn open<D: Disk>(
         alloc: Global,
         disk: &mut D,
@@ -102,11 +106,13 @@ impl<F: LineWriter + Drop, H: Search + Drop> Keeper<F, H> {
         requires lanes { lanes ≤ 8 }
         ensures set { IfOk result (λ k. IsSetTo lane lanes formatter.kind log_exit texts (view_of k)) }
         ensures rests { IfOk result (λ k. IsResting (view_of k)) }
+        ensures sound { IfOk result (λ k. HasFailed (view_of k) → ⊥) }
         ensures read { D.tells → IfOk result (λ k. judged lane lanes (entry_at lane (D.view disk.old).reads) ≡ Ok (last_of (view_of k).numbers)) }
         ensures held { D.tells → IfOk result (λ k. HoldsLines (D.view disk.old).reads lane (committed_text (view_of k).events (D.view disk.new))) }
         ensures fault { D.tells → IfErr result (IsStoreFault lane lanes (D.view disk.old).reads) }
         ensures store { D.tells → OpensStore (reading_of lane lanes) lane lanes (D.view disk.old) (D.view disk.new) }
         ensures touched { D.tells → Throughout (IsOfJob lane None) (λ _. Unit {0}) (D.view disk.old) (D.view disk.new) }
+        ensures kept { D.tells → entry_at lane (D.view disk.old).reads ≢ None → KeepsEntry lane (D.view disk.old) (D.view disk.new) }
         ensures opened { D.tells → NumbersFit (reading_of lane lanes) lane lanes (IsCrashImage (D.view disk.old)) → IfOk result (λ k. OpensAs lane lanes texts (D.view disk.old) (D.view disk.new) (view_of k)) }
         ensures cause { (o : Owner) → HasOwnCause (λ f. f.owner ≡ o) (IsErrOf result (StoreFault.Device o)) (D.view disk.old) (D.view disk.new) }
     {

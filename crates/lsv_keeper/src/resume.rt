@@ -1,6 +1,6 @@
 //! Logs that are opened and cut, to be gone on with.
 
-ghost use Rattle.std.specs.Prelude.{◌≡◌, ◌≢◌, ◌⊎◌, ◌≤◌, ℕ, List, [], Some, None, OnOk, IfOk, IfErr, IsErrOf};
+ghost use Rattle.std.specs.Prelude.{◌≡◌, ◌≢◌, ◌⊎◌, ◌≤◌, ℕ, List, [], Some, None, OnOk, IfOk, IfErr, IsErrOf, false};
 ghost use Rattle.lsv_disk.specs.Throughout.{OnlyReads};
 ghost use Rattle.lsv_disk.specs.View.{HasOwnCause};
 ghost use Rattle.lsv_disk.specs.declared.file.FileId.{FileId};
@@ -14,6 +14,7 @@ ghost use Rattle.lsv_record.specs.Points.{Stored, cut, first};
 ghost use Rattle.lsv_keeper.specs.Represents.{Masks};
 ghost use Rattle.lsv_keeper.specs.Resuming.{IsResumed, IsResumeFault, IsViewOf, restart_refusal};
 ghost use Rattle.lsv_keeper.specs.Syncing.{Unsynced};
+ghost use Rattle.lsv_keeper.specs.Causes.{StoreRose};
 
 use crate::logs::OpenLog;
 use lsv_base::{Bytes, List, LogNo, Point};
@@ -114,6 +115,8 @@ pub(crate) fn resume_log<D: Disk, H: Search>(
     ensures fault { D.tells → IfErr result (λ e. IsResumeFault number point e (D.view disk.old) (D.view disk.new)) }
     ensures monotone { (file : FileId) → (D.view disk.old).faults file ≤ (D.view disk.new).faults file }
     ensures syncs { D.tells → (n : ℕ) → n ≢ number → Unsynced n (D.view disk.old) (D.view disk.new) }
+    ensures cause { IfErr result (λ e. restart_refusal e ≡ Refusal.DeviceFault → StoreRose (D.view disk.old) (D.view disk.new)) }
+    ensures whole { IfOk result (λ its. its.log.is_broken ≡ false) }
 {
     let mut log = IoLog::open(alloc, disk, number)?;
     if log.is_complete() {

@@ -1,6 +1,6 @@
 //! A turn: its jobs, one after another, then its event lines, and then its commit points.
 
-ghost use Rattle.std.specs.Prelude.{◌≡◌, ◌≤◌, ◌+◌, ◌*◌, ℕ, length, Some, IsSome, OnOk};
+ghost use Rattle.std.specs.Prelude.{◌≡◌, ◌≤◌, ◌+◌, ◌*◌, ℕ, length, Some, IsSome, OnOk, map};
 ghost use Rattle.lsv_base.specs.Time.{nanos_of};
 ghost use Rattle.lsv_session.specs.declared.connection.ConnId.{ConnId};
 ghost use Rattle.lsv_machine.specs.Machine.{Machine};
@@ -8,10 +8,12 @@ ghost use Rattle.lsv_keeper.specs.Replies.{room_in};
 ghost use Rattle.lsv_keeper.specs.Represents.{Represents};
 ghost use Rattle.lsv_keeper.specs.Room.{HasRoom, IsRoomier};
 ghost use Rattle.lsv_keeper.specs.Tails.{JobsGive, TurnGives};
-ghost use Rattle.lsv_keeper.specs.Value.{IsResting, SameSet, owed, room};
+ghost use Rattle.lsv_keeper.specs.Value.{IsResting, SameSet, owed, room, AreWhole};
 ghost use Rattle.lsv_keeper.specs.Views.{view_of};
 ghost use Rattle.lsv_keeper.specs.Syncing.{Syncs};
 ghost use Rattle.lsv_keeper.specs.Syncs.{AnyRestarts, SyncedOnce};
+ghost use Rattle.lsv_keeper.specs.Causes.{AnyIsOf, Does, HasFailed, MayFail, Says};
+ghost use Rattle.lsv_disk.specs.declared.file.FileId.{FileId};
 
 use crate::Keeper;
 use lsv_base::{NoMem, TimeSpec};
@@ -57,6 +59,9 @@ impl<F: LineWriter, H: Search> Keeper<F, H> {
         ensures turned { D.tells → (m : Machine) → Represents (view_of self.old) (D.view disk.old) m
             → TurnGives (view_of self.old) now jobs.items m out.old.items out.new.items (view_of self.new) (D.view disk.old) (D.view disk.new) }
         ensures syncs { D.tells → (m : Machine) (n : ℕ) (k : ConnId) → Represents (view_of self.old) (D.view disk.old) m → m.owner n ≡ Some k → (AnyRestarts jobs.items n → ⊥) → SyncedOnce n (D.view disk.old) (D.view disk.new) }
+        ensures says { Says (AnyIsOf jobs.items) (MayFail (view_of self.old) (D.view disk.old) (D.view disk.new)) out.old.items out.new.items }
+        ensures failed { HasFailed (view_of self.new) → MayFail (view_of self.old) (D.view disk.old) (D.view disk.new) }
+        ensures monotone { (file : FileId) → (D.view disk.old).faults file ≤ (D.view disk.new).faults file }
     {
         self.answer_jobs(disk, now, jobs, out);
         self.flush_lines(disk, out);
@@ -82,6 +87,8 @@ impl<F: LineWriter, H: Search> Keeper<F, H> {
         ensures answered { D.tells → (m : Machine) → Represents (view_of self.old) (D.view disk.old) m
             → JobsGive (view_of self.old) now jobs.items m out.old.items out.new.items (view_of self.new) (D.view disk.old) (D.view disk.new) }
         ensures syncs { D.tells → (m : Machine) → Represents (view_of self.old) (D.view disk.old) m → Syncs (AnyRestarts jobs.items) (view_of self.old) (view_of self.new) (D.view disk.old) (D.view disk.new) }
+        ensures does { Does (map (λ job. job.conn) jobs.items) ⊥ (view_of self.old) (view_of self.new) (D.view disk.old) (D.view disk.new) }
+        ensures says { AreWhole (view_of self.old).logs → Says (AnyIsOf jobs.items) (MayFail (view_of self.old) (D.view disk.old) (D.view disk.new)) out.old.items out.new.items }
     {
         for job in jobs {
             self.answer_job(disk, now, job, out);

@@ -1,6 +1,6 @@
 //! Jobs: what a connection brings is judged, worked on and answered.
 
-ghost use Rattle.std.specs.Prelude.{◌≡◌, ◌≤◌, ◌+◌, false, Ok, IsSome};
+ghost use Rattle.std.specs.Prelude.{◌≡◌, ◌≤◌, ◌+◌, false, Ok, IsSome, [], ◌∷◌};
 ghost use Rattle.lsv_base.specs.Time.{nanos_of};
 ghost use Rattle.lsv_msg.specs.declared.messages.ClientMessage.{ClientMessage};
 ghost use Rattle.lsv_session.specs.declared.job.Body.TheVariants as bodies;
@@ -13,10 +13,11 @@ ghost use Rattle.lsv_keeper.specs.Replies.{room_in};
 ghost use Rattle.lsv_keeper.specs.Represents.{Represents};
 ghost use Rattle.lsv_keeper.specs.Rows.{IsTold, RowGives};
 ghost use Rattle.lsv_keeper.specs.Tails.{JobGives};
-ghost use Rattle.lsv_keeper.specs.Value.{Keeps, room, sessions_of};
+ghost use Rattle.lsv_keeper.specs.Value.{Keeps, room, sessions_of, AreWhole};
 ghost use Rattle.lsv_keeper.specs.Views.{view_of};
 ghost use Rattle.lsv_keeper.specs.Syncing.{GoesOnWith, Syncs};
 ghost use Rattle.lsv_keeper.specs.Syncs.{Restarts};
+ghost use Rattle.lsv_keeper.specs.Causes.{Does, MayFail, Says, TellsFault};
 
 use crate::Keeper;
 use crate::record::windowed;
@@ -48,6 +49,8 @@ impl<F: LineWriter, H: Search> Keeper<F, H> {
         ensures answered { D.tells → (m : Machine) → Represents (view_of self.old) (D.view disk.old) m
             → JobGives (view_of self.old) now job m out.old.items out.new.items (view_of self.new) (D.view disk.old) (D.view disk.new) }
         ensures syncs { D.tells → (m : Machine) → Represents (view_of self.old) (D.view disk.old) m → Syncs (Restarts job.body) (view_of self.old) (view_of self.new) (D.view disk.old) (D.view disk.new) }
+        ensures does { Does (job.conn ∷ []) ⊥ (view_of self.old) (view_of self.new) (D.view disk.old) (D.view disk.new) }
+        ensures says { AreWhole (view_of self.old).logs → Says (λ k. k ≡ job.conn) (MayFail (view_of self.old) (D.view disk.old) (D.view disk.new)) out.old.items out.new.items }
     {
         let Job { conn, body } = job;
         let told = self.answer(disk, now, conn, body);
@@ -64,6 +67,7 @@ impl<F: LineWriter, H: Search> Keeper<F, H> {
         ensures row { D.tells → (m : Machine) (job : Job) → Represents (view_of self.old) (D.view disk.old) m → job.conn ≡ conn → job.body ≡ body
             → RowGives (view_of self.old) now job result m (view_of self.new) (D.view disk.old) (D.view disk.new) }
         ensures syncs { D.tells → (m : Machine) → Represents (view_of self.old) (D.view disk.old) m → Syncs (Restarts body) (view_of self.old) (view_of self.new) (D.view disk.old) (D.view disk.new) }
+        ensures does { Does (conn ∷ []) (TellsFault result) (view_of self.old) (view_of self.new) (D.view disk.old) (D.view disk.new) }
     {
         let state = self.table.state(conn);
         if let ConnState::Dead = state {
@@ -91,6 +95,7 @@ impl<F: LineWriter, H: Search> Keeper<F, H> {
         ensures row { D.tells → (m : Machine) (job : Job) → Represents (view_of self.old) (D.view disk.old) m → job.conn ≡ conn → job.body ≡ body
             → RowGives (view_of self.old) now job result m (view_of self.new) (D.view disk.old) (D.view disk.new) }
         ensures syncs { D.tells → (m : Machine) → Represents (view_of self.old) (D.view disk.old) m → Syncs (Restarts body) (view_of self.old) (view_of self.new) (D.view disk.old) (D.view disk.new) }
+        ensures does { Does (conn ∷ []) (TellsFault result) (view_of self.old) (view_of self.new) (D.view disk.old) (D.view disk.new) }
     {
         match body {
             Body::Msg(message) => self.hear(disk, now, conn, state, message),
@@ -119,6 +124,7 @@ impl<F: LineWriter, H: Search> Keeper<F, H> {
         ensures row { D.tells → (m : Machine) (job : Job) → Represents (view_of self.old) (D.view disk.old) m → job.conn ≡ conn → job.body ≡ bodies.Msg message
             → RowGives (view_of self.old) now job result m (view_of self.new) (D.view disk.old) (D.view disk.new) }
         ensures syncs { D.tells → (m : Machine) → Represents (view_of self.old) (D.view disk.old) m → Syncs (Restarts (bodies.Msg message)) (view_of self.old) (view_of self.new) (D.view disk.old) (D.view disk.new) }
+        ensures does { Does (conn ∷ []) (TellsFault result) (view_of self.old) (view_of self.new) (D.view disk.old) (D.view disk.new) }
     {
         match message {
             ClientMessage::Ttyin(m) => self.judge(disk, now, conn, state, ClientMessage::Ttyin(m)),
@@ -157,6 +163,7 @@ impl<F: LineWriter, H: Search> Keeper<F, H> {
         ensures row { D.tells → (m : Machine) (job : Job) → Represents (view_of self.old) (D.view disk.old) m → job.conn ≡ conn → job.body ≡ bodies.Msg message
             → RowGives (view_of self.old) now job result m (view_of self.new) (D.view disk.old) (D.view disk.new) }
         ensures syncs { D.tells → (m : Machine) → Represents (view_of self.old) (D.view disk.old) m → Syncs (Restarts (bodies.Msg message)) (view_of self.old) (view_of self.new) (D.view disk.old) (D.view disk.new) }
+        ensures does { Does (conn ∷ []) (TellsFault result) (view_of self.old) (view_of self.new) (D.view disk.old) (D.view disk.new) }
     {
         self.judge(disk, now, conn, state, message)
     }
@@ -181,6 +188,7 @@ impl<F: LineWriter, H: Search> Keeper<F, H> {
         ensures row { D.tells → (m : Machine) (job : Job) → Represents (view_of self.old) (D.view disk.old) m → job.conn ≡ conn → job.body ≡ bodies.Msg message
             → RowGives (view_of self.old) now job result m (view_of self.new) (D.view disk.old) (D.view disk.new) }
         ensures syncs { D.tells → (m : Machine) → Represents (view_of self.old) (D.view disk.old) m → Syncs (Restarts (bodies.Msg message)) (view_of self.old) (view_of self.new) (D.view disk.old) (D.view disk.new) }
+        ensures does { Does (conn ∷ []) (TellsFault result) (view_of self.old) (view_of self.new) (D.view disk.old) (D.view disk.new) }
     {
         windowed(&message);
         match judged(state.copied(), message) {
@@ -209,6 +217,7 @@ impl<F: LineWriter, H: Search> Keeper<F, H> {
         ensures row { D.tells → (m : Machine) (job : Job) → Represents (view_of self.old) (D.view disk.old) m → job.conn ≡ conn → AsksFor (m.states conn) job.body request
             → RowGives (view_of self.old) now job result m (view_of self.new) (D.view disk.old) (D.view disk.new) }
         ensures syncs { D.tells → (m : Machine) → Represents (view_of self.old) (D.view disk.old) m → Syncs (GoesOnWith request) (view_of self.old) (view_of self.new) (D.view disk.old) (D.view disk.new) }
+        ensures does { Does (conn ∷ []) (TellsFault result) (view_of self.old) (view_of self.new) (D.view disk.old) (D.view disk.new) }
     {
         match request {
             Request::Record(r) => self.record(disk, conn, state, r),
@@ -237,6 +246,7 @@ impl<F: LineWriter, H: Search> Keeper<F, H> {
         ensures row { D.tells → (m : Machine) (job : Job) → Represents (view_of self.old) (D.view disk.old) m → job.conn ≡ conn → AsksFor (m.states conn) job.body request
             → RowGives (view_of self.old) now job result m (view_of self.new) (D.view disk.old) (D.view disk.new) }
         ensures syncs { D.tells → (m : Machine) → Represents (view_of self.old) (D.view disk.old) m → Syncs (GoesOnWith request) (view_of self.old) (view_of self.new) (D.view disk.old) (D.view disk.new) }
+        ensures does { Does (conn ∷ []) (TellsFault result) (view_of self.old) (view_of self.new) (D.view disk.old) (D.view disk.new) }
     {
         match request {
             Request::Hello => self.greet(disk, conn),

@@ -1,6 +1,8 @@
 -- What a lane did with its store.
-use Rattle.std.proofs.Common.{◌≡◌, [], List, ℕ, Option, None, refl, subst, arith, ◌≤◌}
+use Rattle.std.proofs.Common.{◌≡◌, ◌≢◌, [], List, ℕ, Option, Some, None, refl, sym, ap, ◌∙◌, subst, arith, ◌≤◌}
 use Rattle.lsv_disk.specs.View.{DiskView, Image, IsCrashImage}
+use Rattle.lsv_seq.specs.Drawn.{entry_at, judged}
+use Rattle.lsv_seq.specs.declared.entry.Entry.{Entry}
 use Rattle.lsv_session.specs.declared.connection.ConnId.{ConnId}
 use Rattle.lsv_machine.specs.Disks.{NumbersFit}
 use Rattle.lsv_machine.specs.Durable.{Reading}
@@ -15,7 +17,7 @@ use Rattle.lsv_keeper.specs.Represents.{Free, LogIs}
 use Rattle.lsv_keeper.specs.Value.{KeeperView}
 use Rattle.lsv_turns.specs.Turns.{LaneTurn}
 use Rattle.lsv_lane.specs.InnerLane.{Standing}
-use Rattle.lsv_lane.specs.Store.{Conforms, KeepsStore}
+use Rattle.lsv_lane.specs.Store.{Conforms, IsFresh, KeepsStore}
 
 -- a log that nobody writes reads as the machine says
 free_reads : (v : KeeperView) (disk : DiskView) (m : Machine) (n : ℕ) → m.owner n ≡ None → LogIs v disk m n (m.owner n) → Free v disk m n
@@ -56,3 +58,12 @@ fit_now r lane lanes texts found left s is_now rec fit =
     let later : found.moment ≤ left.moment = let a = spans.first in let b = spans.within [] s.turns refl in omega arith in
     let at = rec.numbers fit left.moment later (omega arith) in
     record { told = λ image is. at.told image (is_now image is); none_above = λ a b last n is it. at.none_above a b last n (is_now a is) (is_now b it) }
+
+-- a disk is still one that this server's runs leave, if an entry of the numbers stays and the numbers fit as before
+pub fresh_still : (lane lanes : ℕ) (found left : DiskView) → IsFresh lane lanes found → (entry_at lane found.reads ≢ None → entry_at lane left.reads ≡ entry_at lane found.reads)
+    → (NumbersFit (reading_of lane lanes) lane lanes (IsCrashImage found) → NumbersFit (reading_of lane lanes) lane lanes (IsCrashImage left)) → IsFresh lane lanes left
+fresh_still lane lanes found left fresh same fits last well = go (entry_at lane found.reads) refl
+  where
+    go : (o : Option Entry) → entry_at lane found.reads ≡ o → NumbersFit (reading_of lane lanes) lane lanes (IsCrashImage left)
+    go None none = fits (fresh 0 (ap (judged lane lanes) none))
+    go (Some e) some = fits (fresh last (ap (judged lane lanes) (sym (same (λ none. let x : Some e ≡ None = sym some ∙ none in cc))) ∙ well))

@@ -1,9 +1,11 @@
 -- What the keeper and the disk stand for behind an opening, and behind each turn.
-use Rattle.std.proofs.Common.{◌≡◌, ◌++◌, ◌∷◌, [], List, ℕ, Bool, Option, Some, None, refl, sym, ap, subst, ◌∙◌, append_assoc}
+use Rattle.std.proofs.Common.{◌≡◌, ◌≤◌, ◌++◌, ◌∷◌, [], List, ℕ, Bool, Option, Some, None, refl, sym, ap, subst, ◌∙◌, append_assoc, inl, inr, arith}
+use Rattle.std.specs.List.{AllByRecursion}
 use Rattle.std.specs.Prelude.{IsSome}
 use Rattle.lsv_base.specs.Time.{nanos_of}
 use Rattle.lsv_base.specs.declared.time.TimeSpec.{TimeSpec}
 use Rattle.lsv_disk.specs.View.{DiskView, IsCrashImage}
+use Rattle.lsv_disk.specs.declared.file.FileId.{FileId}
 use Rattle.lsv_event.specs.declared.event.Kind.{Kind}
 use Rattle.lsv_session.specs.Table.{Sessions}
 use Rattle.lsv_session.specs.declared.connection.ConnId.{ConnId}
@@ -14,15 +16,17 @@ use Rattle.lsv_machine.specs.InnerSoFar.{with_turn}
 use Rattle.lsv_machine.specs.Keeping.{Opened, Turned}
 use Rattle.lsv_machine.specs.Machine.{Machine, Settings}
 use Rattle.lsv_machine.proofs.Recovering.{opening_begins, turn_joins}
+use Rattle.lsv_keeper.specs.Causes.{AnyIsOf, HasFailed, IsDeviceFault, MayFail, Says, StoreRose}
 use Rattle.lsv_keeper.specs.Opening.{IsSetTo, OpensAs}
 use Rattle.lsv_keeper.specs.Reading.{reading_of}
 use Rattle.lsv_keeper.specs.Represents.{LogIs, Represents}
 use Rattle.lsv_keeper.specs.Room.{IsRoomier}
 use Rattle.lsv_keeper.specs.Tails.{TurnGives}
-use Rattle.lsv_keeper.specs.Value.{IsResting, KeeperView, SameSet, event_line, settings_of}
+use Rattle.lsv_keeper.specs.Value.{AreLinked, AreWhole, IsResting, KeeperView, SameSet, event_line, settings_of}
+use Rattle.lsv_keeper.proofs.Causes.{all_as, failed_same, rose_first, rose_second}
 use Rattle.lsv_turns.specs.Turns.{LaneTurn, TapeTurn, all_taped, taped}
 use Rattle.lsv_lane.specs.InnerLane.{IsMade, Standing}
-use Rattle.lsv_lane.specs.Store.{lane_settings}
+use Rattle.lsv_lane.specs.Store.{AreAnswered, IsAnswered, lane_settings}
 use Rattle.lsv_lane.proofs.TurnLists.{all_last, are_turns_last, taped_last}
 
 -- ---- Settings
@@ -70,7 +74,7 @@ roomier_stands v w disk m r is = subst (λ (y : KeeperView). Represents y disk m
 })
 
 pub roomier_rests : (v w : KeeperView) → IsRoomier v w → IsResting v → IsResting w
-roomier_rests v w r rests = record { none_waits = ap (λ (y : KeeperView). y.waiting) r.others ∙ rests.none_waits; nobody_noted = ap (λ (y : KeeperView). y.noting) r.others ∙ rests.nobody_noted }
+roomier_rests v w r rests = record { none_waits = ap (λ (y : KeeperView). y.waiting) r.others ∙ rests.none_waits; nobody_noted = ap (λ (y : KeeperView). y.noting) r.others ∙ rests.nobody_noted; linked = subst AreLinked (sym r.sessions_are) rests.linked; whole = subst AreWhole (sym (ap (λ (y : KeeperView). y.logs) r.others)) rests.whole }
 
 -- what a turn gives from a keeper with more room, it gives from this one
 roomier_gives : (v w : KeeperView) (now : TimeSpec) (jobs : List Job) (m : Machine) (said said' : List Reply) (v' : KeeperView) (old new : DiskView) → IsRoomier v w
@@ -90,13 +94,16 @@ standing_open lane lanes kind log_exit texts found new v is fit (m, opened, repr
 
 pub made_open : (tells taping : Type 0) (lane lanes : ℕ) (kind : Kind) (log_exit : Bool) (texts : List (List ℕ)) (found new : DiskView) (v : KeeperView) (tape : List TapeTurn) → IsSetTo lane lanes kind log_exit texts v → IsResting v
     → (tells → NumbersFit (reading_of lane lanes) lane lanes (IsCrashImage found)) → (tells → NumbersFit (reading_of lane lanes) lane lanes (IsCrashImage found) → OpensAs lane lanes texts found new v)
-    → IsMade tells taping (lane_settings lane lanes kind log_exit) texts found new v tape tape []
-made_open tells taping lane lanes kind log_exit texts found new v tape is rests fit opens = record {
+    → (HasFailed v → ⊥) → ((file : FileId) → found.faults file ≤ new.faults file) → IsMade tells taping (lane_settings lane lanes kind log_exit) texts found new v tape tape []
+made_open tells taping lane lanes kind log_exit texts found new v tape is rests fit opens sound later = record {
   rests = rests;
   set_is = set_to lane lanes kind log_exit texts v is;
   timed = tt;
   taped = λ told. sym (append_nil_of tape);
   standing = λ told. standing_open lane lanes kind log_exit texts found new v is (fit told) (opens told (fit told));
+  later = later;
+  failed = λ failed. absurd (sound failed);
+  answered = tt;
 }
   where
     append_nil_of : (xs : List TapeTurn) → xs ++ [] ≡ xs
@@ -112,7 +119,7 @@ standing_turn set texts found old new v v' turns t is s g =
     subst (λ (x : Settings). Turned (reading_of x.lane x.lanes) x t.now t.jobs g.replies s.machine g.after old new) is g.turned in
     record {
       machine = g.after;
-      story = with_turn s.story t.now turned.acts turned.tail new.moment;
+      story = with_turn s.story t.now turned.acts turned.tail new.moment g.after.lines;
       so_far = turn_joins (reading_of set.lane set.lanes) set texts found s.story t.now t.jobs g.replies s.machine g.after old new s.so_far turned;
       same = are_turns_last turns s.story.turns t _ s.same (record { now = refl; jobs = turned.jobs_are; replies = turned.replies_are ∙ sym g.told });
       represents = g.represents;
@@ -121,6 +128,15 @@ standing_turn set texts found old new v v' turns t is s g =
 
 standing_roomier : (set : Settings) (texts : List (List ℕ)) (found old : DiskView) (v w : KeeperView) (turns : List LaneTurn) → IsRoomier v w → Standing set texts found old v turns → Standing set texts found old w turns
 standing_roomier set texts found old v w turns r s = record { machine = s.machine; story = s.story; so_far = s.so_far; same = s.same; represents = roomier_stands v w old s.machine r s.represents; places = s.places }
+
+-- a keeper with more room failed only where this one did
+roomier_failed : (v w : KeeperView) → IsRoomier v w → HasFailed w → HasFailed v
+roomier_failed v w r = failed_same v w (ap (λ (y : KeeperView). y.numbers) r.others) (ap (λ (y : KeeperView). y.events) r.others)
+
+-- turns with a cause are so with a wider one
+answered_as : (a b : Type 0) (turns : List LaneTurn) → (a → b) → AreAnswered a turns → AreAnswered b turns
+answered_as a b turns wider all = all_as (IsAnswered a) (IsAnswered b) turns
+    (λ t is. record { asked = is.asked; cause = all_as (λ r. IsDeviceFault r → a) (λ r. IsDeviceFault r → b) t.replies (λ r told fault. wider (told fault)) is.cause }) all
 
 module _ (tells taping : Type 0) (set : Settings) (texts : List (List ℕ)) (found : DiskView) (tape : List TapeTurn) where
   -- with room for a turn
@@ -131,23 +147,35 @@ module _ (tells taping : Type 0) (set : Settings) (texts : List (List ℕ)) (fou
     timed = is.timed;
     taped = is.taped;
     standing = λ told. standing_roomier set texts found old v w turns r (is.standing told);
+    later = is.later;
+    failed = λ failed. is.failed (roomier_failed v w r failed);
+    answered = is.answered;
   }
 
   -- with another tape that tells the same
   pub made_taped : (old : DiskView) (v : KeeperView) (kept kept' : List TapeTurn) (turns : List LaneTurn) → (taping → kept' ≡ kept) → IsMade tells taping set texts found old v tape kept turns → IsMade tells taping set texts found old v tape kept' turns
-  made_taped old v kept kept' turns same is = record { rests = is.rests; set_is = is.set_is; timed = is.timed; taped = λ told. same told ∙ is.taped told; standing = is.standing }
+  made_taped old v kept kept' turns same is = record { rests = is.rests; set_is = is.set_is; timed = is.timed; taped = λ told. same told ∙ is.taped told; standing = is.standing; later = is.later; failed = is.failed; answered = is.answered }
 
   -- behind a turn, which was kept
   pub made_turn : (old new : DiskView) (v v' : KeeperView) (kept kept' : List TapeTurn) (turns : List LaneTurn) (t : LaneTurn) → IsSome (nanos_of t.now) → (taping → kept' ≡ kept ++ taped t ∷ [])
       → IsResting v' → SameSet v v' → (tells → (m : Machine) → Represents v old m → TurnGives v t.now t.jobs m [] t.replies v' old new)
-      → IsMade tells taping set texts found old v tape kept turns → IsMade tells taping set texts found new v' tape kept' (turns ++ t ∷ [])
-  made_turn old new v v' kept kept' turns t valid more rests same gives is = record {
+      → Says (AnyIsOf t.jobs) (MayFail v old new) [] t.replies → (HasFailed v' → MayFail v old new) → ((file : FileId) → old.faults file ≤ new.faults file) → IsMade tells taping set texts found old v tape kept turns → IsMade tells taping set texts found new v' tape kept' (turns ++ t ∷ [])
+  made_turn old new v v' kept kept' turns t valid more rests same gives says failed later is = record {
     rests = rests;
     set_is = set_same v v' same ∙ is.set_is;
     timed = all_last (λ (x : LaneTurn). IsSome (nanos_of x.now)) turns t is.timed valid;
     taped = λ told. more told ∙ ap (λ (l : List TapeTurn). l ++ taped t ∷ []) (is.taped told) ∙ append_assoc tape (all_taped turns) (taped t ∷ []) ∙ ap (λ (l : List TapeTurn). tape ++ l) (sym (taped_last turns t));
     standing = λ told. let s = is.standing told in standing_turn set texts found old new v v' turns t is.set_is s (gives told s.machine s.represents);
+    later = λ file. let a = is.later file in let b = later file in omega arith;
+    failed = λ fails. rose (failed fails);
+    answered = all_last (IsAnswered (StoreRose found new)) turns t
+        (answered_as (StoreRose found old) (StoreRose found new) turns (λ r. rose_first found old new r later) is.answered)
+        (record { asked = subst (AllByRecursion (λ r. AnyIsOf t.jobs r.conn)) (sym says.behind) says.asked; cause = subst (AllByRecursion (λ r. IsDeviceFault r → StoreRose found new)) (sym says.behind) (all_as (λ r. IsDeviceFault r → MayFail v old new) (λ r. IsDeviceFault r → StoreRose found new) says.replies (λ r told fault. rose (told fault)) says.cause) });
   }
+    where
+      rose : MayFail v old new → StoreRose found new
+      rose (inl fails) = rose_first found old new (is.failed fails) later
+      rose (inr r) = rose_second found old new is.later r
 
 -- what a turn gives, where nothing was said before it
 pub gives_first : (v : KeeperView) (now : TimeSpec) (jobs : List Job) (m : Machine) (said said' : List Reply) (v' : KeeperView) (old new : DiskView) → said ≡ [] → TurnGives v now jobs m said said' v' old new → TurnGives v now jobs m [] said' v' old new

@@ -17,6 +17,7 @@ use Rattle.lsv_machine.specs.Machine.{Machine, Settings}
 use Rattle.lsv_machine.specs.Recovery.{Outside, Ran, Recovers, Story, Turn, all_turns}
 use Rattle.lsv_machine.specs.Starts.{ReadsAs}
 use Rattle.lsv_machine.specs.Turns.{Happened, Happened.Begins}
+use Rattle.lsv_keeper.specs.Causes.{AnyIsOf, IsDeviceFault}
 use Rattle.lsv_keeper.specs.Reading.{reading_of}
 use Rattle.lsv_keeper.specs.Value.{event_line}
 use Rattle.lsv_turns.specs.Turns.{LaneTurn}
@@ -53,6 +54,17 @@ AreTurns (t ∷ lane) (turn ∷ turns) = IsTurn t turn × AreTurns lane turns
 -- each of these turns was at a valid moment
 abbrev pub AreTimed : List LaneTurn → Type 0
 AreTimed turns = AllByRecursion (λ t. IsSome (nanos_of t.now)) turns
+
+-- ---- Replies, over every disk
+
+-- each reply of the turn is to the connection of one of its jobs, and says that a device failed only for this cause
+pub record IsAnswered (why : Type 0) (t : LaneTurn) : Type 0 where
+  pub asked : AllByRecursion (λ r. AnyIsOf t.jobs r.conn) t.replies
+  pub cause : AllByRecursion (λ r. IsDeviceFault r → why) t.replies
+
+-- so are these turns
+abbrev pub AreAnswered : (why : Type 0) → List LaneTurn → Type 0
+AreAnswered why turns = AllByRecursion (IsAnswered why) turns
 
 -- ---- What the machine did
 

@@ -1,13 +1,15 @@
 //! A lane over its store.
 
-ghost use Rattle.std.specs.Prelude.{◌≡◌, ◌<◌, ◌≤◌, ◌++◌, [], List, IfOk, IfErr};
+ghost use Rattle.std.specs.Prelude.{◌≡◌, ◌≢◌, ◌<◌, ◌≤◌, ◌++◌, [], List, None, IfOk, IfErr};
 ghost use Rattle.lsv_disk.specs.declared.file.Owner.{Owner};
-ghost use Rattle.lsv_keeper.specs.Opening.{IsStoreFault};
+ghost use Rattle.lsv_keeper.specs.Causes.{StoreRose};
+ghost use Rattle.lsv_keeper.specs.Opening.{IsStoreFault, KeepsEntry};
 ghost use Rattle.lsv_keeper.specs.Views.{view_of};
+ghost use Rattle.lsv_seq.specs.Drawn.{entry_at};
 ghost use Rattle.lsv_seq.specs.Value.{last_of};
 ghost use Rattle.lsv_turns.specs.Turns.{LaneTurn, all_taped};
 ghost use Rattle.lsv_lane.specs.InnerLane.{Begun, IsMade};
-ghost use Rattle.lsv_lane.specs.Store.{AreTimed, IsFresh, KeepsStore, OwnerFailed, lane_settings};
+ghost use Rattle.lsv_lane.specs.Store.{AreAnswered, AreTimed, IsFresh, KeepsStore, OwnerFailed, lane_settings};
 ghost use Rattle.lsv_keeper.specs.declared.fault.StoreFault.TheVariants as faults;
 
 use crate::Bay;
@@ -57,8 +59,8 @@ pub struct Unopened<D, C, G> {
 }
 
 impl<D: Disk, C: Clock, G: Tape, F: LineWriter + Drop, H: Search + Drop> StoreLane<D, C, G, F, H> {
-    /// Opens the store of a lane of so many, at most eight. Where it can't be opened the bay is given back, with the fault of
-    /// `Keeper::open`.
+    /// Opens the store of a lane of so many, at most eight. If it can't be opened the bay is given back, with the fault of
+    /// `Keeper::open`; the next run may begin with its disk. An entry of the number file that was there is there still.
     pub fn open(
         alloc: Global,
         bay: Bay<D, C, G>,
@@ -76,6 +78,8 @@ impl<D: Disk, C: Clock, G: Tape, F: LineWriter + Drop, H: Search + Drop> StoreLa
         ensures fault { D.tells → IfErr result (λ e. IsStoreFault lane lanes (D.view bay.disk).reads e.fault) }
         ensures cause { (o : Owner) → IfErr result (λ e. e.fault ≡ faults.Device o → OwnerFailed o (D.view bay.disk) (D.view e.bay.disk)) }
         ensures store { D.tells → IfErr result (λ e. KeepsStore ⊥ (lane_settings lane lanes formatter.kind log_exit) texts (record { found = D.view bay.disk; left = D.view e.bay.disk }) []) }
+        ensures fresh { D.tells → IfErr result (λ e. IsFresh lane lanes (D.view e.bay.disk)) }
+        ensures entry { D.tells → entry_at lane (D.view bay.disk).reads ≢ None → IfErr result (λ e. KeepsEntry lane (D.view bay.disk) (D.view e.bay.disk)) }
         ensures places { D.tells → IfErr result (λ e. (D.view e.bay.disk).places ≡ (D.view bay.disk).places) }
         ensures clock { IfErr result (λ e. e.bay.clock ≡ bay.clock) }
         ensures tape { IfErr result (λ e. e.bay.tape ≡ bay.tape) }
@@ -103,12 +107,14 @@ impl<D: Disk, C: Clock, G: Tape, F: LineWriter + Drop, H: Search + Drop> StoreLa
         self.keeper.last_number()
     }
 
-    /// Gives back what the lane worked with, behind its turns.
+    /// Gives back what the lane worked with, after its turns. The next run may begin with its disk.
     pub fn into_bay(self) -> Bay<D, C, G>
         ensures kept { D.tells → (start : Begun D G) (turns : List LaneTurn) → ⟦<StoreLane<D, C, G, F, H> as Lane>⟧.made_by start self turns →
             KeepsStore (Unit {0}) start.set start.texts (record { found = D.view start.disk; left = D.view result.disk }) turns }
         ensures places { D.tells → (start : Begun D G) (turns : List LaneTurn) → ⟦<StoreLane<D, C, G, F, H> as Lane>⟧.made_by start self turns → (D.view result.disk).places ≡ (D.view start.disk).places }
+        ensures fresh { D.tells → (start : Begun D G) (turns : List LaneTurn) → ⟦<StoreLane<D, C, G, F, H> as Lane>⟧.made_by start self turns → IsFresh start.set.lane start.set.lanes (D.view result.disk) }
         ensures taped { G.tells → (start : Begun D G) (turns : List LaneTurn) → ⟦<StoreLane<D, C, G, F, H> as Lane>⟧.made_by start self turns → G.turns result.tape ≡ G.turns start.tape ++ all_taped turns }
+        ensures answered { (start : Begun D G) (turns : List LaneTurn) → ⟦<StoreLane<D, C, G, F, H> as Lane>⟧.made_by start self turns → AreAnswered (StoreRose (D.view start.disk) (D.view result.disk)) turns }
         ensures timed { (start : Begun D G) (turns : List LaneTurn) → ⟦<StoreLane<D, C, G, F, H> as Lane>⟧.made_by start self turns → AreTimed turns }
     {
         self.bay

@@ -45,9 +45,9 @@ logs_text failed (n ∷ numbers) answers old new (mid, its, later, told, one, re
     texts_on old mid new (log_text failed n its old mid one) (logs_text failed numbers later mid new rest)
 
 -- what an end of a turn makes of them
-record EndsText (lane : ℕ) (failed : List Owner) (old new : Machine) : Type 0 where
-  lines : (new.lines ≡ old.lines ++ old.fresh) ⊎ (Contains failed (Events lane) × (new.lines ≡ old.lines))
-  fresh : new.fresh ≡ []
+pub record EndsText (lane : ℕ) (failed : List Owner) (old new : Machine) : Type 0 where
+  pub lines : (new.lines ≡ old.lines ++ old.fresh) ⊎ (Contains failed (Events lane) × (new.lines ≡ old.lines))
+  pub fresh : new.fresh ≡ []
 
 flushed_text : (set : Settings) (failed : List Owner) (answers : List Answer) (old new : Machine) → FlushesLines set failed answers old new → EndsText set.lane failed old new
 flushed_text set failed answers old new (inl (sound, quiet, e)) = record { lines = inl (ap (λ (m : Machine). m.lines) e); fresh = ap (λ (m : Machine). m.fresh) e }
@@ -57,7 +57,7 @@ flushed_text set failed answers old new (inr l) = by_wrote l.wrote l.refuses
     by_wrote true r = let s = all_text failed old.noting answers (with_lines true old) new r in record { lines = inl s.lines; fresh = s.fresh }
     by_wrote false r = let s = all_text failed old.noting answers (with_lines false old) new r in record { lines = inr (l.did, s.lines); fresh = s.fresh }
 
-tail_text : (set : Settings) (tail : Tail) (old new : Machine) → EndOfTurn set old tail new → EndsText set.lane tail.failed old new
+pub tail_text : (set : Settings) (tail : Tail) (old new : Machine) → EndOfTurn set old tail new → EndsText set.lane tail.failed old new
 tail_text set tail old new t =
     let a = flushed_text set tail.failed t.of_lines old t.mid t.lines in
     let b = logs_text tail.failed t.mid.waiting t.of_logs t.mid t.last t.logs in

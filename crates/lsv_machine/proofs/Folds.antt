@@ -17,16 +17,17 @@ use Rattle.lsv_session.specs.declared.job.Job.{Job}
 use Rattle.lsv_session.specs.declared.reply.Reply.{Reply}
 use Rattle.lsv_machine.specs.Answers.{Answer, reply_of}
 use Rattle.lsv_machine.specs.Counts.{Counts, IsCounted, all_parts, faults_among}
-use Rattle.lsv_disk.proofs.Composition.{followed, started}
-use Rattle.lsv_machine.specs.Disks.{AllGood, AllWithin, AsBefore, GoodOr, KeepsNumbers, LinesAs, LinesAsBefore, LinesAsBeforeOr, LinesRest, IsOfStore, NumbersFit, Past, Rests, SameLines, SameLog}
+use Rattle.lsv_disk.proofs.Composition.{followed, started, widened}
+use Rattle.lsv_machine.specs.Disks.{AllGood, AllWithin, AsBefore, GoodOr, KeepsNumbers, LinesAs, LinesAsBefore, LinesAsBeforeOr, LinesRest, AnyAsksToResume, IsOfLaneStore, IsToldIn, IsWritten, NumbersFit, Past, Rests, SameLines, SameLog, TouchesStore}
 use Rattle.lsv_machine.specs.Durable.{Good, GoodAt, Reading, Within}
 use Rattle.lsv_machine.specs.Failures.{Act}
 use Rattle.lsv_machine.specs.History.{Ledger, blank, ledger, noted, settled, settles}
-use Rattle.lsv_machine.specs.Keeping.{Acted, Ended, Going, KeepsLines, KeepsSettled, LinesFlushed, LinesGood, LinesWithin, TailEnded, Turned}
+use Rattle.lsv_machine.specs.Keeping.{Acted, Ended, Going, KeepsLines, KeepsSettled, LinesFlushed, LinesGood, LinesWithin, TailEnded, Turned, with_lines_of}
 use Rattle.lsv_machine.specs.Lines.{LinesFrom, MayHold, lines_of}
-use Rattle.lsv_machine.specs.Machine.{Machine, Settings}
-use Rattle.lsv_machine.specs.Stands.{Stands}
+use Rattle.lsv_machine.specs.Machine.{IsOfLane, Machine, Settings}
+use Rattle.lsv_machine.specs.Stands.{Sound, Stands}
 use Rattle.lsv_machine.specs.Turns.{EndOfTurn, Happened, Happened.Did, Happened.Tailed, Happened.Begins, Run, Tail, all_acted, turn_of}
+use Rattle.lsv_machine.proofs.Owners.{acts_told}
 use Rattle.lsv_machine.proofs.RunLaws.{ledger_append, run_append, stands_more}
 use Rattle.lsv_machine.proofs.Splits.{all_acted_last, append_nil, failures_append, le_or, marks_append, settled_last}
 use Rattle.lsv_machine.proofs.StepLooks.{step_seen}
@@ -50,6 +51,9 @@ moments_on H K L one two three down from_h from_k s t = record {
     | inr late ↦ from_k (three.crash_images_at k) (t.each k late to)
   ];
 }
+
+pub moments_as : (H L : (Image → Type 0) → Type 0) (one two : DiskView) → ((images : Image → Type 0) → H images → L images) → Jointly H one two → Jointly L one two
+moments_as H L one two from s = record { later = s.later; past = s.past; keeps = s.keeps; each = λ k low high. from (two.crash_images_at k) (s.each k low high) }
 
 pub each_down : (P : Image → Type 0) → Down (λ images. (image : Image) → images image → P image)
 each_down P a b fewer all image is = all image (fewer image is)
@@ -103,6 +107,26 @@ numbers_on r lane lanes a b c s t = record {
   moments = moments_on (NumbersFit r lane lanes) (NumbersFit r lane lanes) (NumbersFit r lane lanes) a b c (numbers_down r lane lanes) (λ images x. x) (λ images x. x) s.moments t.moments;
   now = t.now;
 }
+
+-- ---- Files
+
+-- fewer logs were told
+pub touches_as : (lane lanes : ℕ) (A B : ℕ → Type 0) (old new : DiskView) → ((n : ℕ) → A n → IsOfLane lane lanes n ⊎ B n) → TouchesStore lane lanes A old new → TouchesStore lane lanes B old new
+touches_as lane lanes A B old new more touches = widened (IsOfLaneStore lane lanes A) (IsOfLaneStore lane lanes B) (λ image. Unit {0}) (λ image. Unit {0}) old new each (λ image is rest. is) touches
+  where
+    its : (n : ℕ) → IsOfLane lane lanes n ⊎ A n → IsOfLane lane lanes n ⊎ B n
+    its n (inl is) = inl is
+    its n (inr told) = more n told
+
+    each : (file : FileId) → IsOfLaneStore lane lanes A file → IsOfLaneStore lane lanes B file
+    each file (inl (n, is, own)) = inl (n, its n is, own)
+    each file (inr other) = inr other
+
+pub touches_on : (lane lanes : ℕ) (A : ℕ → Type 0) (a b c : DiskView) → TouchesStore lane lanes A a b → TouchesStore lane lanes A b c → TouchesStore lane lanes A a c
+touches_on lane lanes A a b c s t = followed (IsOfLaneStore lane lanes A) (λ image. Unit {0}) a b c s t
+
+pub touches_none : (lane lanes : ℕ) (A : ℕ → Type 0) (here : DiskView) → ((image : Image) → here.crash_images_at here.moment image → IsCrashImage here image) → TouchesStore lane lanes A here here
+touches_none lane lanes A here is_now = started (IsOfLaneStore lane lanes A) (λ image. Unit {0}) here is_now (λ image is. tt)
 
 -- ---- Counts
 
@@ -209,7 +233,7 @@ going_none r set now m here is_now fit = record {
     inr (refl, rests_still r n here),
   );
   numbers = record { moments = still (NumbersFit r set.lane set.lanes) here (numbers_down r set.lane set.lanes (IsCrashImage here) (here.crash_images_at here.moment) is_now fit); now = fit };
-  files = started (IsOfStore set.lane) (λ image. Unit {0}) here is_now (λ image is. tt);
+  files = touches_none set.lane set.lanes (IsToldIn m []) here is_now;
   lines = lines_still r here is_now;
 }
   where
@@ -217,6 +241,15 @@ going_none r set now m here is_now fit = record {
     first g n image good = record { done = 0; some = omega arith; good = subst (λ (h : List Happened). Good r h image n) (sym (append_nil g)) good }
 
 -- ---- One job more
+
+asks_left : (acts more : List Act) (n : ℕ) → AnyAsksToResume acts n → AnyAsksToResume (acts ++ more) n
+asks_left [] more n asks = absurd asks
+asks_left (act ∷ acts) more n (inl asks) = inl asks
+asks_left (act ∷ acts) more n (inr asks) = inr (asks_left acts more n asks)
+
+asks_right : (acts more : List Act) (n : ℕ) → AnyAsksToResume more n → AnyAsksToResume (acts ++ more) n
+asks_right [] more n asks = asks
+asks_right (act ∷ acts) more n asks = inr (asks_right acts more n asks)
 
 map_append : {A B : Type 0} (f : A → B) (xs ys : List A) → map f (xs ++ ys) ≡ map f xs ++ map f ys
 map_append {A} {B} f [] ys = refl
@@ -227,7 +260,25 @@ answers_append [] more = refl
 answers_append (a ∷ acts) more = ap (λ (xs : List Answer). a.answers ++ xs) (answers_append acts more) ∙ sym (append_assoc a.answers (flat_map (λ (act : Act). act.answers) acts) (flat_map (λ (act : Act). act.answers) more))
 
 module _ (r : Reading) (set : Settings) (now : TimeSpec) (jobs : List Job) (job : Job) (replies its : List Reply) (m mid after : Machine) (one two three : DiskView)
-    (s : Going r set now jobs replies m mid one two) (t : Acted r set now job its mid after two three) where
+    (s : Going r set now jobs replies m mid one two) (t : Acted r set now job its mid after two three) (sound : Sound set m) where
+  more_files : TouchesStore set.lane set.lanes (IsToldIn m (s.acts ++ t.act ∷ [])) one three
+  more_files =
+      touches_on set.lane set.lanes (IsToldIn m (s.acts ++ t.act ∷ [])) one two three
+      (touches_as set.lane set.lanes (IsToldIn m s.acts) (IsToldIn m (s.acts ++ t.act ∷ [])) one two first s.files)
+      (touches_as set.lane set.lanes (IsToldIn mid (t.act ∷ [])) (IsToldIn m (s.acts ++ t.act ∷ [])) two three last t.files)
+    where
+      first : (n : ℕ) → IsToldIn m s.acts n → IsOfLane set.lane set.lanes n ⊎ IsToldIn m (s.acts ++ t.act ∷ []) n
+      first n (inl is) = inr (inl is)
+      first n (inr asks) = inr (inr (asks_left s.acts (t.act ∷ []) n asks))
+
+      of_mid : (n : ℕ) → IsOfLane set.lane set.lanes n ⊎ IsToldIn m s.acts n → IsOfLane set.lane set.lanes n ⊎ IsToldIn m (s.acts ++ t.act ∷ []) n
+      of_mid n (inl lane) = inl lane
+      of_mid n (inr told) = first n told
+
+      last : (n : ℕ) → IsToldIn mid (t.act ∷ []) n → IsOfLane set.lane set.lanes n ⊎ IsToldIn m (s.acts ++ t.act ∷ []) n
+      last n (inl is) = of_mid n (acts_told set s.acts m mid sound s.run n is)
+      last n (inr asks) = inr (inr (asks_right s.acts (t.act ∷ []) n asks))
+
   stands_mid : (g : List Happened) (n : ℕ) → Stands set g n m → Stands set (g ++ all_acted s.acts) n mid
   stands_mid g n stands = stands_more set n g (all_acted s.acts) m mid stands s.run
 
@@ -316,7 +367,7 @@ module _ (r : Reading) (set : Settings) (now : TimeSpec) (jobs : List Job) (job 
     settled_logs = more_settled;
     unsettled_logs = more_unsettled;
     numbers = numbers_on r set.lane set.lanes one two three s.numbers t.numbers;
-    files = followed (IsOfStore set.lane) (λ image. Unit {0}) one two three s.files t.files;
+    files = more_files;
     lines = lines_rest_on r one two three s.lines t.lines;
   }
 
@@ -363,7 +414,7 @@ module _ (r : Reading) (set : Settings) (g : List Happened) (acts : List Act) (t
 -- ---- Event lines
 
 -- what the jobs of a turn make of the event lines
-acts_lines : (set : Settings) (acts : List Act) (m mid : Machine) → Run set m (all_acted acts) mid → (mid.lines ≡ m.lines) × (mid.fresh ≡ m.fresh ++ lines_of acts)
+pub acts_lines : (set : Settings) (acts : List Act) (m mid : Machine) → Run set m (all_acted acts) mid → (mid.lines ≡ m.lines) × (mid.fresh ≡ m.fresh ++ lines_of acts)
 acts_lines set [] m mid run = (ap (λ (x : Machine). x.lines) run, ap (λ (x : Machine). x.fresh) run ∙ sym (append_nil m.fresh))
 acts_lines set (act ∷ acts) m mid (next, step, rest) =
     let seen = (step_seen set m act next step).leaves_alone in
@@ -392,68 +443,85 @@ kept_after lane g acts tail t may = lines_append lane g (turn_of acts tail) [] [
 lost_after : (lane : ℕ) (g : List Happened) (acts : List Act) (tail : Tail) (t : List ℕ) → Contains tail.failed (Events lane) → MayHold lane g t [] → MayHold lane (g ++ turn_of acts tail) t []
 lost_after lane g acts tail t did may = lines_append lane g (turn_of acts tail) [] [] t [] t [] may (turn_lost lane acts tail t [] did)
 
-module _ (r : Reading) (set : Settings) (acts : List Act) (tail : Tail) (m mid after : Machine) (one two three : DiskView) (itself : IsCrashImage one one.reads)
-    (run : Run set m (all_acted acts) mid) (rest : LinesRest r one two) (t : LinesFlushed r set tail mid after two three) where
-  module _ (g : List Happened) (none : m.fresh ≡ []) (reads : r.lines one.reads m.lines) (good : LinesGood r set.lane g (IsCrashImage one)) where
-    its_lines : mid.lines ++ mid.fresh ≡ m.lines ++ lines_of acts
-    its_lines = let (a, b) = acts_lines set acts m mid run in
-        ap (λ (x : List ℕ). x ++ mid.fresh) a ∙ ap (λ (x : List ℕ). m.lines ++ x) (b ∙ ap (λ (x : List ℕ). x ++ lines_of acts) none)
+-- the jobs leave the event log alone, and then their lines are flushed with those that the turn had before
+flushed_after : (r : Reading) (set : Settings) (acts : List Act) (tail : Tail) (m mid after : Machine) (one two three : DiskView)
+    → Run set m (all_acted acts) mid → LinesRest r one two → LinesFlushed r set tail mid after two three → LinesFlushed r set tail (with_lines_of acts m) after one three
+flushed_after r set acts tail m mid after one two three run rest t = record {
+  moments = moments_on (LinesAsBefore r (IsCrashImage one)) (LinesAsBeforeOr r (IsCrashImage two) (mid.lines ++ mid.fresh)) (LinesAsBeforeOr r (IsCrashImage one) text) one two three
+      (each_down (λ image. LinesAs r (IsCrashImage one) image ⊎ r.lines image text)) (λ images x image is. inl (x image is)) (λ images x image is. on image (x image is)) rest.moments t.moments;
+  now = at_end t.now;
+  reads = λ is. t.reads (subst (r.lines two.reads) (sym alike.0) (rest.reads.to m.lines is));
+}
+  where
+    text : List ℕ
+    text = m.lines ++ (m.fresh ++ lines_of acts)
 
-    may_be : MayHold set.lane g m.lines []
-    may_be = let (text, may, is) = good one.reads itself in subst (λ (x : List ℕ). MayHold set.lane g x []) (r.one_text one.reads text m.lines is reads) may
+    alike : (mid.lines ≡ m.lines) × (mid.fresh ≡ m.fresh ++ lines_of acts)
+    alike = acts_lines set acts m mid run
 
-    as_one : (image : Image) → LinesAs r (IsCrashImage one) image → (text : List ℕ) × MayHold set.lane g text [] × r.lines image text
-    as_one image a = let (text, may, is) = good a.0 a.1 in (text, may, a.2.to text is)
+    same_text : mid.lines ++ mid.fresh ≡ text
+    same_text = ap (λ (x : List ℕ). x ++ mid.fresh) alike.0 ∙ ap (λ (x : List ℕ). m.lines ++ x) alike.1
 
-    of_two : (image : Image) → LinesAs r (IsCrashImage two) image → LinesAs r (IsCrashImage one) image
-    of_two image a = lines_as_on r (IsCrashImage one) (IsCrashImage two) image rest.now a
-
-    abbrev Allowed : Image → Type 0
-    Allowed image = (text : List ℕ) × MayHold set.lane g text [] × (r.lines image text ⊎ r.lines image (text ++ lines_of acts))
-
-    at_first : (images : Image → Type 0) → LinesAsBefore r (IsCrashImage one) images → (image : Image) → images image → Allowed image
-    at_first images x image is = let (text, may, has) = as_one image (x image is) in (text, may, inl has)
-
-    at_last : (images : Image → Type 0) → LinesAsBeforeOr r (IsCrashImage two) (mid.lines ++ mid.fresh) images → (image : Image) → images image → Allowed image
-    at_last images x image is = go (x image is)
-      where
-        go : LinesAs r (IsCrashImage two) image ⊎ r.lines image (mid.lines ++ mid.fresh) → Allowed image
-        go (inl a) = let (text, may, has) = as_one image (of_two image a) in (text, may, inl has)
-        go (inr b) = (m.lines, may_be, inr (subst (r.lines image) its_lines b))
-
-    with_turn : (image : Image) → r.lines image (mid.lines ++ mid.fresh) → (text : List ℕ) × MayHold set.lane (g ++ turn_of acts tail) text [] × r.lines image text
-    with_turn image has = (m.lines ++ lines_of acts, kept_after set.lane g acts tail m.lines may_be, subst (r.lines image) its_lines has)
+    on : (image : Image) → LinesAs r (IsCrashImage two) image ⊎ r.lines image (mid.lines ++ mid.fresh) → LinesAs r (IsCrashImage one) image ⊎ r.lines image text
+    on image (inl a) = inl (lines_as_on r (IsCrashImage one) (IsCrashImage two) image rest.now a)
+    on image (inr b) = inr (subst (r.lines image) same_text b)
 
     at_end : (Contains tail.failed (Events set.lane) × LinesAsBeforeOr r (IsCrashImage two) (mid.lines ++ mid.fresh) (IsCrashImage three)) ⊎ ((mid.fresh ≡ []) × LinesRest r two three)
-        ⊎ ((image : Image) → IsCrashImage three image → r.lines image (mid.lines ++ mid.fresh)) → LinesGood r set.lane (g ++ turn_of acts tail) (IsCrashImage three)
+        ⊎ ((image : Image) → IsCrashImage three image → r.lines image (mid.lines ++ mid.fresh))
+        → (Contains tail.failed (Events set.lane) × LinesAsBeforeOr r (IsCrashImage one) text (IsCrashImage three)) ⊎ ((m.fresh ++ lines_of acts ≡ []) × LinesRest r one three)
+        ⊎ ((image : Image) → IsCrashImage three image → r.lines image text)
+    at_end (inl x) = inl (x.0, λ image is. on image (x.1 image is))
+    at_end (inr (inl x)) = inr (inl (sym alike.1 ∙ x.0, lines_rest_on r one two three rest x.1))
+    at_end (inr (inr x)) = inr (inr (λ image is. subst (r.lines image) same_text (x image is)))
+
+-- where each image held a text that the history allows, it does again
+module _ (r : Reading) (set : Settings) (acts : List Act) (tail : Tail) (m after : Machine) (one three : DiskView) (itself : IsCrashImage one one.reads)
+    (t : LinesFlushed r set tail (with_lines_of acts m) after one three) where
+  module _ (g : List Happened) (none : m.fresh ≡ []) (reads : r.lines one.reads m.lines) (good : LinesGood r set.lane g (IsCrashImage one)) where
+    its_lines : m.lines ++ (m.fresh ++ lines_of acts) ≡ m.lines ++ lines_of acts
+    its_lines = ap (λ (x : List ℕ). m.lines ++ (x ++ lines_of acts)) none
+
+    may_be : MayHold set.lane g m.lines []
+    may_be = let (found, may, is) = good one.reads itself in subst (λ (x : List ℕ). MayHold set.lane g x []) (r.one_text one.reads found m.lines is reads) may
+
+    as_one : (image : Image) → LinesAs r (IsCrashImage one) image → (found : List ℕ) × MayHold set.lane g found [] × r.lines image found
+    as_one image a = let (found, may, is) = good a.0 a.1 in (found, may, a.2.to found is)
+
+    abbrev Allowed : Image → Type 0
+    Allowed image = (found : List ℕ) × MayHold set.lane g found [] × (r.lines image found ⊎ r.lines image (found ++ lines_of acts))
+
+    allowed : (images : Image → Type 0) → LinesAsBeforeOr r (IsCrashImage one) (m.lines ++ (m.fresh ++ lines_of acts)) images → (image : Image) → images image → Allowed image
+    allowed images x image is = go (x image is)
+      where
+        go : LinesAs r (IsCrashImage one) image ⊎ r.lines image (m.lines ++ (m.fresh ++ lines_of acts)) → Allowed image
+        go (inl a) = let (found, may, has) = as_one image a in (found, may, inl has)
+        go (inr b) = (m.lines, may_be, inr (subst (r.lines image) its_lines b))
+
+    with_turn : (image : Image) → r.lines image (m.lines ++ (m.fresh ++ lines_of acts)) → (found : List ℕ) × MayHold set.lane (g ++ turn_of acts tail) found [] × r.lines image found
+    with_turn image has = (m.lines ++ lines_of acts, kept_after set.lane g acts tail m.lines may_be, subst (r.lines image) its_lines has)
+
+    at_end : (Contains tail.failed (Events set.lane) × LinesAsBeforeOr r (IsCrashImage one) (m.lines ++ (m.fresh ++ lines_of acts)) (IsCrashImage three)) ⊎ ((m.fresh ++ lines_of acts ≡ []) × LinesRest r one three)
+        ⊎ ((image : Image) → IsCrashImage three image → r.lines image (m.lines ++ (m.fresh ++ lines_of acts))) → LinesGood r set.lane (g ++ turn_of acts tail) (IsCrashImage three)
     at_end (inl (did, x)) image is = go (x image is)
       where
-        go : LinesAs r (IsCrashImage two) image ⊎ r.lines image (mid.lines ++ mid.fresh) → (text : List ℕ) × MayHold set.lane (g ++ turn_of acts tail) text [] × r.lines image text
-        go (inl a) = let (text, may, has) = as_one image (of_two image a) in (text, lost_after set.lane g acts tail text did may, has)
+        go : LinesAs r (IsCrashImage one) image ⊎ r.lines image (m.lines ++ (m.fresh ++ lines_of acts)) → (found : List ℕ) × MayHold set.lane (g ++ turn_of acts tail) found [] × r.lines image found
+        go (inl a) = let (found, may, has) = as_one image a in (found, lost_after set.lane g acts tail found did may, has)
         go (inr b) = with_turn image b
     at_end (inr (inl (empty, more))) image is =
-        let (text, may, has) = as_one image (of_two image (more.now image is)) in
-        let (a, b) = acts_lines set acts m mid run in
-        let no_line : lines_of acts ≡ [] = sym (b ∙ ap (λ (x : List ℕ). x ++ lines_of acts) none) ∙ empty in
-        (text, subst (λ (x : List ℕ). MayHold set.lane (g ++ turn_of acts tail) x []) (ap (λ (x : List ℕ). text ++ x) no_line ∙ append_nil text) (kept_after set.lane g acts tail text may), has)
+        let (found, may, has) = as_one image (more.now image is) in
+        let no_line : lines_of acts ≡ [] = sym (ap (λ (x : List ℕ). x ++ lines_of acts) none) ∙ empty in
+        (found, subst (λ (x : List ℕ). MayHold set.lane (g ++ turn_of acts tail) x []) (ap (λ (x : List ℕ). found ++ x) no_line ∙ append_nil found) (kept_after set.lane g acts tail found may), has)
     at_end (inr (inr x)) image is = with_turn image (x image is)
 
     ends_lines : Jointly (LinesWithin r set.lane g (lines_of acts)) one three × LinesGood r set.lane (g ++ turn_of acts tail) (IsCrashImage three)
-    ends_lines = (
-      moments_on (LinesAsBefore r (IsCrashImage one)) (LinesAsBeforeOr r (IsCrashImage two) (mid.lines ++ mid.fresh)) (LinesWithin r set.lane g (lines_of acts)) one two three
-          (each_down Allowed) at_first at_last rest.moments t.moments,
-      at_end t.now,
-    )
+    ends_lines = (moments_as (LinesAsBeforeOr r (IsCrashImage one) (m.lines ++ (m.fresh ++ lines_of acts))) (LinesWithin r set.lane g (lines_of acts)) one three allowed t.moments, at_end t.now)
 
   pub keeps_lines : KeepsLines r set acts (turn_of acts tail) m one three
   keeps_lines g none reads good = ends_lines g none reads good
 
-  pub lines_read : r.lines one.reads m.lines → r.lines three.reads after.lines
-  lines_read is = let (a, b) = acts_lines set acts m mid run in t.reads (subst (r.lines two.reads) (sym a) (rest.reads.to m.lines is))
-
-pub going_ends : (r : Reading) (set : Settings) (now : TimeSpec) (jobs : List Job) (replies : List Reply) (tail : Tail) (m mid after : Machine) (one two three : DiskView) → IsCrashImage one one.reads
+pub going_ends : (r : Reading) (set : Settings) (now : TimeSpec) (jobs : List Job) (replies : List Reply) (tail : Tail) (m mid after : Machine) (one two three : DiskView) → Sound set m
     → Going r set now jobs replies m mid one two → TailEnded r set tail mid after two three → Turned r set now jobs (replies ++ map reply_of tail.answers) m after one three
-going_ends r set now jobs replies tail m mid after one two three itself s t = record {
+going_ends r set now jobs replies tail m mid after one two three sound s t = record {
   acts = s.acts;
   tail = tail;
   jobs_are = s.jobs_are;
@@ -464,7 +532,7 @@ going_ends r set now jobs replies tail m mid after one two three itself s t = re
   settled_logs = λ g n stands all. ends_settled r set g s.acts tail n m mid after one two three s.run s.settled_logs t.ended stands all;
   unsettled_logs = λ g n stands free good. let a = s.unsettled_logs g n stands free good in ends_unsettled r set g s.acts tail n m mid after one two three s.run t.ended stands free a.0 a.1;
   numbers = numbers_on r set.lane set.lanes one two three s.numbers t.ended.numbers;
-  files = followed (IsOfStore set.lane) (λ image. Unit {0}) one two three s.files t.ended.files;
-  lines = keeps_lines r set s.acts tail m mid after one two three itself s.run s.lines t.lines;
-  lines_read = lines_read r set s.acts tail m mid after one two three itself s.run s.lines t.lines;
+  files = touches_on set.lane set.lanes (IsToldIn m s.acts) one two three s.files
+      (touches_as set.lane set.lanes (IsWritten mid) (IsToldIn m s.acts) two three (λ n is. acts_told set s.acts m mid sound s.run n is) t.ended.files);
+  lines = flushed_after r set s.acts tail m mid after one two three s.run s.lines t.lines;
 }

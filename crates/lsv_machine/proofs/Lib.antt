@@ -17,16 +17,18 @@ pub mod Silent
 pub mod OutcomeLemmas
 pub mod Weaken
 pub mod Untouched
+pub mod Owners
 pub mod Splits
 pub mod Folds
 pub mod TailFolds
-pub mod Recovering
 pub mod Chains
 pub mod Under
 pub mod Wholes
 pub mod Cases
 pub mod Starters
 pub mod EventLines
+pub mod LinesOver
+pub mod Recovering
 pub mod WaitingLemmas
 mod LegalRecords
 mod LegalWork

@@ -6,18 +6,22 @@ use Rattle.lsv_disk.specs.View.{DiskView, Image, IsCrashImage}
 use Rattle.lsv_session.specs.declared.job.Job.{Job}
 use Rattle.lsv_session.specs.declared.reply.Reply.{Reply}
 use Rattle.lsv_machine.specs.Counts.{Counts}
-use Rattle.lsv_machine.specs.Disks.{AllGood, AllWithin, AsBefore, NumbersFit, Past}
+use Rattle.lsv_machine.specs.Disks.{AllGood, AllWithin, AnyAsksToResume, AsBefore, IsToldIn, NumbersFit, Past}
 use Rattle.lsv_machine.specs.Durable.{Good, GoodAt, GoodLog, Reading}
 use Rattle.lsv_machine.specs.History.{Ledger, ledger, noted, settled}
 use Rattle.lsv_machine.specs.InnerSoFar.{SoFar, with_turn}
 use Rattle.lsv_machine.specs.Keeping.{Opened, OpensStore, Turned}
-use Rattle.lsv_machine.specs.Machine.{LogState, LogState.Absent, LogState.Damaged, LogState.There, Machine, Settings}
-use Rattle.lsv_machine.specs.Recovery.{GoesOn, Kept, Recovers, Spans, Story, Turn, all_turns, ended_at, past_of}
-use Rattle.lsv_machine.specs.Stands.{Stands}
+use Rattle.lsv_machine.specs.Machine.{IsOfLane, LogState, LogState.Absent, LogState.Damaged, LogState.There, Machine, Settings}
+use Rattle.lsv_machine.specs.Recovery.{AnyTurnAsks, GoesOn, Kept, Recovers, Spans, Story, Turn, all_turns, ended_at, past_of, text_after}
+use Rattle.lsv_machine.specs.Stands.{Sound, Stands}
 use Rattle.lsv_machine.specs.Starts.{GoodState, ReadsAs, StartsAs}
-use Rattle.lsv_machine.specs.Turns.{Happened, Happened.Begins, Run, all_acted, turn_of}
-use Rattle.lsv_machine.proofs.Folds.{counts_on, no_counts}
-use Rattle.lsv_machine.proofs.RunLaws.{run_append, stands_begun, stands_more}
+use Rattle.lsv_machine.specs.Failures.{Act}
+use Rattle.lsv_machine.specs.Turns.{Happened, Happened.Begins, Happened.Did, Happened.Tailed, Run, Tail, all_acted, turn_of}
+use Rattle.lsv_machine.proofs.Folds.{counts_on, no_counts, touches_as, touches_on}
+use Rattle.lsv_machine.proofs.LinesOver.{lines_more, text_last, turn_fresh, turn_splits}
+use Rattle.lsv_machine.proofs.Owners.{acts_told, end_written}
+use Rattle.lsv_machine.proofs.RunLaws.{run_append, stands_begun, stands_more, starts_sound}
+use Rattle.lsv_machine.proofs.Silent.{step_sound, tail_sound}
 use Rattle.lsv_machine.proofs.Splits.{Place, Place.at_end, Place.inside, all_turns_last, append_nil, ended_last, front, le_or, moments_last, placed, settled_last}
 use Rattle.lsv_machine.proofs.Untouched.{good_untouched, untouched}
 use Rattle.lsv_machine.proofs.Weaken.{at_same, at_weaker, begun_ledger, lower_same}
@@ -72,6 +76,16 @@ only_opened r lane lanes texts found new o = record {
     );
   };
   numbers = λ fit. (o.numbers fit).moments.each;
+  lines = record {
+    opening = o.lines.moments.each;
+    turns = λ start is. record {
+      texts = λ before after t e. absurd (nothing before after t e);
+      during = λ before after t e. absurd (nothing before after t e);
+      now = λ image it. inl (tt, o.lines.now image it);
+      reads = o.lines.reads.to start is;
+    };
+  };
+  files = touches_as lane lanes (λ n. ⊥) (AnyTurnAsks []) found new (λ n no_. absurd no_) o.files;
 }
   where
     none : (before after : List Turn) → [] ≡ before ++ after → ended_at new.moment before ≤ new.moment
@@ -81,6 +95,11 @@ only_opened r lane lanes texts found new o = record {
     nothing : (before after : List Turn) (t : Turn) → [] ≡ before ++ t ∷ after → ⊥
     nothing [] after t e = cc
     nothing (b ∷ before) after t e = cc
+
+-- a run without turns
+only_texts : (set : Settings) (m : Machine) (before after : List Turn) → [] ≡ before ++ after → (mid : Machine) × Run set m (all_turns before) mid × Run set mid (all_turns after) m × (mid.lines ≡ text_after m.lines before)
+only_texts set m [] after e = (m, refl, subst (λ (x : List Turn). Run set m (all_turns x) m) e refl, refl)
+only_texts set m (b ∷ before) after e = absurd (cc)
 
 -- the opening, before the first turn
 pub opening_begins : (r : Reading) (set : Settings) (texts : List (List ℕ)) (m : Machine) (found new : DiskView) → NumbersFit r set.lane set.lanes (IsCrashImage found) → Opened r set texts m found new
@@ -93,6 +112,7 @@ opening_begins r set texts m found new fit o = record {
     drawn = o.drawn;
     lines = o.lines;
     run = refl;
+    ended_lines = only_texts set m;
     moments = tt;
     counts = no_counts found new o.store.monotone;
   };
@@ -100,6 +120,8 @@ opening_begins r set texts m found new fit o = record {
   stands = λ n g p on good. subst (λ (h : List Happened). Stands set h n m) (sym (append_nil g)) (start_stands r set texts found.reads m p g n o.starts o.reads_as on good);
   fit = (o.store.numbers fit).now;
   lines = o.store.lines.reads.to m.lines o.lines;
+  fresh = o.starts.no_line;
+  written = λ n is. absurd (let a : None ≡ Some is.0 = sym (o.starts.free n) ∙ is.1 in cc);
 }
 
 -- ---- One turn more
@@ -116,7 +138,7 @@ module _ (r : Reading) (set : Settings) (texts : List (List ℕ)) (found : DiskV
     (t : Turned r set now jobs replies m after old new) (n : ℕ) (p : Past) (g : List Happened) (on : GoesOn texts p g) (stands : Stands set (g ++ all_turns s.turns) n m)
     (spans : Spans (record { found = found; left = old }) s) (past : Earlier old new) where
   abbrev turn : Turn
-  turn = record { now = now; acts = t.acts; tail = t.tail; ended = new.moment }
+  turn = record { now = now; acts = t.acts; tail = t.tail; ended = new.moment; text = after.lines }
 
   abbrev so_far : List Happened
   so_far = g ++ all_turns s.turns
@@ -172,19 +194,52 @@ module _ (r : Reading) (set : Settings) (texts : List (List ℕ)) (found : DiskV
     )
   ]
 
-  log_on : Kept r (record { found = found; left = old }) s n p g → Kept r (record { found = found; left = new }) (with_turn s now t.acts t.tail new.moment) n p g
+  log_on : Kept r (record { found = found; left = old }) s n p g → Kept r (record { found = found; left = new }) (with_turn s now t.acts t.tail new.moment after.lines) n p g
   log_on kept = record {
     opening = λ k from to image is. kept.opening k from to image (past k image (let a = spans.within [] s.turns refl in omega arith) is);
     during = λ before after u e k from to. during kept before after u k from to (placed before after s.turns u turn e);
     now = at_last kept.now;
   }
 
+-- ---- What turns ask
+
+asks_before : (turns : List Turn) (t : Turn) (n : ℕ) → AnyTurnAsks turns n → AnyTurnAsks (turns ++ t ∷ []) n
+asks_before [] t n asks = absurd asks
+asks_before (u ∷ turns) t n (inl asks) = inl asks
+asks_before (u ∷ turns) t n (inr asks) = inr (asks_before turns t n asks)
+
+asks_last : (turns : List Turn) (t : Turn) (n : ℕ) → AnyAsksToResume t.acts n → AnyTurnAsks (turns ++ t ∷ []) n
+asks_last [] t n asks = inl asks
+asks_last (u ∷ turns) t n asks = inr (asks_last turns t n asks)
+
+-- what is left of a list behind a first part of it
+same_rest : (before a b : List Turn) → before ++ a ≡ before ++ b → a ≡ b
+same_rest [] a b e = e
+same_rest (t ∷ before) a b e = same_rest before a b (cc)
+
+no_rest : (all before rest : List Turn) → before ≡ all → all ≡ before ++ rest → rest ≡ []
+no_rest all before rest is e = same_rest before rest [] (sym e ∙ (sym is ∙ sym (append_nil before)))
+
+the_rest : (before rest more turns : List Turn) (t : Turn) → turns ≡ before ++ more → turns ++ t ∷ [] ≡ before ++ rest → rest ≡ more ++ t ∷ []
+the_rest before rest more turns t is e = same_rest before rest (more ++ t ∷ []) (sym e ∙ (ap (λ (x : List Turn). x ++ t ∷ []) is ∙ append_assoc before more (t ∷ [])))
+
+-- what is sound stays so over a run
+run_sound : (set : Settings) (h : List Happened) (m end : Machine) → Sound set m → Run set m h end → Sound set end
+run_sound set [] m end sound run = subst (Sound set) (sym run) sound
+run_sound set (Did act ∷ h) m end sound (mid, step, rest) = run_sound set h mid end (step_sound set m act mid sound step) rest
+run_sound set (Tailed tail ∷ h) m end sound (mid, ended, rest) = run_sound set h mid end (tail_sound set m tail mid sound ended) rest
+run_sound set (Begins texts ∷ h) m end sound run = absurd run
+
+-- a turn that ended at this moment, with this text of the event log
+abbrev turn_at : TimeSpec → List Act → Tail → ℕ → List ℕ → Turn
+turn_at now acts tail k text = record { now = now; acts = acts; tail = tail; ended = k; text = text }
+
 -- one turn more
 pub turn_joins : (r : Reading) (set : Settings) (texts : List (List ℕ)) (found : DiskView) (s : Story) (now : TimeSpec) (jobs : List Job) (replies : List Reply) (m after : Machine) (old new : DiskView)
     → SoFar r set texts (record { found = found; left = old }) m s → (t : Turned r set now jobs replies m after old new)
-    → SoFar r set texts (record { found = found; left = new }) after (with_turn s now t.acts t.tail new.moment)
+    → SoFar r set texts (record { found = found; left = new }) after (with_turn s now t.acts t.tail new.moment after.lines)
 turn_joins r set texts found s now jobs replies m after old new so t =
-    let next : Turn = record { now = now; acts = t.acts; tail = t.tail; ended = new.moment } in
+    let next : Turn = record { now = now; acts = t.acts; tail = t.tail; ended = new.moment; text = after.lines } in
     let all = all_turns_last s.turns next in
     let moments = t.numbers.moments in
     let later = moments.later in
@@ -195,7 +250,22 @@ turn_joins r set texts found s now jobs replies m after old new so t =
         reads_as = so.ran.reads_as;
         drawn = so.ran.drawn;
         lines = so.ran.lines;
-        run = subst (λ (h : List Happened). Run set so.ran.start h after) (sym all) (run_append set (all_turns s.turns) (turn_of t.acts t.tail) so.ran.start m after so.ran.run t.run);
+        run = subst (λ (h : List Happened). Run set so.ran.start h after) (sym all) joined;
+        ended_lines = λ before rest e. elim (front before rest s.turns next e) [
+          | inl whole ↦ (
+            after,
+            subst (λ (x : List Turn). Run set so.ran.start (all_turns x) after) (sym whole) (subst (λ (h : List Happened). Run set so.ran.start h after) (sym all) joined),
+            subst (λ (x : List Turn). Run set after (all_turns x) after) (sym (no_rest (s.turns ++ next ∷ []) before rest whole e)) refl,
+            sym (text_last so.ran.start.lines s.turns next) ∙ ap (text_after so.ran.start.lines) (sym whole),
+          )
+          | inr part ↦ let (mid, early, late, same) = so.ran.ended_lines before part.0 part.1 in (
+            mid,
+            early,
+            subst (λ (x : List Turn). Run set mid (all_turns x) after) (sym (the_rest before rest part.0 s.turns next part.1 e))
+                (subst (λ (h : List Happened). Run set mid h after) (sym (all_turns_last part.0 next)) (run_append set (all_turns part.0) (turn_of t.acts t.tail) mid m after late t.run)),
+            same,
+          )
+        ];
         moments = moments_last s.turns next so.ran.moments (t.moment, tt);
         counts = subst (λ (h : List Happened). Counts h found new) (sym all) (counts_on (all_turns s.turns) (turn_of t.acts t.tail) found old new so.ran.counts t.counts);
       };
@@ -217,12 +287,33 @@ turn_joins r set texts found s now jobs replies m after old new so t =
           | inl early_on ↦ fewer k (λ image is. moments.past k image early_on is) (so.recovers.numbers fit k from early_on)
           | inr late ↦ moments.each k late to
         ];
+        lines = record {
+          opening = λ k from to image is. so.recovers.lines.opening k from to image (moments.past k image (let a = so.recovers.spans.within [] s.turns refl in omega arith) is);
+          turns = λ start is. lines_more r set found old new s next m after t.run so.fresh so.lines refl refl t.lines so.recovers.spans moments.past start (so.recovers.lines.turns start is);
+        };
+        files = touches_on set.lane set.lanes (AnyTurnAsks (s.turns ++ next ∷ [])) found old new
+            (touches_as set.lane set.lanes (AnyTurnAsks s.turns) (AnyTurnAsks (s.turns ++ next ∷ [])) found old (λ n asks. inr (asks_before s.turns next n asks)) so.recovers.files)
+            (touches_as set.lane set.lanes (IsToldIn m t.acts) (AnyTurnAsks (s.turns ++ next ∷ [])) old new told t.files);
       };
       stands = λ n g p on good. subst (λ (h : List Happened). Stands set h n after) (append_assoc g (all_turns s.turns) (turn_of t.acts t.tail) ∙ ap (λ (x : List Happened). g ++ x) (sym all))
           (stands_more set n (g ++ all_turns s.turns) (turn_of t.acts t.tail) m after (so.stands n g p on good) t.run);
       fit = t.numbers.now;
-      lines = t.lines_read so.lines;
+      lines = t.lines.reads so.lines;
+      fresh = turn_fresh set t.acts t.tail m after t.run;
+      written = λ n is. let (mid, jobs_run, ended) = turn_splits set t.acts t.tail m after t.run in
+          of_told n (acts_told set t.acts m mid (run_sound set (all_turns s.turns) so.ran.start m (starts_sound set texts so.ran.start so.ran.starts) so.ran.run) jobs_run n (end_written set t.tail mid after ended n is));
     }
   where
+    joined : Run set so.ran.start (all_turns s.turns ++ turn_of t.acts t.tail) after
+    joined = run_append set (all_turns s.turns) (turn_of t.acts t.tail) so.ran.start m after so.ran.run t.run
+
+    told : (n : ℕ) → IsToldIn m t.acts n → IsOfLane set.lane set.lanes n ⊎ AnyTurnAsks (s.turns ++ (turn_at now t.acts t.tail new.moment after.lines) ∷ []) n
+    told n (inl is) = elim (so.written n is) [ inl lane ↦ inl lane | inr asks ↦ inr (asks_before s.turns (turn_at now t.acts t.tail new.moment after.lines) n asks) ]
+    told n (inr asks) = inr (asks_last s.turns (turn_at now t.acts t.tail new.moment after.lines) n asks)
+
+    of_told : (n : ℕ) → IsOfLane set.lane set.lanes n ⊎ IsToldIn m t.acts n → IsOfLane set.lane set.lanes n ⊎ AnyTurnAsks (s.turns ++ (turn_at now t.acts t.tail new.moment after.lines) ∷ []) n
+    of_told n (inl lane) = inl lane
+    of_told n (inr is) = told n is
+
     fewer : (k : ℕ) → ((image : Image) → new.crash_images_at k image → old.crash_images_at k image) → NumbersFit r set.lane set.lanes (old.crash_images_at k) → NumbersFit r set.lane set.lanes (new.crash_images_at k)
     fewer k less fit = record { told = λ image is. fit.told image (less image is); none_above = λ a b last n is it. fit.none_above a b last n (less a is) (less b it) }

@@ -119,7 +119,7 @@ malformed_not message_faults.Untyped p = cc
 malformed_not (message_faults.Twice n) p = cc
 malformed_not (message_faults.WrongType n) p = cc
 
-fault_not : (fault : Fault) → fault_refusal fault ≢ refusals.DeviceFault
+pub fault_not : (fault : Fault) → fault_refusal fault ≢ refusals.DeviceFault
 fault_not (faults.Malformed f) p = malformed_not f p
 fault_not (faults.TooLarge n) p = cc
 fault_not faults.NoMem p = cc

@@ -58,22 +58,23 @@ last_dead k m answers x (by_shut e) = rw e ((λ p q. x), tt)
 
 -- ---- What the work leaves alone, however far it came
 
--- connections and event lines are as they were
+-- connections, who writes which log, and event lines are as they were
 pub record Still (m left : Machine) : Type 0 where
   pub states : left.states ≡ m.states
+  pub owner : left.owner ≡ m.owner
   pub texts : left.texts ≡ m.texts
   pub lines : left.lines ≡ m.lines
   pub fresh : left.fresh ≡ m.fresh
   pub noting : left.noting ≡ m.noting
 
 still : (m : Machine) → Still m m
-still m = record { states = refl; texts = refl; lines = refl; fresh = refl; noting = refl }
+still m = record { states = refl; owner = refl; texts = refl; lines = refl; fresh = refl; noting = refl }
 
 still_is : (m a b : Machine) → b ≡ a → Still m a → Still m b
 still_is m a b e s = subst (Still m) (sym e) s
 
 still_log : (m : Machine) (n : ℕ) (log : LogState) → Still m (with_log n log m)
-still_log m n log = record { states = refl; texts = refl; lines = refl; fresh = refl; noting = refl }
+still_log m n log = record { states = refl; owner = refl; texts = refl; lines = refl; fresh = refl; noting = refl }
 
 pub leaving_still : (failed : List Owner) (o : Option ℕ) (exit : Option (List ℕ)) (m left : Machine) → LeavesLog failed o exit m left → Still m left
 leaving_still failed None exit m left t = still_is m m left t (still m)
@@ -81,11 +82,11 @@ leaving_still failed (Some n) None m left t = still_is m (with_log n t.0 m) left
 leaving_still failed (Some n) (Some exit) m left t = still_is m (with_log n t.0 m) left t.2 (still_log m n t.0)
 
 making_still : (n draws : ℕ) (log : LogState) (m : Machine) → Still m (with_log n log (record m { last = n; failed_draws = draws }))
-making_still n draws log m = record { states = refl; texts = refl; lines = refl; fresh = refl; noting = refl }
+making_still n draws log m = record { states = refl; owner = refl; texts = refl; lines = refl; fresh = refl; noting = refl }
 
-breaking_still : (set : Settings) (failed : List Owner) (s : ConnState) (w : Result Request Refusal) (m left : Machine) → BreaksOff set failed s w m left → Still m left
+pub breaking_still : (set : Settings) (failed : List Owner) (s : ConnState) (w : Result Request Refusal) (m left : Machine) → BreaksOff set failed s w m left → Still m left
 breaking_still set failed s w m left (inl t) = leaving_still failed (log_of s) (exit_in w) m left t
-breaking_still set failed s w m left (inr (inl t)) = still_is m (record m { failed_draws = m.failed_draws + 1 }) left t.1.now (record { states = refl; texts = refl; lines = refl; fresh = refl; noting = refl })
+breaking_still set failed s w m left (inr (inl t)) = still_is m (record m { failed_draws = m.failed_draws + 1 }) left t.1.now (record { states = refl; owner = refl; texts = refl; lines = refl; fresh = refl; noting = refl })
 breaking_still set failed s w m left (inr (inr t)) = still_is m (with_log t.number t.log (record m { last = t.number; failed_draws = 0 })) left t.now (making_still t.number 0 t.log m)
 
 setting_still : (o : Option ℕ) (exit : List ℕ) (m left : Machine) → HasSet o exit m left → Still m left
@@ -93,7 +94,7 @@ setting_still None exit m left t = still_is m m left t (still m)
 setting_still (Some n) exit m left t = still_is m (with_log n t.0 m) left t.2 (still_log m n t.0)
 
 lining_still : (set : Settings) (failed : List Owner) (s : ConnState) (what : Request) (m left : Machine) → LosesLine set failed s what m left → Still m left
-lining_still set failed s (request.Accept accept) m left (inl t) = still_is m (makes t.1.number (head_text accept.head) m) left t.1.now (record { states = refl; texts = refl; lines = refl; fresh = refl; noting = refl })
+lining_still set failed s (request.Accept accept) m left (inl t) = still_is m (makes t.1.number (head_text accept.head) m) left t.1.now (record { states = refl; owner = refl; texts = refl; lines = refl; fresh = refl; noting = refl })
 lining_still set failed s (request.Accept accept) m left (inr t) = leaving_still failed (log_of s) None m left t.1
 lining_still set failed s (request.Exit exit) m left t = setting_still (log_of s) (exit_text exit) m left t
 lining_still set failed s request.Hello m left t = leaving_still failed (log_of s) None m left t
@@ -111,8 +112,8 @@ failing_still set failed s (request.Reject report) n m left t = absurd t
 failing_still set failed s (request.Alert report) n m left t = absurd t
 failing_still set failed s (request.Record r) n m left t = absurd t
 
-at_still : (set : Settings) (failed : List Owner) (s : ConnState) (what : Request) (o : Owner) (m left : Machine) → FailsAt set failed s what o m left → Still m left
-at_still set failed s what (Numbers lane) m left t = still_is m (record m { failed_draws = m.failed_draws + 1 }) left t.2.now (record { states = refl; texts = refl; lines = refl; fresh = refl; noting = refl })
+pub at_still : (set : Settings) (failed : List Owner) (s : ConnState) (what : Request) (o : Owner) (m left : Machine) → FailsAt set failed s what o m left → Still m left
+at_still set failed s what (Numbers lane) m left t = still_is m (record m { failed_draws = m.failed_draws + 1 }) left t.2.now (record { states = refl; owner = refl; texts = refl; lines = refl; fresh = refl; noting = refl })
 at_still set failed s what (Events lane) m left t = lining_still set failed s what m left t.2
 at_still set failed s what (Log n) m left t = failing_still set failed s what n m left t
 at_still set failed s what (Relay n) m left t = absurd t

@@ -11,8 +11,7 @@ use Rattle.lsv_record.specs.declared.records.Record.{Record}
 use Rattle.lsv_session.specs.declared.connection.ConnId.{ConnId}
 use Rattle.lsv_machine.specs.Answers.{Answer, Saying, Saying.LogId, Saying.CommitPoint, Saying.Error, Saying.Shut}
 use Rattle.lsv_machine.specs.Counts.{Counts, is_among, one_if, same_owner}
-use Rattle.lsv_disk.proofs.Composition.{followed, started}
-use Rattle.lsv_machine.specs.Disks.{AllGood, AsBefore, IsOfStore, LinesAs, LinesAsBefore, LinesAsBeforeOr, LinesRest, NumbersFit}
+use Rattle.lsv_machine.specs.Disks.{AllGood, AsBefore, IsWritten, LinesAs, LinesAsBefore, LinesAsBeforeOr, LinesRest, NumbersFit}
 use Rattle.lsv_machine.specs.Durable.{GoodAt, Reading}
 use Rattle.lsv_machine.specs.Failures.{Closes, LeavesLog}
 use Rattle.lsv_machine.specs.History.{Ledger, heard, heard_all, noted, raised_to, writes}
@@ -22,7 +21,8 @@ use Rattle.lsv_machine.specs.Stands.{StandsFor}
 use Rattle.lsv_machine.specs.Tails.{LinesEnded, LogEnded, LogsEnded, NoneFailed, joined, no_answer}
 use Rattle.lsv_machine.specs.Turns.{EndOfTurn, FlushesLines, FlushesLog, FlushesLogs, Happened.Tailed, RefusesAll, Tail, with_lines}
 use Rattle.lsv_machine.proofs.Fits.{fits_of_stands, stands_of_fits}
-use Rattle.lsv_machine.proofs.Folds.{as_before_on, before_down, each_down, lines_as_on, lines_rest_on, lines_still, moments_on, numbers_down, numbers_on, rests_on, rests_still, same_lines_on, still}
+use Rattle.lsv_machine.proofs.Folds.{as_before_on, before_down, each_down, lines_as_on, lines_rest_on, lines_still, moments_on, numbers_down, numbers_on, rests_on, rests_still, same_lines_on, still, touches_as, touches_none, touches_on}
+use Rattle.lsv_machine.proofs.Owners.{lines_written, logs_written}
 use Rattle.lsv_machine.proofs.Splits.{append_nil}
 use Rattle.lsv_machine.proofs.RunFits.{all_flushed, heard_append, lines_together}
 use Rattle.lsv_machine.proofs.Untouched.{heard_free}
@@ -131,9 +131,9 @@ tail_counts s t one two three a b = record {
 
 -- what two pieces are together
 pub ended_on : (r : Reading) (set : Settings) (s t : Tail) (P Q R : Machine → Machine → Type 0) (m mid after : Machine) (one two three : DiskView)
-    → ((n : ℕ) (l : Ledger) → StandsFor set n m l → StandsFor set n mid (noted n l (Tailed s))) → R m after
+    → ((n : ℕ) (l : Ledger) → StandsFor set n m l → StandsFor set n mid (noted n l (Tailed s))) → ((n : ℕ) → IsWritten mid n → IsWritten m n) → R m after
     → Ended r set s P m mid one two → Ended r set t Q mid after two three → Ended r set (joined s t) R m after one three
-ended_on r set s t P Q R m mid after one two three stands ends a b = record {
+ended_on r set s t P Q R m mid after one two three stands written ends a b = record {
   ends = ends;
   counts = tail_counts s t one two three a.counts b.counts;
   settled_logs = λ l n here all.
@@ -152,7 +152,7 @@ ended_on r set s t P Q R m mid after one two three stands ends a b = record {
         rests_on r n one two three x.1 y.1,
       );
   numbers = numbers_on r set.lane set.lanes one two three a.numbers b.numbers;
-  files = followed (IsOfStore set.lane) (λ image. Unit {0}) one two three a.files b.files;
+  files = touches_on set.lane set.lanes (IsWritten m) one two three a.files (touches_as set.lane set.lanes (IsWritten mid) (IsWritten m) two three (λ n is. inr (written n is)) b.files);
 }
 
 logs_stand : (set : Settings) (n : ℕ) (failed : List Owner) (numbers : List ℕ) (answers : List Answer) (m new : Machine) (l : Ledger) → StandsFor set n m l → FlushesLogs failed numbers answers m new → StandsFor set n new (heard_all false answers l)
@@ -172,7 +172,7 @@ logs_none r set m here is_now fit = record {
     settled_logs = λ l n stands all. (still (AllGood r l n) here (λ image is. all image (is_now image is)), all);
     unsettled_logs = λ l n stands free. (still (AsBefore r n (IsCrashImage here)) here (λ image is. (image, is_now image is, record { to = λ found x. x; back = λ found x. x })), rests_still r n here);
     numbers = record { moments = still (NumbersFit r set.lane set.lanes) here (numbers_down r set.lane set.lanes (IsCrashImage here) (here.crash_images_at here.moment) is_now fit); now = fit };
-    files = started (IsOfStore set.lane) (λ image. Unit {0}) here is_now (λ image is. tt);
+    files = touches_none set.lane set.lanes (IsWritten m) here is_now;
   };
   lines = lines_still r here is_now;
   text = refl;
@@ -182,7 +182,7 @@ pub logs_more : (r : Reading) (set : Settings) (numbers : List ℕ) (n : ℕ) (s
     → LogsEnded r set numbers s m mid one two → LogEnded r set n t mid after two three → LogsEnded r set (numbers ++ n ∷ []) (joined s t) m after one three
 logs_more r set numbers n s t m mid after one two three apart_t apart_s a b = record {
   ended = ended_on r set s t (λ x y. FlushesLogs s.failed numbers s.answers x y) (λ x y. FlushesLog t.failed n t.answers x y) (λ x y. FlushesLogs (s.failed ++ t.failed) (numbers ++ n ∷ []) (s.answers ++ t.answers) x y)
-      m mid after one two three (λ i l stands. logs_stand set i s.failed numbers s.answers m mid l stands a.ended.ends) both a.ended b.ended;
+      m mid after one two three (λ i l stands. logs_stand set i s.failed numbers s.answers m mid l stands a.ended.ends) (logs_written s.failed numbers s.answers m mid a.ended.ends) both a.ended b.ended;
   lines = lines_rest_on r one two three a.lines b.lines;
   text = b.text ∙ a.text;
 }
@@ -222,7 +222,7 @@ pub tail_ends : (r : Reading) (set : Settings) (s t : Tail) (m mid last : Machin
     → LinesEnded r set s m mid one two → LogsEnded r set mid.waiting t mid last two three → TailEnded r set (joined s t) m (record last { waiting = [] }) one three
 tail_ends r set s t m mid last one two three apart_t apart_s a b = record {
   ended = ended_on r set s t (λ x y. FlushesLines set s.failed s.answers x y) (λ x y. (x ≡ mid) × (y ≡ record last { waiting = [] })) (λ x y. EndOfTurn set x (joined s t) y)
-      m mid (record last { waiting = [] }) one two three (λ i l stands. lines_stand set i s.failed s.answers m mid l stands a.ended.ends) whole a.ended
+      m mid (record last { waiting = [] }) one two three (λ i l stands. lines_stand set i s.failed s.answers m mid l stands a.ended.ends) (lines_written set s.failed s.answers m mid a.ended.ends) whole a.ended
       (record { ends = (refl, refl); counts = b.ended.counts; settled_logs = b.ended.settled_logs; unsettled_logs = b.ended.unsettled_logs; numbers = b.ended.numbers; files = b.ended.files });
   lines = record {
     moments = moments_on (LinesAsBeforeOr r (IsCrashImage one) (m.lines ++ m.fresh)) (LinesAsBefore r (IsCrashImage two)) (LinesAsBeforeOr r (IsCrashImage one) (m.lines ++ m.fresh)) one two three

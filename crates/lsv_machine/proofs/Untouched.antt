@@ -9,7 +9,7 @@ use Rattle.lsv_request.specs.declared.request.Request.{Request}
 use Rattle.lsv_request.specs.declared.request.Request.TheVariants as request
 use Rattle.lsv_session.specs.declared.connection.ConnId.{ConnId}
 use Rattle.lsv_machine.specs.Answers.{Answer, Saying, Saying.LogId, Saying.CommitPoint, Saying.Error, Saying.Shut, is_silent}
-use Rattle.lsv_machine.specs.Durable.{Good, GoodAt, Reading}
+use Rattle.lsv_machine.specs.Durable.{Good, Reading}
 use Rattle.lsv_machine.specs.Failures.{Act}
 use Rattle.lsv_machine.specs.History.{Ledger, asked, blank, heard, heard_all, is_exit, is_gone, is_look, ledger, ledger_from, lowered_to, noted, reads_log, reopened, request_in, resumed_by, sent_one, settled, settled_from, settles, tells_log, writes}
 use Rattle.lsv_machine.specs.Machine.{same, without_conn}
@@ -147,8 +147,3 @@ untouched g h n e s = subst (λ (l : Ledger). Untouched (ledger g n) l) (sym (le
 
 pub good_untouched : (r : Reading) (g h : List Happened) (image : Image) (n : ℕ) → (ledger g n).writers ≡ [] → settled n g h ≡ false → Good r g image n → Good r (g ++ h) image n
 good_untouched r g h image n e s good = at_weaker r (ledger g n) (ledger (g ++ h) n) n image (untouched g h n e s).weaker good
-
--- a log that a job doesn't concern stays good, written or not
-pub good_beside : (r : Reading) (l : Ledger) (act : Act) (image : Image) (n : ℕ) → writes l act.job.conn ≡ false → AllTo act.job.conn act.answers → settles n l (Did act) ≡ false → GoodAt r l n image
-    → GoodAt r (noted n l (Did act)) n image
-good_beside r l act image n e to s good = at_weaker r l (noted n l (Did act)) n image (job_untouched n l act e to s).weaker good

@@ -1,13 +1,17 @@
 -- What crash images hold of a log, of the numbers and of the event log: the words in which a keeper says what it leaves.
-use Rattle.std.specs.Prelude.{◌≡◌, ◌<◌, ◌⊎◌, ℕ, List}
+use Rattle.std.specs.Prelude.{◌≡◌, ◌<◌, ◌⊎◌, ℕ, List, [], ◌∷◌, Some, Ok}
 use Rattle.lsv_disk.specs.Throughout.{Jointly, Throughout}
 use Rattle.lsv_disk.specs.View.{DiskView, Image, IsCrashImage}
 use Rattle.lsv_disk.specs.declared.file.FileId.{FileId}
 use Rattle.lsv_disk.specs.declared.file.Owner.TheVariants.{Events, Log, Numbers}
+use Rattle.lsv_request.specs.declared.request.Request.TheVariants.{Restart as AsRestart}
+use Rattle.lsv_request.specs.declared.request.Restart.{Restart}
+use Rattle.lsv_session.specs.declared.connection.ConnId.{ConnId}
+use Rattle.lsv_session.specs.declared.job.Body.{Body}
 use Rattle.lsv_machine.specs.Durable.{GoodAt, Reading, Recovered, Within}
 use Rattle.lsv_machine.specs.Failures.{Act}
-use Rattle.lsv_machine.specs.History.{Ledger}
-use Rattle.lsv_machine.specs.Machine.{IsOfLane}
+use Rattle.lsv_machine.specs.History.{Ledger, request_in}
+use Rattle.lsv_machine.specs.Machine.{IsOfLane, Machine}
 use Rattle.lsv_machine.specs.Turns.{Happened}
 
 -- a history, and the jobs of the turn that a crash may have cut
@@ -17,13 +21,30 @@ pub record Past : Type 0 where
 
 -- ---- The files
 
--- the files that a lane may touch: those of logs, of the lane's numbers and of its event log
-abbrev pub IsOfStore : (lane : ℕ) → FileId → Type 0
-IsOfStore lane file = ((n : ℕ) × (file.owner ≡ Log n)) ⊎ (file.owner ≡ Numbers lane) ⊎ (file.owner ≡ Events lane)
+-- a connection writes the log
+abbrev pub IsWritten : Machine → ℕ → Type 0
+IsWritten m n = (k : ConnId) × (m.owner n ≡ Some k)
+
+-- a job asks to go on with this log
+abbrev pub AsksToResume : Body → ℕ → Type 0
+AsksToResume body n = (restart : Restart) × (request_in body ≡ Ok (AsRestart restart)) × (restart.log ≡ n)
+
+-- one of these jobs does
+abbrev pub AnyAsksToResume : List Act → ℕ → Type 0
+AnyAsksToResume [] n = ⊥
+AnyAsksToResume (act ∷ acts) n = AsksToResume act.job.body n ⊎ AnyAsksToResume acts n
+
+-- the files of a lane's store: of its own logs and of other logs that are told, of its numbers, and of its event log
+abbrev pub IsOfLaneStore : (lane lanes : ℕ) → (IsToldOf : ℕ → Type 0) → FileId → Type 0
+IsOfLaneStore lane lanes IsToldOf file = ((n : ℕ) × (IsOfLane lane lanes n ⊎ IsToldOf n) × (file.owner ≡ Log n)) ⊎ (file.owner ≡ Numbers lane) ⊎ (file.owner ≡ Events lane)
 
 -- no other file was touched, and the store lies where it lay
-abbrev pub TouchesStore : (lane : ℕ) → DiskView → DiskView → Type 0
-TouchesStore lane old new = Throughout (IsOfStore lane) (λ image. Unit {0}) old new
+abbrev pub TouchesStore : (lane lanes : ℕ) → (IsToldOf : ℕ → Type 0) → DiskView → DiskView → Type 0
+TouchesStore lane lanes IsToldOf old new = Throughout (IsOfLaneStore lane lanes IsToldOf) (λ image. Unit {0}) old new
+
+-- of other logs than the lane's these are told: those that connections write, and those that jobs ask to go on with
+abbrev pub IsToldIn : Machine → List Act → ℕ → Type 0
+IsToldIn m acts n = IsWritten m n ⊎ AnyAsksToResume acts n
 
 -- ---- A log
 

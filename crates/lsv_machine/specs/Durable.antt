@@ -28,7 +28,7 @@ pub record IsPrefix (records whole : List Record) : Type 0 where
   pub rest : List Record
   pub is : records ++ rest ≡ whole
 
--- an exit that a log holds is the last one of a writer, and then all that was shown is there; without one no commit point has answered an exit
+-- an exit that a log holds is the last one of a writer since the last accepted restart, and then all that was shown is there; without one no commit point has answered an exit
 abbrev pub ExitIs : Ledger → List Record → Option (List ℕ) → Type 0
 ExitIs l records None = l.finished ≡ false
 ExitIs l records (Some exit) = (l.exit ≡ Some exit) × (records ≡ l.shown)

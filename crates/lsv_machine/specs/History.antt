@@ -33,7 +33,7 @@ pub record Ledger : Type 0 where
   pub shown : List Record
   -- how many of these are promised: none until the log's number was answered
   pub promised : Option ℕ
-  -- the last exit of a writer
+  -- the last exit of a writer, since the last restart that was accepted
   pub exit : Option (List ℕ)
   -- whether a commit point has answered an exit since the log's number was answered
   pub finished : Bool
@@ -86,13 +86,14 @@ opened_by k head l = record l {
   finished = false;
 }
 
--- a connection writes the log from a point on: what was sent is cut there
+-- a connection writes the log from a point on: what was sent is cut there, and an exit that was asked for before is none any more
 abbrev pub resumed_by : ConnId → ℕ → Ledger → Ledger
 resumed_by k point l = record l {
   writers = k ∷ l.writers;
   sent = cut l.sent point;
   shown = cut l.shown point;
   promised = becomes l.promised (kept l.shown point);
+  exit = None;
 }
 
 -- a restart of the log: accepted where it has no answer and the connection wasn't shut, or marked as failed inside its cut

@@ -1,12 +1,12 @@
 -- For proofs of a server's loop: what the turns made so far have kept, and what the next turn needs.
-use Rattle.std.specs.Prelude.{ℕ, List, [], ◌∷◌, ◌++◌}
+use Rattle.std.specs.Prelude.{◌≡◌, ◌⊎◌, ℕ, List, [], ◌∷◌, ◌++◌}
 use Rattle.lsv_base.specs.declared.time.TimeSpec.{TimeSpec}
 use Rattle.lsv_disk.specs.View.{IsCrashImage}
-use Rattle.lsv_machine.specs.Disks.{NumbersFit, Past}
+use Rattle.lsv_machine.specs.Disks.{IsWritten, NumbersFit, Past}
 use Rattle.lsv_machine.specs.Durable.{Good, Reading}
 use Rattle.lsv_machine.specs.Failures.{Act}
-use Rattle.lsv_machine.specs.Machine.{Machine, Settings}
-use Rattle.lsv_machine.specs.Recovery.{GoesOn, Outside, Ran, Recovers, Story, all_turns}
+use Rattle.lsv_machine.specs.Machine.{IsOfLane, Machine, Settings}
+use Rattle.lsv_machine.specs.Recovery.{AnyTurnAsks, GoesOn, Outside, Ran, Recovers, Story, all_turns}
 use Rattle.lsv_machine.specs.Stands.{Stands}
 use Rattle.lsv_machine.specs.Turns.{Happened, Tail}
 
@@ -17,7 +17,10 @@ pub record SoFar (r : Reading) (set : Settings) (texts : List (List ℕ)) (o : O
   pub stands : (n : ℕ) (g : List Happened) (p : Past) → GoesOn texts p g → Good r g o.found.reads n → Stands set (g ++ all_turns s.turns) n m
   pub fit : NumbersFit r set.lane set.lanes (IsCrashImage o.left)
   pub lines : r.lines o.left.reads m.lines
+  pub fresh : m.fresh ≡ []
+  -- each log that is written is the lane's, or a job asked to go on with it
+  pub written : (n : ℕ) → IsWritten m n → IsOfLane set.lane set.lanes n ⊎ AnyTurnAsks s.turns n
 
 -- a run with one turn more
-abbrev pub with_turn : Story → TimeSpec → List Act → Tail → ℕ → Story
-with_turn s now acts tail k = record { opened = s.opened; turns = s.turns ++ record { now = now; acts = acts; tail = tail; ended = k } ∷ [] }
+abbrev pub with_turn : Story → TimeSpec → List Act → Tail → ℕ → List ℕ → Story
+with_turn s now acts tail k text = record { opened = s.opened; turns = s.turns ++ record { now = now; acts = acts; tail = tail; ended = k; text = text } ∷ [] }

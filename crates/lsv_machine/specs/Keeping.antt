@@ -10,7 +10,7 @@ use Rattle.lsv_session.specs.declared.job.Job.{Job}
 use Rattle.lsv_session.specs.declared.reply.Reply.{Reply}
 use Rattle.lsv_machine.specs.Answers.{reply_of}
 use Rattle.lsv_machine.specs.Counts.{Counts}
-use Rattle.lsv_machine.specs.Disks.{AllGood, AllWithin, AsBefore, GoodOr, KeepsNumbers, NumbersFit, LinesAsBeforeOr, LinesRest, Rests, TouchesStore}
+use Rattle.lsv_machine.specs.Disks.{AllGood, AllWithin, AsBefore, GoodOr, IsToldIn, IsWritten, KeepsNumbers, NumbersFit, LinesAsBeforeOr, LinesRest, Rests, TouchesStore}
 use Rattle.lsv_machine.specs.Durable.{GoodAt, Reading}
 use Rattle.lsv_machine.specs.Failures.{Act, Step}
 use Rattle.lsv_machine.specs.History.{Ledger, ledger, noted, settled, settles}
@@ -39,7 +39,7 @@ pub record Acted (r : Reading) (set : Settings) (now : TimeSpec) (job : Job) (re
       → Jointly (λ images. AsBefore r n (IsCrashImage old) images ⊎ GoodOr r l (noted n l (Did act)) n images) old new
       × (AllGood r (noted n l (Did act)) n (IsCrashImage new) ⊎ ((settles n l (Did act) ≡ false) × Rests r n old new))
   pub numbers : KeepsNumbers r set.lane set.lanes old new
-  pub files : TouchesStore set.lane old new
+  pub files : TouchesStore set.lane set.lanes (IsToldIn m (act ∷ [])) old new
   pub lines : LinesRest r old new
 
 -- ---- The end of a turn
@@ -53,7 +53,7 @@ pub record Ended (r : Reading) (set : Settings) (tail : Tail) (Ends : Machine �
   pub unsettled_logs : (l : Ledger) (n : ℕ) → StandsFor set n m l → l.writers ≡ []
       → Jointly (AsBefore r n (IsCrashImage old)) old new × Rests r n old new
   pub numbers : KeepsNumbers r set.lane set.lanes old new
-  pub files : TouchesStore set.lane old new
+  pub files : TouchesStore set.lane set.lanes (IsWritten m) old new
 
 -- the event lines of the turn are flushed: at each moment the event log is as before or has them, and at the end it has them, unless it failed; and in each case it reads as the machine says
 pub record LinesFlushed (r : Reading) (set : Settings) (tail : Tail) (m after : Machine) (old new : DiskView) : Type 0 where
@@ -82,18 +82,9 @@ KeepsUnsettled r set acts turn m old new = (g : List Happened) (n : ℕ) → Sta
     → Jointly (λ images. AsBefore r n (IsCrashImage old) images ⊎ AllWithin r (record { history = g; acts = acts }) n images) old new
     × (AllGood r (ledger (g ++ turn) n) n (IsCrashImage new) ⊎ ((settled n g turn ≡ false) × Rests r n old new))
 
--- each of these images holds a text of the event log that a history allows, or that with these lines of the turn under way
-abbrev pub LinesWithin : Reading → (lane : ℕ) → List Happened → List ℕ → (Image → Type 0) → Type 0
-LinesWithin r lane g fresh images = (image : Image) → images image → (text : List ℕ) × MayHold lane g text [] × (r.lines image text ⊎ r.lines image (text ++ fresh))
-
--- each of these images holds a text of the event log that a history allows
-abbrev pub LinesGood : Reading → (lane : ℕ) → List Happened → (Image → Type 0) → Type 0
-LinesGood r lane g images = (image : Image) → images image → (text : List ℕ) × MayHold lane g text [] × r.lines image text
-
--- in each image the lines of the event log are the machine's: those of this turn are there wholly or not at all
-abbrev pub KeepsLines : Reading → Settings → List Act → List Happened → Machine → DiskView → DiskView → Type 0
-KeepsLines r set acts turn m old new = (g : List Happened) → m.fresh ≡ [] → r.lines old.reads m.lines → LinesGood r set.lane g (IsCrashImage old)
-    → Jointly (LinesWithin r set.lane g (lines_of acts)) old new × LinesGood r set.lane (g ++ turn) (IsCrashImage new)
+-- a turn under way has left these lines besides
+abbrev pub with_lines_of : List Act → Machine → Machine
+with_lines_of acts m = record m { fresh = m.fresh ++ lines_of acts }
 
 -- the jobs of a turn so far
 pub record Going (r : Reading) (set : Settings) (now : TimeSpec) (jobs : List Job) (replies : List Reply) (m after : Machine) (old new : DiskView) : Type 0 where
@@ -106,7 +97,7 @@ pub record Going (r : Reading) (set : Settings) (now : TimeSpec) (jobs : List Jo
   pub settled_logs : KeepsSettled r set acts (all_acted acts) m old new
   pub unsettled_logs : KeepsUnsettled r set acts (all_acted acts) m old new
   pub numbers : KeepsNumbers r set.lane set.lanes old new
-  pub files : TouchesStore set.lane old new
+  pub files : TouchesStore set.lane set.lanes (IsToldIn m acts) old new
   pub lines : LinesRest r old new
 
 -- a turn of these jobs at this moment
@@ -121,9 +112,24 @@ pub record Turned (r : Reading) (set : Settings) (now : TimeSpec) (jobs : List J
   pub settled_logs : KeepsSettled r set acts (turn_of acts tail) m old new
   pub unsettled_logs : KeepsUnsettled r set acts (turn_of acts tail) m old new
   pub numbers : KeepsNumbers r set.lane set.lanes old new
-  pub files : TouchesStore set.lane old new
-  pub lines : KeepsLines r set acts (turn_of acts tail) m old new
-  pub lines_read : r.lines old.reads m.lines → r.lines new.reads after.lines
+  pub files : TouchesStore set.lane set.lanes (IsToldIn m acts) old new
+  -- in each image the lines of the event log are the machine's: those of this turn are there wholly or not at all
+  pub lines : LinesFlushed r set tail (with_lines_of acts m) after old new
+
+-- ---- What follows of a turn, by what its history allows
+
+-- each of these images holds a text of the event log that a history allows, or that with these lines of the turn under way
+abbrev pub LinesWithin : Reading → (lane : ℕ) → List Happened → List ℕ → (Image → Type 0) → Type 0
+LinesWithin r lane g fresh images = (image : Image) → images image → (text : List ℕ) × MayHold lane g text [] × (r.lines image text ⊎ r.lines image (text ++ fresh))
+
+-- each of these images holds a text of the event log that a history allows
+abbrev pub LinesGood : Reading → (lane : ℕ) → List Happened → (Image → Type 0) → Type 0
+LinesGood r lane g images = (image : Image) → images image → (text : List ℕ) × MayHold lane g text [] × r.lines image text
+
+-- if each image held a text that the history allows, it holds one, with all lines of this turn or none. At the end the history with the turn allows it
+abbrev pub KeepsLines : Reading → Settings → List Act → List Happened → Machine → DiskView → DiskView → Type 0
+KeepsLines r set acts turn m old new = (g : List Happened) → m.fresh ≡ [] → r.lines old.reads m.lines → LinesGood r set.lane g (IsCrashImage old)
+    → Jointly (LinesWithin r set.lane g (lines_of acts)) old new × LinesGood r set.lane (g ++ turn) (IsCrashImage new)
 
 -- ---- Opening
 
@@ -134,7 +140,7 @@ pub record OpensStore (r : Reading) (lane lanes : ℕ) (found new : DiskView) : 
   pub logs : (n : ℕ) → Jointly (AsBefore r n (IsCrashImage found)) found new × Rests r n found new
   pub numbers : NumbersFit r lane lanes (IsCrashImage found) → KeepsNumbers r lane lanes found new
   pub lines : LinesRest r found new
-  pub files : TouchesStore lane found new
+  pub files : TouchesStore lane lanes (λ n. ⊥) found new
 
 -- the store was opened, and the machine is what the disk reads as
 pub record Opened (r : Reading) (set : Settings) (texts : List (List ℕ)) (m : Machine) (found new : DiskView) : Type 0 where

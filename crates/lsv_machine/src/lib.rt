@@ -7,9 +7,6 @@ mod examples;
 mod judgement;
 mod laws;
 mod outcomes;
-mod reading;
-mod runs;
-mod turns;
 mod waiting;
 
 pub use connections::{is_running, log_of, same};
@@ -27,9 +24,4 @@ pub use outcomes::{
     a_legal_conversation_is_served, an_accepted_restart_keeps_its_point, no_fault_without_failure,
     nothing_is_said_after_a_shut, one_job_has_one_outcome, who_is_shut_is_dead,
 };
-pub use reading::ReadsStore;
-pub use runs::{
-    a_number_that_was_told_is_drawn, a_run_recovers_turn_by_turn, all_runs_recover, runs_recover,
-};
-pub use turns::{a_turn_is_its_jobs, an_end_is_its_pieces, other_logs_stay_good};
 pub use waiting::{forget, insert_once, note, remove};

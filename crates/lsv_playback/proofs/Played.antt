@@ -15,7 +15,7 @@ use Rattle.lsv_iolog.specs.declared.fault.LogFault.{LogFault}
 use Rattle.lsv_iolog.specs.declared.fault.LogFault.TheVariants as logs
 use Rattle.lsv_iolog.specs.Damage.{IsViewDamage}
 use Rattle.lsv_iolog.specs.Faults.{IsNextFault, IsOpenFault}
-use Rattle.lsv_iolog.specs.Reading.{AreThere, ViewState, IsBehind, IsFaultBehind, IsWhole, committed_laid, committed_text}
+use Rattle.lsv_iolog.specs.Reading.{AreThere, ViewState, IsBehind, IsFaultBehind, IsWhole, committed_laid, committed_text, IsSoundBehind}
 use Rattle.lsv_iolog.specs.Recovered.{IsOfLog, Replays, owner_of}
 use Rattle.lsv_iolog.proofs.Scans.{reads_nothing}
 use Rattle.lsv_record.specs.declared.laid.Laid.{Laid}
@@ -28,7 +28,7 @@ use Rattle.lsv_play.specs.Items.{IsPart}
 use Rattle.lsv_play.specs.Playing.{items_of, play}
 use Rattle.lsv_play.proofs.Parts.{part_behind, part_whole, play_append}
 use Rattle.lsv_playback.specs.Faults.{of_log}
-use Rattle.lsv_playback.specs.Playing.{IsNotOpened, IsOpened, Plays, PlaysRecords, laid_at, text_at}
+use Rattle.lsv_playback.specs.Playing.{IsNotOpened, IsOpened, Plays, PlaysRecords, laid_at, text_at, AreGiven, IsSoundSoFar}
 use Rattle.lsv_playback.specs.declared.fault.PlayFault.{PlayFault}
 use Rattle.lsv_playback.specs.declared.fault.PlayFault.TheVariants as faults
 
@@ -47,7 +47,28 @@ pub record IsPlaying (tells shows : Type 0) (o : Options) (start log : ViewState
   pub disk : (f : FileId) → old.faults f ≤ now.faults f
   pub screen : failed ≤ fails
   pub reads : tells → OnlyReads old now
-  pub behind : tells → IsBehind start [] old → (rs : List Record) × IsBehind log rs now × (shows → shown ≡ before ++ play o rs)
+  pub behind : tells → IsBehind start [] old → (rs : List Record) × IsBehind log rs now × (shows → shown ≡ before ++ play o rs) × IsSoundSoFar (laid_at start.number start.body old.reads) start.body rs
+
+none_split : (front : List Record) (r : Record) (more : List Record) → [] ≡ front ++ r ∷ more → ⊥
+none_split [] r more e = cc
+none_split (x ∷ front) r more e = cc
+
+-- a shorter part of records with one more is all of the others, or a shorter part of them
+last_or : (rs front : List Record) (r x : Record) (more : List Record) → rs ++ r ∷ [] ≡ front ++ x ∷ more → (front ≡ rs) ⊎ ((rest : List Record) × (rs ≡ front ++ x ∷ rest))
+last_or [] [] r x more e = inl refl
+last_or [] (y ∷ front) r x more e = absurd (let a : [] ≡ front ++ x ∷ more = cc in none_split front x more a)
+last_or (z ∷ rs) [] r x more e = inr (rs, let a : z ≡ x = cc in ap (λ (w : Record). w ∷ rs) a)
+last_or (z ∷ rs) (y ∷ front) r x more e =
+    let h : z ≡ y = cc in
+    let rest : rs ++ r ∷ [] ≡ front ++ x ∷ more = cc in
+    elim (last_or rs front r x more rest) [
+      | inl p ↦ inl (ap (λ (w : Record). w ∷ front) (sym h) ∙ ap (λ (ws : List Record). z ∷ ws) p)
+      | inr p ↦ inr (p.0, ap (λ (w : Record). w ∷ rs) h ∙ ap (λ (ws : List Record). y ∷ ws) p.1)
+    ]
+
+-- where after these nothing is at fault, one more may be given
+sound_push : (l : Laid) (body : Body) (rs : List Record) (r : Record) → IsSoundSoFar l body rs → IsSoundBehind l body rs → IsSoundSoFar l body (rs ++ r ∷ [])
+sound_push l body rs r so_far here front x more e = elim (last_or rs front r x more e) [ inl p ↦ subst (IsSoundBehind l body) (sym p) here | inr p ↦ so_far front x p.0 p.1 ]
 
 -- at first
 pub playing_starts : (tells shows : Type 0) (o : Options) (log : ViewState) (disk : DiskView) (shown : List Item) (fails : ℕ) → (tells → OnlyNow disk) → IsPlaying tells shows o log log disk disk shown shown fails fails
@@ -57,15 +78,28 @@ playing_starts tells shows o log disk shown fails now = record {
   disk = λ f. omega arith;
   screen = omega arith;
   reads = λ told. reads_nothing disk (now told);
-  behind = λ told behind. ([], behind, λ told_too. sym (append-nil shown));
+  behind = λ told behind. ([], behind, (λ told_too. sym (append-nil shown)), λ front r more e. absurd (none_split front r more e));
 }
+
+-- the committed bytes are those of the image at the start
+laid_same : (start log : ViewState) (old now : DiskView) → log.number ≡ start.number → log.body ≡ start.body → now.reads ≡ old.reads → committed_laid log.number log.body now ≡ laid_at start.number start.body old.reads
+laid_same start log old now number body reads =
+    ap (λ (image : Image). laid_at log.number log.body image) reads ∙ ap (λ (n : ℕ). laid_at n log.body old.reads) number ∙ ap (λ (b : Body). laid_at start.number b old.reads) body
+
+-- what a log says of its next record is said of the image at the start
+sound_same : (start log : ViewState) (old now : DiskView) (rs : List Record) → log.number ≡ start.number → log.body ≡ start.body → OnlyReads old now → IsSoundBehind (committed_laid log.number log.body now) log.body rs
+    → IsSoundBehind (laid_at start.number start.body old.reads) start.body rs
+sound_same start log old now rs number body reads sound =
+    subst (λ (b : Body). IsSoundBehind (laid_at start.number start.body old.reads) b rs) body
+    (subst (λ (l : Laid). IsSoundBehind l log.body rs) (laid_same start log old now number body (same_image old now reads)) sound)
 
 -- with one record more
 pub playing_goes_on : (tells shows : Type 0) (o : Options) (start log next : ViewState) (old now later : DiskView) (before shown more : List Item) (failed fails fails' : ℕ) (r : Record)
     → IsPlaying tells shows o start log old now before shown failed fails → next.number ≡ log.number → next.body ≡ log.body → (tells → OnlyReads now later) → ((f : FileId) → now.faults f ≤ later.faults f)
-    → fails ≤ fails' → (tells → (rs : List Record) → IsBehind log rs now → IsBehind next (rs ++ r ∷ []) later) → (shows → more ≡ shown ++ items_of o r)
+    → fails ≤ fails' → (tells → (rs : List Record) → IsBehind log rs now → IsBehind next (rs ++ r ∷ []) later) → (tells → (rs : List Record) → IsBehind log rs now → IsSoundBehind (committed_laid log.number log.body now) log.body rs)
+    → (shows → more ≡ shown ++ items_of o r)
     → IsPlaying tells shows o start next old later before more failed fails'
-playing_goes_on tells shows o start log next old now later before shown more failed fails fails' r is number body reads disk screen given put = record {
+playing_goes_on tells shows o start log next old now later before shown more failed fails fails' r is number body reads disk screen given sound put = record {
   number = number ∙ is.number;
   body = body ∙ is.body;
   disk = λ f. omega (arith, is.disk f, disk f);
@@ -74,15 +108,11 @@ playing_goes_on tells shows o start log next old now later before shown more fai
   behind = λ told behind. let so_far = is.behind told behind in (
     so_far.0 ++ r ∷ [],
     given told so_far.0 so_far.1,
-    λ told_too. put told_too ∙ ap (λ (items : List Item). items ++ items_of o r) (so_far.2 told_too)
-        ∙ append_assoc before (play o so_far.0) (items_of o r) ∙ ap (λ (items : List Item). before ++ items) (sym (play_push o so_far.0 r)),
+    (λ told_too. put told_too ∙ ap (λ (items : List Item). items ++ items_of o r) (so_far.2 told_too)
+        ∙ append_assoc before (play o so_far.0) (items_of o r) ∙ ap (λ (items : List Item). before ++ items) (sym (play_push o so_far.0 r))),
+    sound_push (laid_at start.number start.body old.reads) start.body so_far.0 r so_far.3 (sound_same start log old now so_far.0 is.number is.body (is.reads told) (sound told so_far.0 so_far.1)),
   );
 }
-
--- the committed bytes are those of the image at the start
-laid_same : (start log : ViewState) (old now : DiskView) → log.number ≡ start.number → log.body ≡ start.body → now.reads ≡ old.reads → committed_laid log.number log.body now ≡ laid_at start.number start.body old.reads
-laid_same start log old now number body reads =
-    ap (λ (image : Image). laid_at log.number log.body image) reads ∙ ap (λ (n : ℕ). laid_at n log.body old.reads) number ∙ ap (λ (b : Body). laid_at start.number b old.reads) body
 
 -- the records of a view that goes over a log begin its bytes
 pub begins_same : (start log : ViewState) (old now : DiskView) (rs : List Record) → log.number ≡ start.number → log.body ≡ start.body → OnlyReads old now → IsBehind log rs now → Begins (laid_at start.number start.body old.reads) rs
@@ -101,10 +131,10 @@ err_as (Ok x) e is = absurd is
 err_as (Err d) e is = ap (λ (x : PlayFault). Err x) (sym is)
 
 -- all was put so far, and a log gives no further record
-fault_puts : (T : Type 0) (o : Options) (l : Laid) (body : Body) (rs : List Record) (e : LogFault) → Begins l rs → IsNextFault e → ((part : Part) → e ≡ logs.Damaged part → IsFaultBehind l body rs part)
+fault_puts : (T : Type 0) (o : Options) (l : Laid) (body : Body) (rs : List Record) (e : LogFault) → AreGiven l body rs → IsNextFault e → ((part : Part) → e ≡ logs.Damaged part → IsFaultBehind l body rs part)
     → PlaysRecords {T = T} o l body (Err (of_log e)) (play o rs)
 fault_puts T o l body rs logs.Absent begins is fault = absurd is
-fault_puts T o l body rs (logs.Damaged part) begins is fault = (rs, record { begins = begins; fault = fault part refl }, refl)
+fault_puts T o l body rs (logs.Damaged part) begins is fault = (rs, record { begins = begins.begins; sound = begins.sound; fault = fault part refl }, refl)
 fault_puts T o l body rs logs.Complete begins is fault = absurd is
 fault_puts T o l body rs (logs.NoPoint point) begins is fault = absurd is
 fault_puts T o l body rs logs.Disk begins is fault = (rs, begins, part_whole (play o rs))
@@ -115,11 +145,14 @@ fault_puts T o l body rs logs.NoMem begins is fault = (rs, begins, part_whole (p
 
 module _ (tells shows : Type 0) (o : Options) (start log : ViewState) (old now : DiskView) (before shown : List Item) (failed fails : ℕ) (is : IsPlaying tells shows o start log old now before shown failed fails)
     (told : tells) (fresh : IsBehind start [] old) where
-  so_far : (rs : List Record) × IsBehind log rs now × (shows → shown ≡ before ++ play o rs)
+  so_far : (rs : List Record) × IsBehind log rs now × (shows → shown ≡ before ++ play o rs) × IsSoundSoFar (laid_at start.number start.body old.reads) start.body rs
   so_far = is.behind told fresh
 
   begun : Begins (laid_at start.number start.body old.reads) so_far.0
   begun = begins_same start log old now so_far.0 is.number is.body (is.reads told) so_far.1
+
+  are_given : AreGiven (laid_at start.number start.body old.reads) start.body so_far.0
+  are_given = record { begins = begun; sound = so_far.3 }
 
   -- the log gives no record, for this reason
   pub next_fails : {T : Type 0} (r : Result T PlayFault) (e : LogFault) → IsErrAnd r (λ x. x ≡ of_log e) → IsNextFault e
@@ -129,7 +162,7 @@ module _ (tells shows : Type 0) (o : Options) (start log : ViewState) (old now :
     put = play o so_far.0;
     put_is = so_far.2;
     plays = subst (λ (x : Result T PlayFault). PlaysRecords o (laid_at start.number start.body old.reads) start.body x (play o so_far.0)) (err_as r (of_log e) err)
-        (fault_puts T o (laid_at start.number start.body old.reads) start.body so_far.0 e begun is_fault
+        (fault_puts T o (laid_at start.number start.body old.reads) start.body so_far.0 e are_given is_fault
         (λ part at. subst (λ (b : Body). IsFaultBehind (laid_at start.number start.body old.reads) b so_far.0 part) is.body
         (subst (λ (l : Laid). IsFaultBehind l log.body so_far.0 part) (laid_same start log old now is.number is.body (same_image old now (is.reads told))) (fault part at so_far.0 so_far.1))));
   }
@@ -154,13 +187,17 @@ module _ (tells shows : Type 0) (o : Options) (start log : ViewState) (old now :
   -- a record that the log gave isn't all put
   pub show_fails : {T : Type 0} (r : Result T PlayFault) (next : ViewState) (later : DiskView) (given : Record) (after part : List Item) → IsErrAnd r (λ x. x ≡ faults.Screen)
       → next.number ≡ log.number → next.body ≡ log.body → OnlyReads now later → ((rs : List Record) → IsBehind log rs now → IsBehind next (rs ++ given ∷ []) later)
+      → ((rs : List Record) → IsBehind log rs now → IsSoundBehind (committed_laid log.number log.body now) log.body rs)
       → IsPart part (items_of o given) → (shows → after ≡ shown ++ part) → Puts shows o (laid_at start.number start.body old.reads) start.body r before after
-  show_fails {T} r next later given after part err number body reads more is_part put = record {
+  show_fails {T} r next later given after part err number body reads more sound is_part put = record {
     put = play o so_far.0 ++ part;
     put_is = λ told_too. put told_too ∙ ap (λ (items : List Item). items ++ part) (so_far.2 told_too) ∙ append_assoc before (play o so_far.0) part;
     plays = subst (λ (x : Result T PlayFault). PlaysRecords o (laid_at start.number start.body old.reads) start.body x (play o so_far.0 ++ part)) (err_as r faults.Screen err) (
       so_far.0 ++ given ∷ [],
-      begins_same start next old later (so_far.0 ++ given ∷ []) (number ∙ is.number) (body ∙ is.body) (reads_trans old now later (is.reads told) reads) (more so_far.0 so_far.1),
+      record {
+        begins = begins_same start next old later (so_far.0 ++ given ∷ []) (number ∙ is.number) (body ∙ is.body) (reads_trans old now later (is.reads told) reads) (more so_far.0 so_far.1);
+        sound = sound_push (laid_at start.number start.body old.reads) start.body so_far.0 given so_far.3 (sound_same start log old now so_far.0 is.number is.body (is.reads told) (sound so_far.0 so_far.1));
+      },
       subst (IsPart (play o so_far.0 ++ part)) (sym (play_push o so_far.0 given)) (part_behind (play o so_far.0) part (items_of o given) is_part),
     );
   }
@@ -170,7 +207,7 @@ module _ (tells shows : Type 0) (o : Options) (start log : ViewState) (old now :
   loop_ends {T} r err = record {
     put = play o so_far.0;
     put_is = so_far.2;
-    plays = subst (λ (x : Result T PlayFault). PlaysRecords o (laid_at start.number start.body old.reads) start.body x (play o so_far.0)) (err_as r faults.NoMem err) (so_far.0, begun, part_whole (play o so_far.0));
+    plays = subst (λ (x : Result T PlayFault). PlaysRecords o (laid_at start.number start.body old.reads) start.body x (play o so_far.0)) (err_as r faults.NoMem err) (so_far.0, are_given, part_whole (play o so_far.0));
   }
 
 -- ---- causes

@@ -100,9 +100,9 @@ whole_part o put rs e = subst (λ (items : List Item). IsPart items (play o rs))
 records_part : {T : Type 0} (o : Options) (l : Laid) (body : Body) (r : Result T PlayFault) (put : List Item) (all : List Record) → IsLayout l all → Begins l all → PlaysRecords o l body r put → IsPart put (play o all)
 records_part o l body (Ok end) put all laid begins is = first_part o l put all is.0 laid begins is.1.begins (whole_part o put is.0 is.2)
 records_part o l body (Err (Damaged part)) put all laid begins is = first_part o l put all is.0 laid begins is.1.begins (whole_part o put is.0 is.2)
-records_part o l body (Err Disk) put all laid begins is = first_part o l put all is.0 laid begins is.1 is.2
-records_part o l body (Err Screen) put all laid begins is = first_part o l put all is.0 laid begins is.1 is.2
-records_part o l body (Err NoMem) put all laid begins is = first_part o l put all is.0 laid begins is.1 is.2
+records_part o l body (Err Disk) put all laid begins is = first_part o l put all is.0 laid begins is.1.begins is.2
+records_part o l body (Err Screen) put all laid begins is = first_part o l put all is.0 laid begins is.1.begins is.2
+records_part o l body (Err NoMem) put all laid begins is = first_part o l put all is.0 laid begins is.1.begins is.2
 records_part o l body (Err Absent) put all laid begins is = absurd is
 
 -- ---- the law

@@ -1,5 +1,5 @@
 -- What may be put of a log that is played, by how its playing ended.
-use Rattle.std.specs.Prelude.{◌≡◌, ◌⊎◌, ℕ, List, [], length, take, None, Result, Ok, Err}
+use Rattle.std.specs.Prelude.{◌≡◌, ◌⊎◌, ℕ, List, [], length, take, None, Result, Ok, Err, ◌∷◌, ◌++◌}
 use Rattle.lsv_disk.specs.declared.file.Part.{Part}
 use Rattle.lsv_disk.specs.declared.file.Part.TheVariants.{Head as HeadPart}
 use Rattle.lsv_disk.specs.Bytes.{bytes_of}
@@ -15,7 +15,7 @@ use Rattle.lsv_record.specs.declared.records.Record.{Record}
 use Rattle.lsv_record.specs.Layout.{Begins, IsLayout}
 use Rattle.lsv_record.specs.Records.{elapsed}
 use Rattle.lsv_iolog.specs.Damage.{IsViewDamage}
-use Rattle.lsv_iolog.specs.Reading.{AreThere, IsFaultBehind}
+use Rattle.lsv_iolog.specs.Reading.{AreThere, IsFaultBehind, IsSoundBehind}
 use Rattle.lsv_iolog.specs.Recovered.{owner_of, laid_in, Replays}
 use Rattle.lsv_play.specs.declared.options.Options.{Options}
 use Rattle.lsv_play.specs.declared.screen.Item.{Item}
@@ -39,22 +39,32 @@ pub record AreAll (l : Laid) (body : Body) (records : List Record) : Type 0 wher
   pub count : body.count ≡ length records
   pub time : body.elapsed ≡ elapsed records
 
--- these are the records before a fault: the bytes begin with their layout, and behind it this part is at fault
+-- after no shorter part of these records a part is at fault
+abbrev pub IsSoundSoFar : Laid → Body → List Record → Type 0
+IsSoundSoFar l body records = (before : List Record) (r : Record) (more : List Record) → records ≡ before ++ r ∷ more → IsSoundBehind l body before
+
+-- these records are given, one after another: the bytes begin with their layout
+pub record AreGiven (l : Laid) (body : Body) (records : List Record) : Type 0 where
+  pub begins : Begins l records
+  pub sound : IsSoundSoFar l body records
+
+-- these are the records before the first fault: the bytes begin with their layout, and after it this part is at fault
 pub record AreBeforeFault (l : Laid) (body : Body) (part : Part) (records : List Record) : Type 0 where
   pub begins : Begins l records
+  pub sound : IsSoundSoFar l body records
   pub fault : IsFaultBehind l body records part
 
--- a first part is put of the schedule of records with whose layout the bytes begin
-abbrev pub PlaysSome : Options → Laid → List Item → Type 0
-PlaysSome o l put = (records : List Record) × Begins l records × IsPart put (play o records)
+-- a first part is put of the schedule of records that are given
+abbrev pub PlaysSome : Options → Laid → Body → List Item → Type 0
+PlaysSome o l body put = (records : List Record) × AreGiven l body records × IsPart put (play o records)
 
 -- what is put of a log with this entry and these bytes: all at the end, all before a fault, and else a first part
 abbrev pub PlaysRecords : {T : Type 0} → Options → Laid → Body → Result T PlayFault → List Item → Type 0
 PlaysRecords o l body (Ok end) put = (records : List Record) × AreAll l body records × (put ≡ play o records)
 PlaysRecords o l body (Err (Damaged part)) put = (records : List Record) × AreBeforeFault l body part records × (put ≡ play o records)
-PlaysRecords o l body (Err Disk) put = PlaysSome o l put
-PlaysRecords o l body (Err Screen) put = PlaysSome o l put
-PlaysRecords o l body (Err NoMem) put = PlaysSome o l put
+PlaysRecords o l body (Err Disk) put = PlaysSome o l body put
+PlaysRecords o l body (Err Screen) put = PlaysSome o l body put
+PlaysRecords o l body (Err NoMem) put = PlaysSome o l body put
 PlaysRecords o l body (Err Absent) put = ⊥
 
 -- a log isn't opened: it is absent, or a file is absent or short or its head no head, or a read failed, or memory ran out

@@ -9,7 +9,7 @@ use Rattle.lsv_seq.specs.declared.entry.Entry.{Entry}
 use Rattle.lsv_seq.specs.declared.fault.SeqFault.{SeqFault}
 use Rattle.lsv_seq.specs.declared.numbers.Numbers.{Numbers}
 use Rattle.lsv_seq.specs.Entry.{is_entry, is_of_lane, next}
-use Rattle.lsv_seq.specs.Drawn.{numbers_file, IsNumbersFile, LastDrawn, entry_at, judged}
+use Rattle.lsv_seq.specs.Drawn.{numbers_file, IsAsSomeCrash, IsNumbersFile, LastDrawn, entry_at, judged}
 use Rattle.lsv_seq.specs.Value.{lane_of, lanes_of, last_of, pending_of, next_of, HasDrawn}
 use Rattle.lsv_seq.specs.Represents.{Represents}
 use Rattle.lsv_seq.proofs.Images as Images
@@ -26,6 +26,16 @@ drawn_once lane lanes others last other image a b = let e : Some (record { last 
 
 pub drawn_alone : (lane lanes last : ℕ) (image other : Image) → ((g : FileId) → IsNumbersFile lane g → other g ≡ image g) → LastDrawn lane lanes last image → LastDrawn lane lanes last other
 drawn_alone lane lanes last image other same is = Images.entry_local lane image other same ∙ is
+
+-- the last entry depends on the files of the lane's numbers alone
+pub entry_alone : (lane : ℕ) (image other : Image) → ((g : FileId) → IsNumbersFile lane g → other g ≡ image g) → entry_at lane other ≡ entry_at lane image
+entry_alone lane image other same = Images.entry_local lane image other same
+
+-- if the last entry of each crash image of a disk is that of some crash image before, so is that of each image of which a crash leaves the files of the lane's numbers
+pub left_as_some : (lane : ℕ) (old disk : DiskView) → IsCrashImage disk disk.reads → ((image : Image) → IsCrashImage disk image → IsAsSomeCrash lane old image)
+    → (image : Image) → ((g : FileId) → IsNumbersFile lane g → disk.crash_states g (image g)) → IsAsSomeCrash lane old image
+left_as_some lane old disk itself all image left =
+    Images.by_own (numbers_file lane) (IsAsSomeCrash lane old) disk itself (λ a b same is. (is.0, is.1, Images.entry_local lane a b same ∙ is.2)) all image left
 
 pub numbers_owner : (lane : ℕ) (g : FileId) → IsNumbersFile lane g → g.owner ≡ owners.Numbers lane
 numbers_owner lane g own = own_owner (numbers_file lane) g own

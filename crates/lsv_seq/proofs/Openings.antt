@@ -7,7 +7,7 @@ use Rattle.lsv_disk.specs.declared.file.FileId.{FileId}
 use Rattle.lsv_disk.specs.View.{Image, DiskView, IsCrashImage}
 use Rattle.lsv_disk.specs.Throughout.{Throughout, WritesOneOf}
 use Rattle.lsv_disk.proofs.Composition.{widened, followed}
-use Rattle.lsv_journal.specs.Last.{IsBeforeOrAfter, IsOwn, IsSomeCrashOf, JournalHolds, LastAt}
+use Rattle.lsv_journal.specs.Last.{IsBeforeOrAfter, IsOwn, IsSomeCrashOf, JournalHolds, LastAt, SameJournal}
 use Rattle.lsv_journal.specs.Value as journals
 use Rattle.lsv_journal.specs.Represents as represented
 use Rattle.lsv_journal.specs.declared.journal.Journal.{Journal}
@@ -22,6 +22,10 @@ use Rattle.lsv_seq.specs.Value.{last_of}
 use Rattle.lsv_seq.specs.Represents.{Represents}
 use Rattle.lsv_seq.proofs.Images.{now_of_run, some_crash, represents_settled}
 use Rattle.lsv_seq.proofs.Sounds.{read_back, whole_sound}
+
+-- the last entry that is read, by the journal's words
+pub same_entry : (lane : ℕ) (f : FileId) (was image : Image) → f ≡ numbers_file lane → SameJournal 12 f was image → entry_at lane image ≡ entry_at lane was
+same_entry lane f was image is same = ap (λ h. option_map entry_in (LastAt 12 h image)) (sym is) ∙ ap (option_map entry_in) same ∙ ap (λ h. option_map entry_in (LastAt 12 h was)) is
 
 -- the entry before the first draw
 abbrev pub first_entry : ℕ → ℕ → Entry

@@ -1,6 +1,6 @@
 -- What each value of numbers has, kept from call to call.
 use Rattle.std.proofs.Common.{◌≡◌, ℕ, ◌≤◌, true, false, Option, Some, None, Result, Err, List, refl, sym, ap, subst, ◌∙◌, inl, inr, arith}
-use Rattle.std.specs.Prelude.{◌⊎◌, IfErr}
+use Rattle.std.specs.Prelude.{◌≢◌, ◌⊎◌, IfErr}
 use Rattle.std.specs.Option.{option_map}
 use Rattle.lsv_journal.specs.Value as journals
 use Rattle.lsv_journal.specs.declared.journal.Journal.{Journal}
@@ -64,8 +64,9 @@ failed_sound old journal n named small file last = record {
 }
 
 -- bytes that are neither those of the one entry nor of the other
-pub is_changed : (old : Numbers) (now : Option (List ℕ)) → IsAnother old now → IsChanged old (body_of old.kept) now
-is_changed old now another = record {
+pub is_changed : (old : Numbers) (now : Option (List ℕ)) → pending_of old ≢ None → IsAnother old now → IsChanged old (body_of old.kept) now
+is_changed old now failed another = record {
+  failed = failed;
   kept_is = refl;
   another = λ e. another.another (ap (option_map entry_in) e ∙ ap (λ k. Some k) (read_back old.kept old.sound.entry));
   nor_pending = λ p is e. another.nor_pending p is (ap (option_map entry_in) e ∙ ap (λ k. Some k) (read_back (record old.kept { last = p }) (pending_entry old p is)));
@@ -75,12 +76,12 @@ is_changed old now another = record {
 abbrev pub AnswersChanged : Numbers → Option (List ℕ) → Result (Unit {0}) DrawFault → Type 0
 AnswersChanged old found result = IfErr result (λ e. (e ≡ Changed (body_of old.kept) found) × IsAnother old found)
 
-pub changed_from : (old : Numbers) (found : Option (List ℕ)) (result : Result (Unit {0}) DrawFault) → AnswersChanged old found result → (kept : List ℕ) (now : Option (List ℕ)) → result ≡ Err (Changed kept now) → IsChanged old kept now
-changed_from old found result changed kept now is =
+pub changed_from : (old : Numbers) (found : Option (List ℕ)) (result : Result (Unit {0}) DrawFault) → pending_of old ≢ None → AnswersChanged old found result → (kept : List ℕ) (now : Option (List ℕ)) → result ≡ Err (Changed kept now) → IsChanged old kept now
+changed_from old found result failed changed kept now is =
     let h : (Changed kept now ≡ Changed (body_of old.kept) found) × IsAnother old found = subst (AnswersChanged old found) is changed in
     let k : kept ≡ body_of old.kept = cc h.0 in
     let n : now ≡ found = cc h.0 in
-    subst (λ x. IsChanged old x now) (sym k) (subst (λ x. IsChanged old (body_of old.kept) x) (sym n) (is_changed old found h.1))
+    subst (λ x. IsChanged old x now) (sym k) (subst (λ x. IsChanged old (body_of old.kept) x) (sym n) (is_changed old found failed h.1))
 
 pub another_from : (old : Numbers) (found : Option (List ℕ)) (result : Result (Unit {0}) DrawFault) → AnswersChanged old found result → (e : DrawFault) → result ≡ Err e → IsAnother old found
 another_from old found result changed e is = (subst (AnswersChanged old found) is changed).1

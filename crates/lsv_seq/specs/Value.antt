@@ -1,5 +1,5 @@
 -- What is told of a value of numbers.
-use Rattle.std.specs.Prelude.{◌≡◌, ◌≢◌, ◌⊎◌, ℕ, List, Option, Some}
+use Rattle.std.specs.Prelude.{◌≡◌, ◌≢◌, ◌⊎◌, ℕ, List, Option, Some, None}
 use Rattle.lsv_disk.specs.View.{Image}
 use Rattle.lsv_seq.specs.declared.entry.Entry.{Entry}
 use Rattle.lsv_seq.specs.declared.numbers.Numbers.{Numbers}
@@ -45,8 +45,9 @@ IsPassedOver old new = (last_of new ≡ last_of old) ⊎ (pending_of old ≡ Som
 abbrev pub IsNextOf : Numbers → ℕ → Type 0
 IsNextOf old n = (n ≡ next_of old) ⊎ ((p : ℕ) × (pending_of old ≡ Some p) × (n ≡ next (record old.kept { last = p })))
 
--- the bytes of its entry were kept, and the last ones now are neither these nor those that a failed draw was writing
+-- a draw had failed before; the bytes of its entry were kept, and the last ones now are neither these nor those that the failed draw was writing
 pub record IsChanged (old : Numbers) (kept : List ℕ) (now : Option (List ℕ)) : Type 0 where
+  pub failed : pending_of old ≢ None
   pub kept_is : kept ≡ body_of old.kept
   pub another : now ≢ Some kept
   pub nor_pending : (p : ℕ) → pending_of old ≡ Some p → now ≢ Some (body_of (record old.kept { last = p }))

@@ -42,7 +42,8 @@ impl Numbers {
     ghost use Rattle.lsv_seq.specs.Represents.{Represents};
 
     /// Opens the numbers of a lane of so many lanes, at most eight; files that are absent or have no entry are made, with the
-    /// last number 0. Where there is an entry it is taken over at most, and where the slots have it nothing is written.
+    /// last number 0. Where there is an entry it stays the last one, whatever fails: it is taken over at most, and where
+    /// the slots have it nothing is written.
     /// `LanesDiffer` exactly where the last entry is of another number of lanes, else `Damaged` exactly where its lane or its
     /// last number is none of this lane's; `Disk` only where a device call on a file of the numbers failed.
     pub fn open<D: Disk>(disk: &mut D, lane: u32, lanes: u32) -> Result<Self, SeqFault>
@@ -55,6 +56,7 @@ impl Numbers {
         ensures represents { D.tells → IfOk result (λ n. Represents n (D.view disk.new)) }
         ensures any_moment { D.tells → Throughout (λ g. g ≡ numbers_file lane) (λ image. IsAsSomeCrash lane (D.view disk.old) image ⊎ LastDrawn lane lanes 0 image) (D.view disk.old) (D.view disk.new) }
         ensures kept { D.tells → entry_at lane (D.view disk.old).reads ≢ None → Throughout (λ g. g ≡ numbers_file lane) (IsAsSomeCrash lane (D.view disk.old)) (D.view disk.old) (D.view disk.new) }
+        ensures same { D.tells → entry_at lane (D.view disk.old).reads ≢ None → entry_at lane (D.view disk.new).reads ≡ entry_at lane (D.view disk.old).reads }
         ensures durable { D.tells → IfOk result (λ n. (image : Image) → IsCrashImage (D.view disk.new) image → LastDrawn lane lanes (last_of n) image) }
         ensures calls { D.tells → WritesOneOf (numbers_file lane) 6 9 (IsNumbersFile lane) (D.view disk.old) (D.view disk.new) }
         ensures opened { D.tells → entry_at lane (D.view disk.old).reads ≢ None → OpeningCalls 12 (numbers_file lane) (IsNumbersFile lane) (D.view disk.old) (D.view disk.new) }

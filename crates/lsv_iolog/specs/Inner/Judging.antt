@@ -9,6 +9,7 @@ use Rattle.lsv_bundle.specs.declared.view.View.{View}
 use Rattle.lsv_bundle.specs.Body.{length_of}
 use Rattle.lsv_record.specs.declared.records.Record.{Record}
 use Rattle.lsv_record.specs.declared.records.Shaped.{Shaped}
+use Rattle.lsv_record.specs.declared.records.Shaped.TheVariants.{Io, Winsize, Suspend}
 use Rattle.lsv_record.specs.declared.records.Stream.{Stream}
 use Rattle.lsv_record.specs.Layout.{Begins, IsLayout}
 use Rattle.lsv_record.specs.Records.{event_of, shape_of, elapsed}
@@ -36,6 +37,12 @@ pub record LacksIn (view : View) (before after : Totals) (told : Shaped) (disk :
   pub file : part ≡ part_of stream
   pub few : (length_of view.body (part_of stream) < get_or after.data_bytes (event_of stream) 0)
       ⊎ (length (piece (text_of view disk (part_of stream)) (get_or before.data_bytes (event_of stream) 0) (told_count stream told)) < told_count stream told)
+
+-- with this line the entry commits as many bytes of its stream as the lines tell
+abbrev pub HasData : Body → Totals → Shaped → Type 0
+HasData body after (Io delay stream count) = get_or after.data_bytes (event_of stream) 0 ≤ length_of body (part_of stream)
+HasData body after (Winsize delay rows cols) = Unit {0}
+HasData body after (Suspend delay signal) = Unit {0}
 
 -- the lines that were read are those of these records, with which the committed bytes begin
 pub record IsBehindLines (lines : Scan) (records : List Record) (disk : DiskView) : Type 0 where

@@ -16,10 +16,10 @@ use Rattle.lsv_iolog.specs.declared.fault.LogFault.TheVariants as logs
 use Rattle.lsv_iolog.specs.Recovered.{laid_in, part_of}
 use Rattle.lsv_iolog.specs.Reading.{IsFaultBehind}
 use Rattle.lsv_iolog.specs.Inner.Scanning.{text_of, Scan, IsReading, AllCounted}
-use Rattle.lsv_iolog.specs.Inner.Judging.{IsWithin, LacksIn, IsEndFault}
+use Rattle.lsv_iolog.specs.Inner.Judging.{HasData, IsWithin, LacksIn, IsEndFault}
 use Rattle.lsv_iolog.proofs.Scans.{if_some_at, if_none_at, none_there, text_same}
 use Rattle.lsv_iolog.proofs.Viewing.{err_is, err_of, text_long}
-use Rattle.lsv_iolog.proofs.Giving.{behind_same, behind_more, bad_behind, over_behind, lacks_behind, ends_behind, whole_behind, reading_on, timing_alone, IsRecordOf}
+use Rattle.lsv_iolog.proofs.Giving.{behind_same, behind_more, bad_behind, over_behind, lacks_behind, ends_behind, whole_behind, ending_sound, going_sound, reading_on, timing_alone, IsRecordOf}
 use Rattle.lsv_iolog.proofs.view.next_record.Goals as goal
 
 one_part : (a b : Part) → logs.Damaged a ≡ logs.Damaged b → a ≡ b
@@ -121,3 +121,28 @@ returns-clause-given g c told rs behind =
     } in
     behind_more lines new rs disk later line c.in_ok-record.record c.next.ensures.view (reads_trans disk mid later (c.next.ensures.reads told) (c.told_record.ensures.reads told)) taken.1
     (reading_on new mid later (c.told_record.ensures.reads told) (c.next.ensures.reading told behind.window)) stands taken.0 within.in_time of behind
+
+pub returns-in_default-clause-sound : goal.returns-in_default-clause-sound
+returns-in_default-clause-sound g c told rs behind =
+    let disk : DiskView = g.D.Disk.view c.args.disk.now in
+    let lines : Scan = c.args.lines.now in
+    let none = none_there c.in_ok-told.field-0 c.in_default.not-Some in
+    let end : lines.tally.timing ≡ length_of lines.view.body Timing = if_none_at c.in_ok-told.field-0 (lines.tally.timing ≡ length_of lines.view.body Timing) none c.in_ok-told.ensures.end in
+    ending_sound lines rs disk behind c.in_ok-told.ensures.small end (returns-in_default-clause-end g c told rs behind).0
+
+pub returns-clause-sound : goal.returns-clause-sound
+returns-clause-sound g c told rs behind =
+    let disk : DiskView = g.D.Disk.view c.args.disk.now in
+    let lines : Scan = c.args.lines.now in
+    let new : Scan = c.next.new.self in
+    let line : Shaped = c.in-Some.told in
+    let stands : IsLineAt (text_of lines.view disk Timing) lines.tally.timing line new.tally.timing =
+    if_some_at c.in_ok-told.field-0 line (λ t. IsReading lines disk → IsLineAt (text_of lines.view disk Timing) lines.tally.timing t new.tally.timing) c.in-Some.is (c.in_ok-told.ensures.line told) behind.window in
+    let taken = if_some_at c.in_ok-told.field-0 line (λ t. IsGood t × (new.tally ≡ with_line lines.tally t)) c.in-Some.is c.in_ok-told.ensures.taken in
+    let within : IsWithin lines.view.body new.tally =
+    subst (λ (v : View). IsWithin v.body new.tally) c.view-view.ensures
+    (subst (λ (t : Totals). IsWithin c.view-view.result.body t) c.tally-after.ensures.tally c.in_ok-check_within.ensures.ok) in
+    let has : HasData lines.view.body new.tally line =
+    subst (λ (v : View). HasData v.body new.tally line) c.view-view.ensures
+    (subst (λ (t : Totals). HasData c.view-view.result.body t line) c.tally-after.ensures.tally c.in_ok-record.ensures.enough) in
+    going_sound lines rs disk behind c.in_ok-told.ensures.small line new.tally.timing new.tally stands taken.1 within has

@@ -1,5 +1,5 @@
 -- The line is added to an event log that is open, or to one that was opened again.
-use Rattle.std.proofs.Common.{◌≡◌, ◌≤◌, ◌<◌, ◌+◌, ◌^◌, ℕ, List, true, false, length, None, Result, Err, sym, ◌∙◌, ap, subst}
+use Rattle.std.proofs.Common.{◌≡◌, ◌≤◌, ◌<◌, ◌+◌, ◌^◌, ℕ, List, true, false, length, None, Result, Err, sym, ◌∙◌, ap, subst, inl, inr}
 use Rattle.lsv_bundle.specs.declared.fault.BundleFault.{BundleFault}
 use Rattle.lsv_bundle.specs.declared.fault.BundleFault.TheVariants as faults
 use Rattle.lsv_bundle.specs.declared.shape.Shape.TheVariants as shapes
@@ -24,6 +24,9 @@ use Rattle.lsv_keeper.proofs.Counting.{owner_rose}
 use Rattle.lsv_keeper.proofs.Frames.{Laws, beside_events, beside_none}
 use Rattle.lsv_keeper.proofs.Numbering.{numbers_fit}
 use Rattle.lsv_keeper.proofs.Syncing.{lines_opened}
+use Rattle.lsv_keeper.proofs.Causes.{still}
+use Rattle.std.specs.Prelude.{true, false}
+use Rattle.lsv_request.specs.declared.refusal.Refusal.TheVariants.{DeviceFault}
 use Rattle.lsv_keeper.proofs.events.stage_line.Goals as goal
 
 abbrev err_of : (T : Type 0) → BundleFault → Result T BundleFault
@@ -165,3 +168,45 @@ returns-in-Ok-add-clause-syncs g c told = lines_opened c.args.lane 6 9 _ (g.D.Di
 
 pub returns-in-Err-add-clause-syncs : goal.returns-in-Err-add-clause-syncs
 returns-in-Err-add-clause-syncs g c told = lines_opened c.args.lane 6 9 _ (g.D.Disk.view c.args.disk.now) (g.D.Disk.view c.open.new.disk) (c.open.ensures.calls told)
+
+-- ---- Over every disk
+
+pub returns-in_default-clause-does : goal.returns-in_default-clause-does
+returns-in_default-clause-does g c = record {
+  monotone = still (g.D.Disk.view c.args.disk.now);
+  failed = λ broken. let q : true ≡ false = sym broken ∙ added_whole c.args.events.now c.add.new.self c.args.line.now c.in_default.ensures.value c.in_default.ensures.room.0 in absurd (cc);
+  cause = λ e. absurd (cc);
+}
+
+pub returns-then-not-failed_before-clause-does : goal.returns-then-not-failed_before-clause-does
+returns-then-not-failed_before-clause-does g c = record {
+  monotone = still (g.D.Disk.view c.args.disk.now);
+  failed = λ broken. inl (ap is_broken (sym c.in-Err.ensures.refused) ∙ broken);
+  cause = λ e.
+      let before : failed_before c.in-Err.fault ≡ false = cc in
+      let told_it : line_refusal c.in-Err.fault ≡ DeviceFault = sym c.line_refusal.ensures ∙ (let f : c.line_refusal.result ≡ DeviceFault = cc in f) in
+      absurd (elim c.in-Err.ensures.fault [
+        | inl broken ↦ (let q : failed_before faults.Broken ≡ false = ap failed_before (sym broken) ∙ before in cc)
+        | inr (inl full) ↦ (let q : line_refusal (faults.Full parts.Lines) ≡ DeviceFault = ap line_refusal (sym full) ∙ told_it in cc)
+        | inr (inr none) ↦ (let q : line_refusal faults.NoMem ≡ DeviceFault = ap line_refusal (sym none) ∙ told_it in cc)
+      ]);
+}
+
+pub returns-in-Err-open-clause-does : goal.returns-in-Err-open-clause-does
+returns-in-Err-open-clause-does g c =
+    let before : failed_before c.in-Err.fault ≡ true = cc in
+    let broken : is_broken c.args.events.now ≡ true = c.in-Err.ensures.broken.0 (in_err c.in-Err.fault faults.Broken (failed_is c.in-Err.fault before)) in
+    record { monotone = c.open.ensures.cause.monotone; failed = λ is. inl broken; cause = λ e. inl broken }
+
+pub returns-in-Ok-add-clause-does : goal.returns-in-Ok-add-clause-does
+returns-in-Ok-add-clause-does g c = record {
+  monotone = c.open.ensures.cause.monotone;
+  failed = λ broken. let q : true ≡ false = sym broken ∙ added_whole c.in-Ok.opened c.add-2.new.self c.args.line.now c.in-Ok-add.ensures.value c.in-Ok-add.ensures.room.0 in absurd (cc);
+  cause = λ e. absurd (cc);
+}
+
+pub returns-in-Err-add-clause-does : goal.returns-in-Err-add-clause-does
+returns-in-Err-add-clause-does g c =
+    let before : failed_before c.in-Err.fault ≡ true = cc in
+    let broken : is_broken c.args.events.now ≡ true = c.in-Err.ensures.broken.0 (in_err c.in-Err.fault faults.Broken (failed_is c.in-Err.fault before)) in
+    record { monotone = c.open.ensures.cause.monotone; failed = λ is. inl broken; cause = λ e. inl broken }

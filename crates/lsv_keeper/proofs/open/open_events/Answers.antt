@@ -49,3 +49,6 @@ returns-in-Err-clause-cause g c o = record {
   risen = λ e. events_cause c.args.lane o c.in-Err.fault c.events_fault.result (g.D.Disk.view c.args.disk.now) (g.D.Disk.view c.open.new.disk) c.events_fault.ensures c.in-Err.ensures.fault
       (λ d. c.in-Err.ensures.cause.risen (in_err c.in-Err.fault bundle_faults.Disk d)) (err_is c.events_fault.result (Device o) e);
 }
+
+pub returns-in-Ok-clause-sound : goal.returns-in-Ok-clause-sound
+returns-in-Ok-clause-sound g c = c.in-Ok.ensures.value.whole

@@ -1,6 +1,6 @@
 use Rattle.lsv_seq.specs.declared.fault.SeqFault.TheVariants as seq_faults
 use Rattle.lsv_keeper.specs.declared.fault.StoreFault.TheVariants.{Device}
-use Rattle.lsv_keeper.proofs.Opening.{err_is, in_err, number_moments, numbers_cause, numbers_faults, numbers_store, some_run}
+use Rattle.lsv_keeper.proofs.Opening.{err_is, in_err, number_moments, numbers_cause, numbers_entry, numbers_faults, numbers_store, some_run}
 use Rattle.lsv_keeper.proofs.open.open_numbers.Goals as goal
 
 pub returns-in-Ok-clause-opened : goal.returns-in-Ok-clause-opened
@@ -24,6 +24,9 @@ returns-in-Ok-clause-store g c told =
 pub returns-in-Ok-clause-run : goal.returns-in-Ok-clause-run
 returns-in-Ok-clause-run g c told = some_run _ _ (g.D.Disk.view c.args.disk.now) (g.D.Disk.view c.open.new.disk) (c.open.ensures.any_moment told)
 
+pub returns-in-Ok-clause-kept : goal.returns-in-Ok-clause-kept
+returns-in-Ok-clause-kept g c told some = numbers_entry c.args.lane (g.D.Disk.view c.args.disk.now) (g.D.Disk.view c.open.new.disk) (c.open.ensures.kept told some) (c.open.ensures.same told some)
+
 pub returns-in-Ok-clause-cause : goal.returns-in-Ok-clause-cause
 returns-in-Ok-clause-cause g c o = record { monotone = c.open.ensures.cause.monotone; risen = λ e. absurd (cc e) }
 
@@ -43,9 +46,15 @@ returns-in-Err-clause-store g c told =
 pub returns-in-Err-clause-run : goal.returns-in-Err-clause-run
 returns-in-Err-clause-run g c told = some_run _ _ (g.D.Disk.view c.args.disk.now) (g.D.Disk.view c.open.new.disk) (c.open.ensures.any_moment told)
 
+pub returns-in-Err-clause-kept : goal.returns-in-Err-clause-kept
+returns-in-Err-clause-kept g c told some = numbers_entry c.args.lane (g.D.Disk.view c.args.disk.now) (g.D.Disk.view c.open.new.disk) (c.open.ensures.kept told some) (c.open.ensures.same told some)
+
 pub returns-in-Err-clause-cause : goal.returns-in-Err-clause-cause
 returns-in-Err-clause-cause g c o = record {
   monotone = c.open.ensures.cause.monotone;
   risen = λ e. numbers_cause c.args.lane o c.in-Err.fault c.number_fault.result (g.D.Disk.view c.args.disk.now) (g.D.Disk.view c.open.new.disk) c.number_fault.ensures
       (λ d. c.in-Err.ensures.cause.risen (in_err c.in-Err.fault seq_faults.Disk d)) (err_is c.number_fault.result (Device o) e);
 }
+
+pub returns-in-Ok-clause-sound : goal.returns-in-Ok-clause-sound
+returns-in-Ok-clause-sound g c = c.in-Ok.ensures.whole

@@ -25,6 +25,7 @@ records-preserved g c =
     c.next.ensures.same.0 c.next.ensures.same.2 (λ told. c.next.ensures.reads told) c.next.ensures.cause.monotone c.play_record.ensures.cause.monotone
     (λ told. if_some_at c.in_ok-record.field-0 c.in-Some.record (λ r. (rs : List Record) → IsBehind c.records.log rs (g.D.Disk.view c.records.disk) → IsBehind c.next.new.self (rs ++ r ∷ []) (g.D.Disk.view c.next.new.disk))
     c.in-Some.is (c.in_ok-record.ensures.given told))
+    (λ told. c.in_ok-record.ensures.sound told)
     (λ told. c.in_ok-play_record.ensures.shown told)
 
 pub returns-in_err-record-clause-played : goal.returns-in_err-record-clause-played
@@ -76,7 +77,7 @@ returns-in_err-play_record-clause-played g c told fresh =
     (g.S.Screen.faults c.args.screen.now) (g.S.Screen.faults c.records.screen) c.records.invariant told fresh c.from_residual-in_err-play_record.result c.next.new.self (g.D.Disk.view c.next.new.disk) c.in-Some.record
     (g.S.Screen.shown c.play_record.new.screen) part.0 c.from_residual-in_err-play_record.ensures.1 c.next.ensures.same.0 c.next.ensures.same.2 (c.next.ensures.reads told)
     (if_some_at c.in_ok-record.field-0 c.in-Some.record (λ r. (rs : List Record) → IsBehind c.records.log rs (g.D.Disk.view c.records.disk) → IsBehind c.next.new.self (rs ++ r ∷ []) (g.D.Disk.view c.next.new.disk))
-    c.in-Some.is (c.in_ok-record.ensures.given told)) part.1 part.2 in
+    c.in-Some.is (c.in_ok-record.ensures.given told)) (c.in_ok-record.ensures.sound told) part.1 part.2 in
     (puts.put, puts.put_is, puts.plays)
 
 pub returns-in_err-play_record-clause-reads : goal.returns-in_err-play_record-clause-reads

@@ -43,4 +43,4 @@ returns-in-None-clause-calls g c told =
 
 pub returns-in-None-clause-counted : goal.returns-in-None-clause-counted
 returns-in-None-clause-counted g c told =
-    IfOk-weaker c.make.result _ _ (λ log zero. counts_none c.args.lane (g.D.Disk.view c.args.disk.now).reads log (c.in_ok-log.ensures.none_read told c.in-None.is) zero) c.make.ensures.count
+    IfOk-weaker c.make.result _ _ (λ log made. counts_none c.args.lane (g.D.Disk.view c.args.disk.now).reads log (c.in_ok-log.ensures.none_read told c.in-None.is) made) c.make.ensures.count

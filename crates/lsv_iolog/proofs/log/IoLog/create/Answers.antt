@@ -1,7 +1,7 @@
 -- The text is written and read, and then its files are made.
 use Rattle.lsv_info.specs.Layout.{head_text}
 use Rattle.lsv_bundle.specs.declared.body.Body.{Body}
-use Rattle.std.proofs.Common.{false, ℕ, Some, None, List, refl, subst, arith}
+use Rattle.std.proofs.Common.{false, ℕ, Some, None, List, option_map, refl, ap, subst, arith}
 use Rattle.lsv_disk.specs.Throughout.{Throughout}
 use Rattle.lsv_iolog.specs.Recovered.{IsOfLog, Replays}
 use Rattle.lsv_iolog.specs.Value.{IoLogView, bare, made}
@@ -52,3 +52,8 @@ returns-clause-represents g c told =
     subst (λ (text : List ℕ). Represents log (bare (made text)) disk) c.in_ok-text.ensures
     (settled_represents log (made c.in_ok-text.text) body disk refl settled.1 (c.in_ok-bundle.ensures.holds told)
     (settled_small c.args.number body c.in_ok-bundle.bundle settled.1 (omega (arith, empty))) c.in_ok-head.ensures.read refl refl)
+
+pub returns-clause-kind : goal.returns-clause-kind
+returns-clause-kind g c =
+    let settled = c.in_ok-bundle.ensures.settled in
+    ap (option_map (λ (b : Body). b.kind)) settled.1.last

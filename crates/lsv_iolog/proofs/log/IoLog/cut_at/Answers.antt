@@ -22,9 +22,9 @@ use Rattle.lsv_iolog.specs.Inner.Next.{cuts_in}
 use Rattle.lsv_iolog.specs.Inner.Cutting.{IsFound, IsCutTo, entry_behind}
 use Rattle.std.specs.Prelude.{◌==◌}
 use Rattle.std.specs.Option.{option_map_or}
-use Rattle.std.proofs.lemmas.Result.{on_err_weaker}
+use Rattle.std.proofs.lemmas.Result.{on_err_weaker, on_ok_weaker}
 use Rattle.lsv_bundle.specs.declared.body.Body.{Body}
-use Rattle.lsv_iolog.proofs.Flushing.{idle_moment, either_later, on_ok_always}
+use Rattle.lsv_iolog.proofs.Flushing.{idle_moment, either_later, last_kind, on_ok_always}
 use Rattle.lsv_iolog.proofs.Finishing.{going_exit}
 use Rattle.lsv_iolog.proofs.Results.{same_log_fault}
 use Rattle.lsv_iolog.proofs.Scans.{none_there}
@@ -232,3 +232,6 @@ pub returns-clause-kept : goal.returns-clause-kept
 returns-clause-kept g c =
     on_err_weaker c.cut_behind.result
     (λ last. ap (λ (o : Option Body). option_map_or (λ (body : Body). body.kind == 3) o false) (last ∙ ap (λ (v : IoLogView). v.bundle.last) c.in_ok-kept.ensures.same)) c.cut_behind.ensures.last
+
+pub returns-clause-kind : goal.returns-clause-kind
+returns-clause-kind g c = on_ok_weaker c.cut_behind.result (λ value. last_kind c.cut_behind.new.self _ value.last) c.cut_behind.ensures.value

@@ -1,5 +1,6 @@
 -- The exit is written and staged, and one entry commits all that is.
 use Rattle.std.proofs.Common.{◌≡◌, ℕ, List, ◌++◌, length, Some, false, OnOk, refl, sym, ◌∙◌, ap, subst}
+use Rattle.std.proofs.lemmas.Result.{on_ok_weaker}
 use Rattle.lsv_disk.specs.declared.file.Part.TheVariants.{Exit}
 use Rattle.lsv_disk.specs.View.{DiskView}
 use Rattle.lsv_disk.specs.Throughout.{Throughout}
@@ -13,7 +14,7 @@ use Rattle.lsv_info.specs.Layout.{exit_text}
 use Rattle.lsv_iolog.specs.Value.{IoLogView, LogValue, bare, finished, SameCounts}
 use Rattle.lsv_iolog.specs.Inner.Next.{next_entry}
 use Rattle.lsv_iolog.specs.Represents.{Represents}
-use Rattle.lsv_iolog.proofs.Flushing.{idle_moment, later_same, later_more, either_later, on_ok_four, on_ok_always}
+use Rattle.lsv_iolog.proofs.Flushing.{idle_moment, later_same, later_more, either_later, last_kind, on_ok_four, on_ok_always}
 use Rattle.lsv_iolog.proofs.Finishing.{with_files, timing_as, exit_invariant, going_exit, exit_some, finish_moment, finish_represents}
 use Rattle.lsv_iolog.proofs.log.IoLog.finish.Goals as goal
 
@@ -113,3 +114,6 @@ returns-clause-any_moment g c told value at =
 pub returns-clause-later : goal.returns-clause-later
 returns-clause-later g c told value at =
     either_later c.args.self.now.number value.stored (finished value (exit_text c.args.exit.now)) (g.D.Disk.view c.args.disk.now) (g.D.Disk.view c.commit.new.disk) (later_more value.stored (finished value (exit_text c.args.exit.now)) value.staged refl refl) (returns-clause-any_moment g c told value at)
+
+pub returns-clause-kind : goal.returns-clause-kind
+returns-clause-kind g c = on_ok_weaker c.commit.result (λ value. last_kind c.commit.new.self _ value.last) c.commit.ensures.value

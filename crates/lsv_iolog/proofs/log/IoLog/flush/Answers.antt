@@ -1,5 +1,6 @@
 -- Where nothing is staged nothing happens; else one entry commits it.
 use Rattle.std.proofs.Common.{◌≡◌, ◌≢◌, length, Some, false, refl, sym, ◌∙◌, ap, subst}
+use Rattle.std.proofs.lemmas.Result.{on_ok_weaker}
 use Rattle.lsv_disk.specs.declared.file.Part.TheVariants.{Timing}
 use Rattle.lsv_disk.specs.View.{DiskView}
 use Rattle.lsv_bundle.specs.Represents as bundles
@@ -8,7 +9,7 @@ use Rattle.lsv_bundle.specs.Committed.{committed, committed_as}
 use Rattle.lsv_iolog.specs.Value.{IoLogView, LogValue, bare, flushed}
 use Rattle.lsv_iolog.specs.Represents.{Represents}
 use Rattle.lsv_iolog.specs.Inner.Next.{next_entry}
-use Rattle.lsv_iolog.proofs.Flushing.{idle_moment, idle_value, no_timing, some_timing, later_same, later_more, either_later, flush_represents, flush_moment, on_ok_four}
+use Rattle.lsv_iolog.proofs.Flushing.{idle_moment, idle_value, no_timing, some_timing, later_same, later_more, either_later, flush_represents, flush_moment, idle_kind, flush_kind, on_ok_four}
 use Rattle.lsv_iolog.proofs.log.IoLog.flush.Goals as goal
 
 pub returns-then-self-eq0-clause-represents : goal.returns-then-self-eq0-clause-represents
@@ -47,3 +48,14 @@ pub returns-clause-later : goal.returns-clause-later
 returns-clause-later g c told value at =
     let old : DiskView = g.D.Disk.view c.args.disk.now in
     either_later c.args.self.now.number value.stored (flushed value) old (g.D.Disk.view c.commit.new.disk) (later_more value.stored (flushed value) value.staged refl refl) (returns-clause-any_moment g c told value at)
+
+pub returns-then-self-eq0-clause-kind : goal.returns-then-self-eq0-clause-kind
+returns-then-self-eq0-clause-kind g c =
+    idle_kind c.args.self.now (ap (λ (v : IoLogView). length (staged v.bundle Timing)) (sym c.self.view_is) ∙ c.self.invariant.1 ∙ c.if-self-eq0.true)
+
+pub returns-clause-kind : goal.returns-clause-kind
+returns-clause-kind g c =
+    let log : IoLogView = c.args.self.now in
+    let left : IoLogView = c.commit.new.self in
+    let some : length (staged log.bundle Timing) ≢ 0 = λ none. c.if-self-eq0.false (sym c.self.invariant.1 ∙ ap (λ (v : IoLogView). length (staged v.bundle Timing)) c.self.view_is ∙ none) in
+    on_ok_weaker c.commit.result (λ (value : IsCommitted (next_entry log 1) (next_length log.bundle) log.bundle left.bundle). flush_kind log left some value) c.commit.ensures.value

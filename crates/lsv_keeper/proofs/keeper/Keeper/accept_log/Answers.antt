@@ -7,6 +7,9 @@ use Rattle.lsv_keeper.specs.Views.{view_of}
 use Rattle.lsv_keeper.specs.Syncing.{NoLog}
 use Rattle.lsv_keeper.proofs.Making.{begun_at, keeps_then, room_in_any, stopped_at}
 use Rattle.lsv_keeper.proofs.Syncing.{followed}
+use Rattle.lsv_keeper.proofs.Causes.{does_as, refused_is, then_quiet}
+use Rattle.std.specs.Prelude.{Result, Err}
+use Rattle.lsv_request.specs.declared.refusal.Refusal.{Refusal}
 use Rattle.lsv_keeper.proofs.keeper.Keeper.accept_log.Goals as goal
 
 pub leave-requires-clause-stands : goal.leave-requires-clause-stands
@@ -40,3 +43,14 @@ returns-in-Err-clause-syncs g c told m at =
     let x = c.in-Err.ensures.stopped told m at in
     followed NoLog (view_of c.args.self.now) (view_of c.open_log.new.self) (view_of c.leave.new.self) (g.D.Disk.view c.args.disk.now) (g.D.Disk.view c.open_log.new.disk) (g.D.Disk.view c.leave.new.disk)
     (c.open_log.ensures.syncs told m at) (c.leave.ensures.syncs told x.left x.represents)
+
+-- ---- Over every disk
+
+abbrev err : {T : Type 0} → Refusal → Result T Refusal
+err why = Err why
+
+pub returns-in-Ok-clause-does : goal.returns-in-Ok-clause-does
+returns-in-Ok-clause-does g c = does_as (λ e. absurd (cc)) c.in-Ok.ensures.does
+
+pub returns-in-Err-clause-does : goal.returns-in-Err-clause-does
+returns-in-Err-clause-does g c = then_quiet (λ e. ap (λ (w : Refusal). err w) (refused_is c.in-Err.why e)) c.in-Err.ensures.does c.leave.ensures.does

@@ -1,5 +1,5 @@
 -- The line is written and added, and then its connection is noted, for which there is room.
-use Rattle.std.proofs.Common.{◌≡◌, ◌≤◌, ◌+◌, ◌++◌, ℕ, List, true, length, vec_capacity, vec_len, refl, sym, ◌∙◌, ap, subst, arith}
+use Rattle.std.proofs.Common.{◌≡◌, ◌≤◌, ◌+◌, ◌++◌, ℕ, List, true, length, vec_capacity, vec_len, refl, sym, ◌∙◌, ap, subst, arith, inl, inr}
 use Rattle.lsv_event.specs.Lines.{line_of}
 use Rattle.lsv_session.specs.declared.connection.ConnId.{ConnId}
 use Rattle.lsv_machine.specs.Machine.{note}
@@ -13,6 +13,8 @@ use Rattle.lsv_keeper.proofs.Frames.{beside_none}
 use Rattle.lsv_keeper.proofs.Numbering.{numbers_fit}
 use Rattle.lsv_keeper.proofs.Owning.{on_ok}
 use Rattle.lsv_keeper.proofs.Reporting.{if_err_as, ok_of}
+use Rattle.lsv_keeper.proofs.Causes.{does_none, does_same, line_does, same_err, still}
+use Rattle.lsv_request.specs.declared.refusal.Refusal.TheVariants.{DeviceFault}
 use Rattle.lsv_keeper.proofs.keeper.Keeper.add_line.Goals as goal
 
 pub returns-in_default-clause-beside : goal.returns-in_default-clause-beside
@@ -67,3 +69,20 @@ returns-clause-added g c told m at =
       subst (λ (ns : List ConnId). Represents (record v { events = c.stage_line.new.events; noting = ns }) new (record m { fresh = m.fresh ++ line_of v.kind c.args.event.now; noting = note c.args.conn m.noting })) (sym (noted ∙ ap (note c.args.conn) c.reserve.ensures.items))
           (subst (λ (x : List ℕ). Represents (record v { events = c.stage_line.new.events; noting = note c.args.conn v.noting }) new (record m { fresh = m.fresh ++ x; noting = note c.args.conn m.noting })) line_is its),
     )
+
+-- ---- Over every disk
+
+pub returns-in_default-clause-does : goal.returns-in_default-clause-does
+returns-in_default-clause-does g c = does_none (λ e. cc)
+
+pub returns-then-is_err-clause-does : goal.returns-then-is_err-clause-does
+returns-then-is_err-clause-does g c = does_same (λ e. cc) (still (g.D.Disk.view c.args.disk.now)) refl refl refl (λ n. refl) refl c.reserve.ensures.items
+
+pub returns-in_err-stage_line-clause-does : goal.returns-in_err-stage_line-clause-does
+returns-in_err-stage_line-clause-does g c = line_does (λ e. same_err c.from_residual.result c.in_err-stage_line.field-0.0 DeviceFault c.from_residual.ensures.1 e) (record { table = refl; logs = refl; numbers = refl; waiting = refl }) c.in_err-stage_line.ensures.does (inl c.reserve.ensures.items)
+
+pub returns-clause-does : goal.returns-clause-does
+returns-clause-does g c =
+    let room : vec_len c.reserve.new.self + 1 ≤ vec_capacity c.reserve.new.self = on_ok _ c.reserve.result (ok_of c.reserve.result c.is_err.result c.if-is_err.false c.is_err.ensures.negation) c.reserve.ensures.ok in
+    let noted : c.note.new.conns.items ≡ note c.args.conn c.reserve.new.self.items = on_ok _ c.note.result (c.note.ensures.room (omega arith)) c.note.ensures.noted in
+    line_does (λ e. absurd (cc)) (record { table = refl; logs = refl; numbers = refl; waiting = refl }) c.in_ok-stage_line.ensures.does (inr (noted ∙ ap (note c.args.conn) c.reserve.ensures.items))

@@ -1,4 +1,4 @@
-use Rattle.std.proofs.Common.{◌≡◌, ◌∷◌, ◌++◌, List, [], length, refl, sym, ◌∙◌, ap, subst, arith, append_assoc, append-nil}
+use Rattle.std.proofs.Common.{◌≡◌, ◌∷◌, ◌++◌, List, [], length, refl, sym, ◌∙◌, ap, subst, arith, append_assoc, append-nil, map}
 use Rattle.std.specs.Vec.Iter.{into_iter_items}
 use Rattle.lsv_session.specs.declared.job.Job.{Job}
 use Rattle.lsv_keeper.specs.Replies.{room_in}
@@ -8,6 +8,9 @@ use Rattle.lsv_keeper.specs.Syncing.{Syncs}
 use Rattle.lsv_keeper.specs.Syncs.{AnyRestarts}
 use Rattle.lsv_keeper.proofs.Turning.{answering_on, answering_start}
 use Rattle.lsv_keeper.proofs.Syncing.{jobs_on, nothing}
+use Rattle.lsv_keeper.proofs.Causes.{any_before, any_last, does_last, does_none, may_first, may_second}
+use Rattle.lsv_keeper.proofs.Saying.{says_as, says_none, says_then}
+use Rattle.lsv_keeper.specs.Causes.{AnyIsOf, Does, MayFail, Says}
 use Rattle.lsv_keeper.proofs.keeper.Keeper.answer_jobs.Goals as goal
 
 nothing_left : (jobs : List Job) → length jobs ≡ 0 → jobs ≡ []
@@ -23,6 +26,8 @@ loop-job-init g c =
       done = answering_start g.D.Disk.tells c.args.now (view_of c.args.self.now) (room_in c.args.out.now) c.args.out.now.items (g.D.Disk.view c.args.disk.now)
           (λ told. record { reads_itself = g.met.D.Disk.reads_itself told c.args.disk.now; is_now = g.met.D.Disk.is_now told c.args.disk.now; only_now = g.met.D.Disk.only_now told c.args.disk.now });
       synced = λ told m at. nothing (AnyRestarts []) (view_of c.args.self.now) (view_of c.args.self.now) (g.D.Disk.view c.args.disk.now) refl refl;
+      kept = does_none (λ none. none);
+      says = λ all. says_none (AnyIsOf []) _ c.args.out.now.items;
     }
 
 pub answer_job-requires-clause-stands : goal.answer_job-requires-clause-stands
@@ -41,6 +46,14 @@ loop-job-preserved g c =
           let d = c.loop-job.invariant.done.jobs told m at in
           jobs_on c.loop-job.yielded c.in-Some.job (view_of c.args.self.now) (view_of c.loop-job.self) (view_of c.answer_job.new.self) (g.D.Disk.view c.args.disk.now) (g.D.Disk.view c.loop-job.disk) (g.D.Disk.view c.answer_job.new.disk)
           (c.loop-job.invariant.synced told m at) (c.answer_job.ensures.syncs told d.after d.represents);
+      kept = does_last c.loop-job.yielded c.in-Some.job (view_of c.args.self.now) (view_of c.loop-job.self) (view_of c.answer_job.new.self) (g.D.Disk.view c.args.disk.now) (g.D.Disk.view c.loop-job.disk) (g.D.Disk.view c.answer_job.new.disk) c.loop-job.invariant.kept c.answer_job.ensures.does;
+      says = λ all.
+          let v = (view_of c.args.self.now) in
+          let more = AnyIsOf (c.loop-job.yielded ++ c.in-Some.job ∷ []) in
+          says_then more (MayFail v (g.D.Disk.view c.args.disk.now) (g.D.Disk.view c.answer_job.new.disk)) c.args.out.now.items c.loop-job.out.items c.answer_job.new.out.items
+          (says_as (AnyIsOf c.loop-job.yielded) more (MayFail v (g.D.Disk.view c.args.disk.now) (g.D.Disk.view c.loop-job.disk)) (MayFail v (g.D.Disk.view c.args.disk.now) (g.D.Disk.view c.answer_job.new.disk)) c.args.out.now.items c.loop-job.out.items (any_before c.loop-job.yielded c.in-Some.job) (λ may. may_first v (g.D.Disk.view c.args.disk.now) (g.D.Disk.view c.loop-job.disk) (g.D.Disk.view c.answer_job.new.disk) may c.answer_job.ensures.does.monotone) (c.loop-job.invariant.says all))
+          (says_as (λ k. k ≡ c.in-Some.job.conn) more (MayFail (view_of c.loop-job.self) (g.D.Disk.view c.loop-job.disk) (g.D.Disk.view c.answer_job.new.disk)) (MayFail v (g.D.Disk.view c.args.disk.now) (g.D.Disk.view c.answer_job.new.disk)) c.loop-job.out.items c.answer_job.new.out.items (any_last c.loop-job.yielded c.in-Some.job)
+          (λ may. may_second v (view_of c.loop-job.self) (g.D.Disk.view c.args.disk.now) (g.D.Disk.view c.loop-job.disk) (g.D.Disk.view c.answer_job.new.disk) c.loop-job.invariant.kept.monotone c.answer_job.ensures.does.monotone c.loop-job.invariant.kept.failed may) (c.answer_job.ensures.says (c.loop-job.invariant.kept.whole all)));
     }
 
 pub returns-clause-answered : goal.returns-clause-answered
@@ -55,3 +68,17 @@ returns-clause-syncs g c told m at =
     let empty : into_iter_items c.loop-job.job-iterator ≡ [] = nothing_left (into_iter_items c.loop-job.job-iterator) (sym c.loop-job.invariant.counted ∙ c.in-None.ensures.steps.0) in
     let all : c.loop-job.yielded ≡ c.args.jobs.items = sym (append-nil c.loop-job.yielded) ∙ (ap (λ (x : List Job). c.loop-job.yielded ++ x) (sym empty) ∙ c.loop-job.invariant.items) in
     subst (λ (jobs : List Job). Syncs (AnyRestarts jobs) (view_of c.args.self.now) (view_of c.loop-job.self) (g.D.Disk.view c.args.disk.now) (g.D.Disk.view c.loop-job.disk)) all (c.loop-job.invariant.synced told m at)
+
+-- ---- Over every disk
+
+pub returns-clause-does : goal.returns-clause-does
+returns-clause-does g c =
+    let empty : into_iter_items c.loop-job.job-iterator ≡ [] = nothing_left (into_iter_items c.loop-job.job-iterator) (sym c.loop-job.invariant.counted ∙ c.in-None.ensures.steps.0) in
+    let all : c.loop-job.yielded ≡ c.args.jobs.items = sym (append-nil c.loop-job.yielded) ∙ (ap (λ (x : List Job). c.loop-job.yielded ++ x) (sym empty) ∙ c.loop-job.invariant.items) in
+    subst (λ (jobs : List Job). Does (map (λ job. job.conn) jobs) ⊥ (view_of c.args.self.now) (view_of c.loop-job.self) (g.D.Disk.view c.args.disk.now) (g.D.Disk.view c.loop-job.disk)) all c.loop-job.invariant.kept
+
+pub returns-clause-says : goal.returns-clause-says
+returns-clause-says g c whole =
+    let empty : into_iter_items c.loop-job.job-iterator ≡ [] = nothing_left (into_iter_items c.loop-job.job-iterator) (sym c.loop-job.invariant.counted ∙ c.in-None.ensures.steps.0) in
+    let all : c.loop-job.yielded ≡ c.args.jobs.items = sym (append-nil c.loop-job.yielded) ∙ (ap (λ (x : List Job). c.loop-job.yielded ++ x) (sym empty) ∙ c.loop-job.invariant.items) in
+    subst (λ (jobs : List Job). Says (AnyIsOf jobs) (MayFail (view_of c.args.self.now) (g.D.Disk.view c.args.disk.now) (g.D.Disk.view c.loop-job.disk)) c.args.out.now.items c.loop-job.out.items) all (c.loop-job.invariant.says whole)

@@ -1,18 +1,21 @@
 -- A number is drawn; or none is, since they are spent or the number file failed.
-use Rattle.std.proofs.Common.{◌<◌, sym, subst, arith}
+use Rattle.std.proofs.Common.{◌<◌, sym, subst, arith, ◌≡◌, ◌≢◌, ◌⊎◌, inl, inr, ◌∙◌}
 use Rattle.lsv_disk.specs.declared.file.Owner.TheVariants as owners
 use Rattle.lsv_request.specs.declared.refusal.Refusal.{Refusal}
 use Rattle.lsv_seq.specs.Drawn.{IsNumbersFile}
 use Rattle.lsv_seq.specs.Value.{lane_of, last_of}
 use Rattle.lsv_seq.specs.declared.fault.DrawFault.TheVariants as faults
 use Rattle.lsv_seq.proofs.Laws.{numbers_owner}
-use Rattle.lsv_keeper.specs.Accepting.{DrawsNone}
+use Rattle.lsv_keeper.specs.Accepting.{DrawsNone, draw_refusal}
 use Rattle.lsv_keeper.specs.Value.{KeeperView}
 use Rattle.lsv_keeper.specs.Views.{view_of}
 use Rattle.lsv_keeper.proofs.Counting.{owner_rose}
 use Rattle.lsv_keeper.proofs.Drawing.{draw_beside, last_rises, number_drawn}
 use Rattle.lsv_keeper.proofs.Making.{draw_err, draws_none}
 use Rattle.lsv_keeper.proofs.Syncing.{draw_unsynced, drawn_fresh, past_on}
+use Rattle.lsv_keeper.proofs.Causes.{draw_cause, draw_does, own_rose}
+use Rattle.lsv_keeper.specs.Causes.{StoreRose}
+use Rattle.lsv_request.specs.declared.refusal.Refusal.TheVariants.{DeviceFault}
 use Rattle.lsv_keeper.proofs.keeper.Keeper.draw.Goals as goal
 
 pub draw-requires : goal.draw-requires
@@ -72,3 +75,22 @@ returns-in-Err-clause-syncs g c told = draw_unsynced (lane_of c.args.self.now.nu
 
 pub returns-in-Err-clause-past : goal.returns-in-Err-clause-past
 returns-in-Err-clause-past g c = past_on c.args.self.now.numbers c.draw.new.self c.draw.ensures.lane (last_rises c.args.self.now.numbers c.draw.new.self c.in-Err.ensures.kept)
+
+-- ---- Over every disk
+
+pub returns-in-Ok-clause-does : goal.returns-in-Ok-clause-does
+returns-in-Ok-clause-does g c =
+    draw_does _ (view_of c.args.self.now) c.draw.new.self (g.D.Disk.view c.args.disk.now) (g.D.Disk.view c.draw.new.disk) c.draw.ensures.cause.monotone (λ pending. absurd (pending c.in-Ok.ensures.drawn.1)) (λ e. absurd (cc))
+
+pub returns-in-Err-clause-does : goal.returns-in-Err-clause-does
+returns-in-Err-clause-does g c =
+    let old = g.D.Disk.view c.args.disk.now in
+    let new = g.D.Disk.view c.draw.new.disk in
+    let its = c.args.self.now.numbers in
+    let fault = c.in-Err.fault in
+    let why = draw_cause its c.draw.new.self (StoreRose old new) fault
+    (λ is. own_rose (IsNumbersFile (lane_of its)) _ old new (λ file own. inr (inl (lane_of its, numbers_owner (lane_of its) file own))) c.in-Err.ensures.cause (draw_err fault faults.Disk is))
+    (λ m is. (c.in-Err.ensures.spent m (draw_err fault (faults.Spent m) is)).1)
+    (λ kept now is. (c.in-Err.ensures.changed kept now (draw_err fault (faults.Changed kept now) is)).1.failed) in
+    draw_does _ (view_of c.args.self.now) c.draw.new.self old new c.draw.ensures.cause.monotone why.0
+    (λ e. why.1 (sym c.draw_refusal.ensures ∙ (let f : c.draw_refusal.result ≡ DeviceFault = cc in f)))

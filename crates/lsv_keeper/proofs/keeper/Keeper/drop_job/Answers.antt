@@ -1,4 +1,4 @@
-use Rattle.std.proofs.Common.{◌≡◌, ◌∙◌, subst, sym, refl}
+use Rattle.std.proofs.Common.{◌≡◌, ◌∙◌, subst, sym, refl, []}
 use Rattle.std.specs.Prelude.{true}
 use Rattle.lsv_disk.specs.View.{DiskView}
 use Rattle.lsv_session.specs.declared.connection.ConnId.{ConnId}
@@ -13,6 +13,8 @@ use Rattle.lsv_keeper.proofs.Departing.{forget_represents, keeps_forget, keeps_s
 use Rattle.lsv_keeper.proofs.Frames.{Laws}
 use Rattle.lsv_keeper.proofs.Leaving.{forgotten_row, ignored_row}
 use Rattle.lsv_keeper.proofs.Syncing.{noted_else, nothing}
+use Rattle.lsv_keeper.proofs.Causes.{does_none, forgotten_then}
+use Rattle.lsv_keeper.specs.Causes.{Does}
 use Rattle.lsv_keeper.proofs.keeper.Keeper.drop_job.Goals as goal
 use Rattle.lsv_keeper.proofs.keeper.Keeper.drop_job.Goals.{in-Gone, in_default}
 
@@ -57,4 +59,17 @@ returns-clause-syncs g c told m at =
           (w.leave.ensures.syncs told (record m { noting = without_conn c.args.conn m.noting }) (forget_represents v old m c.args.conn w.forget.new.conns.items w.forget.ensures at))))
       | in_default w ↦ subst (λ s. Syncs NoLog v (view_of s) old (g.D.Disk.view c.match-body.disk)) (sym w.self-is)
           (subst (λ d. Syncs NoLog v v old (g.D.Disk.view d)) (sym w.disk-is) (nothing NoLog v v old refl refl))
+    ]
+
+-- ---- Over every disk
+
+pub returns-clause-does : goal.returns-clause-does
+returns-clause-does g c =
+    let old : DiskView = (g.D.Disk.view c.args.disk.now) in
+    let v : KeeperView = (view_of c.args.self.now) in
+    elim c.match-body.branch [
+      | in-Gone w ↦ subst (λ s. Does [] ⊥ v (view_of s) old (g.D.Disk.view c.match-body.disk)) (sym w.self-is)
+          (subst (λ d. Does [] ⊥ v (view_of w.leave.new.self) old (g.D.Disk.view d)) (sym w.disk-is) (forgotten_then c.args.conn w.forget.new.conns.items w.forget.ensures w.leave.ensures.does))
+      | in_default w ↦ subst (λ s. Does [] ⊥ v (view_of s) old (g.D.Disk.view c.match-body.disk)) (sym w.self-is)
+          (subst (λ d. Does [] ⊥ v v old (g.D.Disk.view d)) (sym w.disk-is) (does_none (λ none. none)))
     ]

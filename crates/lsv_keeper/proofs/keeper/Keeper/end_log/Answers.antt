@@ -1,8 +1,8 @@
-use Rattle.std.proofs.Common.{◌≡◌, ◌∙◌, ℕ, None, Some, ap, arith, refl, subst, sym}
-use Rattle.std.specs.Prelude.{Err, true}
+use Rattle.std.proofs.Common.{◌≡◌, ◌∙◌, ℕ, None, Some, ap, arith, refl, subst, sym, inl, inr}
+use Rattle.std.specs.Prelude.{Err, true, Result, false}
 use Rattle.lsv_disk.specs.View.{DiskView, Image, IsCrashImage}
 use Rattle.lsv_info.specs.Layout.{exit_text}
-use Rattle.lsv_iolog.specs.Recovered.{Replays}
+use Rattle.lsv_iolog.specs.Recovered.{Replays, IsOfLog}
 use Rattle.lsv_iolog.specs.Represents.{Represents}
 use Rattle.lsv_iolog.specs.Value.{LogValue, bare, finished, is_complete}
 use Rattle.lsv_iolog.specs.declared.fault.LogFault.{LogFault}
@@ -26,6 +26,9 @@ use Rattle.lsv_keeper.proofs.Frames.{Laws}
 use Rattle.lsv_keeper.proofs.Opens.{one_open}
 use Rattle.lsv_keeper.proofs.Refusing.{written_open}
 use Rattle.lsv_keeper.proofs.Syncing.{ended_once, followed, line_quiet}
+use Rattle.lsv_keeper.proofs.Causes.{at_each, departs_goes, does_none, none_taken, own_rose, quiet_then, refused_is, still, taken_then, finish_cause}
+use Rattle.lsv_keeper.specs.Logs.{open_logs, with_open}
+use Rattle.lsv_keeper.specs.Causes.{LetsGo}
 use Rattle.lsv_keeper.proofs.keeper.Keeper.end_log.Goals as goal
 
 pub returns-in_default-clause-row : goal.returns-in_default-clause-row
@@ -42,6 +45,12 @@ returns-then-is_complete-clause-row g c told_is m job at is state asks =
     absurd (written_open v (g.D.Disk.view c.args.disk.now) m c.args.conn c.args.log at state
     (λ o there. subst (λ (x : OpenLog). is_complete x.log ≡ true) (one_open (log_in v) c.args.log c.in-Some.its o here there) (sym c.is_complete.ensures ∙ c.if-is_complete.true)))
 
+pub returns-then-is_complete-clause-keeps : goal.returns-then-is_complete-clause-keeps
+returns-then-is_complete-clause-keeps g c =
+    let v : KeeperView = view_of c.args.self.now in
+    let v1 : KeeperView = view_of c.release.new.self in
+    departs_keeps (Some c.args.log) c.args.conn Dead v v1 (departs_from v v1 c.take.new.self (Some c.args.log) c.args.conn Dead c.release.ensures.departs) c.release.ensures.room
+
 pub finish-requires-clause-represents : goal.finish-requires-clause-represents
 finish-requires-clause-represents g c told_is whole =
     let (m, at) = c.requires.stands told_is in
@@ -49,9 +58,9 @@ finish-requires-clause-represents g c told_is whole =
 
 pub returns-in-Ok-exit_line-clause-keeps : goal.returns-in-Ok-exit_line-clause-keeps
 returns-in-Ok-exit_line-clause-keeps g c =
-    let v1 : KeeperView = view_of c.release.new.self in
-    let departs : Departs (Some c.args.log) c.args.conn Dead (view_of c.args.self.now) v1 = departs_from (view_of c.args.self.now) v1 c.take.new.self (Some c.args.log) c.args.conn Dead c.release.ensures.departs in
-    keeps_line (view_of c.args.self.now) v1 (view_of c.exit_line.new.self) (departs_keeps (Some c.args.log) c.args.conn Dead (view_of c.args.self.now) v1 departs c.release.ensures.room)
+    let v1 : KeeperView = view_of c.release-in-Ok.new.self in
+    let departs : Departs (Some c.args.log) c.args.conn Dead (view_of c.args.self.now) v1 = departs_from (view_of c.args.self.now) v1 c.take.new.self (Some c.args.log) c.args.conn Dead c.release-in-Ok.ensures.departs in
+    keeps_line (view_of c.args.self.now) v1 (view_of c.exit_line.new.self) (departs_keeps (Some c.args.log) c.args.conn Dead (view_of c.args.self.now) v1 departs c.release-in-Ok.ensures.room)
     (departs_owed (Some c.args.log) c.args.conn Dead (view_of c.args.self.now) v1 departs) c.exit_line.ensures.keeps c.exit_line.ensures.same
 
 pub returns-in-Ok-exit_line-clause-row : goal.returns-in-Ok-exit_line-clause-row
@@ -64,12 +73,12 @@ returns-in-Ok-exit_line-clause-row g c told_is m job at is state asks =
     let its : Job = record { conn = c.args.conn; body = job.body } in
     let same_job : its ≡ job = λ i. record { conn = sym is i; body = job.body } in
     let here : log_in v c.args.log ≡ Some c.in-Some.its = sym c.in-Some.ensures.taken in
-    let v1 : KeeperView = view_of c.release.new.self in
+    let v1 : KeeperView = view_of c.release-in-Ok.new.self in
     let v2 : KeeperView = view_of c.exit_line.new.self in
     let new : DiskView = g.D.Disk.view c.exit_line.new.disk in
     let ends : EndsLog c.in-Some.its.log (exit_text c.args.exit) old mid = record { moments = λ value rep. c.finish.ensures.any_moment told_is value rep; monotone = c.finish.ensures.cause.monotone; room = c.in-Ok.ensures.fits } in
-    let departs : Departs (Some c.args.log) c.args.conn Dead v v1 = departs_from v v1 c.take.new.self (Some c.args.log) c.args.conn Dead c.release.ensures.departs in
-    let closed = closed_ones v v1 c.take.new.self c.args.log c.release.ensures.logs c.take.ensures.rest in
+    let departs : Departs (Some c.args.log) c.args.conn Dead v v1 = departs_from v v1 c.take.new.self (Some c.args.log) c.args.conn Dead c.release-in-Ok.ensures.departs in
+    let closed = closed_ones v v1 c.take.new.self c.args.log c.release-in-Ok.ensures.logs c.take.ensures.rest in
     let all : (image : Image) → IsCrashImage mid image → (value : LogValue) → Represents c.in-Some.its.log value old → Replays image c.in-Some.its.log.number (Some (finished value (exit_text c.args.exit))) =
     (λ image left value rep. subst (λ (n : ℕ). Replays image n (Some (finished value (exit_text c.args.exit)))) c.finish.ensures.counts.number
     (every_image c.finish.new.self (bare (finished value (exit_text c.args.exit))) mid (c.in-Ok.ensures.represents told_is value rep) image left)) in
@@ -80,9 +89,9 @@ returns-in-Ok-exit_line-clause-row g c told_is m job at is state asks =
 
 pub returns-in-Ok-clause-keeps : goal.returns-in-Ok-clause-keeps
 returns-in-Ok-clause-keeps g c =
-    let v1 : KeeperView = view_of c.release.new.self in
-    let departs : Departs (Some c.args.log) c.args.conn Dead (view_of c.args.self.now) v1 = departs_from (view_of c.args.self.now) v1 c.take.new.self (Some c.args.log) c.args.conn Dead c.release.ensures.departs in
-    keeps_line (view_of c.args.self.now) v1 (view_of c.exit_line.new.self) (departs_keeps (Some c.args.log) c.args.conn Dead (view_of c.args.self.now) v1 departs c.release.ensures.room)
+    let v1 : KeeperView = view_of c.release-in-Ok.new.self in
+    let departs : Departs (Some c.args.log) c.args.conn Dead (view_of c.args.self.now) v1 = departs_from (view_of c.args.self.now) v1 c.take.new.self (Some c.args.log) c.args.conn Dead c.release-in-Ok.ensures.departs in
+    keeps_line (view_of c.args.self.now) v1 (view_of c.exit_line.new.self) (departs_keeps (Some c.args.log) c.args.conn Dead (view_of c.args.self.now) v1 departs c.release-in-Ok.ensures.room)
     (departs_owed (Some c.args.log) c.args.conn Dead (view_of c.args.self.now) v1 departs) c.exit_line.ensures.keeps c.exit_line.ensures.same
 
 pub returns-in-Ok-clause-row : goal.returns-in-Ok-clause-row
@@ -95,12 +104,12 @@ returns-in-Ok-clause-row g c told_is m job at is state asks =
     let its : Job = record { conn = c.args.conn; body = job.body } in
     let same_job : its ≡ job = λ i. record { conn = sym is i; body = job.body } in
     let here : log_in v c.args.log ≡ Some c.in-Some.its = sym c.in-Some.ensures.taken in
-    let v1 : KeeperView = view_of c.release.new.self in
+    let v1 : KeeperView = view_of c.release-in-Ok.new.self in
     let v2 : KeeperView = view_of c.exit_line.new.self in
     let new : DiskView = g.D.Disk.view c.exit_line.new.disk in
     let ends : EndsLog c.in-Some.its.log (exit_text c.args.exit) old mid = record { moments = λ value rep. c.finish.ensures.any_moment told_is value rep; monotone = c.finish.ensures.cause.monotone; room = c.in-Ok.ensures.fits } in
-    let departs : Departs (Some c.args.log) c.args.conn Dead v v1 = departs_from v v1 c.take.new.self (Some c.args.log) c.args.conn Dead c.release.ensures.departs in
-    let closed = closed_ones v v1 c.take.new.self c.args.log c.release.ensures.logs c.take.ensures.rest in
+    let departs : Departs (Some c.args.log) c.args.conn Dead v v1 = departs_from v v1 c.take.new.self (Some c.args.log) c.args.conn Dead c.release-in-Ok.ensures.departs in
+    let closed = closed_ones v v1 c.take.new.self c.args.log c.release-in-Ok.ensures.logs c.take.ensures.rest in
     let all : (image : Image) → IsCrashImage mid image → (value : LogValue) → Represents c.in-Some.its.log value old → Replays image c.in-Some.its.log.number (Some (finished value (exit_text c.args.exit))) =
     (λ image left value rep. subst (λ (n : ℕ). Replays image n (Some (finished value (exit_text c.args.exit)))) c.finish.ensures.counts.number
     (every_image c.finish.new.self (bare (finished value (exit_text c.args.exit))) mid (c.in-Ok.ensures.represents told_is value rep) image left)) in
@@ -150,6 +159,14 @@ pub returns : goal.returns
 returns g c = record {
   keeps = keeps_from (view_of c.args.self.now) (view_of c.let_go.new.self) c.take.new.self c.let_go.ensures.keeps;
   told = tt;
+  does = λ is.
+      let un = c.in-Err.ensures.unchanged c.in_default-fault.not-Disk in
+      taken_then c.args.log c.take.new.self
+      (λ all e. absurd (finish_cause c.in-Err.fault c.in_default-fault.not-Disk
+      (λ broken. let q : true ≡ false = sym (c.finish.ensures.broken.0 (c.in-Err.is ∙ ap (λ (f : LogFault). Err f) broken)) ∙ all c.args.log c.in-Some.its (sym c.in-Some.ensures.taken) in cc)
+      c.in-Err.ensures.fault (sym c.log_refusal.ensures ∙ refused_is c.log_refusal.result e)))
+      (at_each (open_logs c.take.new.self) (with_open c.args.log None (open_logs c.args.self.now.logs)) c.take.ensures.rest)
+      (subst (λ d. LetsGo c.args.log (record (view_of c.args.self.now) { logs = c.take.new.self }) (view_of c.let_go.new.self) (g.D.Disk.view d) (g.D.Disk.view c.let_go.new.disk)) un.1 (c.let_go.ensures.does is));
   syncs = λ told_is m at state.
       let v : KeeperView = view_of c.args.self.now in
       let here : log_in v c.args.log ≡ Some c.in-Some.its = sym c.in-Some.ensures.taken in
@@ -193,22 +210,22 @@ returns-then-is_complete-clause-syncs g c told_is m at state =
 pub returns-in-Ok-exit_line-clause-syncs : goal.returns-in-Ok-exit_line-clause-syncs
 returns-in-Ok-exit_line-clause-syncs g c told_is m at state =
     let v : KeeperView = view_of c.args.self.now in
-    let v1 : KeeperView = view_of c.release.new.self in
+    let v1 : KeeperView = view_of c.release-in-Ok.new.self in
     let old : DiskView = g.D.Disk.view c.args.disk.now in
     let mid : DiskView = g.D.Disk.view c.finish.new.disk in
     let here : log_in v c.args.log ≡ Some c.in-Some.its = sym c.in-Some.ensures.taken in
-    let departs : Departs (Some c.args.log) c.args.conn Dead v v1 = departs_from v v1 c.take.new.self (Some c.args.log) c.args.conn Dead c.release.ensures.departs in
+    let departs : Departs (Some c.args.log) c.args.conn Dead v v1 = departs_from v v1 c.take.new.self (Some c.args.log) c.args.conn Dead c.release-in-Ok.ensures.departs in
     let ended = ended_once c.args.log c.in-Some.its v v1 old mid m c.args.conn Dead at state here departs (c.finish.ensures.calls told_is) in
     followed NoLog v v1 (view_of c.exit_line.new.self) old mid (g.D.Disk.view c.exit_line.new.disk) ended (line_quiet NoLog v1 (view_of c.exit_line.new.self) mid (g.D.Disk.view c.exit_line.new.disk) c.exit_line.ensures.same (c.exit_line.ensures.syncs told_is))
 
 pub returns-in-Ok-clause-syncs : goal.returns-in-Ok-clause-syncs
 returns-in-Ok-clause-syncs g c told_is m at state =
     let v : KeeperView = view_of c.args.self.now in
-    let v1 : KeeperView = view_of c.release.new.self in
+    let v1 : KeeperView = view_of c.release-in-Ok.new.self in
     let old : DiskView = g.D.Disk.view c.args.disk.now in
     let mid : DiskView = g.D.Disk.view c.finish.new.disk in
     let here : log_in v c.args.log ≡ Some c.in-Some.its = sym c.in-Some.ensures.taken in
-    let departs : Departs (Some c.args.log) c.args.conn Dead v v1 = departs_from v v1 c.take.new.self (Some c.args.log) c.args.conn Dead c.release.ensures.departs in
+    let departs : Departs (Some c.args.log) c.args.conn Dead v v1 = departs_from v v1 c.take.new.self (Some c.args.log) c.args.conn Dead c.release-in-Ok.ensures.departs in
     let ended = ended_once c.args.log c.in-Some.its v v1 old mid m c.args.conn Dead at state here departs (c.finish.ensures.calls told_is) in
     followed NoLog v v1 (view_of c.exit_line.new.self) old mid (g.D.Disk.view c.exit_line.new.disk) ended (line_quiet NoLog v1 (view_of c.exit_line.new.self) mid (g.D.Disk.view c.exit_line.new.disk) c.exit_line.ensures.same (c.exit_line.ensures.syncs told_is))
 
@@ -222,3 +239,36 @@ returns-in-Disk-clause-syncs g c told_is m at state =
     let departs : Departs (Some c.args.log) c.args.conn Dead v v1 = departs_from v v1 c.take.new.self (Some c.args.log) c.args.conn Dead c.release-in-Disk.ensures.departs in
     let ended = ended_once c.args.log c.in-Some.its v v1 old mid m c.args.conn Dead at state here departs (c.finish.ensures.calls told_is) in
     ended
+
+-- ---- Over every disk
+
+abbrev err : {T : Type 0} → Refusal → Result T Refusal
+err why = Err why
+
+pub returns-in_default-clause-does : goal.returns-in_default-clause-does
+returns-in_default-clause-does g c is = none_taken c.args.log c.take.new.self (sym c.take.ensures.taken ∙ c.in_default.is) c.take.ensures.rest (does_none (λ e. cc))
+
+pub returns-then-is_complete-clause-does : goal.returns-then-is_complete-clause-does
+returns-then-is_complete-clause-does g c is =
+    taken_then c.args.log c.take.new.self (λ all e. absurd (cc)) (at_each (open_logs c.take.new.self) (with_open c.args.log None (open_logs c.args.self.now.logs)) c.take.ensures.rest)
+    (departs_goes c.args.log c.args.conn Dead (record (view_of c.args.self.now) { logs = c.take.new.self }) (view_of c.release.new.self) (g.D.Disk.view c.args.disk.now) (g.D.Disk.view c.args.disk.now) refl c.release.ensures.departs c.release.ensures.logs (λ linked. linked c.args.conn c.args.log is) (still (g.D.Disk.view c.args.disk.now)))
+
+pub returns-in-Ok-exit_line-clause-does : goal.returns-in-Ok-exit_line-clause-does
+returns-in-Ok-exit_line-clause-does g c is =
+    quiet_then (λ e. absurd (cc))
+    (taken_then c.args.log c.take.new.self (λ all none. absurd none) (at_each (open_logs c.take.new.self) (with_open c.args.log None (open_logs c.args.self.now.logs)) c.take.ensures.rest)
+    (departs_goes c.args.log c.args.conn Dead (record (view_of c.args.self.now) { logs = c.take.new.self }) (view_of c.release-in-Ok.new.self) (g.D.Disk.view c.args.disk.now) (g.D.Disk.view c.finish.new.disk) refl c.release-in-Ok.ensures.departs c.release-in-Ok.ensures.logs (λ linked. linked c.args.conn c.args.log is) c.finish.ensures.cause.monotone))
+    c.in-Ok-exit_line.ensures.does
+
+pub returns-in-Ok-clause-does : goal.returns-in-Ok-clause-does
+returns-in-Ok-clause-does g c is =
+    quiet_then (λ e. ap (λ (w : Refusal). err w) (refused_is c.in-Err-exit_line.why e))
+    (taken_then c.args.log c.take.new.self (λ all none. absurd none) (at_each (open_logs c.take.new.self) (with_open c.args.log None (open_logs c.args.self.now.logs)) c.take.ensures.rest)
+    (departs_goes c.args.log c.args.conn Dead (record (view_of c.args.self.now) { logs = c.take.new.self }) (view_of c.release-in-Ok.new.self) (g.D.Disk.view c.args.disk.now) (g.D.Disk.view c.finish.new.disk) refl c.release-in-Ok.ensures.departs c.release-in-Ok.ensures.logs (λ linked. linked c.args.conn c.args.log is) c.finish.ensures.cause.monotone))
+    c.in-Err-exit_line.ensures.does
+
+pub returns-in-Disk-clause-does : goal.returns-in-Disk-clause-does
+returns-in-Disk-clause-does g c is =
+    let failed : c.finish.result ≡ Err faults.Disk = c.in-Err.is ∙ ap (λ (f : LogFault). Err f) c.in-Disk.is in
+    taken_then c.args.log c.take.new.self (λ all e. inr (own_rose (IsOfLog c.in-Some.its.log.number) _ (g.D.Disk.view c.args.disk.now) (g.D.Disk.view c.finish.new.disk) (λ file own. inl (c.in-Some.its.log.number, own)) c.finish.ensures.cause failed)) (at_each (open_logs c.take.new.self) (with_open c.args.log None (open_logs c.args.self.now.logs)) c.take.ensures.rest)
+    (departs_goes c.args.log c.args.conn Dead (record (view_of c.args.self.now) { logs = c.take.new.self }) (view_of c.release-in-Disk.new.self) (g.D.Disk.view c.args.disk.now) (g.D.Disk.view c.finish.new.disk) refl c.release-in-Disk.ensures.departs c.release-in-Disk.ensures.logs (λ linked. linked c.args.conn c.args.log is) c.finish.ensures.cause.monotone)

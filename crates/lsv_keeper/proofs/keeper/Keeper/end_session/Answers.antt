@@ -1,5 +1,5 @@
-use Rattle.std.proofs.Common.{◌≡◌, arith, refl, subst, sym}
-use Rattle.std.specs.Prelude.{false}
+use Rattle.std.proofs.Common.{◌≡◌, arith, refl, subst, sym, ap}
+use Rattle.std.specs.Prelude.{false, Result, Err}
 use Rattle.lsv_disk.specs.View.{DiskView}
 use Rattle.lsv_request.specs.declared.request.Request.TheVariants as request
 use Rattle.lsv_session.specs.declared.connection.ConnState.TheVariants.{Dead}
@@ -15,6 +15,8 @@ use Rattle.lsv_keeper.proofs.ExitEnds.{keeps_line, session_refused, session_stan
 use Rattle.lsv_keeper.proofs.Frames.{Laws}
 use Rattle.lsv_keeper.proofs.Requests.{asks_alive}
 use Rattle.lsv_keeper.proofs.Syncing.{followed, line_quiet}
+use Rattle.lsv_keeper.proofs.Causes.{quiet_then, refused_is}
+use Rattle.lsv_request.specs.declared.refusal.Refusal.{Refusal}
 use Rattle.lsv_keeper.proofs.keeper.Keeper.end_session.Goals as goal
 
 pub leave-requires : goal.leave-requires
@@ -77,3 +79,14 @@ pub returns-in-Err-clause-syncs : goal.returns-in-Err-clause-syncs
 returns-in-Err-clause-syncs g c told m at =
     followed NoLog (view_of c.args.self.now) (view_of c.leave.new.self) (view_of c.exit_line.new.self) (g.D.Disk.view c.args.disk.now) (g.D.Disk.view c.leave.new.disk) (g.D.Disk.view c.exit_line.new.disk)
     (c.leave.ensures.syncs told m at) (line_quiet NoLog (view_of c.leave.new.self) (view_of c.exit_line.new.self) (g.D.Disk.view c.leave.new.disk) (g.D.Disk.view c.exit_line.new.disk) c.exit_line.ensures.same (c.exit_line.ensures.syncs told))
+
+-- ---- Over every disk
+
+abbrev err : {T : Type 0} → Refusal → Result T Refusal
+err why = Err why
+
+pub returns-in-Ok-clause-does : goal.returns-in-Ok-clause-does
+returns-in-Ok-clause-does g c = quiet_then (λ e. absurd (cc)) c.leave.ensures.does c.in-Ok.ensures.does
+
+pub returns-in-Err-clause-does : goal.returns-in-Err-clause-does
+returns-in-Err-clause-does g c = quiet_then (λ e. ap (λ (w : Refusal). err w) (refused_is c.in-Err.why e)) c.leave.ensures.does c.in-Err.ensures.does

@@ -29,3 +29,8 @@ returns-in-None-clause-row g c told m job at is asks =
 
 pub returns-in-Some-clause-syncs : goal.returns-in-Some-clause-syncs
 returns-in-Some-clause-syncs g c told m at = c.end_log.ensures.syncs told m at (ap log_of (at.states c.args.conn ∙ sym c.requires.state) ∙ sym c.log_of.ensures ∙ c.in-Some.is)
+
+-- ---- Over every disk
+
+pub returns-in-Some-clause-does : goal.returns-in-Some-clause-does
+returns-in-Some-clause-does g c = c.end_log.ensures.does (ap log_of (sym c.requires.state) ∙ sym c.log_of.ensures ∙ c.in-Some.is)

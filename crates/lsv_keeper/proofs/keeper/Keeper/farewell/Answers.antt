@@ -12,6 +12,7 @@ use Rattle.lsv_keeper.proofs.Departing.{forget_represents, keeps_forget, room_fr
 use Rattle.lsv_keeper.proofs.Frames.{Laws}
 use Rattle.lsv_keeper.proofs.Leaving.{farewell_row}
 use Rattle.lsv_keeper.proofs.Syncing.{noted_else}
+use Rattle.lsv_keeper.proofs.Causes.{forgotten_then}
 use Rattle.lsv_keeper.proofs.keeper.Keeper.farewell.Goals as goal
 
 pub leave-requires : goal.leave-requires
@@ -45,3 +46,8 @@ returns-clause-syncs g c told m at =
     let old : DiskView = g.D.Disk.view c.args.disk.now in
     noted_else NoLog v (view_of c.leave.new.self) c.forget.new.conns.items old (g.D.Disk.view c.leave.new.disk)
     (c.leave.ensures.syncs told (record m { noting = without_conn c.args.conn m.noting }) (forget_represents v old m c.args.conn c.forget.new.conns.items c.forget.ensures at))
+
+-- ---- Over every disk
+
+pub returns-clause-does : goal.returns-clause-does
+returns-clause-does g c = forgotten_then c.args.conn c.forget.new.conns.items c.forget.ensures c.leave.ensures.does

@@ -1,4 +1,4 @@
-use Rattle.std.proofs.Common.{◌≡◌, List, [], sym, ◌∙◌, ap, subst, Err, refl}
+use Rattle.std.proofs.Common.{◌≡◌, List, [], sym, ◌∙◌, ap, subst, Err, refl, inl, inr}
 use Rattle.lsv_bundle.specs.declared.fault.BundleFault.TheVariants as faults
 use Rattle.lsv_eventlog.specs.Value.{EventLogView}
 use Rattle.lsv_session.specs.declared.connection.ConnId.{ConnId}
@@ -11,6 +11,12 @@ use Rattle.lsv_keeper.specs.Syncing.{NoLog}
 use Rattle.lsv_keeper.proofs.FlushEnds.{flush_lost, flush_written, unbroken}
 use Rattle.lsv_keeper.proofs.TailLines.{EventsFailed, lines_none, lines_refused}
 use Rattle.lsv_keeper.proofs.Syncing.{events_else, followed, lines_flushed, quiet}
+use Rattle.lsv_keeper.proofs.Causes.{flushed_does, does_then, own_rose, rose_first}
+use Rattle.lsv_keeper.proofs.Saying.{says_none, says_as}
+use Rattle.std.specs.Prelude.{true, false}
+use Rattle.lsv_keeper.specs.Causes.{IsAmong, StoreRose}
+use Rattle.lsv_eventlog.specs.Recovered.{IsOfEventLog}
+use Rattle.lsv_eventlog.proofs.Laws.{of_lane}
 use Rattle.lsv_keeper.proofs.keeper.Keeper.flush_lines.Goals as goal
 
 pub returns-in_default-clause-lines : goal.returns-in_default-clause-lines
@@ -58,6 +64,18 @@ returns-in_default-fault g c = record {
   fewer = c.lose_lines.ensures.fewer;
   places = c.lose_lines.ensures.places;
   room = c.lose_lines.ensures.room;
+  does =
+      let old = g.D.Disk.view c.args.disk.now in
+      let mid = g.D.Disk.view c.flush.new.disk in
+      let disk_it : c.in-Err.fault ≡ faults.Disk = elim c.in-Err.ensures.fault [ inl is ↦ is | inr is ↦ absurd (c.in_default-fault.not-Broken is) ] in
+      let rose : StoreRose old mid = own_rose (IsOfEventLog c.args.self.now.events.lane) _ old mid (λ file own. inr (inr (c.args.self.now.events.lane, of_lane c.args.self.now.events.lane file own))) c.flush.ensures.cause (c.in-Err.is ∙ ap Err disk_it) in
+      does_then (λ none. absurd none) (flushed_does (view_of c.args.self.now) c.flush.new.self [] old mid c.flush.ensures.cause.monotone (λ broken. inr rose) refl) c.lose_lines.ensures.does;
+  says = λ p s.
+      let old = g.D.Disk.view c.args.disk.now in
+      let mid = g.D.Disk.view c.flush.new.disk in
+      let disk_it : c.in-Err.fault ≡ faults.Disk = elim c.in-Err.ensures.fault [ inl is ↦ is | inr is ↦ absurd (c.in_default-fault.not-Broken is) ] in
+      let rose : StoreRose old mid = own_rose (IsOfEventLog c.args.self.now.events.lane) _ old mid (λ file own. inr (inr (c.args.self.now.events.lane, of_lane c.args.self.now.events.lane file own))) c.flush.ensures.cause (c.in-Err.is ∙ ap Err disk_it) in
+      says_as (IsAmong p) (IsAmong p) (Unit {0}) (StoreRose old (g.D.Disk.view c.lose_lines.new.disk)) c.args.out.now.items c.lose_lines.new.out.items (λ k is. is) (λ t. rose_first old mid (g.D.Disk.view c.lose_lines.new.disk) rose c.lose_lines.ensures.does.monotone) (c.lose_lines.ensures.says p s.notes);
   syncs = λ told m at.
       let v = view_of c.args.self.now in
       let old = g.D.Disk.view c.args.disk.now in
@@ -87,3 +105,18 @@ pub returns-in-Broken-clause-syncs : goal.returns-in-Broken-clause-syncs
 returns-in-Broken-clause-syncs g c told m at =
     quiet NoLog (view_of c.args.self.now) _ (g.D.Disk.view c.args.disk.now) (g.D.Disk.view c.flush.new.disk) refl (λ n. refl)
     (lines_flushed (view_of c.args.self.now).events.lane (view_of c.args.self.now).events.bundle (g.D.Disk.view c.args.disk.now) (g.D.Disk.view c.flush.new.disk) at.events.sound.owner (c.flush.ensures.calls told))
+
+-- ---- Over every disk
+
+pub returns-in_default-clause-does : goal.returns-in_default-clause-does
+returns-in_default-clause-does g c = flushed_does (view_of c.args.self.now) c.flush.new.self c.clear.new.self.items (g.D.Disk.view c.args.disk.now) (g.D.Disk.view c.flush.new.disk) c.in_default.ensures.cause.monotone (λ broken. let q : true ≡ false = sym broken ∙ c.in_default.ensures.whole in absurd (cc)) c.clear.ensures.items
+
+pub returns-in_default-clause-says : goal.returns-in_default-clause-says
+returns-in_default-clause-says g c p s = says_none (IsAmong p) _ c.args.out.now.items
+
+pub returns-in-Broken-clause-does : goal.returns-in-Broken-clause-does
+returns-in-Broken-clause-does g c =
+    flushed_does (view_of c.args.self.now) c.flush.new.self c.clear-in-Broken.new.self.items (g.D.Disk.view c.args.disk.now) (g.D.Disk.view c.flush.new.disk) c.flush.ensures.cause.monotone (λ broken. inl (c.flush.ensures.broken.0 (c.in-Err.is ∙ ap Err c.in-Broken.is))) c.clear-in-Broken.ensures.items
+
+pub returns-in-Broken-clause-says : goal.returns-in-Broken-clause-says
+returns-in-Broken-clause-says g c p s = says_none (IsAmong p) _ c.args.out.now.items

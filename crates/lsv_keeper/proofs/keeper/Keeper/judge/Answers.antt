@@ -13,6 +13,8 @@ use Rattle.lsv_keeper.specs.Syncs.{IsRestartOf, Restarts}
 use Rattle.lsv_keeper.proofs.Judging.{judged_fair, message_refused}
 use Rattle.lsv_keeper.proofs.Requests.{restart_named}
 use Rattle.lsv_keeper.proofs.Syncing.{of_none, wider}
+use Rattle.lsv_keeper.proofs.Causes.{quiet_told, refused_is}
+use Rattle.lsv_machine.proofs.Shapes.{Innocent, judged_innocent}
 use Rattle.lsv_keeper.proofs.keeper.Keeper.judge.Goals as goal
 
 pub returns-in-Err-clause-row : goal.returns-in-Err-clause-row
@@ -34,3 +36,9 @@ returns-in-Ok-clause-syncs g c told m at =
 
 pub returns-in-Err-clause-syncs : goal.returns-in-Err-clause-syncs
 returns-in-Err-clause-syncs g c told m at = of_none (Restarts (bodies.Msg c.args.message)) (view_of c.args.self.now) (view_of c.refuse.new.self) (g.D.Disk.view c.args.disk.now) (g.D.Disk.view c.refuse.new.disk) (c.refuse.ensures.syncs told m at)
+
+-- ---- Over every disk
+
+pub returns-in-Err-clause-does : goal.returns-in-Err-clause-does
+returns-in-Err-clause-does g c =
+    quiet_told (λ e. subst Innocent (sym c.in-Err.ensures) (judged_innocent c.copied.result c.args.message) (refused_is c.in-Err.why (sym c.refuse.ensures.told ∙ e))) c.refuse.ensures.does

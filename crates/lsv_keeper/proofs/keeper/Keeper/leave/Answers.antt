@@ -1,4 +1,4 @@
-use Rattle.std.proofs.Common.{◌≡◌, ◌∙◌, Some, ap, refl, sym}
+use Rattle.std.proofs.Common.{◌≡◌, ◌∙◌, Some, ap, refl, sym, None}
 use Rattle.lsv_disk.specs.View.{DiskView}
 use Rattle.lsv_machine.specs.Machine.{log_of}
 use Rattle.lsv_keeper.specs.Views.{view_of}
@@ -6,6 +6,8 @@ use Rattle.lsv_keeper.specs.Syncing.{NoLog}
 use Rattle.lsv_keeper.proofs.Departing.{departs_fewer, departs_keeps, departs_owed, left_none, not_closed, set_departs, set_states, took_out}
 use Rattle.lsv_keeper.proofs.Frames.{Laws}
 use Rattle.lsv_keeper.proofs.Syncing.{stays_out}
+use Rattle.lsv_keeper.proofs.Causes.{at_each, departs_goes, does_set, still, taken_then}
+use Rattle.lsv_keeper.specs.Logs.{open_logs, with_open}
 use Rattle.lsv_keeper.proofs.keeper.Keeper.leave.Goals as goal
 
 pub let_go-requires-clause-taken_out : goal.let_go-requires-clause-taken_out
@@ -72,3 +74,22 @@ returns-in-None-clause-syncs g c told m at =
     stays_out NoLog (view_of c.args.self.now) _ c.args.conn c.args.state (g.D.Disk.view c.args.disk.now)
     (set_departs c.set.result (view_of c.args.self.now) _ c.args.conn c.args.state (record { lane = refl; lanes = refl; log_exit = refl; kind = refl; texts = refl; numbers = refl; events = refl; noting = refl }) refl
     c.set.ensures.ok c.set.ensures.room c.requires.room)
+
+-- ---- Over every disk
+
+pub returns-in-Some-take-clause-does : goal.returns-in-Some-take-clause-does
+returns-in-Some-take-clause-does g c =
+    taken_then c.in-Some.log c.take.new.self (λ all none. absurd none) (at_each (open_logs c.take.new.self) (with_open c.in-Some.log None (open_logs c.args.self.now.logs)) c.take.ensures.rest) (c.let_go.ensures.does (ap log_of (sym c.state.ensures) ∙ sym c.log_of.ensures ∙ c.in-Some.is))
+
+pub returns-in-None-take-clause-does : goal.returns-in-None-take-clause-does
+returns-in-None-take-clause-does g c =
+    taken_then c.in-Some.log c.take.new.self (λ all none. absurd none) (at_each (open_logs c.take.new.self) (with_open c.in-Some.log None (open_logs c.args.self.now.logs)) c.take.ensures.rest)
+    (departs_goes c.in-Some.log c.args.conn c.args.state _ (view_of c.release.new.self) (g.D.Disk.view c.args.disk.now) (g.D.Disk.view c.args.disk.now) c.requires.writes_none c.release.ensures.departs c.release.ensures.logs
+    (λ linked. linked c.args.conn c.in-Some.log (ap log_of (sym c.state.ensures) ∙ sym c.log_of.ensures ∙ c.in-Some.is)) (still (g.D.Disk.view c.args.disk.now)))
+
+pub returns-in-None-clause-does : goal.returns-in-None-clause-does
+returns-in-None-clause-does g c =
+    does_set c.args.conn c.args.state c.requires.writes_none
+    (set_departs c.set.result (view_of c.args.self.now) _ c.args.conn c.args.state (record { lane = refl; lanes = refl; log_exit = refl; kind = refl; texts = refl; numbers = refl; events = refl; noting = refl }) refl
+    c.set.ensures.ok c.set.ensures.room c.requires.room)
+    refl (still (g.D.Disk.view c.args.disk.now))

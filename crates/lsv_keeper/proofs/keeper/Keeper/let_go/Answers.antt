@@ -5,6 +5,7 @@ use Rattle.lsv_keeper.specs.Views.{view_of}
 use Rattle.lsv_keeper.proofs.Departing.{departs_fewer, departs_keeps, departs_owed, ends_flush, out_left, out_value}
 use Rattle.lsv_keeper.proofs.Frames.{Laws}
 use Rattle.lsv_keeper.proofs.Syncing.{let_go_once}
+use Rattle.lsv_keeper.proofs.Causes.{departs_goes}
 use Rattle.lsv_keeper.proofs.keeper.Keeper.let_go.Goals as goal
 
 pub flush-requires : goal.flush-requires
@@ -43,3 +44,10 @@ pub returns-clause-syncs : goal.returns-clause-syncs
 returns-clause-syncs g c told before m out at is =
     let_go_once c.args.log c.args.its before (view_of c.args.self.now) (view_of c.release.new.self) (g.D.Disk.view c.args.disk.now) (g.D.Disk.view c.flush.new.disk) m c.args.conn c.args.state at is out
     c.release.ensures.departs (c.flush.ensures.calls told)
+
+-- ---- Over every disk
+
+pub returns-clause-does : goal.returns-clause-does
+returns-clause-does g c is =
+    departs_goes c.args.log c.args.conn c.args.state (view_of c.args.self.now) (view_of c.release.new.self) (g.D.Disk.view c.args.disk.now) (g.D.Disk.view c.flush.new.disk) c.requires.writes_none c.release.ensures.departs c.release.ensures.logs
+    (λ linked. linked c.args.conn c.args.log is) c.flush.ensures.cause.monotone

@@ -1,11 +1,13 @@
 -- A log that refused a record is there to be taken.
-use Rattle.std.proofs.Common.{◌∙◌, arith, refl}
+use Rattle.std.proofs.Common.{◌∙◌, arith, refl, None, sym}
 use Rattle.lsv_session.specs.declared.connection.ConnState.TheVariants.{Dead}
 use Rattle.lsv_keeper.specs.Value.{sessions_of}
 use Rattle.lsv_keeper.specs.Views.{view_of}
 use Rattle.lsv_keeper.proofs.Departing.{room_one}
 use Rattle.lsv_keeper.proofs.ExitEnds.{keeps_from}
 use Rattle.lsv_keeper.proofs.Refusing.{keeps_same, moved_out, moved_there}
+use Rattle.lsv_keeper.proofs.Causes.{at_each, does_none, none_of, none_taken, taken_then}
+use Rattle.lsv_keeper.specs.Logs.{open_logs, with_open}
 use Rattle.lsv_keeper.proofs.keeper.Keeper.let_refused.Goals as goal
 
 pub let_go-requires : goal.let_go-requires
@@ -38,3 +40,11 @@ returns-in_default-clause-syncs g c told before left m moved at state =
 pub returns-clause-syncs : goal.returns-clause-syncs
 returns-clause-syncs g c told before left m moved at state =
     c.let_go.ensures.syncs told before m (moved_out before (view_of c.args.self.now) c.take.new.self c.args.log left c.in-Some.its moved c.in-Some.ensures.taken c.take.ensures.rest) at state
+
+-- ---- Over every disk
+
+pub returns-in_default-clause-does : goal.returns-in_default-clause-does
+returns-in_default-clause-does g c is = none_taken c.args.log c.take.new.self (sym c.take.ensures.taken ∙ none_of c.take.result c.in_default.not-Some) c.take.ensures.rest (does_none (λ none. none))
+
+pub returns-clause-does : goal.returns-clause-does
+returns-clause-does g c is = taken_then c.args.log c.take.new.self (λ all none. absurd none) (at_each (open_logs c.take.new.self) (with_open c.args.log None (open_logs c.args.self.now.logs)) c.take.ensures.rest) (c.let_go.ensures.does is)

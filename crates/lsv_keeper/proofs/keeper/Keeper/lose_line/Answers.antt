@@ -5,6 +5,10 @@ use Rattle.lsv_session.specs.declared.connection.ConnState.TheVariants.{Fresh, G
 use Rattle.lsv_machine.specs.Machine.{is_dead}
 use Rattle.lsv_keeper.specs.Views.{view_of}
 use Rattle.lsv_keeper.proofs.TailRefusals.{refuses_no_more, refuses_one}
+use Rattle.lsv_keeper.proofs.Causes.{does_none}
+use Rattle.lsv_keeper.proofs.Saying.{says_as, says_none, says_told}
+use Rattle.lsv_request.specs.declared.refusal.Refusal.TheVariants.{DeviceFault}
+use Rattle.lsv_keeper.specs.declared.told.Told.TheVariants as told
 use Rattle.lsv_keeper.proofs.keeper.Keeper.lose_line.Goals as goal
 
 living : (s : ConnState) → (s ≡ Dead → ⊥) → is_dead s ≡ false
@@ -29,3 +33,19 @@ pub returns-clause-refused : goal.returns-clause-refused
 returns-clause-refused g c = λ told m at. refuses_one c.args.conn (view_of c.args.self.now) (view_of c.leave.new.self) m (g.D.Disk.view c.args.disk.now) (g.D.Disk.view c.leave.new.disk) c.args.out.now.items c.put_replies.new.out.items c.put_replies.ensures.told.0
     (record { reads_itself = g.met.D.Disk.reads_itself told c.args.disk.now; is_now = g.met.D.Disk.is_now told c.args.disk.now; only_now = g.met.D.Disk.only_now told c.args.disk.now }) at
     (living (m.states c.args.conn) (λ e. c.in_default.not-Dead (c.state.ensures ∙ sym (at.states c.args.conn) ∙ e))) (c.leave.ensures.left told m at) c.put_replies.ensures.told.1 c.put_replies.ensures.told.2
+
+-- ---- Over every disk
+
+pub returns-in-Dead-clause-does : goal.returns-in-Dead-clause-does
+returns-in-Dead-clause-does g c = does_none (λ none. none)
+
+pub returns-in-Dead-clause-says : goal.returns-in-Dead-clause-says
+returns-in-Dead-clause-says g c = says_none _ _ c.args.out.now.items
+
+pub returns-clause-does : goal.returns-clause-does
+returns-clause-does g c = c.leave.ensures.does
+
+pub returns-clause-says : goal.returns-clause-says
+returns-clause-says g c =
+    let t = c.put_replies.ensures.told in
+    says_as (λ j. j ≡ c.args.conn) (λ j. j ≡ c.args.conn) _ (Unit {0}) c.args.out.now.items c.put_replies.new.out.items (λ j is. is) (λ e. tt) (says_told c.args.conn (told.Refused DeviceFault) t.0 c.args.out.now.items c.put_replies.new.out.items t.1 t.2)

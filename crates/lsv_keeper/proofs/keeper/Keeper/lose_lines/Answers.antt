@@ -1,4 +1,4 @@
-use Rattle.std.proofs.Common.{◌≡◌, List, length, sym, ◌∙◌, ap, arith, refl}
+use Rattle.std.proofs.Common.{◌≡◌, List, length, sym, ◌∙◌, ap, arith, refl, [], subst}
 use Rattle.std.proofs.lemmas.List.{get_or_default}
 use Rattle.std.specs.Global.{Vec}
 use Rattle.lsv_session.specs.declared.connection.ConnId.{ConnId}
@@ -7,6 +7,11 @@ use Rattle.lsv_keeper.specs.Views.{view_of}
 use Rattle.lsv_keeper.specs.Syncing.{NoLog}
 use Rattle.lsv_keeper.proofs.TailRefusals.{refusing_ends, refusing_on, refusing_start}
 use Rattle.lsv_keeper.proofs.Syncing.{followed, nothing}
+use Rattle.lsv_keeper.proofs.Causes.{all_at, does_none, does_then}
+use Rattle.lsv_keeper.proofs.Saying.{says_as, says_none, says_then}
+use Rattle.lsv_keeper.specs.Causes.{Does, IsAmong}
+use Rattle.std.specs.List.{AllByRecursion}
+use Rattle.lsv_keeper.specs.Value.{KeeperView, un_noted}
 use Rattle.lsv_keeper.proofs.keeper.Keeper.lose_lines.Goals as goal
 
 pub loop-conn-init : goal.loop-conn-init
@@ -15,6 +20,9 @@ loop-conn-init g c = record {
       (λ told. record { reads_itself = g.met.D.Disk.reads_itself told c.args.disk.now; is_now = g.met.D.Disk.is_now told c.args.disk.now; only_now = g.met.D.Disk.only_now told c.args.disk.now })
       (ap (λ (w : List ConnId). record (view_of c.args.self.now) { noting = w }) (ap (λ (x : Vec ConnId). x.items) c.replace-noting.ensures.after ∙ c.new.ensures.items));
   synced = λ told m at. nothing NoLog (view_of c.args.self.now) _ (g.D.Disk.view c.args.disk.now) refl refl;
+  kept = subst (λ (x : KeeperView). Does [] ⊥ (un_noted (view_of c.args.self.now)) x (g.D.Disk.view c.args.disk.now) (g.D.Disk.view c.args.disk.now))
+      (sym (ap (λ (w : List ConnId). record (view_of c.args.self.now) { noting = w }) (ap (λ (x : Vec ConnId). x.items) c.replace-noting.ensures.after ∙ c.new.ensures.items))) (does_none (λ none. none));
+  says = λ p all. says_none (IsAmong p) (Unit {0}) c.args.out.now.items;
 }
 
 pub lose_line-requires-clause-stands : goal.lose_line-requires-clause-stands
@@ -41,6 +49,10 @@ loop-conn-preserved g c = record {
       let d = c.loop-conn.invariant.refusing.gives told m at in
       followed NoLog (view_of c.args.self.now) (view_of c.loop-conn.self) (view_of c.lose_line.new.self) (g.D.Disk.view c.args.disk.now) (g.D.Disk.view c.loop-conn.disk) (g.D.Disk.view c.lose_line.new.disk)
       (c.loop-conn.invariant.synced told m at) (c.lose_line.ensures.syncs told d.after d.represents);
+  kept = does_then (λ none. absurd none) c.loop-conn.invariant.kept c.lose_line.ensures.does;
+  says = λ p all.
+      says_then (IsAmong p) (Unit {0}) c.args.out.now.items c.loop-conn.out.items c.lose_line.new.out.items (c.loop-conn.invariant.says p all)
+      (says_as (λ j. j ≡ _) (IsAmong p) (Unit {0}) (Unit {0}) c.loop-conn.out.items c.lose_line.new.out.items (λ j is. subst (IsAmong p) (sym is) (all_at (IsAmong p) c.deref-conn-items.result.now c.loop-conn.conn-index _ c.loop-conn-test.true (get_or_default _ _ _ _ c.loop-conn-test.true) all)) (λ t. t) c.lose_line.ensures.says);
 }
 
 pub returns-clause-set : goal.returns-clause-set
@@ -72,3 +84,11 @@ returns-clause-refused g c = λ told m at. refusing_ends g.D.Disk.tells c.deref-
 
 pub returns-clause-syncs : goal.returns-clause-syncs
 returns-clause-syncs g c told m at = c.loop-conn.invariant.synced told m at
+
+-- ---- Over every disk
+
+pub returns-clause-does : goal.returns-clause-does
+returns-clause-does g c = c.loop-conn.invariant.kept
+
+pub returns-clause-says : goal.returns-clause-says
+returns-clause-says g c p all = c.loop-conn.invariant.says p (subst (AllByRecursion (IsAmong p)) (ap (λ (x : Vec ConnId). x.items) (sym c.replace-noting.ensures.value) ∙ sym c.deref-conn-items.ensures.value) all)

@@ -1,8 +1,11 @@
-use Rattle.std.proofs.Common.{inr, refl}
+use Rattle.std.proofs.Common.{◌≡◌, ℕ, Option, Some, None, inl, inr, refl, ap, sym, ◌∙◌, subst}
+use Rattle.std.specs.Prelude.{true, false}
 use Rattle.lsv_seq.specs.Value.{last_of}
 use Rattle.lsv_keeper.specs.Opening.{IsStoreFault}
+use Rattle.lsv_keeper.specs.Value.{AreLinked}
 use Rattle.lsv_keeper.specs.declared.fault.StoreFault.TheVariants.{Device}
-use Rattle.lsv_keeper.proofs.Opening.{both_run, cause_after, events_alike, fault_alike, in_err, lines_alike, numbers_run, opens_as, passed, same_error, store_on}
+use Rattle.lsv_keeper.specs.declared.logs.OpenLog.{OpenLog}
+use Rattle.lsv_keeper.proofs.Opening.{both_run, cause_after, entry_on, events_alike, fault_alike, in_err, lines_alike, numbers_run, opens_as, passed, same_error, store_on}
 use Rattle.lsv_keeper.proofs.keeper.Keeper.open.Goals as goal
 
 pub returns-clause-set : goal.returns-clause-set
@@ -23,6 +26,13 @@ pub returns-clause-store : goal.returns-clause-store
 returns-clause-store g c told =
     store_on c.args.lane c.args.lanes (g.D.Disk.view c.args.disk.now) (g.D.Disk.view c.open_numbers.new.disk) (g.D.Disk.view c.open_events.new.disk)
     (c.open_numbers.ensures.store told) (c.open_events.ensures.store told c.args.lanes)
+
+pub returns-clause-kept : goal.returns-clause-kept
+returns-clause-kept g c told some =
+    let mid = c.open_numbers.new.disk in
+    entry_on c.args.lane _ (g.D.Disk.view c.args.disk.now) (g.D.Disk.view mid) (g.D.Disk.view c.open_events.new.disk)
+    (record { reads_itself = g.met.D.Disk.reads_itself told mid; is_now = g.met.D.Disk.is_now told mid; only_now = g.met.D.Disk.only_now told mid })
+    (c.open_numbers.ensures.run told).later (c.open_numbers.ensures.kept told some) (c.open_events.ensures.run told)
 
 pub returns-clause-opened : goal.returns-clause-opened
 returns-clause-opened g c told fit =
@@ -69,6 +79,13 @@ returns-in_err-events-clause-store g c told =
     store_on c.args.lane c.args.lanes (g.D.Disk.view c.args.disk.now) (g.D.Disk.view c.open_numbers.new.disk) (g.D.Disk.view c.open_events.new.disk)
     (c.open_numbers.ensures.store told) (c.open_events.ensures.store told c.args.lanes)
 
+pub returns-in_err-events-clause-kept : goal.returns-in_err-events-clause-kept
+returns-in_err-events-clause-kept g c told some =
+    let mid = c.open_numbers.new.disk in
+    entry_on c.args.lane _ (g.D.Disk.view c.args.disk.now) (g.D.Disk.view mid) (g.D.Disk.view c.open_events.new.disk)
+    (record { reads_itself = g.met.D.Disk.reads_itself told mid; is_now = g.met.D.Disk.is_now told mid; only_now = g.met.D.Disk.only_now told mid })
+    (c.open_numbers.ensures.run told).later (c.open_numbers.ensures.kept told some) (c.open_events.ensures.run told)
+
 pub returns-in_err-events-clause-cause : goal.returns-in_err-events-clause-cause
 returns-in_err-events-clause-cause g c o =
     let old = g.D.Disk.view c.args.disk.now in
@@ -79,3 +96,19 @@ returns-in_err-events-clause-cause g c o =
       monotone = (c.open_events.ensures.cause o).monotone;
       risen = λ e. (c.in_err-events.ensures.cause o).risen (in_err fault (Device o) (same_error c.from_residual-in_err-events.result fault (Device o) c.from_residual-in_err-events.ensures.1 e));
     })
+
+-- ---- Over every disk
+
+pub returns-clause-rests : goal.returns-clause-rests
+returns-clause-rests g c = record {
+  none_waits = c.new-waiting.ensures.items;
+  nobody_noted = c.new-noting.ensures.items;
+  linked = subst AreLinked (sym c.new-table.ensures) (λ k n e. absurd (cc));
+  whole = λ n its is. absurd (let q : None ≡ Some its = sym (ap (λ (l : ℕ → Option OpenLog). l n) c.new-logs.ensures) ∙ is in cc);
+}
+
+pub returns-clause-sound : goal.returns-clause-sound
+returns-clause-sound g c failed = elim failed [
+  | inl pending ↦ pending c.in_ok-numbers.ensures.sound
+  | inr broken ↦ (let q : true ≡ false = sym broken ∙ c.in_ok-events.ensures.sound in cc)
+]

@@ -1,5 +1,6 @@
 -- Each place where an accept that opens a log may stop, and its end.
-use Rattle.std.proofs.Common.{◌≡◌, ◌≤◌, Some, None, sym, ◌∙◌, ap, subst}
+use Rattle.std.proofs.Common.{◌≡◌, ◌≤◌, Some, None, sym, ◌∙◌, ap, subst, inl, inr, refl}
+use Rattle.std.specs.Prelude.{false, is_some, true}
 use Rattle.lsv_disk.specs.declared.file.Owner.TheVariants as owners
 use Rattle.lsv_disk.specs.declared.file.Part.TheVariants as parts
 use Rattle.lsv_event.specs.Lines.{line_of}
@@ -28,6 +29,9 @@ use Rattle.lsv_keeper.proofs.Making.{begun_keeps, create_err, drawn_keeps, lined
 use Rattle.lsv_keeper.proofs.Reporting.{if_err_as}
 use Rattle.lsv_keeper.proofs.Stopping.{MadeIt, begins, line_stops, made_it, none_drawn, not_made, nothing_done}
 use Rattle.lsv_keeper.proofs.Syncing.{drawn_quiet, followed, fresh_one, line_quiet, making, owns_one, reserved_fresh, reserved_quiet}
+use Rattle.lsv_keeper.proofs.Causes.{create_cause, does_any, does_as, does_caused, does_reserved, does_same, does_then, none_of_some, own_rose, owns_does, quiet_then, same_err, still}
+use Rattle.lsv_keeper.specs.Causes.{StoreRose}
+use Rattle.lsv_request.specs.declared.refusal.Refusal.TheVariants.{DeviceFault}
 use Rattle.lsv_keeper.proofs.keeper.Keeper.open_log.Goals as goal
 
 -- ---- No memory
@@ -62,6 +66,28 @@ returns-in_err-number-clause-stopped g c told =
     let at1 = reserved_represents v v1 old m c.prepare.ensures.same at in
     none_drawn v v1 v2 old new c.args.now c.args.conn c.args.head m why (ap is_running (at.states c.args.conn) ∙ c.requires.free) (reserved_keeps v v1 c.prepare.ensures.same)
     (c.draw.ensures.beside told m at1) (c.in_err-number.ensures.none told m at1))
+
+-- ---- Another writes the log of the number
+
+pub returns-then-is_some-clause-keeps : goal.returns-then-is_some-clause-keeps
+returns-then-is_some-clause-keeps g c = drawn_keeps (view_of c.args.self.now) (view_of c.prepare.new.self) (view_of c.draw.new.self) c.prepare.ensures.same c.draw.ensures.same
+
+pub returns-then-is_some-clause-stopped : goal.returns-then-is_some-clause-stopped
+returns-then-is_some-clause-stopped g c told m at =
+    let v : KeeperView = view_of c.args.self.now in
+    let v1 : KeeperView = view_of c.prepare.new.self in
+    let old = g.D.Disk.view c.args.disk.now in
+    let at1 = reserved_represents v v1 old m c.prepare.ensures.same at in
+    let its = ready v v1 (view_of c.draw.new.self) old (g.D.Disk.view c.draw.new.disk) m c.in_ok-number.number at c.prepare.ensures.same c.draw.ensures.same (c.in_ok-number.ensures.drawn told m at1) (c.draw.ensures.beside told m at1) in
+    absurd (let q : false ≡ true = ap is_some (sym its.free) ∙ (ap is_some (sym c.owner.ensures) ∙ (sym c.is_some.ensures ∙ c.if-is_some.true)) in cc)
+
+pub returns-then-is_some-clause-syncs : goal.returns-then-is_some-clause-syncs
+returns-then-is_some-clause-syncs g c told m at =
+    let v : KeeperView = view_of c.args.self.now in
+    let v1 : KeeperView = view_of c.prepare.new.self in
+    let old = g.D.Disk.view c.args.disk.now in
+    let mid = g.D.Disk.view c.draw.new.disk in
+    followed NoLog v v1 (view_of c.draw.new.self) old old mid (reserved_quiet NoLog v v1 old c.prepare.ensures.same) (drawn_quiet NoLog v1 (view_of c.draw.new.self) old mid c.draw.ensures.same c.draw.ensures.past (c.draw.ensures.syncs told))
 
 -- ---- No log
 
@@ -254,3 +280,46 @@ returns-clause-syncs g c told m at =
     fresh_one n v v4 old new fresh
     (followed (λ i. i ≡ n) v v3 v4 old new new (followed (λ i. i ≡ n) v v2 v3 old there new made (line_quiet (λ i. i ≡ n) v2 v3 there new c.add_line.ensures.same (c.add_line.ensures.syncs told)))
     (owns_one n c.args.conn (record { log = c.in-Ok-create.log; mask = c.in-Ok.prepared.mask }) v3 v4 new (c.own.ensures.owns free)))
+
+-- ---- Over every disk
+
+pub returns-in_default-clause-does : goal.returns-in_default-clause-does
+returns-in_default-clause-does g c = does_reserved (λ e. cc) (still (g.D.Disk.view c.args.disk.now)) c.prepare.ensures.same
+
+pub returns-in_err-number-clause-does : goal.returns-in_err-number-clause-does
+returns-in_err-number-clause-does g c =
+    quiet_then (λ e. same_err c.from_residual.result c.in_err-number.field-0.0 DeviceFault c.from_residual.ensures.1 e) (does_reserved (λ none. none) (still (g.D.Disk.view c.args.disk.now)) c.prepare.ensures.same) (does_any c.in_err-number.ensures.does)
+
+pub returns-then-is_some-clause-does : goal.returns-then-is_some-clause-does
+returns-then-is_some-clause-does g c = quiet_then (λ e. absurd (cc)) (does_reserved (λ none. none) (still (g.D.Disk.view c.args.disk.now)) c.prepare.ensures.same) (does_any c.in_ok-number.ensures.does)
+
+pub returns-in-Err-clause-does : goal.returns-in-Err-clause-does
+returns-in-Err-clause-does g c =
+    let n = c.in_ok-number.number in
+    let mid = (g.D.Disk.view c.draw.new.disk) in
+    let new = (g.D.Disk.view c.create.new.disk) in
+    let why : c.in-Err.fault ≡ faults.Disk → StoreRose mid new = λ is. own_rose (IsOfLog n) _ mid new (λ file own. inl (n, own)) c.in-Err.ensures.cause (create_err c.in-Err.fault faults.Disk is) in
+    quiet_then (λ e. e) (does_then (λ none. absurd none) (does_reserved (λ none. none) (still (g.D.Disk.view c.args.disk.now)) c.prepare.ensures.same) (does_any (does_as (λ none. absurd none) c.in_ok-number.ensures.does)))
+    (does_caused (λ all e. inr (create_cause (StoreRose mid new) c.in-Err.fault why c.in-Err.ensures.fault (sym c.create_refusal.ensures ∙ (let f : c.create_refusal.result ≡ DeviceFault = cc in f))))
+    (does_same (λ none. none) c.create.ensures.cause.monotone refl refl refl (λ i. refl) refl refl))
+
+pub returns-in_err-add_line-clause-does : goal.returns-in_err-add_line-clause-does
+returns-in_err-add_line-clause-does g c =
+    quiet_then (λ e. same_err c.from_residual-in_err-add_line.result c.in_err-add_line.field-0.0 DeviceFault c.from_residual-in_err-add_line.ensures.1 e)
+    (does_then (λ none. absurd none) (does_then (λ none. absurd none) (does_reserved (λ none. none) (still (g.D.Disk.view c.args.disk.now)) c.prepare.ensures.same) (does_any (does_as (λ none. absurd none) c.in_ok-number.ensures.does)))
+    (does_same (λ none. none) c.create.ensures.cause.monotone refl refl refl (λ i. refl) refl refl))
+    c.in_err-add_line.ensures.does
+
+pub returns-clause-does : goal.returns-clause-does
+returns-clause-does g c =
+    let n = c.in_ok-number.number in
+    let v1 : KeeperView = view_of c.prepare.new.self in
+    let v2 : KeeperView = view_of c.draw.new.self in
+    let v3 : KeeperView = view_of c.add_line.new.self in
+    let at2 : (sessions_of v2).owner n ≡ None = sym c.owner.ensures ∙ none_of_some c.owner.result (sym c.is_some.ensures ∙ c.if-is_some.false) in
+    let free : (sessions_of v3).owner n ≡ None = ap (λ (t : Table). (sessions t).owner n) c.add_line.ensures.same.table ∙ at2 in
+    does_then (λ e. absurd (cc))
+    (does_then (λ none. inr none) (does_then (λ none. absurd none) (does_then (λ none. absurd none) (does_reserved (λ none. none) (still (g.D.Disk.view c.args.disk.now)) c.prepare.ensures.same) (does_any (does_as (λ none. absurd none) c.in_ok-number.ensures.does)))
+    (does_same (λ none. none) c.create.ensures.cause.monotone refl refl refl (λ i. refl) refl refl))
+    c.in_ok-add_line.ensures.does)
+    (owns_does free c.in-Ok-create.ensures.whole (c.own.ensures.owns free) (still (g.D.Disk.view c.add_line.new.disk)))

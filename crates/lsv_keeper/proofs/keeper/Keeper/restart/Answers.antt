@@ -1,5 +1,5 @@
 -- A restart that is refused at once, accepted, or refused by what is found.
-use Rattle.std.proofs.Common.{◌≡◌, List, true, false, refl, sym, ◌∙◌, ap, subst}
+use Rattle.std.proofs.Common.{◌≡◌, List, true, false, refl, sym, ◌∙◌, ap, subst, inr, None}
 use Rattle.std.specs.Prelude.{is_some}
 use Rattle.lsv_request.specs.declared.request.Request.TheVariants as request
 use Rattle.lsv_session.specs.Table.{Sessions}
@@ -9,7 +9,7 @@ use Rattle.lsv_machine.specs.Answers.{Answer}
 use Rattle.lsv_machine.specs.Failures.{AsksFor}
 use Rattle.lsv_machine.specs.Machine.{is_dead}
 use Rattle.lsv_keeper.specs.Rows.{Left, RowIs, Tells}
-use Rattle.lsv_keeper.specs.Value.{Owns}
+use Rattle.lsv_keeper.specs.Value.{Owns, sessions_of}
 use Rattle.lsv_keeper.specs.Views.{view_of}
 use Rattle.lsv_keeper.specs.declared.told.Told.TheVariants as told_variants
 use Rattle.lsv_keeper.proofs.Reopening.{fault_stands}
@@ -17,6 +17,8 @@ use Rattle.lsv_keeper.proofs.RestartRows.{in_use, none_of, refused_row}
 use Rattle.lsv_keeper.proofs.ResumedRows.{resumed_row}
 use Rattle.lsv_keeper.proofs.Restarting.{asks_restart}
 use Rattle.lsv_keeper.proofs.Syncing.{followed, of_none, owns_one, resumed_one}
+use Rattle.lsv_keeper.proofs.Causes.{does_caused, does_reserved, owns_does, quiet_then, quiet_told, refused_is, still, then_quiet}
+use Rattle.lsv_request.specs.declared.refusal.Refusal.TheVariants.{DeviceFault, LogInUse}
 use Rattle.lsv_keeper.proofs.keeper.Keeper.restart.Goals as goal
 
 pub returns-then-is_some-clause-row : goal.returns-then-is_some-clause-row
@@ -90,3 +92,18 @@ returns-in-Err-clause-syncs g c told m at =
     (record { reads_itself = g.met.D.Disk.reads_itself told c.resume.new.disk; is_now = g.met.D.Disk.is_now told c.resume.new.disk; only_now = g.met.D.Disk.only_now told c.resume.new.disk })
     at c.resume.ensures.same free c.in-Err.fault (c.in-Err.ensures.fault told) in
     followed (λ i. i ≡ n) v v1 (view_of c.leave.new.self) old one two resumed (of_none (λ i. i ≡ n) v1 (view_of c.leave.new.self) one two (c.leave.ensures.syncs told stands.0 stands.1))
+
+-- ---- Over every disk
+
+pub returns-then-is_some-clause-does : goal.returns-then-is_some-clause-does
+returns-then-is_some-clause-does g c = quiet_told (λ e. let f : told_variants.Refused LogInUse ≡ told_variants.Refused DeviceFault = sym c.refuse.ensures.told ∙ e in cc) c.refuse.ensures.does
+
+pub returns-in-Ok-clause-does : goal.returns-in-Ok-clause-does
+returns-in-Ok-clause-does g c =
+    let free : (sessions_of (view_of c.resume.new.self)).owner c.args.restart.log ≡ None = (ap (λ (s : Sessions). s.owner c.args.restart.log) c.resume.ensures.same.sessions_are ∙ (sym c.owner.ensures ∙ none_of c.owner.result (sym c.is_some.ensures ∙ c.if-is_some.false))) in
+    quiet_then (λ e. absurd (cc)) (does_reserved {b = g.D.Disk.view c.resume.new.disk} (λ none. none) c.resume.ensures.monotone c.resume.ensures.same) (owns_does free c.in-Ok.ensures.whole (c.own.ensures.owns free) (still (g.D.Disk.view c.resume.new.disk)))
+
+pub returns-in-Err-clause-does : goal.returns-in-Err-clause-does
+returns-in-Err-clause-does g c =
+    then_quiet (λ e. sym c.restart_refusal.ensures ∙ refused_is c.restart_refusal.result e)
+    (does_caused (λ all is. inr (c.in-Err.ensures.cause is)) (does_reserved (λ none. none) c.resume.ensures.monotone c.resume.ensures.same)) c.leave.ensures.does

@@ -15,3 +15,8 @@ returns-clause-resumed g c told =
 
 pub returns-then-is_err-clause-syncs : goal.returns-then-is_err-clause-syncs
 returns-then-is_err-clause-syncs g c told n other file own = refl
+
+-- ---- Over every disk
+
+pub returns-then-is_err-clause-cause : goal.returns-then-is_err-clause-cause
+returns-then-is_err-clause-cause g c = λ e. absurd (cc)

@@ -1,4 +1,4 @@
-use Rattle.std.proofs.Common.{◌≡◌, Some, refl, subst, sym}
+use Rattle.std.proofs.Common.{◌≡◌, ◌∙◌, Some, refl, subst, sym, ◌∷◌, []}
 use Rattle.lsv_disk.specs.View.{DiskView}
 use Rattle.lsv_request.specs.declared.refusal.Refusal.{Refusal}
 use Rattle.lsv_request.specs.declared.request.Request.TheVariants as request
@@ -17,6 +17,9 @@ use Rattle.lsv_keeper.proofs.Opens.{given_ok}
 use Rattle.lsv_keeper.proofs.Recording.{record_staged}
 use Rattle.lsv_keeper.proofs.Refusing.{keeps_same, record_refused, refused_moved, staged_keeps, written_open}
 use Rattle.lsv_keeper.proofs.Syncing.{nothing}
+use Rattle.lsv_keeper.proofs.Causes.{at_each, does_same, staged_does, still, then_quiet, unstaged_does}
+use Rattle.lsv_request.specs.declared.refusal.Refusal.TheVariants.{DeviceFault}
+use Rattle.lsv_keeper.specs.Logs.{open_logs}
 use Rattle.lsv_keeper.proofs.keeper.Keeper.take_record.Goals as goal
 
 pub let_refused-requires : goal.let_refused-requires
@@ -77,3 +80,20 @@ returns-in-Refused-clause-syncs g c told_is m at state =
 
 pub returns-clause-syncs : goal.returns-clause-syncs
 returns-clause-syncs g c told_is m at state = nothing NoLog (view_of c.args.self.now) _ (g.D.Disk.view c.args.disk.now) refl refl
+
+-- ---- Over every disk
+
+pub returns-in-Staged-clause-does : goal.returns-in-Staged-clause-does
+returns-in-Staged-clause-does g c is =
+    let (its, after, here, took, is_logs) = c.in-Staged.ensures in
+    staged_does _ c.args.conn c.args.log _ c.args.r its after (view_of c.args.self.now) c.append.new.self c.insert_once.new.numbers.items (g.D.Disk.view c.args.disk.now) (λ e. cc) is here took is_logs
+    (given_ok c.insert_once.result _ (c.insert_once.ensures.room c.requires.waiting) c.insert_once.ensures.inserted)
+
+pub returns-in-Refused-clause-does : goal.returns-in-Refused-clause-does
+returns-in-Refused-clause-does g c is =
+    let (was, left, here, no_room, put) = c.in-Refused.ensures in
+    then_quiet (λ e. let f : c.log_refusal.result ≡ DeviceFault = cc in sym c.log_refusal.ensures ∙ f)
+    (unstaged_does (c.args.conn ∷ []) c.args.log _ c.args.r c.in-Refused.fault was left (view_of c.args.self.now) c.append.new.self (g.D.Disk.view c.args.disk.now) here no_room put) (c.let_refused.ensures.does is)
+
+pub returns-clause-does : goal.returns-clause-does
+returns-clause-does g c is = does_same (λ e. cc) (still (g.D.Disk.view c.args.disk.now)) refl refl refl (λ n. at_each (open_logs c.append.new.self) (open_logs c.args.self.now.logs) c.in-NotOpen.ensures.1 n) refl refl

@@ -1,5 +1,5 @@
 -- The line is added, and then the connection does what it is to do; or it is refused.
-use Rattle.std.proofs.Common.{subst}
+use Rattle.std.proofs.Common.{subst, ap}
 use Rattle.lsv_event.specs.Lines.{line_of}
 use Rattle.lsv_session.specs.declared.connection.ConnState.TheVariants.{Dead}
 use Rattle.lsv_machine.specs.Work.{adds_line}
@@ -10,6 +10,9 @@ use Rattle.lsv_keeper.specs.Views.{view_of}
 use Rattle.lsv_keeper.specs.Syncing.{NoLog}
 use Rattle.lsv_keeper.proofs.Reporting.{ends_at, enters_at, keeps_left, refused_at, room_after, stays_at}
 use Rattle.lsv_keeper.proofs.Syncing.{followed, line_quiet}
+use Rattle.lsv_keeper.proofs.Causes.{does_as, refused_is, then_quiet}
+use Rattle.std.specs.Prelude.{Result, Err}
+use Rattle.lsv_request.specs.declared.refusal.Refusal.{Refusal}
 use Rattle.lsv_keeper.proofs.keeper.Keeper.tell.Goals as goal
 
 pub leave-requires-clause-stands : goal.leave-requires-clause-stands
@@ -123,3 +126,20 @@ returns-in-Ends-clause-syncs g c told m at =
     let d1 = g.D.Disk.view c.add_line.new.disk in
     let line = line_quiet NoLog v v1 d0 d1 c.add_line.ensures.same (c.add_line.ensures.syncs told) in
     followed NoLog v v1 (view_of c.leave-in-Ends.new.self) d0 d1 (g.D.Disk.view c.leave-in-Ends.new.disk) line (c.leave-in-Ends.ensures.syncs told (adds_line c.args.conn (line_of v.kind c.args.event.now) m) (c.in_default.ensures.added told m at).1)
+
+-- ---- Over every disk
+
+abbrev err : {T : Type 0} → Refusal → Result T Refusal
+err why = Err why
+
+pub returns-in-Err-clause-does : goal.returns-in-Err-clause-does
+returns-in-Err-clause-does g c = then_quiet (λ e. ap (λ (w : Refusal). err w) (refused_is c.in-Err.why e)) c.in-Err.ensures.does c.leave.ensures.does
+
+pub returns-in-Stays-clause-does : goal.returns-in-Stays-clause-does
+returns-in-Stays-clause-does g c = does_as (λ e. absurd (cc)) c.in_default.ensures.does
+
+pub returns-in-Enters-clause-does : goal.returns-in-Enters-clause-does
+returns-in-Enters-clause-does g c = then_quiet (λ e. absurd (cc)) c.in_default.ensures.does c.leave-in-Enters.ensures.does
+
+pub returns-in-Ends-clause-does : goal.returns-in-Ends-clause-does
+returns-in-Ends-clause-does g c = then_quiet (λ e. absurd (cc)) c.in_default.ensures.does c.leave-in-Ends.ensures.does

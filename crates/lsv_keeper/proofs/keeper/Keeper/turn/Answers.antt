@@ -1,6 +1,12 @@
 use Rattle.lsv_keeper.specs.Views.{view_of}
 use Rattle.lsv_keeper.proofs.Turning.{turn_given}
 use Rattle.lsv_keeper.proofs.Syncing.{turn_once}
+use Rattle.lsv_keeper.specs.Value.{AreWhole}
+use Rattle.lsv_keeper.proofs.Causes.{Later, all_own, any_is, does_any, does_then, later_on, may_first, rests_steady, rose_first, rose_second, still}
+use Rattle.lsv_keeper.proofs.Saying.{says_as, says_then}
+use Rattle.lsv_keeper.specs.Causes.{AnyIsOf, Does, IsAmong, IsSteady, MayFail, StoreRose, is_of}
+use Rattle.std.proofs.Common.{inr, map, ◌∙◌}
+use Rattle.lsv_disk.specs.View.{DiskView}
 use Rattle.lsv_keeper.proofs.keeper.Keeper.turn.Goals as goal
 
 pub flush_lines-requires-clause-stands : goal.flush_lines-requires-clause-stands
@@ -20,8 +26,7 @@ returns-clause-turned g c told m at =
     turn_given (view_of c.args.self.now) (view_of c.answer_jobs.new.self) (view_of c.flush_lines.new.self) (view_of c.flush_logs.new.self) c.args.now c.args.jobs.items m
     c.args.out.now.items c.answer_jobs.new.out.items c.flush_lines.new.out.items c.flush_logs.new.out.items
     (g.D.Disk.view c.args.disk.now) (g.D.Disk.view c.answer_jobs.new.disk) (g.D.Disk.view c.flush_lines.new.disk) (g.D.Disk.view c.flush_logs.new.disk)
-    (record { reads_itself = g.met.D.Disk.reads_itself told c.args.disk.now; is_now = g.met.D.Disk.is_now told c.args.disk.now; only_now = g.met.D.Disk.only_now told c.args.disk.now })
-    c.answer_jobs.ensures.set c.flush_lines.ensures.set j l (c.flush_logs.ensures.logs told l.after l.represents)
+    at c.answer_jobs.ensures.set c.flush_lines.ensures.set j l (c.flush_logs.ensures.logs told l.after l.represents)
 
 pub returns-clause-syncs : goal.returns-clause-syncs
 returns-clause-syncs g c told m n k at own none =
@@ -29,3 +34,56 @@ returns-clause-syncs g c told m n k at own none =
     let l = c.flush_lines.ensures.lines told j.after j.represents in
     turn_once c.args.jobs.items n k (view_of c.args.self.now) (view_of c.answer_jobs.new.self) (view_of c.flush_lines.new.self) (g.D.Disk.view c.args.disk.now) (g.D.Disk.view c.answer_jobs.new.disk) (g.D.Disk.view c.flush_lines.new.disk) (g.D.Disk.view c.flush_logs.new.disk) m l.after
     at own none (c.answer_jobs.ensures.syncs told m at) (c.flush_lines.ensures.syncs told j.after j.represents) l.represents (c.flush_logs.ensures.syncs told l.after l.represents)
+
+-- ---- Over every disk
+
+pub returns-clause-rests : goal.returns-clause-rests
+returns-clause-rests g c =
+    let jobs = c.args.jobs.items in
+    let p = is_of jobs in
+    let last : IsSteady p (view_of c.flush_logs.new.self) =
+    c.flush_logs.ensures.does.steady p tt (c.flush_lines.ensures.does.steady p tt (c.answer_jobs.ensures.does.steady p (all_own jobs) (rests_steady p (view_of c.args.self.now) c.requires.rests))) in
+    record {
+      none_waits = c.flush_logs.ensures.none;
+      nobody_noted = c.flush_logs.ensures.noting ∙ c.flush_lines.ensures.none;
+      linked = last.linked;
+      whole = c.flush_logs.ensures.does.whole (c.flush_lines.ensures.does.whole (c.answer_jobs.ensures.does.whole c.requires.rests.whole));
+    }
+
+pub returns-clause-says : goal.returns-clause-says
+returns-clause-says g c =
+    let v = view_of c.args.self.now in
+    let jobs = c.args.jobs.items in
+    let p = is_of jobs in
+    let old = g.D.Disk.view c.args.disk.now in
+    let one = g.D.Disk.view c.answer_jobs.new.disk in
+    let two = g.D.Disk.view c.flush_lines.new.disk in
+    let new = g.D.Disk.view c.flush_logs.new.disk in
+    let said = c.args.out.now.items in
+    let first = c.answer_jobs.new.out.items in
+    let second = c.flush_lines.new.out.items in
+    let last = c.flush_logs.new.out.items in
+    let steady : IsSteady p (view_of c.answer_jobs.new.self) = c.answer_jobs.ensures.does.steady p (all_own jobs) (rests_steady p v c.requires.rests) in
+    let steady' : IsSteady p (view_of c.flush_lines.new.self) = c.flush_lines.ensures.does.steady p tt steady in
+    let whole : AreWhole (view_of c.answer_jobs.new.self).logs = c.answer_jobs.ensures.does.whole c.requires.rests.whole in
+    let rest : (a b : DiskView) → Later old a → Later b new → StoreRose a b → MayFail v old new = (λ a b early late rose. inr (rose_first old b new (rose_second old a b early rose) late)) in
+    says_then (AnyIsOf jobs) (MayFail v old new) said second last
+    (says_then (AnyIsOf jobs) (MayFail v old new) said first second
+    (says_as (AnyIsOf jobs) (AnyIsOf jobs) (MayFail v old one) (MayFail v old new) said first (λ k is. is)
+    (λ may. may_first v old one new may (later_on one two new c.flush_lines.ensures.does.monotone c.flush_logs.ensures.does.monotone)) (c.answer_jobs.ensures.says c.requires.rests.whole))
+    (says_as (IsAmong p) (AnyIsOf jobs) (StoreRose one two) (MayFail v old new) first second (any_is jobs)
+    (rest one two c.answer_jobs.ensures.does.monotone c.flush_logs.ensures.does.monotone) (c.flush_lines.ensures.says p steady)))
+    (says_as (IsAmong p) (AnyIsOf jobs) (StoreRose two new) (MayFail v old new) second last (any_is jobs)
+    (rest two new (later_on old one two c.answer_jobs.ensures.does.monotone c.flush_lines.ensures.does.monotone) (still new)) (c.flush_logs.ensures.says p steady' (c.flush_lines.ensures.does.whole whole)))
+
+pub returns-clause-failed : goal.returns-clause-failed
+returns-clause-failed g c =
+    let d : Does (map (λ job. job.conn) c.args.jobs.items) ⊥ (view_of c.args.self.now) (view_of c.flush_logs.new.self) (g.D.Disk.view c.args.disk.now) (g.D.Disk.view c.flush_logs.new.disk) =
+    does_then (λ none. absurd none) (does_then (λ none. absurd none) c.answer_jobs.ensures.does (does_any c.flush_lines.ensures.does)) (does_any c.flush_logs.ensures.does) in
+    d.failed
+
+pub returns-clause-monotone : goal.returns-clause-monotone
+returns-clause-monotone g c =
+    let d : Does (map (λ job. job.conn) c.args.jobs.items) ⊥ (view_of c.args.self.now) (view_of c.flush_logs.new.self) (g.D.Disk.view c.args.disk.now) (g.D.Disk.view c.flush_logs.new.disk) =
+    does_then (λ none. absurd none) (does_then (λ none. absurd none) c.answer_jobs.ensures.does (does_any c.flush_lines.ensures.does)) (does_any c.flush_logs.ensures.does) in
+    d.monotone

@@ -11,7 +11,7 @@ use Rattle.lsv_journal.specs.Last.{IsOwn, OpeningCalls}
 use Rattle.lsv_seq.specs.Entry.{entry_in}
 use Rattle.lsv_seq.specs.Inner.{last_in, IsOpened}
 use Rattle.lsv_seq.proofs.Images.{last_now}
-use Rattle.lsv_seq.proofs.Openings.{made_reads, kept_moments, made_moments, opened_moments, opened_calls, resumed_represents}
+use Rattle.lsv_seq.proofs.Openings.{made_reads, kept_moments, made_moments, opened_moments, opened_calls, resumed_represents, same_entry}
 use Rattle.lsv_seq.proofs.Runs.{draw_calls, reopened_entry}
 use Rattle.lsv_seq.proofs.numbers.Numbers.open.Goals as goal
 
@@ -91,6 +91,26 @@ returns-in_default-last-clause-opened g c told some =
 pub returns-clause-opened : goal.returns-clause-opened
 returns-clause-opened g c told some =
     subst (λ h. OpeningCalls 12 h (IsOwn h) (g.D.Disk.view c.args.disk.now) (g.D.Disk.view c.open.new.disk)) c.numbers_file.ensures (c.open.ensures.calls told)
+
+pub returns-in_err-journal-clause-same : goal.returns-in_err-journal-clause-same
+returns-in_err-journal-clause-same g c told some =
+    same_entry c.args.lane c.numbers_file.result (g.D.Disk.view c.args.disk.now).reads (g.D.Disk.view c.open.new.disk).reads c.numbers_file.ensures (c.open.ensures.reads told)
+
+pub returns-in_default-clause-same : goal.returns-in_default-clause-same
+returns-in_default-clause-same g c told some =
+    let reads = (g.D.Disk.view c.args.disk.now).reads in
+    let found = reopened_entry c.args.lane c.numbers_file.result reads c.in_ok-journal.field-0 c.numbers_file.ensures (c.in_ok-journal.ensures.absent told).0 (c.in_ok-journal.ensures.last told) in
+    absurd (some (sym found ∙ ap (λ o. option_map entry_in (last_in o)) c.in_default.is))
+
+pub returns-in_default-last-clause-same : goal.returns-in_default-last-clause-same
+returns-in_default-last-clause-same g c told some =
+    let reads = (g.D.Disk.view c.args.disk.now).reads in
+    let found = reopened_entry c.args.lane c.numbers_file.result reads c.in_ok-journal.field-0 c.numbers_file.ensures (c.in_ok-journal.ensures.absent told).0 (c.in_ok-journal.ensures.last told) in
+    absurd (some (sym found ∙ ap (λ o. option_map entry_in (last_in o)) c.in-Some.is ∙ ap (option_map entry_in) (sym c.last.ensures ∙ c.in_default-last.is)))
+
+pub returns-clause-same : goal.returns-clause-same
+returns-clause-same g c told some =
+    same_entry c.args.lane c.numbers_file.result (g.D.Disk.view c.args.disk.now).reads (g.D.Disk.view c.open.new.disk).reads c.numbers_file.ensures (c.open.ensures.reads told)
 
 -- a crash leaves the last number of numbers that were made
 fresh_durable : (lane lanes : ℕ) (disk : DiskView) (r : Result Numbers SeqFault) → IfOk r (IsOpened lane lanes 0) → IfOk r (λ n. Represents n disk) → IfOk r (λ n. (image : Image) → IsCrashImage disk image → LastDrawn lane lanes (last_of n) image)

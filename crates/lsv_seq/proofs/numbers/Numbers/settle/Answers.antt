@@ -17,7 +17,7 @@ returns-in_err-now-clause-represents g c told =
     (now_of_run (λ f. f ≡ numbers_file (lane_of c.args.self.now)) (HasDrawn c.args.self.now) (g.D.Disk.view c.args.disk.now) (g.D.Disk.view c.open.new.disk) (g.met.D.Disk.is_now told c.open.new.disk) (returns-in_err-now-clause-any_moment g c told))
 
 pub returns-clause-changed : goal.returns-clause-changed
-returns-clause-changed g c kept now is = changed_from c.args.self.now (last_in c.in_ok-now.now) c.take.result c.take.ensures.changed kept now is
+returns-clause-changed g c kept now is = changed_from c.args.self.now (last_in c.in_ok-now.now) c.take.result (λ none. cc (c.in-Some.is, none)) c.take.ensures.changed kept now is
 
 pub returns-clause-unchanged : goal.returns-clause-unchanged
 returns-clause-unchanged g c told kept now is =

@@ -1,6 +1,0 @@
-use Rattle.lsv_machine.proofs.Chains.{told_drawn}
-use Rattle.lsv_machine.proofs.runs.a_number_that_was_told_is_drawn.Goals as goal
-
-pub returns : goal.returns
-returns g c = λ lane lanes d k h n p last image a fit of_lane is it drawn good told.
-    told_drawn g.D.ReadsStore.reading lane lanes ((g.D.Disk.view d).crash_images_at k) h n p last image a fit of_lane is it drawn good told
