@@ -6,7 +6,7 @@ use Rattle.lsv_port.specs.declared.port.Ready.{Ready}
 use Rattle.lsv_port.specs.Port.{LinkState, PortState, Changes, IsSame, Told}
 use Rattle.lsv_port.specs.Memory.Link.{view_of, IsSound, with_bytes, with_last, with_room, breaking}
 use Rattle.lsv_port.specs.Memory.Script.{Sent, unsent, goes_on}
-use Rattle.lsv_port.specs.Memory.Links.{LinkMap, told_of, state_of, faults_of, is_open_in, is_hearing, sent_to, IsSentBy, told_if, changed_at, with_link}
+use Rattle.lsv_port.specs.Memory.Links.{LinkMap, PortOver, told_of, state_of, faults_of, is_open_in, is_hearing, sent_to, IsSentBy, told_if, changed_at, with_link}
 use Rattle.lsv_port.proofs.NumberLemmas.{true_or_false, itself, one_or_two, two_numbers}
 
 -- ---- One link of many
@@ -24,24 +24,26 @@ pub put_other : (f : LinkMap) (l : ℕ) (o : Option MemLink) (m : ℕ) → m ≢
 put_other f l o m ne = ap (λ (b : Bool). cond b o (f m)) (two_numbers l m (λ e. ne (sym e)))
 
 -- what is told where one link changed
-pub tells_change : (f : LinkMap) (l : ℕ) (F : MemLink → MemLink) (opened : List ℕ) (stopped : Bool) (now : LinkState) → told_of (option_map F (f l)) ≡ now
-    → Changes l now (state_of f opened stopped) (state_of (changed_at l F f) opened stopped)
-tells_change f l F opened stopped now e = record {
+pub tells_change : (f : LinkMap) (l : ℕ) (F : MemLink → MemLink) (opened : List ℕ) (over : PortOver) (now : LinkState) → told_of (option_map F (f l)) ≡ now
+    → Changes l now (state_of f opened over) (state_of (changed_at l F f) opened over)
+tells_change f l F opened over now e = record {
   this = ap told_of (at_it f l F) ∙ e;
   others = λ m ne. ap told_of (at_other f l F m ne);
   opened = refl;
   stopped = refl;
+  failed = refl;
 }
 
-pub tells_same : (f : LinkMap) (l : ℕ) (F : MemLink → MemLink) (opened : List ℕ) (stopped : Bool) → told_of (option_map F (f l)) ≡ told_of (f l)
-    → IsSame (state_of f opened stopped) (state_of (changed_at l F f) opened stopped)
-tells_same f l F opened stopped e = record {
+pub tells_same : (f : LinkMap) (l : ℕ) (F : MemLink → MemLink) (opened : List ℕ) (over : PortOver) → told_of (option_map F (f l)) ≡ told_of (f l)
+    → IsSame (state_of f opened over) (state_of (changed_at l F f) opened over)
+tells_same f l F opened over e = record {
   links = λ m. elim (one_or_two m l) [
     | inl is ↦ subst (λ (k : ℕ). told_of (changed_at l F f k) ≡ told_of (f k)) (sym is) (ap told_of (at_it f l F) ∙ e)
     | inr ne ↦ ap told_of (at_other f l F m ne)
   ];
   opened = refl;
   stopped = refl;
+  failed = refl;
 }
 
 pub told_either : (b : Bool) (ready : Ready) (old new : PortState) → (b ≡ true → Told ready old new) → (b ≡ false → IsSame old new) → Told (told_if b ready) old new

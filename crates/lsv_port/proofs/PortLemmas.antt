@@ -19,6 +19,7 @@ port_tells p run i = record {
   opened = p.links.opened.items;
   link = λ l. told_of ((ap (λ (b : Bool). cond b (links_of p.links l) None) (run.opened l) ∙ some_or_none (links_of p.links l)) i);
   stopped = p.stopped;
+  failed = p.failed;
 }
 
 -- so what holds of what runs tell holds of what ports tell

@@ -14,7 +14,7 @@ use Rattle.lsv_port.specs.Port.{LinkState, Changes, MayTake, after_read, after_w
 use Rattle.lsv_port.specs.Memory.Link.{view_of, IsSound, IsSameSent, IsRead, IsWritten, shut}
 use Rattle.lsv_port.specs.Memory.Numbers.{has}
 use Rattle.lsv_port.specs.Memory.Script.{Sent, sent_by}
-use Rattle.lsv_port.specs.Memory.Links.{LinkMap, links_of, told_of, state_of, faults_of, is_open_in, sent_to, IsSentBy, AreSentBy, AreSound, AreOpen, changed_at, with_link, UsesOne}
+use Rattle.lsv_port.specs.Memory.Links.{LinkMap, PortOver, links_of, told_of, state_of, faults_of, is_open_in, sent_to, IsSentBy, AreSentBy, AreSound, AreOpen, changed_at, with_link, UsesOne}
 use Rattle.lsv_port.specs.Memory.Value.{ledger_of, IsRun}
 use Rattle.lsv_port.proofs.NumberLemmas.{one_or_two}
 use Rattle.lsv_port.proofs.LinkLemmas.{put_at, put_other, tells_change}
@@ -32,20 +32,21 @@ each_used l f now P here others m = elim (one_or_two m l) [
   | inr ne ↦ subst (P m) (sym (put_other f l (Some now) m ne)) (others m ne)
 ]
 
-pub use_changes : (l : ℕ) (Used : MemLink → MemLink → Type 0) (after : LinkState → LinkState) (old new : Links) (stopped : Bool) → UsesOne l Used old new
+pub use_changes : (l : ℕ) (Used : MemLink → MemLink → Type 0) (after : LinkState → LinkState) (old new : Links) (over : PortOver) → UsesOne l Used old new
     → ((v w : MemLink) → Used v w → view_of w ≡ after (view_of v))
-    → Changes l (after (told_of (links_of old l))) (state_of (links_of old) old.opened.items stopped) (state_of (links_of new) new.opened.items stopped)
-use_changes l Used after old new stopped h view = record {
+    → Changes l (after (told_of (links_of old l))) (state_of (links_of old) old.opened.items over) (state_of (links_of new) new.opened.items over)
+use_changes l Used after old new over h view = record {
   this = ap (λ (g : LinkMap). told_of (g l)) h.links ∙ ap told_of (put_at (links_of old) l (Some h.now)) ∙ view h.was h.now h.used ∙ sym (ap (λ (o : Option MemLink). after (told_of o)) h.here);
   others = λ m ne. ap (λ (g : LinkMap). told_of (g m)) h.links ∙ ap told_of (put_other (links_of old) l (Some h.now) m ne);
   opened = h.opened;
   stopped = refl;
+  failed = refl;
 }
 
 -- a port runs on where a link was used
 pub use_runs : (l : ℕ) (Used : MemLink → MemLink → Type 0) (old : Run) (links : Links) (refused : ℕ) → UsesOne l Used old.links links
     → ((v w : MemLink) → Used v w → (w.is_open ≡ v.is_open) × IsSound w × IsSameSent v w)
-    → IsRun old → IsRun (record { script = old.script; done = old.done; links = links; stopped = old.stopped; turns = old.turns; refused = refused })
+    → IsRun old → IsRun (record old { links = links; refused = refused })
 use_runs l Used old links refused h keeps run =
     let f = links_of old.links in
     let kept = keeps h.was h.now h.used in
@@ -73,7 +74,7 @@ use_runs l Used old links refused h keeps run =
 -- why a call on a link failed
 pub use_cause : (l : ℕ) (Used : MemLink → MemLink → Type 0) (failed : Type 0) (old : Run) (links : Links) (refused : ℕ) → UsesOne l Used old.links links
     → ((v w : MemLink) → Used v w → HasCause failed v.faults w.faults)
-    → HasLinkCause l failed (ledger_of old) (ledger_of (record { script = old.script; done = old.done; links = links; stopped = old.stopped; turns = old.turns; refused = refused }))
+    → HasLinkCause l failed (ledger_of old) (ledger_of (record old { links = links; refused = refused }))
 use_cause l Used failed old links refused h cause =
     let f = links_of old.links in
     let its = cause h.was h.now h.used in
@@ -81,6 +82,7 @@ use_cause l Used failed old links refused h cause =
     record {
       continues = record {
         script = refl;
+        listens = refl;
         turns = omega arith;
         links = λ m. subst (λ (g : LinkMap). faults_of (f m) ≤ faults_of (g m)) (sym h.links)
             (each_used l f h.now (λ k o. faults_of (f k) ≤ faults_of o) (subst (λ (o : Option MemLink). faults_of o ≤ h.now.faults) (sym h.here) its.monotone) (λ k ne. omega arith) m);
@@ -111,49 +113,50 @@ read_may l a buf old new h = subst (λ (o : Option MemLink). MayTake a (told_of 
 
 -- ---- A link is closed
 
-shut_told : (o : Option MemLink) → is_open_in o ≡ true → told_of (option_map shut o) ≡ closed (told_of o)
-shut_told None e = absurd cc
-shut_told (Some v) e = refl
+shut_told : (late : Bool) (o : Option MemLink) → is_open_in o ≡ true → told_of (option_map (shut late) o) ≡ closed late (told_of o)
+shut_told late None e = absurd cc
+shut_told late (Some v) e = refl
 
-pub close_changes : (l : ℕ) (old new : Links) (stopped : Bool) → links_of new ≡ changed_at l shut (links_of old) → new.opened.items ≡ old.opened.items → is_open_in (links_of old l) ≡ true
-    → Changes l (closed (told_of (links_of old l))) (state_of (links_of old) old.opened.items stopped) (state_of (links_of new) new.opened.items stopped)
-close_changes l old new stopped links opened here =
-    subst (λ (g : LinkMap). Changes l (closed (told_of (links_of old l))) (state_of (links_of old) old.opened.items stopped) (state_of g new.opened.items stopped)) (sym links)
-    (subst (λ (o : List ℕ). Changes l (closed (told_of (links_of old l))) (state_of (links_of old) old.opened.items stopped) (state_of (changed_at l shut (links_of old)) o stopped)) (sym opened)
-    (tells_change (links_of old) l shut old.opened.items stopped _ (shut_told (links_of old l) here)))
+pub close_changes : (l : ℕ) (late : Bool) (old new : Links) (over : PortOver) → links_of new ≡ changed_at l (shut late) (links_of old) → new.opened.items ≡ old.opened.items → is_open_in (links_of old l) ≡ true
+    → Changes l (closed late (told_of (links_of old l))) (state_of (links_of old) old.opened.items over) (state_of (links_of new) new.opened.items over)
+close_changes l late old new over links opened here =
+    subst (λ (g : LinkMap). Changes l (closed late (told_of (links_of old l))) (state_of (links_of old) old.opened.items over) (state_of g new.opened.items over)) (sym links)
+    (subst (λ (o : List ℕ). Changes l (closed late (told_of (links_of old l))) (state_of (links_of old) old.opened.items over) (state_of (changed_at l (shut late) (links_of old)) o over)) (sym opened)
+    (tells_change (links_of old) l (shut late) old.opened.items over _ (shut_told late (links_of old l) here)))
 
-shut_sent : (b : Bool) (s : Sent) (o : Option MemLink) → IsSentBy s o → IsSentBy s (cond b (option_map shut o) o)
-shut_sent false s o h = h
-shut_sent true s None h = h
-shut_sent true s (Some v) h = (h.0, record { within = h.1.within; ended = h.1.ended; settled = λ here owed whole. absurd cc })
+shut_sent : (late b : Bool) (s : Sent) (o : Option MemLink) → IsSentBy s o → IsSentBy s (cond b (option_map (shut late) o) o)
+shut_sent late false s o h = h
+shut_sent late true s None h = h
+shut_sent late true s (Some v) h = (h.0, record { within = h.1.within; ended = h.1.ended; settled = λ here owed whole. absurd cc })
 
-shut_some : (b : Bool) (o : Option MemLink) → is_some (cond b (option_map shut o) o) ≡ is_some o
-shut_some false o = refl
-shut_some true None = refl
-shut_some true (Some v) = refl
+shut_some : (late b : Bool) (o : Option MemLink) → is_some (cond b (option_map (shut late) o) o) ≡ is_some o
+shut_some late false o = refl
+shut_some late true None = refl
+shut_some late true (Some v) = refl
 
-shut_faults : (b : Bool) (o : Option MemLink) → faults_of o ≤ faults_of (cond b (option_map shut o) o)
-shut_faults false o = omega arith
-shut_faults true None = omega arith
-shut_faults true (Some v) = omega arith
+shut_faults : (late b : Bool) (o : Option MemLink) → faults_of o ≤ faults_of (cond b (option_map (shut late) o) o)
+shut_faults late false o = omega arith
+shut_faults late true None = omega arith
+shut_faults late true (Some v) = omega arith
 
-pub close_runs : (l : ℕ) (old : Run) (links : Links) → links_of links ≡ changed_at l shut (links_of old.links) → links.opened.items ≡ old.links.opened.items
+pub close_runs : (l : ℕ) (late : Bool) (old : Run) (links : Links) → links_of links ≡ changed_at l (shut late) (links_of old.links) → links.opened.items ≡ old.links.opened.items
     → (AreOpen old.links.open_now.items (links_of old.links) → AreOpen links.open_now.items (links_of links)) → IsRun old
-    → IsRun (record { script = old.script; done = old.done; links = links; stopped = old.stopped; turns = old.turns; refused = old.refused })
-close_runs l old links change opened open_now run =
+    → IsRun (record old { links = links })
+close_runs l late old links change opened open_now run =
     let f = links_of old.links in
     record {
       done = run.done;
-      sent = subst (λ (g : LinkMap). AreSentBy (λ m. sent_by m (take old.done old.script.items)) g) (sym change) (λ m. shut_sent (l == m) _ (f m) (run.sent m));
-      opened = λ m. ap (λ (ns : List ℕ). has ns m) opened ∙ run.opened m ∙ sym (shut_some (l == m) (f m)) ∙ ap (λ (g : LinkMap). is_some (g m)) (sym change);
+      sent = subst (λ (g : LinkMap). AreSentBy (λ m. sent_by m (take old.done old.script.items)) g) (sym change) (λ m. shut_sent late (l == m) _ (f m) (run.sent m));
+      opened = λ m. ap (λ (ns : List ℕ). has ns m) opened ∙ run.opened m ∙ sym (shut_some late (l == m) (f m)) ∙ ap (λ (g : LinkMap). is_some (g m)) (sym change);
       open_now = open_now run.open_now;
       stopped = run.stopped;
     }
 
-pub close_continues : (l : ℕ) (old : Run) (links : Links) → links_of links ≡ changed_at l shut (links_of old.links)
-    → Continues (ledger_of old) (ledger_of (record { script = old.script; done = old.done; links = links; stopped = old.stopped; turns = old.turns; refused = old.refused }))
-close_continues l old links change = record {
+pub close_continues : (l : ℕ) (late : Bool) (old : Run) (links : Links) → links_of links ≡ changed_at l (shut late) (links_of old.links)
+    → Continues (ledger_of old) (ledger_of (record old { links = links }))
+close_continues l late old links change = record {
   script = refl;
+  listens = refl;
   turns = omega arith;
-  links = λ m. subst (λ (g : LinkMap). faults_of (links_of old.links m) ≤ faults_of (g m)) (sym change) (shut_faults (l == m) (links_of old.links m));
+  links = λ m. subst (λ (g : LinkMap). faults_of (links_of old.links m) ≤ faults_of (g m)) (sym change) (shut_faults late (l == m) (links_of old.links m));
 }

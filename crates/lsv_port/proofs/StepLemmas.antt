@@ -11,13 +11,13 @@ use Rattle.lsv_port.specs.Port.{fresh_link, Opens, Told}
 use Rattle.lsv_port.specs.Memory.Numbers.{has}
 use Rattle.lsv_port.specs.Memory.Link.{view_of, IsFresh, IsSound, with_bytes, with_last, with_room, breaking}
 use Rattle.lsv_port.specs.Memory.Script.{Sent, unsent, may_open, sent_next}
-use Rattle.lsv_port.specs.Memory.Links.{LinkMap, links_of, told_of, state_of, faults_of, is_open_in, is_hearing, sent_to, IsSentBy, AreSentBy, AreOpened, AreOpen, changed_at, with_link, ChangesOne, OpensOne, told_if, ready_of, Takes}
+use Rattle.lsv_port.specs.Memory.Links.{LinkMap, PortOver, links_of, told_of, state_of, faults_of, is_open_in, is_hearing, sent_to, IsSentBy, AreSentBy, AreOpened, AreOpen, changed_at, with_link, ChangesOne, OpensOne, told_if, ready_of, Takes}
 use Rattle.lsv_port.proofs.NumberLemmas.{itself, one_or_two, two_numbers, has_more, has_all}
 use Rattle.lsv_port.proofs.LinkLemmas.{put_at, put_other, tells_change, tells_same, told_either, is_open_told, hearing_open, hearing_going, bytes_owe, bytes_same, bytes_sent, last_owes, last_same, last_sent, room_frees, room_same, room_sent, break_same, break_sent, IsMild, bytes_mild, last_mild, room_mild, break_mild, mild_some, mild_open, mild_faults}
 
 -- what a step says of links of which one changes
 abbrev Tells : Step → (LinkMap → LinkMap) → LinkMap → Type 0
-Tells step change f = (sent : ℕ → Sent) (opened : List ℕ) (stopped : Bool) → AreSentBy sent f → Told (ready_of f step) (state_of f opened stopped) (state_of (change f) opened stopped)
+Tells step change f = (sent : ℕ → Sent) (opened : List ℕ) (over : PortOver) → AreSentBy sent f → Told (ready_of f step) (state_of f opened over) (state_of (change f) opened over)
 
 -- a step that changes a link mildly
 change_takes : (step : Step) (ready : Ready) (l : ℕ) (F : MemLink → MemLink) (old new : Links) → ChangesOne l F old new → IsMild F → ready ≡ ready_of (links_of old) step
@@ -28,12 +28,12 @@ change_takes step ready l F old new h mild answer tells sent =
     let f = links_of old in
     record {
       answer = answer;
-      told = λ was stopped hs ho hn.
-          let here : Told (ready_of f step) (state_of f old.opened.items stopped) (state_of (changed_at l F f) old.opened.items stopped) = tells was old.opened.items stopped hs in
-          let there : Told (ready_of f step) (state_of f old.opened.items stopped) (state_of (links_of new) new.opened.items stopped)
-          = subst (λ (g : LinkMap). Told (ready_of f step) (state_of f old.opened.items stopped) (state_of g new.opened.items stopped)) (sym h.links)
-          (subst (λ (o : List ℕ). Told (ready_of f step) (state_of f old.opened.items stopped) (state_of (changed_at l F f) o stopped)) (sym h.opened) here) in
-          subst (λ (r : Ready). Told r (state_of f old.opened.items stopped) (state_of (links_of new) new.opened.items stopped)) (sym answer) there;
+      told = λ was over hs ho hn.
+          let here : Told (ready_of f step) (state_of f old.opened.items over) (state_of (changed_at l F f) old.opened.items over) = tells was old.opened.items over hs in
+          let there : Told (ready_of f step) (state_of f old.opened.items over) (state_of (links_of new) new.opened.items over)
+          = subst (λ (g : LinkMap). Told (ready_of f step) (state_of f old.opened.items over) (state_of g new.opened.items over)) (sym h.links)
+          (subst (λ (o : List ℕ). Told (ready_of f step) (state_of f old.opened.items over) (state_of (changed_at l F f) o over)) (sym h.opened) here) in
+          subst (λ (r : Ready). Told r (state_of f old.opened.items over) (state_of (links_of new) new.opened.items over)) (sym answer) there;
       sent = λ was hs. subst (λ (g : LinkMap). AreSentBy (λ m. sent_next m (was m) step) g) (sym h.links) (sent was hs);
       opened = λ ho m. ap (λ (o : List ℕ). has o m) h.opened ∙ ho m ∙ sym (mild_some F (l == m) (f m)) ∙ ap (λ (g : LinkMap). is_some (g m)) (sym h.links);
       open_now = λ hn m. ap (λ (o : List ℕ). has o m) h.open_now ∙ hn m ∙ sym (mild_open F mild (l == m) (f m)) ∙ ap (λ (g : LinkMap). is_open_in (g m)) (sym h.links);
@@ -44,34 +44,34 @@ pub give_takes : (l : ℕ) (bytes : List ℕ) (ready : Ready) (old new : Links) 
 give_takes l bytes ready old new answer h =
     let f = links_of old in
     change_takes (step.Give l bytes) ready l (with_bytes bytes) old new h (bytes_mild bytes) answer
-    (λ sent opened stopped hs. told_either (is_hearing (f l)) (Readable l) _ _
-    (λ e. record { is_open = hearing_open (f l) e; going = hearing_going (sent l) (f l) (hs l) e; change = tells_change f l (with_bytes bytes) opened stopped _ (bytes_owe bytes (sent l) (f l) (hs l) e) })
-    (λ e. tells_same f l (with_bytes bytes) opened stopped (bytes_same bytes (sent l) (f l) (hs l) e)))
+    (λ sent opened over hs. told_either (is_hearing (f l)) (Readable l) _ _
+    (λ e. record { is_open = hearing_open (f l) e; going = hearing_going (sent l) (f l) (hs l) e; change = tells_change f l (with_bytes bytes) opened over _ (bytes_owe bytes (sent l) (f l) (hs l) e) })
+    (λ e. tells_same f l (with_bytes bytes) opened over (bytes_same bytes (sent l) (f l) (hs l) e)))
     (λ sent hs m. bytes_sent bytes (l == m) (sent m) (f m) (hs m))
 
 pub last_takes : (l : ℕ) (ready : Ready) (old new : Links) → ready ≡ told_if (is_hearing (links_of old l)) (Readable l) → ChangesOne l with_last old new → Takes (step.Last l) ready old new
 last_takes l ready old new answer h =
     let f = links_of old in
     change_takes (step.Last l) ready l with_last old new h last_mild answer
-    (λ sent opened stopped hs. told_either (is_hearing (f l)) (Readable l) _ _
-    (λ e. record { is_open = hearing_open (f l) e; going = hearing_going (sent l) (f l) (hs l) e; change = tells_change f l with_last opened stopped _ (last_owes (sent l) (f l) (hs l) e) })
-    (λ e. tells_same f l with_last opened stopped (last_same (sent l) (f l) (hs l) e)))
+    (λ sent opened over hs. told_either (is_hearing (f l)) (Readable l) _ _
+    (λ e. record { is_open = hearing_open (f l) e; going = hearing_going (sent l) (f l) (hs l) e; change = tells_change f l with_last opened over _ (last_owes (sent l) (f l) (hs l) e) })
+    (λ e. tells_same f l with_last opened over (last_same (sent l) (f l) (hs l) e)))
     (λ sent hs m. last_sent (l == m) (sent m) (f m) (hs m))
 
 pub room_takes : (l count : ℕ) (ready : Ready) (old new : Links) → ready ≡ told_if (is_open_in (links_of old l)) (Writable l) → ChangesOne l (with_room count) old new → Takes (step.Room l count) ready old new
 room_takes l count ready old new answer h =
     let f = links_of old in
     change_takes (step.Room l count) ready l (with_room count) old new h (room_mild count) answer
-    (λ sent opened stopped hs. told_either (is_open_in (f l)) (Writable l) _ _
-    (λ e. record { is_open = sym (is_open_told (f l)) ∙ e; change = tells_change f l (with_room count) opened stopped _ (room_frees count (f l) e) })
-    (λ e. tells_same f l (with_room count) opened stopped (room_same count (f l) e)))
+    (λ sent opened over hs. told_either (is_open_in (f l)) (Writable l) _ _
+    (λ e. record { is_open = sym (is_open_told (f l)) ∙ e; change = tells_change f l (with_room count) opened over _ (room_frees count (f l) e) })
+    (λ e. tells_same f l (with_room count) opened over (room_same count (f l) e)))
     (λ sent hs m. room_sent count (l == m) (sent m) (f m) (hs m))
 
 pub break_takes : (l : ℕ) (old new : Links) → ChangesOne l breaking old new → Takes (step.Break l) Woken old new
 break_takes l old new h =
     let f = links_of old in
     change_takes (step.Break l) Woken l breaking old new h break_mild refl
-    (λ sent opened stopped hs. tells_same f l breaking opened stopped (break_same (f l)))
+    (λ sent opened over hs. tells_same f l breaking opened over (break_same (f l)))
     (λ sent hs m. break_sent (l == m) (sent m) (f m) (hs m))
 
 -- ---- A link is opened
@@ -91,6 +91,8 @@ fresh_told beside v h = λ i. record {
   failed = h.failed i;
   reads = h.reads i;
   beside = has v.beside;
+  dialled = false;
+  late = h.late i;
 }
 
 or_on : (a b : Bool) → b ≡ true → (a || b) ≡ true
@@ -135,20 +137,21 @@ open_takes l old new may none h =
     let f = links_of old in
     let v = h.link in
     let sent_is : sent_to v ≡ record unsent { opened = true } = λ i. record { opened = true; bytes = h.fresh.arrived i; ended = h.fresh.last i } in
-    let opens : (stopped : Bool) → AreOpened old.opened.items f → AreOpen old.open_now.items f → Opens l (state_of f old.opened.items stopped) (state_of (with_link l (Some v) f) (old.opened.items ++ l ∷ []) stopped)
-    = λ stopped ho hn. record {
+    let opens : (over : PortOver) → AreOpened old.opened.items f → AreOpen old.open_now.items f → Opens l (state_of f old.opened.items over) (state_of (with_link l (Some v) f) (old.opened.items ++ l ∷ []) over)
+    = λ over ho hn. record {
       fresh = λ was. absurd (let e : true ≡ false = sym (has_all old.opened.items l was) ∙ ho l ∙ none_some (f l) none in cc);
       this = subst (λ (o : Option MemLink). told_of o ≡ fresh_link (told_of o).beside) (sym (put_at f l (Some v))) (fresh_told old.open_now.items v h.fresh);
       beside = λ m. ap (λ (o : Option MemLink). (told_of o).beside m) (put_at f l (Some v)) ∙ ap (λ (ns : List ℕ). has ns m) h.fresh.those ∙ hn m ∙ is_open_told (f m);
       others = λ m ne. ap told_of (put_other f l (Some v) m ne);
       opened = refl;
       stopped = refl;
+      failed = refl;
     } in
     record {
       answer = sym (ap (λ (b : Bool). told_if (b && not (is_some (f l))) (Opened l)) may ∙ ap (λ (b : Bool). told_if (not b) (Opened l)) (none_some (f l) none));
-      told = λ was stopped hs ho hn.
-          subst (λ (g : LinkMap). Opens l (state_of f old.opened.items stopped) (state_of g new.opened.items stopped)) (sym h.links)
-          (subst (λ (o : List ℕ). Opens l (state_of f old.opened.items stopped) (state_of (with_link l (Some v) f) o stopped)) (sym h.opened) (opens stopped ho hn));
+      told = λ was over hs ho hn.
+          subst (λ (g : LinkMap). Opens l (state_of f old.opened.items over) (state_of g new.opened.items over)) (sym h.links)
+          (subst (λ (o : List ℕ). Opens l (state_of f old.opened.items over) (state_of (with_link l (Some v) f) o over)) (sym h.opened) (opens over ho hn));
       sent = λ was hs. subst (λ (g : LinkMap). AreSentBy (λ m. sent_next m (was m) (step.Open l)) g) (sym h.links) (open_sent l v f was none may sent_is h.sound hs);
       opened = λ ho m. ap (λ (o : List ℕ). has o m) h.opened ∙ has_more old.opened.items l m ∙ ap (λ (b : Bool). b || (l == m)) (ho m) ∙ put_some l v f m ∙ ap (λ (g : LinkMap). is_some (g m)) (sym h.links);
       open_now = λ hn m. ap (λ (o : List ℕ). has o m) h.open_now ∙ has_more old.open_now.items l m ∙ ap (λ (b : Bool). b || (l == m)) (hn m) ∙ put_open l v f none h.fresh.is_open m ∙ ap (λ (g : LinkMap). is_open_in (g m)) (sym h.links);
@@ -193,7 +196,7 @@ open_passed l links e =
     let f = links_of links in
     record {
       answer = sym (ap (λ (b : Bool). told_if b (Opened l)) e);
-      told = λ was stopped hs ho hn. record { links = λ m. refl; opened = refl; stopped = refl };
+      told = λ was over hs ho hn. record { links = λ m. refl; opened = refl; stopped = refl; failed = refl };
       sent = λ was hs m. elim (one_or_two m l) [
         | inl is ↦ subst (λ (k : ℕ). IsSentBy (sent_next k (was k) (step.Open l)) (f k)) (sym is) (passed_sent l (was l) (f l) (hs l) e)
         | inr ne ↦ subst (λ (b : Bool). IsSentBy (cond (b && may_open m) (record (was m) { opened = true }) (was m)) (f m)) (sym (two_numbers l m (λ x. ne (sym x)))) (hs m)

@@ -13,11 +13,11 @@ use Rattle.lsv_port.specs.declared.port.Ready.TheVariants as ready
 use Rattle.lsv_port.specs.declared.step.Step.{Step}
 use Rattle.lsv_port.specs.declared.step.Step.TheVariants as steps
 use Rattle.lsv_port.specs.Ledger.{HasTurnCause}
-use Rattle.lsv_port.specs.Port.{IsSame, Told}
+use Rattle.lsv_port.specs.Port.{TellsFault, Told}
 use Rattle.lsv_port.specs.Memory.Numbers.{has}
 use Rattle.lsv_port.specs.Memory.Script.{Sent, unsent, sent_next, sent_by, fails_turn, is_stop}
 use Rattle.lsv_port.specs.Memory.Links.{LinkMap, links_of, told_of, state_of, faults_of, is_open_in, IsSentBy, AreSentBy, AreOpened, AreOpen, AreSame, ready_of, Takes}
-use Rattle.lsv_port.specs.Memory.Value.{told_by, ledger_of, value_of, answer_of, turn_of, IsTurn, HasStopped, IsRun}
+use Rattle.lsv_port.specs.Memory.Value.{told_by, over_by, ledger_of, value_of, answer_of, turn_of, IsTurn, HasStopped, IsRun}
 
 -- the steps taken after one more
 steps_more : (xs : List Step) (i : ℕ) (step : Step) → slice_get xs i ≡ Some step → take (i + 1) xs ≡ take i xs ++ step ∷ []
@@ -60,13 +60,13 @@ stopped_more old step e was stopped why told = elim (why told) [
 ]
 
 -- a port runs on where a step was taken
-pub step_runs : (old : Run) (step : Step) (links : Links) (stopped : Bool) (turns refused : ℕ) → slice_get old.script.items old.done ≡ Some step → IsRun old
+pub step_runs : (old : Run) (step : Step) (links : Links) (stopped failed : Bool) (turns refused : ℕ) → slice_get old.script.items old.done ≡ Some step → IsRun old
     → ((sent : ℕ → Sent) → AreSentBy sent (links_of old.links) → AreSentBy (λ l. sent_next l (sent l) step) (links_of links))
     → (AreOpened old.links.opened.items (links_of old.links) → AreOpened links.opened.items (links_of links))
     → (AreOpen old.links.open_now.items (links_of old.links) → AreOpen links.open_now.items (links_of links))
     → (stopped ≡ true → (old.stopped ≡ true) ⊎ (step ≡ steps.Stop))
-    → IsRun (record { script = old.script; done = old.done + 1; links = links; stopped = stopped; turns = turns; refused = refused })
-step_runs old step links stopped turns refused e run sent opened open_now why = record {
+    → IsRun (record old { done = old.done + 1; links = links; stopped = stopped; failed = failed; turns = turns; refused = refused })
+step_runs old step links stopped failed turns refused e run sent opened open_now why = record {
   done = let within : old.done < length old.script.items = slice_get_within old.script.items old.done step e in omega (arith, within);
   sent = λ l. subst (λ (s : Sent). IsSentBy s (links_of links l)) (sym (sent_more l old.script.items old.done step e)) (sent (λ m. sent_by m (take old.done old.script.items)) run.sent l);
   opened = opened run.opened;
@@ -75,11 +75,11 @@ step_runs old step links stopped turns refused e run sent opened open_now why = 
 }
 
 -- a step that is none of a link's
-pub plain_runs : (old : Run) (step : Step) (stopped : Bool) (turns : ℕ) → slice_get old.script.items old.done ≡ Some step → IsRun old → ((l : ℕ) (s : Sent) → sent_next l s step ≡ s)
+pub plain_runs : (old : Run) (step : Step) (stopped failed : Bool) (turns : ℕ) → slice_get old.script.items old.done ≡ Some step → IsRun old → ((l : ℕ) (s : Sent) → sent_next l s step ≡ s)
     → (stopped ≡ true → (old.stopped ≡ true) ⊎ (step ≡ steps.Stop))
-    → IsRun (record { script = old.script; done = old.done + 1; links = old.links; stopped = stopped; turns = turns; refused = old.refused })
-plain_runs old step stopped turns e run same why =
-    step_runs old step old.links stopped turns old.refused e run
+    → IsRun (record old { done = old.done + 1; stopped = stopped; failed = failed; turns = turns })
+plain_runs old step stopped failed turns e run same why =
+    step_runs old step old.links stopped failed turns old.refused e run
     (λ sent hs l. subst (λ (s : Sent). IsSentBy s (links_of old.links l)) (sym (same l (sent l))) (hs l)) (λ h. h) (λ h. h) why
 
 pub fails_same : (step : Step) → fails_turn step ≡ true → (l : ℕ) (s : Sent) → sent_next l s step ≡ s
@@ -89,9 +89,9 @@ pub stop_same : (step : Step) → is_stop step ≡ true → (l : ℕ) (s : Sent)
 stop_same step e l s = subst (λ (t : Step). sent_next l s t ≡ s) (sym (stop_is step e)) refl
 
 -- a turn's answer
-pub turn_told : (answer : Option Ready) (old : Run) (step : Step) (links : Links) (stopped : Bool) (turns : ℕ) → slice_get old.script.items old.done ≡ Some step → answer ≡ answer_of (links_of old.links) step
-    → IsTurn answer (value_of old) (value_of (record { script = old.script; done = old.done + 1; links = links; stopped = stopped; turns = turns; refused = old.refused }))
-turn_told answer old step links stopped turns e is = record {
+pub turn_told : (answer : Option Ready) (old : Run) (step : Step) (links : Links) (stopped failed : Bool) (turns : ℕ) → slice_get old.script.items old.done ≡ Some step → answer ≡ answer_of (links_of old.links) step
+    → IsTurn answer (value_of old) (value_of (record old { done = old.done + 1; links = links; stopped = stopped; failed = failed; turns = turns }))
+turn_told answer old step links stopped failed turns e is = record {
   told = is ∙ sym (ap (turn_of (links_of old.links)) e);
   done = let within : old.done < length old.script.items = slice_get_within old.script.items old.done step e in omega (arith, within);
   refused = refl;
@@ -108,14 +108,14 @@ link_answer f step told e s is = ap (λ (r : Ready). Some r) is ∙ sym (ap (λ 
 
 -- what a link's step tells
 pub link_told : (old : Run) (step : Step) (told : Ready) (links : Links) → IsRun old → Takes step told old.links links
-    → Told told (told_by old) (state_of (links_of links) links.opened.items old.stopped)
-link_told old step told links run h = h.told (λ l. sent_by l (take old.done old.script.items)) old.stopped run.sent run.opened run.open_now
+    → Told told (told_by old) (state_of (links_of links) links.opened.items (over_by old))
+link_told old step told links run h = h.told (λ l. sent_by l (take old.done old.script.items)) (over_by old) run.sent run.opened run.open_now
 
 -- ---- A turn to which memory was refused
 
-pub refused_runs : (old : Run) (links : Links) (turns refused : ℕ) → IsRun old → AreSame old.links links
-    → IsRun (record { script = old.script; done = old.done; links = links; stopped = old.stopped; turns = turns; refused = refused })
-refused_runs old links turns refused run same = record {
+pub refused_runs : (old : Run) (links : Links) (failed : Bool) (turns refused : ℕ) → IsRun old → AreSame old.links links
+    → IsRun (record old { links = links; failed = failed; turns = turns; refused = refused })
+refused_runs old links failed turns refused run same = record {
   done = run.done;
   sent = subst (λ (g : LinkMap). AreSentBy (λ l. sent_by l (take old.done old.script.items)) g) (sym same.links) run.sent;
   opened = λ m. ap (λ (ns : List ℕ). has ns m) same.opened ∙ run.opened m ∙ ap (λ (g : LinkMap). is_some (g m)) (sym same.links);
@@ -123,12 +123,13 @@ refused_runs old links turns refused run same = record {
   stopped = run.stopped;
 }
 
-pub refused_told : (old : Run) (links : Links) (stopped : Bool) → AreSame old.links links → IsSame (state_of (links_of old.links) old.links.opened.items stopped) (state_of (links_of links) links.opened.items stopped)
-refused_told old links stopped same = record { links = λ l. ap (λ (g : LinkMap). told_of (g l)) same.links; opened = same.opened; stopped = refl }
+pub refused_told : (old : Run) (links : Links) (stopped : Bool) → AreSame old.links links
+    → TellsFault (state_of (links_of old.links) old.links.opened.items (record { stopped = stopped; failed = old.failed })) (state_of (links_of links) links.opened.items (record { stopped = stopped; failed = true }))
+refused_told old links stopped same = record { links = λ l. ap (λ (g : LinkMap). told_of (g l)) same.links; opened = same.opened; stopped = refl; failed = refl }
 
-pub refused_cause : (old : Run) (links : Links) (turns refused : ℕ) (failed : Type 0) → AreSame old.links links → old.turns ≤ turns → HasRisen old.turns turns
-    → HasTurnCause failed (ledger_of old) (ledger_of (record { script = old.script; done = old.done; links = links; stopped = old.stopped; turns = turns; refused = refused }))
-refused_cause old links turns refused failed same more risen = record {
-  continues = record { script = refl; turns = more; links = λ l. subst (λ (g : LinkMap). faults_of (links_of old.links l) ≤ faults_of (g l)) (sym same.links) (omega arith) };
+pub refused_cause : (old : Run) (links : Links) (fault : Bool) (turns refused : ℕ) (failed : Type 0) → AreSame old.links links → old.turns ≤ turns → HasRisen old.turns turns
+    → HasTurnCause failed (ledger_of old) (ledger_of (record old { links = links; failed = fault; turns = turns; refused = refused }))
+refused_cause old links fault turns refused failed same more risen = record {
+  continues = record { script = refl; listens = refl; turns = more; links = λ l. subst (λ (g : LinkMap). faults_of (links_of old.links l) ≤ faults_of (g l)) (sym same.links) (omega arith) };
   risen = λ e. risen;
 }

@@ -1,26 +1,54 @@
 -- What stays of a port from call to call, whether it tells its content or not, and why a call failed.
-use Rattle.std.specs.Prelude.{◌≡◌, ℕ, ◌≤◌, List}
+use Rattle.std.specs.Prelude.{◌≡◌, ◌⊎◌, ℕ, ◌≤◌, List, [], ◌∷◌, ◌++◌, Option}
 use Rattle.lsv_words.specs.Causes.{HasRisen}
 use Rattle.lsv_port.specs.declared.step.Step.{Step}
 
--- the steps that it takes, where they are fixed beforehand; how often listening and turns failed; and of each link how often its reads and writes did
+-- what a port was asked to listen on: an address, and after how many links, opened and closed, it tells Stop
+pub record Listening : Type 0 where
+  pub address : List ℕ
+  pub stop_after : Option ℕ
+
+-- the steps that it takes, if they are fixed beforehand; what it was asked to listen on, in order; how often listening and turns failed; and of each link how often its reads and writes did
 pub record PortLedger : Type 0 where
   pub script : List Step
+  pub listens : List Listening
   pub turns : ℕ
   pub links : ℕ → ℕ
 
--- it is the same port still, and no count fell
+-- it is the same port still, it was asked to listen on nothing more, and no count fell
 pub record Continues (old new : PortLedger) : Type 0 where
   pub script : new.script ≡ old.script
+  pub listens : new.listens ≡ old.listens
   pub turns : old.turns ≤ new.turns
   pub links : (l : ℕ) → old.links l ≤ new.links l
 
--- where the port failed, its count of turns rose
+-- the later ones begin with the earlier ones
+pub record AreMore (old new : List Listening) : Type 0 where
+  pub more : List Listening
+  pub are : new ≡ old ++ more
+
+-- it is the same port still, it may have been asked to listen on more, and no count fell
+pub record GoesOn (old new : PortLedger) : Type 0 where
+  pub script : new.script ≡ old.script
+  pub listens : AreMore old.listens new.listens
+  pub turns : old.turns ≤ new.turns
+  pub links : (l : ℕ) → old.links l ≤ new.links l
+
+-- it was asked to listen on this, or failed before it was noted
+abbrev pub WasAsked : Listening → (failed : Type 0) → PortLedger → PortLedger → Type 0
+WasAsked asked failed old new = (new.listens ≡ old.listens ++ asked ∷ []) ⊎ ((new.listens ≡ old.listens) × failed)
+
+-- if it couldn't listen, its count of turns rose
+pub record HasListenCause (failed : Type 0) (old new : PortLedger) : Type 0 where
+  pub goes_on : GoesOn old new
+  pub risen : failed → HasRisen old.turns new.turns
+
+-- if a turn failed, the port's count of turns rose
 pub record HasTurnCause (failed : Type 0) (old new : PortLedger) : Type 0 where
   pub continues : Continues old new
   pub risen : failed → HasRisen old.turns new.turns
 
--- where the call on this link failed, the link's count rose
+-- if the call on this link failed, the link's count rose
 pub record HasLinkCause (l : ℕ) (failed : Type 0) (old new : PortLedger) : Type 0 where
   pub continues : Continues old new
   pub risen : failed → HasRisen (old.links l) (new.links l)

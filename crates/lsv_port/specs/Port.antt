@@ -1,5 +1,5 @@
 -- What a port tells of its links, and what each answer of it says.
-use Rattle.std.specs.Prelude.{◌≡◌, ◌≢◌, ℕ, ◌<◌, ◌≤◌, Bool, true, false, List, [], ◌∷◌, ◌++◌, length, take}
+use Rattle.std.specs.Prelude.{◌≡◌, ◌≢◌, ℕ, ◌<◌, ◌≤◌, ◌||◌, Bool, true, false, List, [], ◌∷◌, ◌++◌, length, take}
 use Rattle.std.specs.List.{Contains}
 use Rattle.lsv_port.specs.declared.port.Ready.{Ready}
 use Rattle.lsv_port.specs.declared.port.Ready.TheVariants.{Opened, Readable, Writable, Woken, Stop}
@@ -27,12 +27,21 @@ pub record LinkState : Type 0 where
   pub reads : List ℕ
   -- which links were open when it was opened
   pub beside : ℕ → Bool
+  -- whether the server opened it itself, by a call to another host
+  pub dialled : Bool
+  -- whether its port had told Stop, or had failed as a whole, when it was closed
+  pub late : Bool
 
--- the links that were opened, in order; how each link stands; and whether Stop was told
+-- the links that were opened, in order; how each link stands; whether Stop was told; and whether the port failed as a whole: it couldn't listen, or a turn failed
 pub record PortState : Type 0 where
   pub opened : List ℕ
   pub link : ℕ → LinkState
   pub stopped : Bool
+  pub failed : Bool
+
+-- Stop was told, or the port failed as a whole
+abbrev pub is_over : PortState → Bool
+is_over port = port.stopped || port.failed
 
 -- the link is open
 abbrev pub IsOpen : PortState → ℕ → Type 0
@@ -48,6 +57,14 @@ pub record IsSame (old new : PortState) : Type 0 where
   pub links : (l : ℕ) → new.link l ≡ old.link l
   pub opened : new.opened ≡ old.opened
   pub stopped : new.stopped ≡ old.stopped
+  pub failed : new.failed ≡ old.failed
+
+-- the port failed as a whole, and nothing else changed
+pub record TellsFault (old new : PortState) : Type 0 where
+  pub links : (l : ℕ) → new.link l ≡ old.link l
+  pub opened : new.opened ≡ old.opened
+  pub stopped : new.stopped ≡ old.stopped
+  pub failed : new.failed ≡ true
 
 -- this link alone changed, and now stands so
 pub record Changes (l : ℕ) (now : LinkState) (old new : PortState) : Type 0 where
@@ -55,10 +72,11 @@ pub record Changes (l : ℕ) (now : LinkState) (old new : PortState) : Type 0 wh
   pub others : (m : ℕ) → m ≢ l → new.link m ≡ old.link m
   pub opened : new.opened ≡ old.opened
   pub stopped : new.stopped ≡ old.stopped
+  pub failed : new.failed ≡ old.failed
 
 -- a link that was just opened, beside these
 abbrev pub fresh_link : (ℕ → Bool) → LinkState
-fresh_link beside = record { is_open = true; input = []; output = []; ended = false; owed = true; full = false; failed = false; reads = []; beside = beside }
+fresh_link beside = record { is_open = true; input = []; output = []; ended = false; owed = true; full = false; failed = false; reads = []; beside = beside; dialled = false; late = false }
 
 -- a link of a new number was opened, beside those that were open, and nothing else changed
 pub record Opens (l : ℕ) (old new : PortState) : Type 0 where
@@ -68,6 +86,7 @@ pub record Opens (l : ℕ) (old new : PortState) : Type 0 where
   pub others : (m : ℕ) → m ≢ l → new.link m ≡ old.link m
   pub opened : new.opened ≡ old.opened ++ l ∷ []
   pub stopped : new.stopped ≡ old.stopped
+  pub failed : new.failed ≡ old.failed
 
 -- an open link whose input goes on is owed a read from now on, and nothing else changed
 pub record TellsReadable (l : ℕ) (old new : PortState) : Type 0 where
@@ -85,6 +104,7 @@ pub record TellsStop (old new : PortState) : Type 0 where
   pub links : (l : ℕ) → new.link l ≡ old.link l
   pub opened : new.opened ≡ old.opened
   pub stopped : new.stopped ≡ true
+  pub failed : new.failed ≡ old.failed
 
 -- what a turn with this answer says
 abbrev pub Told : Ready → PortState → PortState → Type 0
@@ -131,6 +151,6 @@ after_write (gave.Bytes n) bytes link = record link { output = link.output ++ ta
 after_write gave.NotYet bytes link = record link { full = true }
 after_write gave.Failed bytes link = record link { full = false; failed = true }
 
--- how the link stands after it was closed
-abbrev pub closed : LinkState → LinkState
-closed link = record link { is_open = false }
+-- how the link stands after it was closed. over: whether its port had told Stop, or had failed as a whole
+abbrev pub closed : (over : Bool) → LinkState → LinkState
+closed over link = record link { is_open = false; late = over }

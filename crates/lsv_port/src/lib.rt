@@ -7,6 +7,6 @@ mod port;
 mod step;
 
 pub use ledger::ledgers_compose;
-pub use memory::MemPort;
+pub use memory::{Asked, MemPort};
 pub use port::{Gave, Port, PortFault, Ready, Took};
 pub use step::Step;

@@ -1,16 +1,18 @@
-ghost use Rattle.std.specs.Prelude.{◌≡◌, ◌⊎◌, ◌<◌, ℕ, false, [], Some, length, IfOk, OnErr, IsErr};
+ghost use Rattle.std.specs.Prelude.{◌≡◌, ◌⊎◌, ◌<◌, ℕ, false, [], Some, length, map, IfOk, OnOk, OnErr, IsErr};
 ghost use Rattle.std.specs.Result.{result_ok};
 ghost use Rattle.lsv_port.specs.declared.memory.link.MemLink.{MemLink};
-ghost use Rattle.lsv_port.specs.Ledger.{Continues, HasTurnCause, HasLinkCause};
-ghost use Rattle.lsv_port.specs.Port.{IsOpen, IsSame, Changes, Told, TakesWithin, MayTake, GivesWithin, after_read, after_write, closed};
+ghost use Rattle.lsv_port.specs.Ledger.{Continues, HasListenCause, HasTurnCause, HasLinkCause, WasAsked};
+ghost use Rattle.lsv_port.specs.Port.{IsOpen, IsSame, Changes, Told, TellsFault, TakesWithin, MayTake, GivesWithin, after_read, after_write, closed, is_over};
 ghost use Rattle.lsv_port.specs.Memory.Link.{AnswersRead, AnswersWrite};
 ghost use Rattle.lsv_port.specs.Memory.Laws.{opened_where_open};
-ghost use Rattle.lsv_port.specs.Memory.Value.{port_state, port_ledger, link_map, IsTurn, IsRefusedTurn, TellsScript};
+ghost use Rattle.lsv_port.specs.Memory.Value.{port_state, port_ledger, link_map, listening_of, HasNoted, IsTurn, IsRefusedTurn, TellsScript};
 
+mod asked;
 mod link;
 mod links;
 mod run;
 
+pub use crate::memory::asked::Asked;
 use crate::memory::link::MemLink;
 use crate::memory::run::Run;
 use crate::{Gave, Port, PortFault, Ready, Step, Took};
@@ -42,6 +44,8 @@ impl MemPort {
         ensures done { result.done ≡ 0 }
         ensures opened { (port_state result).opened ≡ [] }
         ensures stopped { (port_state result).stopped ≡ false }
+        ensures failed { (port_state result).failed ≡ false }
+        ensures listens { (port_ledger result).listens ≡ [] }
         ensures turns { (port_ledger result).turns ≡ 0 }
         ensures refused { result.refused ≡ 0 }
     {
@@ -56,6 +60,13 @@ impl MemPort {
         ensures { result ≡ self.now.refused }
     {
         self.run.refused
+    }
+
+    /// What it was asked to listen on, in order.
+    pub fn listens(&self) -> &[Asked]
+        ensures { map listening_of result.now ≡ (port_ledger self.now).listens }
+    {
+        &self.run.listens
     }
 
     /// The numbers of the links that were opened, in order.
@@ -114,19 +125,23 @@ impl Port for MemPort {
 
     ghost open_was_opened = { λ told port link here. opened_where_open port link here };
 
-    /// It has no address, and never fails.
-    fn listen(&mut self, _address: &str, _stop_after: Option<u32>) -> Result<(), PortFault>
-        ensures same { self.new ≡ self.old }
-        ensures cause { HasTurnCause (IsErr result) (port_ledger self.old) (port_ledger self.new) }
+    /// Notes what it is asked to listen on. Its links are those of its script, whatever the address; and it tells Stop where
+    /// the script does. It fails only if memory is refused.
+    fn listen(&mut self, address: &str, stop_after: Option<u32>) -> Result<(), PortFault>
+        ensures same { OnOk result (IsSame (port_state self.old) (port_state self.new)) }
+        ensures failed { OnErr result (TellsFault (port_state self.old) (port_state self.new)) }
+        ensures asked { WasAsked (record { address = address.now; stop_after = stop_after }) (IsErr result) (port_ledger self.old) (port_ledger self.new) }
+        ensures cause { HasListenCause (IsErr result) (port_ledger self.old) (port_ledger self.new) }
+        ensures noted { HasNoted (IsErr result) self.old self.new }
     {
-        Ok(())
+        self.run.listen(self.alloc, address, stop_after)
     }
 
     /// Takes the next step of the script, and tells what it made; behind the last one it tells Stop. It fails at a
     /// BreakTurn; and where memory is refused, without a step.
     fn turn(&mut self, _held: &[u32]) -> Result<Ready, PortFault>
         ensures told { IfOk result (λ ready. Told ready (port_state self.old) (port_state self.new)) }
-        ensures failed { OnErr result (IsSame (port_state self.old) (port_state self.new)) }
+        ensures failed { OnErr result (TellsFault (port_state self.old) (port_state self.new)) }
         ensures cause { HasTurnCause (IsErr result) (port_ledger self.old) (port_ledger self.new) }
         ensures answer { IsTurn (result_ok result) self.old self.new ⊎ IsRefusedTurn (result_ok result) self.old self.new }
     {
@@ -162,7 +177,7 @@ impl Port for MemPort {
 
     fn close(&mut self, link: u32)
         requires is_open { IsOpen (port_state self.old) link }
-        ensures change { Changes link (closed ((port_state self.old).link link)) (port_state self.old) (port_state self.new) }
+        ensures change { Changes link (closed (is_over (port_state self.old)) ((port_state self.old).link link)) (port_state self.old) (port_state self.new) }
         ensures continues { Continues (port_ledger self.old) (port_ledger self.new) }
     {
         self.run.close(link);

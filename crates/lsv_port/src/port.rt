@@ -1,7 +1,7 @@
-ghost use Rattle.std.specs.Prelude.{◌≡◌, ℕ, ◌<◌, length, IfOk, OnErr, IsErr};
+ghost use Rattle.std.specs.Prelude.{◌≡◌, ℕ, ◌<◌, length, IfOk, OnOk, OnErr, IsErr};
 ghost use Rattle.std.specs.List.{Contains};
-ghost use Rattle.lsv_port.specs.Ledger.{PortLedger, Continues, HasTurnCause, HasLinkCause};
-ghost use Rattle.lsv_port.specs.Port.{PortState, IsOpen, IsOwed, IsSame, Changes, Told, TakesWithin, MayTake, GivesWithin, after_read, after_write, closed};
+ghost use Rattle.lsv_port.specs.Ledger.{PortLedger, Continues, HasListenCause, HasTurnCause, HasLinkCause, WasAsked};
+ghost use Rattle.lsv_port.specs.Port.{PortState, IsOpen, IsOwed, IsSame, Changes, Told, TellsFault, TakesWithin, MayTake, GivesWithin, after_read, after_write, closed, is_over};
 
 use thiserror::Error;
 
@@ -56,23 +56,29 @@ pub trait Port {
     /// Whether this type tells its content: what it says of its links is promised where it does.
     ghost tells: { Type 0 };
 
-    /// The links so far: which were opened, and of each what was read and put, and how it stands.
+    /// The links so far: which were opened, and of each what was read and put, and how it stands. And whether Stop was
+    /// told, or the port failed as a whole.
     ghost state: { Self → PortState };
 
-    /// What stays from call to call, whether it tells or not: its script, and the counts of its faults.
+    /// What stays from call to call, whether it tells or not: its script, what it was asked to listen on, and the counts of
+    /// its faults.
     ghost ledger: { Self → PortLedger };
 
     /// Begins to take links at this address, a host and a port number as `*:30343`. With a number in `stop_after`
-    /// a turn tells Stop once so many links were opened and closed.
+    /// a turn tells Stop once so many links were opened and closed. A port that tells notes what it was asked to listen on.
     fn listen(&mut self, address: &str, stop_after: Option<u32>) -> Result<(), PortFault>
-        ensures same { tells → IsSame (state self.old) (state self.new) }
-        ensures cause { HasTurnCause (IsErr result) (ledger self.old) (ledger self.new) };
+        ensures same { tells → OnOk result (IsSame (state self.old) (state self.new)) }
+        ensures failed { tells → OnErr result (TellsFault (state self.old) (state self.new)) }
+        ensures asked { tells → WasAsked (record { address = address.now; stop_after = stop_after }) (IsErr result) (ledger self.old) (ledger self.new) }
+        ensures cause { HasListenCause (IsErr result) (ledger self.old) (ledger self.new) };
 
-    /// Waits until there is something to tell, or a while. Each link that is owed a read stands among those held.
+    /// Waits until there is something to tell, or a while. Each link that is owed a read stands among those held. Of a held
+    /// link a turn needn't tell Readable, as its holder tries it in any case. So a link that is owed no read is held only
+    /// where what still comes on it isn't wanted.
     fn turn(&mut self, held: &[u32]) -> Result<Ready, PortFault>
         requires held { tells → (link : ℕ) → IsOwed (state self.old) link → Contains held.now link }
         ensures told { tells → IfOk result (λ ready. Told ready (state self.old) (state self.new)) }
-        ensures failed { tells → OnErr result (IsSame (state self.old) (state self.new)) }
+        ensures failed { tells → OnErr result (TellsFault (state self.old) (state self.new)) }
         ensures cause { HasTurnCause (IsErr result) (ledger self.old) (ledger self.new) };
 
     /// Reads what has come on an open link, as much as the buffer takes. It never waits.
@@ -92,10 +98,10 @@ pub trait Port {
         ensures change { tells → Changes link (after_write result bytes.now ((state self.old).link link)) (state self.old) (state self.new) }
         ensures cause { HasLinkCause link (result ≡ Gave.Failed) (ledger self.old) (ledger self.new) };
 
-    /// Closes an open link. What was told of it stays as it was last.
+    /// Closes an open link. What was told of it stays as it was last, with whether Stop or a failure of the port had come.
     fn close(&mut self, link: u32)
         requires is_open { tells → IsOpen (state self.old) link }
-        ensures change { tells → Changes link (closed ((state self.old).link link)) (state self.old) (state self.new) }
+        ensures change { tells → Changes link (closed (is_over (state self.old)) ((state self.old).link link)) (state self.old) (state self.new) }
         ensures continues { Continues (ledger self.old) (ledger self.new) };
 
     /// A link that is open was opened.

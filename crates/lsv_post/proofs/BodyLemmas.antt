@@ -1,5 +1,5 @@
 -- What a connection brought, told without why it ended.
-use Rattle.std.proofs.Common.{◌≡◌, ◌≢◌, ℕ, zero, suc, ◌+◌, ◌<◌, Bool, true, false, List, [], ◌∷◌, ◌++◌, length, refl, sym, ap, subst, ◌∙◌, append_assoc, inl, inr, ⊎_elim, arith}
+use Rattle.std.proofs.Common.{◌≡◌, ◌≢◌, ℕ, zero, suc, ◌+◌, ◌<◌, ◌==◌, if◌then◌else◌, Bool, true, false, Option, Some, None, List, [], ◌∷◌, ◌++◌, length, refl, sym, ap, subst, ◌∙◌, append_assoc, inl, inr, ⊎_elim, arith}
 use Rattle.std.proofs.lemmas.List.{append-nil, length-append}
 use Rattle.lsv_wire.specs.Frame.{IsPartial}
 use Rattle.lsv_wire.specs.declared.framing.TheConstants.{FRAME_LIMIT}
@@ -9,8 +9,13 @@ use Rattle.lsv_session.specs.declared.job.Body.{Body}
 use Rattle.lsv_session.specs.declared.job.Body.TheVariants.{Msg, Gone}
 use Rattle.lsv_session.proofs.Jobs.{cut_message, cut_nothing}
 use Rattle.lsv_turns.specs.Turns.{EndsWithGone}
-use Rattle.lsv_reactor.specs.Links.{AtMostStarved, Brings, is_bad, was_bad}
-use Rattle.lsv_worker.specs.Incoming.{Heard, IsWhole, is_shut, last_words}
+use Rattle.lsv_links.specs.Lanes.{share}
+use Rattle.lsv_links.proofs.PrefixLemmas.{brings_first}
+use Rattle.lsv_links.specs.Links.{AtMostStarved, Brings, BringsSome, is_bad, was_bad}
+use Rattle.lsv_worker.specs.Incoming.{AreBodies, Heard, Hears, IsWhole, Marks, is_shut, last_words, pending}
+use Rattle.lsv_worker.specs.declared.incoming.Incoming.{Incoming}
+use Rattle.lsv_worker.specs.declared.incoming.Stage.{Stage}
+use Rattle.lsv_worker.specs.declared.incoming.Stage.TheVariants.{Hearing, Ending, Starving, Leaving, Left}
 use Rattle.lsv_worker.specs.declared.incoming.Why.{Why}
 use Rattle.lsv_worker.specs.declared.incoming.Why.TheVariants.{Ended, Refused, Shut, Starved}
 use Rattle.lsv_post.proofs.BoolLemmas.{or_front, or_later, true_or}
@@ -154,6 +159,57 @@ brings why read shut bodies some h was =
     not_shut Refused shut was e = refl
     not_shut Shut shut was e = absurd (let yes = was refl in cc)
     not_shut Starved shut was e = refl
+
+-- so is what a connection brings that ends so
+whole_some : (why : Why) (read : List ℕ) (bodies : List Body) → (jobs : List Body) × AreJobs read jobs → IsWhole why read bodies → BringsSome read bodies
+whole_some why read bodies some h =
+    let of = heard_of why read h.heard some h.are in
+    record {
+      heard = h.heard;
+      starved = last_words why;
+      first = ([], sym h.whole ∙ sym (append-nil bodies));
+      at_most = at_most why;
+      jobs = of.jobs;
+      of_input = of.of_input;
+      of_jobs = of.first;
+    }
+
+-- and what was cut so far
+cut_some : (read rest bodies : _) → (jobs : List Body) × AreJobs read jobs → HasCut read bodies rest → BringsSome read bodies
+cut_some read rest bodies some h =
+    let began = h.began [] some.0 (subst (λ (b : List ℕ). AreJobs b some.0) (sym (append-nil read)) some.1) in
+    record {
+      heard = bodies;
+      starved = [];
+      first = (Gone ∷ [], refl);
+      at_most = inl refl;
+      jobs = some.0;
+      of_input = some.1;
+      of_jobs = (began.0, began.1);
+    }
+
+stage_some : (stage : Stage) (read rest : List ℕ) (bodies : List Body) → (jobs : List Body) × AreJobs read jobs → AreBodies stage read rest bodies → BringsSome read bodies
+stage_some Hearing read rest bodies some h = cut_some read rest bodies some h
+stage_some Ending read rest bodies some h = cut_some read rest bodies some h
+stage_some Starving read rest bodies some h = whole_some Starved read bodies some h
+stage_some (Leaving why) read rest bodies some h = whole_some why read bodies some h
+stage_some (Left why) read rest bodies some h = whole_some why read bodies some h
+
+first_if : (b : Bool) (said : List Body) → AreFirst (if b then said else []) said
+first_if true said = ([], sym (append-nil said))
+first_if false said = (said, refl)
+
+share_first : (at : Option ℕ) (lane : ℕ) (said : List Body) → AreFirst (share at lane said) said
+share_first None lane said = (said, refl)
+share_first (Some n) lane said = first_if (lane == n) said
+
+-- what was put of a connection to a lane is the first of what it brings
+pub hears_some : (link : Incoming) (read : List ℕ) (put : ℕ → List Body) (marks : Marks) (lane : ℕ) → (jobs : List Body) × AreJobs read jobs → Hears link read put marks → BringsSome read (put lane)
+hears_some link read put marks lane some h =
+    let part = share_first link.route.lane lane h.said in
+    subst (BringsSome read) (sym (h.routed.to_lane lane))
+    (brings_first read (share link.route.lane lane h.said) (h.said ++ pending link) (part.0 ++ pending link, ap (λ (l : List Body). l ++ pending link) part.1 ∙ append_assoc (share link.route.lane lane h.said) part.0 (pending link))
+    (stage_some link.stage read link.rest (h.said ++ pending link) some h.bodies))
 
 -- and its end is the last of it
 pub ends_whole : (why : Why) (read : List ℕ) (bodies : List Body) → (jobs : List Body) × AreJobs read jobs → IsWhole why read bodies → EndsWithGone bodies

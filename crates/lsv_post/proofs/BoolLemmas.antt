@@ -1,5 +1,5 @@
 -- Truth values.
-use Rattle.std.proofs.Common.{◌≡◌, ◌||◌, Bool, true, false, refl}
+use Rattle.std.proofs.Common.{◌≡◌, ◌⊎◌, ◌||◌, Bool, true, false, refl, inl, inr}
 
 pub true_or : (b : Bool) → (b ≡ false → ⊥) → b ≡ true
 true_or true not_so = refl
@@ -20,3 +20,7 @@ or_later false c e = e
 pub or_front : (b c d : Bool) → (c ≡ true → d ≡ true) → (b || c) ≡ true → (b || d) ≡ true
 or_front true c d so e = refl
 or_front false c d so e = so e
+
+pub true_or_false : (b : Bool) → (b ≡ true) ⊎ (b ≡ false)
+true_or_false true = inl refl
+true_or_false false = inr refl

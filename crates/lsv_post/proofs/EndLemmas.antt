@@ -4,14 +4,17 @@ use Rattle.std.specs.List.{All}
 use Rattle.std.proofs.lemmas.List.{append-nil}
 use Rattle.lsv_port.specs.Ledger.{PortLedger}
 use Rattle.lsv_port.specs.Port.{PortState}
-use Rattle.lsv_reactor.specs.Links.{PortFailed, PortView, ServesPort}
+use Rattle.lsv_links.specs.Links.{ServesPort}
+use Rattle.lsv_links.specs.Views.{PortFailed, PortView}
 use Rattle.lsv_reactor.specs.declared.post.PostEnd.TheVariants as ends
 use Rattle.lsv_session.specs.Transcript.{AreJobs}
 use Rattle.lsv_session.specs.declared.job.Body.{Body}
 use Rattle.lsv_session.specs.declared.job.Job.{Job}
 use Rattle.lsv_session.specs.declared.reply.Reply.{Reply}
 use Rattle.lsv_turns.specs.Turns.{AreAsked}
-use Rattle.lsv_worker.specs.Memory.{jobs_in, waiting}
+use Rattle.lsv_links.specs.Lanes.{one_lane}
+use Rattle.lsv_worker.specs.Links.{IsTold}
+use Rattle.lsv_worker.specs.Memory.{waiting}
 use Rattle.lsv_worker.specs.Worker.{Stands, setting}
 use Rattle.lsv_worker.specs.declared.link.Link.{Link}
 use Rattle.lsv_worker.specs.declared.link.Phase.{Phase}
@@ -22,6 +25,7 @@ use Rattle.lsv_post.specs.declared.mode.Mode.{Mode}
 use Rattle.lsv_post.specs.declared.mode.Mode.TheVariants.{Going, Failing, Stopping, Failed}
 use Rattle.lsv_post.specs.declared.post.WorkerPost.{WorkerPost}
 use Rattle.lsv_post.proofs.LinkLemmas.{HasEnded, serves_port}
+use Rattle.lsv_post.proofs.StepLemmas.{kept_all}
 
 -- in this mode a post ends
 abbrev pub IsOver : Mode → Type 0
@@ -49,25 +53,28 @@ pub port_failed : (mode : Mode) (phase : Phase) (F : Type 0) → mode ≡ Failed
 port_failed mode phase F e on = let f : IsInMode Failed phase F = subst (λ (c : Mode). IsInMode c phase F) e on in f.1
 
 module _ {P : Type 0} (tells : Type 0) (state : P → PortState) (ledger : P → PortLedger) (start : PortView) (post : WorkerPost P) (gave : List Job) (took : List Reply) (told : tells) (made : IsMade tells state ledger start post gave took) (whole : post.lost ≡ false) (none : post.worker.links.items ≡ []) where
-  stands : Stands (setting post.worker) [] (state post.port) (λ lane. jobs_in lane gave) took
+  stands : Stands (setting post.worker) [] (state post.port) (λ lane. one_lane lane gave) took
   stands =
-      subst (λ (r : List Reply). Stands (setting post.worker) [] (state post.port) (λ lane. jobs_in lane gave) r) (made.way.are_kept.all whole)
-      (subst (λ (js : List Job). Stands (setting post.worker) [] (state post.port) (λ lane. jobs_in lane js) made.way.kept) (ap (λ (w : List Job). gave ++ w) made.given ∙ append-nil gave)
-      (subst (λ (l : List Link). Stands (setting post.worker) l (state post.port) (λ lane. jobs_in lane (gave ++ waiting post.inbox)) made.way.kept) none (made.way.stands told).represents))
+      subst (λ (r : List Reply). Stands (setting post.worker) [] (state post.port) (λ lane. one_lane lane gave) r) (kept_all post.lost took made.way.kept whole made.way.are_kept)
+      (subst (λ (js : List Job). Stands (setting post.worker) [] (state post.port) (λ lane. one_lane lane js) made.way.kept) (ap (λ (w : List Job). gave ++ w) made.given ∙ append-nil gave)
+      (subst (λ (l : List Link). Stands (setting post.worker) l (state post.port) (λ lane. one_lane lane (gave ++ waiting post.inbox)) made.way.kept) none (made.way.stands told).represents))
 
   has_ended : IsOver post.mode → HasEnded (setting post.worker) start (view_by state ledger post.port) gave took
   has_ended over = record {
     stands = stands;
-    unopened = made.way.goes_on.unopened told;
-    blame = made.way.goes_on.blame told;
-    continues = made.way.goes_on.continues;
+    lanes = made.way.one.lanes;
+    unopened = made.way.went_on.unopened told;
+    blame = made.way.went_on.blame told;
+    goes_on = made.way.went_on.goes_on;
     over = phase_over post.mode (setting post.worker).phase (PortFailed start (view_by state ledger post.port)) over made.way.mode;
   }
 
   -- each link of its port was served
-  pub served : ((bytes : List ℕ) → All (λ b. b < 256) bytes → (jobs : List Body) × AreJobs bytes jobs) → IsOver post.mode → ServesPort (AreAsked gave took) (setting post.worker).number gave took start (view_by state ledger post.port)
+  pub served : ((bytes : List ℕ) → All (λ b. b < 256) bytes → (jobs : List Body) × AreJobs bytes jobs) → IsOver post.mode → ServesPort (λ lane. AreAsked gave took) 1 (setting post.worker).number (λ lane. one_lane lane gave) (λ lane. one_lane lane took) start (view_by state ledger post.port)
   served always over = serves_port always (setting post.worker) start (view_by state ledger post.port) gave took (has_ended over)
 
   -- its port told Stop, where it ended so
   pub was_stopped : post.mode ≡ Stopping → (state post.port).stopped ≡ true
-  was_stopped e = stands.stop (subst (λ (c : Mode). IsInMode c (setting post.worker).phase (PortFailed start (view_by state ledger post.port))) e made.way.mode)
+  was_stopped e =
+      let phase : (setting post.worker).phase ≡ phases.Stopping = subst (λ (c : Mode). IsInMode c (setting post.worker).phase (PortFailed start (view_by state ledger post.port))) e made.way.mode in
+      subst (λ (p : Phase). IsTold p (state post.port)) phase stands.told

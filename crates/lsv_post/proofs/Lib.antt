@@ -3,6 +3,7 @@ pub mod SeatLemmas
 pub mod BodyLemmas
 pub mod ReplyLemmas
 pub mod LinkLemmas
+pub mod PutLemmas
 pub mod StepLemmas
 pub mod CallLemmas
 pub mod EndLemmas

@@ -67,3 +67,11 @@ seat_found number l n k e = seat_at number l n k (seat_of number l n) e
 -- different links are different connections
 pub seats_apart : (number : ℕ → ℕ) (n l m k : ℕ) → seat_below number l n ≡ Some k → seat_below number m n ≡ Some k → l ≡ m
 seats_apart number n l m k e f = sym (seat_found number l n k e).is ∙ (seat_found number m n k f).is
+
+none_if : (number : ℕ → ℕ) (l n : ℕ) {o : Option ℕ} → SeatOf number l n o → ((k : ℕ) → 1 ≤ k → k < n → number k ≡ l → ⊥) → o ≡ None
+none_if number l n (taken k first below is) never = absurd (never k first below is)
+none_if number l n (free none) never = refl
+
+-- a link that no connection has is none
+pub seat_none : (number : ℕ → ℕ) (l n : ℕ) → ((k : ℕ) → 1 ≤ k → k < n → number k ≡ l → ⊥) → seat_below number l n ≡ None
+seat_none number l n never = none_if number l n (seat_of number l n) never

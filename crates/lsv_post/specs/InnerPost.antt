@@ -1,15 +1,16 @@
 -- For proofs of a post: what it stands for between two calls, and within one.
 use Rattle.std.specs.Prelude.{◌≡◌, ◌⊎◌, ◌++◌, ℕ, Bool, true, false, Option, Some, None, List, []}
-use Rattle.lsv_port.specs.Ledger.{Continues, PortLedger}
+use Rattle.lsv_port.specs.Ledger.{GoesOn, PortLedger}
 use Rattle.lsv_port.specs.Port.{PortState}
 use Rattle.lsv_port.specs.declared.port.Ready.{Ready}
 use Rattle.lsv_port.specs.declared.port.Ready.TheVariants as ready
-use Rattle.lsv_reactor.specs.Links.{LinkFailed, PortFailed, PortView}
+use Rattle.lsv_links.specs.Views.{LinkFailed, PortFailed, PortView}
 use Rattle.lsv_reactor.specs.declared.post.PostEnd.{PostEnd}
 use Rattle.lsv_reactor.specs.declared.post.PostEnd.TheVariants as ends
 use Rattle.lsv_session.specs.declared.job.Job.{Job}
 use Rattle.lsv_session.specs.declared.reply.Reply.{Reply}
-use Rattle.lsv_worker.specs.Memory.{IsOrderly, jobs_in, waiting}
+use Rattle.lsv_links.specs.Lanes.{one_lane}
+use Rattle.lsv_worker.specs.Memory.{IsOrderly, waiting}
 use Rattle.lsv_worker.specs.Worker.{HoldsOwed, IsFit, Represents, setting}
 use Rattle.lsv_worker.specs.declared.link.Phase.{Phase}
 use Rattle.lsv_worker.specs.declared.link.Phase.TheVariants as phases
@@ -49,6 +50,13 @@ IsInMode Failing phase failed = (phase ≡ phases.Going) × failed
 IsInMode Stopping phase failed = phase ≡ phases.Stopping
 IsInMode Failed phase failed = ((phase ≡ phases.Failed) ⊎ (phase ≡ phases.Stopping)) × failed
 
+-- the port of a post that goes on has not failed as a whole; and it has where its worker is still to learn it
+abbrev pub IsFaulted : Mode → PortState → Type 0
+IsFaulted Going port = port.failed ≡ false
+IsFaulted Failing port = port.failed ≡ true
+IsFaulted Stopping port = Unit {0}
+IsFaulted Failed port = Unit {0}
+
 -- the worker and the inbox are those of one post
 pub record AreOne (worker : Worker) (inbox : MemInbox) : Type 0 where
   pub fit : IsFit worker
@@ -57,25 +65,28 @@ pub record AreOne (worker : Worker) (inbox : MemInbox) : Type 0 where
   pub orderly : IsOrderly inbox
 
 -- the port went on from this start, its links' failures are counted since, and it had opened none
-pub record GoesOn (tells : Type 0) (start now : PortView) : Type 0 where
-  pub continues : Continues start.ledger now.ledger
+pub record WentOn (tells : Type 0) (start now : PortView) : Type 0 where
+  pub goes_on : GoesOn start.ledger now.ledger
   pub unopened : tells → start.state.opened ≡ []
   pub blame : tells → (l : ℕ) → (now.state.link l).failed ≡ true → LinkFailed l start now
 
 -- the worker stands for these jobs, all of its one lane, and for these replies; what it owes reads is held where its port turns next
 pub record StandsFor (worker : Worker) (port : PortState) (jobs : List Job) (replies : List Reply) : Type 0 where
-  pub represents : Represents worker port (λ lane. jobs_in lane jobs) replies
+  pub represents : Represents worker port (λ lane. one_lane lane jobs) replies
   pub holds : (setting worker).phase ≡ phases.Going → HoldsOwed worker port
 
--- these replies were kept of those that were taken: all of them, where none was lost
+-- these replies were kept of those that were taken, and the later ones dropped: none of them, unless one was lost
 pub record AreKept (lost : Bool) (took kept : List Reply) : Type 0 where
-  pub all : lost ≡ false → kept ≡ took
+  pub rest : List Reply
+  pub is : took ≡ kept ++ rest
+  pub all : lost ≡ false → rest ≡ []
 
 -- A post within a call: from this start on it gave these jobs, and those that wait in its inbox are still to be given; and it took these replies.
 pub record IsUnderWay {P : Type 0} (tells : Type 0) (state : P → PortState) (ledger : P → PortLedger) (start : PortView) (post : WorkerPost P) (gave : List Job) (took : List Reply) : Type 0 where
   pub one : AreOne post.worker post.inbox
   pub mode : IsInMode post.mode (setting post.worker).phase (PortFailed start (view_by state ledger post.port))
-  pub goes_on : GoesOn tells start (view_by state ledger post.port)
+  pub fault : tells → IsFaulted post.mode (state post.port)
+  pub went_on : WentOn tells start (view_by state ledger post.port)
   pub kept : List Reply
   pub are_kept : AreKept post.lost took kept
   pub stands : tells → StandsFor post.worker (state post.port) (gave ++ waiting post.inbox) kept

@@ -1,6 +1,7 @@
 -- What a worker's own jobs and replies say of its port, all say.
 use Rattle.std.proofs.Common.{◌≡◌, ◌≢◌, ◌++◌, ◌∷◌, [], List, ℕ, Bool, true, false, Option, Some, None, refl, sym, ap, subst, ◌∙◌}
-use Rattle.std.specs.Prelude.{◌==◌, ◌&&◌, ◌||◌, not, if◌then◌else◌}
+use Rattle.std.specs.Prelude.{◌==◌, ◌&&◌, ◌||◌, ◌%◌, zero, suc, not, if◌then◌else◌}
+use Rattle.lsv_words.specs.Pieces.{IsPrefix}
 use Rattle.lsv_wire.specs.Frame.{frame_of}
 use Rattle.lsv_msg.specs.Messages.{server_bytes}
 use Rattle.lsv_msg.specs.declared.messages.ServerMessage.{ServerMessage}
@@ -10,9 +11,16 @@ use Rattle.lsv_session.specs.declared.connection.ConnId.{ConnId}
 use Rattle.lsv_session.specs.declared.job.Body.{Body}
 use Rattle.lsv_session.specs.declared.job.Job.{Job}
 use Rattle.lsv_session.specs.declared.reply.Reply.{Reply}
-use Rattle.lsv_turns.specs.Turns.{AreAsked, EndsWithGone, NoneFor, is_shut, shuts}
-use Rattle.lsv_reactor.specs.Links.{IsServed, PortView, ServesLink, ServesPort, conn_of}
-use Rattle.lsv_reactor.specs.Turns.{jobs_of, replies_to}
+use Rattle.lsv_turns.specs.Turns.{AreAsked, AreAskedIn, EndsWithGone, LaneTurn, NoneFor, is_shut, jobs_in, replies_in, shuts}
+use Rattle.std.specs.List.{Contains}
+use Rattle.lsv_links.specs.Lanes.{lane_of, one_lane}
+use Rattle.lsv_links.proofs.PrefixLemmas.{brings_first}
+use Rattle.lsv_links.specs.Links.{BringsSome, IsPut, IsServed, PutsPrefixes, ServesBy, ServesLink, ServesPort, ServesSome, conn_of}
+use Rattle.lsv_links.specs.Turns.{jobs_of, replies_to}
+use Rattle.lsv_links.specs.Views.{PortView}
+use Rattle.lsv_port.specs.Port.{LinkState, PortState}
+use Rattle.std.proofs.lemmas.List.Elements.{Contains-append_left}
+use Rattle.lsv_session.proofs.Replies.{bodies_of-append}
 use Rattle.lsv_reactor.proofs.Own.{EqOr.equal, EqOr.unequal, contains_own, eq_or}
 
 -- ---- Its own connections
@@ -116,27 +124,137 @@ asked_own w jobs replies a = record {
 
 -- ---- The port
 
-module _ (tells : Type 0) (w : ℕ) (jobs : List Job) (replies : List Reply) (old new : PortView) (asks : tells → AreAsked jobs replies) where
-  served_own : (l : ℕ) (seat : Option ℕ) → IsServed (AreAsked (jobs_of w jobs) (replies_to w replies)) w l seat (jobs_of w jobs) (replies_to w replies) old new → IsServed tells w l seat jobs replies old new
+by_same : (F G : Type 0) (k : ConnId) (l : ℕ) (mine all : List Job) (took replies : List Reply) (old new : PortView) → (G → F) → bodies_of k mine ≡ bodies_of k all → shuts k took ≡ shuts k replies → answers k took ≡ answers k replies
+    → ServesBy F k l mine took old new → ServesBy G k l all replies old new
+by_same F G k l mine all took replies old new tells b h a t = record {
+  brings = rw (b, h) at t.brings;
+  cause = rw (b, h) at t.cause;
+  paid = rw (b, h) at t.paid;
+  prefix = rw a at t.prefix;
+  puts = λ told. rw a at t.puts (tells told);
+}
+
+module _ (tells : Type 0) (w : ℕ) (turns : List LaneTurn) (old new : PortView) (asks : tells → AreAskedIn turns) where
+  -- its own jobs, and its own replies
+  abbrev mine : List Job
+  mine = jobs_of w (jobs_in turns)
+
+  abbrev took : List Reply
+  took = replies_to w (replies_in turns)
+
+  bodies_same : (seq lane : ℕ) → bodies_of (conn_of w seq) (one_lane lane mine) ≡ bodies_of (conn_of w seq) (jobs_in (one_lane lane turns))
+  bodies_same seq zero = bodies_own w seq (jobs_in turns)
+  bodies_same seq (suc lane) = refl
+
+  shuts_same : (seq lane : ℕ) → shuts (conn_of w seq) (one_lane lane took) ≡ shuts (conn_of w seq) (replies_in (one_lane lane turns))
+  shuts_same seq zero = shuts_own w seq (replies_in turns)
+  shuts_same seq (suc lane) = refl
+
+  answers_same : (seq lane : ℕ) → answers (conn_of w seq) (one_lane lane took) ≡ answers (conn_of w seq) (replies_in (one_lane lane turns))
+  answers_same seq zero = answers_own w seq (replies_in turns)
+  answers_same seq (suc lane) = refl
+
+  served_own : (l : ℕ) (seat : Option ℕ) → IsServed (λ lane. AreAsked mine took) 1 w l seat (λ lane. one_lane lane mine) (λ lane. one_lane lane took) old new
+      → IsServed (λ lane. tells) 1 w l seat (λ lane. jobs_in (one_lane lane turns)) (λ lane. replies_in (one_lane lane turns)) old new
   served_own l None s = s
   served_own l (Some seq) s =
       let k = conn_of w seq in
-      let t : ServesLink (AreAsked (jobs_of w jobs) (replies_to w replies)) k l (jobs_of w jobs) (replies_to w replies) old new = s in
-      let b : bodies_of k (jobs_of w jobs) ≡ bodies_of k jobs = bodies_own w seq jobs in
-      let h : shuts k (replies_to w replies) ≡ shuts k replies = shuts_own w seq replies in
+      let t : ServesLink (λ lane. AreAsked mine took) 1 k l (λ lane. one_lane lane mine) (λ lane. one_lane lane took) old new = s in
       record {
-        brings = rw (b, h) at t.brings;
-        cause = rw (b, h) at t.cause;
-        paid = rw (b, h) at t.paid;
-        puts = λ told. rw (answers_own w seq replies) at t.puts (asked_own w jobs replies (asks told));
+        lane = t.lane;
+        decided = subst (λ (b : List Body). lane_of 1 (seq % 1) b ≡ Some t.lane) (bodies_same seq t.lane) t.decided;
+        elsewhere = λ m ne. sym (bodies_same seq m) ∙ t.elsewhere m ne;
+        by_lane = by_same (AreAsked mine took) tells k l (one_lane t.lane mine) (jobs_in (one_lane t.lane turns)) (one_lane t.lane took) (replies_in (one_lane t.lane turns)) old new
+            (λ told. asked_own w (jobs_in turns) (replies_in turns) (asks told)) (bodies_same seq t.lane) (shuts_same seq t.lane) (answers_same seq t.lane) t.by_lane;
       }
 
-  pub serves_own : ServesPort (AreAsked (jobs_of w jobs) (replies_to w replies)) w (jobs_of w jobs) (replies_to w replies) old new → ServesPort tells w jobs replies old new
+  contains_lane : (m : ℕ) (job : Job) → Contains (jobs_in (one_lane m turns)) job → job.conn.worker ≡ w → Contains (one_lane m mine) job
+  contains_lane zero job c e = contains_own w (jobs_in turns) job c e
+  contains_lane (suc m) job c e = c
+
+  pub serves_own : ServesPort (λ lane. AreAsked mine took) 1 w (λ lane. one_lane lane mine) (λ lane. one_lane lane took) old new
+      → ServesPort (λ lane. tells) 1 w (λ lane. jobs_in (one_lane lane turns)) (λ lane. replies_in (one_lane lane turns)) old new
   serves_own s = record {
     seats = s.seats;
     closed = s.closed;
     served = λ l is. served_own l (s.seats.seat l) (s.served l is);
-    known = λ job c e. s.known job (contains_own w jobs job c e) e;
+    known = λ m job c e. s.known m job (contains_lane m job c e) e;
     over = s.over;
-    continues = s.continues;
+    goes_on = s.goes_on;
   }
+
+-- ---- What was done up to some point
+
+bodies_lane : (w seq lane : ℕ) (all : List Job) → bodies_of (conn_of w seq) (one_lane lane (jobs_of w all)) ≡ bodies_of (conn_of w seq) (one_lane lane all)
+bodies_lane w seq zero all = bodies_own w seq all
+bodies_lane w seq (suc lane) all = refl
+
+contains_own_lane : (w m : ℕ) (all : List Job) (job : Job) → Contains (one_lane m all) job → job.conn.worker ≡ w → Contains (one_lane m (jobs_of w all)) job
+contains_own_lane w zero all job has e = contains_own w all job has e
+contains_own_lane w (suc m) all job has e = has
+
+put_more : (w seq l lane : ℕ) (took : List Reply) (port : PortState) → IsPrefix (port.link l).output (answers (conn_of w seq) (one_lane lane (replies_to w took))) → IsPrefix (port.link l).output (answers (conn_of w seq) (one_lane lane took))
+put_more w seq l zero took port p = subst (IsPrefix (port.link l).output) (answers_own w seq took) p
+put_more w seq l (suc lane) took port p = p
+
+put_own : (w l : ℕ) (seat : Option ℕ) (all : List Job) (took : List Reply) (port : PortState) → IsPut w l seat (λ lane. one_lane lane (jobs_of w all)) (λ lane. one_lane lane (replies_to w took)) port → IsPut w l seat (λ lane. one_lane lane all) (λ lane. one_lane lane took) port
+put_own w l None all took port p = p
+put_own w l (Some seq) all took port p =
+    let s : ServesSome (conn_of w seq) (port.link l) (λ lane. one_lane lane (jobs_of w all)) (λ lane. one_lane lane (replies_to w took)) = p in
+    record {
+      lane = s.lane;
+      brought = subst (BringsSome (port.link l).input) (bodies_lane w seq s.lane all) s.brought;
+      elsewhere = λ m ne. sym (bodies_lane w seq m all) ∙ s.elsewhere m ne;
+      prefix = put_more w seq l s.lane took port s.prefix;
+    }
+
+-- what is so by its own jobs and replies is so by all
+pub puts_own : (w : ℕ) (all : List Job) (took : List Reply) (old new : PortView) → PutsPrefixes w (λ lane. one_lane lane (jobs_of w all)) (λ lane. one_lane lane (replies_to w took)) old new → PutsPrefixes w (λ lane. one_lane lane all) (λ lane. one_lane lane took) old new
+puts_own w all took old new p = record {
+  seats = p.seats;
+  closed = p.closed;
+  put = λ l is. put_own w l (p.seats.seat l) all took new.state (p.put l is);
+  known = λ m job has e. p.known m job (contains_own_lane w m all job has e) e;
+}
+
+front_none : (xs ys : List Body) → xs ++ ys ≡ [] → xs ≡ []
+front_none [] ys e = refl
+front_none (x ∷ xs) ys e = absurd (cc)
+
+-- a link that was served up to some point, where some jobs weren't turned
+serves_turns : (k : ConnId) (link : LinkState) (turns : List LaneTurn) (waiting : List Job) → ServesSome k link (λ lane. one_lane lane (jobs_in turns ++ waiting)) (λ lane. one_lane lane (replies_in turns)) → ServesSome k link (λ lane. jobs_in (one_lane lane turns)) (λ lane. replies_in (one_lane lane turns))
+serves_turns k link turns waiting s = go s.lane s.brought s.elsewhere s.prefix
+  where
+    both : bodies_of k (jobs_in turns ++ waiting) ≡ bodies_of k (jobs_in turns) ++ bodies_of k waiting
+    both = bodies_of-append k (jobs_in turns) waiting
+
+    other : (m : ℕ) → bodies_of k (one_lane m (jobs_in turns ++ waiting)) ≡ [] → bodies_of k (jobs_in (one_lane m turns)) ≡ []
+    other zero e = front_none (bodies_of k (jobs_in turns)) (bodies_of k waiting) (sym both ∙ e)
+    other (suc m) e = refl
+
+    go : (lane : ℕ) → BringsSome link.input (bodies_of k (one_lane lane (jobs_in turns ++ waiting))) → ((m : ℕ) → m ≢ lane → bodies_of k (one_lane m (jobs_in turns ++ waiting)) ≡ []) → IsPrefix link.output (answers k (one_lane lane (replies_in turns)))
+        → ServesSome k link (λ l. jobs_in (one_lane l turns)) (λ l. replies_in (one_lane l turns))
+    go zero brought elsewhere prefix = record {
+      lane = 0;
+      brought = brings_first link.input (bodies_of k (jobs_in turns)) (bodies_of k (jobs_in turns ++ waiting)) (bodies_of k waiting, both) brought;
+      elsewhere = λ m ne. other m (elsewhere m ne);
+      prefix = prefix;
+    }
+    go (suc lane) brought elsewhere prefix = record { lane = suc lane; brought = brought; elsewhere = λ m ne. other m (elsewhere m ne); prefix = prefix }
+
+put_in : (w l : ℕ) (seat : Option ℕ) (turns : List LaneTurn) (waiting : List Job) (port : PortState) → IsPut w l seat (λ lane. one_lane lane (jobs_in turns ++ waiting)) (λ lane. one_lane lane (replies_in turns)) port → IsPut w l seat (λ lane. jobs_in (one_lane lane turns)) (λ lane. replies_in (one_lane lane turns)) port
+put_in w l None turns waiting port p = p
+put_in w l (Some seq) turns waiting port p = serves_turns (conn_of w seq) (port.link l) turns waiting p
+
+contains_turned : (m : ℕ) (turns : List LaneTurn) (waiting : List Job) (job : Job) → Contains (jobs_in (one_lane m turns)) job → Contains (one_lane m (jobs_in turns ++ waiting)) job
+contains_turned zero turns waiting job has = Contains-append_left (jobs_in turns) waiting job has
+contains_turned (suc m) turns waiting job has = has
+
+-- by the jobs and the replies of these turns, where some jobs weren't turned
+pub puts_turns : (w : ℕ) (turns : List LaneTurn) (waiting : List Job) (old new : PortView) → PutsPrefixes w (λ lane. one_lane lane (jobs_in turns ++ waiting)) (λ lane. one_lane lane (replies_in turns)) old new → PutsPrefixes w (λ lane. jobs_in (one_lane lane turns)) (λ lane. replies_in (one_lane lane turns)) old new
+puts_turns w turns waiting old new p = record {
+  seats = p.seats;
+  closed = p.closed;
+  put = λ l is. put_in w l (p.seats.seat l) turns waiting new.state (p.put l is);
+  known = λ m job has e. p.known m job (contains_turned m turns waiting job has) e;
+}

@@ -1,12 +1,14 @@
 -- What of a list is one worker's own.
 use Rattle.std.proofs.Common.{◌≡◌, ◌≢◌, ◌++◌, ◌∷◌, [], List, ℕ, Bool, true, false, length, ◌≤◌, refl, sym, ap, subst, ◌∙◌, inl, inr, arith}
 use Rattle.std.specs.Prelude.{◌==◌, ◌<◌, zero, suc, if◌then◌else◌, slice_index_or}
-use Rattle.std.specs.List.{Contains}
+use Rattle.std.specs.List.{AllByRecursion, Contains}
 use Rattle.std.proofs.lemmas.List.Elements.{Contains-append_cases, Contains-append_right}
 use Rattle.std.proofs.lemmas.Bool.Decides.{nat_tests}
 use Rattle.lsv_session.specs.declared.job.Job.{Job}
 use Rattle.lsv_session.specs.declared.reply.Reply.{Reply}
-use Rattle.lsv_reactor.specs.Turns.{AreOf, jobs_of, replies_to}
+use Rattle.lsv_links.specs.Turns.{AreOf, jobs_of, replies_to}
+use Rattle.lsv_turns.specs.Turns.{LaneTurn, jobs_in}
+use Rattle.lsv_reactor.specs.Calls.{IsCall, call_of, calls_in, calls_of, is_by, jobs_by}
 
 -- two numbers, and the value of their test
 pub data EqOr (a b : ℕ) : Type 0 where
@@ -48,6 +50,46 @@ other_jobs v w (x ∷ xs) ne all = elim (eq_or x.conn.worker w) [
   | unequal differs t ↦ rw t (other_jobs v w xs ne all.1)
 ]
 
+-- ---- Calls
+
+pub calls_append : (w : ℕ) (xs ys : List (List Job)) → calls_of w (xs ++ ys) ≡ calls_of w xs ++ calls_of w ys
+calls_append w [] ys = refl
+calls_append w (x ∷ xs) ys = ap (λ (l : List (List Job)). if is_by w x then x ∷ l else l) (calls_append w xs ys) ∙ if_more (is_by w x) x (calls_of w xs) (calls_of w ys)
+
+-- a call of a worker's own
+pub own_call : (w : ℕ) (jobs : List Job) → AreOf w jobs → calls_of w (call_of jobs) ≡ call_of jobs
+own_call w [] own = refl
+own_call w (x ∷ jobs) own = elim (eq_or x.conn.worker w) [ equal e t ↦ rw t refl | unequal ne t ↦ absurd (ne own.0) ]
+
+-- and another's
+pub other_call : (v w : ℕ) (jobs : List Job) → v ≢ w → AreOf v jobs → calls_of w (call_of jobs) ≡ []
+other_call v w [] ne own = refl
+other_call v w (x ∷ jobs) ne own = elim (eq_or x.conn.worker w) [ equal e t ↦ absurd (ne (sym own.0 ∙ e)) | unequal differs t ↦ rw t refl ]
+
+-- what a worker's calls gave are its jobs
+jobs_more : (n w : ℕ) (jobs : List Job) (calls : List (List Job)) → IsCall n jobs → jobs_by (calls_of w calls) ≡ jobs_of w (jobs_by calls) → jobs_by (calls_of w (jobs ∷ calls)) ≡ jobs_of w (jobs ++ jobs_by calls)
+jobs_more n w [] calls is e = e
+jobs_more n w (x ∷ jobs) calls is e = elim (eq_or x.conn.worker w) [
+  | equal p t ↦
+      let all : AreOf w (x ∷ jobs) = subst (λ (v : ℕ). AreOf v (x ∷ jobs)) (sym is.own.0 ∙ p) is.own in
+      let mine : jobs_of w (x ∷ jobs) ≡ x ∷ jobs = own_jobs w (x ∷ jobs) all in
+      let calls_are : calls_of w ((x ∷ jobs) ∷ calls) ≡ (x ∷ jobs) ∷ calls_of w calls = rw t refl in
+      ap jobs_by calls_are ∙ ap (λ (l : List Job). (x ∷ jobs) ++ l) e ∙ ap (λ (l : List Job). l ++ jobs_of w (jobs_by calls)) (sym mine) ∙ sym (jobs_append w (x ∷ jobs) (jobs_by calls))
+  | unequal ne t ↦
+      let none : jobs_of w (x ∷ jobs) ≡ [] = other_jobs is.worker w (x ∷ jobs) (λ p. ne (is.own.0 ∙ p)) is.own in
+      let calls_are : calls_of w ((x ∷ jobs) ∷ calls) ≡ calls_of w calls = rw t refl in
+      ap jobs_by calls_are ∙ e ∙ ap (λ (l : List Job). l ++ jobs_of w (jobs_by calls)) (sym none) ∙ sym (jobs_append w (x ∷ jobs) (jobs_by calls))
+]
+
+pub jobs_by_own : (n w : ℕ) (calls : List (List Job)) → AllByRecursion (IsCall n) calls → jobs_by (calls_of w calls) ≡ jobs_of w (jobs_by calls)
+jobs_by_own n w [] all = refl
+jobs_by_own n w (jobs ∷ calls) all = jobs_more n w jobs calls all.0 (jobs_by_own n w calls all.1)
+
+-- the turns of calls have their jobs
+pub jobs_by_turns : (turns : List LaneTurn) → jobs_by (calls_in turns) ≡ jobs_in turns
+jobs_by_turns [] = refl
+jobs_by_turns (t ∷ turns) = ap (λ (l : List Job). t.jobs ++ l) (jobs_by_turns turns)
+
 -- a reply is of the one worker's own
 pub own_reply : (w : ℕ) (r : Reply) → r.conn.worker ≡ w → replies_to w (r ∷ []) ≡ r ∷ []
 own_reply w r e = elim (eq_or r.conn.worker w) [ equal p t ↦ rw t refl | unequal ne t ↦ absurd (ne e) ]
@@ -80,7 +122,28 @@ contains_own w (x ∷ jobs) job c e = elim (eq_or x.conn.worker w) [
   ])
 ]
 
+-- a job of a worker's own is of that worker
+pub of_worker : (w : ℕ) (jobs : List Job) (job : Job) → AreOf w jobs → Contains jobs job → job.conn.worker ≡ w
+of_worker w [] job all c = absurd (let less = c.1 in omega arith)
+of_worker w (x ∷ jobs) job all c = elim (Contains-append_cases (x ∷ []) jobs job c) [
+  | inl first ↦ ap (λ (j : Job). j.conn.worker) (sym (only_one x job first)) ∙ all.0
+  | inr later ↦ of_worker w jobs job all.1 later
+]
+
+-- a job that came of these calls is of a worker with a place
+pub within_calls : (n : ℕ) (calls : List (List Job)) (job : Job) → AllByRecursion (IsCall n) calls → Contains (jobs_by calls) job → job.conn.worker < n
+within_calls n [] job all c = absurd (let less = c.1 in omega arith)
+within_calls n (jobs ∷ calls) job all c = elim (Contains-append_cases jobs (jobs_by calls) job c) [
+  | inl here ↦ let is = all.0 in let e = of_worker is.worker jobs job is.own here in let less : is.worker < n = is.place in omega (arith, e, less)
+  | inr later ↦ within_calls n calls job all.1 later
+]
+
 -- ---- Whether there are jobs
+
+-- a call that gave some
+pub some_call : (jobs : List Job) → 1 ≤ length jobs → call_of jobs ≡ jobs ∷ []
+some_call [] some = absurd (omega (arith, some))
+some_call (x ∷ jobs) some = refl
 
 pub some_jobs : (n : ℕ) (jobs : List Job) → n ≡ length jobs → false ≡ (n == 0) → 1 ≤ length jobs
 some_jobs n jobs is e = elim (eq_or n 0) [

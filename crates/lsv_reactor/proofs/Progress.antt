@@ -1,39 +1,44 @@
 -- The first posts have come to their ends, and one more.
-use Rattle.std.proofs.Common.{◌≡◌, ◌<◌, ◌≤◌, ◌+◌, [], List, ℕ, Some, length, true, refl, sym, subst, ◌∙◌, arith, ⊎_elim, ◌⊎◌}
+use Rattle.std.proofs.Common.{◌≡◌, ◌<◌, ◌≤◌, ◌+◌, [], List, ℕ, Some, length, true, refl, sym, ap, subst, ◌∙◌, arith, ⊎_elim, ◌⊎◌}
 use Rattle.std.specs.Prelude.{◌≢◌, slice_get}
 use Rattle.std.proofs.lemmas.Option.{slice_get_within}
 use Rattle.lsv_session.specs.declared.job.Job.{Job}
 use Rattle.lsv_session.specs.declared.reply.Reply.{Reply}
+use Rattle.std.specs.List.{Contains}
+use Rattle.lsv_port.specs.Ledger.{PortLedger}
 use Rattle.lsv_turns.specs.Turns.{AreAsked, LaneTurn, jobs_in, replies_in}
-use Rattle.lsv_reactor.specs.InnerLoop.{AreMade, AreOver, ArePosts, HasEndBelow, IsLane, worse}
-use Rattle.lsv_reactor.specs.Links.{PortFailed, PortView, ServesPort}
+use Rattle.lsv_links.specs.Lanes.{one_lane}
+use Rattle.lsv_links.specs.Links.{ServesPort}
+use Rattle.lsv_links.specs.Turns.{jobs_of, replies_to}
+use Rattle.lsv_links.specs.Views.{PortFailed, PortView}
+use Rattle.lsv_reactor.specs.Calls.{Serves, calls_in, calls_of, jobs_by}
+use Rattle.lsv_reactor.specs.InnerLoop.{KeepLedgers, AreMade, AreOver, ArePosts, HasEndBelow, IsLane, worse}
 use Rattle.lsv_reactor.specs.Served.{HasPortsEnd, ServesAll}
-use Rattle.lsv_reactor.specs.Turns.{jobs_of, replies_to}
 use Rattle.lsv_reactor.specs.declared.post.PostEnd.{PostEnd}
 use Rattle.lsv_reactor.specs.declared.post.PostEnd.TheVariants as post_end
 use Rattle.lsv_reactor.specs.declared.rounds.PortsEnd.{PortsEnd}
 use Rattle.lsv_reactor.specs.declared.rounds.PortsEnd.TheVariants.{Stopped, Failed}
-use Rattle.lsv_reactor.proofs.Own.{EqOr.equal, EqOr.unequal, eq_or}
+use Rattle.lsv_reactor.proofs.Own.{EqOr.equal, EqOr.unequal, eq_or, jobs_by_own, jobs_by_turns, within_calls}
 use Rattle.lsv_reactor.proofs.Ends.{serves_own}
 
 one_of : {A : Type 0} (x y : A) → Some x ≡ Some y → x ≡ y
 one_of x y e = cc
 
-module _ {T S : Type 0} (tells : Type 0) (number : T → ℕ) (made_by : S → T → List Job → List Reply → Type 0) (begun : S → PortView) (view : T → PortView) (starts : ℕ → S) (posts : List T) (gave : ℕ → List Job) (took : ℕ → List Reply) where
+module _ {T S : Type 0} (tells : Type 0) (number : T → ℕ) (made_by : S → T → List (List Job) → List Reply → Type 0) (begun : S → PortView) (view : T → PortView) (starts : ℕ → S) (posts : List T) (gave : ℕ → List (List Job)) (took : ℕ → List Reply) where
   pub over_none : AreOver tells number begun view starts posts gave took 0 Stopped
   over_none = record { each = λ told i post less e. absurd (omega (arith, less)); ended = λ told i post less e. absurd (omega (arith, less)) }
 
   -- a post that served its port
-  abbrev pub Serves : T → ℕ → Type 0
-  Serves post i = ServesPort (AreAsked (gave i) (took i)) (number post) (gave i) (took i) (begun (starts i)) (view post)
+  abbrev pub ServesAt : T → ℕ → Type 0
+  ServesAt post i = Serves (number post) (gave i) (took i) (begun (starts i)) (view post)
 
-  each_more : (count : ℕ) (post : T) → slice_get posts count ≡ Some post → (tells → Serves post count) → (tells → (i : ℕ) (x : T) → i < count → slice_get posts i ≡ Some x → Serves x i)
-      → tells → (i : ℕ) (x : T) → i < count + 1 → slice_get posts i ≡ Some x → Serves x i
+  each_more : (count : ℕ) (post : T) → slice_get posts count ≡ Some post → (tells → ServesAt post count) → (tells → (i : ℕ) (x : T) → i < count → slice_get posts i ≡ Some x → ServesAt x i)
+      → tells → (i : ℕ) (x : T) → i < count + 1 → slice_get posts i ≡ Some x → ServesAt x i
   each_more count post at serves each told i x less e = elim (eq_or i count) [
     | equal p t ↦
         let same : slice_get posts count ≡ Some x = subst (λ (k : ℕ). slice_get posts k ≡ Some x) p e in
         let is : post ≡ x = one_of post x (sym at ∙ same) in
-        subst (λ (k : ℕ). Serves x k) (sym p) (subst (λ (y : T). Serves y count) is (serves told))
+        subst (λ (k : ℕ). ServesAt x k) (sym p) (subst (λ (y : T). ServesAt y count) is (serves told))
     | unequal ne t ↦ each told i x (omega (arith, less, ne)) e
   ]
 
@@ -50,7 +55,7 @@ module _ {T S : Type 0} (tells : Type 0) (number : T → ℕ) (made_by : S → T
   ended_more count post Failed at stopped below = below
 
   pub over_more : (count : ℕ) (post : T) (end : PortsEnd) (its : PostEnd) → slice_get posts count ≡ Some post → its ≢ post_end.Lost
-      → (tells → its ≡ post_end.Stopped → Serves post count × ((view post).state.stopped ≡ true)) → (tells → its ≡ post_end.Failed → Serves post count) → (its ≡ post_end.Failed → PortFailed (begun (starts count)) (view post))
+      → (tells → its ≡ post_end.Stopped → ServesAt post count × ((view post).state.stopped ≡ true)) → (tells → its ≡ post_end.Failed → ServesAt post count) → (its ≡ post_end.Failed → PortFailed (begun (starts count)) (view post))
       → AreOver tells number begun view starts posts gave took count end → AreOver tells number begun view starts posts gave took (count + 1) (worse end its)
   over_more count post end post_end.Stopped at lost stopped failed cause over = record {
     each = each_more count post at (λ told. (stopped told refl).0) over.each;
@@ -64,17 +69,24 @@ module _ {T S : Type 0} (tells : Type 0) (number : T → ℕ) (made_by : S → T
   all_ended Failed below = below
 
 -- what posts have made of the turns of a lane, when all have come to their ends
-pub served_all : {T S L M : Type 0} (tells lane_tells : Type 0) (number : T → ℕ) (made_by : S → T → List Job → List Reply → Type 0) (begun : S → PortView) (view : T → PortView) (starts : ℕ → S) (posts : List T) (lane_made : M → L → List LaneTurn → Type 0) (start : M) (lane : L) (turns : List LaneTurn) (end : PortsEnd)
-    → ArePosts number made_by starts posts (jobs_in turns) (replies_in turns) → IsLane lane_tells lane_made start lane turns
-    → ((gave : ℕ → List Job) (took : ℕ → List Reply) → AreMade made_by starts posts gave took → AreOver tells number begun view starts posts gave took (length posts) end)
-    → ServesAll tells lane_tells begun view starts posts turns end
-served_all {T} tells lane_tells number made_by begun view starts posts lane_made start lane turns end are is over =
-    let o = over (λ i. jobs_of i (jobs_in turns)) (λ i. replies_to i (replies_in turns)) (λ i post e. (are.each i post e).made) in
+pub served_all : {T S L M : Type 0} (tells lane_tells : Type 0) (number : T → ℕ) (made_by : S → T → List (List Job) → List Reply → Type 0) (begun : S → PortView) (view : T → PortView) (starts : ℕ → S) (ledgers : ℕ → PortLedger) (posts : List T) (lane_made : M → L → List LaneTurn → Type 0) (start : M) (lane : L) (turns : List LaneTurn) (end : PortsEnd)
+    → ArePosts number view made_by starts ledgers posts (calls_in turns) (replies_in turns) → IsLane lane_tells lane_made start lane turns
+    → ((gave : ℕ → List (List Job)) (took : ℕ → List Reply) → AreMade made_by starts posts gave took → AreOver tells number begun view starts posts gave took (length posts) end)
+    → ServesAll tells lane_tells made_by begun view starts posts turns end
+served_all {T} tells lane_tells number made_by begun view starts ledgers posts lane_made start lane turns end are is over =
+    let o = over (λ i. calls_of i (calls_in turns)) (λ i. replies_to i (replies_in turns)) (λ i post e. (are.each i post e).made) in
+    let mine : (i : ℕ) → jobs_by (calls_of i (calls_in turns)) ≡ jobs_of i (jobs_in turns) = λ i. jobs_by_own (length posts) i (calls_in turns) are.placed ∙ ap (jobs_of i) (jobs_by_turns turns) in
     record {
       each = λ told i post e.
-          let own : ServesPort (AreAsked (jobs_of i (jobs_in turns)) (replies_to i (replies_in turns))) (number post) (jobs_of i (jobs_in turns)) (replies_to i (replies_in turns)) (begun (starts i)) (view post) = o.each told i post (slice_get_within posts i post e) e in
-          serves_own lane_tells i (jobs_in turns) (replies_in turns) (begun (starts i)) (view post) is.asked
-          (subst (λ (w : ℕ). ServesPort (AreAsked (jobs_of i (jobs_in turns)) (replies_to i (replies_in turns))) w (jobs_of i (jobs_in turns)) (replies_to i (replies_in turns)) (begun (starts i)) (view post)) (are.each i post e).numbered own);
-      within = are.within;
-      ended = all_ended tells number made_by begun view starts posts (λ i. jobs_of i (jobs_in turns)) (λ i. replies_to i (replies_in turns)) end o.ended;
+          let own : Serves (number post) (calls_of i (calls_in turns)) (replies_to i (replies_in turns)) (begun (starts i)) (view post) = o.each told i post (slice_get_within posts i post e) e in
+          serves_own lane_tells i turns (begun (starts i)) (view post) is.asked
+          (subst (λ (j : List Job). ServesPort (λ lane. AreAsked j (replies_to i (replies_in turns))) 1 i (λ lane. one_lane lane j) (λ lane. one_lane lane (replies_to i (replies_in turns))) (begun (starts i)) (view post)) (mine i)
+          (subst (λ (w : ℕ). Serves w (calls_of i (calls_in turns)) (replies_to i (replies_in turns)) (begun (starts i)) (view post)) (are.each i post e).numbered own));
+      within = λ job c. within_calls (length posts) (calls_in turns) job are.placed (subst (λ (l : List Job). Contains l job) (sym (jobs_by_turns turns)) c);
+      visits = record { calls = are.placed; made = λ i post e. (are.each i post e).made };
+      ended = all_ended tells number made_by begun view starts posts (λ i. calls_of i (calls_in turns)) (λ i. replies_to i (replies_in turns)) end o.ended;
     }
+
+pub ledgers_kept : {T S : Type 0} (number : T → ℕ) (made_by : S → T → List (List Job) → List Reply → Type 0) (view : T → PortView) (starts : ℕ → S) (ledgers : ℕ → PortLedger) (posts : List T) (calls : List (List Job)) (took : List Reply)
+    → ArePosts number view made_by starts ledgers posts calls took → KeepLedgers view ledgers posts
+ledgers_kept {T} number made_by view starts ledgers posts calls took are i post e = (are.each i post e).continues

@@ -1,4 +1,3 @@
-pub mod Turns
-pub mod Links
+pub mod Calls
 pub mod Served
 pub mod InnerLoop

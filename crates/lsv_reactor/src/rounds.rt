@@ -1,12 +1,14 @@
 //! The loop.
 
 ghost use Rattle.std.specs.Prelude.{◌≡◌, ◌≢◌, ◌<◌, ◌++◌, false, [], ℕ, List, Some, length, slice_get, IfOk, OnOk, OnErr};
+ghost use Rattle.lsv_port.specs.Ledger.{PortLedger};
 ghost use Rattle.lsv_session.specs.declared.job.Job.{Job};
 ghost use Rattle.lsv_session.specs.declared.reply.Reply.{Reply};
-ghost use Rattle.lsv_reactor.specs.InnerLoop.{AreMade, AreOver, ArePosts, IsLane, worse};
-ghost use Rattle.lsv_reactor.specs.Served.{ServesAll};
-ghost use Rattle.lsv_reactor.specs.Turns.{AreSized};
-ghost use Rattle.lsv_turns.specs.Turns.{LaneTurn, jobs_in, replies_in};
+ghost use Rattle.lsv_links.specs.Turns.{AreSized};
+ghost use Rattle.lsv_reactor.specs.Calls.{calls_in};
+ghost use Rattle.lsv_reactor.specs.InnerLoop.{KeepLedgers, AreMade, AreOver, ArePosts, AreStopped, IsLane, worse};
+ghost use Rattle.lsv_reactor.specs.Served.{KeepPorts, PutsAll, ServesAll};
+ghost use Rattle.lsv_turns.specs.Turns.{LaneTurn, replies_in};
 
 use crate::visit::visit;
 use crate::{Post, PostEnd};
@@ -54,7 +56,7 @@ fn is_lost(its: PostEnd) -> bool
 
 /// How far these posts are.
 fn how_far<T: Post>(posts: &[T]) -> Progress
-    ensures { (end : PortsEnd) → result ≡ Progress.Ended end → (starts : ℕ → T.Start) (gave : ℕ → List Job) (took : ℕ → List Reply) → AreMade T.made_by starts posts.now gave took →
+    ensures { (end : PortsEnd) → result ≡ Progress.Ended end → (starts : ℕ → T.Start) (gave : ℕ → List (List Job)) (took : ℕ → List Reply) → AreMade T.made_by starts posts.now gave took →
         AreOver T.tells T.number T.begun T.view starts posts.now gave took (length posts.now) end }
 {
     let mut end = PortsEnd::Stopped;
@@ -72,11 +74,11 @@ fn how_far<T: Post>(posts: &[T]) -> Progress
 
 /// Visits each post.
 fn visit_all<T: Post, L: Lane>(alloc: Global, posts: &mut [T], lane: &mut L) -> Result<(), NoMem>
-    requires begun { (starts : ℕ → T.Start) × (start : L.Start) × (turns : List LaneTurn) × ArePosts T.number T.made_by starts posts.old (jobs_in turns) (replies_in turns) × IsLane L.tells L.made_by start lane.old turns }
-    ensures ok { OnOk result ((starts : ℕ → T.Start) (start : L.Start) (turns : List LaneTurn) → ArePosts T.number T.made_by starts posts.old (jobs_in turns) (replies_in turns) → IsLane L.tells L.made_by start lane.old turns →
-        (more : List LaneTurn) × ArePosts T.number T.made_by starts posts.new (jobs_in more) (replies_in more) × IsLane L.tells L.made_by start lane.new more) }
-    ensures err { OnErr result ((starts : ℕ → T.Start) (start : L.Start) (turns : List LaneTurn) → ArePosts T.number T.made_by starts posts.old (jobs_in turns) (replies_in turns) → IsLane L.tells L.made_by start lane.old turns →
-        (more : List LaneTurn) × (waiting : List Job) × ArePosts T.number T.made_by starts posts.new (jobs_in more ++ waiting) (replies_in more) × IsLane L.tells L.made_by start lane.new more) }
+    requires begun { (starts : ℕ → T.Start) × (ledgers : ℕ → PortLedger) × (start : L.Start) × (turns : List LaneTurn) × ArePosts T.number T.view T.made_by starts ledgers posts.old (calls_in turns) (replies_in turns) × IsLane L.tells L.made_by start lane.old turns }
+    ensures ok { OnOk result ((starts : ℕ → T.Start) (ledgers : ℕ → PortLedger) (start : L.Start) (turns : List LaneTurn) → ArePosts T.number T.view T.made_by starts ledgers posts.old (calls_in turns) (replies_in turns) → IsLane L.tells L.made_by start lane.old turns →
+        (more : List LaneTurn) × ArePosts T.number T.view T.made_by starts ledgers posts.new (calls_in more) (replies_in more) × IsLane L.tells L.made_by start lane.new more) }
+    ensures err { OnErr result ((starts : ℕ → T.Start) (ledgers : ℕ → PortLedger) (start : L.Start) (turns : List LaneTurn) → ArePosts T.number T.view T.made_by starts ledgers posts.old (calls_in turns) (replies_in turns) → IsLane L.tells L.made_by start lane.old turns →
+        (more : List LaneTurn) × (waiting : List (List Job)) × ArePosts T.number T.view T.made_by starts ledgers posts.new (calls_in more ++ waiting) (replies_in more) × IsLane L.tells L.made_by start lane.new more) }
 {
     'visits: for place in 0..posts.len() {
         let Ok(()) = visit(alloc, posts, place, lane) else {
@@ -88,7 +90,8 @@ fn visit_all<T: Post, L: Lane>(alloc: Global, posts: &mut [T], lane: &mut L) -> 
 
 /// Closes all links of all posts.
 fn stop_all<T: Post>(posts: &mut [T])
-    requires begun { (starts : ℕ → T.Start) × (jobs : List Job) × (took : List Reply) × ArePosts T.number T.made_by starts posts.old jobs took }
+    requires begun { (starts : ℕ → T.Start) × (ledgers : ℕ → PortLedger) × (calls : List (List Job)) × (took : List Reply) × ArePosts T.number T.view T.made_by starts ledgers posts.old calls took }
+    ensures { (starts : ℕ → T.Start) (ledgers : ℕ → PortLedger) (calls : List (List Job)) (took : List Reply) → ArePosts T.number T.view T.made_by starts ledgers posts.old calls took → AreStopped T.tells T.begun T.view starts ledgers posts.new calls took (length posts.new) }
 {
     'stops: for place in 0..posts.len() {
         posts[place].stop();
@@ -97,11 +100,11 @@ fn stop_all<T: Post>(posts: &mut [T])
 
 /// Visits the posts until nothing more is to come of any. Out of memory all links are closed.
 fn run<T: Post, L: Lane>(alloc: Global, posts: &mut [T], lane: &mut L) -> Result<PortsEnd, NoMem>
-    requires begun { (starts : ℕ → T.Start) × (start : L.Start) × (turns : List LaneTurn) × ArePosts T.number T.made_by starts posts.old (jobs_in turns) (replies_in turns) × IsLane L.tells L.made_by start lane.old turns }
-    ensures ok { IfOk result (λ end. (starts : ℕ → T.Start) (start : L.Start) (turns : List LaneTurn) → ArePosts T.number T.made_by starts posts.old (jobs_in turns) (replies_in turns) → IsLane L.tells L.made_by start lane.old turns →
-        (more : List LaneTurn) × IsLane L.tells L.made_by start lane.new more × ServesAll T.tells L.tells T.begun T.view starts posts.new more end) }
-    ensures err { OnErr result ((starts : ℕ → T.Start) (start : L.Start) (turns : List LaneTurn) → ArePosts T.number T.made_by starts posts.old (jobs_in turns) (replies_in turns) → IsLane L.tells L.made_by start lane.old turns →
-        (more : List LaneTurn) × IsLane L.tells L.made_by start lane.new more) }
+    requires begun { (starts : ℕ → T.Start) × (ledgers : ℕ → PortLedger) × (start : L.Start) × (turns : List LaneTurn) × ArePosts T.number T.view T.made_by starts ledgers posts.old (calls_in turns) (replies_in turns) × IsLane L.tells L.made_by start lane.old turns }
+    ensures ok { IfOk result (λ end. (starts : ℕ → T.Start) (ledgers : ℕ → PortLedger) (start : L.Start) (turns : List LaneTurn) → ArePosts T.number T.view T.made_by starts ledgers posts.old (calls_in turns) (replies_in turns) → IsLane L.tells L.made_by start lane.old turns →
+        (more : List LaneTurn) × IsLane L.tells L.made_by start lane.new more × ServesAll T.tells L.tells T.made_by T.begun T.view starts posts.new more end × KeepLedgers T.view ledgers posts.new) }
+    ensures err { OnErr result ((starts : ℕ → T.Start) (ledgers : ℕ → PortLedger) (start : L.Start) (turns : List LaneTurn) → ArePosts T.number T.view T.made_by starts ledgers posts.old (calls_in turns) (replies_in turns) → IsLane L.tells L.made_by start lane.old turns →
+        (more : List LaneTurn) × (waiting : List (List Job)) × IsLane L.tells L.made_by start lane.new more × AreStopped T.tells T.begun T.view starts ledgers posts.new (calls_in more ++ waiting) (replies_in more) (length posts.new)) }
 {
     'rounds: for _ in 0..u64::MAX {
         match how_far(posts) {
@@ -124,7 +127,9 @@ fn run<T: Post, L: Lane>(alloc: Global, posts: &mut [T], lane: &mut L) -> Result
 }
 
 /// Serves what comes at these posts, each numbered by its place, by turns of the lane, until nothing more is to come of any.
-/// Out of memory all links are closed.
+/// A turn has all jobs that one call of a post gave, at most 256. Out of memory all links are closed: the jobs of the turns are
+/// the first of what was read of them, and nothing was put on them but prefixes of the answers by the turns made. No port is
+/// asked to listen on anything more.
 pub fn serve<T: Post, L: Lane>(
     alloc: Global,
     posts: &mut [T],
@@ -134,8 +139,10 @@ pub fn serve<T: Post, L: Lane>(
     requires posts { (starts : ℕ → T.Start) × ((i : ℕ) (post : T) → slice_get posts.old i ≡ Some post → T.made_by (starts i) post [] []) }
     requires lane { (start : L.Start) × L.made_by start lane.old [] }
     ensures ok { IfOk result (λ end. (starts : ℕ → T.Start) (start : L.Start) → ((i : ℕ) (post : T) → slice_get posts.old i ≡ Some post → T.made_by (starts i) post [] []) → L.made_by start lane.old [] →
-        (turns : List LaneTurn) × L.made_by start lane.new turns × AreSized turns × ServesAll T.tells L.tells T.begun T.view starts posts.new turns end) }
-    ensures err { OnErr result ((start : L.Start) → L.made_by start lane.old [] → (turns : List LaneTurn) × L.made_by start lane.new turns × AreSized turns) }
+        (turns : List LaneTurn) × L.made_by start lane.new turns × AreSized turns × ServesAll T.tells L.tells T.made_by T.begun T.view starts posts.new turns end) }
+    ensures err { OnErr result ((starts : ℕ → T.Start) (start : L.Start) → ((i : ℕ) (post : T) → slice_get posts.old i ≡ Some post → T.made_by (starts i) post [] []) → L.made_by start lane.old [] →
+        (turns : List LaneTurn) × L.made_by start lane.new turns × AreSized turns × PutsAll T.tells T.begun T.view starts posts.new turns) }
+    ensures ports { KeepPorts T.view posts.old posts.new }
 {
     match run(alloc, posts, lane) {
         Ok(end) => Ok(end),

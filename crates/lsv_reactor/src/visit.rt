@@ -1,11 +1,13 @@
 //! One post's turn of the loop.
 
 ghost use Rattle.std.specs.Prelude.{◌≡◌, ◌<◌, ◌≤◌, ◌++◌, [], ℕ, List, length, IfOk, OnOk, OnErr};
+ghost use Rattle.lsv_port.specs.Ledger.{PortLedger};
 ghost use Rattle.lsv_session.specs.declared.job.Job.{Job};
 ghost use Rattle.lsv_session.specs.declared.reply.Reply.{Reply};
+ghost use Rattle.lsv_links.specs.Turns.{most_jobs};
+ghost use Rattle.lsv_reactor.specs.Calls.{call_of, calls_in};
 ghost use Rattle.lsv_reactor.specs.InnerLoop.{ArePosts, IsLane};
-ghost use Rattle.lsv_reactor.specs.Turns.{most_jobs};
-ghost use Rattle.lsv_turns.specs.Turns.{LaneTurn, jobs_in, replies_in};
+ghost use Rattle.lsv_turns.specs.Turns.{LaneTurn, replies_in};
 
 use crate::Post;
 use crate::deliver::deliver;
@@ -25,9 +27,9 @@ fn turn<T: Post, L: Lane>(
     jobs: Vec<Job>,
 ) -> Result<(), NoMem>
     requires few { length jobs.items ≤ most_jobs }
-    requires begun { (starts : ℕ → T.Start) × (start : L.Start) × (turns : List LaneTurn) × ArePosts T.number T.made_by starts posts.old (jobs_in turns ++ jobs.items) (replies_in turns) × IsLane L.tells L.made_by start lane.old turns }
-    ensures ok { OnOk result ((starts : ℕ → T.Start) (start : L.Start) (turns : List LaneTurn) → ArePosts T.number T.made_by starts posts.old (jobs_in turns ++ jobs.items) (replies_in turns) → IsLane L.tells L.made_by start lane.old turns →
-        (more : List LaneTurn) × ArePosts T.number T.made_by starts posts.new (jobs_in more) (replies_in more) × IsLane L.tells L.made_by start lane.new more) }
+    requires begun { (starts : ℕ → T.Start) × (ledgers : ℕ → PortLedger) × (start : L.Start) × (turns : List LaneTurn) × ArePosts T.number T.view T.made_by starts ledgers posts.old (calls_in turns ++ call_of jobs.items) (replies_in turns) × IsLane L.tells L.made_by start lane.old turns }
+    ensures ok { OnOk result ((starts : ℕ → T.Start) (ledgers : ℕ → PortLedger) (start : L.Start) (turns : List LaneTurn) → ArePosts T.number T.view T.made_by starts ledgers posts.old (calls_in turns ++ call_of jobs.items) (replies_in turns) → IsLane L.tells L.made_by start lane.old turns →
+        (more : List LaneTurn) × ArePosts T.number T.view T.made_by starts ledgers posts.new (calls_in more) (replies_in more) × IsLane L.tells L.made_by start lane.new more) }
     ensures err { OnErr result ((start : L.Start) (turns : List LaneTurn) → IsLane L.tells L.made_by start lane.old turns → IsLane L.tells L.made_by start lane.new turns) }
     ensures lost { OnErr result (posts.new ≡ posts.old) }
 {
@@ -45,9 +47,9 @@ fn turn<T: Post, L: Lane>(
 /// Waits at a post. These jobs come of it.
 fn wait_at<T: Post>(alloc: Global, posts: &mut [T], place: usize) -> Vec<Job>
     requires place { place < length posts.old }
-    requires begun { (starts : ℕ → T.Start) × (jobs : List Job) × (took : List Reply) × ArePosts T.number T.made_by starts posts.old jobs took }
+    requires begun { (starts : ℕ → T.Start) × (ledgers : ℕ → PortLedger) × (calls : List (List Job)) × (took : List Reply) × ArePosts T.number T.view T.made_by starts ledgers posts.old calls took }
     ensures few { length result.items ≤ most_jobs }
-    ensures made { (starts : ℕ → T.Start) (jobs : List Job) (took : List Reply) → ArePosts T.number T.made_by starts posts.old jobs took → ArePosts T.number T.made_by starts posts.new (jobs ++ result.items) took }
+    ensures made { (starts : ℕ → T.Start) (ledgers : ℕ → PortLedger) (calls : List (List Job)) (took : List Reply) → ArePosts T.number T.view T.made_by starts ledgers posts.old calls took → ArePosts T.number T.view T.made_by starts ledgers posts.new (calls ++ call_of result.items) took }
 {
     let mut jobs = Vec::new(alloc);
     posts[place].wait(&mut jobs);
@@ -57,9 +59,9 @@ fn wait_at<T: Post>(alloc: Global, posts: &mut [T], place: usize) -> Vec<Job>
 /// Tries a post again. These jobs come of it.
 fn push_at<T: Post>(alloc: Global, posts: &mut [T], place: usize) -> Vec<Job>
     requires place { place < length posts.old }
-    requires begun { (starts : ℕ → T.Start) × (jobs : List Job) × (took : List Reply) × ArePosts T.number T.made_by starts posts.old jobs took }
+    requires begun { (starts : ℕ → T.Start) × (ledgers : ℕ → PortLedger) × (calls : List (List Job)) × (took : List Reply) × ArePosts T.number T.view T.made_by starts ledgers posts.old calls took }
     ensures few { length result.items ≤ most_jobs }
-    ensures made { (starts : ℕ → T.Start) (jobs : List Job) (took : List Reply) → ArePosts T.number T.made_by starts posts.old jobs took → ArePosts T.number T.made_by starts posts.new (jobs ++ result.items) took }
+    ensures made { (starts : ℕ → T.Start) (ledgers : ℕ → PortLedger) (calls : List (List Job)) (took : List Reply) → ArePosts T.number T.view T.made_by starts ledgers posts.old calls took → ArePosts T.number T.view T.made_by starts ledgers posts.new (calls ++ call_of result.items) took }
 {
     let mut jobs = Vec::new(alloc);
     posts[place].push(&mut jobs);
@@ -76,10 +78,10 @@ fn pass<T: Post, L: Lane>(
 ) -> Result<Vec<Job>, NoMem>
     requires place { place < length posts.old }
     requires few { length jobs.items ≤ most_jobs }
-    requires begun { (starts : ℕ → T.Start) × (start : L.Start) × (turns : List LaneTurn) × ArePosts T.number T.made_by starts posts.old (jobs_in turns ++ jobs.items) (replies_in turns) × IsLane L.tells L.made_by start lane.old turns }
+    requires begun { (starts : ℕ → T.Start) × (ledgers : ℕ → PortLedger) × (start : L.Start) × (turns : List LaneTurn) × ArePosts T.number T.view T.made_by starts ledgers posts.old (calls_in turns ++ call_of jobs.items) (replies_in turns) × IsLane L.tells L.made_by start lane.old turns }
     ensures few { IfOk result (λ jobs. length jobs.items ≤ most_jobs) }
-    ensures ok { IfOk result (λ others. (starts : ℕ → T.Start) (start : L.Start) (turns : List LaneTurn) → ArePosts T.number T.made_by starts posts.old (jobs_in turns ++ jobs.items) (replies_in turns) → IsLane L.tells L.made_by start lane.old turns →
-        (more : List LaneTurn) × ArePosts T.number T.made_by starts posts.new (jobs_in more ++ others.items) (replies_in more) × IsLane L.tells L.made_by start lane.new more) }
+    ensures ok { IfOk result (λ others. (starts : ℕ → T.Start) (ledgers : ℕ → PortLedger) (start : L.Start) (turns : List LaneTurn) → ArePosts T.number T.view T.made_by starts ledgers posts.old (calls_in turns ++ call_of jobs.items) (replies_in turns) → IsLane L.tells L.made_by start lane.old turns →
+        (more : List LaneTurn) × ArePosts T.number T.view T.made_by starts ledgers posts.new (calls_in more ++ call_of others.items) (replies_in more) × IsLane L.tells L.made_by start lane.new more) }
     ensures err { OnErr result ((start : L.Start) (turns : List LaneTurn) → IsLane L.tells L.made_by start lane.old turns → IsLane L.tells L.made_by start lane.new turns) }
     ensures lost { OnErr result (posts.new ≡ posts.old) }
 {
@@ -97,11 +99,11 @@ pub(crate) fn visit<T: Post, L: Lane>(
     lane: &mut L,
 ) -> Result<(), NoMem>
     requires place { place < length posts.old }
-    requires begun { (starts : ℕ → T.Start) × (start : L.Start) × (turns : List LaneTurn) × ArePosts T.number T.made_by starts posts.old (jobs_in turns) (replies_in turns) × IsLane L.tells L.made_by start lane.old turns }
-    ensures ok { OnOk result ((starts : ℕ → T.Start) (start : L.Start) (turns : List LaneTurn) → ArePosts T.number T.made_by starts posts.old (jobs_in turns) (replies_in turns) → IsLane L.tells L.made_by start lane.old turns →
-        (more : List LaneTurn) × ArePosts T.number T.made_by starts posts.new (jobs_in more) (replies_in more) × IsLane L.tells L.made_by start lane.new more) }
-    ensures err { OnErr result ((starts : ℕ → T.Start) (start : L.Start) (turns : List LaneTurn) → ArePosts T.number T.made_by starts posts.old (jobs_in turns) (replies_in turns) → IsLane L.tells L.made_by start lane.old turns →
-        (more : List LaneTurn) × (waiting : List Job) × ArePosts T.number T.made_by starts posts.new (jobs_in more ++ waiting) (replies_in more) × IsLane L.tells L.made_by start lane.new more) }
+    requires begun { (starts : ℕ → T.Start) × (ledgers : ℕ → PortLedger) × (start : L.Start) × (turns : List LaneTurn) × ArePosts T.number T.view T.made_by starts ledgers posts.old (calls_in turns) (replies_in turns) × IsLane L.tells L.made_by start lane.old turns }
+    ensures ok { OnOk result ((starts : ℕ → T.Start) (ledgers : ℕ → PortLedger) (start : L.Start) (turns : List LaneTurn) → ArePosts T.number T.view T.made_by starts ledgers posts.old (calls_in turns) (replies_in turns) → IsLane L.tells L.made_by start lane.old turns →
+        (more : List LaneTurn) × ArePosts T.number T.view T.made_by starts ledgers posts.new (calls_in more) (replies_in more) × IsLane L.tells L.made_by start lane.new more) }
+    ensures err { OnErr result ((starts : ℕ → T.Start) (ledgers : ℕ → PortLedger) (start : L.Start) (turns : List LaneTurn) → ArePosts T.number T.view T.made_by starts ledgers posts.old (calls_in turns) (replies_in turns) → IsLane L.tells L.made_by start lane.old turns →
+        (more : List LaneTurn) × (waiting : List (List Job)) × ArePosts T.number T.view T.made_by starts ledgers posts.new (calls_in more ++ waiting) (replies_in more) × IsLane L.tells L.made_by start lane.new more) }
 {
     let mut jobs = wait_at(alloc, posts, place);
     'passes: for _ in 0..PASSES {

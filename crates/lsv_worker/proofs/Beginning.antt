@@ -2,11 +2,13 @@
 use Rattle.std.proofs.Common.{◌≡◌, ℕ, ◌<◌, ◌≤◌, false, None, List, [], refl, sym, subst, ◌∙◌, arith}
 use Rattle.std.specs.List.{Contains}
 use Rattle.lsv_port.specs.Port.{IsOpen, PortState}
+use Rattle.lsv_worker.specs.Links.{IsTold}
 use Rattle.lsv_worker.specs.Worker.{AreLast, IsMade, Represents, conn_at, setting}
 use Rattle.lsv_worker.specs.declared.incoming.Stage.TheVariants.{Hearing}
 use Rattle.lsv_worker.specs.declared.link.Link.{Link}
 use Rattle.lsv_worker.specs.declared.link.Pause.TheVariants.{Calm}
-use Rattle.lsv_worker.specs.declared.link.Phase.TheVariants.{Going, Stopping}
+use Rattle.lsv_worker.specs.declared.link.Phase.{Phase}
+use Rattle.lsv_worker.specs.declared.link.Phase.TheVariants.{Going}
 use Rattle.lsv_worker.specs.declared.outgoing.Voice.TheVariants.{Speaking}
 use Rattle.lsv_worker.specs.declared.worker.Worker.{Worker}
 
@@ -15,7 +17,7 @@ abbrev nobody : Worker → Link
 nobody w = record {
   number = 0;
   conn = conn_at (setting w) 0;
-  incoming = record { alloc = w.alloc; rest = []; first = None; waiting = None; route = record { lanes = 1; home = 0; lane = None }; stage = Hearing };
+  incoming = record { rest = []; first = None; waiting = None; route = record { lanes = 1; home = 0; lane = None }; stage = Hearing };
   outgoing = record { alloc = w.alloc; unsent = []; voice = Speaking };
   live = false;
   owed = false;
@@ -32,8 +34,8 @@ in_none l has = let low : has.0 < 0 = has.1 in omega arith
 not_in_none : (l : ℕ) (opened : List ℕ) → opened ≡ [] → Contains opened l → ⊥
 not_in_none l opened none has = in_none l (subst (λ (o : List ℕ). Contains o l) none has)
 
-pub new_stands : (w : Worker) (port : PortState) → w.next ≡ 1 → w.links.items ≡ [] → w.phase ≡ Going → port.opened ≡ [] → ((l : ℕ) → IsOpen port l → ⊥) → Represents w port (λ lane. []) []
-new_stands w port next links going opened none = record {
+pub new_stands : (w : Worker) (port : PortState) → w.next ≡ 1 → w.links.items ≡ [] → w.phase ≡ Going → port.stopped ≡ false → port.opened ≡ [] → ((l : ℕ) → IsOpen port l → ⊥) → Represents w port (λ lane. []) []
+new_stands w port next links going going_on opened none = record {
   last = λ k. nobody w;
   table = subst (AreLast (λ k. nobody w) (setting w)) (sym links) tt;
   complete = λ k made undone. absurd (none_made w k next made);
@@ -41,9 +43,11 @@ new_stands w port next links going opened none = record {
   each = λ k made. absurd (none_made w k next made);
   apart = λ j k mj mk ne e. none_made w j next mj;
   known = λ k made. absurd (none_made w k next made);
+  few = λ k made. absurd (none_made w k next made);
   linked = λ l now. absurd (none l now);
   unused = λ k not lane. refl;
   unasked = λ k not. tt;
   away = λ l has not. absurd (not_in_none l port.opened opened has);
-  stop = λ e. let no : Going ≡ Stopping = sym going ∙ e in absurd cc;
+  beside = λ m l has e. absurd (not_in_none m port.opened opened has);
+  told = subst (λ (p : Phase). IsTold p port) (sym going) going_on;
 }

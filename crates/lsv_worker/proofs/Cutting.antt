@@ -1,5 +1,7 @@
 -- From bytes to jobs that wait.
-use Rattle.std.proofs.Common.{◌≡◌, ℕ, true, false, Ok, Option, Some, None, List, [], ◌∷◌, ◌++◌, refl, sym, ap, subst, ◌∙◌, append_assoc}
+use Rattle.std.proofs.Common.{◌≡◌, ℕ, Bool, true, false, Ok, Option, Some, None, List, [], ◌∷◌, ◌++◌, refl, sym, ap, subst, ◌∙◌, append_assoc, length, ◌≤◌}
+use Rattle.std.proofs.Math.ListN.{drop_of_length-le}
+use Rattle.std.proofs.Math.Seq.{drop-nil}
 use Rattle.std.proofs.lemmas.List.{append-nil}
 use Rattle.lsv_wire.specs.Frame.{IsPartial}
 use Rattle.lsv_msg.specs.Messages.{client_in}
@@ -10,14 +12,15 @@ use Rattle.lsv_session.specs.declared.job.Body.TheVariants.{Msg, Bad, Gone}
 use Rattle.lsv_session.specs.declared.job.Fault.{Fault}
 use Rattle.lsv_session.specs.declared.job.Fault.TheVariants.{NoMem}
 use Rattle.lsv_session.proofs.Jobs.{cut_piece, cut_message, cut_rest, longer, one_list}
+use Rattle.lsv_cut.specs.Cuts.{unread}
 use Rattle.lsv_worker.specs.Lanes.{Routed, Routing}
-use Rattle.lsv_worker.specs.Incoming.{AreBodies, Begins, Heard, Hears, IsWhole, Marks, SameWay, cuts, drops, has_left, hears, kept, last_words, pending, ready, tail, was_shut}
+use Rattle.lsv_worker.specs.Incoming.{AreBodies, Begins, Heard, Hears, IsHomed, IsWhole, Marks, SameWay, cuts, drops, has_left, hears, kept, last_words, pending, ready, tail, was_shut, with_piece}
 use Rattle.lsv_worker.specs.declared.incoming.Incoming.{Incoming}
 use Rattle.lsv_worker.specs.declared.incoming.Stage.{Stage}
 use Rattle.lsv_worker.specs.declared.incoming.Stage.TheVariants.{Hearing, Ending, Starving, Leaving, Left}
 use Rattle.lsv_worker.specs.declared.incoming.Why.{Why}
 use Rattle.lsv_worker.specs.declared.incoming.Why.TheVariants.{Ended, Refused, Shut, Starved}
-use Rattle.lsv_worker.proofs.Routes.{routed_settle, routed_decided, routed_more, routed_swap}
+use Rattle.lsv_worker.proofs.Routes.{homed_on, homed_settle, routed_settle, routed_decided, routed_more, routed_swap}
 
 cut_tail : (stage : Stage) → cuts stage ≡ true → tail stage ≡ []
 cut_tail Hearing e = refl
@@ -64,10 +67,11 @@ cut_routed link read put marks cutting h = subst (Routed link.route put h.said) 
 pub cut_has : (link : Incoming) (read : List ℕ) (put : ℕ → List Body) (marks : Marks) → cuts link.stage ≡ true → (h : Hears link read put marks) → HasCut read (h.said ++ ready link) link.rest
 cut_has link read put marks cutting h = subst (λ (p : List Body). HasCut read (h.said ++ p) link.rest) (bare link cutting) (cut_bodies link.stage read link.rest (h.said ++ pending link) cutting h.bodies)
 
-pub cut_again : (link : Incoming) (read : List ℕ) (put : ℕ → List Body) (marks : Marks) (said : List Body) → cuts link.stage ≡ true → Routed link.route put said (ready link) → (link.route.lane ≡ None → link.waiting ≡ None)
+pub cut_again : (link : Incoming) (read : List ℕ) (put : ℕ → List Body) (marks : Marks) (said : List Body) → cuts link.stage ≡ true → IsHomed link.route marks → Routed link.route put said (ready link) → (link.route.lane ≡ None → link.waiting ≡ None)
     → HasCut read (said ++ ready link) link.rest → (hears link.stage ≡ false → marks.over ≡ true) → Hears link read put marks
-cut_again link read put marks said cutting routed quiet has over = record {
+cut_again link read put marks said cutting homed routed quiet has over = record {
   said = said;
+  homed = homed;
   routed = subst (Routed link.route put said) (sym (bare link cutting)) routed;
   quiet = quiet;
   bodies = bodies_cut link.stage read link.rest (said ++ pending link) cutting (subst (λ (p : List Body). HasCut read (said ++ p) link.rest) (sym (bare link cutting)) has);
@@ -87,6 +91,7 @@ starves link route none some cutting read put marks h =
     let lane : (n : ℕ) × (route.lane ≡ Some n) = routed_decided route put h.said (ready link) (Bad NoMem) (Gone ∷ []) refl routed in
     record {
       said = h.said;
+      homed = homed_settle link.route route marks none some h.homed;
       routed = routed;
       quiet = λ no. let some : route.lane ≡ Some lane.0 = lane.1 in absurd cc;
       bodies = record { heard = h.said ++ ready link; are = begins read link.rest (h.said ++ ready link) (cut_has link read put marks cutting h); whole = sym (append_assoc h.said (ready link) (Bad NoMem ∷ Gone ∷ [])) };
@@ -96,14 +101,16 @@ starves link route none some cutting read put marks h =
     }
 
 -- it leaves, so
-leaves : (why : Why) (link : Incoming) (route : Routing) (read : List ℕ) (put : ℕ → List Body) (marks now : Marks) → (link.route.lane ≡ None → route ≡ record link.route { lane = Some link.route.home }) → ((n : ℕ) → link.route.lane ≡ Some n → route ≡ link.route)
+leaves : (why : Why) (link : Incoming) (route : Routing) (read : List ℕ) (put : ℕ → List Body) (marks now : Marks) → now.lanes ≡ marks.lanes → now.home ≡ marks.home → (link.route.lane ≡ None → route ≡ record link.route { lane = Some link.route.home }) → ((n : ℕ) → link.route.lane ≡ Some n → route ≡ link.route)
     → cuts link.stage ≡ true → last_words why ≡ [] → (h : Hears link read put marks) → Heard why read (h.said ++ ready link) → (was_shut (Leaving why) ≡ true → now.shut ≡ true) → (hears (Leaving why) ≡ false → now.over ≡ true)
     → Hears (record link { route = route; stage = Leaving why }) read put now
-leaves why link route read put marks now none some cutting last h are shut over =
+leaves why link route read put marks now lanes home none some cutting last h are shut over =
     let routed : Routed route put h.said (ready link ++ Gone ∷ []) = routed_settle link.route route put h.said (ready link) Gone [] none some refl refl (cut_routed link read put marks cutting h) in
     let lane : (n : ℕ) × (route.lane ≡ Some n) = routed_decided route put h.said (ready link) Gone [] refl routed in
+    let homed = homed_settle link.route route marks none some h.homed in
     record {
       said = h.said;
+      homed = record { lanes = homed.lanes ∙ sym lanes; home = homed.home ∙ sym home };
       routed = routed;
       quiet = λ no. let some : route.lane ≡ Some lane.0 = lane.1 in absurd cc;
       bodies = record { heard = h.said ++ ready link; are = are; whole = sym (append_assoc h.said (ready link) (Gone ∷ [])) ∙ ap (λ (w : List Body). (h.said ++ ready link) ++ (w ++ Gone ∷ [])) (sym last) };
@@ -115,22 +122,18 @@ leaves why link route read put marks now none some cutting last h are shut over 
 pub shuts : (link : Incoming) (route : Routing) → (link.route.lane ≡ None → route ≡ record link.route { lane = Some link.route.home }) → ((n : ℕ) → link.route.lane ≡ Some n → route ≡ link.route)
     → cuts link.stage ≡ true → (read : List ℕ) (put : ℕ → List Body) (marks : Marks) → Hears link read put marks → Hears (record link { route = route; stage = Leaving Shut }) read put (record marks { shut = true })
 shuts link route none some cutting read put marks h =
-    leaves Shut link route read put marks (record marks { shut = true }) none some cutting refl h (begins read link.rest (h.said ++ ready link) (cut_has link read put marks cutting h)) (λ e. refl) (λ e. absurd cc)
+    leaves Shut link route read put marks (record marks { shut = true }) refl refl none some cutting refl h (begins read link.rest (h.said ++ ready link) (cut_has link read put marks cutting h)) (λ e. refl) (λ e. absurd cc)
 
 pub ends : (link : Incoming) (route : Routing) → (link.route.lane ≡ None → route ≡ record link.route { lane = Some link.route.home }) → ((n : ℕ) → link.route.lane ≡ Some n → route ≡ link.route)
     → link.stage ≡ Ending → IsPartial link.rest → SameWay link (record link { route = route; stage = Leaving Ended })
 ends link route none some stage short read put marks h =
-    leaves Ended link route read put marks marks none some (ap cuts stage) refl h (cut_rest read link.rest (h.said ++ ready link) (cut_has link read put marks (ap cuts stage) h) short) (λ e. absurd cc) (λ e. h.over (ap hears stage))
-
--- the marks may say more
-pub marked : (link : Incoming) (read : List ℕ) (put : ℕ → List Body) (marks now : Marks) → (marks.shut ≡ true → now.shut ≡ true) → (marks.over ≡ true → now.over ≡ true) → Hears link read put marks → Hears link read put now
-marked link read put marks now shut over h = record { said = h.said; routed = h.routed; quiet = h.quiet; bodies = h.bodies; left = h.left; shut = λ e. shut (h.shut e); over = λ e. over (h.over e) }
+    leaves Ended link route read put marks marks refl refl none some (ap cuts stage) refl h (cut_rest read link.rest (h.said ++ ready link) (cut_has link read put marks (ap cuts stage) h) short) (λ e. absurd cc) (λ e. h.over (ap hears stage))
 
 -- no more bytes come
 pub closes : (link : Incoming) → link.stage ≡ Hearing → (read : List ℕ) (put : ℕ → List Body) (marks : Marks) → Hears link read put marks → Hears (record link { stage = Ending }) read put (record marks { over = true })
 closes link stage read put marks h =
     let cutting : cuts link.stage ≡ true = ap cuts stage in
-    cut_again (record link { stage = Ending }) read put (record marks { over = true }) h.said refl (cut_routed link read put marks cutting h) h.quiet (cut_has link read put marks cutting h) (λ e. refl)
+    cut_again (record link { stage = Ending }) read put (record marks { over = true }) h.said refl (record { lanes = h.homed.lanes; home = h.homed.home }) (cut_routed link read put marks cutting h) h.quiet (cut_has link read put marks cutting h) (λ e. refl)
 
 snoc_same : (xs ys : List Body) (x : Body) → xs ++ x ∷ [] ≡ ys ++ x ∷ [] → xs ≡ ys
 snoc_same [] [] x e = refl
@@ -159,6 +162,7 @@ wants_at why link read put marks last begin stage h =
     let same : all.heard ≡ h.said ++ ready link = snoc_same all.heard (h.said ++ ready link) Gone (sym (all.whole ∙ ap (λ (w : List Body). all.heard ++ (w ++ Gone ∷ [])) last) ∙ sym (append_assoc h.said (ready link) (Gone ∷ []))) in
     record {
       said = h.said;
+      homed = h.homed;
       routed = routed_swap link.route put h.said (ready link) routed;
       quiet = h.quiet;
       bodies = record { heard = h.said ++ ready link; are = subst (Begins read) same (begin all.heard all.are); whole = sym (append_assoc h.said (ready link) (Bad NoMem ∷ Gone ∷ [])) };
@@ -182,7 +186,7 @@ pub hears_on : (link new : Incoming) (piece : List ℕ) → cuts link.stage ≡ 
     → (read : List ℕ) (put : ℕ → List Body) (marks : Marks) → Hears link read put marks → Hears new (read ++ piece) put marks
 hears_on link new piece cutting same rest read put marks h =
     subst (λ (l : Incoming). Hears l (read ++ piece) put marks) (sym same)
-    (cut_again (record link { rest = new.rest }) (read ++ piece) put marks h.said cutting (cut_routed link read put marks cutting h) h.quiet
+    (cut_again (record link { rest = new.rest }) (read ++ piece) put marks h.said cutting h.homed (cut_routed link read put marks cutting h) h.quiet
     (subst (HasCut (read ++ piece) (h.said ++ ready link)) (sym rest) (cut_piece read link.rest piece (h.said ++ ready link) (cut_has link read put marks cutting h))) h.over)
 
 begins_more : (read piece : List ℕ) (heard : List Body) → Begins read heard → Begins (read ++ piece) heard
@@ -208,6 +212,7 @@ bodies_drop (Left why) read piece rest b not hear h = whole_more why read piece 
 pub drops_on : (link : Incoming) (piece : List ℕ) → cuts link.stage ≡ false → hears link.stage ≡ true → (read : List ℕ) (put : ℕ → List Body) (marks : Marks) → Hears link read put marks → Hears link (read ++ piece) put marks
 drops_on link piece not hear read put marks h = record {
   said = h.said;
+  homed = h.homed;
   routed = h.routed;
   quiet = h.quiet;
   bodies = bodies_drop link.stage read piece link.rest (h.said ++ pending link) not hear h.bodies;
@@ -216,6 +221,42 @@ drops_on link piece not hear read put marks h = record {
   over = h.over;
 }
 
+bodies_free : (stage : Stage) (read rest other : List ℕ) (b : List Body) → cuts stage ≡ false → AreBodies stage read rest b → AreBodies stage read other b
+bodies_free Hearing read rest other b not h = absurd cc
+bodies_free Ending read rest other b not h = absurd cc
+bodies_free Starving read rest other b not h = h
+bodies_free (Leaving why) read rest other b not h = h
+bodies_free (Left why) read rest other b not h = h
+
+-- what is kept of a link that cuts no more doesn't count
+pub rest_free : (link : Incoming) (rest : List ℕ) → cuts link.stage ≡ false → SameWay link (record link { rest = rest })
+rest_free link rest not read put marks h = record {
+  said = h.said;
+  homed = h.homed;
+  routed = h.routed;
+  quiet = h.quiet;
+  bodies = bodies_free link.stage read link.rest rest (h.said ++ pending link) not h.bodies;
+  left = h.left;
+  shut = h.shut;
+  over = h.over;
+}
+
+piece_by : (link : Incoming) (piece : List ℕ) (cutting : Bool) → cuts link.stage ≡ cutting → hears link.stage ≡ true → (read : List ℕ) (put : ℕ → List Body) (marks : Marks) → Hears link read put marks → Hears (with_piece link piece 0) (read ++ piece) put marks
+piece_by link piece true cutting hear read put marks h = hears_on link (with_piece link piece 0) piece cutting refl refl read put marks h
+piece_by link piece false not hear read put marks h = rest_free link (unread link.rest piece 0) not (read ++ piece) put marks (drops_on link piece not hear read put marks h)
+
+-- a piece came
+pub hears_piece : (link : Incoming) (piece : List ℕ) → hears link.stage ≡ true → (read : List ℕ) (put : ℕ → List Body) (marks : Marks) → Hears link read put marks → Hears (with_piece link piece 0) (read ++ piece) put marks
+hears_piece link piece hear read put marks h = piece_by link piece (cuts link.stage) refl hear read put marks h
+
+-- a link without a piece
+pub no_piece : (link : Incoming) (n : ℕ) → with_piece link [] n ≡ link
+no_piece link n = ap (λ (r : List ℕ). record link { rest = r }) (ap (λ (l : List ℕ). link.rest ++ l) (drop-nil n) ∙ append-nil link.rest)
+
+-- a piece all of which is kept
+pub piece_over : (link : Incoming) (piece : List ℕ) (n : ℕ) → length piece ≤ n → with_piece link piece n ≡ link
+piece_over link piece n past = ap (λ (r : List ℕ). record link { rest = r }) (ap (λ (l : List ℕ). link.rest ++ l) (drop_of_length-le piece past) ∙ append-nil link.rest)
+
 -- ---- a job was cut
 
 -- where nothing waits but a first hello
@@ -223,23 +264,24 @@ pub alone : (link : Incoming) → link.waiting ≡ None → ready link ≡ kept 
 alone link empty = ap (λ (w : Option Body). kept link.first ++ kept w) empty ∙ append-nil (kept link.first)
 
 pub receives : (link new : Incoming) (body : Body) (rest : List ℕ) → link.waiting ≡ None → cuts link.stage ≡ true → new.stage ≡ link.stage → ready new ≡ kept link.first ++ body ∷ [] → (new.route.lane ≡ None → new.waiting ≡ None)
-    → ((put : ℕ → List Body) (said : List Body) → Routed link.route put said (kept link.first) → Routed new.route put said (kept link.first ++ body ∷ []))
+    → ((put : ℕ → List Body) (said : List Body) → Routed link.route put said (kept link.first) → Routed new.route put said (kept link.first ++ body ∷ [])) → new.route.lanes ≡ link.route.lanes → new.route.home ≡ link.route.home
     → (read : List ℕ) (put : ℕ → List Body) (marks : Marks) (h : Hears link read put marks) → HasCut read ((h.said ++ kept link.first) ++ body ∷ []) new.rest → Hears new read put marks
-receives link new body rest empty cutting stage is quiet routed read put marks h has =
-    cut_again new read put marks h.said (ap cuts stage ∙ cutting)
+receives link new body rest empty cutting stage is quiet routed lanes home read put marks h has =
+    cut_again new read put marks h.said (ap cuts stage ∙ cutting) (homed_on link.route new.route marks lanes home h.homed)
     (subst (Routed new.route put h.said) (sym is) (routed put h.said (subst (Routed link.route put h.said) (alone link empty) (cut_routed link read put marks cutting h))))
     quiet
     (subst (λ (r : List Body). HasCut read (h.said ++ r) new.rest) (sym is) (subst (λ (b : List Body). HasCut read b new.rest) (append_assoc h.said (kept link.first) (body ∷ [])) has))
     (λ e. h.over (sym (ap hears stage) ∙ e))
 
 pub refuses : (link mid : Incoming) (fault : Fault) → link.waiting ≡ None → cuts link.stage ≡ true → ready mid ≡ kept link.first ++ Bad fault ∷ []
-    → ((put : ℕ → List Body) (said : List Body) → Routed link.route put said (kept link.first) → Routed mid.route put said (kept link.first ++ Bad fault ∷ []))
+    → ((put : ℕ → List Body) (said : List Body) → Routed link.route put said (kept link.first) → Routed mid.route put said (kept link.first ++ Bad fault ∷ [])) → mid.route.lanes ≡ link.route.lanes → mid.route.home ≡ link.route.home
     → (read : List ℕ) (put : ℕ → List Body) (marks : Marks) (h : Hears link read put marks) → AreAllJobs read ((h.said ++ kept link.first) ++ Bad fault ∷ []) → Hears (record mid { stage = Leaving Refused }) read put marks
-refuses link mid fault empty cutting is routed read put marks h all =
+refuses link mid fault empty cutting is routed lanes home read put marks h all =
     let to : Routed mid.route put h.said (kept link.first ++ Bad fault ∷ []) = routed put h.said (subst (Routed link.route put h.said) (alone link empty) (cut_routed link read put marks cutting h)) in
     let lane : (n : ℕ) × (mid.route.lane ≡ Some n) = routed_decided mid.route put h.said (kept link.first) (Bad fault) [] refl to in
     record {
       said = h.said;
+      homed = homed_on link.route mid.route marks lanes home h.homed;
       routed = subst (λ (r : List Body). Routed mid.route put h.said (r ++ Gone ∷ [])) (sym is) (routed_more mid.route put h.said (kept link.first ++ Bad fault ∷ []) (Gone ∷ []) lane.0 lane.1 to);
       quiet = λ no. let some : mid.route.lane ≡ Some lane.0 = lane.1 in absurd cc;
       bodies = record {
@@ -257,7 +299,7 @@ has_first link read put marks empty cutting h = subst (λ (r : List Body). HasCu
 
 pub cuts_message : (link new : Incoming) (message behind : List ℕ) (m : ClientMessage) → link.waiting ≡ None → cuts link.stage ≡ true → InFront message behind link.rest → client_in message ≡ Ok m → new.rest ≡ behind
     → new.stage ≡ link.stage → ready new ≡ kept link.first ++ Msg m ∷ [] → (new.route.lane ≡ None → new.waiting ≡ None)
-    → ((put : ℕ → List Body) (said : List Body) → Routed link.route put said (kept link.first) → Routed new.route put said (kept link.first ++ Msg m ∷ [])) → SameWay link new
-cuts_message link new message behind m empty cutting front is rest stage ready quiet routed read put marks h =
-    receives link new (Msg m) behind empty cutting stage ready quiet routed read put marks h
+    → ((put : ℕ → List Body) (said : List Body) → Routed link.route put said (kept link.first) → Routed new.route put said (kept link.first ++ Msg m ∷ [])) → new.route.lanes ≡ link.route.lanes → new.route.home ≡ link.route.home → SameWay link new
+cuts_message link new message behind m empty cutting front is rest stage ready quiet routed lanes home read put marks h =
+    receives link new (Msg m) behind empty cutting stage ready quiet routed lanes home read put marks h
     (subst (HasCut read ((h.said ++ kept link.first) ++ Msg m ∷ [])) (sym rest) (cut_message read link.rest message behind (h.said ++ kept link.first) m (has_first link read put marks empty cutting h) front is))

@@ -6,7 +6,9 @@ pub mod Ports
 pub mod Speaking
 pub mod Linking
 pub mod Ruling
+pub mod Away
 pub mod Tables
+pub mod Crowds
 pub mod Order
 mod Reading
 pub mod Passing

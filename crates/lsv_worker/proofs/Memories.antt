@@ -5,20 +5,21 @@ use Rattle.std.specs.List.{AllByRecursion}
 use Rattle.std.proofs.lemmas.List.{length-append}
 use Rattle.lsv_words.specs.Causes.{HasRisen}
 use Rattle.lsv_session.specs.declared.job.Job.{Job}
-use Rattle.lsv_worker.specs.Memory.{Admits, HasRoom, IsOrderly, KeepsOrder, bytes_behind_first, count_in, jobs_in, waiting}
+use Rattle.lsv_links.specs.Lanes.{one_lane}
+use Rattle.lsv_worker.specs.Memory.{Admits, HasRoom, IsOrderly, KeepsOrder, bytes_behind_first, count_in, waiting}
 use Rattle.lsv_worker.specs.Sizes.{counted, job_bytes}
 use Rattle.lsv_worker.specs.declared.memory.MemInbox.{MemInbox}
 
-pub lane_put : (lane : ℕ) (old new : List Job) (job : Job) → lane < 1 → new ≡ old ++ job ∷ [] → jobs_in lane new ≡ jobs_in lane old ++ job ∷ []
+pub lane_put : (lane : ℕ) (old new : List Job) (job : Job) → lane < 1 → new ≡ old ++ job ∷ [] → one_lane lane new ≡ one_lane lane old ++ job ∷ []
 lane_put zero old new job low e = e
 lane_put (suc lane) old new job low e = absurd (omega arith)
 
-pub lane_others : (lane m : ℕ) (old new : List Job) → lane < 1 → m ≢ lane → jobs_in m new ≡ jobs_in m old
+pub lane_others : (lane m : ℕ) (old new : List Job) → lane < 1 → m ≢ lane → one_lane m new ≡ one_lane m old
 lane_others lane zero old new low ne = absurd (ne (omega arith))
 lane_others lane (suc m) old new low ne = refl
 
-pub lane_same : (m : ℕ) (old new : List Job) → new ≡ old → jobs_in m new ≡ jobs_in m old
-lane_same m old new e = ap (jobs_in m) e
+pub lane_same : (m : ℕ) (old new : List Job) → new ≡ old → one_lane m new ≡ one_lane m old
+lane_same m old new e = ap (one_lane m) e
 
 pub lane_counts : (m a b : ℕ) → a ≤ b → count_in m a ≤ count_in m b
 lane_counts zero a b le = le

@@ -99,11 +99,13 @@ stands_swapped s xs ys port jobs replies h = record {
   each = h.each;
   apart = h.apart;
   known = h.known;
+  few = h.few;
   linked = h.linked;
   unused = h.unused;
   unasked = h.unasked;
   away = h.away;
-  stop = h.stop;
+  beside = h.beside;
+  told = h.told;
 }
 
 -- ---- how many links are open

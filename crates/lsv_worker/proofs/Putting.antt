@@ -11,8 +11,9 @@ use Rattle.lsv_session.specs.declared.job.Body.{Body}
 use Rattle.lsv_session.specs.declared.job.Body.TheVariants.{Bad, Gone}
 use Rattle.lsv_session.specs.declared.job.Fault.TheVariants.{NoMem}
 use Rattle.lsv_session.specs.declared.job.Job.{Job}
-use Rattle.lsv_worker.specs.Lanes.{Routed, Routing, job_of, lane_of, lane_or_home, share}
-use Rattle.lsv_worker.specs.Incoming.{AreBodies, Hears, Marks, Puts, SameWay, has_left, hears, kept, pending, ready, tail, was_shut}
+use Rattle.lsv_links.specs.Lanes.{lane_of, share}
+use Rattle.lsv_worker.specs.Lanes.{Routed, Routing, job_of, lane_or_home}
+use Rattle.lsv_worker.specs.Incoming.{AreBodies, Hears, IsHomed, Marks, Puts, SameWay, has_left, hears, kept, pending, ready, tail, was_shut}
 use Rattle.lsv_worker.specs.declared.incoming.Incoming.{Incoming}
 use Rattle.lsv_worker.specs.declared.incoming.Stage.{Stage}
 use Rattle.lsv_worker.specs.declared.incoming.Stage.TheVariants.{Starving, Leaving, Left}
@@ -35,6 +36,7 @@ same_self c = ap (λ (b : Bool). b && (c.seq == c.seq)) (own c.worker) ∙ own c
 pub hears_ext : (link : Incoming) (read : List ℕ) (p q : ℕ → List Body) (marks : Marks) → ((lane : ℕ) → p lane ≡ q lane) → Hears link read q marks → Hears link read p marks
 hears_ext link read p q marks same h = record {
   said = h.said;
+  homed = h.homed;
   routed = record { to_lane = λ lane. same lane ∙ h.routed.to_lane lane; undecided = h.routed.undecided; lane = h.routed.lane };
   quiet = h.quiet;
   bodies = h.bodies;
@@ -57,6 +59,7 @@ pub put_one : (old new : Incoming) (x : Body) (n : ℕ) → pending old ≡ x �
     → (read : List ℕ) (past : ℕ → List Body) (marks : Marks) → old.route.lane ≡ Some n → Hears old read past marks → Hears new read (λ m. past m ++ share (Some n) m (x ∷ [])) marks
 put_one old new x n known route bodies left shut over read past marks e h = record {
   said = h.said ++ x ∷ [];
+  homed = subst (λ (r : Routing). IsHomed r marks) (sym route) h.homed;
   routed = subst (λ (r : Routing). Routed r (λ m. past m ++ share (Some n) m (x ∷ [])) (h.said ++ x ∷ []) (pending new)) (sym route)
       (put_routed old.route past h.said (pending new) x n e (subst (Routed old.route past h.said) known h.routed));
   quiet = λ no. let none : old.route.lane ≡ None = ap (λ (r : Routing). r.lane) (sym route) ∙ no in absurd cc;

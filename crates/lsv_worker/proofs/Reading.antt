@@ -1,7 +1,7 @@
 -- How often the links of a port were read, call by call and connection by connection.
 use Rattle.std.proofs.Common.{◌≡◌, ◌≢◌, ℕ, zero, suc, ◌+◌, ◌<◌, ◌≤◌, Bool, true, false, List, [], ◌∷◌, ◌++◌, length, get_or, set, get_or-set_other, refl, sym, ap, subst, ◌∙◌, ⊎_elim, arith}
 use Rattle.std.specs.Prelude.{if◌then◌else◌, not}
-use Rattle.lsv_port.specs.Port.{Changes, LinkState, PortState, closed}
+use Rattle.lsv_port.specs.Port.{Changes, LinkState, PortState, closed, is_over}
 use Rattle.lsv_session.specs.declared.job.Job.{Job}
 use Rattle.lsv_session.specs.declared.reply.Reply.{Reply}
 use Rattle.lsv_worker.specs.Outgoing.{Alone}
@@ -24,7 +24,7 @@ pub unread_one : (n : ℕ) (s t : PortState) → ((m : ℕ) → m ≢ n → t.li
 unread_one n s t others this l =
     ⊎_elim (λ e. subst (λ (k : ℕ). (t.link k).reads ≡ (s.link k).reads) (sym e) this) (λ ne. ap (λ (x : LinkState). x.reads) (others l ne)) (same_or_not l n)
 
-pub unread_closed : (n : ℕ) (s t : PortState) → Changes n (closed (s.link n)) s t → ReadsNone s t
+pub unread_closed : (n : ℕ) (s t : PortState) → Changes n (closed (is_over s) (s.link n)) s t → ReadsNone s t
 unread_closed n s t change = unread_one n s t change.others (ap (λ (x : LinkState). x.reads) change.this)
 
 -- ---- nothing was put
@@ -35,7 +35,7 @@ unwritten_here s l = refl
 pub unwritten_then : (s t u : PortState) → WritesNone s t → WritesNone t u → WritesNone s u
 unwritten_then s t u x y l = y l ∙ x l
 
-pub unwritten_closed : (n : ℕ) (s t : PortState) → Changes n (closed (s.link n)) s t → WritesNone s t
+pub unwritten_closed : (n : ℕ) (s t : PortState) → Changes n (closed (is_over s) (s.link n)) s t → WritesNone s t
 unwritten_closed n s t change l =
     ⊎_elim (λ e. subst (λ (k : ℕ). (t.link k).output ≡ (s.link k).output) (sym e) (ap (λ (x : LinkState). x.output) change.this)) (λ ne. ap (λ (x : LinkState). x.output) (change.others l ne)) (same_or_not l n)
 

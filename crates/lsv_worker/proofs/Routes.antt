@@ -4,8 +4,9 @@ use Rattle.std.specs.Prelude.{if◌then◌else◌}
 use Rattle.lsv_session.specs.declared.job.Body.{Body}
 use Rattle.lsv_session.specs.declared.job.Body.TheVariants.{Bad, Gone}
 use Rattle.lsv_session.specs.declared.job.Fault.TheVariants.{NoMem}
-use Rattle.lsv_worker.specs.Lanes.{Routed, Routing, is_hello, lane_by, lane_of, share}
-use Rattle.lsv_worker.specs.Incoming.{kept}
+use Rattle.lsv_links.specs.Lanes.{is_hello, lane_by, lane_of, share}
+use Rattle.lsv_worker.specs.Lanes.{Routed, Routing}
+use Rattle.lsv_worker.specs.Incoming.{IsHomed, Marks, kept}
 
 first_more : (h : Bool) (l m n : ℕ) → (if h then None else Some l) ≡ Some n → Some (if h then m else l) ≡ Some n
 first_more true l m n e = absurd cc
@@ -103,6 +104,20 @@ routed_swap route put said coming h = record {
   undecided = h.undecided;
   lane = h.lane ∙ ap (lane_of route.lanes route.home) (sym (append_assoc said coming (Gone ∷ []))) ∙ swap route.lanes route.home (said ++ coming) ∙ ap (lane_of route.lanes route.home) (append_assoc said coming (Bad NoMem ∷ Gone ∷ []));
 }
+
+-- ---- the home lane
+
+homed_at : (l : Option ℕ) (old new : Routing) (marks : Marks) → old.lane ≡ l → (old.lane ≡ None → new ≡ record old { lane = Some old.home }) → ((n : ℕ) → old.lane ≡ Some n → new ≡ old) → IsHomed old marks → IsHomed new marks
+homed_at None old new marks e none some h = record { lanes = ap (λ (r : Routing). r.lanes) (none e) ∙ h.lanes; home = ap (λ (r : Routing). r.home) (none e) ∙ h.home }
+homed_at (Some n) old new marks e none some h = subst (λ (r : Routing). IsHomed r marks) (sym (some n e)) h
+
+-- it stays where a lane is settled
+pub homed_settle : (old new : Routing) (marks : Marks) → (old.lane ≡ None → new ≡ record old { lane = Some old.home }) → ((n : ℕ) → old.lane ≡ Some n → new ≡ old) → IsHomed old marks → IsHomed new marks
+homed_settle old new marks none some h = homed_at old.lane old new marks refl none some h
+
+-- and where its lanes and its home lane stay
+pub homed_on : (old new : Routing) (marks : Marks) → new.lanes ≡ old.lanes → new.home ≡ old.home → IsHomed old marks → IsHomed new marks
+homed_on old new marks lanes home h = record { lanes = lanes ∙ h.lanes; home = home ∙ h.home }
 
 -- ---- a job comes
 

@@ -74,7 +74,7 @@ sent_at Over unsent output answers count le h = sent_none unsent output answers 
 pub writes_more : (l count : ℕ) (old mid new : Outgoing) (s t u : PortState) → Writes l old mid s t → Changes l (after_write (gave.Bytes count) mid.unsent (t.link l)) t u → count ≤ length mid.unsent
     → new.unsent ≡ drop count mid.unsent → new.voice ≡ mid.voice → Writes l old new s u
 writes_more l count old mid new s t u w change le unsent voice = record {
-  alone = alone_then l s t u w.alone (alone_change l (after_write (gave.Bytes count) mid.unsent (t.link l)) t u change);
+  alone = alone_then l s t u w.alone (alone_change l (after_write (gave.Bytes count) mid.unsent (t.link l)) t u refl change);
   input = subst (SameInput (s.link l)) (sym change.this) (record { is_open = w.input.is_open; input = w.input.input; ended = w.input.ended; owed = w.input.owed; reads = w.input.reads });
   goes = λ answers h.
       let was : Speaks mid (t.link l).output answers = w.goes answers h in
@@ -87,7 +87,7 @@ writes_more l count old mid new s t u w change le unsent voice = record {
 -- no byte was sent
 pub writes_full : (l : ℕ) (old mid : Outgoing) (s t u : PortState) (bytes : List ℕ) → Writes l old mid s t → Changes l (after_write gave.NotYet bytes (t.link l)) t u → Writes l old mid s u
 writes_full l old mid s t u bytes w change = record {
-  alone = alone_then l s t u w.alone (alone_change l (after_write gave.NotYet bytes (t.link l)) t u change);
+  alone = alone_then l s t u w.alone (alone_change l (after_write gave.NotYet bytes (t.link l)) t u refl change);
   input = subst (SameInput (s.link l)) (sym change.this) (record { is_open = w.input.is_open; input = w.input.input; ended = w.input.ended; owed = w.input.owed; reads = w.input.reads });
   goes = λ answers h. subst (λ (x : LinkState). Speaks mid x.output answers) (sym change.this) (w.goes answers h);
 }
@@ -95,7 +95,7 @@ writes_full l old mid s t u bytes w change = record {
 pub writes_failed : (l : ℕ) (old mid new : Outgoing) (s t u : PortState) (bytes : List ℕ) → Writes l old mid s t → Changes l (after_write gave.Failed bytes (t.link l)) t u
     → ((output answers : List ℕ) → Speaks mid output answers → Speaks new output answers) → Writes l old new s u
 writes_failed l old mid new s t u bytes w change silence = record {
-  alone = alone_then l s t u w.alone (alone_change l (after_write gave.Failed bytes (t.link l)) t u change);
+  alone = alone_then l s t u w.alone (alone_change l (after_write gave.Failed bytes (t.link l)) t u refl change);
   input = subst (SameInput (s.link l)) (sym change.this) (record { is_open = w.input.is_open; input = w.input.input; ended = w.input.ended; owed = w.input.owed; reads = w.input.reads });
   goes = λ answers h. subst (λ (x : LinkState). Speaks new x.output answers) (sym change.this) (silence (t.link l).output answers (w.goes answers h));
 }

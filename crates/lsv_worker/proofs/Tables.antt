@@ -6,6 +6,7 @@ use Rattle.std.proofs.lemmas.Bool.Decides.{nat_tests}
 use Rattle.std.proofs.lemmas.List.{append-nil, take_all}
 use Rattle.std.proofs.Math.ListN.{drop_of_length-le}
 use Rattle.lsv_port.specs.Port.{IsOpen, IsOwed, LinkState, PortState}
+use Rattle.lsv_links.specs.Views.{IsCrowded}
 use Rattle.lsv_session.specs.Connections.{same}
 use Rattle.lsv_session.specs.Transcript.{bodies_of}
 use Rattle.lsv_session.specs.declared.connection.ConnId.{ConnId}
@@ -15,12 +16,14 @@ use Rattle.lsv_session.specs.declared.reply.Reply.{Reply}
 use Rattle.lsv_session.proofs.Replies.{bodies_of-append}
 use Rattle.lsv_worker.specs.Lanes.{job_of}
 use Rattle.lsv_worker.specs.Outgoing.{Alone, kept_up}
-use Rattle.lsv_worker.specs.Links.{LinkStands, LinkStep, is_done}
-use Rattle.lsv_worker.specs.Worker.{AreCalmed, AreHeld, AreLast, AreOfLanes, IsApart, IsCalmed, IsIn, IsMade, IsUntouched, Setting, Stands, Steps, conn_at, undone}
+use Rattle.lsv_worker.specs.Links.{IsTold, LinkStands, LinkStep, is_done}
+use Rattle.lsv_worker.specs.Worker.{AreCalmed, AreHeld, AreLast, AreOfLanes, IsApart, IsCalmed, IsIn, IsMade, Setting, Stands, Steps, conn_at, undone}
 use Rattle.lsv_worker.specs.Incoming.{has_left}
 use Rattle.lsv_worker.specs.declared.link.Pause.TheVariants.{Calm}
 use Rattle.lsv_worker.specs.declared.link.Link.{Link}
+use Rattle.lsv_worker.proofs.Away.{away_alone, beside_alone, beside_on}
 use Rattle.lsv_worker.proofs.Linking.{stands_ext}
+use Rattle.lsv_worker.proofs.Ports.{told_alone}
 use Rattle.lsv_worker.proofs.Putting.{same_or_not, same_self}
 
 own : (k : ℕ) → (k == k) ≡ true
@@ -115,11 +118,11 @@ in_at k (x ∷ links) (suc i) d within e = inr (in_at k links i d (omega arith) 
 
 -- what a worker says of one connection
 abbrev pub Fits : Setting → Link → PortState → (ℕ → List Job) → List Reply → Type 0
-Fits s link port jobs replies = LinkStands s.phase link (port.link link.number) (λ lane. bodies_of link.conn (jobs lane)) replies
+Fits s link port jobs replies = LinkStands s.lanes s.phase link (port.link link.number) (λ lane. bodies_of link.conn (jobs lane)) replies
 
 -- the same jobs, told otherwise
 pub fits_ext : (s : Setting) (link : Link) (port : PortState) (jobs others : ℕ → List Job) (replies : List Reply) → ((lane : ℕ) → others lane ≡ jobs lane) → Fits s link port jobs replies → Fits s link port others replies
-fits_ext s link port jobs others replies e h = stands_ext s.phase link (port.link link.number) (λ lane. bodies_of link.conn (others lane)) (λ lane. bodies_of link.conn (jobs lane)) replies (λ lane. ap (bodies_of link.conn) (e lane)) h
+fits_ext s link port jobs others replies e h = stands_ext s.lanes s.phase link (port.link link.number) (λ lane. bodies_of link.conn (others lane)) (λ lane. bodies_of link.conn (jobs lane)) replies (λ lane. ap (bodies_of link.conn) (e lane)) h
 
 pub stands_jobs : (s : Setting) (links : List Link) (port : PortState) (jobs others : ℕ → List Job) (replies : List Reply) → ((lane : ℕ) → others lane ≡ jobs lane) → Stands s links port jobs replies → Stands s links port others replies
 stands_jobs s links port jobs others replies e h = record {
@@ -130,30 +133,32 @@ stands_jobs s links port jobs others replies e h = record {
   each = λ k made. fits_ext s (h.last k) port jobs others replies e (h.each k made);
   apart = h.apart;
   known = h.known;
+  few = h.few;
   linked = h.linked;
   unused = λ k not lane. ap (bodies_of (conn_at s k)) (e lane) ∙ h.unused k not lane;
   unasked = h.unasked;
   away = h.away;
-  stop = h.stop;
+  beside = h.beside;
+  told = h.told;
 }
 
 -- the connection itself goes on
-fits_own : (s : Setting) (old new : Link) (before after : PortState) (p q jobs : ℕ → List Job) (replies : List Reply) (step : LinkStep s.phase old new before after p q) → Fits s old before jobs replies
+fits_own : (s : Setting) (old new : Link) (before after : PortState) (p q jobs : ℕ → List Job) (replies : List Reply) (step : LinkStep s.phase old new before after p q) → IsTold s.phase before → Fits s old before jobs replies
     → Fits s new after (λ lane. jobs lane ++ map (job_of old.conn) (step.added lane)) replies
-fits_own s old new before after p q jobs replies step h =
+fits_own s old new before after p q jobs replies step told h =
     let to : ℕ → List Job = λ lane. jobs lane ++ map (job_of old.conn) (step.added lane) in
-    let on : LinkStands s.phase new (after.link old.number) (λ lane. bodies_of old.conn (jobs lane) ++ step.added lane) replies = step.goes (λ lane. bodies_of old.conn (jobs lane)) replies h in
-    let at : LinkStands s.phase new (after.link new.number) (λ lane. bodies_of old.conn (jobs lane) ++ step.added lane) replies = subst (λ (n : ℕ). LinkStands s.phase new (after.link n) (λ lane. bodies_of old.conn (jobs lane) ++ step.added lane) replies) (sym step.number) on in
-    stands_ext s.phase new (after.link new.number) (λ lane. bodies_of new.conn (to lane)) (λ lane. bodies_of old.conn (jobs lane) ++ step.added lane) replies
+    let on : LinkStands s.lanes s.phase new (after.link old.number) (λ lane. bodies_of old.conn (jobs lane) ++ step.added lane) replies = step.goes s.lanes (λ lane. bodies_of old.conn (jobs lane)) replies told h in
+    let at : LinkStands s.lanes s.phase new (after.link new.number) (λ lane. bodies_of old.conn (jobs lane) ++ step.added lane) replies = subst (λ (n : ℕ). LinkStands s.lanes s.phase new (after.link n) (λ lane. bodies_of old.conn (jobs lane) ++ step.added lane) replies) (sym step.number) on in
+    stands_ext s.lanes s.phase new (after.link new.number) (λ lane. bodies_of new.conn (to lane)) (λ lane. bodies_of old.conn (jobs lane) ++ step.added lane) replies
     (λ lane. ap (λ (c : ConnId). bodies_of c (to lane)) step.conn ∙ bodies_of-append old.conn (jobs lane) (map (job_of old.conn) (step.added lane)) ∙ ap (λ (l : List Body). bodies_of old.conn (jobs lane) ++ l) (bodies_own old.conn (step.added lane))) at
 
 -- another connection stays
 fits_other : (s : Setting) (old link : Link) (before after : PortState) (added : ℕ → List Body) (jobs : ℕ → List Job) (replies : List Reply) → Alone old.number before after → link.number ≢ old.number → old.conn.seq ≢ link.conn.seq
     → Fits s link before jobs replies → Fits s link after (λ lane. jobs lane ++ map (job_of old.conn) (added lane)) replies
 fits_other s old link before after added jobs replies alone nn nc h =
-    stands_ext s.phase link (after.link link.number) (λ lane. bodies_of link.conn (jobs lane ++ map (job_of old.conn) (added lane))) (λ lane. bodies_of link.conn (jobs lane)) replies
+    stands_ext s.lanes s.phase link (after.link link.number) (λ lane. bodies_of link.conn (jobs lane ++ map (job_of old.conn) (added lane))) (λ lane. bodies_of link.conn (jobs lane)) replies
     (λ lane. bodies_of-append link.conn (jobs lane) (map (job_of old.conn) (added lane)) ∙ ap (λ (l : List Body). bodies_of link.conn (jobs lane) ++ l) (bodies_other old.conn link.conn (added lane) nc) ∙ append-nil (bodies_of link.conn (jobs lane)))
-    (subst (λ (x : LinkState). LinkStands s.phase link x (λ lane. bodies_of link.conn (jobs lane)) replies) (sym (alone.others link.number nn)) h)
+    (subst (λ (x : LinkState). LinkStands s.lanes s.phase link x (λ lane. bodies_of link.conn (jobs lane)) replies) (sym (alone.others link.number nn)) h)
 
 -- a step of one connection is one of the worker
 pub stand_one : (s : Setting) (links : List Link) (i : ℕ) (old new : Link) (before after : PortState) (p q jobs : ℕ → List Job) (replies : List Reply) → i < length links → old ≡ get_or links i old
@@ -171,12 +176,13 @@ stand_one s links i old new before after p q jobs replies within is step h =
           (λ ne undone. in_set k links i old new is step.conn (h.complete k made undone));
       conn = λ k made. conns k ∙ h.conn k made;
       each = λ k made. with_each (λ l. Fits s l after to replies) old.conn.seq k new h.last
-          (λ e. fits_own s old new before after p q jobs replies step (subst (λ (l : Link). Fits s l before jobs replies) at.1 (h.each old.conn.seq at.0)))
+          (λ e. fits_own s old new before after p q jobs replies step h.told (subst (λ (l : Link). Fits s l before jobs replies) at.1 (h.each old.conn.seq at.0)))
           (λ ne. fits_other s old (h.last k) before after step.added jobs replies step.alone
           (λ e. h.apart k old.conn.seq made at.0 ne (e ∙ sym (ap (λ (l : Link). l.number) at.1)))
           (λ e. ne (sym (e ∙ ap (λ (c : ConnId). c.seq) (h.conn k made)))) (h.each k made));
       apart = λ j k mj mk ne e. h.apart j k mj mk ne (sym (numbers j) ∙ e ∙ numbers k);
       known = λ k made. subst (λ (n : ℕ). Contains after.opened n) (sym (numbers k)) (subst (λ (o : List ℕ). Contains o (h.last k).number) (sym step.alone.opened) (h.known k made));
+      few = λ k made crowd. h.few k made (subst IsCrowded (beside_alone old.number before after step.alone (h.last k).number) (subst (λ (n : ℕ). IsCrowded (after.link n).beside) (numbers k) crowd));
       linked = λ l now. ⊎_elim
           (λ e. (old.conn.seq, at.0, numbers old.conn.seq ∙ ap (λ (x : Link). x.number) at.1 ∙ sym e))
           (λ ne. let was = h.linked l (subst (λ (x : LinkState). x.is_open ≡ true) (step.alone.others l ne) now) in (was.0, was.1, numbers was.0 ∙ was.2))
@@ -187,8 +193,9 @@ stand_one s links i old new before after p q jobs replies within is step h =
       unasked = h.unasked;
       away = λ l has none.
           let ne : l ≢ old.number = λ e. none old.conn.seq at.0 (numbers old.conn.seq ∙ ap (λ (x : Link). x.number) at.1 ∙ sym e) in
-          subst IsUntouched (sym (step.alone.others l ne)) (h.away l (subst (λ (o : List ℕ). Contains o l) step.alone.opened has) (λ k made e. none k made (numbers k ∙ e)));
-      stop = λ e. step.alone.stopped ∙ h.stop e;
+          away_alone s old.number l before after step.alone ne (h.away l (subst (λ (o : List ℕ). Contains o l) step.alone.opened has) (λ k made e. none k made (numbers k ∙ e)));
+      beside = beside_on before after step.alone.opened (beside_alone old.number before after step.alone) h.beside;
+      told = told_alone s.phase old.number before after step.alone h.told;
     }
 
 -- ---- steps of all connections
@@ -261,11 +268,13 @@ stands_swept s links port jobs replies h = record {
   each = h.each;
   apart = h.apart;
   known = h.known;
+  few = h.few;
   linked = h.linked;
   unused = h.unused;
   unasked = h.unasked;
   away = h.away;
-  stop = h.stop;
+  beside = h.beside;
+  told = h.told;
 }
 
 lanes_if : (b : Bool) (n : ℕ) (x : Link) (links : List Link) → x.incoming.route.lanes ≡ n → AreOfLanes n links → AreOfLanes n (keep_if b x links)

@@ -5,6 +5,7 @@ use Rattle.std.specs.List.{Contains}
 use Rattle.std.proofs.lemmas.List.{append-nil}
 use Rattle.lsv_words.specs.Pieces.{IsPrefix}
 use Rattle.lsv_port.specs.Port.{LinkState, PortState}
+use Rattle.lsv_links.specs.Views.{IsCrowded}
 use Rattle.lsv_session.specs.Connections.{same}
 use Rattle.lsv_session.specs.Transcript.{answers, bodies_of, frames_of, messages_in, said_to}
 use Rattle.lsv_session.specs.declared.connection.ConnId.{ConnId}
@@ -14,9 +15,11 @@ use Rattle.lsv_session.proofs.Replies.{answers-append}
 use Rattle.lsv_worker.specs.Incoming.{has_left}
 use Rattle.lsv_worker.specs.Outgoing.{Speaks, kept_up}
 use Rattle.lsv_worker.specs.Links.{LinkStands, Takes, is_done}
-use Rattle.lsv_worker.specs.Worker.{AreLast, IsIn, IsMade, IsUnasked, IsUntouched, Setting, Stands, conn_at}
+use Rattle.lsv_worker.specs.Worker.{AreLast, IsIn, IsMade, IsUnasked, Setting, Stands, conn_at}
 use Rattle.lsv_worker.specs.declared.link.Link.{Link}
 use Rattle.lsv_worker.specs.declared.outgoing.Voice.TheVariants as voices
+use Rattle.lsv_worker.proofs.Away.{away_alone, beside_alone, beside_on}
+use Rattle.lsv_worker.proofs.Ports.{told_alone}
 use Rattle.lsv_worker.proofs.Linking.{early_more, shut_more, talks_more, talks_now}
 use Rattle.lsv_worker.proofs.Putting.{same_or_not}
 use Rattle.lsv_worker.proofs.Speaking.{speaks_prefix}
@@ -30,6 +33,7 @@ other_answers c replies reply differs =
 other_reply : (s : Setting) (link : Link) (port : PortState) (jobs : ℕ → List Job) (replies : List Reply) (reply : Reply) → same reply.conn link.conn ≡ false → Fits s link port jobs replies → Fits s link port jobs (replies ++ reply ∷ [])
 other_reply s link port jobs replies reply differs h = record {
   marks = h.marks;
+  home = h.home;
   inward = h.inward;
   outward = subst (Speaks link.outgoing (port.link link.number).output) (sym (other_answers link.conn replies reply differs)) h.outward;
   small = h.small;
@@ -38,6 +42,8 @@ other_reply s link port jobs replies reply differs h = record {
   paid = h.paid;
   broken = h.broken;
   may_end = h.may_end;
+  own_cause = h.own_cause;
+  shut_by = h.shut_by;
   told = λ e. early_more link.conn replies (reply ∷ []) (h.told e);
   shut = λ e. shut_more link.conn replies (reply ∷ []) (h.shut e);
   silent = h.silent;
@@ -61,9 +67,9 @@ stands_took s links i old new before after jobs replies reply within is to takes
     let conns : (k : ℕ) → (with_link old.conn.seq new h.last k).conn ≡ (h.last k).conn = λ k. with_field (λ l. l.conn) old.conn.seq k new h.last (takes.conn ∙ sym (ap (λ (l : Link). l.conn) at.1)) in
     let seq : reply.conn.seq ≡ old.conn.seq = ap (λ (c : ConnId). c.seq) to in
     let own : Fits s new after jobs (replies ++ reply ∷ []) =
-    subst (λ (n : ℕ). LinkStands s.phase new (after.link n) (λ lane. bodies_of new.conn (jobs lane)) (replies ++ reply ∷ [])) (sym takes.number)
-    (subst (λ (c : ConnId). LinkStands s.phase new (after.link old.number) (λ lane. bodies_of c (jobs lane)) (replies ++ reply ∷ [])) (sym takes.conn)
-    (takes.goes s.phase (λ lane. bodies_of old.conn (jobs lane)) replies (subst (λ (l : Link). Fits s l before jobs replies) at.1 (h.each old.conn.seq at.0)))) in
+    subst (λ (n : ℕ). LinkStands s.lanes s.phase new (after.link n) (λ lane. bodies_of new.conn (jobs lane)) (replies ++ reply ∷ [])) (sym takes.number)
+    (subst (λ (c : ConnId). LinkStands s.lanes s.phase new (after.link old.number) (λ lane. bodies_of c (jobs lane)) (replies ++ reply ∷ [])) (sym takes.conn)
+    (takes.goes s.lanes s.phase (λ lane. bodies_of old.conn (jobs lane)) replies h.told (subst (λ (l : Link). Fits s l before jobs replies) at.1 (h.each old.conn.seq at.0)))) in
     record {
       last = with_link old.conn.seq new h.last;
       table = table_set h.last s links i old new within is takes.conn h.table;
@@ -76,9 +82,10 @@ stands_took s links i old new before after jobs replies reply within is to takes
           let nn : (h.last k).number ≢ old.number = λ e. h.apart k old.conn.seq made at.0 ne (e ∙ sym (ap (λ (l : Link). l.number) at.1)) in
           let nc : reply.conn.seq ≢ (h.last k).conn.seq = λ e. ne (sym (sym seq ∙ e ∙ ap (λ (c : ConnId). c.seq) (h.conn k made))) in
           other_reply s (h.last k) after jobs replies reply (not_same reply.conn (h.last k).conn nc)
-          (subst (λ (x : LinkState). LinkStands s.phase (h.last k) x (λ lane. bodies_of (h.last k).conn (jobs lane)) replies) (sym (takes.alone.others (h.last k).number nn)) (h.each k made)));
+          (subst (λ (x : LinkState). LinkStands s.lanes s.phase (h.last k) x (λ lane. bodies_of (h.last k).conn (jobs lane)) replies) (sym (takes.alone.others (h.last k).number nn)) (h.each k made)));
       apart = λ j k mj mk ne e. h.apart j k mj mk ne (sym (numbers j) ∙ e ∙ numbers k);
       known = λ k made. subst (λ (n : ℕ). Contains after.opened n) (sym (numbers k)) (subst (λ (o : List ℕ). Contains o (h.last k).number) (sym takes.alone.opened) (h.known k made));
+      few = λ k made crowd. h.few k made (subst IsCrowded (beside_alone old.number before after takes.alone (h.last k).number) (subst (λ (n : ℕ). IsCrowded (after.link n).beside) (numbers k) crowd));
       linked = λ l now. ⊎_elim
           (λ e. (old.conn.seq, at.0, numbers old.conn.seq ∙ ap (λ (x : Link). x.number) at.1 ∙ sym e))
           (λ ne. let was = h.linked l (subst (λ (x : LinkState). x.is_open ≡ true) (takes.alone.others l ne) now) in (was.0, was.1, numbers was.0 ∙ was.2))
@@ -87,8 +94,9 @@ stands_took s links i old new before after jobs replies reply within is to takes
       unasked = λ k not. unasked_more (conn_at s k) replies reply (not_same reply.conn (conn_at s k) (λ e. not (subst (IsMade s) (sym seq ∙ e) at.0))) (h.unasked k not);
       away = λ l has none.
           let ne : l ≢ old.number = λ e. none old.conn.seq at.0 (numbers old.conn.seq ∙ ap (λ (x : Link). x.number) at.1 ∙ sym e) in
-          subst IsUntouched (sym (takes.alone.others l ne)) (h.away l (subst (λ (o : List ℕ). Contains o l) takes.alone.opened has) (λ k made e. none k made (numbers k ∙ e)));
-      stop = λ e. takes.alone.stopped ∙ h.stop e;
+          away_alone s old.number l before after takes.alone ne (h.away l (subst (λ (o : List ℕ). Contains o l) takes.alone.opened has) (λ k made e. none k made (numbers k ∙ e)));
+      beside = beside_on before after takes.alone.opened (beside_alone old.number before after takes.alone) h.beside;
+      told = told_alone s.phase old.number before after takes.alone h.told;
     }
 
 -- ---- a connection that is done takes nothing any more
@@ -113,6 +121,7 @@ mute_fits s link port jobs replies reply to done h =
     let is = done_live link.live link.shut (has_left link.incoming.stage) (kept_up link.outgoing.voice) done in
     record {
       marks = h.marks;
+      home = h.home;
       inward = h.inward;
       outward = (refl, subst (IsPrefix (port.link link.number).output) (sym (answers-append link.conn replies (reply ∷ []))) (more_prefix (port.link link.number).output (answers link.conn replies) (frames_of (said_to link.conn (reply ∷ []))) (speaks_prefix link.outgoing (port.link link.number).output (answers link.conn replies) h.outward)));
       small = h.small;
@@ -121,6 +130,8 @@ mute_fits s link port jobs replies reply to done h =
       paid = h.paid;
       broken = h.broken;
       may_end = h.may_end;
+      own_cause = h.own_cause;
+      shut_by = h.shut_by;
       told = λ e. early_more link.conn replies (reply ∷ []) (h.told e);
       shut = λ e. shut_more link.conn replies (reply ∷ []) (h.shut e);
       silent = λ e. absurd cc;
@@ -158,11 +169,13 @@ stands_dropped s links port jobs replies reply to made none h =
           (λ ne. other_reply s (h.last k) port jobs replies reply (not_same reply.conn (h.last k).conn (λ e. ne (sym (e ∙ ap (λ (c : ConnId). c.seq) (h.conn k m))))) (h.each k m));
       apart = λ j k mj mk ne e. h.apart j k mj mk ne (sym (numbers j) ∙ e ∙ numbers k);
       known = λ k m. subst (λ (n : ℕ). Contains port.opened n) (sym (numbers k)) (h.known k m);
+      few = λ k m crowd. h.few k m (subst (λ (n : ℕ). IsCrowded (port.link n).beside) (numbers k) crowd);
       linked = λ l now. let was = h.linked l now in (was.0, was.1, numbers was.0 ∙ was.2);
       unused = h.unused;
       unasked = λ k not. unasked_more (conn_at s k) replies reply (not_same reply.conn (conn_at s k) (λ e. not (subst (IsMade s) e made))) (h.unasked k not);
       away = λ l has none_is. h.away l has (λ k m e. none_is k m (numbers k ∙ e));
-      stop = h.stop;
+      beside = h.beside;
+      told = h.told;
     }
 
 pub not_in : (k : ℕ) (links : List Link) → ((i : ℕ) (d : Link) → i < length links → (get_or links i d).conn.seq ≢ k) → IsIn k links → ⊥

@@ -1,6 +1,6 @@
 -- What comes of a connection that has ended.
 use Rattle.std.proofs.Common.{◌≡◌, ◌⊎◌, ℕ, suc, ◌<◌, Bool, true, false, Option, Some, List, [], ◌∷◌, ◌++◌, length, get_or, refl, sym, ap, subst, ◌∙◌, append_assoc, ⊎_elim, inl, inr, arith}
-use Rattle.std.specs.Prelude.{◌&&◌, not}
+use Rattle.std.specs.Prelude.{◌&&◌, ◌%◌, not}
 use Rattle.std.proofs.lemmas.List.{append-nil}
 use Rattle.lsv_port.specs.Port.{LinkState, PortState}
 use Rattle.lsv_session.specs.Transcript.{answers, bodies_of}
@@ -9,11 +9,12 @@ use Rattle.lsv_session.specs.declared.job.Body.{Body}
 use Rattle.lsv_session.specs.declared.job.Body.TheVariants.{Gone}
 use Rattle.lsv_session.specs.declared.job.Job.{Job}
 use Rattle.lsv_session.specs.declared.reply.Reply.{Reply}
-use Rattle.lsv_worker.specs.Incoming.{AreBodies, IsWhole, has_left, hears, last_words, pending, tail, was_shut}
-use Rattle.lsv_worker.specs.Lanes.{Routed, lane_on, share}
-use Rattle.lsv_worker.specs.Links.{LinkStands, MayEnd, is_done}
+use Rattle.lsv_worker.specs.Incoming.{AreBodies, IsHomed, IsWhole, Marks, has_left, hears, last_words, pending, tail, was_shut}
+use Rattle.lsv_links.specs.Lanes.{lane_of, share}
+use Rattle.lsv_worker.specs.Lanes.{Routed, Routing, lane_on}
+use Rattle.lsv_worker.specs.Links.{IsAtHome, LinkStands, is_done}
 use Rattle.lsv_worker.specs.Outgoing.{HasEarlyShut, kept_up}
-use Rattle.lsv_worker.specs.Tells.{Ends, IsCauseOf}
+use Rattle.lsv_worker.specs.Tells.{Ends, IsCauseOf, IsHeardOut}
 use Rattle.lsv_worker.specs.Worker.{AreLast, HaveLeft, IsIn, IsMade, Setting, Stands, conn_at}
 use Rattle.lsv_worker.specs.declared.incoming.Stage.{Stage}
 use Rattle.lsv_worker.specs.declared.incoming.Stage.TheVariants.{Hearing, Ending, Starving, Leaving, Left}
@@ -31,7 +32,7 @@ why_of Starving e = absurd cc
 why_of (Leaving why) e = absurd cc
 why_of (Left why) e = (why, refl)
 
-cause_of : (why : Why) (phase : Phase) (c : ConnId) (s : LinkState) (replies : List Reply) → (hears (Left why) ≡ false → MayEnd phase s) → (was_shut (Left why) ≡ true → HasEarlyShut c replies) → IsCauseOf why phase c s replies
+cause_of : (why : Why) (phase : Phase) (c : ConnId) (s : LinkState) (replies : List Reply) → (hears (Left why) ≡ false → IsHeardOut phase c s replies) → (was_shut (Left why) ≡ true → HasEarlyShut c replies) → IsCauseOf why phase c s replies
 cause_of Ended phase c s replies over shut = over refl
 cause_of Refused phase c s replies over shut = tt
 cause_of Shut phase c s replies over shut = shut refl
@@ -47,19 +48,33 @@ whole_routed link put said heard last whole h =
       lane = h.lane ∙ ap (λ (l : List Body). lane_on link.incoming.route l) (append-nil said ∙ whole ∙ sym (append_assoc heard last (Gone ∷ [])));
     })
 
-pub link_ends : (phase : Phase) (link : Link) (s : LinkState) (jobs : ℕ → List Job) (replies : List Reply) → link.shut ≡ true → has_left link.incoming.stage ≡ true → LinkStands phase link s (λ m. bodies_of link.conn (jobs m)) replies → Ends phase link.conn s jobs replies
-link_ends phase link s jobs replies shut left h =
+-- the lane of a connection is that of its number's home lane
+decided_lane : (route : Routing) (marks : Marks) (n : ℕ) (c : ConnId) (said : List Body) → IsHomed route marks → IsAtHome n c marks → lane_on route said ≡ lane_of n (c.seq % n) said
+decided_lane route marks n c said homed home =
+    ap (λ (l : ℕ). lane_of l route.home said) (homed.lanes ∙ home.lanes) ∙ ap (λ (x : ℕ). lane_of n x said) (homed.home ∙ home.home)
+
+-- no more bytes of a link come
+heard_out : (n : ℕ) (phase : Phase) (link : Link) (s : LinkState) (put : ℕ → List Body) (replies : List Reply) → (h : LinkStands n phase link s put replies) → h.marks.over ≡ true → IsHeardOut phase link.conn s replies
+heard_out n phase link s put replies h over = record {
+  may_end = h.may_end over;
+  own_cause = λ dead early. ⊎_elim (λ e. inl e) (λ k. inr (⊎_elim (λ f. inl f) (λ r. inr (⊎_elim (λ m. inl (h.told m)) (λ p. inr p) r)) k)) (h.own_cause over dead early);
+}
+
+pub link_ends : (n : ℕ) (phase : Phase) (link : Link) (s : LinkState) (jobs : ℕ → List Job) (replies : List Reply) → link.shut ≡ true → has_left link.incoming.stage ≡ true → LinkStands n phase link s (λ m. bodies_of link.conn (jobs m)) replies → Ends n phase link.conn s jobs replies
+link_ends n phase link s jobs replies shut left h =
     let why : (w : Why) × (link.incoming.stage ≡ Left w) = why_of link.incoming.stage left in
     let none : pending link.incoming ≡ [] = ap (λ (r : List Body). r ++ tail link.incoming.stage) (h.inward.left left) ∙ ap tail why.1 in
     let all : IsWhole why.0 s.input h.inward.said = subst (IsWhole why.0 s.input) (ap (λ (p : List Body). h.inward.said ++ p) none ∙ append-nil h.inward.said)
     (subst (λ (g : Stage). AreBodies g s.input link.incoming.rest (h.inward.said ++ pending link.incoming)) why.1 h.inward.bodies) in
-    let lane : (n : ℕ) × (link.incoming.route.lane ≡ Some n) = whole_routed link (λ m. bodies_of link.conn (jobs m)) h.inward.said all.heard (last_words why.0) all.whole (subst (Routed link.incoming.route (λ m. bodies_of link.conn (jobs m)) h.inward.said) none h.inward.routed) in
+    let routed : Routed link.incoming.route (λ m. bodies_of link.conn (jobs m)) h.inward.said [] = subst (Routed link.incoming.route (λ m. bodies_of link.conn (jobs m)) h.inward.said) none h.inward.routed in
+    let lane : (k : ℕ) × (link.incoming.route.lane ≡ Some k) = whole_routed link (λ m. bodies_of link.conn (jobs m)) h.inward.said all.heard (last_words why.0) all.whole routed in
     record {
       why = why.0;
       said = h.inward.said;
       whole = all;
-      cause = cause_of why.0 phase link.conn s replies (λ e. h.may_end (h.inward.over (ap hears why.1 ∙ e))) (λ e. h.told (h.inward.shut (ap was_shut why.1 ∙ e)));
+      cause = cause_of why.0 phase link.conn s replies (λ e. heard_out n phase link s (λ m. bodies_of link.conn (jobs m)) replies h (h.inward.over (ap hears why.1 ∙ e))) (λ e. h.told (h.inward.shut (ap was_shut why.1 ∙ e)));
       lane = lane.0;
+      decided = sym (decided_lane link.incoming.route h.marks n link.conn h.inward.said h.inward.homed h.home) ∙ sym (ap (λ (l : List Body). lane_on link.incoming.route l) (append-nil h.inward.said)) ∙ sym routed.lane ∙ lane.1;
       put = λ m. h.inward.routed.to_lane m ∙ ap (λ (l : Option ℕ). share l m h.inward.said) lane.1;
       output = speaks_prefix link.outgoing s.output (answers link.conn replies) h.outward;
       shut = h.shut shut;
@@ -81,8 +96,8 @@ done_or_not : (b : Bool) → (b ≡ true) ⊎ (b ≡ false)
 done_or_not true = inl refl
 done_or_not false = inr refl
 
-pub each_ends : (s : Setting) (links : List Link) (port : PortState) (jobs : ℕ → List Job) (replies : List Reply) → HaveLeft links → (h : Stands s links port jobs replies) → (k : ℕ) → IsMade s k → Ends s.phase (conn_at s k) (port.link (h.last k).number) jobs replies
+pub each_ends : (s : Setting) (links : List Link) (port : PortState) (jobs : ℕ → List Job) (replies : List Reply) → HaveLeft links → (h : Stands s links port jobs replies) → (k : ℕ) → IsMade s k → Ends s.lanes s.phase (conn_at s k) (port.link (h.last k).number) jobs replies
 each_ends s links port jobs replies left h k made =
     let is : ((h.last k).shut ≡ true) × (has_left (h.last k).incoming.stage ≡ true) =
     ⊎_elim (λ done. done_left (h.last k).live (h.last k).shut (has_left (h.last k).incoming.stage) (kept_up (h.last k).outgoing.voice) done) (λ undone. table_left h.last s k links h.table left (h.complete k made undone)) (done_or_not (is_done (h.last k))) in
-    subst (λ (c : ConnId). Ends s.phase c (port.link (h.last k).number) jobs replies) (h.conn k made) (link_ends s.phase (h.last k) (port.link (h.last k).number) jobs replies is.0 is.1 (h.each k made))
+    subst (λ (c : ConnId). Ends s.lanes s.phase c (port.link (h.last k).number) jobs replies) (h.conn k made) (link_ends s.lanes s.phase (h.last k) (port.link (h.last k).number) jobs replies is.0 is.1 (h.each k made))

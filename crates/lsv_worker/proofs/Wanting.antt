@@ -1,7 +1,7 @@
 -- Connections for which memory ran out.
 use Rattle.std.proofs.Common.{◌≡◌, Option, None, sym, ap, subst, ◌∙◌}
 use Rattle.lsv_session.specs.declared.job.Body.{Body}
-use Rattle.lsv_worker.specs.Incoming.{KeepsWant, LeavesTelling, TellsAt, starves}
+use Rattle.lsv_worker.specs.Incoming.{KeepsWant, LeavesTelling, TellsAt, has_left, starves}
 use Rattle.lsv_worker.specs.declared.incoming.Incoming.{Incoming}
 use Rattle.lsv_worker.specs.declared.incoming.Stage.{Stage}
 use Rattle.lsv_worker.specs.declared.incoming.Stage.TheVariants.{Hearing, Ending, Starving, Leaving, Left}
@@ -26,10 +26,11 @@ pub keeps_stage : (old new : Incoming) → new.stage ≡ old.stage → (old.wait
 keeps_stage old new stage empty = record {
   starved = λ e. ap starves stage ∙ e;
   told = λ t. subst (λ (s : Stage). TellsAt s new.waiting) (sym stage) (tells_on old.stage old.waiting new.waiting empty t);
+  left = λ e. ap has_left stage ∙ e;
 }
 
 pub keeps_here : (old : Incoming) → KeepsWant old old
-keeps_here old = record { starved = λ e. e; told = λ t. t }
+keeps_here old = record { starved = λ e. e; told = λ t. t; left = λ e. e }
 
 pub keeps_then : (a b c : Incoming) → KeepsWant a b → KeepsWant b c → KeepsWant a c
-keeps_then a b c x y = record { starved = λ e. y.starved (x.starved e); told = λ t. y.told (x.told t) }
+keeps_then a b c x y = record { starved = λ e. y.starved (x.starved e); told = λ t. y.told (x.told t); left = λ e. y.left (x.left e) }

@@ -7,6 +7,7 @@ use Rattle.lsv_session.specs.declared.job.Body.{Body}
 use Rattle.lsv_session.specs.declared.job.Body.TheVariants.{Bad, Gone}
 use Rattle.lsv_session.specs.declared.job.Fault.TheVariants.{NoMem}
 use Rattle.lsv_session.specs.declared.job.Job.{Job}
+use Rattle.lsv_cut.specs.Cuts.{unread}
 use Rattle.lsv_worker.specs.Lanes.{Routed, Routing, job_of, lane_or_home}
 use Rattle.lsv_worker.specs.declared.incoming.Incoming.{Incoming}
 use Rattle.lsv_worker.specs.declared.incoming.Stage.{Stage}
@@ -156,19 +157,28 @@ TellsAt (Left why) waiting = Unit {0}
 abbrev pub TellsWant : Incoming → Type 0
 TellsWant link = TellsAt link.stage link.waiting
 
--- a connection for which memory ran out stays one, and goes on to tell so
+-- a connection for which memory ran out stays one, and goes on to tell so; and one that has left stays so
 pub record KeepsWant (old new : Incoming) : Type 0 where
   pub starved : starves old.stage ≡ true → starves new.stage ≡ true
   pub told : TellsWant old → TellsWant new
+  pub left : has_left old.stage ≡ true → has_left new.stage ≡ true
 
--- what came of outside: that a keeper shut the connection by itself, and that no more bytes come
+-- what is known of a connection beside its bytes: the lanes that there are, and its home lane; that a keeper shut it by itself; and that no more bytes come
 pub record Marks : Type 0 where
+  pub lanes : ℕ
+  pub home : ℕ
   pub shut : Bool
   pub over : Bool
+
+-- a connection goes by these lanes, and has this home lane
+pub record IsHomed (route : Routing) (marks : Marks) : Type 0 where
+  pub lanes : route.lanes ≡ marks.lanes
+  pub home : route.home ≡ marks.home
 
 -- Of a link, whose bytes read are these, so much was put to each lane; it ends only by what came.
 pub record Hears (link : Incoming) (read : List ℕ) (put : ℕ → List Body) (marks : Marks) : Type 0 where
   pub said : List Body
+  pub homed : IsHomed link.route marks
   pub routed : Routed link.route put said (pending link)
   pub quiet : link.route.lane ≡ None → link.waiting ≡ None
   pub bodies : AreBodies link.stage read link.rest (said ++ pending link)
@@ -185,6 +195,14 @@ pub record Puts (c : ConnId) (old new : Incoming) (before after : ℕ → List J
   pub added : ℕ → List Body
   pub put : (lane : ℕ) → after lane ≡ before lane ++ map (job_of c) (added lane)
   pub goes : (read : List ℕ) (past : ℕ → List Body) (marks : Marks) → Hears old read past marks → Hears new read (λ lane. past lane ++ added lane) marks
+
+-- the same, whatever bytes it keeps
+abbrev pub PutsAny : ConnId → Incoming → Incoming → (ℕ → List Job) → (ℕ → List Job) → Type 0
+PutsAny c old new before after = (rest : List ℕ) → Puts c (record old { rest = rest }) (record new { rest = rest }) before after
+
+-- a connection as if it kept a piece from a place on too
+abbrev pub with_piece : Incoming → List ℕ → ℕ → Incoming
+with_piece link piece at = record link { rest = unread link.rest piece at }
 
 -- the lane of a connection was full: the count of its refused puts rose
 abbrev pub WasFull : Routing → (ℕ → ℕ) → (ℕ → ℕ) → Type 0

@@ -1,10 +1,11 @@
 -- What one connection stands for: its link of the port, its jobs, its replies.
-use Rattle.std.specs.Prelude.{◌≡◌, ◌≢◌, ◌⊎◌, ℕ, zero, suc, ◌<◌, ◌≤◌, ◌+◌, ◌&&◌, ◌||◌, not, Bool, true, false, List, [], ◌∷◌, ◌++◌, length, map}
+use Rattle.std.specs.Prelude.{◌≡◌, ◌≢◌, ◌⊎◌, ℕ, zero, suc, ◌<◌, ◌≤◌, ◌+◌, ◌%◌, ◌&&◌, ◌||◌, not, Bool, true, false, List, [], ◌∷◌, ◌++◌, length, map}
 use Rattle.std.specs.List.{All}
 use Rattle.lsv_words.specs.Causes.{HasRisen}
 use Rattle.lsv_port.specs.Ledger.{PortLedger}
 use Rattle.lsv_port.specs.Port.{IsOwed, LinkState, PortState}
 use Rattle.lsv_session.specs.Transcript.{answers}
+use Rattle.lsv_session.specs.declared.connection.ConnId.{ConnId}
 use Rattle.lsv_session.specs.declared.job.Body.{Body}
 use Rattle.lsv_session.specs.declared.job.Job.{Job}
 use Rattle.lsv_session.specs.declared.reply.Reply.{Reply}
@@ -29,10 +30,27 @@ LetsEnd Stopped s = Unit {0}
 abbrev pub MayEnd : Phase → LinkState → Type 0
 MayEnd phase s = (s.ended ≡ true) ⊎ ((s.failed ≡ true) ⊎ LetsEnd phase s)
 
+-- a worker in this phase knows that its port has not told Stop, has told it, or has failed as a whole
+abbrev pub IsTold : Phase → PortState → Type 0
+IsTold Going port = port.stopped ≡ false
+IsTold Stopping port = port.stopped ≡ true
+IsTold Failed port = port.failed ≡ true
+IsTold Stopped port = Unit {0}
+
+-- the home lane of this connection, of so many lanes, is that of its number
+pub record IsAtHome (count : ℕ) (c : ConnId) (marks : Marks) : Type 0 where
+  pub lanes : marks.lanes ≡ count
+  pub home : marks.home ≡ c.seq % count
+
+-- if a link was closed before Stop and before a failure of its port, no more bytes of it come only for a cause of its own: its input ended, it failed, or a keeper shut it; or the worker was stopped
+abbrev pub HasOwnCause : Phase → LinkState → (shut : Type 0) → Type 0
+HasOwnCause phase s shut = s.is_open ≡ false → s.late ≡ false → (s.ended ≡ true) ⊎ ((s.failed ≡ true) ⊎ (shut ⊎ (phase ≡ Stopped)))
+
 -- A connection in this phase of its worker, over its link of the port, of which so much was put to each lane and these
--- replies were taken.
-pub record LinkStands (phase : Phase) (link : Link) (s : LinkState) (put : ℕ → List Body) (replies : List Reply) : Type 0 where
+-- replies were taken. lanes: how many lanes there are
+pub record LinkStands (lanes : ℕ) (phase : Phase) (link : Link) (s : LinkState) (put : ℕ → List Body) (replies : List Reply) : Type 0 where
   pub marks : Marks
+  pub home : IsAtHome lanes link.conn marks
   pub inward : Hears link.incoming s.input put marks
   pub outward : Speaks link.outgoing s.output (answers link.conn replies)
   pub small : All (λ b. b < 256) s.input
@@ -41,6 +59,8 @@ pub record LinkStands (phase : Phase) (link : Link) (s : LinkState) (put : ℕ �
   pub paid : s.ended ≡ true → s.owed ≡ false
   pub broken : s.failed ≡ true → link.live ≡ false
   pub may_end : marks.over ≡ true → MayEnd phase s
+  pub own_cause : marks.over ≡ true → HasOwnCause phase s (marks.shut ≡ true)
+  pub shut_by : link.shut ≡ true → (marks.shut ≡ true) ⊎ (has_left link.incoming.stage ≡ true)
   pub told : marks.shut ≡ true → HasEarlyShut link.conn replies
   pub shut : link.shut ≡ true → HasShut link.conn replies
   pub silent : link.outgoing.voice ≡ voices.Failed → s.failed ≡ true
@@ -57,8 +77,8 @@ pub record LinkStep (phase : Phase) (old new : Link) (before after : PortState) 
   pub alone : Alone old.number before after
   pub added : ℕ → List Body
   pub put : (lane : ℕ) → jobs_after lane ≡ jobs_before lane ++ map (job_of old.conn) (added lane)
-  pub goes : (past : ℕ → List Body) (replies : List Reply) → LinkStands phase old (before.link old.number) past replies
-      → LinkStands phase new (after.link old.number) (λ lane. past lane ++ added lane) replies
+  pub goes : (n : ℕ) (past : ℕ → List Body) (replies : List Reply) → IsTold phase before → LinkStands n phase old (before.link old.number) past replies
+      → LinkStands n phase new (after.link old.number) (λ lane. past lane ++ added lane) replies
 
 -- a worker in this phase reads its links
 abbrev pub reads_in : Phase → Bool
@@ -169,7 +189,8 @@ pub record Closes (old new : Link) (before after : PortState) : Type 0 where
   pub alone : Alone old.number before after
   pub open_before : (after.link old.number).is_open ≡ true → (before.link old.number).is_open ≡ true
   pub owed : (after.link old.number).owed ≡ (before.link old.number).owed
-  pub goes : (phase : Phase) (past : ℕ → List Body) (replies : List Reply) → LinkStands phase old (before.link old.number) past replies → LinkStands phase new (after.link old.number) past replies
+  pub goes : (n : ℕ) (phase : Phase) (past : ℕ → List Body) (replies : List Reply) → IsTold phase before → LinkStands n phase old (before.link old.number) past replies
+      → LinkStands n phase new (after.link old.number) past replies
 
 -- what a reply does to its connection, whatever was put and taken before
 pub record Takes (reply : Reply) (old new : Link) (before after : PortState) : Type 0 where
@@ -179,8 +200,8 @@ pub record Takes (reply : Reply) (old new : Link) (before after : PortState) : T
   pub alone : Alone old.number before after
   pub open_before : (after.link old.number).is_open ≡ true → (before.link old.number).is_open ≡ true
   pub owed : (after.link old.number).owed ≡ (before.link old.number).owed
-  pub goes : (phase : Phase) (past : ℕ → List Body) (replies : List Reply) → LinkStands phase old (before.link old.number) past replies
-      → LinkStands phase new (after.link old.number) past (replies ++ reply ∷ [])
+  pub goes : (n : ℕ) (phase : Phase) (past : ℕ → List Body) (replies : List Reply) → IsTold phase before → LinkStands n phase old (before.link old.number) past replies
+      → LinkStands n phase new (after.link old.number) past (replies ++ reply ∷ [])
 
 -- why a link is held: its lane was full, 65,536 bytes to it are unsent, it was read 16 times, or memory ran out
 abbrev pub ReasonOf : Pause → Link → LinkState → LinkState → (ℕ → ℕ) → (ℕ → ℕ) → Type 0
@@ -199,6 +220,11 @@ pub record IsPassed (phase : Phase) (old new : Link) (before after : LinkState) 
   pub reason : PauseIsFor new before after refused_before refused_after
   pub sent : IsSent new after
 
--- a link that failed had failed before, or its count rose
-abbrev pub HasBlame : PortState → PortLedger → PortState → PortLedger → Type 0
-HasBlame before ledger_before after ledger_after = (l : ℕ) → (after.link l).failed ≡ true → ((before.link l).failed ≡ true) ⊎ HasRisen (ledger_before.links l) (ledger_after.links l)
+-- each link that failed had failed before, or its count rose
+abbrev pub AreBlamed : PortState → PortLedger → PortState → PortLedger → Type 0
+AreBlamed before ledger_before after ledger_after = (l : ℕ) → (after.link l).failed ≡ true → ((before.link l).failed ≡ true) ⊎ HasRisen (ledger_before.links l) (ledger_after.links l)
+
+-- the same; and whether the port failed as a whole is as before
+pub record HasBlame (before : PortState) (ledger_before : PortLedger) (after : PortState) (ledger_after : PortLedger) : Type 0 where
+  pub links : AreBlamed before ledger_before after ledger_after
+  pub whole : after.failed ≡ before.failed

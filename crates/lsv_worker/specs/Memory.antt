@@ -43,11 +43,6 @@ order_here i = record { worker = refl; orderly = λ o. o }
 pub order_through : (i j k : MemInbox) → KeepsOrder i j → KeepsOrder j k → KeepsOrder i k
 order_through i j k a b = record { worker = b.worker ∙ a.worker; orderly = λ o. b.orderly (a.orderly o) }
 
--- the jobs of a lane, where these are those of the one lane, 0
-abbrev pub jobs_in : ℕ → List Job → List Job
-jobs_in zero jobs = jobs
-jobs_in (suc lane) jobs = []
-
 -- the count of a lane, where this is that of the one lane
 abbrev pub count_in : ℕ → ℕ → ℕ
 count_in zero count = count

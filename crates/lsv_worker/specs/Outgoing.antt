@@ -65,11 +65,13 @@ pub record SameInput (old new : LinkState) : Type 0 where
   pub owed : new.owed ≡ old.owed
   pub reads : new.reads ≡ old.reads
 
--- no link of a port changed but this one
+-- no link of a port changed but this one, which was opened beside the same
 pub record Alone (l : ℕ) (old new : PortState) : Type 0 where
   pub others : (m : ℕ) → m ≢ l → new.link m ≡ old.link m
+  pub beside : (new.link l).beside ≡ (old.link l).beside
   pub opened : new.opened ≡ old.opened
   pub stopped : new.stopped ≡ old.stopped
+  pub failed : new.failed ≡ old.failed
 
 -- what writing did to a link
 pub record Writes (l : ℕ) (old new : Outgoing) (before after : PortState) : Type 0 where

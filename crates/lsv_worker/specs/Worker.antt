@@ -1,5 +1,5 @@
 -- What a worker stands for: its connections, their links of the port, the jobs that it put and the replies that it took.
-use Rattle.std.specs.Prelude.{◌≡◌, ◌≢◌, ◌⊎◌, ℕ, ◌<◌, ◌≤◌, ◌+◌, ◌==◌, not, Bool, true, false, List, [], ◌∷◌, ◌++◌, length, map, slice_index_or}
+use Rattle.std.specs.Prelude.{◌≡◌, ◌≢◌, ◌⊎◌, ℕ, ◌<◌, ◌≤◌, ◌+◌, ◌%◌, ◌==◌, not, Bool, true, false, List, [], ◌∷◌, ◌++◌, length, map, slice_index_or}
 use Rattle.std.specs.List.{Contains, filter}
 use Rattle.std.specs.Vec.{vec_capacity, vec_len}
 use Rattle.lsv_port.specs.Port.{LinkState, PortState, IsOpen, IsOwed}
@@ -12,9 +12,10 @@ use Rattle.lsv_session.specs.Transcript.{bodies_of}
 use Rattle.lsv_session.specs.declared.connection.ConnId.{ConnId}
 use Rattle.lsv_session.specs.declared.job.Job.{Job}
 use Rattle.lsv_session.specs.declared.reply.Reply.{Reply}
+use Rattle.lsv_links.specs.Views.{IsCrowded}
 use Rattle.lsv_worker.specs.Incoming.{Hears, has_left}
 use Rattle.lsv_worker.specs.Outgoing.{Speaks}
-use Rattle.lsv_worker.specs.Links.{IsPassed, IsSent, IsSpared, KeepsRules, LinkStands, PauseIsFor, Remains, is_done}
+use Rattle.lsv_worker.specs.Links.{IsPassed, IsSent, IsSpared, IsTold, KeepsRules, LinkStands, PauseIsFor, Remains, is_done}
 use Rattle.lsv_worker.specs.declared.link.Link.{Link}
 use Rattle.lsv_worker.specs.declared.link.Pause.TheVariants.{Calm}
 use Rattle.lsv_worker.specs.declared.link.Phase.{Phase}
@@ -22,15 +23,16 @@ use Rattle.lsv_worker.specs.declared.link.Phase.TheVariants.{Going, Stopping}
 use Rattle.lsv_worker.specs.declared.outgoing.Voice.TheVariants.{Speaking}
 use Rattle.lsv_worker.specs.declared.worker.Worker.{Worker}
 
--- a worker's number, its lanes, the number of its next connection, and its phase
+-- a worker's number, its lanes, the number of its next connection, how many links it turned away though fewer than 128 were open, and its phase
 pub record Setting : Type 0 where
   pub number : ℕ
   pub lanes : ℕ
   pub next : ℕ
+  pub wanting : ℕ
   pub phase : Phase
 
 abbrev pub setting : Worker → Setting
-setting w = record { number = w.number; lanes = w.lanes; next = w.next; phase = w.phase }
+setting w = record { number = w.number; lanes = w.lanes; next = w.next; wanting = w.wanting; phase = w.phase }
 
 -- the links whose reading stopped are held
 abbrev pub AreHeld : List ℕ → List Link → Type 0
@@ -87,10 +89,17 @@ abbrev pub IsIn : ℕ → List Link → Type 0
 IsIn seq [] = ⊥
 IsIn seq (link ∷ links) = (link.conn.seq ≡ seq) ⊎ IsIn seq links
 
--- nothing was read of a link, and nothing put on it
-pub record IsUntouched (s : LinkState) : Type 0 where
-  pub input : s.input ≡ []
-  pub output : s.output ≡ []
+-- A link that is no connection: it was closed unread and unwritten, before the port opened another one, told Stop or failed as a whole.
+-- 128 others were open when it was opened, or the worker counted at least one link as turned away for want of memory or numbers. That
+-- it was this one isn't said.
+pub record IsTurnedAway (set : Setting) (port : PortState) (l : ℕ) : Type 0 where
+  pub input : (port.link l).input ≡ []
+  pub reads : (port.link l).reads ≡ []
+  pub output : (port.link l).output ≡ []
+  pub closed : (port.link l).is_open ≡ false
+  pub at_once : (m : ℕ) → Contains port.opened m → (port.link m).beside l ≡ false
+  pub early : (port.link l).late ≡ false
+  pub why : IsCrowded (port.link l).beside ⊎ (1 ≤ set.wanting)
 
 -- no reply is to this connection
 abbrev pub IsUnasked : ConnId → List Reply → Type 0
@@ -104,14 +113,16 @@ pub record Stands (set : Setting) (links : List Link) (port : PortState) (jobs :
   pub table : AreLast last set links
   pub complete : (k : ℕ) → IsMade set k → is_done (last k) ≡ false → IsIn k links
   pub conn : (k : ℕ) → IsMade set k → (last k).conn ≡ conn_at set k
-  pub each : (k : ℕ) → IsMade set k → LinkStands set.phase (last k) (port.link (last k).number) (λ lane. bodies_of (last k).conn (jobs lane)) replies
+  pub each : (k : ℕ) → IsMade set k → LinkStands set.lanes set.phase (last k) (port.link (last k).number) (λ lane. bodies_of (last k).conn (jobs lane)) replies
   pub apart : (j k : ℕ) → IsMade set j → IsMade set k → j ≢ k → (last j).number ≢ (last k).number
   pub known : (k : ℕ) → IsMade set k → Contains port.opened (last k).number
+  pub few : (k : ℕ) → IsMade set k → IsCrowded (port.link (last k).number).beside → ⊥
   pub linked : (l : ℕ) → IsOpen port l → (k : ℕ) × IsMade set k × ((last k).number ≡ l)
   pub unused : (k : ℕ) → (IsMade set k → ⊥) → (lane : ℕ) → bodies_of (conn_at set k) (jobs lane) ≡ []
   pub unasked : (k : ℕ) → (IsMade set k → ⊥) → IsUnasked (conn_at set k) replies
-  pub away : (l : ℕ) → Contains port.opened l → ((k : ℕ) → IsMade set k → (last k).number ≢ l) → IsUntouched (port.link l)
-  pub stop : set.phase ≡ Stopping → port.stopped ≡ true
+  pub away : (l : ℕ) → Contains port.opened l → ((k : ℕ) → IsMade set k → (last k).number ≢ l) → IsTurnedAway set port l
+  pub beside : (m l : ℕ) → Contains port.opened m → (port.link m).beside l ≡ true → Contains port.opened l
+  pub told : IsTold set.phase port
 
 -- what calls for its connections put to each lane, whatever was put and taken before
 pub record Steps (set : Setting) (old new : List Link) (before after : PortState) (jobs_before jobs_after : ℕ → List Job) : Type 0 where
@@ -244,7 +255,7 @@ pub record IsFresh (set : Setting) (number : ℕ) (link : Link) : Type 0 where
   pub number_is : link.number ≡ number
   pub conn : link.conn ≡ conn_at set set.next
   pub lanes : link.incoming.route.lanes ≡ set.lanes
-  pub incoming : Hears link.incoming [] (λ lane. []) (record { shut = false; over = false })
+  pub incoming : Hears link.incoming [] (λ lane. []) (record { lanes = set.lanes; home = set.next % set.lanes; shut = false; over = false })
   pub outgoing : Speaks link.outgoing [] (frame_of (server_bytes server_hello))
   pub voice : link.outgoing.voice ≡ Speaking
   pub live : link.live ≡ true

@@ -1,20 +1,19 @@
 //! From the bytes of a link to its jobs.
 
-ghost use Rattle.std.specs.Prelude.{◌≡◌, ◌≢◌, ℕ, ◌+◌, ◌<◌, ◌≤◌, ◌++◌, ◌∷◌, List, [], length, Some, None, IsTrue, IfSome, true, false};
+ghost use Rattle.std.specs.Prelude.{◌≡◌, ◌≢◌, ℕ, ◌+◌, ◌%◌, ◌<◌, ◌≤◌, ◌++◌, ◌∷◌, List, [], length, Some, None, IsTrue, true, false};
 ghost use Rattle.lsv_wire.specs.Frame.{IsPartial};
-ghost use Rattle.lsv_msg.specs.declared.fault.MsgFault.TheVariants as message_faults;
 ghost use Rattle.lsv_session.specs.Transcript.{AreAllJobs};
 ghost use Rattle.lsv_session.specs.declared.job.Body.{Body};
 ghost use Rattle.lsv_session.specs.declared.job.Body.TheVariants as bodies;
-ghost use Rattle.lsv_session.specs.declared.job.Fault.TheVariants as faults;
-ghost use Rattle.lsv_worker.specs.Incoming.{Hears, KeepsWant, Marks, Puts, SameWay, TellsWant, WasFull, cuts, drops, has_left, hears, is_starving, kept, starves, weight};
-ghost use Rattle.lsv_worker.specs.Lanes.{Routed, lane_by};
+ghost use Rattle.lsv_cut.specs.Cuts.{unread};
+ghost use Rattle.lsv_worker.specs.Incoming.{Hears, KeepsWant, Marks, Puts, PutsAny, SameWay, TellsWant, WasFull, cuts, drops, has_left, hears, is_starving, kept, starves, weight, with_piece};
+ghost use Rattle.lsv_links.specs.Lanes.{lane_by};
+ghost use Rattle.lsv_worker.specs.Lanes.{Routed};
 
 use crate::Inbox;
 use crate::route::{Route, is_hello};
-use lsv_msg::{MsgFault, decode_client};
+use lsv_cut::{Cut, PieceReader};
 use lsv_session::{Body, ConnId, Fault, Job};
-use lsv_wire::Framer;
 use std::alloc::Global;
 
 /// Why a connection ends: no more bytes come; its bytes were no message; a keeper shut it; memory ran out.
@@ -53,8 +52,7 @@ pub(crate) enum Tried {
 /// decided, and a job that waits for room.
 #[derive(Debug, Drop)]
 pub struct Incoming {
-    pub(crate) alloc: Global,
-    pub(crate) rest: Framer,
+    pub(crate) rest: PieceReader,
     pub(crate) first: Option<Body>,
     pub(crate) waiting: Option<Body>,
     pub(crate) route: Route,
@@ -137,27 +135,15 @@ impl Stage {
     }
 }
 
-/// Why the bytes of a frame are no message; None where memory ran out.
-fn malformed(fault: MsgFault) -> Option<Fault>
-    ensures is { IfSome result (λ why. why ≡ faults.Malformed fault) }
-    ensures known { (why : _) → result ≡ Some why → fault ≢ message_faults.NoMem }
-{
-    match fault {
-        MsgFault::NoMem => None,
-        fault => Some(Fault::Malformed(fault)),
-    }
-}
-
 impl Incoming {
     pub(crate) fn new(alloc: Global, lanes: u32, seq: u64) -> Self
         requires { 0 < lanes }
-        ensures hears { Hears result [] (λ lane. []) (record { shut = false; over = false }) }
+        ensures hears { Hears result [] (λ lane. []) (record { lanes = lanes; home = seq % lanes; shut = false; over = false }) }
         ensures stage { result.stage ≡ Stage.Hearing }
         ensures lanes { result.route.lanes ≡ lanes }
     {
         Incoming {
-            alloc,
-            rest: Framer::new(alloc),
+            rest: PieceReader::new(alloc),
             first: None,
             waiting: None,
             route: Route::new(lanes, seq),
@@ -168,7 +154,7 @@ impl Incoming {
     /// Memory ran out while messages are cut.
     fn starve(&mut self)
         requires { cuts self.old.stage ≡ true }
-        ensures goes { SameWay self.old self.new }
+        ensures goes { (rest : List ℕ) → SameWay (record self.old { rest = rest }) self.new }
         ensures stage { self.new.stage ≡ Stage.Starving }
         ensures rest { self.new.rest ≡ self.old.rest }
         ensures lanes { self.new.route.lanes ≡ self.old.route.lanes }
@@ -187,6 +173,7 @@ impl Incoming {
         ensures quiet { self.new.route.lane ≡ None → self.new.waiting ≡ None }
         ensures routed { (put : ℕ → List Body) (said : List Body) → Routed self.old.route put said (kept self.old.first) → Routed self.new.route put said (kept self.old.first ++ body ∷ []) }
         ensures lanes { self.new.route.lanes ≡ self.old.route.lanes }
+        ensures home { self.new.route.home ≡ self.old.route.home }
     {
         if self.route.is_decided() {
             self.waiting = Some(body);
@@ -218,7 +205,7 @@ impl Incoming {
         requires cutting { cuts self.old.stage ≡ true }
         ensures rest { self.new.rest ≡ self.old.rest }
         ensures stage { self.new.stage ≡ Stage.Leaving Why.Refused }
-        ensures goes { (read : List ℕ) (put : ℕ → List Body) (marks : Marks) (h : Hears self.old read put marks)
+        ensures goes { (rest read : List ℕ) (put : ℕ → List Body) (marks : Marks) (h : Hears (record self.old { rest = rest }) read put marks)
             → AreAllJobs read ((h.said ++ kept self.old.first) ++ bodies.Bad fault ∷ []) → Hears self.new read put marks }
         ensures lanes { self.new.route.lanes ≡ self.old.route.lanes }
     {
@@ -258,9 +245,10 @@ impl Incoming {
         }
     }
 
-    /// No more bytes come.
+    /// No more bytes come. That changes nothing of a connection that has left.
     pub(crate) fn end(&mut self)
         ensures goes { (read : List ℕ) (put : ℕ → List Body) (marks : Marks) → Hears self.old read put marks → Hears self.new read put (record marks { over = true }) }
+        ensures left { has_left self.old.stage ≡ true → self.new ≡ self.old }
         ensures keeps { KeepsWant self.old self.new }
         ensures lanes { self.new.route.lanes ≡ self.old.route.lanes }
     {
@@ -269,15 +257,31 @@ impl Incoming {
         }
     }
 
-    /// These bytes came.
-    pub(crate) fn hear(&mut self, piece: &[u8])
-        requires { hears self.old.stage ≡ true }
-        ensures goes { (read : List ℕ) (put : ℕ → List Body) (marks : Marks) → Hears self.old read put marks → Hears self.new (read ++ piece.now) put marks }
+    /// These bytes came: puts their jobs as far as the lane has room, and keeps what is left. Nothing of them counts if no
+    /// message is cut any more.
+    pub(crate) fn hear<I: Inbox>(&mut self, piece: &[u8], conn: ConnId, inbox: &mut I)
+        requires lanes { I.lanes inbox.old ≡ self.old.route.lanes }
+        ensures puts { Puts conn (with_piece self.old piece.now 0) self.new (I.jobs inbox.old) (I.jobs inbox.new) }
+        ensures keeps { KeepsWant self.old self.new }
+        ensures counts { (m : ℕ) → I.refused inbox.old m ≤ I.refused inbox.new m }
+        ensures lanes { I.lanes inbox.new ≡ self.new.route.lanes }
+        ensures same { I.is_same inbox.old inbox.new }
+    {
+        let mut at = 0;
+        if self.stage.is_cutting() {
+            self.put_all(piece, &mut at, conn, inbox);
+            self.keep(&piece[at..]);
+        }
+    }
+
+    /// Keeps bytes that came, if messages are still cut.
+    fn keep(&mut self, piece: &[u8])
+        ensures goes { SameWay (with_piece self.old piece.now 0) self.new }
         ensures keeps { KeepsWant self.old self.new }
         ensures lanes { self.new.route.lanes ≡ self.old.route.lanes }
     {
         if self.stage.is_cutting() {
-            match self.rest.feed(piece) {
+            match self.rest.keep(piece) {
                 Ok(()) => {
                     return;
                 }
@@ -292,7 +296,7 @@ impl Incoming {
     /// Puts a first hello that was held back, once the lane is decided.
     fn offer_first<I: Inbox>(&mut self, conn: ConnId, inbox: &mut I) -> Tried
         requires lanes { I.lanes inbox.old ≡ self.old.route.lanes }
-        ensures puts { Puts conn self.old self.new (I.jobs inbox.old) (I.jobs inbox.new) }
+        ensures puts { PutsAny conn self.old self.new (I.jobs inbox.old) (I.jobs inbox.new) }
         ensures stage { self.new.stage ≡ self.old.stage }
         ensures rest { self.new.rest ≡ self.old.rest }
         ensures waiting { self.new.waiting ≡ self.old.waiting }
@@ -313,7 +317,7 @@ impl Incoming {
     fn put_first<I: Inbox>(&mut self, conn: ConnId, inbox: &mut I) -> Tried
         requires lanes { I.lanes inbox.old ≡ self.old.route.lanes }
         requires decided { self.old.route.lane ≢ None }
-        ensures puts { Puts conn self.old self.new (I.jobs inbox.old) (I.jobs inbox.new) }
+        ensures puts { PutsAny conn self.old self.new (I.jobs inbox.old) (I.jobs inbox.new) }
         ensures stage { self.new.stage ≡ self.old.stage }
         ensures rest { self.new.rest ≡ self.old.rest }
         ensures waiting { self.new.waiting ≡ self.old.waiting }
@@ -340,7 +344,7 @@ impl Incoming {
     fn offer<I: Inbox>(&mut self, conn: ConnId, inbox: &mut I) -> Tried
         requires lanes { I.lanes inbox.old ≡ self.old.route.lanes }
         requires first { (n : ℕ) → self.old.route.lane ≡ Some n → self.old.first ≡ None }
-        ensures puts { Puts conn self.old self.new (I.jobs inbox.old) (I.jobs inbox.new) }
+        ensures puts { PutsAny conn self.old self.new (I.jobs inbox.old) (I.jobs inbox.new) }
         ensures stage { self.new.stage ≡ self.old.stage }
         ensures rest { self.new.rest ≡ self.old.rest }
         ensures first { self.new.first ≡ self.old.first }
@@ -364,35 +368,30 @@ impl Incoming {
         }
     }
 
-    /// Cuts the next job, where none waits.
-    fn cut(&mut self) -> Tried
+    /// Cuts the next job of what is kept and then of a piece from a place on, if none waits.
+    fn cut(&mut self, piece: &[u8], at: &mut usize) -> Tried
         requires empty { self.old.waiting ≡ None }
         requires cutting { cuts self.old.stage ≡ true }
-        ensures goes { SameWay self.old self.new }
-        ensures less { result ≡ Tried.More → length self.new.rest + weight self.new.stage < length self.old.rest + weight self.old.stage }
+        requires within { at.old ≤ length piece.now }
+        ensures goes { SameWay (with_piece self.old piece.now at.old) (with_piece self.new piece.now at.new) }
+        ensures less { result ≡ Tried.More → length (unread self.new.rest piece.now at.new) + weight self.new.stage < length (unread self.old.rest piece.now at.old) + weight self.old.stage }
         ensures full { result ≢ Tried.Full }
+        ensures within { at.new ≤ length piece.now }
         ensures lanes { self.new.route.lanes ≡ self.old.route.lanes }
     {
-        match self.rest.peek() {
-            Ok(None) => {
-                return self.cut_nothing();
+        match self.rest.next(piece, at) {
+            Ok(Cut::Nothing) => self.cut_nothing(),
+            Ok(Cut::Message(message, _)) => {
+                self.receive(Body::Msg(message));
+                Tried::More
             }
-            Ok(Some(message)) => {
-                let length = message.len();
-                match decode_client(self.alloc, message) {
-                    Ok(message) => {
-                        self.rest.consume(length);
-                        self.receive(Body::Msg(message));
-                        return Tried::More;
-                    }
-                    Err(fault) => {
-                        return self.cut_no_message(fault);
-                    }
-                }
+            Ok(Cut::NoMessage(fault)) => {
+                self.refuse(fault);
+                Tried::More
             }
-            Err(stated) => {
-                self.refuse(Fault::TooLarge(stated));
-                return Tried::More;
+            Err(_) => {
+                self.starve();
+                Tried::More
             }
         }
     }
@@ -402,7 +401,8 @@ impl Incoming {
         requires cutting { cuts self.old.stage ≡ true }
         requires partial { IsPartial self.old.rest }
         ensures goes { SameWay self.old self.new }
-        ensures less { result ≡ Tried.More → length self.new.rest + weight self.new.stage < length self.old.rest + weight self.old.stage }
+        ensures less { result ≡ Tried.More → weight self.new.stage < weight self.old.stage }
+        ensures rest { self.new.rest ≡ self.old.rest }
         ensures full { result ≢ Tried.Full }
         ensures lanes { self.new.route.lanes ≡ self.old.route.lanes }
     {
@@ -414,28 +414,6 @@ impl Incoming {
         Tried::Idle
     }
 
-    /// The next frame is no message, or there is no memory to read it.
-    fn cut_no_message(&mut self, fault: MsgFault) -> Tried
-        requires empty { self.old.waiting ≡ None }
-        requires cutting { cuts self.old.stage ≡ true }
-        ensures goes { (read : List ℕ) (put : ℕ → List Body) (marks : Marks) (h : Hears self.old read put marks)
-            → (fault ≢ message_faults.NoMem → AreAllJobs read ((h.said ++ kept self.old.first) ++ bodies.Bad (faults.Malformed fault) ∷ [])) → Hears self.new read put marks }
-        ensures less { length self.new.rest + weight self.new.stage < length self.old.rest + weight self.old.stage }
-        ensures full { result ≢ Tried.Full }
-        ensures lanes { self.new.route.lanes ≡ self.old.route.lanes }
-    {
-        match malformed(fault) {
-            Some(fault) => {
-                self.refuse(fault);
-                return Tried::More;
-            }
-            None => {
-                self.starve();
-                return Tried::More;
-            }
-        }
-    }
-
     /// Says that memory ran out, where nothing waits.
     #[tactic(auto, using(crate::proofs::Putting::puts_none))]
     fn tell_starved<I: Inbox>(&mut self, conn: ConnId, inbox: &mut I) -> Tried
@@ -443,7 +421,7 @@ impl Incoming {
         requires first { (n : ℕ) → self.old.route.lane ≡ Some n → self.old.first ≡ None }
         requires empty { self.old.waiting ≡ None }
         requires stage { self.old.stage ≡ Stage.Starving }
-        ensures puts { Puts conn self.old self.new (I.jobs inbox.old) (I.jobs inbox.new) }
+        ensures puts { PutsAny conn self.old self.new (I.jobs inbox.old) (I.jobs inbox.new) }
         ensures rest { self.new.rest ≡ self.old.rest }
         ensures stage { result ≡ Tried.More → self.new.stage ≡ Stage.Leaving Why.Starved }
         ensures keeps { KeepsWant self.old self.new }
@@ -471,7 +449,7 @@ impl Incoming {
         requires first { (n : ℕ) → self.old.route.lane ≡ Some n → self.old.first ≡ None }
         requires empty { self.old.waiting ≡ None }
         requires stage { self.old.stage ≡ Stage.Leaving why }
-        ensures puts { Puts conn self.old self.new (I.jobs inbox.old) (I.jobs inbox.new) }
+        ensures puts { PutsAny conn self.old self.new (I.jobs inbox.old) (I.jobs inbox.new) }
         ensures rest { self.new.rest ≡ self.old.rest }
         ensures stage { result ≡ Tried.More → self.new.stage ≡ Stage.Left why }
         ensures keeps { KeepsWant self.old self.new }
@@ -493,20 +471,28 @@ impl Incoming {
     }
 
     /// Puts or cuts the next job, where what was cut before is put.
-    fn go_on<I: Inbox>(&mut self, conn: ConnId, inbox: &mut I) -> Tried
+    fn go_on<I: Inbox>(
+        &mut self,
+        piece: &[u8],
+        at: &mut usize,
+        conn: ConnId,
+        inbox: &mut I,
+    ) -> Tried
         requires lanes { I.lanes inbox.old ≡ self.old.route.lanes }
         requires first { (n : ℕ) → self.old.route.lane ≡ Some n → self.old.first ≡ None }
         requires empty { self.old.waiting ≡ None }
-        ensures puts { Puts conn self.old self.new (I.jobs inbox.old) (I.jobs inbox.new) }
+        requires within { at.old ≤ length piece.now }
+        ensures puts { Puts conn (with_piece self.old piece.now at.old) (with_piece self.new piece.now at.new) (I.jobs inbox.old) (I.jobs inbox.new) }
         ensures keeps { KeepsWant self.old self.new }
-        ensures less { result ≡ Tried.More → length self.new.rest + weight self.new.stage < length self.old.rest + weight self.old.stage }
+        ensures less { result ≡ Tried.More → length (unread self.new.rest piece.now at.new) + weight self.new.stage < length (unread self.old.rest piece.now at.old) + weight self.old.stage }
+        ensures within { at.new ≤ length piece.now }
         ensures counts { (m : ℕ) → I.refused inbox.old m ≤ I.refused inbox.new m }
         ensures lanes { I.lanes inbox.new ≡ self.new.route.lanes }
         ensures same { I.is_same inbox.old inbox.new }
         ensures full { result ≡ Tried.Full → WasFull self.new.route (I.refused inbox.old) (I.refused inbox.new) }
     {
         match self.stage {
-            Stage::Hearing | Stage::Ending => self.cut(),
+            Stage::Hearing | Stage::Ending => self.cut(piece, at),
             Stage::Starving => self.tell_starved(conn, inbox),
             Stage::Leaving(why) => self.leave(why, conn, inbox),
             Stage::Left(_) => Tried::Idle,
@@ -514,11 +500,13 @@ impl Incoming {
     }
 
     /// One try to put the next job.
-    fn step<I: Inbox>(&mut self, conn: ConnId, inbox: &mut I) -> Tried
+    fn step<I: Inbox>(&mut self, piece: &[u8], at: &mut usize, conn: ConnId, inbox: &mut I) -> Tried
         requires lanes { I.lanes inbox.old ≡ self.old.route.lanes }
-        ensures puts { Puts conn self.old self.new (I.jobs inbox.old) (I.jobs inbox.new) }
+        requires within { at.old ≤ length piece.now }
+        ensures puts { Puts conn (with_piece self.old piece.now at.old) (with_piece self.new piece.now at.new) (I.jobs inbox.old) (I.jobs inbox.new) }
         ensures keeps { KeepsWant self.old self.new }
-        ensures less { result ≡ Tried.More → length self.new.rest + weight self.new.stage < length self.old.rest + weight self.old.stage }
+        ensures less { result ≡ Tried.More → length (unread self.new.rest piece.now at.new) + weight self.new.stage < length (unread self.old.rest piece.now at.old) + weight self.old.stage }
+        ensures within { at.new ≤ length piece.now }
         ensures counts { (m : ℕ) → I.refused inbox.old m ≤ I.refused inbox.new m }
         ensures lanes { I.lanes inbox.new ≡ self.new.route.lanes }
         ensures same { I.is_same inbox.old inbox.new }
@@ -530,7 +518,38 @@ impl Incoming {
         if let Tried::Full = self.offer(conn, inbox) {
             return Tried::Full;
         }
-        self.go_on(conn, inbox)
+        self.go_on(piece, at, conn, inbox)
+    }
+
+    /// Puts the jobs of what is kept and then of a piece from a place on, as far as the lane has room. True where it was full.
+    fn put_all<I: Inbox>(
+        &mut self,
+        piece: &[u8],
+        at: &mut usize,
+        conn: ConnId,
+        inbox: &mut I,
+    ) -> bool
+        requires lanes { I.lanes inbox.old ≡ self.old.route.lanes }
+        requires within { at.old ≤ length piece.now }
+        ensures puts { Puts conn (with_piece self.old piece.now at.old) (with_piece self.new piece.now at.new) (I.jobs inbox.old) (I.jobs inbox.new) }
+        ensures keeps { KeepsWant self.old self.new }
+        ensures within { at.new ≤ length piece.now }
+        ensures counts { (m : ℕ) → I.refused inbox.old m ≤ I.refused inbox.new m }
+        ensures lanes { I.lanes inbox.new ≡ self.new.route.lanes }
+        ensures same { I.is_same inbox.old inbox.new }
+        ensures full { IsTrue result → WasFull self.new.route (I.refused inbox.old) (I.refused inbox.new) }
+    {
+        'tries: loop {
+            match self.step(piece, at, conn, inbox) {
+                Tried::More => {}
+                Tried::Full => {
+                    return true;
+                }
+                Tried::Idle => {
+                    return false;
+                }
+            }
+        }
     }
 
     /// Puts the jobs of what came, as far as the lane has room. True where it was full.
@@ -543,16 +562,7 @@ impl Incoming {
         ensures same { I.is_same inbox.old inbox.new }
         ensures full { IsTrue result → WasFull self.new.route (I.refused inbox.old) (I.refused inbox.new) }
     {
-        'tries: loop {
-            match self.step(conn, inbox) {
-                Tried::More => {}
-                Tried::Full => {
-                    return true;
-                }
-                Tried::Idle => {
-                    return false;
-                }
-            }
-        }
+        let mut at = 0;
+        self.put_all(&[], &mut at, conn, inbox)
     }
 }

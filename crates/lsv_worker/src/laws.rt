@@ -1,6 +1,6 @@
 //! Laws of the definitions that the contracts cite. They do nothing when they run.
 
-ghost use Rattle.std.specs.Prelude.{◌≡◌, ℕ, List, []};
+ghost use Rattle.std.specs.Prelude.{◌≡◌, ℕ, false, List, []};
 ghost use Rattle.lsv_port.specs.Port.{IsOpen, PortState};
 ghost use Rattle.lsv_session.specs.declared.job.Job.{Job};
 ghost use Rattle.lsv_session.specs.declared.reply.Reply.{Reply};
@@ -15,7 +15,8 @@ pub fn connections_end()
     ensures { (worker : Worker) (port : PortState) (jobs : ℕ → List Job) (replies : List Reply) → Represents worker port jobs replies → HaveLeft worker.links.items → EachEnds worker port jobs replies }
 {}
 
-/// A worker that has made no connections stands for no jobs and no replies, over a port whose links were not opened yet.
+/// A worker that has made no connections stands for no jobs and no replies, over a port that has opened no link and has not told
+/// Stop.
 pub fn a_new_worker_stands()
-    ensures { (worker : Worker) (port : PortState) → (setting worker).next ≡ 1 → worker.links.items ≡ [] → (setting worker).phase ≡ phases.Going → port.opened ≡ [] → ((l : ℕ) → IsOpen port l → ⊥) → Represents worker port (λ lane. []) [] }
+    ensures { (worker : Worker) (port : PortState) → (setting worker).next ≡ 1 → worker.links.items ≡ [] → (setting worker).phase ≡ phases.Going → port.stopped ≡ false → port.opened ≡ [] → ((l : ℕ) → IsOpen port l → ⊥) → Represents worker port (λ lane. []) [] }
 {}

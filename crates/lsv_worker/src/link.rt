@@ -3,7 +3,7 @@
 ghost use Rattle.std.specs.Prelude.{◌≡◌, ◌≢◌, ◌⊎◌, ℕ, ◌+◌, ◌<◌, ◌≤◌, List, [], ◌∷◌, ◌++◌, length, IsTrue, true, false};
 ghost use Rattle.std.specs.List.{All};
 ghost use Rattle.lsv_port.specs.Ledger.{Continues};
-ghost use Rattle.lsv_port.specs.Port.{Changes, IsOpen, LinkState, PortState, closed};
+ghost use Rattle.lsv_port.specs.Port.{Changes, IsOpen, LinkState, PortState, closed, is_over};
 ghost use Rattle.lsv_session.specs.declared.job.Job.{Job};
 ghost use Rattle.lsv_session.specs.declared.reply.Reply.{Reply};
 ghost use Rattle.lsv_session.specs.declared.reply.ReplyBody.TheVariants as said;
@@ -87,7 +87,7 @@ impl Link {
     /// The link is of no more use: it is closed, and no more bytes come.
     fn fail<P: Port>(&mut self, port: &mut P)
         requires is_open { P.tells → IsOpen (P.state port.old) self.old.number }
-        ensures change { P.tells → Changes self.old.number (closed ((P.state port.old).link self.old.number)) (P.state port.old) (P.state port.new) }
+        ensures change { P.tells → Changes self.old.number (closed (is_over (P.state port.old)) ((P.state port.old).link self.old.number)) (P.state port.old) (P.state port.new) }
         ensures is { Fails self.old self.new }
         ensures continues { Continues (P.ledger port.old) (P.ledger port.new) }
     {
@@ -97,14 +97,19 @@ impl Link {
         self.incoming.end();
     }
 
-    /// Reads once.
-    fn read_once<P: Port>(&mut self, port: &mut P, buffer: &mut [u8; PIECE])
+    /// Reads once, and puts the jobs of what came as far as its lane has room.
+    fn read_once<P: Port, I: Inbox>(
+        &mut self,
+        port: &mut P,
+        inbox: &mut I,
+        buffer: &mut [u8; PIECE],
+    )
+        requires lanes { I.lanes inbox.old ≡ self.old.incoming.route.lanes }
         requires is_open { P.tells → IsOpen (P.state port.old) self.old.number }
         requires owed { self.old.owed ≡ true }
         requires live { self.old.live ≡ true }
-        ensures step { P.tells → (phase : Phase) (jobs : ℕ → List Job) → reads_in phase ≡ true → LinkStep phase self.old self.new (P.state port.old) (P.state port.new) jobs jobs }
+        ensures step { P.tells → (phase : Phase) → reads_in phase ≡ true → LinkStep phase self.old self.new (P.state port.old) (P.state port.new) (I.jobs inbox.old) (I.jobs inbox.new) }
         ensures number { self.new.number ≡ self.old.number }
-        ensures lanes { self.new.incoming.route.lanes ≡ self.old.incoming.route.lanes }
         ensures is_open { P.tells → self.new.live ≡ true → IsOpen (P.state port.new) self.old.number }
         ensures once { P.tells → self.new.owed ≡ true → WasRead 1 ((P.state port.old).link self.old.number) ((P.state port.new).link self.old.number) }
         ensures most { P.tells → WasReadAtMost 1 ((P.state port.old).link self.old.number) ((P.state port.new).link self.old.number) }
@@ -114,12 +119,15 @@ impl Link {
         ensures unsent { length self.new.outgoing.unsent ≤ length self.old.outgoing.unsent }
         ensures blame { P.tells → HasBlame (P.state port.old) (P.ledger port.old) (P.state port.new) (P.ledger port.new) }
         ensures continues { Continues (P.ledger port.old) (P.ledger port.new) }
+        ensures counts { (m : ℕ) → I.refused inbox.old m ≤ I.refused inbox.new m }
+        ensures lanes { I.lanes inbox.new ≡ self.new.incoming.route.lanes }
+        ensures same { I.is_same inbox.old inbox.new }
     {
         match port.read(self.number, buffer) {
             Took::Bytes(count) => {
                 if self.incoming.stage.is_hearing() {
                     are_bytes(buffer);
-                    self.incoming.hear(&buffer[..count]);
+                    self.incoming.hear(&buffer[..count], self.conn, inbox);
                     return;
                 }
                 return;
@@ -181,7 +189,7 @@ impl Link {
             if self.is_spared(phase) {
                 return Pause::Laden;
             }
-            self.read_once(port, buffer);
+            self.read_once(port, inbox, buffer);
             if self.advance(inbox) {
                 return Pause::Full;
             }

@@ -3,7 +3,8 @@
 ghost use Rattle.std.specs.Prelude.{◌≡◌, ℕ, ◌<◌, ◌≤◌, ◌==◌, ◌↔◌, [], ◌∷◌, ◌++◌, length, vec_capacity, IfOk, IfErr, IsTrue, OnOk, OnErr, refl};
 ghost use Rattle.lsv_words.specs.Causes.{HasRisen};
 ghost use Rattle.lsv_session.specs.declared.job.Job.{Job};
-ghost use Rattle.lsv_worker.specs.Memory.{Admits, HasRoom, IsOrderly, KeepsOrder, count_in, jobs_in, order_here, order_through, waiting};
+ghost use Rattle.lsv_links.specs.Lanes.{one_lane};
+ghost use Rattle.lsv_worker.specs.Memory.{Admits, HasRoom, IsOrderly, KeepsOrder, count_in, order_here, order_through, waiting};
 
 use crate::Inbox;
 use crate::size::job_size;
@@ -125,7 +126,7 @@ impl MemInbox {
 impl Inbox for MemInbox {
     ghost lanes = { λ inbox. 1 };
 
-    ghost jobs = { λ inbox lane. jobs_in lane (waiting inbox) };
+    ghost jobs = { λ inbox lane. one_lane lane (waiting inbox) };
 
     ghost refused = { λ inbox lane. count_in lane inbox.refused };
 

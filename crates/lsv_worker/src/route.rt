@@ -1,7 +1,8 @@
 //! Which lane the jobs of a connection go to.
 
 ghost use Rattle.std.specs.Prelude.{◌≡◌, ◌≢◌, ◌<◌, ◌%◌, true, false, ℕ, Some, None, IfSome};
-ghost use Rattle.lsv_worker.specs.Lanes.{Routing, is_hello, lane_by, lane_of_log, lane_or_home};
+ghost use Rattle.lsv_links.specs.Lanes.{is_hello, lane_by, lane_of_log};
+ghost use Rattle.lsv_worker.specs.Lanes.{Routing, lane_or_home};
 
 use lsv_base::LogNo;
 use lsv_msg::ClientMessage;

@@ -3,7 +3,7 @@
 ghost use Rattle.std.specs.Prelude.{◌+◌, ◌-◌, ◌^◌, ◌≡◌, ◌≢◌, ◌⊎◌, ℕ, ◌<◌, ◌≤◌, ◌==◌, ◌++◌, ◌∷◌, List, [], length, IfOk, Some, None, true, false, slice_index_or, vec_capacity, vec_len, drop, take};
 ghost use Rattle.std.specs.List.{Contains};
 ghost use Rattle.lsv_port.specs.Ledger.{Continues};
-ghost use Rattle.lsv_port.specs.Port.{IsOpen, Opens, PortState, Told};
+ghost use Rattle.lsv_port.specs.Port.{Changes, IsOpen, Opens, PortState, Told, closed, is_over};
 ghost use Rattle.lsv_session.specs.declared.job.Job.{Job};
 ghost use Rattle.lsv_session.specs.declared.reply.Reply.{Reply};
 ghost use Rattle.lsv_session.specs.declared.reply.ReplyBody.TheVariants as said;
@@ -29,6 +29,8 @@ pub struct Worker {
     number: u32,
     lanes: u32,
     next: u64,
+    /// How many links it turned away though fewer than 128 were open.
+    wanting: u64,
     phase: Phase,
     links: Vec<Link>,
     held: Vec<u32>,
@@ -284,7 +286,7 @@ impl Worker {
     pub fn new(alloc: Global, number: u32, lanes: u32) -> Result<Self, NoMem>
         requires lanes { (1 ≤ lanes) × (lanes ≤ 8) }
         ensures fit { IfOk result IsFit }
-        ensures set { IfOk result (λ w. setting w ≡ record { number = number; lanes = lanes; next = 1; phase = Phase.Going }) }
+        ensures set { IfOk result (λ w. setting w ≡ record { number = number; lanes = lanes; next = 1; wanting = 0; phase = Phase.Going }) }
         ensures links { IfOk result (λ w. w.links.items ≡ []) }
         ensures held { IfOk result (λ w. held_by w ≡ []) }
     {
@@ -293,6 +295,7 @@ impl Worker {
             number,
             lanes,
             next: 1,
+            wanting: 0,
             phase: Phase::Going,
             links: Vec::new(alloc),
             held: Vec::with_capacity(alloc, MOST_LINKS)?,
@@ -304,6 +307,14 @@ impl Worker {
         ensures { result.now ≡ held_by self.now }
     {
         &self.held
+    }
+
+    /// How many links it turned away though fewer than 128 others were open: memory ran out for them, or the numbers of
+    /// connections were spent. At its type's end the count stands still.
+    pub fn wanting(&self) -> u64
+        ensures { result ≡ (setting self.now).wanting }
+    {
+        self.wanting
     }
 
     /// Whether it has made a connection of this number.
@@ -318,6 +329,7 @@ impl Worker {
     pub fn on<P: Port, I: Inbox>(&mut self, port: &mut P, ready: Ready, inbox: &mut I)
         requires fit { IsFit self.old }
         requires going { self.old.phase ≡ Phase.Going }
+        requires well { P.tells → (P.state port.old).failed ≡ false }
         requires lanes { I.lanes inbox.old ≡ self.old.lanes }
         requires at { P.tells → (before : PortState) × Told ready before (P.state port.old) × IsAt self.old before }
         ensures fit { IsFit self.new }
@@ -366,10 +378,11 @@ impl Worker {
         self.pass(port, inbox);
     }
 
-    /// A turn of the port failed: no link is read any more, and each connection ends behind the jobs of what it sent.
+    /// The port failed as a whole: no link is read any more, and each connection ends after the jobs of what it sent.
     pub fn turn_failed<P: Port, I: Inbox>(&mut self, port: &mut P, inbox: &mut I)
         requires fit { IsFit self.old }
         requires going { self.old.phase ≡ Phase.Going }
+        requires failed { P.tells → (P.state port.old).failed ≡ true }
         requires lanes { I.lanes inbox.old ≡ self.old.lanes }
         requires at { P.tells → IsAt self.old (P.state port.old) }
         ensures fit { IsFit self.new }
@@ -505,18 +518,61 @@ impl Worker {
         }
     }
 
-    /// Whether one more link is turned away: 128 are open, or the numbers are spent.
+    /// Whether 128 links are open.
     fn is_crowded(&self) -> bool
-        ensures room { result ≡ false → self.now.next < 2 ^ 64 - 1 }
+        ensures many { result ≡ true → 128 ≤ length (open_in self.now.links.items) }
         ensures few { result ≡ false → length (open_in self.now.links.items) < 128 }
     {
-        self.next == u64::MAX || count_open(&self.links) >= MOST_LINKS
+        count_open(&self.links) >= MOST_LINKS
+    }
+
+    /// Whether the numbers of connections are spent.
+    fn is_spent(&self) -> bool
+        ensures room { result ≡ false → self.now.next < 2 ^ 64 - 1 }
+    {
+        self.next == u64::MAX
+    }
+
+    /// Makes a connection for a link that was just opened. False, and nothing changes, where the numbers are spent or memory
+    /// runs out.
+    fn accept(&mut self, number: u32) -> bool
+        requires fit { IsFit self.old }
+        requires few { length (open_in self.old.links.items) < 128 }
+        ensures fit { IsFit self.new }
+        ensures yes { result ≡ true → (link : Link) × IsFresh (setting self.old) number link × Admits link self.old self.new }
+        ensures no { result ≡ false → (setting self.new ≡ setting self.old) × (self.new.links.items ≡ self.old.links.items) }
+    {
+        if self.is_spent() {
+            return false;
+        }
+        let Some(link) = self.fresh(number) else {
+            return false;
+        };
+        self.admit(link)
+    }
+
+    /// A link that was just opened is closed, and is counted.
+    fn turn_away<P: Port>(&mut self, port: &mut P, number: u32)
+        requires fit { IsFit self.old }
+        requires is_open { P.tells → IsOpen (P.state port.old) number }
+        ensures fit { IsFit self.new }
+        ensures links { self.new.links.items ≡ self.old.links.items }
+        ensures set { setting self.new ≡ record (setting self.old) { wanting = (setting self.new).wanting } }
+        ensures counted { 1 ≤ (setting self.new).wanting }
+        ensures more { (setting self.old).wanting ≤ (setting self.new).wanting }
+        ensures change { P.tells → Changes number (closed (is_over (P.state port.old)) ((P.state port.old).link number)) (P.state port.old) (P.state port.new) }
+        ensures continues { Continues (P.ledger port.old) (P.ledger port.new) }
+    {
+        self.wanting = self.wanting.saturating_add(1);
+        port.close(number);
     }
 
     /// A link was opened. It is closed at once, and is no connection, where 128 others are open, the numbers are spent, or
     /// memory runs out.
     fn opened<P: Port>(&mut self, port: &mut P, number: u32)
         requires fit { IsFit self.old }
+        requires going { self.old.phase ≡ Phase.Going }
+        requires well { P.tells → (P.state port.old).failed ≡ false }
         requires is_open { P.tells → IsOpen (P.state port.old) number }
         ensures fit { IsFit self.new }
         ensures worker { IsSameWorker self.old self.new }
@@ -532,20 +588,17 @@ impl Worker {
             port.close(number);
             return;
         }
-        let Some(link) = self.fresh(number) else {
-            port.close(number);
-            return;
-        };
-        if self.admit(link) {
+        if self.accept(number) {
             return;
         }
-        port.close(number);
+        self.turn_away(port, number);
     }
 
     /// What the port told is noted.
     fn note<P: Port>(&mut self, port: &mut P, ready: Ready)
         requires fit { IsFit self.old }
         requires going { self.old.phase ≡ Phase.Going }
+        requires well { P.tells → (P.state port.old).failed ≡ false }
         requires told { P.tells → (before : PortState) × Told ready before (P.state port.old) × IsAt self.old before }
         ensures fit { IsFit self.new }
         ensures worker { IsSameWorker self.old self.new }

@@ -1,5 +1,5 @@
 -- One link of a port in memory.
-use Rattle.std.specs.Prelude.{◌≡◌, ◌⊎◌, ℕ, ◌+◌, ◌-◌, ◌^◌, ◌≤◌, ◌==◌, ◌&&◌, ◌||◌, true, false, not, if◌then◌else◌, Some, unwrap_or, List, [], ◌++◌, length, take, min}
+use Rattle.std.specs.Prelude.{◌≡◌, ◌⊎◌, ℕ, ◌+◌, ◌-◌, ◌^◌, ◌≤◌, ◌==◌, ◌&&◌, ◌||◌, Bool, true, false, not, if◌then◌else◌, Some, unwrap_or, List, [], ◌++◌, length, take, min}
 use Rattle.lsv_port.specs.declared.memory.link.MemLink.{MemLink}
 use Rattle.lsv_port.specs.declared.port.Took.{Took}
 use Rattle.lsv_port.specs.declared.port.Took.TheVariants as took
@@ -12,7 +12,7 @@ use Rattle.lsv_port.specs.Memory.Numbers.{has}
 
 -- what is told of the link
 abbrev pub view_of : MemLink → LinkState
-view_of v = record { is_open = v.is_open; input = take v.taken v.arrived; output = v.output; ended = v.ended; owed = v.owed; full = v.full; failed = v.failed; reads = v.reads; beside = has v.beside }
+view_of v = record { is_open = v.is_open; input = take v.taken v.arrived; output = v.output; ended = v.ended; owed = v.owed; full = v.full; failed = v.failed; reads = v.reads; beside = has v.beside; dialled = false; late = v.late }
 
 -- a link that was just opened, beside these
 pub record IsFresh (beside : List ℕ) (v : MemLink) : Type 0 where
@@ -25,6 +25,7 @@ pub record IsFresh (beside : List ℕ) (v : MemLink) : Type 0 where
   pub full : v.full ≡ false
   pub failed : v.failed ≡ false
   pub reads : v.reads ≡ []
+  pub late : v.late ≡ false
   pub those : v.beside ≡ beside
 
 -- how many bytes have arrived and weren't read
@@ -75,9 +76,9 @@ with_room count v = record v { room = Some (min (unwrap_or v.room 0 + count) (2 
 abbrev pub breaking : MemLink → MemLink
 breaking v = record v { breaks = true }
 
--- the link that is closed
-abbrev pub shut : MemLink → MemLink
-shut v = record v { is_open = false }
+-- the link that is closed. over: whether its port had told Stop, or had failed as a whole
+abbrev pub shut : (over : Bool) → MemLink → MemLink
+shut over v = record v { is_open = false; late = over }
 
 -- what a read with this answer makes of a link, where the buffer then holds these bytes
 pub record IsRead (answer : Took) (buf : List ℕ) (old new : MemLink) : Type 0 where

@@ -22,16 +22,21 @@ links_of links l = hash.get nat_eq links.by_number l
 
 -- a link that wasn't opened
 abbrev pub never_opened : LinkState
-never_opened = record { is_open = false; input = []; output = []; ended = false; owed = false; full = false; failed = false; reads = []; beside = λ m. false }
+never_opened = record { is_open = false; input = []; output = []; ended = false; owed = false; full = false; failed = false; reads = []; beside = λ m. false; dialled = false; late = false }
 
 -- what is told of a link
 abbrev pub told_of : Option MemLink → LinkState
 told_of None = never_opened
 told_of (Some v) = view_of v
 
+-- whether Stop was told, and whether the port failed as a whole
+pub record PortOver : Type 0 where
+  pub stopped : Bool
+  pub failed : Bool
+
 -- what is told of links that were opened in this order
-abbrev pub state_of : LinkMap → List ℕ → Bool → PortState
-state_of links opened stopped = record { opened = opened; link = λ l. told_of (links l); stopped = stopped }
+abbrev pub state_of : LinkMap → List ℕ → PortOver → PortState
+state_of links opened over = record { opened = opened; link = λ l. told_of (links l); stopped = over.stopped; failed = over.failed }
 
 -- how often calls on a link failed
 abbrev pub faults_of : Option MemLink → ℕ
@@ -130,8 +135,8 @@ ready_of links step.Stop = Woken
 -- what a step does that told this
 pub record Takes (step : Step) (ready : Ready) (old new : Links) : Type 0 where
   pub answer : ready ≡ ready_of (links_of old) step
-  pub told : (sent : ℕ → Sent) (stopped : Bool) → AreSentBy sent (links_of old) → AreOpened old.opened.items (links_of old) → AreOpen old.open_now.items (links_of old)
-      → Told ready (state_of (links_of old) old.opened.items stopped) (state_of (links_of new) new.opened.items stopped)
+  pub told : (sent : ℕ → Sent) (over : PortOver) → AreSentBy sent (links_of old) → AreOpened old.opened.items (links_of old) → AreOpen old.open_now.items (links_of old)
+      → Told ready (state_of (links_of old) old.opened.items over) (state_of (links_of new) new.opened.items over)
   pub sent : (sent : ℕ → Sent) → AreSentBy sent (links_of old) → AreSentBy (λ l. sent_next l (sent l) step) (links_of new)
   pub opened : AreOpened old.opened.items (links_of old) → AreOpened new.opened.items (links_of new)
   pub open_now : AreOpen old.open_now.items (links_of old) → AreOpen new.open_now.items (links_of new)

@@ -1,43 +1,54 @@
 -- A port in memory: a script, and what its steps have made so far.
-use Rattle.std.specs.Prelude.{◌≡◌, ◌⊎◌, ℕ, nat_eq, ◌+◌, ◌≤◌, Bool, true, false, List, length, take, min, if◌then◌else◌, Option, Some, None}
+use Rattle.std.specs.Prelude.{◌≡◌, ◌⊎◌, ℕ, nat_eq, ◌+◌, ◌≤◌, Bool, true, false, List, length, take, map, min, if◌then◌else◌, Option, Some, None}
 use Rattle.std.specs.List.{Contains, slice_get}
 use Rattle.std.specs.Map.{lookup}
 use Rattle.lsv_words.specs.Pieces.{IsPrefix}
 use Rattle.lsv_base.specs.Script.{one_more}
+use Rattle.lsv_port.specs.declared.memory.asked.Asked.{Asked}
 use Rattle.lsv_port.specs.declared.memory.link.MemLink.{MemLink}
 use Rattle.lsv_port.specs.declared.memory.run.Run.{Run}
 use Rattle.lsv_port.specs.declared.port.Ready.{Ready}
 use Rattle.lsv_port.specs.declared.port.Ready.TheVariants as ready
 use Rattle.lsv_port.specs.declared.step.Step.{Step}
 use Rattle.lsv_port.specs.declared.step.Step.TheVariants as step
-use Rattle.lsv_port.specs.Ledger.{PortLedger}
+use Rattle.lsv_port.specs.Ledger.{Listening, PortLedger}
 use Rattle.lsv_port.specs.Port.{LinkState, PortState}
 use Rattle.lsv_port.specs.Memory.Numbers.{has}
 use Rattle.lsv_port.specs.Memory.Script.{Sent, sent_by, fails_turn, is_stop}
-use Rattle.lsv_port.specs.Memory.Links.{LinkMap, links_of, state_of, faults_of, ready_of, AreSentBy, AreOpened, AreOpen}
+use Rattle.lsv_port.specs.Memory.Links.{LinkMap, PortOver, links_of, state_of, faults_of, ready_of, AreSentBy, AreOpened, AreOpen}
+
+-- what a port in memory was asked to listen on
+abbrev pub listening_of : Asked → Listening
+listening_of asked = record { address = asked.address.items; stop_after = asked.stop_after }
+
+-- whether a run told Stop, and whether it failed as a whole
+abbrev pub over_by : Run → PortOver
+over_by p = record { stopped = p.stopped; failed = p.failed }
 
 -- what a run tells
 abbrev pub told_by : Run → PortState
-told_by p = state_of (links_of p.links) p.links.opened.items p.stopped
+told_by p = state_of (links_of p.links) p.links.opened.items (over_by p)
 
 -- what stays of a run from call to call
 abbrev pub ledger_of : Run → PortLedger
-ledger_of p = record { script = p.script.items; turns = p.turns; links = λ l. faults_of (links_of p.links l) }
+ledger_of p = record { script = p.script.items; listens = map listening_of p.listens.items; turns = p.turns; links = λ l. faults_of (links_of p.links l) }
 
--- a port in memory: its script, how many of its steps were taken, its links, those that were opened and those that are open, whether Stop was told, how often turns failed, and how often a call failed for lack of memory
+-- a port in memory: its script, how many of its steps were taken, what it was asked to listen on, its links, those that were opened and those that are open, whether Stop was told, whether it failed as a whole, how often it did, and how often a call failed for lack of memory
 pub record PortValue : Type 0 where
   pub script : List Step
   pub done : ℕ
+  pub listens : List Listening
   pub links : List (ℕ × MemLink)
   pub opened : List ℕ
   pub open_now : List ℕ
   pub stopped : Bool
+  pub failed : Bool
   pub turns : ℕ
   pub refused : ℕ
 
 -- a run is such a port
 abbrev pub value_of : Run → PortValue
-value_of p = record { script = p.script.items; done = p.done; links = p.links.by_number.entries; opened = p.links.opened.items; open_now = p.links.open_now.items; stopped = p.stopped; turns = p.turns; refused = p.refused }
+value_of p = record { script = p.script.items; done = p.done; listens = map listening_of p.listens.items; links = p.links.by_number.entries; opened = p.links.opened.items; open_now = p.links.open_now.items; stopped = p.stopped; failed = p.failed; turns = p.turns; refused = p.refused }
 
 -- the links by their numbers
 abbrev pub link_map : PortValue → LinkMap
@@ -49,11 +60,11 @@ listed p l = if has p.opened l then link_map p l else None
 
 -- what a port in memory tells
 abbrev pub port_state : PortValue → PortState
-port_state p = state_of (listed p) p.opened p.stopped
+port_state p = state_of (listed p) p.opened (record { stopped = p.stopped; failed = p.failed })
 
 -- what stays of it from call to call
 abbrev pub port_ledger : PortValue → PortLedger
-port_ledger p = record { script = p.script; turns = p.turns; links = λ l. faults_of (link_map p l) }
+port_ledger p = record { script = p.script; listens = p.listens; turns = p.turns; links = λ l. faults_of (link_map p l) }
 
 -- the next step of the script, where there is one
 abbrev pub next_step : PortValue → Option Step
@@ -67,6 +78,11 @@ answer_of links step = if fails_turn step then None else (if is_stop step then S
 abbrev pub turn_of : LinkMap → Option Step → Option Ready
 turn_of links None = Some ready.Stop
 turn_of links (Some step) = answer_of links step
+
+-- it noted what it was asked to listen on; it failed exactly if memory was refused for that. No step was taken
+pub record HasNoted (failed : Type 0) (old new : PortValue) : Type 0 where
+  pub done : new.done ≡ old.done
+  pub refused : ((failed → ⊥) × (new.refused ≡ old.refused)) ⊎ (failed × (new.refused ≡ one_more old.refused))
 
 -- a turn that told this: a step more was taken, where there was one
 pub record IsTurn (answer : Option Ready) (old new : PortValue) : Type 0 where

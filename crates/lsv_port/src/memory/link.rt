@@ -27,6 +27,8 @@ pub(crate) struct MemLink {
     /// The next read or write fails.
     pub(crate) breaks: bool,
     pub(crate) failed: bool,
+    /// Its port had told Stop, or had failed, when it was closed.
+    pub(crate) late: bool,
     pub(crate) faults: u64,
     pub(crate) beside: List<u32>,
 }
@@ -60,6 +62,7 @@ impl MemLink {
             full: false,
             breaks: false,
             failed: false,
+            late: false,
             faults: 0,
             beside,
         }

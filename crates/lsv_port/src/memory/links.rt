@@ -144,14 +144,15 @@ impl Links {
         }
     }
 
-    /// A link is no longer open.
-    pub(crate) fn close(&mut self, number: u32)
-        ensures links { links_of self.new ≡ changed_at number shut (links_of self.old) }
+    /// A link is no longer open. over: whether the port had told Stop, or had failed.
+    pub(crate) fn close(&mut self, number: u32, over: bool)
+        ensures links { links_of self.new ≡ changed_at number (shut over) (links_of self.old) }
         ensures opened { self.new.opened.items ≡ self.old.opened.items }
         ensures open_now { AreOpen self.old.open_now.items (links_of self.old) → AreOpen self.new.open_now.items (links_of self.new) }
     {
         if let Some(link) = self.by_number.get_mut(&number) {
             link.is_open = false;
+            link.late = over;
         }
         take_out(&mut self.open_now, number);
     }

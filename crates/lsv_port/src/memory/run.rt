@@ -1,14 +1,15 @@
-ghost use Rattle.std.specs.Prelude.{◌≡◌, ◌⊎◌, ◌<◌, ℕ, length, true, false, [], IfOk, OnErr, IsErr, Some};
+ghost use Rattle.std.specs.Prelude.{◌≡◌, ◌⊎◌, ◌<◌, ◌∷◌, ◌++◌, ◌||◌, ℕ, length, map, true, false, [], IfOk, OnOk, OnErr, IsErr, Some};
 ghost use Rattle.std.specs.Result.{result_ok};
 ghost use Rattle.std.specs.Option.{option_copied};
 ghost use Rattle.std.specs.List.{slice_get};
 ghost use Rattle.lsv_port.specs.declared.memory.link.MemLink.{MemLink};
-ghost use Rattle.lsv_port.specs.Port.{IsSame, Changes, Told, TakesWithin, MayTake, GivesWithin, after_read, after_write, closed};
-ghost use Rattle.lsv_port.specs.Ledger.{Continues, HasTurnCause, HasLinkCause};
+ghost use Rattle.lsv_port.specs.Port.{IsSame, Changes, Told, TellsFault, TakesWithin, MayTake, GivesWithin, after_read, after_write, closed, is_over};
+ghost use Rattle.lsv_port.specs.Ledger.{Continues, HasListenCause, HasTurnCause, HasLinkCause, Listening, WasAsked};
 ghost use Rattle.lsv_port.specs.Memory.Link.{AnswersRead, AnswersWrite};
 ghost use Rattle.lsv_port.specs.Memory.Links.{links_of, is_open_in};
-ghost use Rattle.lsv_port.specs.Memory.Value.{told_by, ledger_of, value_of, IsRun, IsTurn, IsRefusedTurn};
+ghost use Rattle.lsv_port.specs.Memory.Value.{told_by, ledger_of, value_of, listening_of, HasNoted, IsRun, IsTurn, IsRefusedTurn};
 
+use crate::memory::asked::Asked;
 use crate::memory::links::Links;
 use crate::{Gave, PortFault, Ready, Step, Took};
 use lsv_base::NoMem;
@@ -22,6 +23,10 @@ pub(crate) struct Run {
     pub(crate) done: usize,
     pub(crate) links: Links,
     pub(crate) stopped: bool,
+    /// It couldn't listen, or a turn failed.
+    pub(crate) failed: bool,
+    /// What it was asked to listen on, in order.
+    pub(crate) listens: Vec<Asked>,
     pub(crate) turns: u64,
     pub(crate) refused: u64,
 }
@@ -41,6 +46,8 @@ impl Run {
         ensures done { result.done ≡ 0 }
         ensures opened { result.links.opened.items ≡ [] }
         ensures stopped { result.stopped ≡ false }
+        ensures failed { result.failed ≡ false }
+        ensures listens { result.listens.items ≡ [] }
         ensures turns { result.turns ≡ 0 }
         ensures refused { result.refused ≡ 0 }
     {
@@ -49,8 +56,49 @@ impl Run {
             done: 0,
             links: Links::new(alloc),
             stopped: false,
+            failed: false,
+            listens: Vec::new(alloc),
             turns: 0,
             refused: 0,
+        }
+    }
+
+    /// Adds what it is asked to listen on to what it was asked before.
+    fn note(&mut self, alloc: Global, address: &str, stop_after: Option<u32>) -> Result<(), NoMem>
+        ensures same { self.new ≡ record self.old { listens = self.new.listens } }
+        ensures ok { OnOk result (map listening_of self.new.listens.items ≡ map listening_of self.old.listens.items ++ record { address = address.now; stop_after = stop_after } ∷ []) }
+        ensures err { OnErr result (self.new.listens.items ≡ self.old.listens.items) }
+    {
+        let asked = Asked::new(alloc, address, stop_after)?;
+        self.listens.push(asked)?;
+        Ok(())
+    }
+
+    /// Notes what it is asked to listen on. If memory is refused for that, it fails.
+    pub(crate) fn listen(
+        &mut self,
+        alloc: Global,
+        address: &str,
+        stop_after: Option<u32>,
+    ) -> Result<(), PortFault>
+        requires run { IsRun self.old }
+        ensures run { IsRun self.new }
+        ensures same { OnOk result (IsSame (told_by self.old) (told_by self.new)) }
+        ensures failed { OnErr result (TellsFault (told_by self.old) (told_by self.new)) }
+        ensures asked { WasAsked (record { address = address.now; stop_after = stop_after }) (IsErr result) (ledger_of self.old) (ledger_of self.new) }
+        ensures cause { HasListenCause (IsErr result) (ledger_of self.old) (ledger_of self.new) }
+        ensures noted { HasNoted (IsErr result) (value_of self.old) (value_of self.new) }
+    {
+        match self.note(alloc, address, stop_after) {
+            Ok(()) => {
+                return Ok(());
+            }
+            Err(NoMem) => {
+                self.failed = true;
+                self.turns = self.turns.saturating_add(1);
+                self.refused = self.refused.saturating_add(1);
+                return Err(PortFault);
+            }
         }
     }
 
@@ -59,7 +107,7 @@ impl Run {
         requires run { IsRun self.old }
         ensures run { IsRun self.new }
         ensures told { IfOk result (λ ready. Told ready (told_by self.old) (told_by self.new)) }
-        ensures failed { OnErr result (IsSame (told_by self.old) (told_by self.new)) }
+        ensures failed { OnErr result (TellsFault (told_by self.old) (told_by self.new)) }
         ensures cause { HasTurnCause (IsErr result) (ledger_of self.old) (ledger_of self.new) }
         ensures answer { IsTurn (result_ok result) (value_of self.old) (value_of self.new) ⊎ IsRefusedTurn (result_ok result) (value_of self.old) (value_of self.new) }
     {
@@ -69,6 +117,7 @@ impl Run {
         };
         if step.fails_turn() {
             self.done += 1;
+            self.failed = true;
             self.turns = self.turns.saturating_add(1);
             return Err(PortFault);
         }
@@ -83,6 +132,7 @@ impl Run {
                 return Ok(ready);
             }
             Err(NoMem) => {
+                self.failed = true;
                 self.turns = self.turns.saturating_add(1);
                 self.refused = self.refused.saturating_add(1);
                 return Err(PortFault);
@@ -119,14 +169,22 @@ impl Run {
         self.links.write(link, bytes, &mut self.refused)
     }
 
+    /// Whether Stop was told, or it failed as a whole.
+    fn is_over(&self) -> bool
+        ensures { result ≡ (self.now.stopped || self.now.failed) }
+    {
+        self.stopped || self.failed
+    }
+
     /// A link is no longer open.
     pub(crate) fn close(&mut self, link: u32)
         requires run { IsRun self.old }
         requires is_open { is_open_in (links_of self.old.links link) ≡ true }
         ensures run { IsRun self.new }
-        ensures change { Changes link (closed ((told_by self.old).link link)) (told_by self.old) (told_by self.new) }
+        ensures change { Changes link (closed (is_over (told_by self.old)) ((told_by self.old).link link)) (told_by self.old) (told_by self.new) }
         ensures continues { Continues (ledger_of self.old) (ledger_of self.new) }
     {
-        self.links.close(link);
+        let over = self.is_over();
+        self.links.close(link, over);
     }
 }

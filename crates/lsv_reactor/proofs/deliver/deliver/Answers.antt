@@ -14,11 +14,11 @@ loop-reply-init g c =
     record {
       items = gives.0;
       counted = let e = ap length gives.0 in omega (arith, gives.1, c.args.replies.ok.0, e);
-      took = λ starts jobs took all. subst (λ (l : List Reply). ArePosts g.T.Post.number g.T.Post.made_by starts c.args.posts.now jobs l) (sym (append-nil took)) all;
+      took = λ starts ledgers calls took all. subst (λ (l : List Reply). ArePosts g.T.Post.number g.T.Post.view g.T.Post.made_by starts ledgers c.args.posts.now calls l) (sym (append-nil took)) all;
     }
 
 pub deliver_one-requires : goal.deliver_one-requires
-deliver_one-requires g c = let b = c.requires.begun in record { begun = (b.0, b.1, b.2 ++ c.loop-reply.yielded, c.loop-reply.invariant.took b.0 b.1 b.2 b.3) }
+deliver_one-requires g c = let b = c.requires.begun in record { begun = (b.0, b.1, b.2, b.3 ++ c.loop-reply.yielded, c.loop-reply.invariant.took b.0 b.1 b.2 b.3 b.4) }
 
 pub loop-reply-preserved : goal.loop-reply-preserved
 loop-reply-preserved g c =
@@ -26,13 +26,13 @@ loop-reply-preserved g c =
     record {
       items = append_assoc c.loop-reply.yielded (c.in-Some.reply ∷ []) (into_iter_items c.next.new.self) ∙ (ap (λ (x : List Reply). c.loop-reply.yielded ++ x) (sym steps) ∙ c.loop-reply.invariant.items);
       counted = let was = c.loop-reply.invariant.counted in let gone = c.in-Some.ensures.steps.1 in let short = ap length steps in omega arith;
-      took = λ starts jobs took all.
-          subst (λ (l : List Reply). ArePosts g.T.Post.number g.T.Post.made_by starts c.deliver_one.new.posts jobs l) (append_assoc took c.loop-reply.yielded (c.in-Some.reply ∷ []))
-          (c.deliver_one.ensures starts jobs (took ++ c.loop-reply.yielded) (c.loop-reply.invariant.took starts jobs took all));
+      took = λ starts ledgers calls took all.
+          subst (λ (l : List Reply). ArePosts g.T.Post.number g.T.Post.view g.T.Post.made_by starts ledgers c.deliver_one.new.posts calls l) (append_assoc took c.loop-reply.yielded (c.in-Some.reply ∷ []))
+          (c.deliver_one.ensures starts ledgers calls (took ++ c.loop-reply.yielded) (c.loop-reply.invariant.took starts ledgers calls took all));
     }
 
 pub returns : goal.returns
-returns g c = λ starts jobs took all.
+returns g c = λ starts ledgers calls took all.
     let empty : into_iter_items c.loop-reply.reply-iterator ≡ [] = nothing_left (into_iter_items c.loop-reply.reply-iterator) (sym c.loop-reply.invariant.counted ∙ c.in-None.ensures.steps.0) in
     let whole : c.loop-reply.yielded ≡ c.args.replies.items = sym (append-nil c.loop-reply.yielded) ∙ (ap (λ (x : List Reply). c.loop-reply.yielded ++ x) (sym empty) ∙ c.loop-reply.invariant.items) in
-    subst (λ (l : List Reply). ArePosts g.T.Post.number g.T.Post.made_by starts c.loop-reply.posts jobs (took ++ l)) whole (c.loop-reply.invariant.took starts jobs took all)
+    subst (λ (l : List Reply). ArePosts g.T.Post.number g.T.Post.view g.T.Post.made_by starts ledgers c.loop-reply.posts calls (took ++ l)) whole (c.loop-reply.invariant.took starts ledgers calls took all)

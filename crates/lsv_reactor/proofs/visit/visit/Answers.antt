@@ -1,38 +1,47 @@
-use Rattle.lsv_turns.specs.Turns.{jobs_in, replies_in}
-use Rattle.lsv_reactor.proofs.TurnLemmas.{posts_none}
 use Rattle.std.proofs.Common.{List, ◌++◌, sym, subst, vec_len}
+use Rattle.lsv_turns.specs.Turns.{replies_in}
+use Rattle.lsv_reactor.specs.Calls.{call_of, calls_in}
 use Rattle.lsv_reactor.specs.InnerLoop.{ArePosts}
+use Rattle.lsv_reactor.proofs.TurnLemmas.{posts_none}
 use Rattle.lsv_reactor.proofs.Own.{no_jobs}
 use Rattle.lsv_reactor.proofs.visit.visit.Goals as goal
 
 pub passes-init : goal.passes-init
-passes-init g c = record { few = c.wait_at-jobs.ensures.few; goes = λ starts start turns posts lane. (turns, c.wait_at-jobs.ensures.made starts (jobs_in turns) (replies_in turns) posts, lane) }
+passes-init g c = record { few = c.wait_at-jobs.ensures.few; goes = λ starts ledgers start turns posts lane. (turns, c.wait_at-jobs.ensures.made starts ledgers (calls_in turns) (replies_in turns) posts, lane) }
 
 pub pass-requires-clause-begun : goal.pass-requires-clause-begun
-pass-requires-clause-begun g c = let b = c.requires.begun in let r = c.passes.invariant.goes b.0 b.1 b.2 b.3 b.4 in (b.0, b.1, r.0, r.1, r.2)
+pass-requires-clause-begun g c = let b = c.requires.begun in let r = c.passes.invariant.goes b.0 b.1 b.2 b.3 b.4 b.5 in (b.0, b.1, b.2, r.0, r.1, r.2)
 
 pub returns-then-is_empty-clause-ok : goal.returns-then-is_empty-clause-ok
-returns-then-is_empty-clause-ok g c = λ starts start turns posts lane.
-    let r = c.passes.invariant.goes starts start turns posts lane in
-    (r.0, posts_none g.T.Post.number g.T.Post.made_by starts c.passes.posts (jobs_in r.0) c.passes.jobs.items (replies_in r.0) (no_jobs (vec_len c.passes.jobs) c.passes.jobs.items c.passes.jobs.ok.0 c.if-is_empty.ensures) r.1, r.2)
+returns-then-is_empty-clause-ok g c = λ starts ledgers start turns posts lane.
+    let r = c.passes.invariant.goes starts ledgers start turns posts lane in
+    (r.0, posts_none g.T.Post.number g.T.Post.view g.T.Post.made_by starts ledgers c.passes.posts (calls_in r.0) c.passes.jobs.items (replies_in r.0) (no_jobs (vec_len c.passes.jobs) c.passes.jobs.items c.passes.jobs.ok.0 c.if-is_empty.ensures) r.1, r.2)
 
 pub passes-preserved : goal.passes-preserved
-passes-preserved g c = record { few = c.in-Ok.ensures.few; goes = λ starts start turns posts lane. let r = c.passes.invariant.goes starts start turns posts lane in c.in-Ok.ensures.ok starts start r.0 r.1 r.2 }
+passes-preserved g c = record { few = c.in-Ok.ensures.few; goes = λ starts ledgers start turns posts lane. let r = c.passes.invariant.goes starts ledgers start turns posts lane in c.in-Ok.ensures.ok starts ledgers start r.0 r.1 r.2 }
 
 pub returns-in-Err-clause-err : goal.returns-in-Err-clause-err
-returns-in-Err-clause-err g c = λ starts start turns posts lane.
-    let r = c.passes.invariant.goes starts start turns posts lane in
-    (r.0, c.passes.jobs.items, subst (λ (l : List g.row.T.Denot). ArePosts g.T.Post.number g.T.Post.made_by starts l (jobs_in r.0 ++ c.passes.jobs.items) (replies_in r.0)) (sym c.in-Err.ensures.lost) r.1, c.in-Err.ensures.err start r.0 r.2)
+returns-in-Err-clause-err g c = λ starts ledgers start turns posts lane.
+    let r = c.passes.invariant.goes starts ledgers start turns posts lane in (
+      r.0,
+      call_of c.passes.jobs.items,
+      subst (λ (l : List g.row.T.Denot). ArePosts g.T.Post.number g.T.Post.view g.T.Post.made_by starts ledgers l (calls_in r.0 ++ call_of c.passes.jobs.items) (replies_in r.0)) (sym c.in-Err.ensures.lost) r.1,
+      c.in-Err.ensures.err start r.0 r.2,
+    )
 
 pub turn-requires-clause-begun : goal.turn-requires-clause-begun
-turn-requires-clause-begun g c = let b = c.requires.begun in let r = c.passes.invariant.goes b.0 b.1 b.2 b.3 b.4 in (b.0, b.1, r.0, r.1, r.2)
+turn-requires-clause-begun g c = let b = c.requires.begun in let r = c.passes.invariant.goes b.0 b.1 b.2 b.3 b.4 b.5 in (b.0, b.1, b.2, r.0, r.1, r.2)
 
 pub returns-in_default-clause-err : goal.returns-in_default-clause-err
-returns-in_default-clause-err g c = λ starts start turns posts lane.
-    let r = c.passes.invariant.goes starts start turns posts lane in
-    (r.0, c.passes.jobs.items, subst (λ (l : List g.row.T.Denot). ArePosts g.T.Post.number g.T.Post.made_by starts l (jobs_in r.0 ++ c.passes.jobs.items) (replies_in r.0)) (sym c.in_default.ensures.lost) r.1, c.in_default.ensures.err start r.0 r.2)
+returns-in_default-clause-err g c = λ starts ledgers start turns posts lane.
+    let r = c.passes.invariant.goes starts ledgers start turns posts lane in (
+      r.0,
+      call_of c.passes.jobs.items,
+      subst (λ (l : List g.row.T.Denot). ArePosts g.T.Post.number g.T.Post.view g.T.Post.made_by starts ledgers l (calls_in r.0 ++ call_of c.passes.jobs.items) (replies_in r.0)) (sym c.in_default.ensures.lost) r.1,
+      c.in_default.ensures.err start r.0 r.2,
+    )
 
 pub returns-clause-ok : goal.returns-clause-ok
-returns-clause-ok g c = λ starts start turns posts lane.
-    let r = c.passes.invariant.goes starts start turns posts lane in
-    c.in-Ok-turn.ensures.ok starts start r.0 r.1 r.2
+returns-clause-ok g c = λ starts ledgers start turns posts lane.
+    let r = c.passes.invariant.goes starts ledgers start turns posts lane in
+    c.in-Ok-turn.ensures.ok starts ledgers start r.0 r.1 r.2

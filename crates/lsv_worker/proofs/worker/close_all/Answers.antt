@@ -19,7 +19,7 @@ loop-link-init g c = record {
   remains = remain_here c.args.links.now;
   unwritten = λ told. unwritten_here (g.P.Port.state c.args.port.now);
   unread = λ told. unread_here (g.P.Port.state c.args.port.now);
-  blame = λ told. blame_same (g.P.Port.state c.args.port.now) (g.P.Port.state c.args.port.now) (g.P.Port.ledger c.args.port.now) (g.P.Port.ledger c.args.port.now) (λ l. refl);
+  blame = λ told. blame_same (g.P.Port.state c.args.port.now) (g.P.Port.state c.args.port.now) (g.P.Port.ledger c.args.port.now) (g.P.Port.ledger c.args.port.now) (λ l. refl) refl;
   continues = continues_here (g.P.Port.ledger c.args.port.now);
 }
 

@@ -1,34 +1,10 @@
-use Rattle.std.proofs.Common.{arith, refl}
-use Rattle.lsv_worker.proofs.Putting.{puts_none, puts_then}
-use Rattle.lsv_worker.proofs.Wanting.{keeps_here, keeps_then}
+use Rattle.std.proofs.Common.{subst, []}
+use Rattle.lsv_worker.specs.Incoming.{Puts, with_piece}
+use Rattle.lsv_worker.specs.declared.incoming.Incoming.{Incoming}
+use Rattle.lsv_worker.proofs.Cutting.{no_piece}
 use Rattle.lsv_worker.proofs.incoming.Incoming.advance.Goals as goal
 
-pub tries-init : goal.tries-init
-tries-init g c = record {
-  puts = puts_none c.args.conn c.args.self.now c.args.self.now (g.I.Inbox.jobs c.args.inbox.now) (g.I.Inbox.jobs c.args.inbox.now) (λ m. refl) (λ read put marks h. h);
-  keeps = keeps_here c.args.self.now;
-  counts = λ m. omega arith;
-  lanes = c.requires.lanes;
-  same = g.met.I.Inbox.same_here c.args.inbox.now;
-}
-
-pub tries-preserved : goal.tries-preserved
-tries-preserved g c = record {
-  puts = puts_then c.args.conn c.args.self.now c.tries.self c.step.new.self (g.I.Inbox.jobs c.args.inbox.now) (g.I.Inbox.jobs c.tries.inbox) (g.I.Inbox.jobs c.step.new.inbox) c.tries.invariant.puts c.step.ensures.puts;
-  keeps = keeps_then c.args.self.now c.tries.self c.step.new.self c.tries.invariant.keeps c.step.ensures.keeps;
-  counts = λ m. omega (arith, c.tries.invariant.counts m, c.step.ensures.counts m);
-  lanes = c.step.ensures.lanes;
-  same = g.met.I.Inbox.same_through c.args.inbox.now c.tries.inbox c.step.new.inbox c.tries.invariant.same c.step.ensures.same;
-}
-
-pub returns-in-Full-clause-puts : goal.returns-in-Full-clause-puts
-returns-in-Full-clause-puts g c = puts_then c.args.conn c.args.self.now c.tries.self c.step.new.self (g.I.Inbox.jobs c.args.inbox.now) (g.I.Inbox.jobs c.tries.inbox) (g.I.Inbox.jobs c.step.new.inbox) c.tries.invariant.puts c.step.ensures.puts
-
-pub returns-in-Idle-clause-puts : goal.returns-in-Idle-clause-puts
-returns-in-Idle-clause-puts g c = puts_then c.args.conn c.args.self.now c.tries.self c.step.new.self (g.I.Inbox.jobs c.args.inbox.now) (g.I.Inbox.jobs c.tries.inbox) (g.I.Inbox.jobs c.step.new.inbox) c.tries.invariant.puts c.step.ensures.puts
-
-pub returns-in-Full-clause-keeps : goal.returns-in-Full-clause-keeps
-returns-in-Full-clause-keeps g c = keeps_then c.args.self.now c.tries.self c.step.new.self c.tries.invariant.keeps c.step.ensures.keeps
-
-pub returns-in-Idle-clause-keeps : goal.returns-in-Idle-clause-keeps
-returns-in-Idle-clause-keeps g c = keeps_then c.args.self.now c.tries.self c.step.new.self c.tries.invariant.keeps c.step.ensures.keeps
+pub returns-clause-puts : goal.returns-clause-puts
+returns-clause-puts g c =
+    subst (λ (l : Incoming). Puts c.args.conn c.args.self.now l (g.I.Inbox.jobs c.args.inbox.now) (g.I.Inbox.jobs c.put_all.new.inbox)) (no_piece c.put_all.new.self c.put_all.new.at)
+    (subst (λ (l : Incoming). Puts c.args.conn l (with_piece c.put_all.new.self [] c.put_all.new.at) (g.I.Inbox.jobs c.args.inbox.now) (g.I.Inbox.jobs c.put_all.new.inbox)) (no_piece c.args.self.now 0) c.put_all.ensures.puts)

@@ -1,29 +1,37 @@
-use Rattle.std.proofs.Common.{◌≡◌, ◌+◌, ◌++◌, Ok, length, drop, rules}
-use Rattle.lsv_wire.specs.Frame.{IsMessage, IsTooLong, frame_of}
-use Rattle.lsv_msg.specs.Messages.{client_in}
-use Rattle.lsv_session.proofs.Jobs.{cut_no_message, cut_too_long}
-use Rattle.lsv_worker.specs.Incoming.{kept}
-use Rattle.lsv_worker.proofs.Cutting.{cuts_message, has_first}
+use Rattle.std.proofs.Common.{◌≡◌, ◌∙◌, ◌++◌, List, ℕ, ap, drop, subst}
+use Rattle.lsv_cut.specs.Cuts.{IsCut, IsFirst, IsNoMessage, left_after, unread}
+use Rattle.lsv_cut.specs.declared.cut.Cut.{Cut}
+use Rattle.lsv_cut.proofs.CutLemmas.{cut_is_last}
+use Rattle.lsv_worker.specs.Incoming.{cuts, kept, with_piece}
+use Rattle.lsv_worker.specs.declared.incoming.Incoming.{Incoming}
+use Rattle.lsv_worker.proofs.Cutting.{cuts_message, has_first, rest_free}
 use Rattle.lsv_worker.proofs.incoming.Incoming.cut.Goals as goal
 
-pub returns-in-Ok-clause-goes : goal.returns-in-Ok-clause-goes
-returns-in-Ok-clause-goes c =
-    let small : IsMessage c.in-Ok-Some.message.now = search rules in
-    let whole : c.args.self.now.rest ≡ frame_of c.in-Ok-Some.message.now ++ drop (4 + length c.in-Ok-Some.message.now) c.args.self.now.rest = search rules in
-    let is : client_in c.in-Ok-Some.message.now ≡ Ok c.in-Ok.message = search rules in
-    let rest : c.receive.new.self.rest ≡ drop (4 + length c.in-Ok-Some.message.now) c.args.self.now.rest = search rules in
-    cuts_message c.args.self.now c.receive.new.self c.in-Ok-Some.message.now (drop (4 + length c.in-Ok-Some.message.now) c.args.self.now.rest) c.in-Ok.message c.requires.empty c.requires.cutting
-    (record { is_message = small; whole = whole }) is rest c.receive.ensures.stage c.receive.ensures.ready c.receive.ensures.quiet c.receive.ensures.routed
+pub returns-in-Ok-Message-clause-goes : goal.returns-in-Ok-Message-clause-goes
+returns-in-Ok-Message-clause-goes c =
+    let piece = c.args.piece.now in
+    let old : Incoming = with_piece c.args.self.now piece c.args.at.now in
+    let new : Incoming = with_piece c.receive.new.self piece c.next.new.at in
+    let taken = c.in-Ok-Message.field-0-1 in
+    let first : IsFirst c.in-Ok-Message.message taken old.rest = subst (λ (k : Cut). IsCut k old.rest) c.in-Ok-Message.field-0-is c.in-Ok-Message.ensures.cut in
+    let left : unread c.next.new.self piece c.next.new.at ≡ drop taken old.rest = c.in-Ok-Message.ensures.left ∙ ap (λ (k : Cut). left_after k old.rest) c.in-Ok-Message.field-0-is in
+    let rest : new.rest ≡ drop taken old.rest = ap (λ (r : List ℕ). unread r piece c.next.new.at) c.receive.ensures.rest ∙ left in
+    cuts_message old new first.message (drop taken old.rest) c.in-Ok-Message.message c.requires.empty c.requires.cutting first.front first.reads rest c.receive.ensures.stage c.receive.ensures.ready c.receive.ensures.quiet
+    c.receive.ensures.routed c.receive.ensures.lanes c.receive.ensures.home
 
-pub returns-in-Err-decode_client-clause-goes : goal.returns-in-Err-decode_client-clause-goes
-returns-in-Err-decode_client-clause-goes c =
-    let small : IsMessage c.in-Ok-Some.message.now = search rules in
-    let whole : c.args.self.now.rest ≡ frame_of c.in-Ok-Some.message.now ++ drop (4 + length c.in-Ok-Some.message.now) c.args.self.now.rest = search rules in
-    λ read put marks h. c.cut_no_message.ensures.goes read put marks h (λ known.
-    cut_no_message read c.args.self.now.rest c.in-Ok-Some.message.now (drop (4 + length c.in-Ok-Some.message.now) c.args.self.now.rest) (h.said ++ kept c.args.self.now.first) c.in-Err-decode_client.fault
-    (has_first c.args.self.now read put marks c.requires.empty c.requires.cutting h) (record { is_message = small; whole = whole }) (c.in-Err-decode_client.ensures.refused known))
+pub returns-in-Ok-NoMessage-clause-goes : goal.returns-in-Ok-NoMessage-clause-goes
+returns-in-Ok-NoMessage-clause-goes c =
+    let piece = c.args.piece.now in
+    let old : Incoming = with_piece c.args.self.now piece c.args.at.now in
+    let fault = c.in-Ok-NoMessage.fault in
+    let bad : IsNoMessage fault old.rest = subst (λ (k : Cut). IsCut k old.rest) c.in-Ok-NoMessage.field-0-is c.in-Ok-NoMessage.ensures.cut in
+    λ read put marks h.
+    rest_free c.refuse.new.self (unread c.refuse.new.self.rest piece c.next.new.at) (ap cuts c.refuse.ensures.stage) read put marks
+    (c.refuse.ensures.goes old.rest read put marks h (cut_is_last read old.rest (h.said ++ kept c.args.self.now.first) fault (has_first old read put marks c.requires.empty c.requires.cutting h) bad))
 
 pub returns-in-Err-clause-goes : goal.returns-in-Err-clause-goes
 returns-in-Err-clause-goes c =
-    let long : IsTooLong c.args.self.now.rest c.in-Err.stated = search rules in
-    λ read put marks h. c.refuse.ensures.goes read put marks h (cut_too_long read c.args.self.now.rest (h.said ++ kept c.args.self.now.first) c.in-Err.stated (has_first c.args.self.now read put marks c.requires.empty c.requires.cutting h) long)
+    let piece = c.args.piece.now in
+    let all = unread c.args.self.now.rest piece c.args.at.now in
+    λ read put marks h.
+    rest_free c.starve.new.self (unread c.starve.new.self.rest piece c.next.new.at) (ap cuts c.starve.ensures.stage) read put marks (c.starve.ensures.goes all read put marks h)

@@ -9,5 +9,6 @@ pub returns-in-Ok-clause-puts : goal.returns-in-Ok-clause-puts
 returns-in-Ok-clause-puts g c =
     let this : g.I.Inbox.jobs c.put.new.self (lane_or_home c.args.self.now.route) ≡ g.I.Inbox.jobs c.args.inbox.now (lane_or_home c.args.self.now.route) ++ job_of c.args.conn Gone ∷ [] = search rules in
     let others : (m : ℕ) → m ≢ lane_or_home c.args.self.now.route → g.I.Inbox.jobs c.put.new.self m ≡ g.I.Inbox.jobs c.args.inbox.now m = search rules in
-    puts_one c.args.conn c.args.self.now (record c.args.self.now { stage = Left c.args.why }) (lane_or_home c.args.self.now.route) Gone (g.I.Inbox.jobs c.args.inbox.now) (g.I.Inbox.jobs c.put.new.self) this others
-    (leaves_now c.args.self.now c.args.why c.requires.stage c.requires.empty c.requires.first)
+    λ rest.
+    puts_one c.args.conn (record c.args.self.now { rest = rest }) (record c.args.self.now { rest = rest; stage = Left c.args.why }) (lane_or_home c.args.self.now.route) Gone (g.I.Inbox.jobs c.args.inbox.now) (g.I.Inbox.jobs c.put.new.self) this others
+    (leaves_now (record c.args.self.now { rest = rest }) c.args.why c.requires.stage c.requires.empty c.requires.first)

@@ -1,5 +1,6 @@
 use Rattle.std.proofs.Common.{◌≡◌, ◌++◌, ◌∷◌, [], None, true, false, sym, subst, rules}
-use Rattle.lsv_worker.specs.Lanes.{Routed, Routing, is_hello}
+use Rattle.lsv_links.specs.Lanes.{is_hello}
+use Rattle.lsv_worker.specs.Lanes.{Routed, Routing}
 use Rattle.lsv_worker.specs.Incoming.{kept}
 use Rattle.lsv_worker.proofs.Routes.{decided_now, held_hello, routed_more}
 use Rattle.lsv_worker.proofs.Putting.{some_lane}

@@ -11,5 +11,6 @@ pub returns-in-Ok-clause-puts : goal.returns-in-Ok-clause-puts
 returns-in-Ok-clause-puts g c =
     let this : g.I.Inbox.jobs c.put.new.self (lane_or_home c.args.self.now.route) ≡ g.I.Inbox.jobs c.args.inbox.now (lane_or_home c.args.self.now.route) ++ job_of c.args.conn (Bad NoMem) ∷ [] = search rules in
     let others : (m : ℕ) → m ≢ lane_or_home c.args.self.now.route → g.I.Inbox.jobs c.put.new.self m ≡ g.I.Inbox.jobs c.args.inbox.now m = search rules in
-    puts_one c.args.conn c.args.self.now (record c.args.self.now { stage = Leaving Starved }) (lane_or_home c.args.self.now.route) (Bad NoMem) (g.I.Inbox.jobs c.args.inbox.now) (g.I.Inbox.jobs c.put.new.self) this others
-    (tells_starved c.args.self.now c.requires.stage c.requires.empty c.requires.first)
+    λ rest.
+    puts_one c.args.conn (record c.args.self.now { rest = rest }) (record c.args.self.now { rest = rest; stage = Leaving Starved }) (lane_or_home c.args.self.now.route) (Bad NoMem) (g.I.Inbox.jobs c.args.inbox.now) (g.I.Inbox.jobs c.put.new.self) this others
+    (tells_starved (record c.args.self.now { rest = rest }) c.requires.stage c.requires.empty c.requires.first)

@@ -8,7 +8,7 @@ pub returns-clause-step : goal.returns-clause-step
 returns-clause-step g c = λ phase port lets.
     let mid : Link = record c.args.self.now { incoming = c.end.new.self } in
     link_then phase c.args.self.now mid c.advance.new.self port port port (g.I.Inbox.jobs c.args.inbox.now) (g.I.Inbox.jobs c.args.inbox.now) (g.I.Inbox.jobs c.advance.new.inbox)
-    (link_ends phase c.args.self.now c.end.new.self port (g.I.Inbox.jobs c.args.inbox.now) lets c.end.ensures.goes c.end.ensures.keeps) (c.advance.ensures.step phase port)
+    (link_ends phase c.args.self.now c.end.new.self port (g.I.Inbox.jobs c.args.inbox.now) lets c.end.ensures.goes c.end.ensures.left c.end.ensures.keeps) (c.advance.ensures.step phase port)
 
 pub returns-clause-remains : goal.returns-clause-remains
 returns-clause-remains g c =

@@ -15,7 +15,7 @@ pub returns-then-advance-clause-most : goal.returns-then-advance-clause-most
 returns-then-advance-clause-most g c = λ told. most_none 16 ((g.P.Port.state c.args.port.now).link c.args.self.now.number) ((g.P.Port.state c.args.port.now).link c.args.self.now.number) refl
 
 pub returns-then-advance-clause-blame : goal.returns-then-advance-clause-blame
-returns-then-advance-clause-blame g c = λ told. blame_same (g.P.Port.state c.args.port.now) (g.P.Port.state c.args.port.now) (g.P.Port.ledger c.args.port.now) (g.P.Port.ledger c.args.port.now) (λ l. refl)
+returns-then-advance-clause-blame g c = λ told. blame_same (g.P.Port.state c.args.port.now) (g.P.Port.state c.args.port.now) (g.P.Port.ledger c.args.port.now) (g.P.Port.ledger c.args.port.now) (λ l. refl) refl
 
 pub returns-then-advance-clause-continues : goal.returns-then-advance-clause-continues
 returns-then-advance-clause-continues g c = continues_here (g.P.Port.ledger c.args.port.now)
@@ -32,7 +32,7 @@ reads-init g c = record {
   gone = λ live. sym c.advance.ensures.sides.live ∙ live;
   most = λ told. most_none 0 ((g.P.Port.state c.args.port.now).link c.args.self.now.number) ((g.P.Port.state c.args.port.now).link c.args.self.now.number) refl;
   laden = λ told going laden. refl;
-  blame = λ told. blame_same (g.P.Port.state c.args.port.now) (g.P.Port.state c.args.port.now) (g.P.Port.ledger c.args.port.now) (g.P.Port.ledger c.args.port.now) (λ l. refl);
+  blame = λ told. blame_same (g.P.Port.state c.args.port.now) (g.P.Port.state c.args.port.now) (g.P.Port.ledger c.args.port.now) (g.P.Port.ledger c.args.port.now) (λ l. refl) refl;
   continues = continues_here (g.P.Port.ledger c.args.port.now);
   counts = c.advance.ensures.counts;
   lanes = c.advance.ensures.lanes;
@@ -41,9 +41,9 @@ reads-init g c = record {
 
 pub returns-then-advance-2-clause-step : goal.returns-then-advance-2-clause-step
 returns-then-advance-2-clause-step g c = λ told.
-    link_then c.args.phase c.args.self.now c.read_once.new.self c.advance-in-reads.new.self (g.P.Port.state c.args.port.now) (g.P.Port.state c.read_once.new.port) (g.P.Port.state c.read_once.new.port) (g.I.Inbox.jobs c.args.inbox.now) (g.I.Inbox.jobs c.reads.inbox) (g.I.Inbox.jobs c.advance-in-reads.new.inbox)
-    (link_then c.args.phase c.args.self.now c.reads.self c.read_once.new.self (g.P.Port.state c.args.port.now) (g.P.Port.state c.reads.port) (g.P.Port.state c.read_once.new.port) (g.I.Inbox.jobs c.args.inbox.now) (g.I.Inbox.jobs c.reads.inbox) (g.I.Inbox.jobs c.reads.inbox)
-    (c.reads.invariant.step told) (c.read_once.ensures.step told c.args.phase (g.I.Inbox.jobs c.reads.inbox) c.requires.phase))
+    link_then c.args.phase c.args.self.now c.read_once.new.self c.advance-in-reads.new.self (g.P.Port.state c.args.port.now) (g.P.Port.state c.read_once.new.port) (g.P.Port.state c.read_once.new.port) (g.I.Inbox.jobs c.args.inbox.now) (g.I.Inbox.jobs c.read_once.new.inbox) (g.I.Inbox.jobs c.advance-in-reads.new.inbox)
+    (link_then c.args.phase c.args.self.now c.reads.self c.read_once.new.self (g.P.Port.state c.args.port.now) (g.P.Port.state c.reads.port) (g.P.Port.state c.read_once.new.port) (g.I.Inbox.jobs c.args.inbox.now) (g.I.Inbox.jobs c.reads.inbox) (g.I.Inbox.jobs c.read_once.new.inbox)
+    (c.reads.invariant.step told) (c.read_once.ensures.step told c.args.phase c.requires.phase))
     (c.advance-in-reads.ensures.step c.args.phase (g.P.Port.state c.read_once.new.port))
 
 pub returns-then-advance-2-clause-most : goal.returns-then-advance-2-clause-most
@@ -63,10 +63,10 @@ returns-then-advance-2-clause-continues g c = continues_then (g.P.Port.ledger c.
 pub returns-then-advance-2-clause-reason : goal.returns-then-advance-2-clause-reason
 returns-then-advance-2-clause-reason g c = λ told.
     let at = lane_or_home c.advance-in-reads.new.self.incoming.route in
-    risen_late (g.I.Inbox.refused c.args.inbox.now at) (g.I.Inbox.refused c.reads.inbox at) (g.I.Inbox.refused c.advance-in-reads.new.inbox at) (c.reads.invariant.counts at) (c.advance-in-reads.ensures.full c.if-advance-2.true)
+    risen_late (g.I.Inbox.refused c.args.inbox.now at) (g.I.Inbox.refused c.read_once.new.inbox at) (g.I.Inbox.refused c.advance-in-reads.new.inbox at) (omega (arith, c.reads.invariant.counts at, c.read_once.ensures.counts at)) (c.advance-in-reads.ensures.full c.if-advance-2.true)
 
 pub returns-then-advance-2-clause-same : goal.returns-then-advance-2-clause-same
-returns-then-advance-2-clause-same g c = g.met.I.Inbox.same_through c.args.inbox.now c.reads.inbox c.advance-in-reads.new.inbox c.reads.invariant.same c.advance-in-reads.ensures.same
+returns-then-advance-2-clause-same g c = g.met.I.Inbox.same_through c.args.inbox.now c.read_once.new.inbox c.advance-in-reads.new.inbox (g.met.I.Inbox.same_through c.args.inbox.now c.reads.inbox c.read_once.new.inbox c.reads.invariant.same c.read_once.ensures.same) c.advance-in-reads.ensures.same
 
 pub reads-preserved : goal.reads-preserved
 reads-preserved g c =
@@ -74,9 +74,9 @@ reads-preserved g c =
     let number = c.read_once.ensures.number ∙ c.reads.invariant.number in
     record {
       step = λ told.
-          link_then c.args.phase c.args.self.now c.read_once.new.self c.advance-in-reads.new.self (g.P.Port.state c.args.port.now) (g.P.Port.state c.read_once.new.port) (g.P.Port.state c.read_once.new.port) (g.I.Inbox.jobs c.args.inbox.now) (g.I.Inbox.jobs c.reads.inbox) (g.I.Inbox.jobs c.advance-in-reads.new.inbox)
-          (link_then c.args.phase c.args.self.now c.reads.self c.read_once.new.self (g.P.Port.state c.args.port.now) (g.P.Port.state c.reads.port) (g.P.Port.state c.read_once.new.port) (g.I.Inbox.jobs c.args.inbox.now) (g.I.Inbox.jobs c.reads.inbox) (g.I.Inbox.jobs c.reads.inbox)
-          (c.reads.invariant.step told) (c.read_once.ensures.step told c.args.phase (g.I.Inbox.jobs c.reads.inbox) c.requires.phase))
+          link_then c.args.phase c.args.self.now c.read_once.new.self c.advance-in-reads.new.self (g.P.Port.state c.args.port.now) (g.P.Port.state c.read_once.new.port) (g.P.Port.state c.read_once.new.port) (g.I.Inbox.jobs c.args.inbox.now) (g.I.Inbox.jobs c.read_once.new.inbox) (g.I.Inbox.jobs c.advance-in-reads.new.inbox)
+          (link_then c.args.phase c.args.self.now c.reads.self c.read_once.new.self (g.P.Port.state c.args.port.now) (g.P.Port.state c.reads.port) (g.P.Port.state c.read_once.new.port) (g.I.Inbox.jobs c.args.inbox.now) (g.I.Inbox.jobs c.reads.inbox) (g.I.Inbox.jobs c.read_once.new.inbox)
+          (c.reads.invariant.step told) (c.read_once.ensures.step told c.args.phase c.requires.phase))
           (c.advance-in-reads.ensures.step c.args.phase (g.P.Port.state c.read_once.new.port));
       remains = remains_then c.args.self.now c.read_once.new.self c.advance-in-reads.new.self (remains_then c.args.self.now c.reads.self c.read_once.new.self c.reads.invariant.remains c.read_once.ensures.remains) c.advance-in-reads.ensures.remains;
       number = c.advance-in-reads.ensures.sides.number ∙ number;
@@ -109,9 +109,9 @@ reads-preserved g c =
           absurd (omega (arith, light, less, now, laden));
       blame = λ told. blame_then (g.P.Port.state c.args.port.now) (g.P.Port.state c.reads.port) (g.P.Port.state c.read_once.new.port) (g.P.Port.ledger c.args.port.now) (g.P.Port.ledger c.reads.port) (g.P.Port.ledger c.read_once.new.port) c.reads.invariant.continues c.read_once.ensures.continues (c.reads.invariant.blame told) (c.read_once.ensures.blame told);
       continues = continues_then (g.P.Port.ledger c.args.port.now) (g.P.Port.ledger c.reads.port) (g.P.Port.ledger c.read_once.new.port) c.reads.invariant.continues c.read_once.ensures.continues;
-      counts = λ m. omega (arith, c.reads.invariant.counts m, c.advance-in-reads.ensures.counts m);
+      counts = λ m. omega (arith, c.reads.invariant.counts m, c.read_once.ensures.counts m, c.advance-in-reads.ensures.counts m);
       lanes = c.advance-in-reads.ensures.lanes;
-      same = g.met.I.Inbox.same_through c.args.inbox.now c.reads.inbox c.advance-in-reads.new.inbox c.reads.invariant.same c.advance-in-reads.ensures.same;
+      same = g.met.I.Inbox.same_through c.args.inbox.now c.read_once.new.inbox c.advance-in-reads.new.inbox (g.met.I.Inbox.same_through c.args.inbox.now c.reads.inbox c.read_once.new.inbox c.reads.invariant.same c.read_once.ensures.same) c.advance-in-reads.ensures.same;
     }
 
 pub returns-then-advance-2-clause-laden : goal.returns-then-advance-2-clause-laden

@@ -1,42 +1,50 @@
-use Rattle.std.proofs.Common.{◌≡◌, false, ◌∙◌, refl, ap, rules}
-use Rattle.lsv_port.specs.Port.{LinkState, after_read, closed}
+use Rattle.std.proofs.Common.{◌≡◌, true, false, ◌∙◌, refl, sym, ap, take, rules}
+use Rattle.lsv_port.specs.Port.{LinkState, after_read, closed, is_over}
 use Rattle.lsv_port.specs.declared.port.Took.TheVariants as took
-use Rattle.lsv_worker.specs.Incoming.{hears}
+use Rattle.lsv_worker.specs.Incoming.{hears, with_piece}
+use Rattle.lsv_worker.specs.declared.incoming.Incoming.{Incoming}
 use Rattle.lsv_worker.specs.declared.link.Link.{Link}
-use Rattle.lsv_worker.proofs.Linking.{deaf, link_change, link_read_failed, stands_ended, stands_heard, stands_unowed}
+use Rattle.lsv_worker.proofs.Cutting.{hears_piece}
+use Rattle.lsv_worker.proofs.Linking.{deaf, link_change, link_puts, link_read_failed, link_then, stands_ended, stands_heard, stands_unowed}
 use Rattle.lsv_worker.proofs.Ports.{alone_change, alone_then, blame_failed, blame_kept, continues_then}
 use Rattle.lsv_worker.proofs.Ruling.{remains_here, remains_so, remains_then, sent_closed, sent_same}
-use Rattle.lsv_worker.proofs.Wanting.{keeps_here}
+use Rattle.lsv_worker.proofs.Wanting.{keeps_here, keeps_stage, keeps_then}
 use Rattle.lsv_worker.proofs.link.Link.read_once.Goals as goal
 
 pub returns-then-is_hearing-clause-step : goal.returns-then-is_hearing-clause-step
-returns-then-is_hearing-clause-step g c = λ told phase jobs reads.
+returns-then-is_hearing-clause-step g c = λ told phase reads.
     let s = (g.P.Port.state c.args.port.now).link c.args.self.now.number in
-    link_change phase c.args.self.now (record c.args.self.now { incoming = c.hear.new.self }) (after_read (took.Bytes c.in-Bytes.count) c.read.new.buf s) (g.P.Port.state c.args.port.now) (g.P.Port.state c.read.new.self) jobs refl refl (c.in-Bytes.ensures.change told)
-    (λ past replies h. stands_heard phase c.args.self.now c.hear.new.self s c.in-Bytes.count c.read.new.buf past replies c.hear.ensures.goes c.are_bytes.ensures c.hear.ensures.keeps h)
+    let hearing : hears c.args.self.now.incoming.stage ≡ true = sym c.is_hearing.ensures ∙ c.if-is_hearing.true in
+    let came : Incoming = with_piece c.args.self.now.incoming (take c.in-Bytes.count c.read.new.buf) 0 in
+    let mid : Link = record c.args.self.now { incoming = came } in
+    link_then phase c.args.self.now mid (record mid { incoming = c.hear.new.self }) (g.P.Port.state c.args.port.now) (g.P.Port.state c.read.new.self) (g.P.Port.state c.read.new.self) (g.I.Inbox.jobs c.args.inbox.now) (g.I.Inbox.jobs c.args.inbox.now) (g.I.Inbox.jobs c.hear.new.inbox)
+    (link_change phase c.args.self.now mid (after_read (took.Bytes c.in-Bytes.count) c.read.new.buf s) (g.P.Port.state c.args.port.now) (g.P.Port.state c.read.new.self) (g.I.Inbox.jobs c.args.inbox.now) refl refl refl (c.in-Bytes.ensures.change told)
+    (λ n past replies known h. stands_heard n phase c.args.self.now came s c.in-Bytes.count c.read.new.buf past replies (hears_piece c.args.self.now.incoming (take c.in-Bytes.count c.read.new.buf) hearing) c.are_bytes.ensures (keeps_stage c.args.self.now.incoming came refl (λ e. e)) h))
+    (link_puts phase mid c.hear.new.self (g.P.Port.state c.read.new.self) (g.I.Inbox.jobs c.args.inbox.now) (g.I.Inbox.jobs c.hear.new.inbox) c.hear.ensures.puts
+    (keeps_then came c.args.self.now.incoming c.hear.new.self (keeps_stage came c.args.self.now.incoming refl (λ e. e)) c.hear.ensures.keeps))
 
 pub returns-in-Bytes-clause-step : goal.returns-in-Bytes-clause-step
-returns-in-Bytes-clause-step g c = λ told phase jobs reads.
+returns-in-Bytes-clause-step g c = λ told phase reads.
     let s = (g.P.Port.state c.args.port.now).link c.args.self.now.number in
     let not : hears c.args.self.now.incoming.stage ≡ false = search rules in
-    link_change phase c.args.self.now c.args.self.now (after_read (took.Bytes c.in-Bytes.count) c.read.new.buf s) (g.P.Port.state c.args.port.now) (g.P.Port.state c.read.new.self) jobs refl refl (c.in-Bytes.ensures.change told)
-    (λ past replies h. absurd (deaf phase c.args.self.now s past replies reads c.requires.live c.requires.owed not (c.in-Bytes.ensures.not_after_end told) h))
+    link_change phase c.args.self.now c.args.self.now (after_read (took.Bytes c.in-Bytes.count) c.read.new.buf s) (g.P.Port.state c.args.port.now) (g.P.Port.state c.read.new.self) (g.I.Inbox.jobs c.args.inbox.now) refl refl refl (c.in-Bytes.ensures.change told)
+    (λ n past replies known h. absurd (deaf n phase c.args.self.now s past replies reads c.requires.live c.requires.owed not (c.in-Bytes.ensures.not_after_end told) h))
 
 pub returns-in-NotYet-clause-step : goal.returns-in-NotYet-clause-step
-returns-in-NotYet-clause-step g c = λ told phase jobs reads.
+returns-in-NotYet-clause-step g c = λ told phase reads.
     let s = (g.P.Port.state c.args.port.now).link c.args.self.now.number in
-    link_change phase c.args.self.now (record c.args.self.now { owed = false }) (after_read took.NotYet c.read.new.buf s) (g.P.Port.state c.args.port.now) (g.P.Port.state c.read.new.self) jobs refl refl (c.in-NotYet.ensures.change told)
-    (λ past replies h. stands_unowed phase c.args.self.now s c.read.new.buf past replies h)
+    link_change phase c.args.self.now (record c.args.self.now { owed = false }) (after_read took.NotYet c.read.new.buf s) (g.P.Port.state c.args.port.now) (g.P.Port.state c.read.new.self) (g.I.Inbox.jobs c.args.inbox.now) refl refl refl (c.in-NotYet.ensures.change told)
+    (λ n past replies known h. stands_unowed n phase c.args.self.now s c.read.new.buf past replies h)
 
 pub returns-in-End-clause-step : goal.returns-in-End-clause-step
-returns-in-End-clause-step g c = λ told phase jobs reads.
+returns-in-End-clause-step g c = λ told phase reads.
     let s = (g.P.Port.state c.args.port.now).link c.args.self.now.number in
-    link_change phase c.args.self.now (record c.args.self.now { owed = false; incoming = c.end.new.self }) (after_read took.End c.read.new.buf s) (g.P.Port.state c.args.port.now) (g.P.Port.state c.read.new.self) jobs refl refl (c.in-End.ensures.change told)
-    (λ past replies h. stands_ended phase c.args.self.now c.end.new.self s c.read.new.buf past replies c.end.ensures.goes c.end.ensures.keeps h)
+    link_change phase c.args.self.now (record c.args.self.now { owed = false; incoming = c.end.new.self }) (after_read took.End c.read.new.buf s) (g.P.Port.state c.args.port.now) (g.P.Port.state c.read.new.self) (g.I.Inbox.jobs c.args.inbox.now) refl refl refl (c.in-End.ensures.change told)
+    (λ n past replies known h. stands_ended n phase c.args.self.now c.end.new.self s c.read.new.buf past replies c.end.ensures.goes c.end.ensures.keeps h)
 
 pub returns-in-Failed-clause-step : goal.returns-in-Failed-clause-step
-returns-in-Failed-clause-step g c = λ told phase jobs reads.
-    link_read_failed phase c.args.self.now c.fail.new.self c.read.new.buf (g.P.Port.state c.args.port.now) (g.P.Port.state c.read.new.self) (g.P.Port.state c.fail.new.port) jobs (c.in-Failed.ensures.change told) (c.fail.ensures.change told) c.fail.ensures.is
+returns-in-Failed-clause-step g c = λ told phase reads.
+    link_read_failed phase c.args.self.now c.fail.new.self c.read.new.buf (g.P.Port.state c.args.port.now) (g.P.Port.state c.read.new.self) (g.P.Port.state c.fail.new.port) (g.I.Inbox.jobs c.args.inbox.now) (c.in-Failed.ensures.change told) (c.fail.ensures.change told) c.fail.ensures.is
 
 pub returns-then-is_hearing-clause-blame : goal.returns-then-is_hearing-clause-blame
 returns-then-is_hearing-clause-blame g c = λ told.
@@ -59,8 +67,8 @@ returns-in-Failed-clause-blame g c = λ told.
     let l = c.args.self.now.number in
     blame_failed l (g.P.Port.state c.args.port.now) (g.P.Port.state c.fail.new.port) (g.P.Port.ledger c.args.port.now) (g.P.Port.ledger c.read.new.self) (g.P.Port.ledger c.fail.new.port)
     (alone_then l (g.P.Port.state c.args.port.now) (g.P.Port.state c.read.new.self) (g.P.Port.state c.fail.new.port)
-    (alone_change l (after_read took.Failed c.read.new.buf ((g.P.Port.state c.args.port.now).link l)) (g.P.Port.state c.args.port.now) (g.P.Port.state c.read.new.self) (c.in-Failed.ensures.change told))
-    (alone_change l (closed ((g.P.Port.state c.read.new.self).link l)) (g.P.Port.state c.read.new.self) (g.P.Port.state c.fail.new.port) (c.fail.ensures.change told)))
+    (alone_change l (after_read took.Failed c.read.new.buf ((g.P.Port.state c.args.port.now).link l)) (g.P.Port.state c.args.port.now) (g.P.Port.state c.read.new.self) refl (c.in-Failed.ensures.change told))
+    (alone_change l (closed (is_over (g.P.Port.state c.read.new.self)) ((g.P.Port.state c.read.new.self).link l)) (g.P.Port.state c.read.new.self) (g.P.Port.state c.fail.new.port) refl (c.fail.ensures.change told)))
     (c.read.ensures.cause.risen c.in-Failed.is) c.fail.ensures.continues
 
 pub returns-in-Failed-clause-continues : goal.returns-in-Failed-clause-continues
@@ -112,3 +120,15 @@ returns-in-End-clause-sent g c = λ told was. sent_same c.args.self.now (record 
 
 pub returns-in-Failed-clause-sent : goal.returns-in-Failed-clause-sent
 returns-in-Failed-clause-sent g c = λ told was. sent_closed c.fail.new.self ((g.P.Port.state c.fail.new.port).link c.args.self.now.number) c.fail.ensures.is.live
+
+pub returns-in-Bytes-clause-same : goal.returns-in-Bytes-clause-same
+returns-in-Bytes-clause-same g c = g.met.I.Inbox.same_here c.args.inbox.now
+
+pub returns-in-NotYet-clause-same : goal.returns-in-NotYet-clause-same
+returns-in-NotYet-clause-same g c = g.met.I.Inbox.same_here c.args.inbox.now
+
+pub returns-in-End-clause-same : goal.returns-in-End-clause-same
+returns-in-End-clause-same g c = g.met.I.Inbox.same_here c.args.inbox.now
+
+pub returns-in-Failed-clause-same : goal.returns-in-Failed-clause-same
+returns-in-Failed-clause-same g c = g.met.I.Inbox.same_here c.args.inbox.now

@@ -1,4 +1,5 @@
-use Rattle.std.proofs.Common.{◌≡◌, true, false, refl, ◌∙◌, inl, inr}
+use Rattle.std.proofs.Common.{◌≡◌, true, false, refl, ◌∙◌, inl, inr, rules}
+use Rattle.lsv_worker.specs.Incoming.{has_left}
 use Rattle.lsv_worker.specs.declared.link.Link.{Link}
 use Rattle.lsv_worker.proofs.Linking.{takes_closes, takes_ignored, takes_shut}
 use Rattle.lsv_worker.proofs.Ruling.{remains_here, remains_so, remains_then}
@@ -10,16 +11,19 @@ returns-then-not-has_left-clause-takes g c = λ told reply conn body last. takes
 
 pub returns-then-last-clause-takes : goal.returns-then-last-clause-takes
 returns-then-last-clause-takes g c = λ told reply conn body last.
+    let left : has_left c.args.self.now.incoming.stage ≡ true = search rules in
     let mid : Link = record c.args.self.now { shut = true } in
     takes_closes c.args.self.now mid c.close_sent.new.self (g.P.Port.state c.args.port.now) (g.P.Port.state c.close_sent.new.port) reply refl
-    (takes_shut c.args.self.now c.args.self.now.incoming (λ m. m) (g.P.Port.state c.args.port.now) reply conn body refl (λ read put marks h. h) (λ m. refl) (λ m e. inl e) (keeps_here c.args.self.now.incoming)) (c.close_sent.ensures.closes told)
+    (takes_shut c.args.self.now c.args.self.now.incoming (λ m. m) (g.P.Port.state c.args.port.now) reply conn body refl (λ read put marks h. h)
+    (record { lanes = λ m. refl; home = λ m. refl; over = λ m. refl; shut = λ m e. inl e; keeps = λ m e. e; by = λ m. inr left }) (keeps_here c.args.self.now.incoming)) (c.close_sent.ensures.closes told)
 
 pub returns-clause-takes : goal.returns-clause-takes
 returns-clause-takes g c = λ told reply conn body last.
     let mid : Link = record c.args.self.now { shut = true; incoming = c.shut.new.self } in
     let early : reply.last ≡ false = last ∙ c.if-last.false in
     takes_closes c.args.self.now mid c.close_sent-2.new.self (g.P.Port.state c.args.port.now) (g.P.Port.state c.close_sent-2.new.port) reply refl
-    (takes_shut c.args.self.now c.shut.new.self (λ m. record m { shut = true }) (g.P.Port.state c.args.port.now) reply conn body c.shut.ensures.lanes c.shut.ensures.goes (λ m. refl) (λ m e. inr early) c.shut.ensures.keeps) (c.close_sent-2.ensures.closes told)
+    (takes_shut c.args.self.now c.shut.new.self (λ m. record m { shut = true }) (g.P.Port.state c.args.port.now) reply conn body c.shut.ensures.lanes c.shut.ensures.goes
+    (record { lanes = λ m. refl; home = λ m. refl; over = λ m. refl; shut = λ m e. inr early; keeps = λ m e. refl; by = λ m. inl refl }) c.shut.ensures.keeps) (c.close_sent-2.ensures.closes told)
 
 pub returns-then-not-has_left-clause-remains : goal.returns-then-not-has_left-clause-remains
 returns-then-not-has_left-clause-remains g c = remains_here c.args.self.now

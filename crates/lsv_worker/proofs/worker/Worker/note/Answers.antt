@@ -11,6 +11,8 @@ use Rattle.lsv_worker.proofs.worker.Worker.note.Goals as goal
 pub opened-requires : goal.opened-requires
 opened-requires g c = record {
   fit = c.requires.fit;
+  going = c.requires.going;
+  well = c.requires.well;
   is_open = λ told.
       let b = c.requires.told told in
       let opens : Opens c.in-Opened.number b.0 (g.P.Port.state c.args.port.now) = subst (λ (r : Ready). Told r b.0 (g.P.Port.state c.args.port.now)) c.in-Opened.is b.1 in

@@ -1,64 +1,66 @@
-use Rattle.std.proofs.Common.{sym, subst}
-use Rattle.lsv_worker.specs.Worker.{IsFresh, IsNoted, setting}
+use Rattle.std.proofs.Common.{◌≡◌, ◌≤◌, ℕ, false, inl, inr, sym, ap, subst, ◌∙◌, refl, arith}
+use Rattle.lsv_port.specs.Port.{Opens, PortState, is_over}
+use Rattle.lsv_session.specs.declared.job.Job.{Job}
+use Rattle.lsv_worker.specs.Links.{IsTold}
+use Rattle.lsv_worker.specs.declared.link.Phase.{Phase}
+use Rattle.lsv_worker.specs.declared.link.Phase.TheVariants.{Going}
+use Rattle.lsv_worker.specs.Worker.{IsNoted, Setting, setting}
+use Rattle.lsv_worker.proofs.Crowds.{crowds, uncrowded}
 use Rattle.lsv_worker.proofs.Reading.{unread_closed, unwritten_closed}
-use Rattle.lsv_worker.proofs.Notes.{admitted_stands, opens_closed, refused_stands}
+use Rattle.lsv_worker.proofs.Notes.{admitted_stands, refused_stands}
+use Rattle.lsv_worker.proofs.Ports.{not_over}
 use Rattle.lsv_worker.proofs.Passing.{noted_more, noted_same}
 use Rattle.lsv_worker.proofs.worker.Worker.opened.Goals as goal
 
+-- a link that is closed as soon as it was opened is closed before Stop and before a failure of the port
+early : (phase : Phase) (l : ℕ) (before now : PortState) → phase ≡ Going → IsTold phase before → Opens l before now → now.failed ≡ false → is_over now ≡ false
+early phase l before now going told opens well = not_over now (opens.stopped ∙ subst (λ (p : Phase). IsTold p before) going told) well
+
 pub returns-then-is_crowded-clause-opens : goal.returns-then-is_crowded-clause-opens
 returns-then-is_crowded-clause-opens g c = λ told before jobs replies opens h.
-    opens_closed (setting c.args.self.now) c.args.self.now.links.items c.args.number before (g.P.Port.state c.args.port.now) (g.P.Port.state c.close.new.self) jobs replies opens (c.close.ensures.change told) h
+    refused_stands (setting c.args.self.now) (setting c.args.self.now) c.args.self.now.links.items c.args.self.now.links.items c.args.number before (g.P.Port.state c.args.port.now) (g.P.Port.state c.close.new.self) jobs replies refl refl (omega arith)
+    (early (setting c.args.self.now).phase c.args.number before (g.P.Port.state c.args.port.now) c.requires.going h.told opens (c.requires.well told))
+    (inl (crowds (setting c.args.self.now) c.args.self.now.links.items c.args.number before (g.P.Port.state c.args.port.now) jobs replies (c.is_crowded.ensures.many c.if-is_crowded.true) opens h))
+    opens (c.close.ensures.change told) h
 
-pub returns-in_default-clause-opens : goal.returns-in_default-clause-opens
-returns-in_default-clause-opens g c = λ told before jobs replies opens h.
-    opens_closed (setting c.args.self.now) c.args.self.now.links.items c.args.number before (g.P.Port.state c.args.port.now) (g.P.Port.state c.close-in_default.new.self) jobs replies opens (c.close-in_default.ensures.change told) h
-
-pub returns-then-admit-clause-opens : goal.returns-then-admit-clause-opens
-returns-then-admit-clause-opens g c = λ told before jobs replies opens h.
-    let fresh : IsFresh (setting c.args.self.now) c.args.number c.in-Some.link = c.fresh.ensures c.in-Some.link c.in-Some.is in
-    let admits = c.admit.ensures.yes c.if-admit.true in
-    admitted_stands (setting c.args.self.now) (setting c.admit.new.self) c.args.self.now.links.items c.admit.new.self.links.items c.args.number c.in-Some.link before (g.P.Port.state c.args.port.now) jobs replies admits.set admits.links c.requires.fit.first fresh opens h
+pub returns-then-accept-clause-opens : goal.returns-then-accept-clause-opens
+returns-then-accept-clause-opens g c = λ told before jobs replies opens h.
+    let made = c.accept.ensures.yes c.if-accept.true in
+    admitted_stands (setting c.args.self.now) (setting c.accept.new.self) c.args.self.now.links.items c.accept.new.self.links.items c.args.number made.0 before (g.P.Port.state c.args.port.now) jobs replies made.2.set made.2.links c.requires.fit.first made.1
+    (uncrowded (setting c.args.self.now) c.args.self.now.links.items c.args.number before (g.P.Port.state c.args.port.now) jobs replies (c.is_crowded.ensures.few c.if-is_crowded.false) opens h) opens h
 
 pub returns-clause-opens : goal.returns-clause-opens
 returns-clause-opens g c = λ told before jobs replies opens h.
-    let same = c.admit.ensures.no c.if-admit.false in
-    refused_stands (setting c.args.self.now) (setting c.admit.new.self) c.args.self.now.links.items c.admit.new.self.links.items c.args.number before (g.P.Port.state c.args.port.now) (g.P.Port.state c.close-2.new.self) jobs replies same.0 same.1 opens (c.close-2.ensures.change told) h
-
-pub admit-requires-clause-lanes : goal.admit-requires-clause-lanes
-admit-requires-clause-lanes g c =
-    let fresh : IsFresh (setting c.args.self.now) c.args.number c.in-Some.link = c.fresh.ensures c.in-Some.link c.in-Some.is in
-    fresh.lanes
+    let same = c.accept.ensures.no c.if-accept.false in
+    let more = c.turn_away.ensures.more in
+    let counted : ℕ = (setting c.turn_away.new.self).wanting in
+    refused_stands (setting c.args.self.now) (setting c.turn_away.new.self) c.args.self.now.links.items c.turn_away.new.self.links.items c.args.number before (g.P.Port.state c.args.port.now) (g.P.Port.state c.turn_away.new.port) jobs replies
+    (c.turn_away.ensures.set ∙ ap (λ (s : Setting). record s { wanting = counted }) same.0) (c.turn_away.ensures.links ∙ same.1)
+    (subst (λ (s : Setting). s.wanting ≤ counted) same.0 more)
+    (early (setting c.args.self.now).phase c.args.number before (g.P.Port.state c.args.port.now) c.requires.going h.told opens (c.requires.well told))
+    (inr c.turn_away.ensures.counted) opens (c.turn_away.ensures.change told) h
 
 pub returns-then-is_crowded-clause-unread : goal.returns-then-is_crowded-clause-unread
 returns-then-is_crowded-clause-unread g c = λ told. unread_closed c.args.number (g.P.Port.state c.args.port.now) (g.P.Port.state c.close.new.self) (c.close.ensures.change told)
 
-pub returns-in_default-clause-unread : goal.returns-in_default-clause-unread
-returns-in_default-clause-unread g c = λ told. unread_closed c.args.number (g.P.Port.state c.args.port.now) (g.P.Port.state c.close-in_default.new.self) (c.close-in_default.ensures.change told)
-
 pub returns-clause-unread : goal.returns-clause-unread
-returns-clause-unread g c = λ told. unread_closed c.args.number (g.P.Port.state c.args.port.now) (g.P.Port.state c.close-2.new.self) (c.close-2.ensures.change told)
+returns-clause-unread g c = λ told. unread_closed c.args.number (g.P.Port.state c.args.port.now) (g.P.Port.state c.turn_away.new.port) (c.turn_away.ensures.change told)
 
 pub returns-then-is_crowded-clause-unwritten : goal.returns-then-is_crowded-clause-unwritten
 returns-then-is_crowded-clause-unwritten g c = λ told. unwritten_closed c.args.number (g.P.Port.state c.args.port.now) (g.P.Port.state c.close.new.self) (c.close.ensures.change told)
 
-pub returns-in_default-clause-unwritten : goal.returns-in_default-clause-unwritten
-returns-in_default-clause-unwritten g c = λ told. unwritten_closed c.args.number (g.P.Port.state c.args.port.now) (g.P.Port.state c.close-in_default.new.self) (c.close-in_default.ensures.change told)
-
 pub returns-clause-unwritten : goal.returns-clause-unwritten
-returns-clause-unwritten g c = λ told. unwritten_closed c.args.number (g.P.Port.state c.args.port.now) (g.P.Port.state c.close-2.new.self) (c.close-2.ensures.change told)
+returns-clause-unwritten g c = λ told. unwritten_closed c.args.number (g.P.Port.state c.args.port.now) (g.P.Port.state c.turn_away.new.port) (c.turn_away.ensures.change told)
 
 pub returns-then-is_crowded-clause-noted : goal.returns-then-is_crowded-clause-noted
 returns-then-is_crowded-clause-noted g c = λ link has. noted_same link c.args.self.now.links.items has
 
-pub returns-in_default-clause-noted : goal.returns-in_default-clause-noted
-returns-in_default-clause-noted g c = λ link has. noted_same link c.args.self.now.links.items has
-
-pub returns-then-admit-clause-noted : goal.returns-then-admit-clause-noted
-returns-then-admit-clause-noted g c = λ link has.
-    let admits = c.admit.ensures.yes c.if-admit.true in
-    subst (IsNoted link) (sym admits.links) (noted_more link c.in-Some.link c.args.self.now.links.items has)
+pub returns-then-accept-clause-noted : goal.returns-then-accept-clause-noted
+returns-then-accept-clause-noted g c = λ link has.
+    let made = c.accept.ensures.yes c.if-accept.true in
+    subst (IsNoted link) (sym made.2.links) (noted_more link made.0 c.args.self.now.links.items has)
 
 pub returns-clause-noted : goal.returns-clause-noted
 returns-clause-noted g c = λ link has.
-    let same = c.admit.ensures.no c.if-admit.false in
-    subst (IsNoted link) (sym same.1) (noted_same link c.args.self.now.links.items has)
+    let same = c.accept.ensures.no c.if-accept.false in
+    subst (IsNoted link) (sym (c.turn_away.ensures.links ∙ same.1)) (noted_same link c.args.self.now.links.items has)

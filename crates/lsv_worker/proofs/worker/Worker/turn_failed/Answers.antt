@@ -12,14 +12,14 @@ pass-requires g c =
     record {
       fit = record { first = c.requires.fit.first; some = c.requires.fit.some; few = c.requires.fit.few; room = c.requires.fit.room; lanes = c.requires.fit.lanes; open_few = c.requires.fit.open_few };
       lanes = c.requires.lanes;
-      at = λ told. at_after c.args.self.now mid (g.P.Port.state c.args.port.now) (g.P.Port.state c.args.port.now) (λ jobs replies h. failed_stands (setting c.args.self.now) c.args.self.now.links.items (g.P.Port.state c.args.port.now) jobs replies c.requires.going h) (c.requires.at told);
+      at = λ told. at_after c.args.self.now mid (g.P.Port.state c.args.port.now) (g.P.Port.state c.args.port.now) (λ jobs replies h. failed_stands (setting c.args.self.now) c.args.self.now.links.items (g.P.Port.state c.args.port.now) jobs replies c.requires.going (c.requires.failed told) h) (c.requires.at told);
     }
 
 pub returns-clause-goes : goal.returns-clause-goes
 returns-clause-goes g c = λ told.
     let mid : Worker = record c.args.self.now { phase = Failed } in
     goes_after c.args.self.now mid c.pass.new.self (g.P.Port.state c.args.port.now) (g.P.Port.state c.args.port.now) (g.P.Port.state c.pass.new.port) (g.I.Inbox.jobs c.args.inbox.now) (g.I.Inbox.jobs c.pass.new.inbox)
-    (λ jobs replies h. failed_stands (setting c.args.self.now) c.args.self.now.links.items (g.P.Port.state c.args.port.now) jobs replies c.requires.going h) (c.pass.ensures.goes told)
+    (λ jobs replies h. failed_stands (setting c.args.self.now) c.args.self.now.links.items (g.P.Port.state c.args.port.now) jobs replies c.requires.going (c.requires.failed told) h) (c.pass.ensures.goes told)
 
 pub returns-clause-worker : goal.returns-clause-worker
 returns-clause-worker g c =

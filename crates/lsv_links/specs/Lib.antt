@@ -1,0 +1,4 @@
+pub mod Lanes
+pub mod Views
+pub mod Turns
+pub mod Links

@@ -1,0 +1,42 @@
+-- What the calls of posts gave, each all at once, and whose it was.
+use Rattle.std.specs.Prelude.{◌<◌, ◌==◌, if◌then◌else◌, ℕ, Bool, false, List, [], ◌∷◌, flat_map, map}
+use Rattle.lsv_session.specs.declared.job.Job.{Job}
+use Rattle.lsv_session.specs.declared.reply.Reply.{Reply}
+use Rattle.lsv_links.specs.Lanes.{one_lane}
+use Rattle.lsv_links.specs.Links.{ServesPort}
+use Rattle.lsv_links.specs.Turns.{AreOf}
+use Rattle.lsv_links.specs.Views.{PortView}
+use Rattle.lsv_turns.specs.Turns.{AreAsked, LaneTurn}
+
+-- the call that gave these jobs, if it gave any
+abbrev pub call_of : List Job → List (List Job)
+call_of [] = []
+call_of (job ∷ jobs) = (job ∷ jobs) ∷ []
+
+-- all jobs that these calls gave, in order
+abbrev pub jobs_by : List (List Job) → List Job
+jobs_by calls = flat_map (λ jobs. jobs) calls
+
+-- the calls behind these turns, if each turn has all jobs that one call gave
+abbrev pub calls_in : List LaneTurn → List (List Job)
+calls_in turns = map (λ t. t.jobs) turns
+
+-- whether the first of these jobs is of this worker
+abbrev pub is_by : ℕ → List Job → Bool
+is_by worker [] = false
+is_by worker (job ∷ jobs) = job.conn.worker == worker
+
+-- those of these calls that gave jobs of this worker, by the first job of each
+abbrev pub calls_of : ℕ → List (List Job) → List (List Job)
+calls_of worker [] = []
+calls_of worker (jobs ∷ calls) = if is_by worker jobs then jobs ∷ calls_of worker calls else calls_of worker calls
+
+-- these jobs came of one call: they are all of one worker, whose number is below this
+pub record IsCall (places : ℕ) (jobs : List Job) : Type 0 where
+  pub worker : ℕ
+  pub place : worker < places
+  pub own : AreOf worker jobs
+
+-- a post with this number served its port, by what its calls gave and the replies that it took
+abbrev pub Serves : (number : ℕ) (gave : List (List Job)) (took : List Reply) → PortView → PortView → Type 0
+Serves number gave took old new = ServesPort (λ lane. AreAsked (jobs_by gave) took) 1 number (λ lane. one_lane lane (jobs_by gave)) (λ lane. one_lane lane took) old new
