@@ -4,6 +4,7 @@ mod Opened
 mod Summing
 mod Sending
 mod Running
+mod Seated
 mod Counting
 mod Generated
 mod Replying

@@ -16,20 +16,18 @@ use Rattle.lsv_port.specs.Memory.Value.{port_state}
 use Rattle.lsv_port.specs.Port.{PortState}
 use Rattle.lsv_record.specs.Points.{Stored}
 use Rattle.lsv_record.specs.Records.{elapsed}
-use Rattle.lsv_session.specs.Transcript.{AreJobs, AreJobs.Rest, said_to}
+use Rattle.lsv_session.specs.Transcript.{AreJobs, said_to}
 use Rattle.lsv_session.specs.declared.connection.ConnId.{ConnId}
 use Rattle.lsv_session.specs.declared.connection.ConnState.TheVariants.{Fresh}
-use Rattle.lsv_session.specs.declared.job.Body.{Body}
 use Rattle.lsv_session.specs.declared.job.Job.{Job}
 use Rattle.lsv_session.specs.declared.reply.Reply.{Reply}
-use Rattle.lsv_session.proofs.Jobs.{one_list}
 use Rattle.lsv_machine.specs.Legal.{IsLegal, whole_log}
 use Rattle.lsv_machine.specs.Machine.{Settings}
 use Rattle.lsv_machine.proofs.Choices.{same_true}
 use Rattle.lsv_turns.specs.Turns.{LaneTurn, jobs_in, replies_in}
 use Rattle.lsv_lane.specs.Store.{KeepsStore}
-use Rattle.lsv_reactor.specs.Links as links
-use Rattle.lsv_reactor.specs.Links.{LinkFailed, Seats, conn_of}
+use Rattle.lsv_links.specs.Links.{Seats, conn_of}
+use Rattle.lsv_links.specs.Views.{LinkFailed}
 use Rattle.lsv_server.specs.Complete.{Completes, IsServedBy, came_by}
 use Rattle.lsv_load.specs.Load.{load_script, whole_sent}
 use Rattle.lsv_load.specs.Logs.{bodies_of, log_at, logs_of}
@@ -113,7 +111,7 @@ module _ (disk_tells : Type 0) (set : Settings) (texts : List (List ℕ)) (count
     (load : ServesLoad disk_tells count turns) (completes : Completes set texts found served turns keeps 0 (view_of load.old) (view_of load.new) load.served.served)
     (jobs : (i : ℕ) → i ≤ 10000 → AreJobs (conversation i) (bodies_of i)) (legal : (i n : ℕ) → i ≤ 10000 → IsLegal n Fresh (bodies_of i)) (log_is : (i : ℕ) → i ≤ 10000 → whole_log texts (bodies_of i) ≡ log_at i)
     (sends : (l : ℕ) → 1 ≤ l → l ≤ count → sent_by l (load_script count) ≡ whole_sent l) (others : (l : ℕ) → (l ≡ 0) ⊎ (count < l) → sent_by l (load_script count) ≡ unsent)
-    (free : IsUnhindered set count found served turns (port_state load.new) load.served.served.seats.seat (keeps.conforms tt).ran.start keeps.story) where
+    (free : IsUnhindered set count found served turns load.served.served.seats.seat (keeps.conforms tt).ran.start keeps.story) where
   abbrev port : PortState
   port = port_state load.new
 
@@ -140,24 +138,13 @@ module _ (disk_tells : Type 0) (set : Settings) (texts : List (List ℕ)) (count
       go (suc l) (inl last) is = (omega arith, last)
       go (suc l) (inr above) is = absurd (unopened (suc l) is (inr above))
 
-  no_head : (b : Body) (bodies : List Body) → b ∷ bodies ≡ [] → ⊥
-  no_head b bodies e = cc
-
-  -- no conversation is nothing
-  some_sent : (l : ℕ) → l ≤ 10000 → conversation l ≡ [] → ⊥
-  some_sent l few none =
-      let nothing : bodies_of l ≡ [] = one_list (jobs l few) (subst (λ (bytes : List ℕ). AreJobs bytes []) (sym none) (Rest [] (inl (omega arith)))) in
-      no_head _ _ nothing
-
   -- each is that of a connection
   seat_of : (l : ℕ) → 1 ≤ l → l ≤ count → (seq : ℕ) × (seats.seat l ≡ Some seq)
   seat_of l first last = go (seats.seat l) refl
     where
       go : (o : Option ℕ) → seats.seat l ≡ o → (seq : ℕ) × (seats.seat l ≡ Some seq)
       go (Some seq) e = (seq, e)
-      go None e =
-          let away : links.IsTurnedAway (port.link l) = subst (λ (o : Option ℕ). links.IsServed disk_tells 0 l o (jobs_in turns) (replies_in turns) (view_of load.old) (view_of load.new)) e (load.served.served.served l (is_opened l first last)) in
-          absurd (some_sent l (omega (arith, small, last)) (sym (free.read l first last) ∙ away.unread))
+      go None e = absurd (load.seated l first last e)
 
   abbrev conn_at : ℕ → ConnId
   conn_at l = conn_of 0 (unwrap_or (seats.seat l) 0)
@@ -168,7 +155,7 @@ module _ (disk_tells : Type 0) (set : Settings) (texts : List (List ℕ)) (count
   known : (job : Job) → Contains (jobs_in turns) job → (l : ℕ) × (1 ≤ l) × (l ≤ count) × (job.conn ≡ conn_at l)
   known job here =
       let of_zero = load.served.only job here in
-      let (l, opened, seat) = load.served.served.known job here of_zero in
+      let (l, opened, seat) = load.served.served.known 0 job here of_zero in
       let (first, last) = is_theirs l opened in
       (l, first, last, ap (λ (w : ℕ). conn_of w job.conn.seq) of_zero ∙ sym (conn_is l job.conn.seq seat))
 
@@ -176,7 +163,7 @@ module _ (disk_tells : Type 0) (set : Settings) (texts : List (List ℕ)) (count
   link_served : (l : ℕ) → 1 ≤ l → l ≤ count → (seq : ℕ) → seats.seat l ≡ Some seq
       → (n : ℕ) × IsServedBy set texts found served (conn_of 0 seq) (port.link l) (LinkFailed l (view_of load.old) (view_of load.new)) turns (bodies_of l) n
   link_served l first last seq seat = completes l seq (bodies_of l) (is_opened l first last) seat (record {
-    sent = subst (λ (bytes : List ℕ). AreJobs bytes (bodies_of l)) (sym (free.read l first last)) (jobs l (omega (arith, small, last)));
+    sent = subst (λ (bytes : List ℕ). AreJobs bytes (bodies_of l)) (sym (load.read l first last)) (jobs l (omega (arith, small, last)));
     number = 1;
     legal = legal l 1 (omega (arith, small, last));
     fits = free.fits l seq first last seat;

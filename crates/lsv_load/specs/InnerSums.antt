@@ -11,7 +11,7 @@ use Rattle.lsv_gen.specs.declared.totals.Totals.{Totals}
 use Rattle.lsv_iolog.specs.Reading.{IsBehind, ViewState}
 use Rattle.lsv_iolog.specs.declared.fault.LogFault.{LogFault}
 use Rattle.lsv_iolog.specs.declared.fault.LogFault.TheVariants as logs
-use Rattle.lsv_playback.specs.Playing.{AreAll, laid_at}
+use Rattle.lsv_playback.specs.Playing.{AreAll, IsSoundSoFar, laid_at}
 use Rattle.lsv_record.specs.Points.{Stored}
 use Rattle.lsv_record.specs.declared.records.Record.{Record}
 use Rattle.lsv_load.specs.Replayed.{AreReplayed, HasNoLog}
@@ -58,7 +58,7 @@ pub record IsAdding (tells : Type 0) (start log : ViewState) (old now : DiskView
   pub body : log.body ≡ start.body
   pub disk : (f : FileId) → old.faults f ≤ now.faults f
   pub reads : tells → OnlyReads old now
-  pub behind : tells → IsBehind start [] old → (records : List Record) × IsBehind log records now × ((logs : List Stored) → before ≡ totals_of logs → sums ≡ totals_with logs records)
+  pub behind : tells → IsBehind start [] old → (records : List Record) × IsBehind log records now × ((logs : List Stored) → before ≡ totals_of logs → sums ≡ totals_with logs records) × IsSoundSoFar (laid_at start.number start.body old.reads) start.body records
 
 -- logs are summed up one by one: of the disk was only read
 pub record IsSumming (tells : Type 0) (numbers : List ℕ) (old now : DiskView) (sums : Totals) : Type 0 where

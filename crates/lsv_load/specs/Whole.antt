@@ -3,10 +3,7 @@ use Rattle.std.specs.Prelude.{◌≡◌, ◌≤◌, ℕ, List, Option, Some, Con
 use Rattle.lsv_words.specs.Causes.{HasRisen}
 use Rattle.lsv_disk.specs.View.{DiskView}
 use Rattle.lsv_disk.specs.declared.file.FileId.{FileId}
-use Rattle.lsv_gen.specs.Load.{conversation}
 use Rattle.lsv_gen.specs.Summary.{summary}
-use Rattle.lsv_port.specs.Memory.Value.{port_state}
-use Rattle.lsv_port.specs.Port.{PortState}
 use Rattle.lsv_session.specs.Transcript as transcript
 use Rattle.lsv_session.specs.declared.connection.ConnId.{ConnId}
 use Rattle.lsv_session.specs.declared.job.Body.TheVariants.{Bad}
@@ -15,7 +12,7 @@ use Rattle.lsv_machine.specs.Machine.{Machine, Settings}
 use Rattle.lsv_machine.specs.Recovery.{Story}
 use Rattle.lsv_complete.specs.Among.{FitsAmong}
 use Rattle.lsv_turns.specs.Turns.{LaneTurn, TapeTurn, jobs_in}
-use Rattle.lsv_reactor.specs.Links.{conn_of}
+use Rattle.lsv_links.specs.Links.{conn_of}
 use Rattle.lsv_server.specs.Complete.{AllAmple}
 use Rattle.lsv_server.specs.Runs.{IsUp}
 use Rattle.lsv_load.specs.Logs.{bodies_of, logs_of}
@@ -26,10 +23,8 @@ use Rattle.lsv_load.specs.declared.run.LoadEnd.TheVariants.{Served}
 abbrev pub OfEach : (count : ℕ) (seat : ℕ → Option ℕ) → (ℕ → ConnId → Type 0) → Type 0
 OfEach count seat holds = (i seq : ℕ) → 1 ≤ i → i ≤ count → seat i ≡ Some seq → holds i (conn_of 0 seq)
 
--- nothing was in the way of the conversations of a load. port: what its port told at the end. seat: the number of each link's connection. start: the machine at the start of the run. story: the turns as the machine did them
-pub record IsUnhindered (set : Settings) (count : ℕ) (found served : DiskView) (turns : List LaneTurn) (port : PortState) (seat : ℕ → Option ℕ) (start : Machine) (story : Story) : Type 0 where
-  -- all bytes that were read of each link are its conversation
-  pub read : (i : ℕ) → 1 ≤ i → i ≤ count → (port.link i).input ≡ conversation i
+-- nothing was in the way of the conversations of a load. seat: the number of each link's connection. start: the machine at the start of the run. story: the turns as the machine did them
+pub record IsUnhindered (set : Settings) (count : ℕ) (found served : DiskView) (turns : List LaneTurn) (seat : ℕ → Option ℕ) (start : Machine) (story : Story) : Type 0 where
   -- whichever number its log gets, no file, elapsed time or log number passes its limit
   pub fits : OfEach count seat (λ i k. FitsAmong set k start story.turns (bodies_of i))
   -- no call of the disk failed
@@ -42,5 +37,5 @@ pub record IsUnhindered (set : Settings) (count : ℕ) (found served : DiskView)
 abbrev pub SumsUpAll : {D : Type 0} (disk_tells tape_tells : Type 0) (view : D → DiskView) → Settings → List (List ℕ) → (count : ℕ) (found left : D) (tape new_tape : List TapeTurn) → Type 0
 SumsUpAll {D} disk_tells tape_tells view set texts count found left tape new_tape =
     (text : List ℕ) (run : RunsLoad disk_tells tape_tells view set texts count found left tape new_tape (Served text)) (told : disk_tells) (up : IsUp run.up run.turns)
-    → IsUnhindered set count (view found) (view run.served) run.turns (port_state run.ends.load.new) run.ends.load.served.served.seats.seat ((run.store.keeps told).conforms up).ran.start (run.store.keeps told).story
+    → IsUnhindered set count (view found) (view run.served) run.turns run.ends.load.served.served.seats.seat ((run.store.keeps told).conforms up).ran.start (run.store.keeps told).story
     → text ≡ summary (logs_of count)

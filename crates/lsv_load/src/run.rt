@@ -1,23 +1,25 @@
 //! A load: its conversations are served over a store, and then the logs that they left are summed up.
 
-ghost use Rattle.std.specs.Prelude.{◌≡◌, ◌≤◌, [], List, IfOk, OnOk, OnErr};
+ghost use Rattle.std.specs.Prelude.{◌≡◌, ◌≢◌, ◌≤◌, ℕ, true, [], List, IfOk, OnOk, OnErr};
 ghost use Rattle.std.specs.Mem.{FitsInMemory};
 ghost use Rattle.lsv_disk.specs.Throughout.{OnlyReads};
 ghost use Rattle.lsv_lane.specs.InnerLane.{Begun};
 ghost use Rattle.lsv_lane.specs.Store.{IsFresh, lane_settings};
-ghost use Rattle.lsv_reactor.specs.Turns.{AreSized};
+ghost use Rattle.lsv_links.specs.Turns.{AreSized};
+ghost use Rattle.lsv_port.specs.Memory.Value.{port_state};
 ghost use Rattle.lsv_server.specs.Runs.{RunsStore};
 ghost use Rattle.lsv_server.specs.declared.run.End.TheVariants as ends;
 ghost use Rattle.lsv_turns.specs.Turns.{LaneTurn, replies_in};
 ghost use Rattle.lsv_load.specs.Numbers.{numbers_told};
-ghost use Rattle.lsv_load.specs.Runs.{IsSumOf, RunsLoad, ServesLoad, ServesOne, ended_by};
+ghost use Rattle.lsv_gen.specs.Load.{conversation};
+ghost use Rattle.lsv_load.specs.Runs.{IsSumOf, LeavesLoad, PutsOne, RunsLoad, ServesLoad, ServesOne, ended_by};
 
 use crate::numbering::Numbering;
 use crate::replay::sum_up;
 use crate::script::load_script;
 use lsv_base::{Bytes, Clock, LogNo, NoMem};
 use lsv_disk::Disk;
-use lsv_gen::summary;
+use lsv_gen::{conversation, summary};
 use lsv_hook::LineWriter;
 use lsv_keeper::StoreFault;
 use lsv_lane::{Bay, StoreLane};
@@ -33,7 +35,8 @@ use std::slice;
 /// How a load ended.
 #[derive(Debug, Drop)]
 pub enum LoadEnd {
-    /// All was served. This is the text of the summary.
+    /// All was served, each conversation over a connection of its own, of which it was read whole. This is the text of the
+    /// summary.
     Served(Bytes),
     /// The store couldn't be opened, or a log of the load not be replayed.
     Store(StoreFault),
@@ -51,6 +54,39 @@ fn ended_by(fault: StoreFault) -> LoadEnd
     }
 }
 
+/// Whether something was put on each of the links from 1 to `count`: then each got a connection, which was greeted.
+fn are_greeted(port: &MemPort, count: u32) -> bool
+    ensures { result ≡ true → (i : ℕ) → 1 ≤ i → i ≤ count → ((port_state port.now).link i).output ≢ [] }
+{
+    for before in 0..count {
+        if port.output(before + 1).is_empty() {
+            return false;
+        }
+    }
+    true
+}
+
+/// Whether a text has the bytes of another.
+fn are_same(one: &[u8], other: &[u8]) -> bool
+    ensures { result ≡ true → one.now ≡ other.now }
+{
+    one == other
+}
+
+/// Whether all of its conversation was read of each of the links from 1 to `count`.
+fn are_read(alloc: Global, port: &MemPort, count: u32) -> Result<bool, NoMem>
+    requires { count ≤ 10000 }
+    ensures { IfOk result (λ all. all ≡ true → (i : ℕ) → 1 ≤ i → i ≤ count → ((port_state port.now).link i).input ≡ conversation i) }
+{
+    for before in 0..count {
+        let sent = conversation(alloc, before + 1)?;
+        if !are_same(port.input(before + 1), sent.as_slice()) {
+            return Ok(false);
+        }
+    }
+    Ok(true)
+}
+
 /// Serves what comes at a post, whose port fails for want of memory alone, by turns of a lane that has made none.
 fn serve_one<T: Post, L: Lane>(alloc: Global, post: &mut T, lane: &mut L) -> Result<(), NoMem>
     requires fits { FitsInMemory T.row }
@@ -59,7 +95,9 @@ fn serve_one<T: Post, L: Lane>(alloc: Global, post: &mut T, lane: &mut L) -> Res
     requires lane { (start : L.Start) × L.made_by start lane.old [] }
     ensures ok { OnOk result ((begun : T.Start) (start : L.Start) → T.made_by begun post.old [] [] → L.made_by start lane.old [] →
         (turns : List LaneTurn) × L.made_by start lane.new turns × AreSized turns × (T.tells → ServesOne L.tells turns (T.begun begun) (T.view post.new))) }
-    ensures err { OnErr result ((start : L.Start) → L.made_by start lane.old [] → (turns : List LaneTurn) × L.made_by start lane.new turns × AreSized turns) }
+    ensures err { OnErr result ((begun : T.Start) (start : L.Start) → T.made_by begun post.old [] [] → L.made_by start lane.old [] →
+        (turns : List LaneTurn) × L.made_by start lane.new turns × AreSized turns × (T.tells → PutsOne turns (T.begun begun) (T.view post.new))) }
+    ensures script { (T.view post.new).ledger.script ≡ (T.view post.old).ledger.script }
 {
     match serve(alloc, slice::from_mut(post), lane) {
         Ok(PortsEnd::Stopped) => Ok(()),
@@ -68,23 +106,33 @@ fn serve_one<T: Post, L: Lane>(alloc: Global, post: &mut T, lane: &mut L) -> Res
     }
 }
 
-/// Serves the conversations of a load by turns of a lane that has made none.
+/// Serves the conversations of a load by turns of a lane that has made none. Out of memory is also the answer where the link
+/// of one got no connection, or wasn't read whole.
 fn serve_conversations<L: Lane>(alloc: Global, count: u32, lane: &mut L) -> Result<(), NoMem>
     requires last { count ≤ 10000 }
     requires lane { (start : L.Start) × L.made_by start lane.old [] }
     ensures ok { OnOk result ((start : L.Start) → L.made_by start lane.old [] → (turns : List LaneTurn) × L.made_by start lane.new turns × AreSized turns × ServesLoad L.tells count turns) }
-    ensures err { OnErr result ((start : L.Start) → L.made_by start lane.old [] → (turns : List LaneTurn) × L.made_by start lane.new turns × AreSized turns) }
+    ensures err { OnErr result ((start : L.Start) → L.made_by start lane.old [] → (turns : List LaneTurn) × L.made_by start lane.new turns × AreSized turns × LeavesLoad count turns) }
 {
     let port = MemPort::new(alloc, load_script(alloc, count)?);
-    let mut post = WorkerPost::new(alloc, 0, port)?;
-    let Ok(()) = serve_one(alloc, &mut post, lane) else {
+    let Ok(mut post) = WorkerPost::new(alloc, 0, port) else {
         return Err(NoMem);
     };
+    let served = serve_one(alloc, &mut post, lane);
     let port = post.into_port();
+    port.tells_its_script();
+    let Ok(()) = served else {
+        return Err(NoMem);
+    };
     if port.refused() > 0 {
         return Err(NoMem);
     }
-    port.tells_its_script();
+    if !are_greeted(&port, count) {
+        return Err(NoMem);
+    }
+    if !are_read(alloc, &port, count)? {
+        return Err(NoMem);
+    }
     Ok(())
 }
 
@@ -101,8 +149,9 @@ fn serve_lane<D: Disk, C: Clock, G: Tape, F: LineWriter + Drop, H: Search + Drop
         (turns : List LaneTurn) × RunsStore D.tells G.tells start.set start.texts (D.view start.disk) (D.view result.0.disk) (G.turns start.tape) (G.turns result.0.tape) (ends.Over PortsEnd.Stopped) turns
         × ServesLoad D.tells count turns × (numbers.items ≡ numbers_told (replies_in turns))) }
     ensures err { OnErr result.1 ((start : Begun D G) → ⟦<StoreLane<D, C, G, F, H> as Lane>⟧.made_by start lane [] →
-        (turns : List LaneTurn) × RunsStore D.tells G.tells start.set start.texts (D.view start.disk) (D.view result.0.disk) (G.turns start.tape) (G.turns result.0.tape) ends.NoMem turns) }
+        (turns : List LaneTurn) × RunsStore D.tells G.tells start.set start.texts (D.view start.disk) (D.view result.0.disk) (G.turns start.tape) (G.turns result.0.tape) ends.NoMem turns × LeavesLoad count turns) }
     ensures places { D.tells → (start : Begun D G) → ⟦<StoreLane<D, C, G, F, H> as Lane>⟧.made_by start lane [] → (D.view result.0.disk).places ≡ (D.view start.disk).places }
+    ensures fresh { D.tells → (start : Begun D G) → ⟦<StoreLane<D, C, G, F, H> as Lane>⟧.made_by start lane [] → IsFresh start.set.lane start.set.lanes (D.view result.0.disk) }
 {
     let mut lane = Numbering::new(alloc, lane);
     let served = serve_conversations(alloc, count, &mut lane);
@@ -142,6 +191,7 @@ fn load_lane<D: Disk, C: Clock, G: Tape, F: LineWriter + Drop, H: Search + Drop>
     ensures runs { (start : Begun D G) → ⟦<StoreLane<D, C, G, F, H> as Lane>⟧.made_by start lane [] →
         RunsLoad D.tells G.tells D.view start.set start.texts count start.disk result.0.disk (G.turns start.tape) (G.turns result.0.tape) result.1 }
     ensures places { D.tells → (start : Begun D G) → ⟦<StoreLane<D, C, G, F, H> as Lane>⟧.made_by start lane [] → (D.view result.0.disk).places ≡ (D.view start.disk).places }
+    ensures fresh { D.tells → (start : Begun D G) → ⟦<StoreLane<D, C, G, F, H> as Lane>⟧.made_by start lane [] → IsFresh start.set.lane start.set.lanes (D.view result.0.disk) }
 {
     let (bay, numbers) = serve_lane(alloc, count, lane);
     let mut bay = bay;
@@ -156,7 +206,7 @@ fn load_lane<D: Disk, C: Clock, G: Tape, F: LineWriter + Drop, H: Search + Drop>
 
 /// Serves the generated conversations from 1 to `count` over the store of one lane, and sums up the logs that it told them
 /// of, as they are replayed then. Nothing else changes the store meanwhile. What the lane worked with is given back, with how
-/// the load ended.
+/// the load ended; the next run may begin with its disk.
 pub fn run_load<D: Disk, C: Clock, G: Tape, F: LineWriter + Drop, H: Search + Drop>(
     alloc: Global,
     count: u32,
@@ -168,6 +218,7 @@ pub fn run_load<D: Disk, C: Clock, G: Tape, F: LineWriter + Drop, H: Search + Dr
     requires fresh { D.tells → IsFresh 0 1 (D.view bay.disk) }
     ensures runs { RunsLoad D.tells G.tells D.view (lane_settings 0 1 plan.formatter.kind plan.log_exit) plan.texts count bay.disk result.0.disk (G.turns bay.tape) (G.turns result.0.tape) result.1 }
     ensures places { D.tells → (D.view result.0.disk).places ≡ (D.view bay.disk).places }
+    ensures fresh_again { D.tells → IsFresh 0 1 (D.view result.0.disk) }
 {
     let Plan {
         formatter,

@@ -5,12 +5,12 @@ use Rattle.lsv_port.specs.Port.{LinkState, PortState}
 
 -- a link of which nothing is known
 abbrev pub untold_link : LinkState
-untold_link = record { is_open = false; input = []; output = []; ended = false; owed = false; full = false; failed = false; reads = []; beside = λ l. false }
+untold_link = record { is_open = false; input = []; output = []; ended = false; owed = false; full = false; failed = false; reads = []; beside = λ l. false; dialled = false; late = false }
 
 -- a port of which no link is known
 abbrev pub untold_port : PortState
-untold_port = record { opened = []; link = λ l. untold_link; stopped = false }
+untold_port = record { opened = []; link = λ l. untold_link; stopped = false; failed = false }
 
 -- so often a turn, and so often a link, failed
 abbrev pub ledger_of : ℕ → ℕ → PortLedger
-ledger_of turns links = record { script = []; turns = turns; links = λ l. links }
+ledger_of turns links = record { script = []; listens = []; turns = turns; links = λ l. links }

@@ -44,10 +44,10 @@ use Rattle.lsv_keeper.specs.declared.fault.StoreFault.TheVariants as faults
 use Rattle.lsv_serve.specs.Causes.{HasConfCause, HasProgramCause, HasStatusCause}
 use Rattle.lsv_serve.specs.Complete.{AllAmple, AreAmple, Completes, IsServedBy, IsUnhindered, answers_of, came_in, messages_of}
 use Rattle.lsv_lane.specs.Store.{AreTurns, Conforms}
-use Rattle.lsv_serve.specs.Once.{RunsOnce, outside_of, once_settings}
+use Rattle.lsv_serve.specs.Once.{RunsOnce, once_settings}
 use Rattle.lsv_turns.specs.Turns as tape
 use Rattle.lsv_serve.specs.Tape.{Leaves, TapeTurn, TurnsOf, bodies_in, once_conn, replies_in, shuts, turn_of, was_shut}
-use Rattle.lsv_serve.specs.World.{World}
+use Rattle.lsv_serve.specs.World.{World, placed}
 use Rattle.lsv_serve.specs.declared.status.Status.{Status}
 use Rattle.lsv_serve.specs.declared.status.Status.TheVariants.{NoUpstream, Pending, Served, Usage, Conf, Store, ReadFault, WriteFault, PortFault, NoMem}
 
@@ -256,7 +256,7 @@ module _ (kind : Kind) (log_exit : Bool) (texts : List (List ℕ)) (old new : Wo
       go true t = let z : m.last ≡ 0 = grind (arith, nat_tests) in rw t (omega arith)
       go false t = rw t (omega arith)
 
-  module _ (from_source : old.source_tells) (to_sink : old.sink_tells) (told : old.disk_tells) (runs : RunsOnce set texts old new Served) (last : ℕ) (lines : List ℕ) (bodies : List Body)
+  module _ (from_source : old.wires.source_tells) (to_sink : old.wires.sink_tells) (told : old.disk_tells) (runs : RunsOnce set texts old new Served) (last : ℕ) (lines : List ℕ) (bodies : List Body)
       (u : IsUnhindered set old new Served runs.tape (runs.keeps told).store.story last lines bodies) where
     abbrev reads : List TapeTurn
     reads = runs.tape.reads
@@ -264,7 +264,7 @@ module _ (kind : Kind) (log_exit : Bool) (texts : List (List ℕ)) (old new : Wo
     abbrev story : Story
     story = (runs.keeps told).store.story
 
-    conforms : Conforms set texts (outside_of old new) story
+    conforms : Conforms set texts (record { found = placed old.disk new.disk; left = new.disk }) story
     conforms = (runs.keeps told).store.conforms tt
 
     abbrev start : Machine
@@ -280,7 +280,7 @@ module _ (kind : Kind) (log_exit : Bool) (texts : List (List ℕ)) (old new : Wo
     first_run = run_first set (all_turns parts.first) (all_turns parts.second) start conforms.end (subst (λ (h : List Happened). Run set start h conforms.end) apart conforms.ran.run)
 
     sound : AllSound (all_turns parts.first)
-    sound = sound_first (all_turns parts.first) (all_turns parts.second) (subst AllSound apart (nothing_failed old.disk new.disk (all_turns story.turns) conforms.ran.counts u.no_call_failed))
+    sound = sound_first (all_turns parts.first) (all_turns parts.second) (subst AllSound apart (nothing_failed (placed old.disk new.disk) new.disk (all_turns story.turns) conforms.ran.counts u.no_call_failed))
 
     moments : AtTheirMoments parts.first
     moments = moments_first parts.first parts.second (subst AtTheirMoments parts.are conforms.ran.moments)
@@ -299,14 +299,14 @@ module _ (kind : Kind) (log_exit : Bool) (texts : List (List ℕ)) (old new : Wo
     none_lost : runs.reads.lost ≡ []
     none_lost = elim runs.reads.few_lost [ inl e ↦ e | inr (no_memory, more, it) ↦ absurd (cc) ]
 
-    rest_is : old.rest ≡ concat runs.reads.pieces ++ new.rest
-    rest_is = runs.reads.read from_source ∙ ap (λ (l : List (List ℕ)). concat l ++ new.rest) (ap (λ (l : List (List ℕ)). runs.reads.pieces ++ l) none_lost ∙ append-nil runs.reads.pieces)
+    rest_is : old.wires.rest ≡ concat runs.reads.pieces ++ new.wires.rest
+    rest_is = runs.reads.read from_source ∙ ap (λ (l : List (List ℕ)). concat l ++ new.wires.rest) (ap (λ (l : List (List ℕ)). runs.reads.pieces ++ l) none_lost ∙ append-nil runs.reads.pieces)
 
     got : AreJobs (concat runs.reads.pieces) (bodies_in reads)
     got = turns_jobs [] [] runs.reads.pieces reads (Rest [] (inl (omega arith))) runs.reads.turns
 
     first_of : AreFirst (bodies_in reads) bodies
-    first_of = longer new.rest got (subst (λ (bytes : List ℕ). AreJobs bytes bodies) rest_is u.sent)
+    first_of = longer new.wires.rest got (subst (λ (bytes : List ℕ). AreJobs bytes bodies) rest_is u.sent)
 
     module _ (later : List Body) (is : bodies ≡ bodies_in reads ++ later) where
       sent_is : bodies ≡ flat_map (λ (c : Came). c.bodies) (came_in reads) ++ later
@@ -372,11 +372,11 @@ module _ (kind : Kind) (log_exit : Bool) (texts : List (List ℕ)) (old new : Wo
           subst (λ (n : ℕ). Replays new.disk.reads n (Some (whole_log texts bodies))) next
           (subst (λ (bs : List Body). Replays new.disk.reads (next_number set start) (Some (whole_log texts bs))) same_bodies there)
 
-      put_now : new.put ≡ old.put ++ answers_of sayings
+      put_now : new.wires.put ≡ old.wires.put ++ answers_of sayings
       put_now =
           let (bytes, is_put, all) = runs.puts to_sink in
           let said : said_to once_conn (replies_in reads) ≡ messages_of sayings = ap (said_to once_conn) replies_told ∙ said_is sayings in
-          is_put ∙ ap (λ (x : List ℕ). old.put ++ x) (all ∙ (answers-append once_conn [] (replies_in reads) ∙ ap (λ (ms : List ServerMessage). answers once_conn [] ++ frames_of ms) said))
+          is_put ∙ ap (λ (x : List ℕ). old.wires.put ++ x) (all ∙ (answers-append once_conn [] (replies_in reads) ∙ ap (λ (ms : List ServerMessage). answers once_conn [] ++ frames_of ms) said))
 
       serves : IsServedBy texts old new Served runs.tape last bodies
       serves = record { served = refl; put = put_now; log = log_now }
@@ -386,8 +386,8 @@ module _ (kind : Kind) (log_exit : Bool) (texts : List (List ℕ)) (old new : Wo
       where
         go : (b : Bool) → was_shut reads ≡ b → AreFirst (bodies_in reads) bodies → bodies ≡ bodies_in reads
         go false e first =
-            let none : new.rest ≡ [] = runs.reads.ended refl e from_source u.few_bytes in
-            let whole : old.rest ≡ concat runs.reads.pieces = rest_is ∙ (ap (λ (bytes : List ℕ). concat runs.reads.pieces ++ bytes) none ∙ append-nil (concat runs.reads.pieces)) in
+            let none : new.wires.rest ≡ [] = runs.reads.ended refl e from_source u.few_bytes in
+            let whole : old.wires.rest ≡ concat runs.reads.pieces = rest_is ∙ (ap (λ (bytes : List ℕ). concat runs.reads.pieces ++ bytes) none ∙ append-nil (concat runs.reads.pieces)) in
             one_list (subst (λ (bytes : List ℕ). AreJobs bytes bodies) whole u.sent) got
         go true e ([], is) = is ∙ append-nil (bodies_in reads)
         go true e (x ∷ later, is) = absurd (let h = part_unshut (x ∷ later) is (λ none. cc) in cc)

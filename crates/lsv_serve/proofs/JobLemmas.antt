@@ -1,7 +1,6 @@
 -- How jobs are cut from what was read.
-use Rattle.std.proofs.Common.{◌≡◌, ◌++◌, ◌∷◌, [], List, ℕ, Bool, true, false, Ok, refl, sym, ap, subst, ◌∙◌, append_assoc, append-nil, length, ◌==◌}
-use Rattle.std.proofs.lemmas.Bool.{eqb-true}
-use Rattle.std.proofs.lemmas.List.{map-append, nil_from_length}
+use Rattle.std.proofs.Common.{◌≡◌, ◌++◌, ◌∷◌, [], List, ℕ, Bool, true, false, Ok, refl, sym, ap, subst, ◌∙◌, append_assoc, append-nil}
+use Rattle.std.proofs.lemmas.List.{map-append}
 use Rattle.lsv_wire.specs.Frame.{IsPartial}
 use Rattle.lsv_msg.specs.Messages.{client_in}
 use Rattle.lsv_msg.specs.declared.messages.ClientMessage.{ClientMessage}
@@ -11,7 +10,7 @@ use Rattle.lsv_session.specs.declared.job.Body.TheVariants.{Bad, Msg}
 use Rattle.lsv_session.specs.declared.job.Fault.{Fault}
 use Rattle.lsv_session.specs.declared.job.Job.{Job}
 use Rattle.lsv_session.proofs.Jobs.{cut_message, cut_piece, cut_rest}
-use Rattle.lsv_serve.specs.InnerRun.{Cuts, CutsAll, CutsOn, Takes, TakesOn}
+use Rattle.lsv_serve.specs.InnerRun.{Cuts, CutsAll, CutsOn, Takes}
 use Rattle.lsv_serve.specs.Tape.{jobs_of, once_conn}
 
 -- a job of the connection
@@ -40,9 +39,9 @@ pub cuts_message : (jobs : List Job) (unread message behind : List ℕ) (m : Cli
     → CutsOn jobs false unread (jobs ++ job_with (Msg m) ∷ []) false behind
 cuts_message jobs unread message behind m front is = record { bodies = Msg m ∷ []; are = refl; goes = λ read said h. cut_message read unread message behind said m h front is }
 
-pub cuts_last : (jobs : List Job) (unread : List ℕ) (fault : Fault) → ((read : List ℕ) (said : List Body) → HasCut read said unread → AreAllJobs read (said ++ Bad fault ∷ []))
-    → CutsAll jobs false unread (jobs ++ job_with (Bad fault) ∷ []) true unread
-cuts_last jobs unread fault last = record {
+pub cuts_last : (jobs : List Job) (unread left : List ℕ) (fault : Fault) → ((read : List ℕ) (said : List Body) → HasCut read said unread → AreAllJobs read (said ++ Bad fault ∷ []))
+    → CutsAll jobs false unread (jobs ++ job_with (Bad fault) ∷ []) true left
+cuts_last jobs unread left fault last = record {
   cuts = record { bodies = Bad fault ∷ []; are = refl; goes = last };
   all = λ read said h. jobs_now read (said ++ Bad fault ∷ []) (last read said h);
 }
@@ -78,41 +77,3 @@ takes_nothing piece unread = record { bodies = []; are = refl; goes = still; all
   where
     still : (read : List ℕ) (said : List Body) → AreAllJobs read said → AreAllJobs (read ++ piece) (said ++ [])
     still read said h more = subst (λ (l : List Body). AreJobs ((read ++ piece) ++ more) l) (sym (append-nil said)) (subst (λ (b : List ℕ). AreJobs b said) (sym (append_assoc read piece more)) (h (piece ++ more)))
-
--- ---- A piece in two parts
-
-pub takes_behind : (piece unread : List ℕ) (jobs jobs' : List Job) (over : Bool) (left : List ℕ) → CutsAll jobs false (unread ++ piece) jobs' over left → TakesOn piece jobs false unread jobs' over left
-takes_behind piece unread jobs jobs' over left a = record {
-  more = jobs_of a.cuts.bodies;
-  are = a.cuts.are;
-  takes = record {
-    bodies = a.cuts.bodies;
-    are = refl;
-    goes = λ read said h. a.cuts.goes (read ++ piece) said (cut_piece read unread piece said h);
-    all = λ read said h. a.all (read ++ piece) said (cut_piece read unread piece said h);
-  };
-}
-
-pub takes_none : (piece unread : List ℕ) (jobs : List Job) → TakesOn piece jobs true unread jobs true unread
-takes_none piece unread jobs = record { more = []; are = sym (append-nil jobs); takes = takes_nothing piece unread }
-
-pub takes_parts : (front rest unread kept left : List ℕ) (jobs jobs' : List Job) (over over' : Bool) → CutsAll [] false (unread ++ front) jobs over kept → TakesOn rest jobs over kept jobs' over' left
-    → Takes (front ++ rest) false unread jobs' over' left
-takes_parts front rest unread kept left jobs jobs' over over' a b =
-    let first : Takes front false unread jobs over kept = takes_piece front unread jobs over kept a in
-    let then : Takes rest over kept b.more over' left = b.takes in
-    record {
-      bodies = first.bodies ++ then.bodies;
-      are = b.are ∙ ap (λ (l : List Job). l ++ b.more) first.are ∙ ap (λ (l : List Job). jobs_of first.bodies ++ l) then.are ∙ sym (jobs_append first.bodies then.bodies);
-      goes = λ read said h.
-          subst (λ (l : List ℕ). Cuts over' l (said ++ (first.bodies ++ then.bodies)) left) (append_assoc read front rest)
-          (subst (λ (l : List Body). Cuts over' ((read ++ front) ++ rest) l left) (append_assoc said first.bodies then.bodies)
-          (then.goes (read ++ front) (said ++ first.bodies) (first.goes read said h)));
-      all = λ read said h.
-          subst (λ (l : List ℕ). AreJobs l (said ++ (first.bodies ++ then.bodies))) (append_assoc read front rest)
-          (subst (λ (l : List Body). AreJobs ((read ++ front) ++ rest) l) (append_assoc said first.bodies then.bodies)
-          (then.all (read ++ front) (said ++ first.bodies) (first.goes read said h)));
-    }
-
-pub none_kept : (bytes : List ℕ) → (length bytes == 0) ≡ true → bytes ≡ []
-none_kept bytes e = nil_from_length bytes (eqb-true (length bytes) 0 e)

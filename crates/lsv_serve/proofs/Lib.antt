@@ -1,7 +1,6 @@
 pub mod JobLemmas
 pub mod AnswerLemmas
 pub mod TapeLemmas
-pub mod TurnLemmas
 pub mod ReadLemmas
 pub mod SilenceLemmas
 pub mod EndLemmas

@@ -2,18 +2,18 @@
 use Rattle.std.proofs.Common.{◌≡◌, inl, inr, [], List, ℕ, Option, None, refl, sym, subst, arith}
 use Rattle.lsv_conf.specs.Lines.{first_refused}
 use Rattle.lsv_disk.specs.Throughout.{OnlyReads}
-use Rattle.lsv_disk.specs.View.{DiskView, Image, IsCrashImage, IsLeftAlone}
+use Rattle.lsv_disk.specs.View.{DiskView, Image, IsCrashImage}
 use Rattle.lsv_iolog.proofs.Scans.{reads_nothing}
 use Rattle.lsv_machine.specs.Disks.{NumbersFit}
 use Rattle.lsv_machine.specs.Durable.{Reading}
 use Rattle.lsv_machine.specs.Machine.{Settings}
 use Rattle.lsv_keeper.specs.Reading.{reading_of}
-use Rattle.lsv_turns.specs.Turns.{LaneTurn, TapeTurn}
+use Rattle.lsv_turns.specs.Turns.{TapeTurn}
+use Rattle.lsv_lane.specs.Store.{IsFresh}
 use Rattle.lsv_server.specs.Runs.{IsUp}
-use Rattle.lsv_server.specs.declared.run.End.{End}
 use Rattle.lsv_server.specs.declared.run.End.TheVariants as up
 use Rattle.lsv_server.proofs.CompleteLemmas.{completes}
-use Rattle.lsv_load.specs.Runs.{EndsLoad, RunsLoad, view_of}
+use Rattle.lsv_load.specs.Runs.{RunsLoad, view_of}
 use Rattle.lsv_load.specs.Whole.{SumsUpAll}
 use Rattle.lsv_load.specs.declared.run.LoadEnd.{LoadEnd}
 use Rattle.lsv_load.specs.declared.run.LoadEnd.TheVariants as ends
@@ -25,8 +25,8 @@ use Rattle.lsv_serve.specs.Load.{CompletesLoad, HasLoadCause, LoadsAs, LoadsTo, 
 use Rattle.lsv_serve.specs.Program.{lines_in, machine_of, prompts_of, set_by}
 use Rattle.lsv_serve.specs.World.{World}
 use Rattle.lsv_serve.proofs.ProgramLemmas.{Unread}
-use Rattle.lsv_serve.proofs.ServeLemmas.{idle_keeps, idle_store}
-use Rattle.lsv_serve.proofs.StartLemmas.{fit_kept, store_before, store_cause_before}
+use Rattle.lsv_serve.proofs.ServeLemmas.{idle_store}
+use Rattle.lsv_serve.proofs.StartLemmas.{alone_same, fit_kept, fits_after, keeps_nothing, may_serve_still}
 
 -- ---- A disk that was only read
 
@@ -39,31 +39,6 @@ fit_read r lane lanes old new o is_now fit = record {
   where
     before : (image : Image) → IsCrashImage new image → IsCrashImage old image
     before image is file = o.unchanged.beside new.moment image o.unchanged.later (omega arith) (is_now image is) file (λ x. x)
-
--- ---- From the disk before it had its places
-
-ends_before : (tells : Type 0) (count : ℕ) (turns : List LaneTurn) (found after served left : DiskView) (how : End) (end : LoadEnd) → IsLeftAlone tells found after → EndsLoad tells count turns after served left how end → EndsLoad tells count turns found served left how end
-ends_before tells count turns found after served left how (ends.Served text) alone e = e
-ends_before tells count turns found after served left how (ends.Store fault) alone (inl n) = inl (record { is = n.is; cause = store_cause_before tells found after alone served fault n.cause })
-ends_before tells count turns found after served left how (ends.Store fault) alone (inr s) = inr s
-ends_before tells count turns found after served left how ends.NoMem alone e = e
-
-pub load_before : {D : Type 0} (tells taping : Type 0) (view : D → DiskView) (set : Settings) (texts : List (List ℕ)) (count : ℕ) (found after left : D) (tape new_tape : List TapeTurn) (end : LoadEnd) → IsLeftAlone tells (view found) (view after)
-    → RunsLoad tells taping view set texts count after left tape new_tape end → RunsLoad tells taping view set texts count found left tape new_tape end
-load_before tells taping view set texts count found after left tape new_tape end alone r = record {
-  turns = r.turns;
-  served = r.served;
-  up = r.up;
-  store = record {
-    some = r.store.some;
-    sized = r.store.sized;
-    timed = r.store.timed;
-    taped = r.store.taped;
-    keeps = λ told. store_before tells (view found) (view after) alone (IsUp r.up r.turns) set texts (view r.served) r.turns told (r.store.keeps told);
-  };
-  read = r.read;
-  ends = ends_before tells count r.turns (view found) (view after) (view r.served) (view left) r.up end alone r.ends;
-}
 
 -- ---- By its status
 
@@ -85,43 +60,52 @@ of_summary so (Pending left) x = tt
 
 module _ {D : Type 0} (taping : Type 0) (view : D → DiskView) (count : ℕ) (old new : World) (found left : D) (tape new_tape : List TapeTurn) where
   runs_to : (set : Settings) (texts : List (List ℕ)) (status : Status) (end : LoadEnd) → RunsLoad old.disk_tells taping view set texts count found left tape new_tape end
-      → TellsLoad old.sink_tells old.put new.put old.write_faults new.write_faults end status → LoadsTo taping view set texts count old new found left tape new_tape status
+      → TellsLoad old.wires.sink_tells old.wires.put new.wires.put old.wires.write_faults new.wires.write_faults end status → LoadsTo taping view set texts count old new found left tape new_tape status
   runs_to set texts status (ends.Served text) r (inl (e, put)) = subst (LoadsTo taping view set texts count old new found left tape new_tape) (sym e) (record { text = text; run = r; put = put })
   runs_to set texts status (ends.Served text) r (inr (e, risen, put)) = subst (LoadsTo taping view set texts count old new found left tape new_tape) (sym e) (record { text = text; run = r; risen = risen; put = put })
   runs_to set texts status (ends.Store fault) r (e, put) = subst (LoadsTo taping view set texts count old new found left tape new_tape) (sym e) (r, put)
   runs_to set texts status ends.NoMem r (e, put) = subst (LoadsTo taping view set texts count old new found left tape new_tape) (sym e) (r, put)
 
-  cause_to : (set : Option (List ℕ)) (faults faults' : ℕ) (status : Status) (end : LoadEnd) → first_refused (lines_in set) ≡ None → TellsLoad old.sink_tells old.put new.put old.write_faults new.write_faults end status → HasLoadCause (lines_in set) faults faults' status
+  cause_to : (set : Option (List ℕ)) (faults faults' : ℕ) (status : Status) (end : LoadEnd) → first_refused (lines_in set) ≡ None → TellsLoad old.wires.sink_tells old.wires.put new.wires.put old.wires.write_faults new.wires.write_faults end status → HasLoadCause (lines_in set) faults faults' status
   cause_to set faults faults' status (ends.Served text) none (inl (e, put)) = subst (HasLoadCause (lines_in set) faults faults') (sym e) none
   cause_to set faults faults' status (ends.Served text) none (inr (e, risen, put)) = subst (HasLoadCause (lines_in set) faults faults') (sym e) none
   cause_to set faults faults' status (ends.Store fault) none (e, put) = subst (HasLoadCause (lines_in set) faults faults') (sym e) none
   cause_to set faults faults' status ends.NoMem none (e, put) = subst (HasLoadCause (lines_in set) faults faults') (sym e) tt
 
-  places_to : (logs events : List ℕ) (status : Status) (end : LoadEnd) → TellsLoad old.sink_tells old.put new.put old.write_faults new.write_faults end status → HasPlaces logs events (view left) → HasPlacesAt logs events (view found) (view left) status
+  places_to : (logs events : List ℕ) (status : Status) (end : LoadEnd) → TellsLoad old.wires.sink_tells old.wires.put new.wires.put old.wires.write_faults new.wires.write_faults end status → HasPlaces logs events (view left) → HasPlacesAt logs events (view found) (view left) status
   places_to logs events status (ends.Served text) (inl (e, put)) p = subst (HasPlacesAt logs events (view found) (view left)) (sym e) p
   places_to logs events status (ends.Served text) (inr (e, risen, put)) p = subst (HasPlacesAt logs events (view found) (view left)) (sym e) p
   places_to logs events status (ends.Store fault) (e, put) p = subst (HasPlacesAt logs events (view found) (view left)) (sym e) p
   places_to logs events status ends.NoMem (e, put) p = subst (HasPlacesAt logs events (view found) (view left)) (sym e) (inl p)
 
-  -- a run whose settings were read
-  pub loads_read : (set : Option (List ℕ)) (faults faults' : ℕ) (status : Status) → ((d : D) → old.disk_tells → (image : Image) → IsCrashImage (view d) image → (view d).crash_images_at (view d).moment image) → first_refused (lines_in set) ≡ None
-      → LoadsBy taping view (machine_of (set_by set)) (prompts_of (set_by set)) count old new found left tape new_tape status → (old.disk_tells → HasPlaces (set_by set).iolog_dir (set_by set).path (view left))
-      → SumsUpAll old.disk_tells taping view (machine_of (set_by set)) (prompts_of (set_by set)) count found left tape new_tape → LoadsAs taping view set faults faults' count old new found left tape new_tape status
-  loads_read set faults faults' status is_now none b places whole = record {
-    runs = runs_to (machine_of (set_by set)) (prompts_of (set_by set)) status b.end b.run b.told;
-    cause = cause_to set faults faults' status b.end none b.told;
-    complete = complete_load old.disk_tells taping view (machine_of (set_by set)) (prompts_of (set_by set)) count found left tape new_tape;
-    whole = of_summary _ status whole;
-    places = λ told. places_to (set_by set).iolog_dir (set_by set).path status b.end b.told (places told);
-    fresh_again = λ told fit.
+-- a run whose settings were read
+pub loads_read : {D : Type 0} (taping : Type 0) (view : D → DiskView) (count : ℕ) (old new : World) (found left : D) (tape new_tape : List TapeTurn) (set : Option (List ℕ)) (faults faults' : ℕ) (status : Status)
+    → ((d : D) → old.disk_tells → (image : Image) → IsCrashImage (view d) image → (view d).crash_images_at (view d).moment image) → first_refused (lines_in set) ≡ None
+    → LoadsBy taping view (machine_of (set_by set)) (prompts_of (set_by set)) count old new found left tape new_tape status → (old.disk_tells → HasPlaces (set_by set).iolog_dir (set_by set).path (view left)) → (old.disk_tells → IsFresh 0 1 (view left))
+    → ((placed : D) → SumsUpAll old.disk_tells taping view (machine_of (set_by set)) (prompts_of (set_by set)) count placed left tape new_tape) → LoadsAs taping view set faults faults' count old new found left tape new_tape status
+loads_read taping view count old new found left tape new_tape set faults faults' status is_now none b places fresh whole = record {
+  placed = b.placed;
+  alone = b.alone;
+  runs = runs_to taping view count old new b.placed left tape new_tape (machine_of (set_by set)) (prompts_of (set_by set)) status b.end b.run b.told;
+  cause = cause_to taping view count old new b.placed left tape new_tape set faults faults' status b.end none b.told;
+  complete = complete_load old.disk_tells taping view (machine_of (set_by set)) (prompts_of (set_by set)) count b.placed left tape new_tape;
+  whole = of_summary _ status (whole b.placed);
+  places = λ told. places_to taping view count old new found left tape new_tape (set_by set).iolog_dir (set_by set).path status b.end b.told (places told);
+  again = λ told. record {
+    fresh = λ was. fresh told;
+    fits = λ fit.
         fit_read (reading_of 0 1) 0 1 (view b.run.served) (view left) (b.run.read told) (is_now left told)
-        (fit_kept (IsUp b.run.up b.run.turns) (machine_of (set_by set)) (prompts_of (set_by set)) (view found) (view b.run.served) b.run.turns (b.run.store.keeps told) (is_now b.run.served told) fit);
-  }
+        (fit_kept (IsUp b.run.up b.run.turns) (machine_of (set_by set)) (prompts_of (set_by set)) (view b.placed) (view b.run.served) b.run.turns (b.run.store.keeps told) (is_now b.run.served told)
+        (fits_after (view found) (view b.placed) (b.alone.untouched told) (reading_of 0 1) 0 1 fit));
+  };
+}
 
 -- a run whose settings weren't read
 pub loads_unread : {D : Type 0} (taping : Type 0) (view : D → DiskView) (count : ℕ) (old : World) (found : D) (tape : List TapeTurn) (set : Option (List ℕ)) (faults faults' : ℕ) (status : Status)
     → (old.disk_tells → (image : Image) → (view found).crash_images_at (view found).moment image → IsCrashImage (view found) image) → Unread (lines_in set) faults faults' status → LoadsAs taping view set faults faults' count old old found found tape tape status
 loads_unread taping view count old found tape set faults faults' status only_now (inl e) = subst (LoadsAs taping view set faults faults' count old old found found tape tape) (sym e) (record {
+  placed = found;
+  alone = alone_same old.disk_tells (view found);
   runs = (
     record {
       turns = [];
@@ -129,7 +113,7 @@ loads_unread taping view count old found tape set faults faults' status only_now
       up = up.NoMem;
       store = idle_store old.disk_tells taping (machine_of (set_by set)) (prompts_of (set_by set)) (view found) tape only_now;
       read = λ told. reads_nothing (view found) (only_now told);
-      ends = tt;
+      ends = inl refl;
     },
     λ told. refl,
   );
@@ -137,13 +121,15 @@ loads_unread taping view count old found tape set faults faults' status only_now
   complete = complete_load old.disk_tells taping view (machine_of (set_by set)) (prompts_of (set_by set)) count found found tape tape;
   whole = tt;
   places = λ told. inr refl;
-  fresh_again = λ told fit. fit;
+  again = λ told. may_serve_still (view found);
 })
 loads_unread taping view count old found tape set faults faults' status only_now (inr (line, e, c)) = subst (LoadsAs taping view set faults faults' count old old found found tape tape) (sym e) (record {
-  runs = (λ told. idle_keeps (view found) (only_now told) ⊥ (machine_of (set_by set)) (prompts_of (set_by set)) (λ x. x), refl, λ told. refl);
+  placed = found;
+  alone = alone_same old.disk_tells (view found);
+  runs = (λ told. keeps_nothing (view found) (only_now told) (machine_of (set_by set)) (prompts_of (set_by set)), refl, λ told. refl);
   cause = c;
   complete = complete_load old.disk_tells taping view (machine_of (set_by set)) (prompts_of (set_by set)) count found found tape tape;
   whole = tt;
   places = λ told. refl;
-  fresh_again = λ told fit. fit;
+  again = λ told. may_serve_still (view found);
 })

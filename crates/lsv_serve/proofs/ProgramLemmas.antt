@@ -4,13 +4,12 @@ use Rattle.lsv_conf.specs.Lines.{Placed, first_refused}
 use Rattle.lsv_words.specs.Causes.{HasRisen}
 use Rattle.lsv_disk.specs.View.{DiskView, Image, IsCrashImage}
 use Rattle.lsv_machine.specs.Machine.{Settings}
-use Rattle.lsv_keeper.specs.Reading.{reading_of}
 use Rattle.lsv_serve.specs.declared.status.Status.{Status}
 use Rattle.lsv_serve.specs.declared.status.Status.TheVariants.{NoUpstream, Pending, Served, Usage, Conf, Store, ReadFault, WriteFault, PortFault, NoMem}
 use Rattle.lsv_serve.specs.Causes.{HasConfCause, HasPlaces, HasPlacesAt, HasProgramCause, HasStatusCause}
 use Rattle.lsv_serve.specs.Once.{RunsOnce}
 use Rattle.lsv_serve.specs.World.{World}
-use Rattle.lsv_serve.proofs.StartLemmas.{Nothing, opens_nothing, runs_nothing}
+use Rattle.lsv_serve.proofs.StartLemmas.{Nothing, entry_stays, keeps_nothing, runs_nothing}
 
 -- the cause of a run whose settings were read
 pub program_cause : (lines : List Placed) (faults faults' : ℕ) (old new : World) (status : Status) → first_refused lines ≡ None → HasStatusCause old new status → HasProgramCause lines faults faults' old new status
@@ -78,4 +77,4 @@ unread_places lines faults faults' logs events disk status (inr (line, e, c)) = 
 
 module _ (old : World) (only_now : old.disk_tells → (image : Image) → old.disk.crash_images_at old.disk.moment image → IsCrashImage old.disk image) where
   pub runs_idle : (set : Settings) (texts : List (List ℕ)) (status : Status) → Nothing status → RunsOnce set texts old old status
-  runs_idle set texts status n = runs_nothing set texts old old.disk status n (λ told. opens_nothing old.disk (only_now told) (reading_of set.lane set.lanes) set.lane set.lanes)
+  runs_idle set texts status n = runs_nothing set texts old old.disk old.tape status n refl (λ told. refl) (λ told some. entry_stays old.disk (only_now told)) (λ told. keeps_nothing old.disk (only_now told) set texts)

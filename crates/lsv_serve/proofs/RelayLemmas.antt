@@ -26,6 +26,7 @@ use Rattle.lsv_serve.specs.Causes.{HasPlaces, HasPlacesAt}
 use Rattle.lsv_serve.specs.Program.{lines_in, set_by, upstream_of}
 use Rattle.lsv_serve.specs.Relay.{HasRelayCause, IsUnread, RelayWorld, RelaysAs, RestsStore, RunsLogs, RunsRelay, store_fault, IsIdle, StopsLogs}
 use Rattle.lsv_serve.proofs.ProgramLemmas.{Unread, unread_places}
+use Rattle.lsv_serve.proofs.StartLemmas.{alone_trans}
 
 -- ---- Only files of relaying were touched
 
@@ -100,19 +101,6 @@ reads_placed old after new places u now reads = reads_trans (record old { places
       unchanged = untouched_run (record old { places = places }) (record after { places = places }) (untouched_places old after places u) refl now;
       counts = record { writes = u.counts.writes; syncs = u.counts.syncs };
     }) reads
-
--- a disk that was left alone twice was left alone
-alone_trans : (told : Type 0) (old mid new : DiskView) → IsLeftAlone told old mid → IsLeftAlone told mid new → IsLeftAlone told old new
-alone_trans told old mid new first second = record {
-  untouched = λ t. let u = first.untouched t in let v = second.untouched t in record {
-    quiet = record { same = λ file. v.quiet.same file ∙ u.quiet.same file; crash = λ file state left. u.quiet.crash file state (v.quiet.crash file state left) };
-    moment = v.moment ∙ u.moment;
-    past = λ k image left. u.past k image (v.past k image left);
-    keeps = λ k image left. v.keeps k image (u.keeps k image left);
-    counts = record { writes = λ file. v.counts.writes file ∙ u.counts.writes file; syncs = λ file. v.counts.syncs file ∙ u.counts.syncs file };
-  };
-  faults = λ file. second.faults file ∙ first.faults file;
-}
 
 -- what holds of the disk with its places holds of the disk before
 unplaced : (old after new : DiskView) → RestsStore (placed old after) new → RestsStore old new

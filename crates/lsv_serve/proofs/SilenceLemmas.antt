@@ -4,8 +4,6 @@ use Rattle.std.specs.Prelude.{map}
 use Rattle.std.specs.List.{flat_map}
 use Rattle.lsv_session.specs.Transcript.{said_to}
 use Rattle.lsv_session.specs.declared.connection.ConnId.{ConnId}
-use Rattle.lsv_base.specs.declared.time.TimeSpec.{TimeSpec}
-use Rattle.lsv_disk.specs.View.{DiskView}
 use Rattle.lsv_disk.specs.declared.file.Owner.{Owner}
 use Rattle.lsv_request.specs.declared.request.Request.TheVariants as request
 use Rattle.lsv_session.specs.declared.job.Body.{Body}
@@ -13,14 +11,15 @@ use Rattle.lsv_session.specs.declared.job.Body.TheVariants as body
 use Rattle.lsv_session.specs.declared.job.Job.{Job}
 use Rattle.lsv_session.specs.declared.reply.Reply.{Reply}
 use Rattle.lsv_machine.specs.Answers.{Answer, farewell, reply_of}
-use Rattle.lsv_machine.specs.Failures.{Act, AsksFor, Breaks, Step}
+use Rattle.lsv_machine.specs.Failures.{Act, AsksFor, Breaks, LeavesLog, Step}
 use Rattle.lsv_machine.specs.Machine.{Machine, Settings, is_dead, log_of, without_log}
-use Rattle.lsv_machine.specs.Turns.{EndOfTurn, FlushesLines, FlushesLogs, RefusesAll, Run, Tail, turn_of, with_lines}
+use Rattle.lsv_machine.specs.Recovery.{Outside, Turn, all_turns}
+use Rattle.lsv_machine.specs.Turns.{EndOfTurn, FlushesLines, FlushesLog, FlushesLogs, Happened, RefusesAll, RefusesOne, Run, Tail, turn_of, with_lines}
 use Rattle.lsv_machine.specs.Work.{plain}
-use Rattle.lsv_keeper.specs.Represents.{Represents}
-use Rattle.lsv_keeper.specs.Tails.{TurnGives}
-use Rattle.lsv_keeper.specs.Value.{IsResting, KeeperView, settings_of}
-use Rattle.lsv_serve.specs.Tape.{jobs_of, once_conn}
+use Rattle.lsv_turns.specs.Turns.{LaneTurn}
+use Rattle.lsv_lane.specs.Store.{AreTurns, IsTurn, KeepsStore}
+use Rattle.lsv_serve.specs.Tape.{TapeTurn, jobs_of, once_conn}
+use Rattle.lsv_serve.specs.Tape as tapes
 
 -- no log waits, and nobody had an event line
 record IsCalm (m : Machine) : Type 0 where
@@ -106,8 +105,70 @@ turn_quiet set m after acts tail replies calm jobs run are =
     ap (λ (l : List Act). flat_map (λ (x : Act). x.answers) l ++ tail.answers) one.1 ∙ ap (λ (l : List Answer). (act.answers ++ []) ++ l) t ∙ append-nil (act.answers ++ []) ∙ append-nil act.answers in
     ap (said_to once_conn) (sym are ∙ ap (map reply_of) a) ∙ said_nothing act.job.conn act.answers (ap (λ (j : Job). j.conn) one.2) q.told
 
--- a turn with the connection's end alone tells it nothing
-pub gone_silent : (v w : KeeperView) (now : TimeSpec) (m : Machine) (replies : List Reply) (old new : DiskView) → IsResting v → Represents v old m → TurnGives v now (jobs_of (body.Gone ∷ [])) m [] replies w old new
-    → said_to once_conn replies ≡ []
-gone_silent v w now m replies old new rests is g =
-    turn_quiet (settings_of v) m g.after g.turned.acts g.turned.tail replies (record { waiting = is.waiting ∙ rests.none_waits; noting = is.noting ∙ rests.nobody_noted }) g.turned.jobs_are g.turned.run (g.turned.replies_are ∙ sym g.told)
+-- ---- Between two turns
+
+left_noting : (failed : List Owner) (log : Option ℕ) (old left : Machine) → LeavesLog failed log None old left → left.noting ≡ old.noting
+left_noting failed None old left e = ap (λ (m : Machine). m.noting) e
+left_noting failed (Some n) old left (log, closes, e) = ap (λ (m : Machine). m.noting) e
+
+one_noting : (failed : List Owner) (k : ConnId) (answers : List Answer) (old new : Machine) → RefusesOne failed k answers old new → new.noting ≡ old.noting
+one_noting failed k answers old new r = ap (λ (m : Machine). m.noting) r.now ∙ left_noting failed (log_of (old.states k)) old r.left r.log
+
+all_noting : (failed : List Owner) (conns : List ConnId) (answers : List Answer) (old new : Machine) → RefusesAll failed conns answers old new → new.noting ≡ old.noting
+all_noting failed [] answers old new (quiet, e) = ap (λ (m : Machine). m.noting) e
+all_noting failed (k ∷ conns) answers old new (inl (dead, rest)) = all_noting failed conns answers old new rest
+all_noting failed (k ∷ conns) answers old new (inr (alive, (mid, its, later, told, one, rest))) = all_noting failed conns later mid new rest ∙ one_noting failed k its old mid one
+
+log_noting : (failed : List Owner) (n : ℕ) (answers : List Answer) (old new : Machine) → FlushesLog failed n answers old new → new.noting ≡ old.noting
+log_noting failed n answers old new (inl c) = ap (λ (m : Machine). m.noting) c.now
+log_noting failed n answers old new (inr f) = ap (λ (m : Machine). m.noting) f.now
+
+logs_noting : (failed : List Owner) (numbers : List ℕ) (answers : List Answer) (old new : Machine) → FlushesLogs failed numbers answers old new → new.noting ≡ old.noting
+logs_noting failed [] answers old new (quiet, e) = ap (λ (m : Machine). m.noting) e
+logs_noting failed (n ∷ numbers) answers old new (mid, its, later, told, one, rest) = logs_noting failed numbers later mid new rest ∙ log_noting failed n its old mid one
+
+lines_noting : (set : Settings) (failed : List Owner) (answers : List Answer) (old new : Machine) → FlushesLines set failed answers old new → new.noting ≡ []
+lines_noting set failed answers old new (inl (sound, quiet, e)) = ap (λ (m : Machine). m.noting) e
+lines_noting set failed answers old new (inr l) = all_noting failed old.noting answers (with_lines l.wrote old) new l.refuses
+
+tail_calm : (set : Settings) (tail : Tail) (old new : Machine) → EndOfTurn set old tail new → IsCalm new
+tail_calm set tail old new t = record {
+  waiting = ap (λ (m : Machine). m.waiting) t.now;
+  noting = ap (λ (m : Machine). m.noting) t.now ∙ logs_noting tail.failed t.mid.waiting t.of_logs t.mid t.last t.logs ∙ lines_noting set tail.failed t.of_lines old t.mid t.lines;
+}
+
+-- a turn, and what comes after it
+turn_calm : (set : Settings) (acts : List Act) (tail : Tail) (rest : List Happened) (m end : Machine) → Run set m (turn_of acts tail ++ rest) end → (mid : Machine) × IsCalm mid × Run set mid rest end
+turn_calm set [] tail rest m end (mid, ended, on) = (mid, tail_calm set tail m mid ended, on)
+turn_calm set (act ∷ acts) tail rest m end (mid, step, on) = turn_calm set acts tail rest mid end on
+
+turns_calm : (set : Settings) (turns : List Turn) (m end : Machine) → IsCalm m → Run set m (all_turns turns) end → IsCalm end
+turns_calm set [] m end calm is = subst IsCalm (sym is) calm
+turns_calm set (t ∷ turns) m end calm run = let s = turn_calm set t.acts t.tail (all_turns turns) m end run in turns_calm set turns s.0 end s.1 s.2
+
+-- ---- The last turn of a run
+
+-- of the machine's turns one is the last of the lane's
+record LastTurn (t : LaneTurn) (did : List Turn) : Type 0 where
+  first : List Turn
+  last : Turn
+  are : did ≡ first ++ last ∷ []
+  is : IsTurn t last
+
+last_turn : (turns : List LaneTurn) (t : LaneTurn) (did : List Turn) → AreTurns (turns ++ t ∷ []) did → LastTurn t did
+last_turn [] t [] are = absurd are
+last_turn [] t (d ∷ []) are = record { first = []; last = d; are = refl; is = are.0 }
+last_turn [] t (d ∷ e ∷ did) are = absurd are.1
+last_turn (u ∷ turns) t [] are = absurd are
+last_turn (u ∷ turns) t (d ∷ did) are = let r = last_turn turns t did are.1 in record { first = d ∷ r.first; last = r.last; are = ap (λ (l : List Turn). d ∷ l) r.are; is = r.is }
+
+-- a last turn with the connection's end alone tells it nothing
+pub gone_silent : (set : Settings) (texts : List (List ℕ)) (o : Outside) (turns : List LaneTurn) (t : TapeTurn) → t.bodies ≡ body.Gone ∷ [] → KeepsStore (Unit {0}) set texts o (turns ++ tapes.turn_of t ∷ []) → said_to once_conn t.replies ≡ []
+gone_silent set texts o turns t gone k =
+    let c = k.conforms tt in
+    let l = last_turn turns (tapes.turn_of t) k.story.turns k.are in
+    let s = c.ran.ended_lines l.first (l.last ∷ []) l.are in
+    let calm : IsCalm c.ran.start = record { waiting = c.ran.starts.none_waits; noting = c.ran.starts.nobody_noted } in
+    let jobs : map (λ (act : Act). act.job) l.last.acts ≡ jobs_of (body.Gone ∷ []) = l.is.jobs ∙ ap jobs_of gone in
+    let run : Run set s.0 (turn_of l.last.acts l.last.tail) c.end = subst (λ (h : List Happened). Run set s.0 h c.end) (append-nil (turn_of l.last.acts l.last.tail)) s.2 in
+    turn_quiet set s.0 c.end l.last.acts l.last.tail t.replies (turns_calm set l.first c.ran.start s.0 calm s.1) jobs run l.is.replies

@@ -1,50 +1,75 @@
--- The start of a run: the places that the disk is given, a store that isn't opened, and words that ask for nothing.
-use Rattle.std.proofs.Common.{◌≡◌, ◌≤◌, ◌⊎◌, inl, inr, [], List, map, ℕ, Bool, Ok, refl, sym, subst, append-nil, arith}
+-- The start of a run: the places that the disk is given, a store that isn't opened, and a run that did nothing.
+use Rattle.std.proofs.Common.{◌≡◌, ◌≢◌, ◌≤◌, ◌⊎◌, inl, inr, [], List, map, ℕ, Bool, Option, None, Ok, refl, sym, ap, subst, ◌∙◌, append-nil, arith}
 use Rattle.lsv_words.specs.Causes.{HasRisen}
-use Rattle.lsv_disk.specs.Throughout.{Jointly}
-use Rattle.lsv_disk.specs.View.{DiskView, Image, IsCrashImage, IsLeftAlone, IsUntouched}
+use Rattle.lsv_disk.specs.Throughout.{Jointly, Throughout}
+use Rattle.lsv_disk.specs.View.{DiskView, Image, IsCrashImage, IsLeftAlone, IsUntouched, Places}
 use Rattle.lsv_disk.specs.declared.file.FileId.{FileId}
 use Rattle.lsv_disk.specs.declared.file.Owner.{Owner}
-use Rattle.lsv_disk.proofs.Composition.{started}
 use Rattle.lsv_machine.specs.Counts.{Counts}
-use Rattle.lsv_machine.specs.Disks.{AsBefore, IsOfStore, LinesAsBefore, NumbersFit, Past, SameLines, SameLog}
+use Rattle.lsv_machine.specs.Disks.{AsBefore, IsOfLaneStore, LinesAs, LinesAsBefore, NumbersFit, Past, SameLines, SameLog}
 use Rattle.lsv_machine.specs.Durable.{Good, Reading}
 use Rattle.lsv_machine.specs.Keeping.{OpensStore}
 use Rattle.lsv_machine.specs.Machine.{Machine, Settings}
-use Rattle.lsv_machine.specs.Recovery.{Kept, Ran, Recovers, Story}
+use Rattle.lsv_machine.specs.Recovery.{AnyTurnAsks, Kept, LinesAfter, LinesOfTurns, Ran, Recovers, RecoversLines, Story, Turn}
 use Rattle.lsv_machine.specs.Starts.{ReadsAs}
 use Rattle.lsv_machine.specs.Turns.{Happened}
-use Rattle.lsv_machine.proofs.Recovering.{only_opened}
+use Rattle.lsv_machine.proofs.Folds.{touches_none}
 use Rattle.lsv_seq.specs.Drawn.{entry_at, judged}
 use Rattle.lsv_event.specs.declared.event.Kind.{Kind}
-use Rattle.lsv_keeper.specs.Opening.{IsSetTo, IsStoreFault, OpensAs}
+use Rattle.lsv_keeper.specs.Causes.{IsDeviceFault, StoreRose}
+use Rattle.lsv_keeper.specs.Opening.{IsStoreFault, KeepsEntry}
 use Rattle.lsv_keeper.specs.Reading.{reading_of}
-use Rattle.lsv_keeper.specs.Value.{KeeperView}
+use Rattle.lsv_keeper.proofs.Causes.{all_as}
 use Rattle.lsv_keeper.specs.declared.fault.StoreFault.{StoreFault}
 use Rattle.lsv_keeper.specs.declared.fault.StoreFault.TheVariants as faults
-use Rattle.lsv_turns.specs.Turns.{LaneTurn}
-use Rattle.lsv_lane.specs.Store.{IsFresh, KeepsStore, OwnerFailed}
+use Rattle.lsv_turns.specs.Turns.{LaneTurn, TapeTurn}
+use Rattle.lsv_lane.specs.Store.{AreAnswered, IsAnswered, IsFresh, KeepsStore, OwnerFailed}
+use Rattle.lsv_lane.proofs.Conforming.{keeps_none}
 use Rattle.lsv_server.specs.Runs.{HasStoreCause}
+use Rattle.lsv_server.proofs.RunLemmas.{keeps_less}
 use Rattle.lsv_serve.specs.declared.status.Status.{Status}
 use Rattle.lsv_serve.specs.declared.status.Status.TheVariants.{NoUpstream, Pending, Served, Usage, Conf, Store, ReadFault, WriteFault, PortFault, NoMem}
-use Rattle.lsv_serve.specs.Causes.{HasStatusCause}
-use Rattle.lsv_serve.specs.InnerRun.{Begun, store_status}
+use Rattle.lsv_serve.specs.Causes.{HasStatusCause, MayServeAgain}
+use Rattle.lsv_serve.specs.InnerRun.{store_status}
 use Rattle.lsv_serve.specs.Once.{IsOpened, RunsOnce, once_settings}
 use Rattle.lsv_serve.specs.Tape.{EndsFor, PutsFor, Tape, turn_of, turns_in}
-use Rattle.lsv_serve.specs.World.{World}
-use Rattle.lsv_serve.proofs.ReadLemmas.{hello, with_disk}
-use Rattle.lsv_serve.proofs.TurnLemmas.{set_to, standing_open}
+use Rattle.lsv_serve.specs.World.{World, placed}
+use Rattle.lsv_serve.proofs.ReadLemmas.{hello}
+
+-- turns that were answered for a cause are so for a wider one
+pub answered_as : (a b : Type 0) (turns : List LaneTurn) → (a → b) → AreAnswered a turns → AreAnswered b turns
+answered_as a b turns wider all = all_as (IsAnswered a) (IsAnswered b) turns
+    (λ t is. record { asked = is.asked; cause = all_as (λ r. IsDeviceFault r → a) (λ r. IsDeviceFault r → b) t.replies (λ r told fault. wider (told fault)) is.cause }) all
 
 -- ---- A disk that was left alone
 
+pub alone_same : (told : Type 0) (disk : DiskView) → IsLeftAlone told disk disk
+alone_same told disk = record {
+  untouched = λ _. record { quiet = record { same = λ file. refl; crash = λ file c is. is }; moment = refl; past = λ k image is. is; keeps = λ k image is. is; counts = record { writes = λ file. refl; syncs = λ file. refl } };
+  faults = λ file. refl;
+}
+
+-- a disk that was left alone twice was left alone
+pub alone_trans : (told : Type 0) (old mid new : DiskView) → IsLeftAlone told old mid → IsLeftAlone told mid new → IsLeftAlone told old new
+alone_trans told old mid new first second = record {
+  untouched = λ t. let u = first.untouched t in let v = second.untouched t in record {
+    quiet = record { same = λ file. v.quiet.same file ∙ u.quiet.same file; crash = λ file state left. u.quiet.crash file state (v.quiet.crash file state left) };
+    moment = v.moment ∙ u.moment;
+    past = λ k image left. u.past k image (v.past k image left);
+    keeps = λ k image left. v.keeps k image (u.keeps k image left);
+    counts = record { writes = λ file. v.counts.writes file ∙ u.counts.writes file; syncs = λ file. v.counts.syncs file ∙ u.counts.syncs file };
+  };
+  faults = λ file. second.faults file ∙ first.faults file;
+}
+
 module _ (before after : DiskView) (u : IsUntouched before after) where
-  reads_same : after.reads ≡ before.reads
+  pub reads_same : after.reads ≡ before.reads
   reads_same = λ i file. u.quiet.same file i
 
   possible_before : (image : Image) → IsCrashImage after image → IsCrashImage before image
   possible_before image is file = u.quiet.crash file (image file) (is file)
 
-  fits_after : (r : Reading) (lane lanes : ℕ) → NumbersFit r lane lanes (IsCrashImage before) → NumbersFit r lane lanes (IsCrashImage after)
+  pub fits_after : (r : Reading) (lane lanes : ℕ) → NumbersFit r lane lanes (IsCrashImage before) → NumbersFit r lane lanes (IsCrashImage after)
   fits_after r lane lanes fit = record {
     told = λ image is. fit.told image (possible_before image is);
     none_above = λ a b last n is it. fit.none_above a b last n (possible_before a is) (possible_before b it);
@@ -59,11 +84,53 @@ module _ (before after : DiskView) (u : IsUntouched before after) where
   kept_before : (r : Reading) (left : DiskView) (s : Story) (n : ℕ) (p : Past) (g : List Happened) → Kept r (record { found = after; left = left }) s n p g → Kept r (record { found = before; left = left }) s n p g
   kept_before r left s n p g k = record { opening = λ i from to. k.opening i (let e = u.moment in omega arith) to; during = k.during; now = k.now }
 
-  recovers_before : (r : Reading) (lane lanes : ℕ) (texts : List (List ℕ)) (left : DiskView) (s : Story) → Recovers r lane lanes texts (record { found = after; left = left }) s → Recovers r lane lanes texts (record { found = before; left = left }) s
-  recovers_before r lane lanes texts left s rec = record {
+  lines_before : (r : Reading) (image : Image) → LinesAs r (IsCrashImage after) image → LinesAs r (IsCrashImage before) image
+  lines_before r image (was, is, same) = (was, possible_before was is, same)
+
+  lines_after : (r : Reading) (lane : ℕ) (start : List ℕ) (turns : List Turn) (image : Image) → LinesAfter r lane after start turns image → LinesAfter r lane before start turns image
+  lines_after r lane start turns image (inl (none, was)) = inl (none, lines_before r image was)
+  lines_after r lane start turns image (inr holds) = inr holds
+
+  turn_lines_before : (r : Reading) (lane : ℕ) (left : DiskView) (s : Story) (start : List ℕ) → LinesOfTurns r lane (record { found = after; left = left }) s start → LinesOfTurns r lane (record { found = before; left = left }) s start
+  turn_lines_before r lane left s start l = record {
+    texts = l.texts;
+    during = λ first rest t e k from to image is. elim (l.during first rest t e k from to image is) [ inl was ↦ inl (lines_after r lane start first image was) | inr holds ↦ inr holds ];
+    now = λ image is. lines_after r lane start s.turns image (l.now image is);
+    reads = l.reads;
+  }
+
+  recovers_lines_before : (r : Reading) (lane : ℕ) (left : DiskView) (s : Story) → RecoversLines r lane (record { found = after; left = left }) s → RecoversLines r lane (record { found = before; left = left }) s
+  recovers_lines_before r lane left s l = record {
+    opening = λ k from to image is. lines_before r image (l.opening k (let e = u.moment in omega arith) to image is);
+    turns = λ start is. turn_lines_before r lane left s start (l.turns start (subst (λ (reads : Image). r.lines reads start) (sym reads_same) is));
+  }
+
+  files_before : (Touched : FileId → Type 0) (left : DiskView) → left.places ≡ before.places → Throughout Touched (λ image. Unit {0}) after left → Throughout Touched (λ image. Unit {0}) before left
+  files_before Touched left same t = record {
+    later = let a = t.later in let e = u.moment in omega arith;
+    past = λ k image less is. u.past k image (t.past k image (let e = u.moment in omega arith) is);
+    keeps = λ k image less is. t.keeps k image (let e = u.moment in omega arith) (u.keeps k image is);
+    elsewhere = record { same = λ file apart. t.elsewhere.same file apart ∙ u.quiet.same file; crash = λ file apart c is. u.quiet.crash file c (t.elsewhere.crash file apart c is) };
+    each = λ k image from to is. tt;
+    beside = λ k image from to is file apart. u.quiet.crash file (image file) (t.beside k image (let e = u.moment in omega arith) to is file apart);
+    places = same;
+  }
+
+  pub entry_before : (left : DiskView) → (entry_at 0 after.reads ≢ None → KeepsEntry 0 after left) → entry_at 0 before.reads ≢ None → KeepsEntry 0 before left
+  entry_before left entry some =
+      let k = entry (λ none. some (subst (λ (reads : Image). entry_at 0 reads ≡ None) reads_same none)) in
+      record {
+        moments = λ i image from to is. let m = k.moments i image (let e = u.moment in omega arith) to is in (m.0, possible_before m.0 m.1, m.2);
+        reads = k.reads ∙ ap (λ (reads : Image). entry_at 0 reads) reads_same;
+      }
+
+  recovers_before : (r : Reading) (lane lanes : ℕ) (texts : List (List ℕ)) (left : DiskView) (s : Story) → left.places ≡ before.places → Recovers r lane lanes texts (record { found = after; left = left }) s → Recovers r lane lanes texts (record { found = before; left = left }) s
+  recovers_before r lane lanes texts left s same rec = record {
     spans = record { first = let a = rec.spans.first in let e = u.moment in omega arith; rising = rec.spans.rising; within = rec.spans.within; whole = rec.spans.whole };
     logs = λ n p g old on good. kept_before r left s n p g (rec.logs n p g (λ image is. old image (possible_before image is)) on (good_after r g n good));
     numbers = λ fit k from to. rec.numbers (fits_after r lane lanes fit) k (let e = u.moment in omega arith) to;
+    lines = recovers_lines_before r lane left s rec.lines;
+    files = files_before (IsOfLaneStore lane lanes (AnyTurnAsks s.turns)) left same rec.files;
   }
 
   module _ (same_faults : (file : FileId) → after.faults file ≡ before.faults file) where
@@ -83,18 +150,37 @@ module _ (before after : DiskView) (u : IsUntouched before after) where
           drawn = subst (λ (reads : Image). r.drawn reads ran.start.last) reads_same ran.drawn;
           lines = subst (λ (reads : Image). r.lines reads ran.start.lines) reads_same ran.lines;
           run = ran.run;
+          ended_lines = ran.ended_lines;
           moments = ran.moments;
           counts = counts_before _ left ran.counts;
         }
 
-    pub keeps_before : (opened : Type 0) (set : Settings) (texts : List (List ℕ)) (left : DiskView) (turns : List LaneTurn) → KeepsStore opened set texts (record { found = after; left = left }) turns
+    keeps_before : (opened : Type 0) (set : Settings) (texts : List (List ℕ)) (left : DiskView) (turns : List LaneTurn) → left.places ≡ before.places → KeepsStore opened set texts (record { found = after; left = left }) turns
         → KeepsStore opened set texts (record { found = before; left = left }) turns
-    keeps_before opened set texts left turns k = record {
+    keeps_before opened set texts left turns same k = record {
       story = k.story;
       are = k.are;
       conforms = λ up. let c = k.conforms up in record { end = c.end; ran = ran_before set texts left c.end k.story c.ran; one_writer = c.one_writer; logs = c.logs; lines = c.lines };
-      recovers = recovers_before (reading_of set.lane set.lanes) set.lane set.lanes texts left k.story k.recovers;
+      recovers = recovers_before (reading_of set.lane set.lanes) set.lane set.lanes texts left k.story same k.recovers;
     }
+
+-- a disk that was left alone, with the places of a later one
+placed_untouched : (old after new : DiskView) → IsUntouched old after → IsUntouched (placed old new) (placed after new)
+placed_untouched old after new u = record {
+  quiet = record { same = u.quiet.same; crash = u.quiet.crash };
+  moment = u.moment;
+  past = u.past;
+  keeps = u.keeps;
+  counts = record { writes = u.counts.writes; syncs = u.counts.syncs };
+}
+
+-- a disk that has its places already
+placed_same : (disk left : DiskView) → left.places ≡ disk.places → disk ≡ placed disk left
+placed_same disk left e = ap (λ (p : Option Places). record disk { places = p }) (sym e)
+
+pub keeps_placed : (opened : Type 0) (set : Settings) (texts : List (List ℕ)) (disk left : DiskView) (turns : List LaneTurn) → left.places ≡ disk.places → KeepsStore opened set texts (record { found = disk; left = left }) turns
+    → KeepsStore opened set texts (record { found = placed disk left; left = left }) turns
+keeps_placed opened set texts disk left turns e k = subst (λ (d : DiskView). KeepsStore opened set texts (record { found = d; left = left }) turns) (placed_same disk left e) k
 
 -- what is said of a run from the disk with its places, is said of it from the disk before
 module _ (tells : Type 0) (found after : DiskView) (alone : IsLeftAlone tells found after) where
@@ -104,36 +190,22 @@ module _ (tells : Type 0) (found after : DiskView) (alone : IsLeftAlone tells fo
   fault_before : (fault : StoreFault) → (tells → IsStoreFault 0 1 after.reads fault) → tells → IsStoreFault 0 1 found.reads fault
   fault_before fault f told = subst (λ (reads : Image). IsStoreFault 0 1 reads fault) (reads_same found after (alone.untouched told)) (f told)
 
+  pub rose_before : (new : DiskView) → StoreRose after new → StoreRose found new
+  rose_before new (file, own, risen) = (file, own, subst (λ (n : ℕ). HasRisen n (new.faults file)) (alone.faults file) risen)
+
+  -- what a run did with the store from the disk with its places, it did from the disk before, with the same places
+  pub store_before : (opened : Type 0) (set : Settings) (texts : List (List ℕ)) (left : DiskView) (turns : List LaneTurn) → tells → KeepsStore opened set texts (record { found = placed after left; left = left }) turns
+      → KeepsStore opened set texts (record { found = placed found left; left = left }) turns
+  store_before opened set texts left turns told k = keeps_before (placed found left) (placed after left) (placed_untouched found after left (alone.untouched told)) alone.faults opened set texts left turns refl k
+
   pub store_cause_before : (new : DiskView) (fault : StoreFault) → HasStoreCause tells after new fault → HasStoreCause tells found new fault
   store_cause_before new fault c = record { memory = c.memory; is = fault_before fault c.is; failed = λ o e. failed_before new o (c.failed o e) }
 
-  pub store_before : (opened : Type 0) (set : Settings) (texts : List (List ℕ)) (left : DiskView) (turns : List LaneTurn) → tells → KeepsStore opened set texts (record { found = after; left = left }) turns
-      → KeepsStore opened set texts (record { found = found; left = left }) turns
-  store_before opened set texts left turns told k = keeps_before found after (alone.untouched told) alone.faults opened set texts left turns k
+-- the world with another disk of its store
+abbrev pub with_disk : World → DiskView → World
+with_disk w disk = record w { disk = disk }
 
 module _ (old : World) (after : DiskView) (alone : IsLeftAlone old.disk_tells old.disk after) where
-  pub runs_before : (set : Settings) (texts : List (List ℕ)) (new : World) (status : Status) → RunsOnce set texts (with_disk old after) new status → RunsOnce set texts old new status
-  runs_before set texts new status r = record {
-    tape = r.tape;
-    reads = record {
-      pieces = r.reads.pieces;
-      lost = r.reads.lost;
-      given = r.reads.given;
-      read = r.reads.read;
-      small = r.reads.small;
-      turns = r.reads.turns;
-      shut_last = r.reads.shut_last;
-      ends = r.reads.ends;
-      moments = r.reads.moments;
-      few_lost = r.reads.few_lost;
-      ended = r.reads.ended;
-    };
-    puts = r.puts;
-    keeps = λ told.
-        let k = r.keeps told in
-        record { store = store_before old.disk_tells old.disk after alone (IsOpened status r.tape) set texts new.disk (map turn_of (turns_in r.tape)) told k.store; silent = k.silent };
-  }
-
   pub cause_before : (new : World) (status : Status) → HasStatusCause (with_disk old after) new status → HasStatusCause old new status
   cause_before new Served c = c
   cause_before new Usage c = c
@@ -146,21 +218,85 @@ module _ (old : World) (after : DiskView) (alone : IsLeftAlone old.disk_tells ol
   cause_before new (Pending left) c = c
   cause_before new NoMem c = c
 
--- ---- A run without turns
+  pub runs_before : (set : Settings) (texts : List (List ℕ)) (new : World) (status : Status) → RunsOnce set texts (with_disk old after) new status → RunsOnce set texts old new status
+  runs_before set texts new status r = record {
+    tape = r.tape;
+    reads = r.reads;
+    puts = r.puts;
+    taped = r.taped;
+    answered = answered_as (StoreRose after new.disk) (StoreRose old.disk new.disk) (map turn_of (turns_in r.tape)) (rose_before old.disk_tells old.disk after alone new.disk) r.answered;
+    entry = λ fault e told some. entry_before old.disk after (alone.untouched told) new.disk (r.entry fault e told) some;
+    keeps = λ told.
+        let k = r.keeps told in
+        record { store = store_before old.disk_tells old.disk after alone (IsOpened status r.tape) set texts new.disk (map turn_of (turns_in r.tape)) told k.store; silent = k.silent };
+  }
+
+-- ---- Nothing was done
+
+module _ (disk : DiskView) (only_now : (image : Image) → disk.crash_images_at disk.moment image → IsCrashImage disk image) where
+  jointly_now : (Holds : (Image → Type 0) → Type 0) → ((images : Image → Type 0) → ((image : Image) → images image → IsCrashImage disk image) → Holds images) → Jointly Holds disk disk
+  jointly_now Holds holds = record {
+    later = omega arith;
+    past = λ k image less is. is;
+    keeps = λ k image less is. is;
+    each = λ k from to. holds (disk.crash_images_at k) (λ image is. only_now image (subst (λ (i : ℕ). disk.crash_images_at i image) (let e : k ≡ disk.moment = omega arith in e) is));
+  }
+
+  same_log : (r : Reading) (n : ℕ) (image : Image) → SameLog r n image image
+  same_log r n image = record { to = λ found is. is; back = λ found is. is }
+
+  as_now : (r : Reading) (n : ℕ) (images : Image → Type 0) → ((image : Image) → images image → IsCrashImage disk image) → AsBefore r n (IsCrashImage disk) images
+  as_now r n images sub image is = (image, sub image is, same_log r n image)
+
+  same_lines : (r : Reading) (image : Image) → SameLines r image image
+  same_lines r image = record { to = λ text is. is; back = λ text is. is }
+
+  lines_now : (r : Reading) (images : Image → Type 0) → ((image : Image) → images image → IsCrashImage disk image) → LinesAsBefore r (IsCrashImage disk) images
+  lines_now r images sub image is = (image, sub image is, same_lines r image)
+
+  fewer : (r : Reading) (lane lanes : ℕ) (images : Image → Type 0) → NumbersFit r lane lanes (IsCrashImage disk) → ((image : Image) → images image → IsCrashImage disk image) → NumbersFit r lane lanes images
+  fewer r lane lanes images fit sub = record { told = λ image is. fit.told image (sub image is); none_above = λ a b last n is it. fit.none_above a b last n (sub a is) (sub b it) }
+
+  pub opens_nothing : (r : Reading) (lane lanes : ℕ) → OpensStore r lane lanes disk disk
+  opens_nothing r lane lanes = record {
+    files = touches_none lane lanes (λ n. ⊥) disk only_now;
+    monotone = λ file. omega arith;
+    logs = λ n. (jointly_now (AsBefore r n (IsCrashImage disk)) (as_now r n), record { images = as_now r n (IsCrashImage disk) (λ image is. is); reads = same_log r n disk.reads });
+    numbers = λ fit. record { moments = jointly_now (NumbersFit r lane lanes) (λ images sub. fewer r lane lanes images fit sub); now = fit };
+    lines = record { moments = jointly_now (LinesAsBefore r (IsCrashImage disk)) (lines_now r); now = lines_now r (IsCrashImage disk) (λ image is. is); reads = same_lines r disk.reads };
+  }
+
+-- a store that wasn't opened, since nothing was done
+pub keeps_nothing : (disk : DiskView) → ((image : Image) → disk.crash_images_at disk.moment image → IsCrashImage disk image) → (set : Settings) (texts : List (List ℕ)) → KeepsStore ⊥ set texts (record { found = disk; left = disk }) []
+keeps_nothing disk only_now set texts = keeps_none set texts disk disk (opens_nothing disk only_now (reading_of set.lane set.lanes) set.lane set.lanes)
+
+-- its number file's last entry stays
+pub entry_stays : (disk : DiskView) → ((image : Image) → disk.crash_images_at disk.moment image → IsCrashImage disk image) → KeepsEntry 0 disk disk
+entry_stays disk only_now = record {
+  moments = λ k image from to is. (image, only_now image (subst (λ (i : ℕ). disk.crash_images_at i image) (let e : k ≡ disk.moment = omega arith in e) is), refl);
+  reads = refl;
+}
+
+-- ---- A run of `once` without turns
 
 -- a status at which nothing was read or put
 abbrev pub Nothing : Status → Type 0
 Nothing status = (status ≡ Usage) ⊎ ((fault : StoreFault) × (status ≡ Store fault)) ⊎ (status ≡ NoMem) ⊎ ((line : ℕ) × (status ≡ Conf line))
 
--- the store was opened or couldn't be, or nothing was done
-pub runs_nothing : (set : Settings) (texts : List (List ℕ)) (old : World) (disk : DiskView) (status : Status) → Nothing status → (old.disk_tells → OpensStore (reading_of set.lane set.lanes) set.lane set.lanes old.disk disk)
-    → RunsOnce set texts old (with_disk old disk) status
-runs_nothing set texts old disk status n opens = record {
+-- the world with its store as it was left
+abbrev pub with_store : World → DiskView → List TapeTurn → World
+with_store w disk tape = record w { disk = disk; tape = tape }
+
+-- the store couldn't be opened, or nothing was done
+pub runs_nothing : (set : Settings) (texts : List (List ℕ)) (old : World) (disk : DiskView) (tape : List TapeTurn) (status : Status) → Nothing status → tape ≡ old.tape
+    → (old.disk_tells → disk.places ≡ old.disk.places) → (old.disk_tells → entry_at 0 old.disk.reads ≢ None → KeepsEntry 0 old.disk disk)
+    → (old.disk_tells → KeepsStore ⊥ set texts (record { found = old.disk; left = disk }) []) → RunsOnce set texts old (with_store old disk tape) status
+runs_nothing set texts old disk tape status n same places entry keeps = record {
   tape = none;
   reads = record {
     pieces = [];
     lost = [];
-    given = λ told. sym (append-nil old.given);
+    given = λ told. sym (append-nil old.wires.given);
     read = λ told. refl;
     small = tt;
     turns = tt;
@@ -170,14 +306,12 @@ runs_nothing set texts old disk status n opens = record {
     few_lost = inl refl;
     ended = λ is. absurd (served n is);
   };
-  puts = λ told. ([], sym (append-nil old.put), puts n);
+  puts = λ told. ([], sym (append-nil old.wires.put), puts n);
+  taped = λ told. same ∙ sym (append-nil old.tape);
+  answered = tt;
+  entry = λ fault e told some. entry told some;
   keeps = λ told. record {
-    store = record {
-      story = record { opened = disk.moment; turns = [] };
-      are = tt;
-      conforms = λ opened. absurd (unopened n opened);
-      recovers = only_opened (reading_of set.lane set.lanes) set.lane set.lanes texts old.disk disk (opens told);
-    };
+    store = keeps_less ⊥ (IsOpened status none) set texts (record { found = placed old.disk disk; left = disk }) [] (unopened n) (keeps_placed ⊥ set texts old.disk disk [] (places told) (keeps told));
     silent = λ opened. absurd (unopened n opened);
   };
 }
@@ -216,62 +350,14 @@ store_nothing (faults.LanesDiffer kept asked) = inr (inl (faults.LanesDiffer kep
 store_nothing faults.NoMem = inr (inr (inl refl))
 
 -- the cause of a store that isn't opened
-pub store_cause : (old : World) (disk : DiskView) (fault : StoreFault) → (old.disk_tells → IsStoreFault 0 1 old.disk.reads fault) → ((o : _) → fault ≡ faults.Device o → OwnerFailed o old.disk disk)
-    → HasStatusCause old (with_disk old disk) (store_status fault)
-store_cause old disk (faults.Device o) is failed = record { memory = λ e. cc; is = is; failed = failed }
-store_cause old disk (faults.Damaged file) is failed = record { memory = λ e. cc; is = is; failed = failed }
-store_cause old disk (faults.LanesDiffer kept asked) is failed = record { memory = λ e. cc; is = is; failed = failed }
-store_cause old disk faults.NoMem is failed = tt
+pub store_cause : (old : World) (disk : DiskView) (tape : List TapeTurn) (fault : StoreFault) → (old.disk_tells → IsStoreFault 0 1 old.disk.reads fault) → ((o : _) → fault ≡ faults.Device o → OwnerFailed o old.disk disk)
+    → HasStatusCause old (with_store old disk tape) (store_status fault)
+store_cause old disk tape (faults.Device o) is failed = record { memory = λ e. cc; is = is; failed = failed }
+store_cause old disk tape (faults.Damaged file) is failed = record { memory = λ e. cc; is = is; failed = failed }
+store_cause old disk tape (faults.LanesDiffer kept asked) is failed = record { memory = λ e. cc; is = is; failed = failed }
+store_cause old disk tape faults.NoMem is failed = tt
 
--- ---- Nothing was done
-
-module _ (disk : DiskView) (only_now : (image : Image) → disk.crash_images_at disk.moment image → IsCrashImage disk image) where
-  jointly_now : (Holds : (Image → Type 0) → Type 0) → ((images : Image → Type 0) → ((image : Image) → images image → IsCrashImage disk image) → Holds images) → Jointly Holds disk disk
-  jointly_now Holds holds = record {
-    later = omega arith;
-    past = λ k image less is. is;
-    keeps = λ k image less is. is;
-    each = λ k from to. holds (disk.crash_images_at k) (λ image is. only_now image (subst (λ (i : ℕ). disk.crash_images_at i image) (let e : k ≡ disk.moment = omega arith in e) is));
-  }
-
-  same_log : (r : Reading) (n : ℕ) (image : Image) → SameLog r n image image
-  same_log r n image = record { to = λ found is. is; back = λ found is. is }
-
-  as_now : (r : Reading) (n : ℕ) (images : Image → Type 0) → ((image : Image) → images image → IsCrashImage disk image) → AsBefore r n (IsCrashImage disk) images
-  as_now r n images sub image is = (image, sub image is, same_log r n image)
-
-  same_lines : (r : Reading) (image : Image) → SameLines r image image
-  same_lines r image = record { to = λ text is. is; back = λ text is. is }
-
-  lines_now : (r : Reading) (images : Image → Type 0) → ((image : Image) → images image → IsCrashImage disk image) → LinesAsBefore r (IsCrashImage disk) images
-  lines_now r images sub image is = (image, sub image is, same_lines r image)
-
-  fewer : (r : Reading) (lane lanes : ℕ) (images : Image → Type 0) → NumbersFit r lane lanes (IsCrashImage disk) → ((image : Image) → images image → IsCrashImage disk image) → NumbersFit r lane lanes images
-  fewer r lane lanes images fit sub = record { told = λ image is. fit.told image (sub image is); none_above = λ a b last n is it. fit.none_above a b last n (sub a is) (sub b it) }
-
-  pub opens_nothing : (r : Reading) (lane lanes : ℕ) → OpensStore r lane lanes disk disk
-  opens_nothing r lane lanes = record {
-    files = started (IsOfStore lane) (λ image. Unit {0}) disk only_now (λ image is. tt);
-    monotone = λ file. omega arith;
-    logs = λ n. (jointly_now (AsBefore r n (IsCrashImage disk)) (as_now r n), record { images = as_now r n (IsCrashImage disk) (λ image is. is); reads = same_log r n disk.reads });
-    numbers = λ fit. record { moments = jointly_now (NumbersFit r lane lanes) (λ images sub. fewer r lane lanes images fit sub); now = fit };
-    lines = record { moments = jointly_now (LinesAsBefore r (IsCrashImage disk)) (lines_now r); now = lines_now r (IsCrashImage disk) (λ image is. is); reads = same_lines r disk.reads };
-  }
-
--- ---- A store that was opened
-
-pub begun : (kind : Kind) (log_exit : Bool) (texts : List (List ℕ)) (old : World) (disk : DiskView) (v : KeeperView) → IsSetTo 0 1 kind log_exit texts v → (old.disk_tells → IsFresh 0 1 old.disk)
-    → (old.disk_tells → (last : ℕ) × (judged 0 1 (entry_at 0 old.disk.reads) ≡ Ok last)) → (old.disk_tells → NumbersFit (reading_of 0 1) 0 1 (IsCrashImage old.disk) → OpensAs 0 1 texts old.disk disk v)
-    → Begun (once_settings kind log_exit) texts old (with_disk old disk) v
-begun kind log_exit texts old disk v is fresh read opens = record {
-  given = λ told. refl;
-  rest = λ told. refl;
-  put = λ told. refl;
-  read_faults = omega arith;
-  write_faults = omega arith;
-  set_is = set_to kind log_exit texts v is;
-  standing = λ told. let r = read told in let fit = fresh told r.0 r.1 in standing_open kind log_exit texts old.disk disk v is fit (opens told fit);
-}
+-- ---- The next run
 
 -- the numbers fit at the end of a run that kept the store
 pub fit_kept : (opened : Type 0) (set : Settings) (texts : List (List ℕ)) (found left : DiskView) (turns : List LaneTurn) → KeepsStore opened set texts (record { found = found; left = left }) turns
@@ -283,6 +369,13 @@ fit_kept opened set texts found left turns k is_now fit =
     let at = k.recovers.numbers fit left.moment later (omega arith) in
     record { told = λ image is. at.told image (is_now image is); none_above = λ a b last n is it. at.none_above a b last n (is_now a is) (is_now b it) }
 
-pub fit_now : (set : Settings) (texts : List (List ℕ)) (old new : World) (status : Status) → RunsOnce set texts old new status → ((image : Image) → IsCrashImage new.disk image → new.disk.crash_images_at new.disk.moment image)
-    → old.disk_tells → NumbersFit (reading_of set.lane set.lanes) set.lane set.lanes (IsCrashImage old.disk) → NumbersFit (reading_of set.lane set.lanes) set.lane set.lanes (IsCrashImage new.disk)
-fit_now set texts old new status r is_now told fit = fit_kept (IsOpened status r.tape) set texts old.disk new.disk (map turn_of (turns_in r.tape)) (r.keeps told).store is_now fit
+-- the next run may begin with the disk
+pub may_serve_again : (opened : Type 0) (kind : Kind) (log_exit : Bool) (texts : List (List ℕ)) (found left : DiskView) (turns : List LaneTurn) → KeepsStore opened (once_settings kind log_exit) texts (record { found = placed found left; left = left }) turns
+    → ((image : Image) → IsCrashImage left image → left.crash_images_at left.moment image) → IsFresh 0 1 left → MayServeAgain found left
+may_serve_again opened kind log_exit texts found left turns k is_now fresh = record {
+  fresh = λ was. fresh;
+  fits = λ fit. fit_kept opened (once_settings kind log_exit) texts (placed found left) left turns k is_now (record { told = fit.told; none_above = fit.none_above });
+}
+
+pub may_serve_still : (disk : DiskView) → MayServeAgain disk disk
+may_serve_still disk = record { fresh = λ was. was; fits = λ fit. fit }

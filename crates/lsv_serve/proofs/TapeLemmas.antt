@@ -1,5 +1,5 @@
 -- A tape with one turn more.
-use Rattle.std.proofs.Common.{◌≡◌, ◌⊎◌, inl, inr, ◌++◌, ◌∷◌, [], List, map, ℕ, Bool, true, false, refl, sym, ap, subst, ◌∙◌, append_assoc, append-nil}
+use Rattle.std.proofs.Common.{◌≡◌, ◌⊎◌, inl, inr, ◌++◌, ◌∷◌, [], List, ℕ, Bool, true, false, refl, sym, ap, subst, ◌∙◌, append_assoc, append-nil}
 use Rattle.std.specs.Prelude.{◌||◌}
 use Rattle.std.specs.List.{AllByRecursion, concat}
 use Rattle.std.proofs.lemmas.Grind.{flat_map-append}
@@ -11,9 +11,7 @@ use Rattle.lsv_session.specs.Transcript.{AreJobs, answers, frames_of, said_to}
 use Rattle.lsv_session.specs.declared.job.Body.{Body}
 use Rattle.lsv_session.specs.declared.reply.Reply.{Reply}
 use Rattle.lsv_session.proofs.Replies.{answers-append}
-use Rattle.lsv_machine.specs.Recovery.{Turn}
-use Rattle.lsv_lane.specs.Store.{AreTurns, IsTurn}
-use Rattle.lsv_serve.specs.Tape.{PutsAll, PutsPart, ShutLast, TapeTurn, TurnsOf, bodies_in, once_conn, replies_in, shuts, turn_of, was_shut}
+use Rattle.lsv_serve.specs.Tape.{PutsAll, PutsPart, ShutLast, TapeTurn, TurnsOf, bodies_in, once_conn, replies_in, shuts, was_shut}
 
 pub all_last : {A : Type 0} (P : A → Type 0) (xs : List A) (x : A) → AllByRecursion P xs → P x → AllByRecursion P (xs ++ x ∷ [])
 all_last P [] x all is = (is, tt)
@@ -72,12 +70,6 @@ turns_last read said (p ∷ pieces) (u ∷ turns) piece t each are =
       turns_last (read ++ p) (said ++ u.bodies) pieces turns piece t each.1
           (subst (λ (l : List Body). AreJobs (((read ++ p) ++ concat pieces) ++ piece) l) bodies (subst (λ (b : List ℕ). AreJobs b ((said ++ (u.bodies ++ bodies_in turns)) ++ t.bodies)) bytes are)),
     )
-
-pub are_turns_last : (tape : List TapeTurn) (turns : List Turn) (t : TapeTurn) (turn : Turn) → AreTurns (map turn_of tape) turns → IsTurn (turn_of t) turn → AreTurns (map turn_of (tape ++ t ∷ [])) (turns ++ turn ∷ [])
-are_turns_last [] [] t turn are is = (is, tt)
-are_turns_last [] (u ∷ turns) t turn are is = absurd are
-are_turns_last (s ∷ tape) [] t turn are is = absurd are
-are_turns_last (s ∷ tape) (u ∷ turns) t turn are is = (are.0, are_turns_last tape turns t turn are.1 is)
 
 -- ---- What was put
 

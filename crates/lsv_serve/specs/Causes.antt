@@ -3,7 +3,10 @@ use Rattle.std.specs.Prelude.{◌≡◌, ◌≤◌, ◌⊎◌, ℕ, List, Some, 
 use Rattle.lsv_words.specs.Causes.{HasRisen}
 use Rattle.lsv_conf.specs.Lines.{Placed, first_refused}
 use Rattle.lsv_conf.specs.Settings.{told}
-use Rattle.lsv_disk.specs.View.{DiskView}
+use Rattle.lsv_disk.specs.View.{DiskView, IsCrashImage}
+use Rattle.lsv_machine.specs.Disks.{NumbersFit}
+use Rattle.lsv_keeper.specs.Reading.{reading_of}
+use Rattle.lsv_lane.specs.Store.{IsFresh}
 use Rattle.lsv_server.specs.Runs.{HasStoreCause}
 use Rattle.lsv_serve.specs.declared.status.Status.{Status}
 use Rattle.lsv_serve.specs.declared.status.Status.TheVariants.{NoUpstream, Pending, Served, Usage, Conf, Store, ReadFault, WriteFault, PortFault, NoMem}
@@ -15,8 +18,8 @@ HasStatusCause old new Served = Unit {0}
 HasStatusCause old new Usage = Unit {0}
 HasStatusCause old new (Conf line) = ⊥
 HasStatusCause old new (Store fault) = HasStoreCause old.disk_tells old.disk new.disk fault
-HasStatusCause old new ReadFault = HasRisen old.read_faults new.read_faults
-HasStatusCause old new WriteFault = HasRisen old.write_faults new.write_faults
+HasStatusCause old new ReadFault = HasRisen old.wires.read_faults new.wires.read_faults
+HasStatusCause old new WriteFault = HasRisen old.wires.write_faults new.wires.write_faults
 HasStatusCause old new PortFault = ⊥
 HasStatusCause old new NoUpstream = ⊥
 HasStatusCause old new (Pending left) = ⊥
@@ -39,7 +42,7 @@ HasProgramCause lines faults faults' old new NoUpstream = ⊥
 HasProgramCause lines faults faults' old new (Pending left) = ⊥
 HasProgramCause lines faults faults' old new NoMem = Unit {0}
 
--- the places of the store that the disk was given are this folder of logs and this event log; or out of memory it has none
+-- the places of the store that the disk was given are this folder of logs and this event log; or it has none
 abbrev pub HasPlaces : (logs events : List ℕ) → DiskView → Type 0
 HasPlaces logs events disk = (disk.places ≡ Some (record { logs = logs; events = events })) ⊎ (disk.places ≡ None)
 
@@ -55,3 +58,8 @@ HasPlacesAt logs events old new PortFault = HasPlaces logs events new
 HasPlacesAt logs events old new NoUpstream = new.places ≡ old.places
 HasPlacesAt logs events old new (Pending left) = HasPlaces logs events new
 HasPlacesAt logs events old new NoMem = HasPlaces logs events new ⊎ (new.places ≡ old.places)
+
+-- if a run could begin with the old disk, one may begin with the new one. If the numbers fitted the old crash images, they fit the new ones
+pub record MayServeAgain (old new : DiskView) : Type 0 where
+  pub fresh : IsFresh 0 1 old → IsFresh 0 1 new
+  pub fits : NumbersFit (reading_of 0 1) 0 1 (IsCrashImage old) → NumbersFit (reading_of 0 1) 0 1 (IsCrashImage new)

@@ -3,7 +3,6 @@ use Rattle.std.specs.Prelude.{◌≡◌, ◌≢◌, ◌<◌, ◌+◌, ◌-◌, �
 use Rattle.std.specs.List.{flat_map}
 use Rattle.lsv_words.specs.Causes.{HasRisen}
 use Rattle.lsv_conf.specs.Lines.{first_refused}
-use Rattle.lsv_disk.specs.View.{IsCrashImage}
 use Rattle.lsv_disk.specs.declared.file.FileId.{FileId}
 use Rattle.lsv_event.specs.declared.event.Kind.{Kind}
 use Rattle.lsv_eventlog.specs.Recovered.{HoldsLines}
@@ -13,15 +12,14 @@ use Rattle.lsv_session.specs.Transcript.{AreJobs, answers, frames_of, messages_i
 use Rattle.lsv_session.specs.declared.connection.ConnState.TheVariants.{Fresh}
 use Rattle.lsv_session.specs.declared.job.Body.{Body}
 use Rattle.lsv_machine.specs.Answers.{Saying, body_of}
-use Rattle.lsv_machine.specs.Disks.{NumbersFit}
 use Rattle.lsv_machine.specs.Failures.{Act, WantsMemory}
 use Rattle.lsv_machine.specs.Legal.{Came, Fits, IsLegal, told_of, whole_log}
 use Rattle.lsv_machine.specs.Machine.{Settings}
 use Rattle.lsv_machine.specs.Recovery.{Story, Turn}
 use Rattle.lsv_keeper.specs.Opening.{IsStoreFault}
-use Rattle.lsv_keeper.specs.Reading.{IsDrawn, reading_of}
+use Rattle.lsv_keeper.specs.Reading.{IsDrawn}
 use Rattle.lsv_keeper.specs.declared.fault.StoreFault.TheVariants as faults
-use Rattle.lsv_serve.specs.Causes.{HasPlacesAt, HasProgramCause}
+use Rattle.lsv_serve.specs.Causes.{HasPlacesAt, HasProgramCause, MayServeAgain}
 use Rattle.lsv_serve.specs.Once.{RunsOnce, once_settings}
 use Rattle.lsv_serve.specs.Program.{lines_in, machine_of, prompts_of, set_by}
 use Rattle.lsv_serve.specs.Tape.{Tape, TapeTurn, once_conn}
@@ -46,7 +44,7 @@ AllAmple (turn ∷ turns) = AreAmple turn.acts × AllAmple turns
 -- nothing was in the way of a run that has a legal conversation to read. last: the last log number drawn. lines: the text of the event log
 pub record IsUnhindered (set : Settings) (old new : World) (status : Status) (tape : Tape) (story : Story) (last : ℕ) (lines : List ℕ) (bodies : List Body) : Type 0 where
   -- all that the source has to give is the conversation, and it opens the log of the next number
-  pub sent : AreJobs old.rest bodies
+  pub sent : AreJobs old.wires.rest bodies
   pub legal : IsLegal (last + 1) Fresh bodies
   -- the number file and the event log are neither damaged nor of other lanes
   pub drawn : IsDrawn 0 1 old.disk.reads last
@@ -56,10 +54,10 @@ pub record IsUnhindered (set : Settings) (old new : World) (status : Status) (ta
   -- no file, elapsed time or log number passes its limit
   pub fits : Fits set once_conn (last + 1) Fresh lines (came_in tape.reads) bodies
   -- no read, no write and no call of the disk failed, and the source gave fewer bytes than its count can tell
-  pub no_read_failed : HasRisen old.read_faults new.read_faults → ⊥
-  pub no_write_failed : HasRisen old.write_faults new.write_faults → ⊥
+  pub no_read_failed : HasRisen old.wires.read_faults new.wires.read_faults → ⊥
+  pub no_write_failed : HasRisen old.wires.write_faults new.wires.write_faults → ⊥
   pub no_call_failed : (file : FileId) → HasRisen (old.disk.faults file) (new.disk.faults file) → ⊥
-  pub few_bytes : new.count < 2 ^ 63 - 1
+  pub few_bytes : new.wires.count < 2 ^ 63 - 1
   -- memory was ample
   pub had_memory : status ≢ NoMem
   pub ample : AllAmple story.turns
@@ -75,13 +73,13 @@ answers_of sayings = answers once_conn [] ++ frames_of (messages_of sayings)
 -- the conversation was served: it was answered by its log's number and its commit points, and the log replays as all that was sent, as it is masked, with its exit
 pub record IsServedBy (texts : List (List ℕ)) (old new : World) (status : Status) (tape : Tape) (last : ℕ) (bodies : List Body) : Type 0 where
   pub served : status ≡ Served
-  pub put : new.put ≡ old.put ++ answers_of (told_of (last + 1) (map (λ t. t.bodies) tape.reads))
+  pub put : new.wires.put ≡ old.wires.put ++ answers_of (told_of (last + 1) (map (λ t. t.bodies) tape.reads))
   pub log : Replays new.disk.reads (last + 1) (Some (whole_log texts bodies))
 
 -- a run serves each legal conversation that opens a log, where nothing is in the way
 abbrev pub Completes : Kind → (log_exit : Bool) → (texts : List (List ℕ)) → (old new : World) → Status → Type 0
 Completes kind log_exit texts old new status =
-    old.source_tells → old.sink_tells → (told : old.disk_tells) → (runs : RunsOnce (once_settings kind log_exit) texts old new status) → (last : ℕ) (lines : List ℕ) (bodies : List Body)
+    old.wires.source_tells → old.wires.sink_tells → (told : old.disk_tells) → (runs : RunsOnce (once_settings kind log_exit) texts old new status) → (last : ℕ) (lines : List ℕ) (bodies : List Body)
     → IsUnhindered (once_settings kind log_exit) old new status runs.tape (runs.keeps told).store.story last lines bodies → IsServedBy texts old new status runs.tape last bodies
 
 -- a run of `once` with the settings file as it was found
@@ -90,5 +88,4 @@ pub record OnceAs (found : Option (List ℕ)) (faults faults' : ℕ) (old new : 
   pub cause : HasProgramCause (lines_in found) faults faults' old new status
   pub complete : (HasRisen faults faults' → ⊥) → first_refused (lines_in found) ≡ None → Completes (set_by found).format (set_by found).log_exit (prompts_of (set_by found)) old new status
   pub places : old.disk_tells → HasPlacesAt (set_by found).iolog_dir (set_by found).path old.disk new.disk status
-  -- the numbers fit the images of the disk again, as the next run asks
-  pub fresh_again : old.disk_tells → NumbersFit (reading_of 0 1) 0 1 (IsCrashImage old.disk) → NumbersFit (reading_of 0 1) 0 1 (IsCrashImage new.disk)
+  pub again : old.disk_tells → MayServeAgain old.disk new.disk

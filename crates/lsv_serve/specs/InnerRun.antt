@@ -5,7 +5,6 @@ use Rattle.lsv_words.specs.Causes.{HasRisen}
 use Rattle.lsv_words.specs.Pieces.{IsPrefix}
 use Rattle.lsv_base.specs.Time.{nanos_of}
 use Rattle.lsv_base.specs.declared.time.TimeSpec.{TimeSpec}
-use Rattle.lsv_disk.specs.View.{DiskView}
 use Rattle.lsv_wire.specs.Frame.{frame_of}
 use Rattle.lsv_msg.specs.Messages.{server_bytes}
 use Rattle.lsv_session.specs.Connections.{server_hello}
@@ -13,24 +12,16 @@ use Rattle.lsv_session.specs.Transcript.{AreAllJobs, AreJobs, HasCut, answers}
 use Rattle.lsv_session.specs.declared.job.Body.{Body}
 use Rattle.lsv_session.specs.declared.job.Job.{Job}
 use Rattle.lsv_session.specs.declared.reply.Reply.{Reply}
-use Rattle.lsv_machine.specs.InnerSoFar.{SoFar}
-use Rattle.lsv_machine.specs.Machine.{Machine, Settings}
-use Rattle.lsv_machine.specs.Recovery.{Story}
-use Rattle.lsv_keeper.specs.Reading.{reading_of}
-use Rattle.lsv_keeper.specs.Represents.{Represents}
-use Rattle.lsv_keeper.specs.Tails.{TurnGives}
-use Rattle.lsv_keeper.specs.Value.{KeeperView, settings_of}
 use Rattle.lsv_keeper.specs.declared.fault.StoreFault.{StoreFault}
 use Rattle.lsv_keeper.specs.declared.fault.StoreFault.TheVariants as faults
+use Rattle.lsv_turns.specs.Turns.{LaneTurn}
 use Rattle.lsv_serve.specs.declared.server.End.{End}
 use Rattle.lsv_serve.specs.declared.server.End.TheVariants as ends
 use Rattle.lsv_serve.specs.declared.status.Status.{Status}
-use Rattle.lsv_serve.specs.declared.status.Status.TheVariants.{Served, Usage, Store, ReadFault, WriteFault, NoMem}
-use Rattle.lsv_serve.specs.Causes.{HasStatusCause}
-use Rattle.lsv_lane.specs.Store.{AreTurns}
-use Rattle.lsv_serve.specs.Once.{RunsOnce}
-use Rattle.lsv_serve.specs.Tape.{PutsFor, ShutLast, TapeTurn, TurnsOf, bodies_in, jobs_of, once_conn, replies_in, turn_of, was_shut}
-use Rattle.lsv_serve.specs.World.{World}
+use Rattle.lsv_serve.specs.declared.status.Status.TheVariants.{Served, Store, ReadFault, WriteFault, NoMem}
+use Rattle.lsv_serve.specs.Once.{Reads}
+use Rattle.lsv_serve.specs.Tape.{PutsFor, ShutLast, Tape, TapeTurn, TurnsOf, bodies_in, jobs_of, once_conn, replies_in, turn_of, turns_in, was_shut}
+use Rattle.lsv_serve.specs.World.{Wires}
 
 -- ---- Jobs
 
@@ -57,41 +48,26 @@ pub record Takes (piece : List ℕ) (over : Bool) (unread : List ℕ) (jobs : Li
   pub goes : (read : List ℕ) (said : List Body) → Cuts over read said unread → Cuts over' (read ++ piece) (said ++ bodies) unread'
   pub all : (read : List ℕ) (said : List Body) → Cuts over read said unread → AreJobs (read ++ piece) (said ++ bodies)
 
--- the same, and they were put behind others
-pub record TakesOn (piece : List ℕ) (jobs : List Job) (over : Bool) (unread : List ℕ) (jobs' : List Job) (over' : Bool) (unread' : List ℕ) : Type 0 where
-  pub more : List Job
-  pub are : jobs' ≡ jobs ++ more
-  pub takes : Takes piece over unread more over' unread'
-
 -- ---- Turns
 
--- a turn was made of these jobs
-pub record TurnDone (tells : Type 0) (jobs : List Job) (v v' : KeeperView) (replies : List Reply) (old new : DiskView) : Type 0 where
+-- a turn was made of these jobs: the turns that had made the lane what it was make it with this one what it is
+pub record TurnMade {S : Type 0} (made made' : S → List LaneTurn → Type 0) (jobs : List Job) (replies : List Reply) : Type 0 where
   pub now : TimeSpec
   pub valid : IsSome (nanos_of now)
-  pub gives : tells → (m : Machine) → Represents v old m → TurnGives v now jobs m [] replies v' old new
-
--- the turns so far are the machine's, for which the keeper and the disk stand
-pub record Standing (set : Settings) (texts : List (List ℕ)) (found now : DiskView) (v : KeeperView) (turns : List TapeTurn) : Type 0 where
-  pub machine : Machine
-  pub story : Story
-  pub so_far : SoFar (reading_of set.lane set.lanes) set texts (record { found = found; left = now }) machine story
-  pub same : AreTurns (map turn_of turns) story.turns
-  pub represents : Represents v now machine
-  pub places : now.places ≡ found.places
+  pub goes : (start : S) (turns : List LaneTurn) → made start turns → made' start (turns ++ record { now = now; jobs = jobs; replies = replies } ∷ [])
 
 -- ---- The reads of a run
 
 -- what was read so far, and no count of faults fell
-pub record HasRead (old now : World) (pieces : List (List ℕ)) : Type 0 where
+pub record HasRead (old now : Wires) (pieces : List (List ℕ)) : Type 0 where
   pub given : old.source_tells → now.given ≡ old.given ++ pieces
   pub rest : old.source_tells → old.rest ≡ concat pieces ++ now.rest
   pub small : AllByRecursion (λ piece. length piece ≤ 65536) pieces
   pub read_faults : old.read_faults ≤ now.read_faults
   pub write_faults : old.write_faults ≤ now.write_faults
 
--- a run between two reads
-pub record UnderWay (set : Settings) (texts : List (List ℕ)) (old now : World) (v : KeeperView) (over : Bool) (unread : List ℕ) : Type 0 where
+-- a run between two reads. Made: what is so of a lane that these turns made what it is
+pub record UnderWay (Made : List LaneTurn → Type 0) (old now : Wires) (over : Bool) (unread : List ℕ) : Type 0 where
   pub pieces : List (List ℕ)
   pub reads : List TapeTurn
   pub read : HasRead old now pieces
@@ -100,11 +76,10 @@ pub record UnderWay (set : Settings) (texts : List (List ℕ)) (old now : World)
   pub not_shut : was_shut reads ≡ false
   pub cuts : Cuts over (concat pieces) (bodies_in reads) unread
   pub put : old.sink_tells → now.put ≡ old.put ++ answers once_conn (replies_in reads)
-  pub set_is : settings_of v ≡ set
-  pub standing : old.disk_tells → Standing set texts old.disk now.disk v reads
+  pub made : Made (map turn_of reads)
 
--- a run behind a turn, whose answers are not put yet
-pub record Unput (set : Settings) (texts : List (List ℕ)) (old now : World) (v : KeeperView) (over : Bool) (unread : List ℕ) (replies : List Reply) : Type 0 where
+-- a run after a turn, whose answers are not put yet
+pub record Unput (Made : List LaneTurn → Type 0) (old now : Wires) (over : Bool) (unread : List ℕ) (replies : List Reply) : Type 0 where
   pub pieces : List (List ℕ)
   pub earlier : List TapeTurn
   pub last : TapeTurn
@@ -115,8 +90,7 @@ pub record Unput (set : Settings) (texts : List (List ℕ)) (old now : World) (v
   pub not_shut : was_shut earlier ≡ false
   pub cuts : Cuts over (concat pieces) (bodies_in (earlier ++ last ∷ [])) unread
   pub put : old.sink_tells → now.put ≡ old.put ++ answers once_conn (replies_in earlier)
-  pub set_is : settings_of v ≡ set
-  pub standing : old.disk_tells → Standing set texts old.disk now.disk v (earlier ++ last ∷ [])
+  pub made : Made (map turn_of (earlier ++ last ∷ []))
 
 -- how the reads of a run may end, where the connection was shut or not
 abbrev pub MayEnd : End → (shut : Bool) → Type 0
@@ -134,8 +108,16 @@ abbrev pub status_in : End → Status
 status_in (ends.Open status) = status
 status_in (ends.Last status) = status
 
+-- why the reads ended so
+abbrev pub HasReadsCause : Wires → Wires → Status → Type 0
+HasReadsCause old now Served = Unit {0}
+HasReadsCause old now ReadFault = HasRisen old.read_faults now.read_faults
+HasReadsCause old now WriteFault = HasRisen old.write_faults now.write_faults
+HasReadsCause old now NoMem = Unit {0}
+HasReadsCause old now status = ⊥
+
 -- the reads of a run came to an end
-pub record Ended (set : Settings) (texts : List (List ℕ)) (old now : World) (v : KeeperView) (end : End) : Type 0 where
+pub record Ended (Made : List LaneTurn → Type 0) (old now : Wires) (end : End) : Type 0 where
   pub pieces : List (List ℕ)
   pub lost : List (List ℕ)
   pub reads : List TapeTurn
@@ -147,9 +129,8 @@ pub record Ended (set : Settings) (texts : List (List ℕ)) (old now : World) (v
   pub few_lost : (lost ≡ []) ⊎ ((status_in end ≡ NoMem) × (was_shut reads ≡ false) × ((piece : List ℕ) × (lost ≡ piece ∷ [])))
   pub ended : status_in end ≡ Served → was_shut reads ≡ false → old.source_tells → now.count < 2 ^ 63 - 1 → now.rest ≡ []
   pub put : old.sink_tells → (bytes : List ℕ) × (now.put ≡ old.put ++ bytes) × PutsFor (status_in end) reads bytes
-  pub set_is : settings_of v ≡ set
-  pub standing : old.disk_tells → Standing set texts old.disk now.disk v reads
-  pub cause : HasStatusCause old now (status_in end)
+  pub cause : HasReadsCause old now (status_in end)
+  pub made : Made (map turn_of reads)
 
 -- ---- What is put
 
@@ -172,24 +153,15 @@ abbrev pub unput : (shut : Bool) → End
 unput true = ends.Last WriteFault
 unput false = ends.Open WriteFault
 
--- ---- The start and the end
+-- ---- The end
 
--- a run whose store was opened, before anything was put or read
-pub record Begun (set : Settings) (texts : List (List ℕ)) (old now : World) (v : KeeperView) : Type 0 where
-  pub given : old.source_tells → now.given ≡ old.given
-  pub rest : old.source_tells → now.rest ≡ old.rest
-  pub put : old.sink_tells → now.put ≡ old.put
-  pub read_faults : old.read_faults ≤ now.read_faults
-  pub write_faults : old.write_faults ≤ now.write_faults
-  pub set_is : settings_of v ≡ set
-  pub standing : old.disk_tells → Standing set texts old.disk now.disk v []
-
--- a run is over
-pub record Serves (set : Settings) (texts : List (List ℕ)) (old new : World) (status : Status) : Type 0 where
-  pub runs : RunsOnce set texts old new status
-  pub cause : HasStatusCause old new status
-  pub places : old.disk_tells → new.disk.places ≡ old.disk.places
-  pub not_usage : status ≡ Usage → ⊥
+-- the connection was served, or memory ran out: by these turns, those of the reads and that in which it went
+pub record Serves (Made : List LaneTurn → Type 0) (old new : Wires) (status : Status) : Type 0 where
+  pub tape : Tape
+  pub reads : Reads old new status tape
+  pub puts : old.sink_tells → (bytes : List ℕ) × (new.put ≡ old.put ++ bytes) × PutsFor status tape.reads bytes
+  pub cause : HasReadsCause old new status
+  pub made : Made (map turn_of (turns_in tape))
 
 -- the status of a run whose store isn't opened
 abbrev pub store_status : StoreFault → Status

@@ -3,10 +3,8 @@ use Rattle.std.specs.Prelude.{◌≡◌, ◌++◌, ℕ, List, [], Option, None}
 use Rattle.lsv_words.specs.Causes.{HasRisen}
 use Rattle.lsv_words.specs.Pieces.{IsPrefix}
 use Rattle.lsv_conf.specs.Lines.{Placed, first_refused}
-use Rattle.lsv_disk.specs.View.{DiskView, IsCrashImage}
-use Rattle.lsv_machine.specs.Disks.{NumbersFit}
+use Rattle.lsv_disk.specs.View.{DiskView, IsLeftAlone}
 use Rattle.lsv_machine.specs.Machine.{Settings}
-use Rattle.lsv_keeper.specs.Reading.{reading_of}
 use Rattle.lsv_machine.specs.Recovery.{Outside}
 use Rattle.lsv_turns.specs.Turns.{LaneTurn, TapeTurn}
 use Rattle.lsv_lane.specs.Store.{KeepsStore}
@@ -17,7 +15,7 @@ use Rattle.lsv_load.specs.Whole.{SumsUpAll}
 use Rattle.lsv_load.specs.declared.run.LoadEnd.TheVariants as ends
 use Rattle.lsv_serve.specs.declared.status.Status.{Status}
 use Rattle.lsv_serve.specs.declared.status.Status.TheVariants.{NoUpstream, Pending, Served, Usage, Conf, Store, ReadFault, WriteFault, PortFault, NoMem}
-use Rattle.lsv_serve.specs.Causes.{HasConfCause, HasPlacesAt}
+use Rattle.lsv_serve.specs.Causes.{HasConfCause, HasPlacesAt, MayServeAgain}
 use Rattle.lsv_serve.specs.Program.{lines_in, machine_of, prompts_of, set_by}
 use Rattle.lsv_serve.specs.World.{World}
 
@@ -25,18 +23,18 @@ use Rattle.lsv_serve.specs.World.{World}
 pub record PutsSummary {D : Type 0} (tape_tells : Type 0) (view : D → DiskView) (set : Settings) (texts : List (List ℕ)) (count : ℕ) (old new : World) (found left : D) (tape new_tape : List TapeTurn) : Type 0 where
   pub text : List ℕ
   pub run : RunsLoad old.disk_tells tape_tells view set texts count found left tape new_tape (ends.Served text)
-  pub put : old.sink_tells → new.put ≡ old.put ++ text
+  pub put : old.wires.sink_tells → new.wires.put ≡ old.wires.put ++ text
 
 -- a write of the summary failed, of which a first part was put
 pub record PutsPart {D : Type 0} (tape_tells : Type 0) (view : D → DiskView) (set : Settings) (texts : List (List ℕ)) (count : ℕ) (old new : World) (found left : D) (tape new_tape : List TapeTurn) : Type 0 where
   pub text : List ℕ
   pub run : RunsLoad old.disk_tells tape_tells view set texts count found left tape new_tape (ends.Served text)
-  pub risen : HasRisen old.write_faults new.write_faults
-  pub put : old.sink_tells → (front : List ℕ) × IsPrefix front text × (new.put ≡ old.put ++ front)
+  pub risen : HasRisen old.wires.write_faults new.wires.write_faults
+  pub put : old.wires.sink_tells → (front : List ℕ) × IsPrefix front text × (new.wires.put ≡ old.wires.put ++ front)
 
 -- nothing was put
 abbrev pub PutsNothing : (old new : World) → Type 0
-PutsNothing old new = old.sink_tells → new.put ≡ old.put
+PutsNothing old new = old.wires.sink_tells → new.wires.put ≡ old.wires.put
 
 -- a run by its status
 abbrev pub LoadsTo : {D : Type 0} (tape_tells : Type 0) (view : D → DiskView) → Settings → List (List ℕ) → (count : ℕ) → (old new : World) (found left : D) (tape new_tape : List TapeTurn) → Status → Type 0
@@ -51,7 +49,7 @@ LoadsTo {D} tape_tells view set texts count old new found left tape new_tape Por
 LoadsTo {D} tape_tells view set texts count old new found left tape new_tape NoUpstream = ⊥
 LoadsTo {D} tape_tells view set texts count old new found left tape new_tape (Pending logs) = ⊥
 
--- why a run ended so: its settings weren't read, or no line of them is refused
+-- that a run's settings weren't read, or that no line of them is refused. The causes of Store and WriteFault stand in `runs`
 abbrev pub HasLoadCause : (lines : List Placed) (faults faults' : ℕ) → Status → Type 0
 HasLoadCause lines faults faults' Served = first_refused lines ≡ None
 HasLoadCause lines faults faults' WriteFault = first_refused lines ≡ None
@@ -89,11 +87,13 @@ OfSummary (Pending left) so = Unit {0}
 
 -- a run of `load` with the settings file as it was found
 pub record LoadsAs {D : Type 0} (tape_tells : Type 0) (view : D → DiskView) (set : Option (List ℕ)) (faults faults' : ℕ) (count : ℕ) (old new : World) (found left : D) (tape new_tape : List TapeTurn) (status : Status) : Type 0 where
-  pub runs : LoadsTo tape_tells view (machine_of (set_by set)) (prompts_of (set_by set)) count old new found left tape new_tape status
+  -- the disk after `root`: no file, moment or count of it is otherwise
+  pub placed : D
+  pub alone : IsLeftAlone old.disk_tells (view found) (view placed)
+  pub runs : LoadsTo tape_tells view (machine_of (set_by set)) (prompts_of (set_by set)) count old new placed left tape new_tape status
   pub cause : HasLoadCause (lines_in set) faults faults' status
-  pub complete : CompletesLoad old.disk_tells tape_tells view (machine_of (set_by set)) (prompts_of (set_by set)) count found left tape new_tape
+  pub complete : CompletesLoad old.disk_tells tape_tells view (machine_of (set_by set)) (prompts_of (set_by set)) count placed left tape new_tape
   -- where nothing was in the way of any of its conversations, what is summed up are the logs of all of them
-  pub whole : OfSummary status (SumsUpAll old.disk_tells tape_tells view (machine_of (set_by set)) (prompts_of (set_by set)) count found left tape new_tape)
+  pub whole : OfSummary status (SumsUpAll old.disk_tells tape_tells view (machine_of (set_by set)) (prompts_of (set_by set)) count placed left tape new_tape)
   pub places : old.disk_tells → HasPlacesAt (set_by set).iolog_dir (set_by set).path (view found) (view left) status
-  -- the numbers fit the images of the disk again, as the next run asks
-  pub fresh_again : old.disk_tells → NumbersFit (reading_of 0 1) 0 1 (IsCrashImage (view found)) → NumbersFit (reading_of 0 1) 0 1 (IsCrashImage (view left))
+  pub again : old.disk_tells → MayServeAgain (view found) (view left)

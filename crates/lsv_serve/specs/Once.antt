@@ -1,16 +1,21 @@
 -- A run of the command `once`: what it read, what it put, and what it did with the store, also where device calls fail and wherever the machine stops.
-use Rattle.std.specs.Prelude.{◌≡◌, ◌≢◌, ◌≤◌, ◌<◌, ◌-◌, ◌^◌, ◌⊎◌, ◌++◌, ℕ, Bool, false, List, [], ◌∷◌, length, map, IsSome}
+use Rattle.std.specs.Prelude.{◌≡◌, ◌≢◌, ◌≤◌, ◌<◌, ◌-◌, ◌^◌, ◌⊎◌, ◌++◌, ℕ, Bool, false, List, [], ◌∷◌, length, map, IsSome, None}
 use Rattle.std.specs.List.{AllByRecursion, concat}
 use Rattle.lsv_base.specs.Time.{nanos_of}
 use Rattle.lsv_event.specs.declared.event.Kind.{Kind}
 use Rattle.lsv_session.specs.Transcript.{said_to}
 use Rattle.lsv_machine.specs.Machine.{Settings}
 use Rattle.lsv_machine.specs.Recovery.{Outside}
-use Rattle.lsv_lane.specs.Store.{KeepsStore, lane_settings}
+use Rattle.lsv_seq.specs.Drawn.{entry_at}
+use Rattle.lsv_keeper.specs.Causes.{StoreRose}
+use Rattle.lsv_keeper.specs.Opening.{KeepsEntry}
+use Rattle.lsv_keeper.specs.declared.fault.StoreFault.{StoreFault}
+use Rattle.lsv_turns.specs.Turns.{all_taped}
+use Rattle.lsv_lane.specs.Store.{AreAnswered, KeepsStore, lane_settings}
 use Rattle.lsv_serve.specs.declared.status.Status.{Status}
 use Rattle.lsv_serve.specs.declared.status.Status.TheVariants.{NoUpstream, Pending, Served, Usage, Conf, Store, ReadFault, WriteFault, PortFault, NoMem}
 use Rattle.lsv_serve.specs.Tape.{EndsFor, PutsFor, ShutLast, Tape, TurnsOf, once_conn, replies_in, turn_of, turns_in, was_shut}
-use Rattle.lsv_serve.specs.World.{World}
+use Rattle.lsv_serve.specs.World.{Wires, World, placed}
 
 -- ---- What is asked for
 
@@ -21,7 +26,7 @@ once_settings kind log_exit = lane_settings 0 1 kind log_exit
 -- ---- What was read
 
 -- the turns of a run are what was read: a turn for each piece, of at most 65,536 bytes, until the connection is shut, the input ends or fails, or an answer can't be put
-pub record Reads (old new : World) (status : Status) (tape : Tape) : Type 0 where
+pub record Reads (old new : Wires) (status : Status) (tape : Tape) : Type 0 where
   pub pieces : List (List ℕ)
   -- the piece for which memory ran out
   pub lost : List (List ℕ)
@@ -32,7 +37,7 @@ pub record Reads (old new : World) (status : Status) (tape : Tape) : Type 0 wher
   pub shut_last : ShutLast tape.reads
   pub ends : EndsFor status tape
   pub moments : AllByRecursion (λ t. IsSome (nanos_of t.now)) (turns_in tape)
-  -- a piece is lost only where memory ran out, and was read while the connection wasn't shut
+  -- a piece is lost only if memory ran out after it was read, before any Shut
   pub few_lost : (lost ≡ []) ⊎ ((status ≡ NoMem) × (was_shut tape.reads ≡ false) × ((piece : List ℕ) × (lost ≡ piece ∷ [])))
   -- a connection that is served and wasn't shut came to the end of the input
   pub ended : status ≡ Served → was_shut tape.reads ≡ false → old.source_tells → new.count < 2 ^ 63 - 1 → new.rest ≡ []
@@ -54,19 +59,21 @@ IsOpened (Store fault) tape = ⊥
 
 -- ---- A run
 
--- the disk before and after
-abbrev pub outside_of : World → World → Outside
-outside_of old new = record { found = old.disk; left = new.disk }
-
--- what a run did with the store, at whatever status: its turns are the machine's, and at each moment each log recovers from a crash
+-- what a run did with the store, at whatever status: at each moment each log recovers from a crash. If the store was opened, the turns are the machine's
 pub record KeepsOnce (set : Settings) (texts : List (List ℕ)) (o : Outside) (status : Status) (tape : Tape) : Type 0 where
   pub store : KeepsStore (IsOpened status tape) set texts o (map turn_of (turns_in tape))
   -- a connection that goes is told nothing, so all answers are those of the reads
   pub silent : IsOpened status tape → said_to once_conn (replies_in tape.leaving) ≡ []
 
--- a run with these settings and prompts: its turns are what was read, what was put are their answers, and the store is kept
+-- A run with these settings and prompts: its turns are what was read, what was put are their answers, and the tape and the store
+-- keep them.
 pub record RunsOnce (set : Settings) (texts : List (List ℕ)) (old new : World) (status : Status) : Type 0 where
   pub tape : Tape
-  pub reads : Reads old new status tape
-  pub puts : old.sink_tells → (bytes : List ℕ) × (new.put ≡ old.put ++ bytes) × PutsFor status tape.reads bytes
-  pub keeps : old.disk_tells → KeepsOnce set texts (outside_of old new) status tape
+  pub reads : Reads old.wires new.wires status tape
+  pub puts : old.wires.sink_tells → (bytes : List ℕ) × (new.wires.put ≡ old.wires.put ++ bytes) × PutsFor status tape.reads bytes
+  pub taped : old.tape_tells → new.tape ≡ old.tape ++ all_taped (map turn_of (turns_in tape))
+  -- over every disk: each reply is to the connection of one of its turn's jobs, and says that a device failed only if a count of the store's files rose
+  pub answered : AreAnswered (StoreRose old.disk new.disk) (map turn_of (turns_in tape))
+  -- at each moment of an opening that was refused the number file's last entry stayed as it was
+  pub entry : (fault : StoreFault) → status ≡ Store fault → old.disk_tells → entry_at 0 old.disk.reads ≢ None → KeepsEntry 0 old.disk new.disk
+  pub keeps : old.disk_tells → KeepsOnce set texts (record { found = placed old.disk new.disk; left = new.disk }) status tape

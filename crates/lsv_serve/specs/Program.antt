@@ -9,6 +9,7 @@ use Rattle.lsv_conf.specs.Lines.{Placed, lines_of}
 use Rattle.lsv_conf.specs.Settings.{settings_of}
 use Rattle.lsv_conf.specs.Settings as conf
 use Rattle.lsv_machine.specs.Machine.{Settings}
+use Rattle.lsv_port.specs.Ledger.{Listening}
 use Rattle.lsv_serve.specs.Once.{once_settings}
 
 -- the words ask for this: each is UTF-8, clap takes them, and this is what they say
@@ -32,6 +33,10 @@ machine_of set = once_settings set.format set.log_exit
 -- the texts behind which what is typed is masked: where passwords are stored as they are typed, none
 abbrev pub prompts_of : conf.Settings → List (List ℕ)
 prompts_of set = if set.log_passwords then [] else set.prompts
+
+-- what each port is asked to listen on: the address that the settings name, with the number of --stop-after
+abbrev pub listening_by : conf.Settings → (stop_after : Option ℕ) → Listening
+listening_by set stop_after = record { address = set.listen; stop_after = stop_after }
 
 -- the host to which logs are relayed: none if the settings name none, or don't ask for it
 abbrev pub upstream_of : conf.Settings → Option (List ℕ)

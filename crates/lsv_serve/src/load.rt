@@ -62,10 +62,11 @@ fn load_by<
     requires last { count ≤ 10000 }
     requires fresh { D.tells → IsFresh 0 1 (D.view out.disk) }
     ensures runs { LoadsBy G.tells D.view (once_settings formatter.kind options.log_exit) options.prompts count
-        (world_of ⟦<S as Source>⟧ ⟦<K as Sink>⟧ ⟦<D as Disk>⟧ out.source out.sink out.disk)
-        (world_of ⟦<S as Source>⟧ ⟦<K as Sink>⟧ ⟦<D as Disk>⟧ result.0.source result.0.sink result.0.disk)
+        (world_of ⟦<S as Source>⟧ ⟦<K as Sink>⟧ ⟦<D as Disk>⟧ ⟦<G as Tape>⟧ out.source out.sink out.disk out.tape)
+        (world_of ⟦<S as Source>⟧ ⟦<K as Sink>⟧ ⟦<D as Disk>⟧ ⟦<G as Tape>⟧ result.0.source result.0.sink result.0.disk result.0.tape)
         out.disk result.0.disk (G.turns out.tape) (G.turns result.0.tape) result.1 }
     ensures places { D.tells → HasPlaces options.logs options.events (D.view result.0.disk) }
+    ensures fresh_again { D.tells → IsFresh 0 1 (D.view result.0.disk) }
     ensures beside { (result.0.source ≡ out.source) × (result.0.ports ≡ out.ports) × (result.0.texts ≡ out.texts) × (result.0.link ≡ out.link) }
 {
     let Outside {
@@ -136,10 +137,11 @@ pub fn serve_load<
     requires last { count ≤ 10000 }
     requires fresh { D.tells → IsFresh 0 1 (D.view out.disk) }
     ensures runs { LoadsBy G.tells D.view (once_settings options.form options.log_exit) options.prompts count
-        (world_of ⟦<S as Source>⟧ ⟦<K as Sink>⟧ ⟦<D as Disk>⟧ out.source out.sink out.disk)
-        (world_of ⟦<S as Source>⟧ ⟦<K as Sink>⟧ ⟦<D as Disk>⟧ result.0.source result.0.sink result.0.disk)
+        (world_of ⟦<S as Source>⟧ ⟦<K as Sink>⟧ ⟦<D as Disk>⟧ ⟦<G as Tape>⟧ out.source out.sink out.disk out.tape)
+        (world_of ⟦<S as Source>⟧ ⟦<K as Sink>⟧ ⟦<D as Disk>⟧ ⟦<G as Tape>⟧ result.0.source result.0.sink result.0.disk result.0.tape)
         out.disk result.0.disk (G.turns out.tape) (G.turns result.0.tape) result.1 }
     ensures places { D.tells → HasPlaces options.logs options.events (D.view result.0.disk) }
+    ensures fresh_again { D.tells → IsFresh 0 1 (D.view result.0.disk) }
     ensures beside { (result.0.source ≡ out.source) × (result.0.ports ≡ out.ports) × (result.0.texts ≡ out.texts) × (result.0.link ≡ out.link) }
 {
     match options.form {

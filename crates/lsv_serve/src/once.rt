@@ -1,14 +1,12 @@
 //! The command `once`: one connection, from a source to a sink.
 
 ghost use Rattle.std.specs.Prelude.{◌≡◌, []};
-ghost use Rattle.lsv_disk.specs.View.{IsCrashImage, IsLeftAlone};
+ghost use Rattle.lsv_disk.specs.View.{IsLeftAlone};
 ghost use Rattle.lsv_event.specs.declared.event.Kind.TheVariants as kinds;
-ghost use Rattle.lsv_machine.specs.Disks.{NumbersFit};
-ghost use Rattle.lsv_keeper.specs.Reading.{reading_of};
-ghost use Rattle.lsv_serve.specs.Causes.{HasPlaces, HasStatusCause};
+ghost use Rattle.lsv_lane.specs.Store.{IsFresh};
+ghost use Rattle.lsv_serve.specs.Causes.{HasPlaces, HasStatusCause, MayServeAgain};
 ghost use Rattle.lsv_serve.specs.Complete.{Completes};
 ghost use Rattle.lsv_serve.specs.InnerRun.{store_status};
-ghost use Rattle.lsv_lane.specs.Store.{IsFresh};
 ghost use Rattle.lsv_serve.specs.Once.{RunsOnce, once_settings};
 ghost use Rattle.lsv_serve.specs.World.{world_of};
 
@@ -16,23 +14,26 @@ use crate::outside::{Kept, Options, Outside};
 use crate::server::Server;
 use crate::status::Status;
 use crate::text::text_of;
-use lsv_base::{Bytes, Clock, List, Sink, Source};
+use lsv_base::{Clock, Sink, Source};
 use lsv_disk::Disk;
 use lsv_event::Kind;
 use lsv_hook::{Formatter, LineWriter};
-use lsv_keeper::{Keeper, StoreFault};
+use lsv_keeper::StoreFault;
+use lsv_lane::{Bay, StoreLane};
 use lsv_mask::{Prompt, Search};
+use lsv_server::Plan;
+use lsv_turns::Tape;
 use std::alloc::Global;
 
-/// Serves one connection, from the source to the sink, over the store of one lane. Nothing else changes the store while it
-/// runs.
+/// Serves one connection, from the source to the sink, over the store of one lane. Its turns are kept on the tape. Nothing else
+/// changes the store while it runs.
 pub fn run_once<
     S: Source,
     K: Sink,
     P,
     D: Disk,
     C: Clock,
-    G,
+    G: Tape,
     T,
     L,
     N,
@@ -42,36 +43,29 @@ pub fn run_once<
 >(
     alloc: Global,
     options: Options,
-    out: &mut Outside<S, K, P, D, C, G, T, L, N>,
+    out: Outside<S, K, P, D, C, G, T, L, N>,
     kept: Kept<F, J, H>,
-) -> Status
+) -> (Outside<S, K, P, D, C, G, T, L, N>, Status)
     requires sudo { kept.sudo.kind ≡ kinds.Sudo }
     requires json { kept.json.kind ≡ kinds.Json }
-    requires fresh { D.tells → IsFresh 0 1 (D.view out.old.disk) }
+    requires fresh { D.tells → IsFresh 0 1 (D.view out.disk) }
     ensures runs { RunsOnce (once_settings options.form options.log_exit) options.prompts
-        (world_of ⟦<S as Source>⟧ ⟦<K as Sink>⟧ ⟦<D as Disk>⟧ out.old.source out.old.sink out.old.disk)
-        (world_of ⟦<S as Source>⟧ ⟦<K as Sink>⟧ ⟦<D as Disk>⟧ out.new.source out.new.sink out.new.disk) result }
+        (world_of ⟦<S as Source>⟧ ⟦<K as Sink>⟧ ⟦<D as Disk>⟧ ⟦<G as Tape>⟧ out.source out.sink out.disk out.tape)
+        (world_of ⟦<S as Source>⟧ ⟦<K as Sink>⟧ ⟦<D as Disk>⟧ ⟦<G as Tape>⟧ result.0.source result.0.sink result.0.disk result.0.tape) result.1 }
     ensures cause { HasStatusCause
-        (world_of ⟦<S as Source>⟧ ⟦<K as Sink>⟧ ⟦<D as Disk>⟧ out.old.source out.old.sink out.old.disk)
-        (world_of ⟦<S as Source>⟧ ⟦<K as Sink>⟧ ⟦<D as Disk>⟧ out.new.source out.new.sink out.new.disk) result }
+        (world_of ⟦<S as Source>⟧ ⟦<K as Sink>⟧ ⟦<D as Disk>⟧ ⟦<G as Tape>⟧ out.source out.sink out.disk out.tape)
+        (world_of ⟦<S as Source>⟧ ⟦<K as Sink>⟧ ⟦<D as Disk>⟧ ⟦<G as Tape>⟧ result.0.source result.0.sink result.0.disk result.0.tape) result.1 }
     ensures complete { Completes options.form options.log_exit options.prompts
-        (world_of ⟦<S as Source>⟧ ⟦<K as Sink>⟧ ⟦<D as Disk>⟧ out.old.source out.old.sink out.old.disk)
-        (world_of ⟦<S as Source>⟧ ⟦<K as Sink>⟧ ⟦<D as Disk>⟧ out.new.source out.new.sink out.new.disk) result }
-    ensures not_usage { result ≡ Status.Usage → ⊥ }
-    ensures places { D.tells → HasPlaces options.logs options.events (D.view out.new.disk) }
-    ensures fresh_again { D.tells → NumbersFit (reading_of 0 1) 0 1 (IsCrashImage (D.view out.old.disk)) → NumbersFit (reading_of 0 1) 0 1 (IsCrashImage (D.view out.new.disk)) }
-    ensures beside { (out.new.ports ≡ out.old.ports) × (out.new.tape ≡ out.old.tape) × (out.new.texts ≡ out.old.texts) × (out.new.link ≡ out.old.link) }
+        (world_of ⟦<S as Source>⟧ ⟦<K as Sink>⟧ ⟦<D as Disk>⟧ ⟦<G as Tape>⟧ out.source out.sink out.disk out.tape)
+        (world_of ⟦<S as Source>⟧ ⟦<K as Sink>⟧ ⟦<D as Disk>⟧ ⟦<G as Tape>⟧ result.0.source result.0.sink result.0.disk result.0.tape) result.1 }
+    ensures not_usage { result.1 ≡ Status.Usage → ⊥ }
+    ensures places { D.tells → HasPlaces options.logs options.events (D.view result.0.disk) }
+    ensures again { D.tells → MayServeAgain (D.view out.disk) (D.view result.0.disk) }
+    ensures beside { (result.0.ports ≡ out.ports) × (result.0.texts ≡ out.texts) × (result.0.link ≡ out.link) }
 {
-    give_places(&mut out.disk, &options);
-    let Options {
-        form,
-        log_exit,
-        prompts,
-        ..
-    } = options;
-    match form {
-        Kind::Sudo => serve_store(alloc, out, kept.sudo, log_exit, prompts, kept.prompt),
-        Kind::Json => serve_store(alloc, out, kept.json, log_exit, prompts, kept.prompt),
+    match options.form {
+        Kind::Sudo => serve_by(alloc, options, out, kept.sudo, kept.prompt),
+        Kind::Json => serve_by(alloc, options, out, kept.json, kept.prompt),
     }
 }
 
@@ -83,14 +77,14 @@ pub(crate) fn give_places<D: Disk>(disk: &mut D, options: &Options)
     disk.root(text_of(&options.logs), text_of(&options.events));
 }
 
-/// Opens the store, whose places the disk was given, and serves the connection.
-fn serve_store<
+/// Gives the disk the places of the store, and serves the connection with event lines of this formatter.
+fn serve_by<
     S: Source,
     K: Sink,
     P,
     D: Disk,
     C: Clock,
-    G,
+    G: Tape,
     T,
     L,
     N,
@@ -98,43 +92,107 @@ fn serve_store<
     H: Search + Drop,
 >(
     alloc: Global,
-    out: &mut Outside<S, K, P, D, C, G, T, L, N>,
+    options: Options,
+    out: Outside<S, K, P, D, C, G, T, L, N>,
     formatter: Formatter<F>,
-    log_exit: bool,
-    prompts: List<Bytes>,
     prompt: Prompt<H>,
-) -> Status
-    requires fresh { D.tells → IsFresh 0 1 (D.view out.old.disk) }
-    ensures runs { RunsOnce (once_settings formatter.kind log_exit) prompts
-        (world_of ⟦<S as Source>⟧ ⟦<K as Sink>⟧ ⟦<D as Disk>⟧ out.old.source out.old.sink out.old.disk)
-        (world_of ⟦<S as Source>⟧ ⟦<K as Sink>⟧ ⟦<D as Disk>⟧ out.new.source out.new.sink out.new.disk) result }
+) -> (Outside<S, K, P, D, C, G, T, L, N>, Status)
+    requires fresh { D.tells → IsFresh 0 1 (D.view out.disk) }
+    ensures runs { RunsOnce (once_settings formatter.kind options.log_exit) options.prompts
+        (world_of ⟦<S as Source>⟧ ⟦<K as Sink>⟧ ⟦<D as Disk>⟧ ⟦<G as Tape>⟧ out.source out.sink out.disk out.tape)
+        (world_of ⟦<S as Source>⟧ ⟦<K as Sink>⟧ ⟦<D as Disk>⟧ ⟦<G as Tape>⟧ result.0.source result.0.sink result.0.disk result.0.tape) result.1 }
     ensures cause { HasStatusCause
-        (world_of ⟦<S as Source>⟧ ⟦<K as Sink>⟧ ⟦<D as Disk>⟧ out.old.source out.old.sink out.old.disk)
-        (world_of ⟦<S as Source>⟧ ⟦<K as Sink>⟧ ⟦<D as Disk>⟧ out.new.source out.new.sink out.new.disk) result }
-    ensures not_usage { result ≡ Status.Usage → ⊥ }
-    ensures same_places { D.tells → (D.view out.new.disk).places ≡ (D.view out.old.disk).places }
-    ensures beside { (out.new.ports ≡ out.old.ports) × (out.new.tape ≡ out.old.tape) × (out.new.texts ≡ out.old.texts) × (out.new.link ≡ out.old.link) }
+        (world_of ⟦<S as Source>⟧ ⟦<K as Sink>⟧ ⟦<D as Disk>⟧ ⟦<G as Tape>⟧ out.source out.sink out.disk out.tape)
+        (world_of ⟦<S as Source>⟧ ⟦<K as Sink>⟧ ⟦<D as Disk>⟧ ⟦<G as Tape>⟧ result.0.source result.0.sink result.0.disk result.0.tape) result.1 }
+    ensures not_usage { result.1 ≡ Status.Usage → ⊥ }
+    ensures places { D.tells → HasPlaces options.logs options.events (D.view result.0.disk) }
+    ensures again { D.tells → MayServeAgain (D.view out.disk) (D.view result.0.disk) }
+    ensures beside { (result.0.ports ≡ out.ports) × (result.0.texts ≡ out.texts) × (result.0.link ≡ out.link) }
 {
-    let keeper = match Keeper::open(
-        alloc,
-        &mut out.disk,
-        0,
-        1,
-        formatter,
+    let Outside {
+        mut source,
+        mut sink,
+        ports,
+        mut disk,
+        clock,
+        tape,
+        texts,
+        link,
+        notices,
+    } = out;
+    give_places(&mut disk, &options);
+    let Options {
         log_exit,
         prompts,
+        ..
+    } = options;
+    let plan = Plan {
+        formatter,
+        log_exit,
+        texts: prompts,
         prompt,
-    ) {
-        Ok(keeper) => keeper,
-        Err(fault) => return refused(fault),
     };
-    let mut server = Server::new(alloc, keeper);
-    server.serve(
-        &mut out.source,
-        &mut out.sink,
-        &mut out.disk,
-        &mut out.clock,
-    )
+    let bay = Bay { disk, clock, tape };
+    let (bay, status) = serve_store(alloc, &mut source, &mut sink, bay, plan);
+    let Bay { disk, clock, tape } = bay;
+    let out = Outside {
+        source,
+        sink,
+        ports,
+        disk,
+        clock,
+        tape,
+        texts,
+        link,
+        notices,
+    };
+    (out, status)
+}
+
+/// Opens the store, whose places the disk was given, and serves the connection. What the lane worked with is given back.
+fn serve_store<
+    S: Source,
+    K: Sink,
+    D: Disk,
+    C: Clock,
+    G: Tape,
+    F: LineWriter + Drop,
+    H: Search + Drop,
+>(
+    alloc: Global,
+    source: &mut S,
+    sink: &mut K,
+    bay: Bay<D, C, G>,
+    plan: Plan<F, H>,
+) -> (Bay<D, C, G>, Status)
+    requires fresh { D.tells → IsFresh 0 1 (D.view bay.disk) }
+    ensures runs { RunsOnce (once_settings plan.formatter.kind plan.log_exit) plan.texts
+        (world_of ⟦<S as Source>⟧ ⟦<K as Sink>⟧ ⟦<D as Disk>⟧ ⟦<G as Tape>⟧ source.old sink.old bay.disk bay.tape)
+        (world_of ⟦<S as Source>⟧ ⟦<K as Sink>⟧ ⟦<D as Disk>⟧ ⟦<G as Tape>⟧ source.new sink.new result.0.disk result.0.tape) result.1 }
+    ensures cause { HasStatusCause
+        (world_of ⟦<S as Source>⟧ ⟦<K as Sink>⟧ ⟦<D as Disk>⟧ ⟦<G as Tape>⟧ source.old sink.old bay.disk bay.tape)
+        (world_of ⟦<S as Source>⟧ ⟦<K as Sink>⟧ ⟦<D as Disk>⟧ ⟦<G as Tape>⟧ source.new sink.new result.0.disk result.0.tape) result.1 }
+    ensures not_usage { result.1 ≡ Status.Usage → ⊥ }
+    ensures places { D.tells → (D.view result.0.disk).places ≡ (D.view bay.disk).places }
+    ensures fresh_again { D.tells → IsFresh 0 1 (D.view result.0.disk) }
+{
+    let Plan {
+        formatter,
+        log_exit,
+        texts,
+        prompt,
+    } = plan;
+    match StoreLane::open(alloc, bay, 0, 1, formatter, log_exit, texts, prompt) {
+        Ok(lane) => {
+            let mut server = Server::new(alloc, lane);
+            let status = server.serve(source, sink);
+            (server.into_lane().into_bay(), status)
+        }
+        Err(failed) => {
+            let status = refused(failed.fault);
+            (failed.bay, status)
+        }
+    }
 }
 
 /// How a run ends whose store isn't opened.

@@ -19,7 +19,7 @@ pub struct Outside<S, K, P, D, C, G, T, L, N> {
     /// The disk of the store.
     pub disk: D,
     pub clock: C,
-    /// It keeps the turns of `serve` and of `load`.
+    /// It keeps the turns of `once`, of `serve` and of `load`.
     pub tape: G,
     /// The settings file is read of these.
     pub texts: T,

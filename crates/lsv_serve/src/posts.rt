@@ -1,44 +1,103 @@
 //! The ports of a server as posts.
 
-ghost use Rattle.std.specs.Prelude.{◌≡◌, ◌≤◌, ◌<◌, ℕ, Some, map, length, slice_get, vec_capacity, vec_len, IfOk};
+ghost use Rattle.std.specs.Prelude.{◌≡◌, ◌≤◌, ◌<◌, ◌+◌, ◌++◌, ◌∷◌, [], ℕ, Some, map, length, slice_get, vec_capacity, vec_len, IfErr, IfOk};
 ghost use Rattle.lsv_post.specs.Ports.{IsUnopened, view_by};
-ghost use Rattle.lsv_serve.specs.InnerServe.{ArePosts};
+ghost use Rattle.lsv_serve.specs.InnerServe.{ArePosts, IsSeated};
 
-use lsv_base::NoMem;
 use lsv_port::Port;
 use lsv_post::WorkerPost;
 use lsv_reactor::Post;
 use std::alloc::Global;
 
-/// A post for each port, in their order.
+/// Puts a value at the end of a vector that has room for it.
+fn put<T: Drop>(values: &mut Vec<T>, value: T)
+    requires { vec_len values.old < vec_capacity values.old }
+    ensures items { values.new.items ≡ values.old.items ++ value ∷ [] }
+    ensures room { vec_capacity values.old ≤ vec_capacity values.new }
+{
+    let Ok(()) = values.push(value) else {
+        unreachable!();
+    };
+}
+
+/// Makes a post of this number of a port. If memory runs out for it, or ran out for one before, the port is left.
+fn seat<P: Port + Drop>(
+    alloc: Global,
+    number: u32,
+    port: P,
+    posts: &mut Vec<WorkerPost<P>>,
+    left: &mut Vec<P>,
+)
+    requires idle { P.tells → IsUnopened (P.state port) }
+    requires posts_room { vec_len posts.old < vec_capacity posts.old }
+    requires left_room { vec_len left.old < vec_capacity left.old }
+    ensures seated { IsSeated ⟦<WorkerPost<P> as Post>⟧.number ⟦<WorkerPost<P> as Post>⟧.made_by ⟦<WorkerPost<P> as Post>⟧.view (view_by P.state P.ledger) number port posts.old.items posts.new.items left.old.items left.new.items }
+    ensures posts_room { vec_capacity posts.old ≤ vec_capacity posts.new }
+    ensures left_room { vec_capacity left.old ≤ vec_capacity left.new }
+{
+    if left.is_empty() {
+        match WorkerPost::new(alloc, number, port) {
+            Ok(post) => put(posts, post),
+            Err(port) => put(left, port),
+        }
+        return;
+    }
+    put(left, port);
+}
+
+/// Ports, and others after them, in a vector that has room for all.
+fn joined<P: Port + Drop>(front: Vec<P>, back: Vec<P>) -> Vec<P>
+    requires { length front.items + length back.items ≤ vec_capacity front }
+    ensures { result.items ≡ front.items ++ back.items }
+{
+    let mut ports = front;
+    for port in back {
+        put(&mut ports, port);
+    }
+    ports
+}
+
+/// A post for each port, in their order, and the room that was given. Out of memory the ports are given back, in their order.
 pub(crate) fn posts_of<P: Port + Drop>(
     alloc: Global,
     ports: Vec<P>,
-) -> Result<Vec<WorkerPost<P>>, NoMem>
+    room: Vec<P>,
+) -> Result<(Vec<WorkerPost<P>>, Vec<P>), Vec<P>>
     requires few { length ports.items ≤ 64 }
     requires idle { P.tells → (i : ℕ) (port : P) → slice_get ports.items i ≡ Some port → IsUnopened (P.state port) }
-    ensures { IfOk result (λ posts. ArePosts ⟦<WorkerPost<P> as Post>⟧.number ⟦<WorkerPost<P> as Post>⟧.made_by (map (view_by P.state P.ledger) ports.items) posts.items) }
+    requires empty { vec_len room ≡ 0 }
+    requires room { length ports.items ≤ vec_capacity room }
+    ensures made { IfOk result (λ r. ArePosts ⟦<WorkerPost<P> as Post>⟧.number ⟦<WorkerPost<P> as Post>⟧.made_by ⟦<WorkerPost<P> as Post>⟧.view (map (view_by P.state P.ledger) ports.items) r.0.items) }
+    ensures room { IfOk result (λ r. r.1 ≡ room) }
+    ensures back { IfErr result (λ given. map (view_by P.state P.ledger) given.items ≡ map (view_by P.state P.ledger) ports.items) }
 {
-    let mut posts = Vec::with_capacity(alloc, ports.len())?;
+    let Ok(mut posts) = Vec::with_capacity(alloc, ports.len()) else {
+        return Err(ports);
+    };
+    let Ok(mut left) = Vec::with_capacity(alloc, ports.len()) else {
+        return Err(ports);
+    };
     let mut number: u32 = 0;
     for port in ports {
-        posts.push(WorkerPost::new(alloc, number, port)?)?;
+        seat(alloc, number, port, &mut posts, &mut left);
         number += 1;
     }
-    Ok(posts)
+    if left.is_empty() {
+        return Ok((posts, room));
+    }
+    Err(joined(ports_of(posts, room), left))
 }
 
 /// The ports of these posts, in their order, in a vector that has room for them.
 pub(crate) fn ports_of<P: Port + Drop>(posts: Vec<WorkerPost<P>>, room: Vec<P>) -> Vec<P>
     requires empty { vec_len room ≡ 0 }
     requires room { length posts.items ≤ vec_capacity room }
-    ensures { map (view_by P.state P.ledger) result.items ≡ map ⟦<WorkerPost<P> as Post>⟧.view posts.items }
+    ensures ports { map (view_by P.state P.ledger) result.items ≡ map ⟦<WorkerPost<P> as Post>⟧.view posts.items }
+    ensures room { vec_capacity room ≤ vec_capacity result }
 {
     let mut ports = room;
     for post in posts {
-        let Ok(()) = ports.push(post.into_port()) else {
-            unreachable!();
-        };
+        put(&mut ports, post.into_port());
     }
     ports
 }

@@ -132,7 +132,7 @@ fn once<
     P,
     D: Disk,
     C: Clock,
-    G,
+    G: Tape,
     T: Texts,
     L,
     N,
@@ -142,26 +142,27 @@ fn once<
 >(
     alloc: Global,
     opts: &Opts,
-    out: &mut Outside<S, K, P, D, C, G, T, L, N>,
+    out: Outside<S, K, P, D, C, G, T, L, N>,
     kept: Kept<F, J, H>,
-) -> Status
+) -> (Outside<S, K, P, D, C, G, T, L, N>, Status)
     requires sudo { kept.sudo.kind ≡ kinds.Sudo }
     requires json { kept.json.kind ≡ kinds.Json }
-    requires fresh { D.tells → IsFresh 0 1 (D.view out.old.disk) }
-    ensures once { AsFound T.tells opts.now.conf (T.texts out.old.texts) (λ found. OnceAs found (T.faults out.old.texts) (T.faults out.new.texts)
-        (world_of ⟦<S as Source>⟧ ⟦<K as Sink>⟧ ⟦<D as Disk>⟧ out.old.source out.old.sink out.old.disk)
-        (world_of ⟦<S as Source>⟧ ⟦<K as Sink>⟧ ⟦<D as Disk>⟧ out.new.source out.new.sink out.new.disk) result) }
-    ensures unserved { (line : ℕ) → result ≡ Status.Conf line → (out.new.source ≡ out.old.source) × (out.new.sink ≡ out.old.sink) × (out.new.disk ≡ out.old.disk) × (out.new.clock ≡ out.old.clock) }
-    ensures not_usage { result ≡ Status.Usage → ⊥ }
-    ensures beside { (out.new.ports ≡ out.old.ports) × (out.new.tape ≡ out.old.tape) × (out.new.link ≡ out.old.link) }
+    requires fresh { D.tells → IsFresh 0 1 (D.view out.disk) }
+    ensures once { AsFound T.tells opts.now.conf (T.texts out.texts) (λ found. OnceAs found (T.faults out.texts) (T.faults result.0.texts)
+        (world_of ⟦<S as Source>⟧ ⟦<K as Sink>⟧ ⟦<D as Disk>⟧ ⟦<G as Tape>⟧ out.source out.sink out.disk out.tape)
+        (world_of ⟦<S as Source>⟧ ⟦<K as Sink>⟧ ⟦<D as Disk>⟧ ⟦<G as Tape>⟧ result.0.source result.0.sink result.0.disk result.0.tape) result.1) }
+    ensures unserved { (line : ℕ) → result.1 ≡ Status.Conf line → (result.0.source ≡ out.source) × (result.0.sink ≡ out.sink) × (result.0.disk ≡ out.disk) × (result.0.clock ≡ out.clock) × (result.0.tape ≡ out.tape) }
+    ensures not_usage { result.1 ≡ Status.Usage → ⊥ }
+    ensures beside { (result.0.ports ≡ out.ports) × (result.0.link ≡ out.link) }
 {
+    let mut out = out;
     let found = match found_file(alloc, &mut out.texts, opts) {
         Ok(found) => found,
-        Err(status) => return status,
+        Err(status) => return (out, status),
     };
     match conf_in(alloc, &found) {
         Ok(conf) => run_once(alloc, options_of(alloc, conf), out, kept),
-        Err(status) => status,
+        Err(status) => (out, status),
     }
 }
 
@@ -190,10 +191,10 @@ fn serve<
     requires fresh { D.tells → IsFresh 0 1 (D.view out.disk) }
     requires few { length out.ports.items ≤ 64 }
     requires idle { P.tells → (i : ℕ) (port : P) → slice_get out.ports.items i ≡ Some port → IsUnopened (P.state port) }
-    ensures serves { AsFound T.tells opts.now.conf (T.texts out.texts) (λ found. ServesAs found (T.faults out.texts) (T.faults result.0.texts)
+    ensures serves { AsFound T.tells opts.now.conf (T.texts out.texts) (λ found. ServesAs opts.now.stop_after found (T.faults out.texts) (T.faults result.0.texts)
         (server_of ⟦<P as Port>⟧ ⟦<D as Disk>⟧ ⟦<G as Tape>⟧ out.ports.items out.disk out.tape)
         (server_of ⟦<P as Port>⟧ ⟦<D as Disk>⟧ ⟦<G as Tape>⟧ result.0.ports.items result.0.disk result.0.tape) result.1) }
-    ensures unserved { (line : ℕ) → result.1 ≡ Status.Conf line → (result.0.source ≡ out.source) × (result.0.sink ≡ out.sink) × (result.0.disk ≡ out.disk) × (result.0.clock ≡ out.clock) }
+    ensures unserved { (line : ℕ) → result.1 ≡ Status.Conf line → (result.0.source ≡ out.source) × (result.0.sink ≡ out.sink) × (result.0.disk ≡ out.disk) × (result.0.clock ≡ out.clock) × (result.0.tape ≡ out.tape) }
     ensures not_usage { result.1 ≡ Status.Usage → ⊥ }
     ensures beside { (result.0.source ≡ out.source) × (result.0.sink ≡ out.sink) × (result.0.link ≡ out.link) }
 {
@@ -235,10 +236,10 @@ fn load<
     requires last { count ≤ 10000 }
     requires fresh { D.tells → IsFresh 0 1 (D.view out.disk) }
     ensures loads { AsFound T.tells opts.now.conf (T.texts out.texts) (λ found. LoadsAs G.tells D.view found (T.faults out.texts) (T.faults result.0.texts) count
-        (world_of ⟦<S as Source>⟧ ⟦<K as Sink>⟧ ⟦<D as Disk>⟧ out.source out.sink out.disk)
-        (world_of ⟦<S as Source>⟧ ⟦<K as Sink>⟧ ⟦<D as Disk>⟧ result.0.source result.0.sink result.0.disk)
+        (world_of ⟦<S as Source>⟧ ⟦<K as Sink>⟧ ⟦<D as Disk>⟧ ⟦<G as Tape>⟧ out.source out.sink out.disk out.tape)
+        (world_of ⟦<S as Source>⟧ ⟦<K as Sink>⟧ ⟦<D as Disk>⟧ ⟦<G as Tape>⟧ result.0.source result.0.sink result.0.disk result.0.tape)
         out.disk result.0.disk (G.turns out.tape) (G.turns result.0.tape) result.1) }
-    ensures unserved { (line : ℕ) → result.1 ≡ Status.Conf line → (result.0.source ≡ out.source) × (result.0.sink ≡ out.sink) × (result.0.disk ≡ out.disk) × (result.0.clock ≡ out.clock) }
+    ensures unserved { (line : ℕ) → result.1 ≡ Status.Conf line → (result.0.source ≡ out.source) × (result.0.sink ≡ out.sink) × (result.0.disk ≡ out.disk) × (result.0.clock ≡ out.clock) × (result.0.tape ≡ out.tape) }
     ensures not_usage { result.1 ≡ Status.Usage → ⊥ }
     ensures beside { (result.0.source ≡ out.source) × (result.0.ports ≡ out.ports) × (result.0.link ≡ out.link) }
 {
@@ -262,7 +263,7 @@ fn relay<S, K, P, D: Disk, C, G, T: Texts, L: Link, N: RelayNotices>(
 ) -> Status
     ensures relays { AsFound T.tells opts.now.conf (T.texts out.old.texts) (λ found. RelaysAs D.view found (T.faults out.old.texts) (T.faults out.new.texts)
         (relay_of ⟦<D as Disk>⟧ ⟦<L as Link>⟧ out.old.disk out.old.link) (relay_of ⟦<D as Disk>⟧ ⟦<L as Link>⟧ out.new.disk out.new.link) result) }
-    ensures unserved { (line : ℕ) → result ≡ Status.Conf line → (out.new.source ≡ out.old.source) × (out.new.sink ≡ out.old.sink) × (out.new.disk ≡ out.old.disk) × (out.new.clock ≡ out.old.clock) }
+    ensures unserved { (line : ℕ) → result ≡ Status.Conf line → (out.new.source ≡ out.old.source) × (out.new.sink ≡ out.old.sink) × (out.new.disk ≡ out.old.disk) × (out.new.clock ≡ out.old.clock) × (out.new.tape ≡ out.old.tape) }
     ensures not_usage { result ≡ Status.Usage → ⊥ }
     ensures beside { (out.new.source ≡ out.old.source) × (out.new.sink ≡ out.old.sink) × (out.new.ports ≡ out.old.ports) × (out.new.clock ≡ out.old.clock) × (out.new.tape ≡ out.old.tape) }
 {
@@ -307,20 +308,20 @@ pub fn logsrvd<
     ensures usage { result.1 ≡ Status.Usage → (a : Asked) → Asks words.now a → ⊥ }
     ensures other_words { ((a : Asked) → Asks words.now a → ⊥) → (result.1 ≡ Status.Usage) ⊎ (result.1 ≡ Status.NoMem) }
     ensures unchanged { ((a : Asked) → Asks words.now a → ⊥) → result.0 ≡ out }
-    ensures unserved { (line : ℕ) → result.1 ≡ Status.Conf line → (result.0.source ≡ out.source) × (result.0.sink ≡ out.sink) × (result.0.disk ≡ out.disk) × (result.0.clock ≡ out.clock) }
+    ensures unserved { (line : ℕ) → result.1 ≡ Status.Conf line → (result.0.source ≡ out.source) × (result.0.sink ≡ out.sink) × (result.0.disk ≡ out.disk) × (result.0.clock ≡ out.clock) × (result.0.tape ≡ out.tape) }
     ensures once { (o : told.Options) → Asks words.now (Once o) → AsFound T.tells o.conf (T.texts out.texts) (λ found. OnceAs found (T.faults out.texts) (T.faults result.0.texts)
-        (world_of ⟦<S as Source>⟧ ⟦<K as Sink>⟧ ⟦<D as Disk>⟧ out.source out.sink out.disk)
-        (world_of ⟦<S as Source>⟧ ⟦<K as Sink>⟧ ⟦<D as Disk>⟧ result.0.source result.0.sink result.0.disk) result.1) }
-    ensures serves { (o : told.Options) → Asks words.now (Serve o) → AsFound T.tells o.conf (T.texts out.texts) (λ found. ServesAs found (T.faults out.texts) (T.faults result.0.texts)
+        (world_of ⟦<S as Source>⟧ ⟦<K as Sink>⟧ ⟦<D as Disk>⟧ ⟦<G as Tape>⟧ out.source out.sink out.disk out.tape)
+        (world_of ⟦<S as Source>⟧ ⟦<K as Sink>⟧ ⟦<D as Disk>⟧ ⟦<G as Tape>⟧ result.0.source result.0.sink result.0.disk result.0.tape) result.1) }
+    ensures serves { (o : told.Options) → Asks words.now (Serve o) → AsFound T.tells o.conf (T.texts out.texts) (λ found. ServesAs o.stop_after found (T.faults out.texts) (T.faults result.0.texts)
         (server_of ⟦<P as Port>⟧ ⟦<D as Disk>⟧ ⟦<G as Tape>⟧ out.ports.items out.disk out.tape)
         (server_of ⟦<P as Port>⟧ ⟦<D as Disk>⟧ ⟦<G as Tape>⟧ result.0.ports.items result.0.disk result.0.tape) result.1) }
     ensures loads { (o : told.Options) (count : ℕ) → Asks words.now (Load o count) → AsFound T.tells o.conf (T.texts out.texts) (λ found. LoadsAs G.tells D.view found (T.faults out.texts) (T.faults result.0.texts) count
-        (world_of ⟦<S as Source>⟧ ⟦<K as Sink>⟧ ⟦<D as Disk>⟧ out.source out.sink out.disk)
-        (world_of ⟦<S as Source>⟧ ⟦<K as Sink>⟧ ⟦<D as Disk>⟧ result.0.source result.0.sink result.0.disk)
+        (world_of ⟦<S as Source>⟧ ⟦<K as Sink>⟧ ⟦<D as Disk>⟧ ⟦<G as Tape>⟧ out.source out.sink out.disk out.tape)
+        (world_of ⟦<S as Source>⟧ ⟦<K as Sink>⟧ ⟦<D as Disk>⟧ ⟦<G as Tape>⟧ result.0.source result.0.sink result.0.disk result.0.tape)
         out.disk result.0.disk (G.turns out.tape) (G.turns result.0.tape) result.1) }
     ensures relays { (o : told.Options) → Asks words.now (Relay o) → AsFound T.tells o.conf (T.texts out.texts) (λ found. RelaysAs D.view found (T.faults out.texts) (T.faults result.0.texts)
         (relay_of ⟦<D as Disk>⟧ ⟦<L as Link>⟧ out.disk out.link) (relay_of ⟦<D as Disk>⟧ ⟦<L as Link>⟧ result.0.disk result.0.link) result.1) }
-    ensures beside_once { (o : told.Options) → Asks words.now (Once o) → (result.0.ports ≡ out.ports) × (result.0.tape ≡ out.tape) × (result.0.link ≡ out.link) }
+    ensures beside_once { (o : told.Options) → Asks words.now (Once o) → (result.0.ports ≡ out.ports) × (result.0.link ≡ out.link) }
     ensures beside_serve { (o : told.Options) → Asks words.now (Serve o) → (result.0.source ≡ out.source) × (result.0.sink ≡ out.sink) × (result.0.link ≡ out.link) }
     ensures beside_load { (o : told.Options) (count : ℕ) → Asks words.now (Load o count) → (result.0.source ≡ out.source) × (result.0.ports ≡ out.ports) × (result.0.link ≡ out.link) }
     ensures beside_relay { (o : told.Options) → Asks words.now (Relay o) → (result.0.source ≡ out.source) × (result.0.sink ≡ out.sink) × (result.0.ports ≡ out.ports) × (result.0.clock ≡ out.clock) × (result.0.tape ≡ out.tape) }
@@ -331,11 +332,7 @@ pub fn logsrvd<
         Err(ArgFault::NoMem) => return (out, Status::NoMem),
     };
     match command {
-        Command::Once(opts) => {
-            let mut out = out;
-            let status = once(alloc, &opts, &mut out, kept);
-            (out, status)
-        }
+        Command::Once(opts) => once(alloc, &opts, out, kept),
         Command::Serve(opts) => serve(alloc, &opts, out, kept),
         Command::Load(opts, count) => load(alloc, &opts, count, out, kept),
         Command::Relay(opts) => {

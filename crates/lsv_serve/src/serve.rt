@@ -39,8 +39,7 @@ fn told(end: End) -> Status
     }
 }
 
-/// Serves the links of these ports over the store of a lane. The ports are given back, but where memory runs out for their
-/// posts, and what the lane worked with.
+/// Serves the links of these ports over the store of a lane. The ports are given back, and what the lane worked with.
 fn serve_ports<
     P: Port + Drop,
     D: Disk,
@@ -60,17 +59,19 @@ fn serve_ports<
     requires fresh { D.tells → IsFresh 0 1 (D.view bay.disk) }
     requires few { length ports.items ≤ 64 }
     requires idle { P.tells → (i : ℕ) (port : P) → slice_get ports.items i ≡ Some port → IsUnopened (P.state port) }
-    ensures runs { RunsTo (once_settings plan.formatter.kind plan.log_exit) plan.texts
+    ensures runs { RunsTo (once_settings plan.formatter.kind plan.log_exit) plan.texts (record { address = site.now.address.now; stop_after = site.now.stop_after })
         (server_of ⟦<P as Port>⟧ ⟦<D as Disk>⟧ ⟦<G as Tape>⟧ ports.items bay.disk bay.tape)
         (server_of ⟦<P as Port>⟧ ⟦<D as Disk>⟧ ⟦<G as Tape>⟧ result.0.items result.1.disk result.1.tape) result.2 }
     ensures cause { HasEndCause D.tells (D.view bay.disk) (D.view result.1.disk) result.2 }
     ensures places { D.tells → (D.view result.1.disk).places ≡ (D.view bay.disk).places }
+    ensures fresh_again { D.tells → IsFresh 0 1 (D.view result.1.disk) }
 {
     let Ok(room) = Vec::with_capacity(alloc, ports.len()) else {
-        return (Vec::new(alloc), bay, End::NoMem);
+        return (ports, bay, End::NoMem);
     };
-    let Ok(mut posts) = posts_of(alloc, ports) else {
-        return (Vec::new(alloc), bay, End::NoMem);
+    let (mut posts, room) = match posts_of(alloc, ports, room) {
+        Ok(made) => made,
+        Err(ports) => return (ports, bay, End::NoMem),
     };
     let (bay, end) = serve_store(alloc, &mut posts, bay, plan, site, notices);
     (ports_of(posts, room), bay, end)
@@ -98,11 +99,12 @@ fn serve_outside<
     requires fresh { D.tells → IsFresh 0 1 (D.view out.disk) }
     requires few { length out.ports.items ≤ 64 }
     requires idle { P.tells → (i : ℕ) (port : P) → slice_get out.ports.items i ≡ Some port → IsUnopened (P.state port) }
-    ensures runs { RunsTo (once_settings plan.formatter.kind plan.log_exit) plan.texts
+    ensures runs { RunsTo (once_settings plan.formatter.kind plan.log_exit) plan.texts (record { address = site.now.address.now; stop_after = site.now.stop_after })
         (server_of ⟦<P as Port>⟧ ⟦<D as Disk>⟧ ⟦<G as Tape>⟧ out.ports.items out.disk out.tape)
         (server_of ⟦<P as Port>⟧ ⟦<D as Disk>⟧ ⟦<G as Tape>⟧ result.0.ports.items result.0.disk result.0.tape) result.1 }
     ensures cause { HasEndCause D.tells (D.view out.disk) (D.view result.0.disk) result.1 }
     ensures places { D.tells → (D.view result.0.disk).places ≡ (D.view out.disk).places }
+    ensures fresh_again { D.tells → IsFresh 0 1 (D.view result.0.disk) }
     ensures beside { (result.0.source ≡ out.source) × (result.0.sink ≡ out.sink) × (result.0.texts ≡ out.texts) × (result.0.link ≡ out.link) }
 {
     let Outside {
@@ -157,10 +159,11 @@ fn serve_by<
     requires fresh { D.tells → IsFresh 0 1 (D.view out.disk) }
     requires few { length out.ports.items ≤ 64 }
     requires idle { P.tells → (i : ℕ) (port : P) → slice_get out.ports.items i ≡ Some port → IsUnopened (P.state port) }
-    ensures runs { RunsAs (once_settings formatter.kind options.log_exit) options.prompts
+    ensures runs { RunsAs (once_settings formatter.kind options.log_exit) options.prompts (record { address = options.listen; stop_after = stop_after })
         (server_of ⟦<P as Port>⟧ ⟦<D as Disk>⟧ ⟦<G as Tape>⟧ out.ports.items out.disk out.tape)
         (server_of ⟦<P as Port>⟧ ⟦<D as Disk>⟧ ⟦<G as Tape>⟧ result.0.ports.items result.0.disk result.0.tape) result.1 }
     ensures places { D.tells → HasPlaces options.logs options.events (D.view result.0.disk) }
+    ensures fresh_again { D.tells → IsFresh 0 1 (D.view result.0.disk) }
     ensures beside { (result.0.source ≡ out.source) × (result.0.sink ≡ out.sink) × (result.0.texts ≡ out.texts) × (result.0.link ≡ out.link) }
 {
     let mut out = out;
@@ -216,10 +219,11 @@ pub fn run_serve<
     requires fresh { D.tells → IsFresh 0 1 (D.view out.disk) }
     requires few { length out.ports.items ≤ 64 }
     requires idle { P.tells → (i : ℕ) (port : P) → slice_get out.ports.items i ≡ Some port → IsUnopened (P.state port) }
-    ensures runs { RunsAs (once_settings options.form options.log_exit) options.prompts
+    ensures runs { RunsAs (once_settings options.form options.log_exit) options.prompts (record { address = options.listen; stop_after = stop_after })
         (server_of ⟦<P as Port>⟧ ⟦<D as Disk>⟧ ⟦<G as Tape>⟧ out.ports.items out.disk out.tape)
         (server_of ⟦<P as Port>⟧ ⟦<D as Disk>⟧ ⟦<G as Tape>⟧ result.0.ports.items result.0.disk result.0.tape) result.1 }
     ensures places { D.tells → HasPlaces options.logs options.events (D.view result.0.disk) }
+    ensures fresh_again { D.tells → IsFresh 0 1 (D.view result.0.disk) }
     ensures beside { (result.0.source ≡ out.source) × (result.0.sink ≡ out.sink) × (result.0.texts ≡ out.texts) × (result.0.link ≡ out.link) }
 {
     match options.form {

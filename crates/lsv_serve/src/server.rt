@@ -6,24 +6,17 @@ ghost use Rattle.lsv_msg.specs.Messages.{server_bytes};
 ghost use Rattle.lsv_session.specs.Connections.{server_hello};
 ghost use Rattle.lsv_session.specs.Transcript.{frames_of, said_to};
 ghost use Rattle.lsv_session.specs.declared.job.Body.TheVariants as bodies;
-ghost use Rattle.lsv_machine.specs.Machine.{Machine, Settings};
-ghost use Rattle.lsv_keeper.specs.Represents.{Represents};
-ghost use Rattle.lsv_keeper.specs.Value.{IsResting, SameSet};
-ghost use Rattle.lsv_keeper.specs.Room.{IsRoomier};
-ghost use Rattle.lsv_keeper.specs.Views.{view_of};
-ghost use Rattle.lsv_serve.specs.InnerRun.{AnswerEnds, Begun, Ended, HelloEnds, Serves, TurnDone, UnderWay, unput};
+ghost use Rattle.lsv_turns.specs.Turns.{LaneTurn};
+ghost use Rattle.lsv_serve.specs.InnerRun.{AnswerEnds, Ended, HelloEnds, Serves, TurnMade, UnderWay, unput};
 ghost use Rattle.lsv_serve.specs.Tape.{jobs_of, once_conn, shuts};
-ghost use Rattle.lsv_serve.specs.World.{world_of};
+ghost use Rattle.lsv_serve.specs.World.{wires_of};
 
 use crate::answers::{put_hello, put_replies, shuts, write_answers};
 use crate::incoming::{Incoming, put_job};
 use crate::status::Status;
-use lsv_base::{Bytes, Clock, NoMem, Sink, Source};
-use lsv_disk::Disk;
-use lsv_hook::LineWriter;
-use lsv_keeper::Keeper;
-use lsv_mask::Search;
+use lsv_base::{Bytes, NoMem, Sink, Source};
 use lsv_session::{Body, ConnId, Job, Reply};
+use lsv_turns::Lane;
 use std::alloc::Global;
 
 /// The one connection.
@@ -41,53 +34,51 @@ pub(crate) enum End {
     Last(Status),
 }
 
-/// A run whose store is open: its keeper, what was read and is no job yet, and the replies of a turn with their bytes.
+/// A run whose store is open: its lane, what was read and is no job yet, and the replies of a turn with their bytes.
 #[derive(Drop)]
-pub(crate) struct Server<F: LineWriter, H: Search> {
+pub(crate) struct Server<L> {
     pub alloc: Global,
-    pub keeper: Keeper<F, H>,
+    pub lane: L,
     pub incoming: Incoming,
     pub replies: Vec<Reply>,
     pub answers: Bytes,
 }
 
-impl<F: LineWriter + Drop, H: Search + Drop> Server<F, H> {
-    pub fn new(alloc: Global, keeper: Keeper<F, H>) -> Self
-        ensures keeper { result.keeper ≡ keeper }
+impl<L: Lane> Server<L> {
+    pub fn new(alloc: Global, lane: L) -> Self
+        ensures lane { result.lane ≡ lane }
         ensures unread { result.incoming.framer ≡ [] }
         ensures over { result.incoming.is_over ≡ false }
         ensures answers { result.answers ≡ [] }
     {
         Server {
             alloc,
-            keeper,
+            lane,
             incoming: Incoming::new(alloc),
             replies: Vec::new(alloc),
             answers: Bytes::new(alloc),
         }
     }
 
+    /// Gives back its lane.
+    pub fn into_lane(self) -> L
+        ensures { result ≡ self.lane }
+    {
+        self.lane
+    }
+
     /// Serves the connection until it ends, and lets it go.
-    pub fn serve<S: Source, K: Sink, D: Disk, C: Clock>(
-        &mut self,
-        source: &mut S,
-        sink: &mut K,
-        disk: &mut D,
-        clock: &mut C,
-    ) -> Status
-        requires rests { IsResting (view_of self.old.keeper) }
+    pub fn serve<S: Source, K: Sink>(&mut self, source: &mut S, sink: &mut K) -> Status
         requires unread { self.old.incoming.framer ≡ [] }
         requires not_over { self.old.incoming.is_over ≡ false }
         requires answers { self.old.answers ≡ [] }
-        requires known { (set : Settings) × (texts : List (List ℕ)) × (s : S) × (k : K) × (d : D) ×
-            Begun set texts (world_of ⟦<S as Source>⟧ ⟦<K as Sink>⟧ ⟦<D as Disk>⟧ s k d) (world_of ⟦<S as Source>⟧ ⟦<K as Sink>⟧ ⟦<D as Disk>⟧ source.old sink.old disk.old) (view_of self.old.keeper) }
-        ensures runs { (set : Settings) (texts : List (List ℕ)) (s : S) (k : K) (d : D) →
-            Begun set texts (world_of ⟦<S as Source>⟧ ⟦<K as Sink>⟧ ⟦<D as Disk>⟧ s k d) (world_of ⟦<S as Source>⟧ ⟦<K as Sink>⟧ ⟦<D as Disk>⟧ source.old sink.old disk.old) (view_of self.old.keeper) →
-            Serves set texts (world_of ⟦<S as Source>⟧ ⟦<K as Sink>⟧ ⟦<D as Disk>⟧ s k d) (world_of ⟦<S as Source>⟧ ⟦<K as Sink>⟧ ⟦<D as Disk>⟧ source.new sink.new disk.new) result }
+        requires begun { (start : L.Start) × L.made_by start self.old.lane [] }
+        ensures { (start : L.Start) → L.made_by start self.old.lane [] →
+            Serves (L.made_by start self.new.lane) (wires_of ⟦<S as Source>⟧ ⟦<K as Sink>⟧ source.old sink.old) (wires_of ⟦<S as Source>⟧ ⟦<K as Sink>⟧ source.new sink.new) result }
     {
-        match self.take_in(source, sink, disk, clock) {
+        match self.take_in(source, sink) {
             End::Last(status) => status,
-            End::Open(status) => match self.let_go(disk, clock) {
+            End::Open(status) => match self.let_go() {
                 Ok(()) => status,
                 Err(_) => Status::NoMem,
             },
@@ -95,26 +86,16 @@ impl<F: LineWriter + Drop, H: Search + Drop> Server<F, H> {
     }
 
     /// Puts the server's hello, and serves the connection until its reads end.
-    fn take_in<S: Source, K: Sink, D: Disk, C: Clock>(
-        &mut self,
-        source: &mut S,
-        sink: &mut K,
-        disk: &mut D,
-        clock: &mut C,
-    ) -> End
-        requires rests { IsResting (view_of self.old.keeper) }
+    fn take_in<S: Source, K: Sink>(&mut self, source: &mut S, sink: &mut K) -> End
         requires unread { self.old.incoming.framer ≡ [] }
         requires not_over { self.old.incoming.is_over ≡ false }
         requires answers { self.old.answers ≡ [] }
-        requires known { (set : Settings) × (texts : List (List ℕ)) × (s : S) × (k : K) × (d : D) ×
-            Begun set texts (world_of ⟦<S as Source>⟧ ⟦<K as Sink>⟧ ⟦<D as Disk>⟧ s k d) (world_of ⟦<S as Source>⟧ ⟦<K as Sink>⟧ ⟦<D as Disk>⟧ source.old sink.old disk.old) (view_of self.old.keeper) }
-        ensures ends { (set : Settings) (texts : List (List ℕ)) (s : S) (k : K) (d : D) →
-            Begun set texts (world_of ⟦<S as Source>⟧ ⟦<K as Sink>⟧ ⟦<D as Disk>⟧ s k d) (world_of ⟦<S as Source>⟧ ⟦<K as Sink>⟧ ⟦<D as Disk>⟧ source.old sink.old disk.old) (view_of self.old.keeper) →
-            Ended set texts (world_of ⟦<S as Source>⟧ ⟦<K as Sink>⟧ ⟦<D as Disk>⟧ s k d) (world_of ⟦<S as Source>⟧ ⟦<K as Sink>⟧ ⟦<D as Disk>⟧ source.new sink.new disk.new) (view_of self.new.keeper) result }
-        ensures rests { IsResting (view_of self.new.keeper) }
+        requires begun { (start : L.Start) × L.made_by start self.old.lane [] }
+        ensures { (start : L.Start) → L.made_by start self.old.lane [] →
+            Ended (L.made_by start self.new.lane) (wires_of ⟦<S as Source>⟧ ⟦<K as Sink>⟧ source.old sink.old) (wires_of ⟦<S as Source>⟧ ⟦<K as Sink>⟧ source.new sink.new) result }
     {
         match self.greet(sink) {
-            Ok(()) => self.read(source, sink, disk, clock),
+            Ok(()) => self.read(source, sink),
             Err(end) => end,
         }
     }
@@ -125,7 +106,7 @@ impl<F: LineWriter + Drop, H: Search + Drop> Server<F, H> {
         ensures put { K.tells → OnOk result (K.put sink.new ≡ K.put sink.old ++ frame_of (server_bytes server_hello)) }
         ensures ends { IfErr result (HelloEnds K.tells (K.put sink.old) (K.put sink.new) (K.faults sink.old) (K.faults sink.new)) }
         ensures faults { K.faults sink.old ≤ K.faults sink.new }
-        ensures keeper { self.new.keeper ≡ self.old.keeper }
+        ensures lane { self.new.lane ≡ self.old.lane }
         ensures incoming { self.new.incoming ≡ self.old.incoming }
     {
         let Ok(()) = put_hello(self.alloc, &mut self.answers) else {
@@ -138,48 +119,27 @@ impl<F: LineWriter + Drop, H: Search + Drop> Server<F, H> {
     }
 
     /// Reads piece after piece, and does a turn of each, until the connection ends.
-    fn read<S: Source, K: Sink, D: Disk, C: Clock>(
-        &mut self,
-        source: &mut S,
-        sink: &mut K,
-        disk: &mut D,
-        clock: &mut C,
-    ) -> End
-        requires rests { IsResting (view_of self.old.keeper) }
-        requires known { (set : Settings) × (texts : List (List ℕ)) × (s : S) × (k : K) × (d : D) ×
-            UnderWay set texts (world_of ⟦<S as Source>⟧ ⟦<K as Sink>⟧ ⟦<D as Disk>⟧ s k d) (world_of ⟦<S as Source>⟧ ⟦<K as Sink>⟧ ⟦<D as Disk>⟧ source.old sink.old disk.old) (view_of self.old.keeper) self.old.incoming.is_over self.old.incoming.framer }
-        ensures ends { (set : Settings) (texts : List (List ℕ)) (s : S) (k : K) (d : D) →
-            UnderWay set texts (world_of ⟦<S as Source>⟧ ⟦<K as Sink>⟧ ⟦<D as Disk>⟧ s k d) (world_of ⟦<S as Source>⟧ ⟦<K as Sink>⟧ ⟦<D as Disk>⟧ source.old sink.old disk.old) (view_of self.old.keeper) self.old.incoming.is_over self.old.incoming.framer →
-            Ended set texts (world_of ⟦<S as Source>⟧ ⟦<K as Sink>⟧ ⟦<D as Disk>⟧ s k d) (world_of ⟦<S as Source>⟧ ⟦<K as Sink>⟧ ⟦<D as Disk>⟧ source.new sink.new disk.new) (view_of self.new.keeper) result }
-        ensures rests { IsResting (view_of self.new.keeper) }
+    fn read<S: Source, K: Sink>(&mut self, source: &mut S, sink: &mut K) -> End
+        requires known { (start : L.Start) × (s : S) × (k : K) × UnderWay (L.made_by start self.old.lane) (wires_of ⟦<S as Source>⟧ ⟦<K as Sink>⟧ s k) (wires_of ⟦<S as Source>⟧ ⟦<K as Sink>⟧ source.old sink.old) self.old.incoming.is_over self.old.incoming.framer }
+        ensures { (start : L.Start) (s : S) (k : K) → UnderWay (L.made_by start self.old.lane) (wires_of ⟦<S as Source>⟧ ⟦<K as Sink>⟧ s k) (wires_of ⟦<S as Source>⟧ ⟦<K as Sink>⟧ source.old sink.old) self.old.incoming.is_over self.old.incoming.framer →
+            Ended (L.made_by start self.new.lane) (wires_of ⟦<S as Source>⟧ ⟦<K as Sink>⟧ s k) (wires_of ⟦<S as Source>⟧ ⟦<K as Sink>⟧ source.new sink.new) result }
     {
         let Ok(mut buf) = vec![in self.alloc; 0u8; PIECE] else {
             return End::Last(Status::NoMem);
         };
-        self.read_into(source, sink, disk, clock, &mut buf)
+        self.read_into(source, sink, &mut buf)
     }
 
     /// The same, with a buffer for the pieces.
-    fn read_into<S: Source, K: Sink, D: Disk, C: Clock>(
-        &mut self,
-        source: &mut S,
-        sink: &mut K,
-        disk: &mut D,
-        clock: &mut C,
-        buf: &mut [u8],
-    ) -> End
+    fn read_into<S: Source, K: Sink>(&mut self, source: &mut S, sink: &mut K, buf: &mut [u8]) -> End
         requires room { 0 < length buf.old }
         requires small { length buf.old ≤ 65536 }
-        requires rests { IsResting (view_of self.old.keeper) }
-        requires known { (set : Settings) × (texts : List (List ℕ)) × (s : S) × (k : K) × (d : D) ×
-            UnderWay set texts (world_of ⟦<S as Source>⟧ ⟦<K as Sink>⟧ ⟦<D as Disk>⟧ s k d) (world_of ⟦<S as Source>⟧ ⟦<K as Sink>⟧ ⟦<D as Disk>⟧ source.old sink.old disk.old) (view_of self.old.keeper) self.old.incoming.is_over self.old.incoming.framer }
-        ensures ends { (set : Settings) (texts : List (List ℕ)) (s : S) (k : K) (d : D) →
-            UnderWay set texts (world_of ⟦<S as Source>⟧ ⟦<K as Sink>⟧ ⟦<D as Disk>⟧ s k d) (world_of ⟦<S as Source>⟧ ⟦<K as Sink>⟧ ⟦<D as Disk>⟧ source.old sink.old disk.old) (view_of self.old.keeper) self.old.incoming.is_over self.old.incoming.framer →
-            Ended set texts (world_of ⟦<S as Source>⟧ ⟦<K as Sink>⟧ ⟦<D as Disk>⟧ s k d) (world_of ⟦<S as Source>⟧ ⟦<K as Sink>⟧ ⟦<D as Disk>⟧ source.new sink.new disk.new) (view_of self.new.keeper) result }
-        ensures rests { IsResting (view_of self.new.keeper) }
+        requires known { (start : L.Start) × (s : S) × (k : K) × UnderWay (L.made_by start self.old.lane) (wires_of ⟦<S as Source>⟧ ⟦<K as Sink>⟧ s k) (wires_of ⟦<S as Source>⟧ ⟦<K as Sink>⟧ source.old sink.old) self.old.incoming.is_over self.old.incoming.framer }
+        ensures { (start : L.Start) (s : S) (k : K) → UnderWay (L.made_by start self.old.lane) (wires_of ⟦<S as Source>⟧ ⟦<K as Sink>⟧ s k) (wires_of ⟦<S as Source>⟧ ⟦<K as Sink>⟧ source.old sink.old) self.old.incoming.is_over self.old.incoming.framer →
+            Ended (L.made_by start self.new.lane) (wires_of ⟦<S as Source>⟧ ⟦<K as Sink>⟧ s k) (wires_of ⟦<S as Source>⟧ ⟦<K as Sink>⟧ source.new sink.new) result }
     {
         loop {
-            if let Err(end) = self.read_piece(source, sink, disk, clock, buf) {
+            if let Err(end) = self.read_piece(source, sink, buf) {
                 return end;
             }
         }
@@ -187,26 +147,21 @@ impl<F: LineWriter + Drop, H: Search + Drop> Server<F, H> {
 
     /// Reads a piece, does a turn of the jobs that it completes, and puts the answers. It says how the reads end, where they
     /// do.
-    fn read_piece<S: Source, K: Sink, D: Disk, C: Clock>(
+    fn read_piece<S: Source, K: Sink>(
         &mut self,
         source: &mut S,
         sink: &mut K,
-        disk: &mut D,
-        clock: &mut C,
         buf: &mut [u8],
     ) -> Result<(), End>
         requires room { 0 < length buf.old }
         requires small { length buf.old ≤ 65536 }
-        requires rests { IsResting (view_of self.old.keeper) }
-        requires known { (set : Settings) × (texts : List (List ℕ)) × (s : S) × (k : K) × (d : D) ×
-            UnderWay set texts (world_of ⟦<S as Source>⟧ ⟦<K as Sink>⟧ ⟦<D as Disk>⟧ s k d) (world_of ⟦<S as Source>⟧ ⟦<K as Sink>⟧ ⟦<D as Disk>⟧ source.old sink.old disk.old) (view_of self.old.keeper) self.old.incoming.is_over self.old.incoming.framer }
-        ensures on { OnOk result ((set : Settings) (texts : List (List ℕ)) (s : S) (k : K) (d : D) →
-            UnderWay set texts (world_of ⟦<S as Source>⟧ ⟦<K as Sink>⟧ ⟦<D as Disk>⟧ s k d) (world_of ⟦<S as Source>⟧ ⟦<K as Sink>⟧ ⟦<D as Disk>⟧ source.old sink.old disk.old) (view_of self.old.keeper) self.old.incoming.is_over self.old.incoming.framer →
-            UnderWay set texts (world_of ⟦<S as Source>⟧ ⟦<K as Sink>⟧ ⟦<D as Disk>⟧ s k d) (world_of ⟦<S as Source>⟧ ⟦<K as Sink>⟧ ⟦<D as Disk>⟧ source.new sink.new disk.new) (view_of self.new.keeper) self.new.incoming.is_over self.new.incoming.framer) }
-        ensures ends { IfErr result (λ end. (set : Settings) (texts : List (List ℕ)) (s : S) (k : K) (d : D) →
-            UnderWay set texts (world_of ⟦<S as Source>⟧ ⟦<K as Sink>⟧ ⟦<D as Disk>⟧ s k d) (world_of ⟦<S as Source>⟧ ⟦<K as Sink>⟧ ⟦<D as Disk>⟧ source.old sink.old disk.old) (view_of self.old.keeper) self.old.incoming.is_over self.old.incoming.framer →
-            Ended set texts (world_of ⟦<S as Source>⟧ ⟦<K as Sink>⟧ ⟦<D as Disk>⟧ s k d) (world_of ⟦<S as Source>⟧ ⟦<K as Sink>⟧ ⟦<D as Disk>⟧ source.new sink.new disk.new) (view_of self.new.keeper) end) }
-        ensures rests { IsResting (view_of self.new.keeper) }
+        requires known { (start : L.Start) × (s : S) × (k : K) × UnderWay (L.made_by start self.old.lane) (wires_of ⟦<S as Source>⟧ ⟦<K as Sink>⟧ s k) (wires_of ⟦<S as Source>⟧ ⟦<K as Sink>⟧ source.old sink.old) self.old.incoming.is_over self.old.incoming.framer }
+        ensures on { OnOk result ((start : L.Start) (s : S) (k : K) →
+            UnderWay (L.made_by start self.old.lane) (wires_of ⟦<S as Source>⟧ ⟦<K as Sink>⟧ s k) (wires_of ⟦<S as Source>⟧ ⟦<K as Sink>⟧ source.old sink.old) self.old.incoming.is_over self.old.incoming.framer →
+            UnderWay (L.made_by start self.new.lane) (wires_of ⟦<S as Source>⟧ ⟦<K as Sink>⟧ s k) (wires_of ⟦<S as Source>⟧ ⟦<K as Sink>⟧ source.new sink.new) self.new.incoming.is_over self.new.incoming.framer) }
+        ensures ends { IfErr result (λ end. (start : L.Start) (s : S) (k : K) →
+            UnderWay (L.made_by start self.old.lane) (wires_of ⟦<S as Source>⟧ ⟦<K as Sink>⟧ s k) (wires_of ⟦<S as Source>⟧ ⟦<K as Sink>⟧ source.old sink.old) self.old.incoming.is_over self.old.incoming.framer →
+            Ended (L.made_by start self.new.lane) (wires_of ⟦<S as Source>⟧ ⟦<K as Sink>⟧ s k) (wires_of ⟦<S as Source>⟧ ⟦<K as Sink>⟧ source.new sink.new) end) }
         ensures progress { OnOk result (S.count source.old < S.count source.new) }
         ensures limit { S.count source.new < 2 ^ 63 }
     {
@@ -219,7 +174,7 @@ impl<F: LineWriter + Drop, H: Search + Drop> Server<F, H> {
         let Ok(jobs) = self.incoming.take(&buf[..count]) else {
             return Err(End::Last(Status::NoMem));
         };
-        let Ok(()) = self.turn(disk, clock, jobs) else {
+        let Ok(()) = self.turn(jobs) else {
             return Err(End::Last(Status::NoMem));
         };
         if let Err(end) = self.answer(sink) {
@@ -229,26 +184,16 @@ impl<F: LineWriter + Drop, H: Search + Drop> Server<F, H> {
     }
 
     /// Does a turn of these jobs. Its replies are kept.
-    fn turn<D: Disk, C: Clock>(
-        &mut self,
-        disk: &mut D,
-        clock: &mut C,
-        jobs: Vec<Job>,
-    ) -> Result<(), NoMem>
-        requires stands { D.tells → (m : Machine) × Represents (view_of self.old.keeper) (D.view disk.old) m }
-        requires rests { IsResting (view_of self.old.keeper) }
-        ensures set { SameSet (view_of self.old.keeper) (view_of self.new.keeper) }
-        ensures rests { IsResting (view_of self.new.keeper) }
+    fn turn(&mut self, jobs: Vec<Job>) -> Result<(), NoMem>
+        requires begun { (start : L.Start) × (turns : List LaneTurn) × L.made_by start self.old.lane turns }
+        ensures made { OnOk result (TurnMade (λ start turns. L.made_by start self.old.lane turns) (λ start turns. L.made_by start self.new.lane turns) jobs.items self.new.replies.items) }
+        ensures lost { OnErr result ((start : L.Start) (turns : List LaneTurn) → L.made_by start self.old.lane turns → L.made_by start self.new.lane turns) }
         ensures incoming { self.new.incoming ≡ self.old.incoming }
-        ensures done { OnOk result (TurnDone D.tells jobs.items (view_of self.old.keeper) (view_of self.new.keeper) self.new.replies.items (D.view disk.old) (D.view disk.new)) }
-        ensures disk { OnErr result (disk.new ≡ disk.old) }
-        ensures roomier { OnErr result (IsRoomier (view_of self.old.keeper) (view_of self.new.keeper)) }
     {
-        self.replies.clear();
-        self.keeper.ready(jobs.len(), &mut self.replies)?;
-        let now = clock.now();
-        self.keeper.turn(disk, now, jobs, &mut self.replies);
-        Ok(())
+        match self.lane.turn(jobs, &mut self.replies) {
+            Ok(_) => Ok(()),
+            Err(NoMem) => Err(NoMem),
+        }
     }
 
     /// Puts the answers of a turn. It says how the reads end, where they do.
@@ -257,7 +202,7 @@ impl<F: LineWriter + Drop, H: Search + Drop> Server<F, H> {
         ensures put { K.tells → OnOk result (K.put sink.new ≡ K.put sink.old ++ frames_of (said_to once_conn self.old.replies.items)) }
         ensures ends { IfErr result (AnswerEnds K.tells (shuts self.old.replies.items) (frames_of (said_to once_conn self.old.replies.items)) (K.put sink.old) (K.put sink.new) (K.faults sink.old) (K.faults sink.new)) }
         ensures faults { K.faults sink.old ≤ K.faults sink.new }
-        ensures keeper { self.new.keeper ≡ self.old.keeper }
+        ensures lane { self.new.lane ≡ self.old.lane }
         ensures incoming { self.new.incoming ≡ self.old.incoming }
     {
         self.answers.truncate(0);
@@ -275,16 +220,14 @@ impl<F: LineWriter + Drop, H: Search + Drop> Server<F, H> {
     }
 
     /// A turn with the end of the connection alone.
-    fn let_go<D: Disk, C: Clock>(&mut self, disk: &mut D, clock: &mut C) -> Result<(), NoMem>
-        requires stands { D.tells → (m : Machine) × Represents (view_of self.old.keeper) (D.view disk.old) m }
-        requires rests { IsResting (view_of self.old.keeper) }
-        ensures set { SameSet (view_of self.old.keeper) (view_of self.new.keeper) }
-        ensures done { OnOk result (TurnDone D.tells (jobs_of (bodies.Gone ∷ [])) (view_of self.old.keeper) (view_of self.new.keeper) self.new.replies.items (D.view disk.old) (D.view disk.new)) }
-        ensures disk { OnErr result (disk.new ≡ disk.old) }
+    fn let_go(&mut self) -> Result<(), NoMem>
+        requires begun { (start : L.Start) × (turns : List LaneTurn) × L.made_by start self.old.lane turns }
+        ensures made { OnOk result (TurnMade (λ start turns. L.made_by start self.old.lane turns) (λ start turns. L.made_by start self.new.lane turns) (jobs_of (bodies.Gone ∷ [])) self.new.replies.items) }
+        ensures lost { OnErr result ((start : L.Start) (turns : List LaneTurn) → L.made_by start self.old.lane turns → L.made_by start self.new.lane turns) }
     {
         let mut jobs = Vec::new(self.alloc);
         put_job(&mut jobs, Body::Gone)?;
-        self.turn(disk, clock, jobs)?;
+        self.turn(jobs)?;
         Ok(())
     }
 }

@@ -38,8 +38,11 @@ use Rattle.lsv_complete.proofs.Served.{served_among}
 use Rattle.lsv_keeper.specs.Reading.{IsDrawn}
 use Rattle.lsv_turns.specs.Turns.{LaneTurn, jobs_in, replies_in, shuts}
 use Rattle.lsv_lane.specs.Store.{Conforms, KeepsStore}
-use Rattle.lsv_reactor.specs.Links.{AtMostStarved, Brings, LinkFailed, PortView, Puts, ServesLink, ServesPort, conn_of}
-use Rattle.lsv_reactor.specs.Links as links
+use Rattle.lsv_links.specs.Lanes.{one_lane}
+use Rattle.lsv_links.specs.Links.{AtMostStarved, Brings, Puts, ServesBy, ServesLink, ServesPort, conn_of}
+use Rattle.lsv_links.specs.Links as links
+use Rattle.lsv_links.specs.Views.{LinkFailed, PortView}
+use Rattle.lsv_links.proofs.LaneLemmas.{one_lane_serves}
 use Rattle.lsv_server.specs.Complete.{AllAmple, AreAmple, Completes, IsServedBy, IsUnhindered, answers_of, came_by, messages_of}
 use Rattle.lsv_server.proofs.Leaving.{isnt_shut_early, unshut_replies}
 use Rattle.lsv_server.proofs.Sent.{NoGone, ends_with_gone, first_no_gone, jobs_no_gone, replies_are, said_all, spoken, spoken_all, told_same, turns_sent}
@@ -139,7 +142,7 @@ not_starved heard starved bodies (inr one) is ample =
     absurd (ample (subst (λ (bs : List Body). Contains bs (body.Bad fault.NoMem)) (sym is) (Contains-append_right heard (starved ++ body.Gone ∷ []) (body.Bad fault.NoMem) here)))
 
 module _ (disk_tells : Type 0) (set : Settings) (texts : List (List ℕ)) (found left : DiskView) (lane : List LaneTurn) (keeps : KeepsStore (Unit {0}) set texts (record { found = found; left = left }) lane)
-    (k : ConnId) (l : ℕ) (before after : PortView) (told : disk_tells) (served : ServesLink disk_tells k l (jobs_in lane) (replies_in lane) before after) (bodies : List Body)
+    (k : ConnId) (l : ℕ) (before after : PortView) (told : disk_tells) (served : ServesBy disk_tells k l (jobs_in lane) (replies_in lane) before after) (bodies : List Body)
     (u : IsUnhindered set found left k (after.state.link l).input lane (keeps.conforms tt).ran.start keeps.story bodies) where
   abbrev turns : List Turn
   turns = keeps.story.turns
@@ -227,7 +230,8 @@ module _ (disk_tells : Type 0) (set : Settings) (texts : List (List ℕ)) (found
   )
 
 pub completes : (disk_tells : Type 0) → disk_tells → (set : Settings) (texts : List (List ℕ)) (found left : DiskView) (turns : List LaneTurn) (keeps : KeepsStore (Unit {0}) set texts (record { found = found; left = left }) turns)
-    → (worker : ℕ) (before after : PortView) (served : ServesPort disk_tells worker (jobs_in turns) (replies_in turns) before after) → Completes set texts found left turns keeps worker before after served
+    → (worker : ℕ) (before after : PortView) (served : ServesPort (λ m. disk_tells) 1 worker (λ m. jobs_in (one_lane m turns)) (λ m. replies_in (one_lane m turns)) before after) → Completes set texts found left turns keeps worker before after served
 completes disk_tells told set texts found left turns keeps worker before after served l seq bodies opened seat u =
-    link_served disk_tells set texts found left turns keeps (conn_of worker seq) l before after told
-    (subst (λ (s : Option ℕ). links.IsServed disk_tells worker l s (jobs_in turns) (replies_in turns) before after) seat (served.served l opened)) bodies u
+    let by_lane : ServesLink (λ m. disk_tells) 1 (conn_of worker seq) l (λ m. jobs_in (one_lane m turns)) (λ m. replies_in (one_lane m turns)) before after =
+    subst (λ (s : Option ℕ). links.IsServed (λ m. disk_tells) 1 worker l s (λ m. jobs_in (one_lane m turns)) (λ m. replies_in (one_lane m turns)) before after) seat (served.served l opened) in
+    link_served disk_tells set texts found left turns keeps (conn_of worker seq) l before after told (one_lane_serves (λ m. disk_tells) 1 (conn_of worker seq) l turns before after by_lane) bodies u

@@ -357,7 +357,7 @@ module _ (set : Settings) (k : ConnId) where
     quiet_now = nothing_parts k (all_acted two ++ Tailed t.tail ∷ []) (all_turns turns) quiet
 
     abbrev cut_turn : Turn
-    cut_turn = record { now = t.now; acts = one; tail = stop.tail; ended = t.ended }
+    cut_turn = record { now = t.now; acts = one; tail = stop.tail; ended = t.ended; text = t.text }
 
     cut_is : all_turns (cut_turn ∷ []) ≡ all_acted one ++ Tailed stop.tail ∷ []
     cut_is = append-nil (turn_of one stop.tail)

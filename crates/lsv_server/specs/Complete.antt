@@ -26,7 +26,9 @@ use Rattle.lsv_complete.specs.Among.{FitsAmong}
 use Rattle.lsv_keeper.specs.Reading.{IsDrawn}
 use Rattle.lsv_turns.specs.Turns.{LaneTurn, jobs_in, replies_in}
 use Rattle.lsv_lane.specs.Store.{KeepsStore}
-use Rattle.lsv_reactor.specs.Links.{LinkFailed, PortView, Puts, ServesPort, conn_of}
+use Rattle.lsv_links.specs.Lanes.{one_lane}
+use Rattle.lsv_links.specs.Links.{Puts, ServesPort, conn_of}
+use Rattle.lsv_links.specs.Views.{LinkFailed, PortView}
 
 -- ---- What may be in the way
 
@@ -85,7 +87,7 @@ pub record IsServedBy (set : Settings) (texts : List (List ℕ)) (found left : D
 
 -- each link of this worker's port that was opened as a connection, and over which a legal conversation came, was served so, where nothing was in the way
 abbrev pub Completes : {disk_tells : Type 0} (set : Settings) (texts : List (List ℕ)) (found left : DiskView) (turns : List LaneTurn) (keeps : KeepsStore (Unit {0}) set texts (record { found = found; left = left }) turns)
-    → (worker : ℕ) (before after : PortView) → ServesPort disk_tells worker (jobs_in turns) (replies_in turns) before after → Type 0
+    → (worker : ℕ) (before after : PortView) → ServesPort (λ lane. disk_tells) 1 worker (λ lane. jobs_in (one_lane lane turns)) (λ lane. replies_in (one_lane lane turns)) before after → Type 0
 Completes set texts found left turns keeps worker before after served =
     (l seq : ℕ) (bodies : List Body) → Contains served.seats.opened l → served.seats.seat l ≡ Some seq
     → IsUnhindered set found left (conn_of worker seq) (after.state.link l).input turns (keeps.conforms tt).ran.start keeps.story bodies

@@ -2,7 +2,9 @@
 
 ghost use Rattle.std.specs.Prelude.{ℕ, List};
 ghost use Rattle.lsv_machine.specs.Machine.{Settings};
-ghost use Rattle.lsv_reactor.specs.Links.{PortView, ServesPort};
+ghost use Rattle.lsv_links.specs.Lanes.{one_lane};
+ghost use Rattle.lsv_links.specs.Links.{ServesPort};
+ghost use Rattle.lsv_links.specs.Views.{PortView};
 ghost use Rattle.lsv_reactor.specs.declared.rounds.PortsEnd.{PortsEnd};
 ghost use Rattle.lsv_server.specs.Complete.{Completes};
 ghost use Rattle.lsv_server.specs.Runs.{RunsStore};
@@ -19,6 +21,6 @@ use lsv_turns::Tape;
 pub fn a_legal_conversation_over_a_link_is_served<D: Disk, G: Tape>()
     ensures { (set : Settings) (texts : List (List ℕ)) (found left : D) (tape new_tape : List TapeTurn) (end : PortsEnd) (turns : List LaneTurn) →
         (runs : RunsStore D.tells G.tells set texts (D.view found) (D.view left) tape new_tape (Over end) turns) → (told : D.tells) →
-        (worker : ℕ) (before after : PortView) → (served : ServesPort D.tells worker (jobs_in turns) (replies_in turns) before after) →
+        (worker : ℕ) (before after : PortView) → (served : ServesPort (λ lane. D.tells) 1 worker (λ lane. jobs_in (one_lane lane turns)) (λ lane. replies_in (one_lane lane turns)) before after) →
         Completes set texts (D.view found) (D.view left) turns (runs.keeps told) worker before after served }
 {}

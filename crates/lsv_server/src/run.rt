@@ -1,13 +1,13 @@
 //! A run: the store is opened, the ports begin to listen, what comes is served, and the store is given back.
 
-ghost use Rattle.std.specs.Prelude.{◌≡◌, [], ℕ, List, Some, slice_get};
+ghost use Rattle.std.specs.Prelude.{◌≡◌, [], ℕ, List, Some, length, slice_get};
 ghost use Rattle.lsv_turns.specs.Turns.{LaneTurn};
 ghost use Rattle.lsv_lane.specs.InnerLane.{Begun};
 ghost use Rattle.lsv_lane.specs.Store.{IsFresh, lane_settings};
 ghost use Rattle.lsv_keeper.specs.declared.fault.StoreFault.{StoreFault};
-ghost use Rattle.lsv_reactor.specs.Served.{ServesAll};
+ghost use Rattle.lsv_reactor.specs.Served.{KeepPorts, PutsAll, ServesAll};
 ghost use Rattle.lsv_reactor.specs.declared.rounds.PortsEnd.{PortsEnd};
-ghost use Rattle.lsv_server.specs.Runs.{HasEndCause, RunsStore, unopened};
+ghost use Rattle.lsv_server.specs.Runs.{HasEndCause, LeavesPorts, ListenAt, RunsStore, unopened};
 
 use crate::{Notices, Plan, Site};
 use lsv_base::{Clock, NoMem};
@@ -46,6 +46,8 @@ fn open_all<T: Post>(posts: &mut [T], site: &Site<'_>) -> bool
     requires posts { (starts : ℕ → T.Start) × ((i : ℕ) (post : T) → slice_get posts.old i ≡ Some post → T.made_by (starts i) post [] []) }
     ensures numbered { ((i : ℕ) (post : T) → slice_get posts.old i ≡ Some post → T.number post ≡ i) → (i : ℕ) (post : T) → slice_get posts.new i ≡ Some post → T.number post ≡ i }
     ensures made { (starts : ℕ → T.Start) → ((i : ℕ) (post : T) → slice_get posts.old i ≡ Some post → T.made_by (starts i) post [] []) → (i : ℕ) (post : T) → slice_get posts.new i ≡ Some post → T.made_by (starts i) post [] [] }
+    ensures asked { T.tells → ListenAt T.view (record { address = site.now.address.now; stop_after = site.now.stop_after }) posts.old posts.new }
+    ensures count { length posts.new ≡ length posts.old }
 {
     let mut listens = true;
     'posts: for place in 0..posts.len() {
@@ -67,9 +69,11 @@ fn serve_lane<T: Post, D: Disk, C: Clock, G: Tape, F: LineWriter + Drop, H: Sear
     requires lane { (start : Begun D G) × ⟦<StoreLane<D, C, G, F, H> as Lane>⟧.made_by start lane [] }
     ensures runs { (starts : ℕ → T.Start) (start : Begun D G) → ((i : ℕ) (post : T) → slice_get posts.old i ≡ Some post → T.made_by (starts i) post [] []) → ⟦<StoreLane<D, C, G, F, H> as Lane>⟧.made_by start lane [] →
         (turns : List LaneTurn) × RunsStore D.tells G.tells start.set start.texts (D.view start.disk) (D.view result.0.disk) (G.turns start.tape) (G.turns result.0.tape) result.1 turns
-        × ((end : PortsEnd) → result.1 ≡ End.Over end → ServesAll T.tells D.tells T.begun T.view starts posts.new turns end) }
+        × ((end : PortsEnd) → result.1 ≡ End.Over end → ServesAll T.tells D.tells T.made_by T.begun T.view starts posts.new turns end) × (result.1 ≡ End.NoMem → PutsAll T.tells T.begun T.view starts posts.new turns) }
+    ensures ports { KeepPorts T.view posts.old posts.new }
     ensures opened { (fault : StoreFault) → result.1 ≡ End.Store fault → ⊥ }
     ensures places { D.tells → (start : Begun D G) → ⟦<StoreLane<D, C, G, F, H> as Lane>⟧.made_by start lane [] → (D.view result.0.disk).places ≡ (D.view start.disk).places }
+    ensures fresh { D.tells → (start : Begun D G) → ⟦<StoreLane<D, C, G, F, H> as Lane>⟧.made_by start lane [] → IsFresh start.set.lane start.set.lanes (D.view result.0.disk) }
 {
     let mut lane = lane;
     match serve(alloc, posts, &mut lane) {
@@ -79,8 +83,10 @@ fn serve_lane<T: Post, D: Disk, C: Clock, G: Tape, F: LineWriter + Drop, H: Sear
 }
 
 /// Serves what comes at these posts, each numbered by its place, over the store of one lane, until nothing more is to come
-/// of any. They begin to listen when the store is open. Nothing else changes the store meanwhile. What the lane worked with is
-/// given back, with how the run ended.
+/// of any. They begin to listen, each at the address of the site, when the store is open. Nothing else changes the store
+/// meanwhile. What the lane worked with is given back, with how the run ended; the next run may begin with its disk. Out of
+/// memory the jobs of the turns are the first of what was read of the links, and nothing was put on a link but prefixes of the
+/// answers by the turns made.
 pub fn serve_store<
     T: Post,
     D: Disk,
@@ -102,9 +108,11 @@ pub fn serve_store<
     requires posts { (starts : ℕ → T.Start) × ((i : ℕ) (post : T) → slice_get posts.old i ≡ Some post → T.made_by (starts i) post [] []) }
     ensures runs { (starts : ℕ → T.Start) → ((i : ℕ) (post : T) → slice_get posts.old i ≡ Some post → T.made_by (starts i) post [] []) →
         (turns : List LaneTurn) × RunsStore D.tells G.tells (lane_settings 0 1 plan.formatter.kind plan.log_exit) plan.texts (D.view bay.disk) (D.view result.0.disk) (G.turns bay.tape) (G.turns result.0.tape) result.1 turns
-        × ((end : PortsEnd) → result.1 ≡ End.Over end → ServesAll T.tells D.tells T.begun T.view starts posts.new turns end) }
+        × ((end : PortsEnd) → result.1 ≡ End.Over end → ServesAll T.tells D.tells T.made_by T.begun T.view starts posts.new turns end)
+        × LeavesPorts T.tells T.begun T.view starts (record { address = site.now.address.now; stop_after = site.now.stop_after }) posts.old posts.new turns result.1 }
     ensures cause { HasEndCause D.tells (D.view bay.disk) (D.view result.0.disk) result.1 }
     ensures places { D.tells → (D.view result.0.disk).places ≡ (D.view bay.disk).places }
+    ensures fresh_again { D.tells → IsFresh 0 1 (D.view result.0.disk) }
     ensures unserved { (fault : StoreFault) → result.1 ≡ End.Store fault → (posts.new ≡ posts.old) × (result.0.clock ≡ bay.clock) × (result.0.tape ≡ bay.tape) }
 {
     let Plan {

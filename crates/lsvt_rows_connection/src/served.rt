@@ -1,5 +1,9 @@
 //! A worker with its port in a server's loop.
 
+ghost use Rattle.std.specs.Prelude.{◌≡◌, [], IfOk};
+ghost use Rattle.lsv_port.specs.Memory.Value.{port_ledger, port_state};
+ghost use Rattle.lsv_post.specs.Ports.{view_by};
+
 use crate::answering::Answering;
 use crate::ports::links;
 use crate::words::shown;
@@ -8,7 +12,7 @@ use lsv_base::NoMem;
 use lsv_msg::ClientMessage;
 use lsv_port::{MemPort, Step};
 use lsv_post::WorkerPost;
-use lsv_reactor::{PortsEnd, serve};
+use lsv_reactor::{PortsEnd, Post, serve};
 use lsv_session::{Body, Job};
 use lsvt_doubles::Watched;
 use std::alloc::Global;
@@ -24,13 +28,24 @@ pub struct Played {
     end: PortsEnd,
 }
 
+/// A post over a port, of number 0.
+fn post_of(alloc: Global, port: Watched) -> Result<WorkerPost<Watched>, NoMem>
+    ensures made { IfOk result (λ post. ⟦<WorkerPost<Watched> as Post>⟧.made_by (view_by (λ p. port_state p.port) (λ p. port_ledger p.port) port) post [] []) }
+    ensures number { IfOk result (λ post. ⟦<WorkerPost<Watched> as Post>⟧.number post ≡ 0) }
+{
+    match WorkerPost::new(alloc, 0, port) {
+        Ok(post) => Ok(post),
+        Err(_) => Err(NoMem),
+    }
+}
+
 /// Serves a port by a lane that answers.
 fn serve_one(
     alloc: Global,
     port: Watched,
     lane: &mut Answering,
 ) -> Result<(Watched, PortsEnd), NoMem> {
-    let mut posts = [WorkerPost::new(alloc, 0, port)?];
+    let mut posts = [post_of(alloc, port)?];
     let end = serve(alloc, &mut posts, lane)?;
     let [post] = posts;
     Ok((post.into_port(), end))

@@ -1,6 +1,10 @@
-//! Tests of sessions, of a lane, its tape and the loop, and of a queue, by their public calls alone.
+//! Tests of sessions, of a lane, its tape and the loop, of a queue, and of what cuts messages, by their public calls alone, and the laws of a keeper.
 #![tactic(auto)]
 
+#[cfg(test)]
+mod cut;
+#[cfg(test)]
+mod laws;
 #[cfg(test)]
 mod loops;
 #[cfg(test)]

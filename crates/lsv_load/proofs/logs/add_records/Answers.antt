@@ -19,7 +19,7 @@ records-preserved g c =
     adding_goes_on g.D.Disk.tells c.args.log.now c.records.log c.next.new.self (g.D.Disk.view c.args.disk.now) (g.D.Disk.view c.records.disk) (g.D.Disk.view c.next.new.disk) c.args.totals.now c.records.totals c.add_record.new.self c.in-Some.record
     c.records.invariant c.next.ensures.same.0 c.next.ensures.same.2 (λ told. c.next.ensures.reads told) c.next.ensures.cause.monotone
     (λ told. if_some_at c.in_ok-record.field-0 c.in-Some.record (λ r. (rs : List Record) → IsBehind c.records.log rs (g.D.Disk.view c.records.disk) → IsBehind c.next.new.self (rs ++ r ∷ []) (g.D.Disk.view c.next.new.disk))
-    c.in-Some.is (c.in_ok-record.ensures.given told)) c.add_record.ensures
+    c.in-Some.is (c.in_ok-record.ensures.given told)) (λ told. c.in_ok-record.ensures.sound told) c.add_record.ensures
 
 pub returns-in_err-record-clause-unread : goal.returns-in_err-record-clause-unread
 returns-in_err-record-clause-unread g c told fresh opened =

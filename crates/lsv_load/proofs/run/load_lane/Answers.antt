@@ -3,7 +3,7 @@ use Rattle.std.proofs.Common.{◌∙◌}
 use Rattle.lsv_reactor.specs.declared.rounds.PortsEnd.TheVariants.{Stopped}
 use Rattle.lsv_server.specs.declared.run.End.TheVariants as ends
 use Rattle.lsv_iolog.proofs.Scans.{reads_nothing}
-use Rattle.lsv_load.proofs.Running.{at_err, at_ok, served_ends}
+use Rattle.lsv_load.proofs.Running.{at_err, at_ok, fresh_read, served_ends}
 use Rattle.lsv_load.proofs.run.load_lane.Goals as goal
 
 pub returns-in-Ok-clause-runs : goal.returns-in-Ok-clause-runs
@@ -28,7 +28,7 @@ returns-in-Err-clause-runs g c start made =
       up = ends.NoMem;
       store = ran.1;
       read = λ told. reads_nothing (g.D.Disk.view c.serve_lane-bay.result.0.disk) (g.met.D.Disk.only_now told c.serve_lane-bay.result.0.disk);
-      ends = tt;
+      ends = ran.2;
     }
 
 pub returns-in-Ok-clause-places : goal.returns-in-Ok-clause-places
@@ -36,3 +36,10 @@ returns-in-Ok-clause-places g c told start made = (c.sum_logs-end.ensures.reads 
 
 pub returns-in-Err-clause-places : goal.returns-in-Err-clause-places
 returns-in-Err-clause-places g c told start made = c.serve_lane-bay.ensures.places told start made
+
+pub returns-in-Ok-clause-fresh : goal.returns-in-Ok-clause-fresh
+returns-in-Ok-clause-fresh g c told start made =
+    fresh_read start.set.lane start.set.lanes (g.D.Disk.view c.serve_lane-bay.result.0.disk) (g.D.Disk.view c.sum_logs-end.new.disk) (c.sum_logs-end.ensures.reads told) (c.serve_lane-bay.ensures.fresh told start made)
+
+pub returns-in-Err-clause-fresh : goal.returns-in-Err-clause-fresh
+returns-in-Err-clause-fresh g c told start made = c.serve_lane-bay.ensures.fresh told start made

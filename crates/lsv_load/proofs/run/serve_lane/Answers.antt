@@ -1,6 +1,6 @@
 -- What the turns did with the store, by what serving came to.
 use Rattle.std.proofs.Common.{◌≢◌, []}
-use Rattle.lsv_load.proofs.Running.{err_any, keeps_less, ok_all}
+use Rattle.lsv_load.proofs.Running.{err_any, keeps_less, loads_leave, ok_all}
 use Rattle.lsv_load.proofs.run.serve_lane.Goals as goal
 
 pub serve_conversations-served-requires-clause-lane : goal.serve_conversations-served-requires-clause-lane
@@ -16,6 +16,8 @@ returns-in-Ok-clause-ok g c =
         some = tt;
         sized = ran.2;
         timed = c.into_bay-bay.ensures.timed start ran.0 lane;
+        answered = c.into_bay-bay.ensures.answered start ran.0 lane;
+        entry = λ fault is. absurd (cc);
         taped = λ told. c.into_bay-bay.ensures.taped told start ran.0 lane;
         keeps = λ told. c.into_bay-bay.ensures.kept told start ran.0 lane;
       },
@@ -33,9 +35,12 @@ returns-in-Ok-clause-err g c =
         some = tt;
         sized = ran.2;
         timed = c.into_bay-bay.ensures.timed start ran.0 lane;
+        answered = c.into_bay-bay.ensures.answered start ran.0 lane;
+        entry = λ fault is. absurd (cc);
         taped = λ told. c.into_bay-bay.ensures.taped told start ran.0 lane;
         keeps = λ told. keeps_less (Unit {0}) (ran.0 ≢ []) start.set start.texts _ ran.0 (λ up. tt) (c.into_bay-bay.ensures.kept told start ran.0 lane);
       },
+      loads_leave g.D.Disk.tells c.args.count ran.0 ran.3,
     ))
 
 pub returns-in-Ok-clause-places : goal.returns-in-Ok-clause-places
@@ -52,12 +57,25 @@ returns-in-Err-clause-err g c start made =
         some = tt;
         sized = ran.2;
         timed = c.into_bay-bay.ensures.timed start ran.0 lane;
+        answered = c.into_bay-bay.ensures.answered start ran.0 lane;
+        entry = λ fault is. absurd (cc);
         taped = λ told. c.into_bay-bay.ensures.taped told start ran.0 lane;
         keeps = λ told. keeps_less (Unit {0}) (ran.0 ≢ []) start.set start.texts _ ran.0 (λ up. tt) (c.into_bay-bay.ensures.kept told start ran.0 lane);
       },
+      ran.3,
     )
 
 pub returns-in-Err-clause-places : goal.returns-in-Err-clause-places
 returns-in-Err-clause-places g c told start made =
     let ran = c.in-Err.ensures.err start (c.new-lane.ensures start made) in
     c.into_bay-bay.ensures.places told start ran.0 (c.into_parts-lane.ensures.made start ran.0 ran.1)
+
+pub returns-in-Ok-clause-fresh : goal.returns-in-Ok-clause-fresh
+returns-in-Ok-clause-fresh g c told start made =
+    let ran = c.in-Ok.ensures.ok start (c.new-lane.ensures start made) in
+    c.into_bay-bay.ensures.fresh told start ran.0 (c.into_parts-lane.ensures.made start ran.0 ran.1)
+
+pub returns-in-Err-clause-fresh : goal.returns-in-Err-clause-fresh
+returns-in-Err-clause-fresh g c told start made =
+    let ran = c.in-Err.ensures.err start (c.new-lane.ensures start made) in
+    c.into_bay-bay.ensures.fresh told start ran.0 (c.into_parts-lane.ensures.made start ran.0 ran.1)

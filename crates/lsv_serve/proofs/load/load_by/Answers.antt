@@ -1,6 +1,4 @@
 use Rattle.std.proofs.Common.{◌∙◌, inl, inr}
-use Rattle.lsv_serve.specs.Once.{once_settings}
-use Rattle.lsv_serve.proofs.LoadLemmas.{load_before}
 use Rattle.lsv_serve.proofs.StartLemmas.{fresh_after}
 use Rattle.lsv_serve.proofs.load.load_by.Goals as goal
 
@@ -8,12 +6,7 @@ pub run_load-bay-requires-clause-fresh : goal.run_load-bay-requires-clause-fresh
 run_load-bay-requires-clause-fresh g c = λ told. fresh_after _ _ (c.give_places.ensures.frame.untouched told) (c.requires.fresh told)
 
 pub returns-clause-runs : goal.returns-clause-runs
-returns-clause-runs g c = record {
-  end = c.run_load-bay.result.1;
-  run = load_before g.D.Disk.tells g.G.Tape.tells g.D.Disk.view (once_settings c.args.formatter.kind c.args.options.log_exit) c.args.options.prompts c.args.count c.args.out.disk c.give_places.new.disk c.run_load-bay.result.0.disk
-      (g.G.Tape.turns c.args.out.tape) (g.G.Tape.turns c.run_load-bay.result.0.tape) c.run_load-bay.result.1 c.give_places.ensures.frame c.run_load-bay.ensures.runs;
-  told = c.tell_load-status.ensures;
-}
+returns-clause-runs g c = record { placed = c.give_places.new.disk; alone = c.give_places.ensures.frame; end = c.run_load-bay.result.1; run = c.run_load-bay.ensures.runs; told = c.tell_load-status.ensures }
 
 pub returns-clause-places : goal.returns-clause-places
 returns-clause-places g c told =

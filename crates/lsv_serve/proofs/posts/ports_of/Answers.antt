@@ -3,7 +3,7 @@ use Rattle.std.proofs.lemmas.List.{length-append, map-append}
 use Rattle.std.specs.Vec.Iter.{into_iter_items}
 use Rattle.lsv_post.specs.Ports.{view_by}
 use Rattle.lsv_post.specs.declared.post.WorkerPost.{WorkerPost}
-use Rattle.lsv_reactor.specs.Links.{PortView}
+use Rattle.lsv_links.specs.Views.{PortView}
 use Rattle.lsv_serve.proofs.PostLemmas.{nothing_left}
 use Rattle.lsv_serve.proofs.posts.ports_of.Goals as goal
 
@@ -16,6 +16,7 @@ loop-post-init g c =
       counted = let e = ap length gives.0 in omega (arith, gives.1, c.args.posts.ok.0, e);
       size = ap length none;
       room = c.requires.room;
+      kept = omega arith;
       ports = ap (map (view_by g.P.Port.state g.P.Port.ledger)) none;
     }
 
@@ -29,16 +30,28 @@ loop-post-preserved g c =
       counted = let was = c.loop-post.invariant.counted in let gone = c.in-Some.ensures.steps.1 in let short = ap length steps in omega arith;
       size =
           let n = c.loop-post.invariant.size in
-          ap length c.in-Ok.ensures.items ∙ (let a = length-append c.loop-post.ports.items (c.into_port.result ∷ []) in let b = length-append c.loop-post.yielded (c.in-Some.post ∷ []) in omega (arith, n, a, b));
-      room = let r = c.loop-post.invariant.room in let k = c.in-Ok.ensures.lower_bound in omega (arith, r, k);
+          ap length c.put.ensures.items ∙ (let a = length-append c.loop-post.ports.items (c.into_port.result ∷ []) in let b = length-append c.loop-post.yielded (c.in-Some.post ∷ []) in omega (arith, n, a, b));
+      room = let r = c.loop-post.invariant.room in let k = c.put.ensures.room in omega (arith, r, k);
+      kept = let r = c.loop-post.invariant.kept in let k = c.put.ensures.room in omega (arith, r, k);
       ports =
-          ap (map view) c.in-Ok.ensures.items
+          ap (map view) c.put.ensures.items
           ∙ (map-append view c.loop-post.ports.items (c.into_port.result ∷ [])
           ∙ (ap (λ (x : List PortView). x ++ view c.into_port.result ∷ []) c.loop-post.invariant.ports ∙ (ap (λ (v : PortView). map its c.loop-post.yielded ++ v ∷ []) c.into_port.ensures ∙ sym (map-append its c.loop-post.yielded (c.in-Some.post ∷ [])))));
     }
 
-pub returns : goal.returns
-returns g c =
+pub returns-clause-ports : goal.returns-clause-ports
+returns-clause-ports g c =
     let empty : into_iter_items c.loop-post.post-iterator ≡ [] = nothing_left (into_iter_items c.loop-post.post-iterator) (sym c.loop-post.invariant.counted ∙ c.in-None.ensures.steps.0) in
     let whole : c.loop-post.yielded ≡ c.args.posts.items = sym (append-nil c.loop-post.yielded) ∙ (ap (λ (x : List (WorkerPost g.row.P.Denot)). c.loop-post.yielded ++ x) (sym empty) ∙ c.loop-post.invariant.items) in
     c.loop-post.invariant.ports ∙ ap (map (λ (post : WorkerPost g.row.P.Denot). view_by g.P.Port.state g.P.Port.ledger post.port)) whole
+
+pub put-requires : goal.put-requires
+put-requires g c =
+    let steps : into_iter_items c.loop-post.post-iterator ≡ c.in-Some.post ∷ into_iter_items c.next.new.self = c.in-Some.ensures.steps.0 in
+    let all = ap length c.loop-post.invariant.items in
+    let a = length-append c.loop-post.yielded (into_iter_items c.loop-post.post-iterator) in
+    let b = ap length steps in
+    let n = c.loop-post.invariant.size in
+    let r = c.loop-post.invariant.room in
+    let o = c.loop-post.ports.ok.0 in
+    omega (arith, all, a, b, n, r, o)

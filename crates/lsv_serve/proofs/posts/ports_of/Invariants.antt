@@ -10,5 +10,6 @@ invariant-loop-post g l = record {
   counted : into_iter_len l.post-iterator ≡ length (into_iter_items l.post-iterator);
   size : length l.ports.items ≡ length l.yielded;
   room : length l.fn.posts.items ≤ vec_capacity l.ports;
+  kept : vec_capacity l.fn.room ≤ vec_capacity l.ports;
   ports : map (view_by g.P.Port.state g.P.Port.ledger) l.ports.items ≡ map (λ post. view_by g.P.Port.state g.P.Port.ledger post.port) l.yielded;
 }

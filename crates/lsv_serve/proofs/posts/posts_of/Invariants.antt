@@ -1,8 +1,10 @@
-use Rattle.std.proofs.Common.{◌≡◌, ◌++◌, map, length}
+use Rattle.std.proofs.Common.{◌≡◌, ◌≤◌, ◌+◌, ◌++◌, [], map, length}
+use Rattle.std.specs.Prelude.{vec_capacity}
 use Rattle.std.specs.Vec.Iter.{into_iter_items, into_iter_len}
 use Rattle.lsv_worker.specs.Worker.{setting}
 use Rattle.lsv_post.specs.InnerPost.{IsMade}
 use Rattle.lsv_post.specs.Ports.{view_by}
+use Rattle.lsv_reactor.specs.Calls.{jobs_by}
 use Rattle.lsv_serve.specs.InnerServe.{ArePosts}
 use Rattle.lsv_serve.proofs.posts.posts_of.Given as goal
 
@@ -11,6 +13,9 @@ invariant-loop-port g l = record {
   items : l.yielded ++ into_iter_items l.port-iterator ≡ l.fn.ports.items;
   counted : into_iter_len l.port-iterator ≡ length (into_iter_items l.port-iterator);
   number : l.number ≡ length l.yielded;
-  size : length l.posts.items ≡ length l.yielded;
-  posts : ArePosts (λ post. (setting post.worker).number) (λ start post gave took. IsMade g.P.Port.tells g.P.Port.state g.P.Port.ledger start post gave took) (map (view_by g.P.Port.state g.P.Port.ledger) l.yielded) l.posts.items;
+  size : length l.posts.items + length l.left.items ≡ length l.yielded;
+  posts_room : length l.fn.ports.items ≤ vec_capacity l.posts;
+  left_room : length l.fn.ports.items ≤ vec_capacity l.left;
+  views : map (λ post. view_by g.P.Port.state g.P.Port.ledger post.port) l.posts.items ++ map (view_by g.P.Port.state g.P.Port.ledger) l.left.items ≡ map (view_by g.P.Port.state g.P.Port.ledger) l.yielded;
+  posts : l.left.items ≡ [] → ArePosts (λ post. (setting post.worker).number) (λ start post gave took. IsMade g.P.Port.tells g.P.Port.state g.P.Port.ledger start post (jobs_by gave) took) (λ post. view_by g.P.Port.state g.P.Port.ledger post.port) (map (view_by g.P.Port.state g.P.Port.ledger) l.yielded) l.posts.items;
 }

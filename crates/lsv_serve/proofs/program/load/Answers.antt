@@ -9,7 +9,7 @@ use Rattle.lsv_serve.proofs.program.load.Goals as goal
 
 pub returns-in-Err-clause-loads : goal.returns-in-Err-clause-loads
 returns-in-Err-clause-loads g c =
-    let w : World = world_of g.S.Source g.K.Sink g.D.Disk c.args.out.source c.args.out.sink c.args.out.disk in
+    let w : World = world_of g.S.Source g.K.Sink g.D.Disk g.G.Tape c.args.out.source c.args.out.sink c.args.out.disk c.args.out.tape in
     let found : Option (List ℕ) = g.T.Texts.texts c.args.out.texts c.args.opts.now.conf in
     let before = g.T.Texts.faults c.args.out.texts in
     let after = g.T.Texts.faults c.found_file.new.texts in (
@@ -20,7 +20,7 @@ returns-in-Err-clause-loads g c =
 
 pub returns-in-Err-conf_in-clause-loads : goal.returns-in-Err-conf_in-clause-loads
 returns-in-Err-conf_in-clause-loads g c =
-    let w : World = world_of g.S.Source g.K.Sink g.D.Disk c.args.out.source c.args.out.sink c.args.out.disk in
+    let w : World = world_of g.S.Source g.K.Sink g.D.Disk g.G.Tape c.args.out.source c.args.out.sink c.args.out.disk c.args.out.tape in
     let found : Option (List ℕ) = c.in-Ok.found in
     let before = g.T.Texts.faults c.args.out.texts in
     let after = g.T.Texts.faults c.found_file.new.texts in (
@@ -33,8 +33,8 @@ pub returns-in-Ok-conf_in-clause-loads : goal.returns-in-Ok-conf_in-clause-loads
 returns-in-Ok-conf_in-clause-loads g c =
     let found : Option (List ℕ) = c.in-Ok.found in
     let out = c.serve_load.result.0 in
-    let old : World = world_of g.S.Source g.K.Sink g.D.Disk c.args.out.source c.args.out.sink c.args.out.disk in
-    let new : World = world_of g.S.Source g.K.Sink g.D.Disk out.source out.sink out.disk in
+    let old : World = world_of g.S.Source g.K.Sink g.D.Disk g.G.Tape c.args.out.source c.args.out.sink c.args.out.disk c.args.out.tape in
+    let new : World = world_of g.S.Source g.K.Sink g.D.Disk g.G.Tape out.source out.sink out.disk out.tape in
     let set = c.in-Ok-conf_in.ensures.ok in
     let form : c.options_of.result.form ≡ (set_by found).format = c.options_of.ensures.form ∙ ap (λ (s : conf.Settings). s.format) set in
     let log_exit : c.options_of.result.log_exit ≡ (set_by found).log_exit = c.options_of.ensures.log_exit ∙ ap (λ (s : conf.Settings). s.log_exit) set in
@@ -46,5 +46,6 @@ returns-in-Ok-conf_in-clause-loads g c =
       loads_read g.G.Tape.tells g.D.Disk.view c.args.count old new c.args.out.disk out.disk (g.G.Tape.turns c.args.out.tape) (g.G.Tape.turns out.tape) found (g.T.Texts.faults c.args.out.texts) _ c.serve_load.result.1 (λ d told image is. g.met.D.Disk.is_now told d image is) c.in-Ok-conf_in.ensures.none_refused
           (rw (form, log_exit, prompts) at c.serve_load.ensures.runs)
           (λ told. subst (λ (e : List ℕ). HasPlaces (set_by found).iolog_dir e new.disk) events (subst (λ (l : List ℕ). HasPlaces l c.options_of.result.events new.disk) logs (c.serve_load.ensures.places told)))
-          (c.a_load_sums_up_all_its_conversations.ensures (machine_of (set_by found)) (prompts_of (set_by found)) c.args.count c.args.out.disk out.disk (g.G.Tape.turns c.args.out.tape) (g.G.Tape.turns out.tape) c.requires.last),
+          c.serve_load.ensures.fresh_again
+          (λ placed. c.a_load_sums_up_all_its_conversations.ensures (machine_of (set_by found)) (prompts_of (set_by found)) c.args.count placed out.disk (g.G.Tape.turns c.args.out.tape) (g.G.Tape.turns out.tape) c.requires.last),
     )

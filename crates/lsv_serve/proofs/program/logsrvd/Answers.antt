@@ -21,7 +21,7 @@ returns-in-Err-Usage-clause-loads g c = λ o count asks. absurd (c.command_of.en
 
 pub returns-in-Err-NoMem-clause-once : goal.returns-in-Err-NoMem-clause-once
 returns-in-Err-NoMem-clause-once g c = λ o asks.
-    let w : World = world_of g.S.Source g.K.Sink g.D.Disk c.args.out.source c.args.out.sink c.args.out.disk in
+    let w : World = world_of g.S.Source g.K.Sink g.D.Disk g.G.Tape c.args.out.source c.args.out.sink c.args.out.disk c.args.out.tape in
     let found : Option (List ℕ) = g.T.Texts.texts c.args.out.texts o.conf in
     (found, λ told. refl, once_unread w (λ told image is. g.met.D.Disk.only_now told c.args.out.disk image is) found (g.T.Texts.faults c.args.out.texts) (g.T.Texts.faults c.args.out.texts) status.NoMem (inl refl))
 
@@ -29,11 +29,11 @@ pub returns-in-Err-NoMem-clause-serves : goal.returns-in-Err-NoMem-clause-serves
 returns-in-Err-NoMem-clause-serves g c = λ o asks.
     let w : ServerWorld = server_of g.P.Port g.D.Disk g.G.Tape c.args.out.ports.items c.args.out.disk c.args.out.tape in
     let found : Option (List ℕ) = g.T.Texts.texts c.args.out.texts o.conf in
-    (found, λ told. refl, serves_unread found (g.T.Texts.faults c.args.out.texts) (g.T.Texts.faults c.args.out.texts) w status.NoMem (λ told image is. g.met.D.Disk.only_now told c.args.out.disk image is) (inl refl))
+    (found, λ told. refl, serves_unread o.stop_after found (g.T.Texts.faults c.args.out.texts) (g.T.Texts.faults c.args.out.texts) w status.NoMem (λ told image is. g.met.D.Disk.only_now told c.args.out.disk image is) (inl refl))
 
 pub returns-in-Err-NoMem-clause-loads : goal.returns-in-Err-NoMem-clause-loads
 returns-in-Err-NoMem-clause-loads g c = λ o count asks.
-    let w : World = world_of g.S.Source g.K.Sink g.D.Disk c.args.out.source c.args.out.sink c.args.out.disk in
+    let w : World = world_of g.S.Source g.K.Sink g.D.Disk g.G.Tape c.args.out.source c.args.out.sink c.args.out.disk c.args.out.tape in
     let found : Option (List ℕ) = g.T.Texts.texts c.args.out.texts o.conf in
     (found, λ told. refl, loads_unread g.G.Tape.tells g.D.Disk.view count w c.args.out.disk (g.G.Tape.turns c.args.out.tape) found (g.T.Texts.faults c.args.out.texts) (g.T.Texts.faults c.args.out.texts) status.NoMem (λ told image is. g.met.D.Disk.only_now told c.args.out.disk image is) (inl refl))
 

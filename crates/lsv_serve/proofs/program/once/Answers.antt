@@ -10,26 +10,27 @@ use Rattle.lsv_serve.proofs.program.once.Goals as goal
 
 pub returns-in-Err-clause-once : goal.returns-in-Err-clause-once
 returns-in-Err-clause-once g c =
-    let w : World = world_of g.S.Source g.K.Sink g.D.Disk c.args.out.now.source c.args.out.now.sink c.args.out.now.disk in
-    let found : Option (List ℕ) = g.T.Texts.texts c.args.out.now.texts c.args.opts.now.conf in
-    let before = g.T.Texts.faults c.args.out.now.texts in
+    let w : World = world_of g.S.Source g.K.Sink g.D.Disk g.G.Tape c.args.out.source c.args.out.sink c.args.out.disk c.args.out.tape in
+    let found : Option (List ℕ) = g.T.Texts.texts c.args.out.texts c.args.opts.now.conf in
+    let before = g.T.Texts.faults c.args.out.texts in
     let after = g.T.Texts.faults c.found_file.new.texts in
-    (found, λ told. refl, once_unread w (λ told image is. g.met.D.Disk.only_now told c.args.out.now.disk image is) found before after c.in-Err.status (unread_file (lines_in found) before after c.in-Err.status c.in-Err.ensures.err))
+    (found, λ told. refl, once_unread w (λ told image is. g.met.D.Disk.only_now told c.args.out.disk image is) found before after c.in-Err.status (unread_file (lines_in found) before after c.in-Err.status c.in-Err.ensures.err))
 
 pub returns-in-Err-conf_in-clause-once : goal.returns-in-Err-conf_in-clause-once
 returns-in-Err-conf_in-clause-once g c =
-    let w : World = world_of g.S.Source g.K.Sink g.D.Disk c.args.out.now.source c.args.out.now.sink c.args.out.now.disk in
+    let w : World = world_of g.S.Source g.K.Sink g.D.Disk g.G.Tape c.args.out.source c.args.out.sink c.args.out.disk c.args.out.tape in
     let found : Option (List ℕ) = c.in-Ok.found in
-    let before = g.T.Texts.faults c.args.out.now.texts in
+    let before = g.T.Texts.faults c.args.out.texts in
     let after = g.T.Texts.faults c.found_file.new.texts in
-    (found, λ told. c.in-Ok.ensures.ok told, once_unread w (λ told image is. g.met.D.Disk.only_now told c.args.out.now.disk image is) found before after c.in-Err-conf_in.status (unread_line (lines_in found) before after c.in-Err-conf_in.status c.in-Err-conf_in.ensures.err))
+    (found, λ told. c.in-Ok.ensures.ok told, once_unread w (λ told image is. g.met.D.Disk.only_now told c.args.out.disk image is) found before after c.in-Err-conf_in.status (unread_line (lines_in found) before after c.in-Err-conf_in.status c.in-Err-conf_in.ensures.err))
 
 pub returns-in-Ok-conf_in-clause-once : goal.returns-in-Ok-conf_in-clause-once
 returns-in-Ok-conf_in-clause-once g c =
     let found : Option (List ℕ) = c.in-Ok.found in
-    let after = g.D.Disk.view c.run_once.new.out.disk in
-    let old : World = world_of g.S.Source g.K.Sink g.D.Disk c.args.out.now.source c.args.out.now.sink c.args.out.now.disk in
-    let new : World = world_of g.S.Source g.K.Sink g.D.Disk c.run_once.new.out.source c.run_once.new.out.sink c.run_once.new.out.disk in
+    let out = c.run_once.result.0 in
+    let after = g.D.Disk.view out.disk in
+    let old : World = world_of g.S.Source g.K.Sink g.D.Disk g.G.Tape c.args.out.source c.args.out.sink c.args.out.disk c.args.out.tape in
+    let new : World = world_of g.S.Source g.K.Sink g.D.Disk g.G.Tape out.source out.sink out.disk out.tape in
     let set = c.in-Ok-conf_in.ensures.ok in
     let form : c.options_of.result.form ≡ (set_by found).format = c.options_of.ensures.form ∙ ap (λ (s : conf.Settings). s.format) set in
     let log_exit : c.options_of.result.log_exit ≡ (set_by found).log_exit = c.options_of.ensures.log_exit ∙ ap (λ (s : conf.Settings). s.log_exit) set in
@@ -40,11 +41,11 @@ returns-in-Ok-conf_in-clause-once g c =
       λ told. c.in-Ok.ensures.ok told,
       record {
         runs = rw (form, log_exit, prompts) at c.run_once.ensures.runs;
-        cause = program_cause (lines_in found) (g.T.Texts.faults c.args.out.now.texts) _ old new c.run_once.result c.in-Ok-conf_in.ensures.none_refused c.run_once.ensures.cause;
-        complete = λ calm none. completes (set_by found).format (set_by found).log_exit (prompts_of (set_by found)) old new c.run_once.result c.run_once.ensures.not_usage c.run_once.ensures.cause;
+        cause = program_cause (lines_in found) (g.T.Texts.faults c.args.out.texts) _ old new c.run_once.result.1 c.in-Ok-conf_in.ensures.none_refused c.run_once.ensures.cause;
+        complete = λ calm none. completes (set_by found).format (set_by found).log_exit (prompts_of (set_by found)) old new c.run_once.result.1 c.run_once.ensures.not_usage c.run_once.ensures.cause;
         places = λ told.
-            places_given (set_by found).iolog_dir (set_by found).path old.disk after old new c.run_once.result c.run_once.ensures.not_usage c.run_once.ensures.cause
+            places_given (set_by found).iolog_dir (set_by found).path old.disk after old new c.run_once.result.1 c.run_once.ensures.not_usage c.run_once.ensures.cause
             (subst (λ (e : List ℕ). HasPlaces (set_by found).iolog_dir e after) events (subst (λ (l : List ℕ). HasPlaces l c.options_of.result.events after) logs (c.run_once.ensures.places told)));
-        fresh_again = c.run_once.ensures.fresh_again;
+        again = c.run_once.ensures.again;
       },
     )

@@ -13,7 +13,7 @@ returns-in-Err-clause-serves g c =
     let found : Option (List ℕ) = g.T.Texts.texts c.args.out.texts c.args.opts.now.conf in
     let before = g.T.Texts.faults c.args.out.texts in
     let after = g.T.Texts.faults c.found_file.new.texts in
-    (found, λ told. refl, serves_unread found before after w c.in-Err.status (λ told image is. g.met.D.Disk.only_now told c.args.out.disk image is) (unread_file (lines_in found) before after c.in-Err.status c.in-Err.ensures.err))
+    (found, λ told. refl, serves_unread c.args.opts.now.stop_after found before after w c.in-Err.status (λ told image is. g.met.D.Disk.only_now told c.args.out.disk image is) (unread_file (lines_in found) before after c.in-Err.status c.in-Err.ensures.err))
 
 pub returns-in-Err-conf_in-clause-serves : goal.returns-in-Err-conf_in-clause-serves
 returns-in-Err-conf_in-clause-serves g c =
@@ -21,7 +21,7 @@ returns-in-Err-conf_in-clause-serves g c =
     let found : Option (List ℕ) = c.in-Ok.found in
     let before = g.T.Texts.faults c.args.out.texts in
     let after = g.T.Texts.faults c.found_file.new.texts in
-    (found, λ told. c.in-Ok.ensures.ok told, serves_unread found before after w c.in-Err-conf_in.status (λ told image is. g.met.D.Disk.only_now told c.args.out.disk image is) (unread_line (lines_in found) before after c.in-Err-conf_in.status c.in-Err-conf_in.ensures.err))
+    (found, λ told. c.in-Ok.ensures.ok told, serves_unread c.args.opts.now.stop_after found before after w c.in-Err-conf_in.status (λ told image is. g.met.D.Disk.only_now told c.args.out.disk image is) (unread_line (lines_in found) before after c.in-Err-conf_in.status c.in-Err-conf_in.ensures.err))
 
 pub returns-in-Ok-conf_in-clause-serves : goal.returns-in-Ok-conf_in-clause-serves
 returns-in-Ok-conf_in-clause-serves g c =
@@ -33,11 +33,13 @@ returns-in-Ok-conf_in-clause-serves g c =
     let form : c.options_of.result.form ≡ (set_by found).format = c.options_of.ensures.form ∙ ap (λ (s : conf.Settings). s.format) set in
     let log_exit : c.options_of.result.log_exit ≡ (set_by found).log_exit = c.options_of.ensures.log_exit ∙ ap (λ (s : conf.Settings). s.log_exit) set in
     let prompts : c.options_of.result.prompts ≡ prompts_of (set_by found) = c.options_of.ensures.prompts ∙ ap prompts_of set in
+    let listen : c.options_of.result.listen ≡ (set_by found).listen = c.options_of.ensures.listen ∙ ap (λ (s : conf.Settings). s.listen) set in
     let logs : c.options_of.result.logs ≡ (set_by found).iolog_dir = c.options_of.ensures.logs ∙ ap (λ (s : conf.Settings). s.iolog_dir) set in
     let events : c.options_of.result.events ≡ (set_by found).path = c.options_of.ensures.events ∙ ap (λ (s : conf.Settings). s.path) set in (
       found,
       λ told. c.in-Ok.ensures.ok told,
-      serves_read found (g.T.Texts.faults c.args.out.texts) _ old new c.run_serve.result.1 (λ told image is. g.met.D.Disk.is_now told out.disk image is) c.in-Ok-conf_in.ensures.none_refused
-          (rw (form, log_exit, prompts) at c.run_serve.ensures.runs)
-          (λ told. subst (λ (e : List ℕ). HasPlaces (set_by found).iolog_dir e new.disk) events (subst (λ (l : List ℕ). HasPlaces l c.options_of.result.events new.disk) logs (c.run_serve.ensures.places told))),
+      serves_read c.args.opts.now.stop_after found (g.T.Texts.faults c.args.out.texts) _ old new c.run_serve.result.1 (λ told image is. g.met.D.Disk.is_now told out.disk image is) c.in-Ok-conf_in.ensures.none_refused
+          (rw (form, log_exit, prompts, listen) at c.run_serve.ensures.runs)
+          (λ told. subst (λ (e : List ℕ). HasPlaces (set_by found).iolog_dir e new.disk) events (subst (λ (l : List ℕ). HasPlaces l c.options_of.result.events new.disk) logs (c.run_serve.ensures.places told)))
+          c.run_serve.ensures.fresh_again,
     )

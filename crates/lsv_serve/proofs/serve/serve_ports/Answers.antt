@@ -1,43 +1,53 @@
-use Rattle.std.proofs.Common.{◌≡◌, List, map, length, sym, ap, subst, ◌∙◌, arith}
+use Rattle.std.proofs.Common.{◌≡◌, map, length, refl, sym, ap, ◌∙◌, arith}
+use Rattle.lsv_port.specs.Ledger.{Listening}
+use Rattle.lsv_links.specs.Views.{PortView}
+use Rattle.lsv_post.specs.InnerPost.{IsMade}
 use Rattle.lsv_post.specs.Ports.{view_by}
 use Rattle.lsv_post.specs.declared.post.WorkerPost.{WorkerPost}
-use Rattle.lsv_reactor.specs.Links.{PortView, ServesPorts}
+use Rattle.lsv_reactor.specs.Calls.{jobs_by}
 use Rattle.lsv_serve.specs.InnerServe.{port_at}
 use Rattle.lsv_serve.specs.Once.{once_settings}
-use Rattle.lsv_serve.specs.Serve.{ArePortsEnded}
+use Rattle.lsv_serve.specs.Serve.{ServerWorld, server_of}
 use Rattle.lsv_serve.proofs.PostLemmas.{written_back}
-use Rattle.lsv_serve.proofs.ServeLemmas.{idle_run, links_served}
+use Rattle.lsv_serve.proofs.ServeLemmas.{idle_run, leaves_ports, store_placed}
 use Rattle.lsv_serve.proofs.serve.serve_ports.Goals as goal
 
 pub returns-in_default-clause-runs : goal.returns-in_default-clause-runs
 returns-in_default-clause-runs g c =
-    idle_run g.D.Disk.tells g.G.Tape.tells g.P.Port.tells (once_settings c.args.plan.formatter.kind c.args.plan.log_exit) c.args.plan.texts (g.D.Disk.view c.args.bay.disk) (g.G.Tape.turns c.args.bay.tape) _ _ (λ told image is. g.met.D.Disk.only_now told c.args.bay.disk image is)
+    let old : ServerWorld = server_of g.P.Port g.D.Disk g.G.Tape c.args.ports.items c.args.bay.disk c.args.bay.tape in
+    let asked : Listening = record { address = c.args.site.now.address.now; stop_after = c.args.site.now.stop_after } in
+    idle_run (once_settings c.args.plan.formatter.kind c.args.plan.log_exit) c.args.plan.texts asked old old.ports (λ told image is. g.met.D.Disk.only_now told c.args.bay.disk image is) refl
 
-pub returns-in_default-posts_of-clause-runs : goal.returns-in_default-posts_of-clause-runs
-returns-in_default-posts_of-clause-runs g c =
-    idle_run g.D.Disk.tells g.G.Tape.tells g.P.Port.tells (once_settings c.args.plan.formatter.kind c.args.plan.log_exit) c.args.plan.texts (g.D.Disk.view c.args.bay.disk) (g.G.Tape.turns c.args.bay.tape) _ _ (λ told image is. g.met.D.Disk.only_now told c.args.bay.disk image is)
+pub returns-in-Err-clause-runs : goal.returns-in-Err-clause-runs
+returns-in-Err-clause-runs g c =
+    let old : ServerWorld = server_of g.P.Port g.D.Disk g.G.Tape c.args.ports.items c.args.bay.disk c.args.bay.tape in
+    let asked : Listening = record { address = c.args.site.now.address.now; stop_after = c.args.site.now.stop_after } in
+    idle_run (once_settings c.args.plan.formatter.kind c.args.plan.log_exit) c.args.plan.texts asked old (map (view_by g.P.Port.state g.P.Port.ledger) c.in-Err.ports.items) (λ told image is. g.met.D.Disk.only_now told c.args.bay.disk image is) c.in-Err.ensures.back
 
 pub serve_store-bay-requires-clause-posts : goal.serve_store-bay-requires-clause-posts
 serve_store-bay-requires-clause-posts g c =
-    (port_at (map (view_by g.P.Port.state g.P.Port.ledger) c.args.ports.items), rw c.deref_mut.ensures.value c.in-Ok-posts_of.ensures.made)
+    (port_at (map (view_by g.P.Port.state g.P.Port.ledger) c.args.ports.items), rw c.deref_mut.ensures.value c.in-Ok-posts_of.ensures.made.made)
 
 pub returns-clause-runs : goal.returns-clause-runs
 returns-clause-runs g c =
     let view : WorkerPost g.row.P.Denot → PortView = λ post. view_by g.P.Port.state g.P.Port.ledger post.port in
-    let olds : List PortView = map (view_by g.P.Port.state g.P.Port.ledger) c.args.ports.items in
-    let r = c.serve_store-bay.ensures.runs (port_at olds) (rw c.deref_mut.ensures.value c.in-Ok-posts_of.ensures.made) in
-    let size : length c.serve_store-bay.new.posts ≡ c.in-Ok-posts_of.posts.len = let a = c.serve_store-bay.auto.posts in let b = c.deref_mut.ensures.len in omega (arith, a, b) in
-    let held : length c.in-Ok-posts_of.posts.items ≡ c.in-Ok-posts_of.posts.len = let o = c.in-Ok-posts_of.posts.ok.0 in omega (arith, o) in
-    let same : length c.serve_store-bay.new.posts ≡ length olds = let n = c.in-Ok-posts_of.ensures.count in omega (arith, n, size, held) in
-    let views : map (view_by g.P.Port.state g.P.Port.ledger) c.ports_of.result.items ≡ map view c.serve_store-bay.new.posts =
-    c.ports_of.ensures ∙ ap (map view) (written_back c.in-Ok-posts_of.posts.len c.in-Ok-posts_of.posts.items c.serve_store-bay.new.posts size held) in
+    let old : ServerWorld = server_of g.P.Port g.D.Disk g.G.Tape c.args.ports.items c.args.bay.disk c.args.bay.tape in
+    let new : ServerWorld = server_of g.P.Port g.D.Disk g.G.Tape c.ports_of.result.items c.serve_store-bay.result.0.disk c.serve_store-bay.result.0.tape in
+    let asked : Listening = record { address = c.args.site.now.address.now; stop_after = c.args.site.now.stop_after } in
+    let made = c.in-Ok-posts_of.ensures.made in
+    let posts = c.in-Ok-posts_of.made.0 in
+    let r = c.serve_store-bay.ensures.runs (port_at old.ports) (rw c.deref_mut.ensures.value made.made) in
+    let size : length c.serve_store-bay.new.posts ≡ posts.len = let a = c.serve_store-bay.auto.posts in let b = c.deref_mut.ensures.len in omega (arith, a, b) in
+    let held : length posts.items ≡ posts.len = let o = posts.ok.0 in omega (arith, o) in
+    let same : length c.serve_store-bay.new.posts ≡ length old.ports = let n = made.count in omega (arith, n, size, held) in
+    let views : map view c.serve_store-bay.new.posts ≡ new.ports = sym (c.ports_of.ensures.ports ∙ ap (map view) (written_back posts.len posts.items c.serve_store-bay.new.posts size held)) in
     record {
       turns = r.0;
-      store = r.1;
-      links = λ ports over.
-          let l = links_served g.P.Port.tells g.D.Disk.tells view olds c.serve_store-bay.new.posts r.0 same ports (r.2 ports over) in
-          record {
-            served = λ told. subst (λ (news : List PortView). ServesPorts g.D.Disk.tells r.0 olds news) (sym views) (l.0 told);
-            ended = subst (λ (news : List PortView). ArePortsEnded g.P.Port.tells olds news ports) (sym views) l.1;
-          };
+      store = store_placed g.D.Disk.tells g.G.Tape.tells (once_settings c.args.plan.formatter.kind c.args.plan.log_exit) c.args.plan.texts (g.D.Disk.view c.args.bay.disk) new.disk (g.G.Tape.turns c.args.bay.tape) new.tape c.serve_store-bay.result.1 r.0
+          c.serve_store-bay.ensures.places r.1;
+      links = leaves_ports view old new c.serve_store-bay.new.posts r.0 same views asked posts.items made.views (λ start post gave took. IsMade g.P.Port.tells g.P.Port.state g.P.Port.ledger start post (jobs_by gave) took) c.serve_store-bay.result.1 r.2
+          (rw c.deref_mut.ensures.value at r.3) (λ fault e. ap g.G.Tape.turns (c.serve_store-bay.ensures.unserved fault e).2);
     }
+
+pub returns-clause-fresh_again : goal.returns-clause-fresh_again
+returns-clause-fresh_again g c = c.serve_store-bay.ensures.fresh_again

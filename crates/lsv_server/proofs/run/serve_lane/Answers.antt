@@ -12,10 +12,13 @@ returns-in-Ok-clause-runs g c = λ starts start made lane.
         some = tt;
         sized = r.2;
         timed = c.into_bay.ensures.timed start r.0 r.1;
+        answered = c.into_bay.ensures.answered start r.0 r.1;
+        entry = λ fault is. absurd (cc);
         taped = λ told. c.into_bay.ensures.taped told start r.0 r.1;
         keeps = λ told. c.into_bay.ensures.kept told start r.0 r.1;
       },
-      λ end over. subst (λ (e : PortsEnd). ServesAll g.T.Post.tells g.D.Disk.tells g.T.Post.begun g.T.Post.view starts c.serve.new.posts r.0 e) (same_end c.in-Ok.end end over) r.3,
+      λ end over. subst (λ (e : PortsEnd). ServesAll g.T.Post.tells g.D.Disk.tells g.T.Post.made_by g.T.Post.begun g.T.Post.view starts c.serve.new.posts r.0 e) (same_end c.in-Ok.end end over) r.3,
+      λ wants. absurd (cc),
     )
 
 pub returns-in-Ok-clause-places : goal.returns-in-Ok-clause-places
@@ -26,17 +29,32 @@ returns-in-Ok-clause-places g c = λ told start lane.
 
 pub returns-in-Err-clause-runs : goal.returns-in-Err-clause-runs
 returns-in-Err-clause-runs g c = λ starts start made lane.
-    let r = c.in-Err.ensures.err start lane in (
+    let r = c.in-Err.ensures.err starts start made lane in (
       r.0,
       record {
         some = tt;
         sized = r.2;
         timed = c.into_bay-in-Err.ensures.timed start r.0 r.1;
+        answered = c.into_bay-in-Err.ensures.answered start r.0 r.1;
+        entry = λ fault is. absurd (cc);
         taped = λ told. c.into_bay-in-Err.ensures.taped told start r.0 r.1;
         keeps = λ told. keeps_less (Unit {0}) (r.0 ≢ []) start.set start.texts _ r.0 (λ up. tt) (c.into_bay-in-Err.ensures.kept told start r.0 r.1);
       },
       λ end over. absurd (cc),
+      λ wants. r.3,
     )
 
 pub returns-in-Err-clause-places : goal.returns-in-Err-clause-places
-returns-in-Err-clause-places g c = λ told start lane. let r = c.in-Err.ensures.err start lane in c.into_bay-in-Err.ensures.places told start r.0 r.1
+returns-in-Err-clause-places g c = λ told start lane. let p = c.requires.posts in let r = c.in-Err.ensures.err p.0 start p.1 lane in c.into_bay-in-Err.ensures.places told start r.0 r.1
+
+pub returns-in-Ok-clause-fresh : goal.returns-in-Ok-clause-fresh
+returns-in-Ok-clause-fresh g c = λ told start lane.
+    let p = c.requires.posts in
+    let r = c.in-Ok.ensures.ok p.0 start p.1 lane in
+    c.into_bay.ensures.fresh told start r.0 r.1
+
+pub returns-in-Err-clause-fresh : goal.returns-in-Err-clause-fresh
+returns-in-Err-clause-fresh g c = λ told start lane.
+    let p = c.requires.posts in
+    let r = c.in-Err.ensures.err p.0 start p.1 lane in
+    c.into_bay-in-Err.ensures.fresh told start r.0 r.1

@@ -27,4 +27,4 @@ ledger p = port_ledger p.port
 
 pub serve-requires-clause-posts : goal.serve-requires-clause-posts
 serve-requires-clause-posts c =
-    (λ i. view_by state ledger c.args.port, λ i post e. subst (λ (y : WorkerPost Watched). IsMade ⊥ state ledger (view_by state ledger c.args.port) y [] []) (only c.in_ok-new.field-0 i post e) c.in_ok-new.ensures.made)
+    (λ i. view_by state ledger c.args.port, λ i post e. subst (λ (y : WorkerPost Watched). IsMade ⊥ state ledger (view_by state ledger c.args.port) y [] []) (only c.in_ok-post_of.field-0 i post e) c.in_ok-post_of.ensures.made)

@@ -1,24 +1,18 @@
-use Rattle.lsv_serve.specs.World.{world_of}
-use Rattle.lsv_serve.proofs.EndLemmas.{runs_gone, runs_last, runs_out}
+use Rattle.std.proofs.Common.{List, map}
+use Rattle.lsv_turns.specs.Turns.{LaneTurn}
+use Rattle.lsv_serve.specs.Tape.{turn_of}
+use Rattle.lsv_serve.proofs.EndLemmas.{runs_gone_in, runs_last, runs_out}
 use Rattle.lsv_serve.proofs.server.Server.serve.Goals as goal
 
-pub let_go-requires-clause-stands : goal.let_go-requires-clause-stands
-let_go-requires-clause-stands g c = λ told.
-    let n = c.requires.known in
-    let e = c.in-Open.ensures.ends n.0 n.1 n.2 n.3 n.4 n.5 in
-    let s = e.standing told in
-    (s.machine, s.represents)
+pub let_go-requires : goal.let_go-requires
+let_go-requires g c = let n = c.requires.begun in let e = c.in-Open.ensures n.0 n.1 in record { begun = (n.0, map turn_of e.reads, e.made) }
 
 pub returns-in-Last : goal.returns-in-Last
-returns-in-Last g c = record { runs = λ set texts s k d b. runs_last set texts (world_of g.S.Source g.K.Sink g.D.Disk s k d) _ _ c.in-Last.status (c.in-Last.ensures.ends set texts s k d b) }
+returns-in-Last g c = λ start made. runs_last (g.L.Lane.made_by start c.take_in.new.self.lane) _ _ c.in-Last.status (c.in-Last.ensures start made)
 
 pub returns-in-Ok : goal.returns-in-Ok
-returns-in-Ok g c = record {
-  runs = λ set texts s k d b.
-      runs_gone set texts (world_of g.S.Source g.K.Sink g.D.Disk s k d) _ _ c.in-Open.status _ _ _ (c.in-Open.ensures.ends set texts s k d b) c.in-Open.ensures.rests c.in-Ok.ensures.done;
-}
+returns-in-Ok g c = λ start made.
+    runs_gone_in (λ begin (turns : List LaneTurn). g.L.Lane.made_by begin c.take_in.new.self.lane turns) (λ begin (turns : List LaneTurn). g.L.Lane.made_by begin c.let_go.new.self.lane turns) start _ _ c.in-Open.status _ (c.in-Open.ensures start made) c.in-Ok.ensures.made
 
 pub returns-in-Err : goal.returns-in-Err
-returns-in-Err g c = record {
-  runs = λ set texts s k d b. rw c.in-Err.ensures.disk (runs_out set texts (world_of g.S.Source g.K.Sink g.D.Disk s k d) _ _ c.in-Open.status (c.in-Open.ensures.ends set texts s k d b));
-}
+returns-in-Err g c = λ start made. runs_out (g.L.Lane.made_by start c.take_in.new.self.lane) _ _ (g.L.Lane.made_by start c.let_go.new.self.lane) c.in-Open.status (c.in-Err.ensures.lost start) (c.in-Open.ensures start made)
