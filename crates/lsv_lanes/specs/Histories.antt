@@ -1,0 +1,96 @@
+-- What the lanes of a server did in one run, each with logs of its own.
+use Rattle.std.specs.Prelude.{◌≡◌, ◌≤◌, ℕ, zero, suc, List, [], ◌∷◌, ◌++◌, length}
+use Rattle.lsv_request.specs.declared.request.Request.TheVariants.{Restart as AsRestart}
+use Rattle.lsv_request.specs.declared.request.Restart.{Restart}
+use Rattle.lsv_session.specs.Transcript.{bodies_of}
+use Rattle.lsv_session.specs.declared.connection.ConnId.{ConnId}
+use Rattle.lsv_session.specs.declared.job.Job.{Job}
+use Rattle.lsv_turns.specs.Turns.{EndsWithGone, LaneTurn, jobs_in}
+use Rattle.lsv_machine.specs.Failures.{Act, AsksFor}
+use Rattle.lsv_machine.specs.History.{Ledger, writers}
+use Rattle.lsv_machine.specs.Machine.{IsOfLane, Machine, Settings}
+use Rattle.lsv_machine.specs.Starts.{StartsAs}
+use Rattle.lsv_machine.specs.Turns.{Happened, Happened.Did, Happened.Tailed, Happened.Begins, Run}
+use Rattle.lsv_lanes.specs.Jobs.{AsksFirst}
+
+-- the jobs of what happened, in order
+abbrev pub jobs_of : List Happened → List Job
+jobs_of [] = []
+jobs_of (Did act ∷ history) = act.job ∷ jobs_of history
+jobs_of (Tailed tail ∷ history) = jobs_of history
+jobs_of (Begins texts ∷ history) = jobs_of history
+
+-- ---- A lane keeps to its logs
+
+-- In this history of one run each connection that asks first to go on with a log asks for one of the lane, and brings nothing
+-- after its end. A restart that comes later is refused, whatever log it names.
+pub record KeepsToLane (set : Settings) (history : List Happened) : Type 0 where
+  pub own : (k : ConnId) (n : ℕ) → AsksFirst (bodies_of k (jobs_of history)) n → IsOfLane set.lane set.lanes n
+  pub ends : (k : ConnId) → EndsWithGone (bodies_of k (jobs_of history))
+
+-- a job asks to go on with this log, and its judgement by the connection's state lets it through
+abbrev pub AsksNow : Machine → Act → ℕ → Type 0
+AsksNow m act n = (restart : Restart) × AsksFor (m.states act.job.conn) act.job.body (AsRestart restart) × (restart.log ≡ n)
+
+-- a job of this run asks to go on with this log, and the machine as it is then lets it through
+pub record AsksInRun (set : Settings) (start : Machine) (history : List Happened) (n : ℕ) : Type 0 where
+  pub before : List Happened
+  pub act : Act
+  pub after : List Happened
+  pub is : history ≡ before ++ Did act ∷ after
+  pub mid : Machine
+  pub run : Run set start before mid
+  pub asks : AsksNow mid act n
+
+-- no more is said of a log than before, and nobody writes it
+pub record SaysNoMore (old new : Ledger) : Type 0 where
+  pub writers : new.writers ≡ []
+  pub head : new.head ≡ old.head
+  pub sent : new.sent ≡ old.sent
+  pub shown : new.shown ≡ old.shown
+  pub promised : new.promised ≡ old.promised
+  pub exit : new.exit ≡ old.exit
+  pub finished : new.finished ≡ old.finished
+
+-- ---- All lanes together
+
+-- the history of a lane, up to some moment of a run in which it keeps to its logs; what was before that run is any history
+pub record IsOfRun (lane lanes : ℕ) (history : List Happened) : Type 0 where
+  pub set : Settings
+  pub lane_is : set.lane ≡ lane
+  pub lanes_are : set.lanes ≡ lanes
+  pub before : List Happened
+  pub texts : List (List ℕ)
+  pub run : List Happened
+  pub is : history ≡ before ++ Begins texts ∷ run
+  pub start : Machine
+  pub starts : StartsAs set texts start
+  pub end : Machine
+  pub runs : Run set start run end
+  pub keeps : KeepsToLane set run
+
+-- the history of a lane, up to some moment of a run in which it makes these turns in all; what was before that run is any history
+pub record MakesTurns (lane lanes : ℕ) (turns : List LaneTurn) (history : List Happened) : Type 0 where
+  pub set : Settings
+  pub lane_is : set.lane ≡ lane
+  pub lanes_are : set.lanes ≡ lanes
+  pub before : List Happened
+  pub texts : List (List ℕ)
+  pub run : List Happened
+  pub is : history ≡ before ++ Begins texts ∷ run
+  pub start : Machine
+  pub starts : StartsAs set texts start
+  -- what is still to come
+  pub rest : List Happened
+  pub end : Machine
+  pub runs : Run set start (run ++ rest) end
+  pub jobs : jobs_of (run ++ rest) ≡ jobs_in turns
+
+-- who writes log n by the histories of these lanes, lane after lane
+abbrev pub writers_in_all : (lanes : ℕ) (histories : ℕ → List Happened) → ℕ → List ConnId
+writers_in_all zero histories n = []
+writers_in_all (suc lane) histories n = writers_in_all lane histories n ++ writers (histories lane) n
+
+-- no log has two writers by the histories of all lanes together
+abbrev pub HasOneWriterInAll : (lanes : ℕ) (histories : ℕ → List Happened) → Type 0
+HasOneWriterInAll lanes histories = (n : ℕ) → length (writers_in_all lanes histories n) ≤ 1
