@@ -11,7 +11,7 @@ use lsv_base::{Bytes, List, LogNo, TimeSpec};
 use lsv_disk::{FileId, Owner, Part};
 use lsv_hook::{Formatter, SudoLines};
 use lsv_iolog::{LogFault, LogView};
-use lsv_keeper::Keeper;
+use lsv_keeper::{Keeper, more_room_changes_nothing};
 use lsv_mask::{Prompt, TextSearch};
 use lsv_session::{Job, Reply};
 use lsvt_model::RunSettings;
@@ -56,6 +56,7 @@ pub fn keeper_turn(
     ensures { IsResting (view_of keeper.new) }
 {
     let mut replies = Vec::new(alloc);
+    more_room_changes_nothing::<Unwatched>();
     keeper.ready(jobs.len(), &mut replies)?;
     keeper.turn(disk, TimeSpec { sec: 0, nsec: 0 }, jobs, &mut replies);
     Ok(replies)

@@ -12,7 +12,7 @@ use crate::script::{Script, job_of};
 use anyhow::Result;
 use lsv_base::List;
 use lsv_hook::{Formatter, SudoLines};
-use lsv_keeper::{Keeper, StoreFault};
+use lsv_keeper::{Keeper, StoreFault, more_room_changes_nothing};
 use lsv_mask::{Prompt, TextSearch};
 use lsv_session::{Job, Reply};
 use lsvt_doubles::{FILLS, Hostile, Plan};
@@ -68,6 +68,7 @@ fn keeper_turn(
     ensures { IsResting (view_of keeper.new) }
 {
     let mut replies = Vec::new(alloc);
+    more_room_changes_nothing::<Hostile>();
     keeper.ready(jobs.len(), &mut replies)?;
     keeper.turn(disk, NOW, jobs, &mut replies);
     Ok(replies)

@@ -57,6 +57,7 @@ fn cut_all(alloc: Global, bytes: &[u8], size: usize, pause: usize) -> Result<Tal
                 at = piece.len();
                 since = 0;
             }
+            at = at.min(piece.len());
             if !tally.take(&reader.next(piece, &mut at)?) {
                 break;
             }
