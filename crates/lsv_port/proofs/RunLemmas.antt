@@ -83,6 +83,8 @@ use_cause l Used failed old links refused h cause =
       continues = record {
         script = refl;
         listens = refl;
+        turned = λ e. e;
+        deaf = refl;
         turns = omega arith;
         links = λ m. subst (λ (g : LinkMap). faults_of (f m) ≤ faults_of (g m)) (sym h.links)
             (each_used l f h.now (λ k o. faults_of (f k) ≤ faults_of o) (subst (λ (o : Option MemLink). faults_of o ≤ h.now.faults) (sym h.here) its.monotone) (λ k ne. omega arith) m);
@@ -157,6 +159,8 @@ pub close_continues : (l : ℕ) (late : Bool) (old : Run) (links : Links) → li
 close_continues l late old links change = record {
   script = refl;
   listens = refl;
+  turned = λ e. e;
+  deaf = refl;
   turns = omega arith;
   links = λ m. subst (λ (g : LinkMap). faults_of (links_of old.links m) ≤ faults_of (g m)) (sym change) (shut_faults late (l == m) (links_of old.links m));
 }

@@ -65,7 +65,7 @@ pub step_runs : (old : Run) (step : Step) (links : Links) (stopped failed : Bool
     → (AreOpened old.links.opened.items (links_of old.links) → AreOpened links.opened.items (links_of links))
     → (AreOpen old.links.open_now.items (links_of old.links) → AreOpen links.open_now.items (links_of links))
     → (stopped ≡ true → (old.stopped ≡ true) ⊎ (step ≡ steps.Stop))
-    → IsRun (record old { done = old.done + 1; links = links; stopped = stopped; failed = failed; turns = turns; refused = refused })
+    → IsRun (record old { turned = true; done = old.done + 1; links = links; stopped = stopped; failed = failed; turns = turns; refused = refused })
 step_runs old step links stopped failed turns refused e run sent opened open_now why = record {
   done = let within : old.done < length old.script.items = slice_get_within old.script.items old.done step e in omega (arith, within);
   sent = λ l. subst (λ (s : Sent). IsSentBy s (links_of links l)) (sym (sent_more l old.script.items old.done step e)) (sent (λ m. sent_by m (take old.done old.script.items)) run.sent l);
@@ -77,7 +77,7 @@ step_runs old step links stopped failed turns refused e run sent opened open_now
 -- a step that is none of a link's
 pub plain_runs : (old : Run) (step : Step) (stopped failed : Bool) (turns : ℕ) → slice_get old.script.items old.done ≡ Some step → IsRun old → ((l : ℕ) (s : Sent) → sent_next l s step ≡ s)
     → (stopped ≡ true → (old.stopped ≡ true) ⊎ (step ≡ steps.Stop))
-    → IsRun (record old { done = old.done + 1; stopped = stopped; failed = failed; turns = turns })
+    → IsRun (record old { turned = true; done = old.done + 1; stopped = stopped; failed = failed; turns = turns })
 plain_runs old step stopped failed turns e run same why =
     step_runs old step old.links stopped failed turns old.refused e run
     (λ sent hs l. subst (λ (s : Sent). IsSentBy s (links_of old.links l)) (sym (same l (sent l))) (hs l)) (λ h. h) (λ h. h) why
@@ -90,7 +90,7 @@ stop_same step e l s = subst (λ (t : Step). sent_next l s t ≡ s) (sym (stop_i
 
 -- a turn's answer
 pub turn_told : (answer : Option Ready) (old : Run) (step : Step) (links : Links) (stopped failed : Bool) (turns : ℕ) → slice_get old.script.items old.done ≡ Some step → answer ≡ answer_of (links_of old.links) step
-    → IsTurn answer (value_of old) (value_of (record old { done = old.done + 1; links = links; stopped = stopped; failed = failed; turns = turns }))
+    → IsTurn answer (value_of old) (value_of (record old { turned = true; done = old.done + 1; links = links; stopped = stopped; failed = failed; turns = turns }))
 turn_told answer old step links stopped failed turns e is = record {
   told = is ∙ sym (ap (turn_of (links_of old.links)) e);
   done = let within : old.done < length old.script.items = slice_get_within old.script.items old.done step e in omega (arith, within);
@@ -114,7 +114,7 @@ link_told old step told links run h = h.told (λ l. sent_by l (take old.done old
 -- ---- A turn to which memory was refused
 
 pub refused_runs : (old : Run) (links : Links) (failed : Bool) (turns refused : ℕ) → IsRun old → AreSame old.links links
-    → IsRun (record old { links = links; failed = failed; turns = turns; refused = refused })
+    → IsRun (record old { turned = true; links = links; failed = failed; turns = turns; refused = refused })
 refused_runs old links failed turns refused run same = record {
   done = run.done;
   sent = subst (λ (g : LinkMap). AreSentBy (λ l. sent_by l (take old.done old.script.items)) g) (sym same.links) run.sent;
@@ -128,8 +128,8 @@ pub refused_told : (old : Run) (links : Links) (stopped : Bool) → AreSame old.
 refused_told old links stopped same = record { links = λ l. ap (λ (g : LinkMap). told_of (g l)) same.links; opened = same.opened; stopped = refl; failed = refl }
 
 pub refused_cause : (old : Run) (links : Links) (fault : Bool) (turns refused : ℕ) (failed : Type 0) → AreSame old.links links → old.turns ≤ turns → HasRisen old.turns turns
-    → HasTurnCause failed (ledger_of old) (ledger_of (record old { links = links; failed = fault; turns = turns; refused = refused }))
+    → HasTurnCause failed (ledger_of old) (ledger_of (record old { turned = true; links = links; failed = fault; turns = turns; refused = refused }))
 refused_cause old links fault turns refused failed same more risen = record {
-  continues = record { script = refl; listens = refl; turns = more; links = λ l. subst (λ (g : LinkMap). faults_of (links_of old.links l) ≤ faults_of (g l)) (sym same.links) (omega arith) };
+  continues = record { script = refl; listens = refl; turned = λ e. refl; deaf = refl; turns = more; links = λ l. subst (λ (g : LinkMap). faults_of (links_of old.links l) ≤ faults_of (g l)) (sym same.links) (omega arith) };
   risen = λ e. risen;
 }

@@ -1,11 +1,12 @@
-ghost use Rattle.std.specs.Prelude.{◌≡◌, ◌⊎◌, ◌<◌, ℕ, false, [], Some, length, map, IfOk, OnOk, OnErr, IsErr};
+ghost use Rattle.std.specs.Prelude.{◌≡◌, ◌⊎◌, ◌<◌, ℕ, true, false, [], Some, length, map, IfOk, OnOk, OnErr, IsErr};
 ghost use Rattle.std.specs.Result.{result_ok};
+ghost use Rattle.lsv_words.specs.Causes.{HasRisen};
 ghost use Rattle.lsv_port.specs.declared.memory.link.MemLink.{MemLink};
 ghost use Rattle.lsv_port.specs.Ledger.{Continues, HasListenCause, HasTurnCause, HasLinkCause, WasAsked};
 ghost use Rattle.lsv_port.specs.Port.{IsOpen, IsSame, Changes, Told, TellsFault, TakesWithin, MayTake, GivesWithin, after_read, after_write, closed, is_over};
 ghost use Rattle.lsv_port.specs.Memory.Link.{AnswersRead, AnswersWrite};
 ghost use Rattle.lsv_port.specs.Memory.Laws.{opened_where_open};
-ghost use Rattle.lsv_port.specs.Memory.Value.{port_state, port_ledger, link_map, listening_of, HasNoted, IsTurn, IsRefusedTurn, TellsScript};
+ghost use Rattle.lsv_port.specs.Memory.Value.{port_state, port_ledger, link_map, noted_of, HasNoted, IsTurn, IsRefusedTurn, TellsScript};
 
 mod asked;
 mod link;
@@ -46,6 +47,8 @@ impl MemPort {
         ensures stopped { (port_state result).stopped ≡ false }
         ensures failed { (port_state result).failed ≡ false }
         ensures listens { (port_ledger result).listens ≡ [] }
+        ensures turned { (port_ledger result).turned ≡ false }
+        ensures deaf { (port_ledger result).deaf ≡ 0 }
         ensures turns { (port_ledger result).turns ≡ 0 }
         ensures refused { result.refused ≡ 0 }
     {
@@ -62,9 +65,9 @@ impl MemPort {
         self.run.refused
     }
 
-    /// What it was asked to listen on, in order.
+    /// What it was asked to listen on, in order, each with whether it had made a turn by then.
     pub fn listens(&self) -> &[Asked]
-        ensures { map listening_of result.now ≡ (port_ledger self.now).listens }
+        ensures { map noted_of result.now ≡ (port_ledger self.now).listens }
     {
         &self.run.listens
     }
@@ -131,6 +134,7 @@ impl Port for MemPort {
         ensures same { OnOk result (IsSame (port_state self.old) (port_state self.new)) }
         ensures failed { OnErr result (TellsFault (port_state self.old) (port_state self.new)) }
         ensures asked { WasAsked (record { address = address.now; stop_after = stop_after }) (IsErr result) (port_ledger self.old) (port_ledger self.new) }
+        ensures deaf { OnErr result (HasRisen (port_ledger self.old).deaf (port_ledger self.new).deaf) }
         ensures cause { HasListenCause (IsErr result) (port_ledger self.old) (port_ledger self.new) }
         ensures noted { HasNoted (IsErr result) self.old self.new }
     {
@@ -142,6 +146,7 @@ impl Port for MemPort {
     fn turn(&mut self, _held: &[u32]) -> Result<Ready, PortFault>
         ensures told { IfOk result (λ ready. Told ready (port_state self.old) (port_state self.new)) }
         ensures failed { OnErr result (TellsFault (port_state self.old) (port_state self.new)) }
+        ensures turned { (port_ledger self.new).turned ≡ true }
         ensures cause { HasTurnCause (IsErr result) (port_ledger self.old) (port_ledger self.new) }
         ensures answer { IsTurn (result_ok result) self.old self.new ⊎ IsRefusedTurn (result_ok result) self.old self.new }
     {

@@ -1,5 +1,6 @@
-ghost use Rattle.std.specs.Prelude.{◌≡◌, ℕ, ◌<◌, length, IfOk, OnOk, OnErr, IsErr};
+ghost use Rattle.std.specs.Prelude.{◌≡◌, ℕ, ◌<◌, true, length, IfOk, OnOk, OnErr, IsErr};
 ghost use Rattle.std.specs.List.{Contains};
+ghost use Rattle.lsv_words.specs.Causes.{HasRisen};
 ghost use Rattle.lsv_port.specs.Ledger.{PortLedger, Continues, HasListenCause, HasTurnCause, HasLinkCause, WasAsked};
 ghost use Rattle.lsv_port.specs.Port.{PortState, IsOpen, IsOwed, IsSame, Changes, Told, TellsFault, TakesWithin, MayTake, GivesWithin, after_read, after_write, closed, is_over};
 
@@ -60,16 +61,18 @@ pub trait Port {
     /// told, or the port failed as a whole.
     ghost state: { Self → PortState };
 
-    /// What stays from call to call, whether it tells or not: its script, what it was asked to listen on, and the counts of
-    /// its faults.
+    /// What stays from call to call, whether it tells or not: its script, what it was asked to listen on, whether it made a
+    /// turn, and the counts of its faults.
     ghost ledger: { Self → PortLedger };
 
     /// Begins to take links at this address, a host and a port number as `*:30343`. With a number in `stop_after`
-    /// a turn tells Stop once so many links were opened and closed. A port that tells notes what it was asked to listen on.
+    /// a turn tells Stop once so many links were opened and closed. A port that tells notes what it was asked to listen on,
+    /// and whether it had made a turn by then; and it counts the calls that failed.
     fn listen(&mut self, address: &str, stop_after: Option<u32>) -> Result<(), PortFault>
         ensures same { tells → OnOk result (IsSame (state self.old) (state self.new)) }
         ensures failed { tells → OnErr result (TellsFault (state self.old) (state self.new)) }
         ensures asked { tells → WasAsked (record { address = address.now; stop_after = stop_after }) (IsErr result) (ledger self.old) (ledger self.new) }
+        ensures deaf { tells → OnErr result (HasRisen (ledger self.old).deaf (ledger self.new).deaf) }
         ensures cause { HasListenCause (IsErr result) (ledger self.old) (ledger self.new) };
 
     /// Waits until there is something to tell, or a while. Each link that is owed a read stands among those held. Of a held
@@ -79,6 +82,7 @@ pub trait Port {
         requires held { tells → (link : ℕ) → IsOwed (state self.old) link → Contains held.now link }
         ensures told { tells → IfOk result (λ ready. Told ready (state self.old) (state self.new)) }
         ensures failed { tells → OnErr result (TellsFault (state self.old) (state self.new)) }
+        ensures turned { tells → (ledger self.new).turned ≡ true }
         ensures cause { HasTurnCause (IsErr result) (ledger self.old) (ledger self.new) };
 
     /// Reads what has come on an open link, as much as the buffer takes. It never waits.

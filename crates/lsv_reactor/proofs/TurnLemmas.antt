@@ -1,5 +1,5 @@
 -- The lane and the posts behind a turn.
-use Rattle.std.proofs.Common.{◌≡◌, ◌≤◌, ◌++◌, ◌∷◌, [], List, ℕ, length, sym, ap, subst, ◌∙◌, append-nil, arith, Option, Some, None}
+use Rattle.std.proofs.Common.{◌≡◌, ◌≤◌, ◌++◌, ◌∷◌, [], List, ℕ, length, sym, ap, subst, ◌∙◌, append-nil, arith, false, Option, Some, None}
 use Rattle.std.specs.Prelude.{slice_get}
 use Rattle.std.specs.List.{AllByRecursion}
 use Rattle.std.proofs.lemmas.Grind.{flat_map-append}
@@ -60,7 +60,7 @@ module _ {T S : Type 0} (number : T → ℕ) (view : T → PortView) (made_by : 
 
 -- the ledger of the port of the post at each place
 abbrev ledger_at : {T : Type 0} (view : T → PortView) → Option T → PortLedger
-ledger_at {T} view None = record { script = []; listens = []; turns = 0; links = λ l. 0 }
+ledger_at {T} view None = record { script = []; listens = []; turned = false; deaf = 0; turns = 0; links = λ l. 0 }
 ledger_at {T} view (Some post) = (view post).ledger
 
 abbrev pub ledgers_of : {T : Type 0} (view : T → PortView) (posts : List T) → ℕ → PortLedger

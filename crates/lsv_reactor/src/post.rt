@@ -1,4 +1,5 @@
 ghost use Rattle.std.specs.Prelude.{◌≡◌, ◌≤◌, ◌∷◌, [], ◌++◌, ℕ, List, Some, true, false, length};
+ghost use Rattle.lsv_words.specs.Causes.{HasRisen};
 ghost use Rattle.lsv_port.specs.Ledger.{Continues, HasListenCause, WasAsked};
 ghost use Rattle.lsv_session.specs.declared.job.Job.{Job};
 ghost use Rattle.lsv_session.specs.declared.reply.Reply.{Reply};
@@ -48,12 +49,14 @@ pub trait Post {
 
     /// Begins to take links at this address, a host and a port number. With a number in `stop_after` its port tells Stop once
     /// so many links were opened and closed. False where the port can't listen: that is a failure of it, which `wait` acts on.
-    /// A port that tells notes what it was asked to listen on.
+    /// A port that tells notes what it was asked to listen on, and whether it had made a turn by then; and it counts the calls
+    /// that failed.
     fn open(&mut self, address: &str, stop_after: Option<u32>) -> bool
         requires begun { (start : Start) × (gave : List (List Job)) × (took : List Reply) × made_by start self.old gave took }
         ensures made { (start : Start) (gave : List (List Job)) (took : List Reply) → made_by start self.old gave took → made_by start self.new gave took }
         ensures number { number self.new ≡ number self.old }
         ensures asked { tells → WasAsked (record { address = address.now; stop_after = stop_after }) (result ≡ false) (view self.old).ledger (view self.new).ledger }
+        ensures deaf { tells → result ≡ false → HasRisen (view self.old).ledger.deaf (view self.new).ledger.deaf }
         ensures cause { HasListenCause (result ≡ false) (view self.old).ledger (view self.new).ledger };
 
     /// Waits until its port tells something, or a while, and does what that asks for.

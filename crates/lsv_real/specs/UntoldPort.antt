@@ -11,6 +11,6 @@ untold_link = record { is_open = false; input = []; output = []; ended = false; 
 abbrev pub untold_port : PortState
 untold_port = record { opened = []; link = λ l. untold_link; stopped = false; failed = false }
 
--- so often a turn, and so often a link, failed
+-- so often a turn, and so often a link, failed; what it was asked to listen on isn't noted, nor that a turn was made
 abbrev pub ledger_of : ℕ → ℕ → PortLedger
-ledger_of turns links = record { script = []; listens = []; turns = turns; links = λ l. links }
+ledger_of turns links = record { script = []; listens = []; turned = false; deaf = 0; turns = turns; links = λ l. links }

@@ -15,12 +15,12 @@ use Rattle.lsv_session.specs.declared.job.Job.{Job}
 use Rattle.lsv_session.specs.declared.reply.Reply.{Reply}
 use Rattle.lsv_links.specs.Lanes.{one_lane}
 use Rattle.lsv_links.specs.Links.{PutsPrefixes, ServesPort, ServesPorts}
-use Rattle.lsv_links.specs.Views.{PortFailed, PortView}
+use Rattle.lsv_links.specs.Views.{PortView}
 use Rattle.lsv_port.specs.Ledger.{Listening, WasAsked}
 use Rattle.lsv_reactor.specs.Served.{HasPortsEnd, ServesAll}
 use Rattle.lsv_reactor.specs.declared.rounds.PortsEnd.{PortsEnd}
 use Rattle.lsv_reactor.specs.declared.rounds.PortsEnd.TheVariants.{Stopped, Failed}
-use Rattle.lsv_server.specs.Runs.{HasEndCause, IsUp, ListenAt, RunsStore}
+use Rattle.lsv_server.specs.Runs.{HasEndCause, IsUp, ListenAt, ListenFailed, RunsStore}
 use Rattle.lsv_server.proofs.RunLemmas.{keeps_less}
 use Rattle.lsv_server.specs.Runs as posts_leave
 use Rattle.lsv_server.specs.declared.run.End.{End}
@@ -64,7 +64,7 @@ ports_listen : {T : Type 0} (view : T → PortView) (asked : Listening) (posts p
 ports_listen view asked posts posts' at w before after e f =
     let t = through view posts w before e in
     let u = through view posts' w after f in
-    subst (λ (p : PortView). WasAsked asked (PortFailed p after) p.ledger after.ledger) t.is (subst (λ (p : PortView). WasAsked asked (PortFailed (view t.x) p) (view t.x).ledger p.ledger) u.is (at w t.x u.x t.at u.at))
+    subst (λ (p : PortView). WasAsked asked (ListenFailed p after) p.ledger after.ledger) t.is (subst (λ (p : PortView). WasAsked asked (ListenFailed (view t.x) p) (view t.x).ledger p.ledger) u.is (at w t.x u.x t.at u.at))
 
 -- posts that served ports, from a world to another
 module _ {T : Type 0} (view : T → PortView) (old new : ServerWorld) (posts : List T) (turns : List LaneTurn) (same : length posts ≡ length old.ports) (is : map view posts ≡ new.ports) where

@@ -25,7 +25,7 @@ use Rattle.lsv_serve.specs.World.{World}
 
 -- a port of which nothing is known
 abbrev pub nothing : PortView
-nothing = record { state = record { opened = []; link = λ l. fresh_link (λ m. false); stopped = false; failed = false }; ledger = record { script = []; listens = []; turns = 0; links = λ l. 0 } }
+nothing = record { state = record { opened = []; link = λ l. fresh_link (λ m. false); stopped = false; failed = false }; ledger = record { script = []; listens = []; turned = false; deaf = 0; turns = 0; links = λ l. 0 } }
 
 -- what is known of the port at a place
 abbrev pub port_at : List PortView → ℕ → PortView

@@ -57,7 +57,7 @@ abbrev pub ArePortsEnded : (tells : Type 0) (old new : List PortView) → PortsE
 ArePortsEnded tells old new Stopped = tells → (i : ℕ) (port : PortView) → slice_get new i ≡ Some port → port.state.stopped ≡ true
 ArePortsEnded tells old new Failed = (i : ℕ) × ((before after : PortView) × (slice_get old i ≡ Some before) × (slice_get new i ≡ Some after) × PortFailed before after)
 
--- each port was asked to listen on this, once; or it failed as a whole, and was asked nothing
+-- each port was asked to listen on this, once, before it made a turn; or it couldn't listen, and noted nothing
 abbrev pub PortsListen : Listening → (old new : ServerWorld) → Type 0
 PortsListen asked old new = old.ports_tell → ListenAt (λ port. port) asked old.ports new.ports
 

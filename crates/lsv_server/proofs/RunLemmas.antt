@@ -1,5 +1,5 @@
 -- Runs whose store was opened, and those whose store wasn't.
-use Rattle.std.proofs.Common.{◌≡◌, ◌≢◌, ◌<◌, ◌≤◌, ◌+◌, ◌-◌, ◌^◌, [], List, ℕ, Some, None, length, get_or, refl, sym, subst, ◌∙◌, append-nil, inl, inr, ⊎_elim, arith}
+use Rattle.std.proofs.Common.{◌≡◌, ◌≢◌, ◌<◌, ◌≤◌, ◌+◌, [], List, ℕ, Some, None, length, get_or, refl, sym, subst, ◌∙◌, append-nil, inl, inr, ⊎_elim, arith}
 use Rattle.std.specs.Prelude.{slice_get}
 use Rattle.std.proofs.Math.ListN.{set}
 use Rattle.std.proofs.lemmas.Option.{slice_get-get_or, slice_get_within}
@@ -7,7 +7,7 @@ use Rattle.lsv_reactor.proofs.Own.{EqOr.equal, EqOr.unequal, eq_or}
 use Rattle.lsv_reactor.proofs.Places.{set_here, set_there}
 use Rattle.lsv_words.specs.Causes.{HasRisen}
 use Rattle.lsv_port.specs.Ledger.{Continues, Listening, WasAsked}
-use Rattle.lsv_links.specs.Views.{PortFailed, PortView}
+use Rattle.lsv_links.specs.Views.{PortView}
 use Rattle.lsv_reactor.specs.Served.{KeepPorts, PutsAll}
 use Rattle.lsv_disk.specs.View.{DiskView}
 use Rattle.lsv_disk.specs.declared.file.Owner.{Owner}
@@ -19,7 +19,7 @@ use Rattle.lsv_keeper.specs.declared.fault.StoreFault.TheVariants as faults
 use Rattle.lsv_seq.specs.Drawn.{entry_at}
 use Rattle.lsv_turns.specs.Turns.{LaneTurn, TapeTurn}
 use Rattle.lsv_lane.specs.Store.{KeepsStore, OwnerFailed}
-use Rattle.lsv_server.specs.Runs.{HasEndCause, HasTurns, IsUp, LeavesPorts, ListenAt, RunsStore, unopened}
+use Rattle.lsv_server.specs.Runs.{HasEndCause, HasTurns, IsUp, LeavesPorts, ListenAt, ListenFailed, RunsStore, unopened}
 use Rattle.lsv_reactor.specs.declared.rounds.PortsEnd.{PortsEnd}
 use Rattle.lsv_server.specs.declared.run.End.{End}
 use Rattle.lsv_server.specs.declared.run.End.TheVariants.{Over, Store, NoMem}
@@ -76,12 +76,9 @@ same_end a b e = cc
 
 -- ---- What ports were asked to listen on
 
-risen_on : (a b c : ℕ) → HasRisen a b → b ≤ c → HasRisen a c
-risen_on a b c rose le below = let low : b < 2 ^ 64 - 1 = omega (arith, le, below) in let up : a < b = rose low in omega (arith, le, up)
-
-asked_on : (asked : Listening) (old mid new : PortView) → WasAsked asked (PortFailed old mid) old.ledger mid.ledger → Continues mid.ledger new.ledger → WasAsked asked (PortFailed old new) old.ledger new.ledger
+asked_on : (asked : Listening) (old mid new : PortView) → WasAsked asked (ListenFailed old mid) old.ledger mid.ledger → Continues mid.ledger new.ledger → WasAsked asked (ListenFailed old new) old.ledger new.ledger
 asked_on asked old mid new was on =
-    ⊎_elim (λ e. inl (on.listens ∙ e)) (λ f. inr (on.listens ∙ f.0, risen_on old.ledger.turns mid.ledger.turns new.ledger.turns f.1 on.turns)) was
+    ⊎_elim (λ e. inl (on.listens ∙ e)) (λ f. inr (on.listens ∙ f.0, subst (λ (count : ℕ). HasRisen old.ledger.deaf count) (sym on.deaf) f.1)) was
 
 mid_at : {T : Type 0} (olds mids : List T) (i : ℕ) (old : T) → length mids ≡ length olds → slice_get olds i ≡ Some old → (mid : T) × (slice_get mids i ≡ Some mid)
 mid_at {T} olds mids i old count was =
@@ -104,20 +101,20 @@ set_all {T} P posts place y less at all i z e = elim (eq_or i place) [
 
 -- the ports below this place were asked
 abbrev pub AskedBelow : {T : Type 0} (view : T → PortView) (asked : Listening) (olds news : List T) → ℕ → Type 0
-AskedBelow {T} view asked olds news place = (i : ℕ) (old new : T) → i < place → slice_get olds i ≡ Some old → slice_get news i ≡ Some new → WasAsked asked (PortFailed (view old) (view new)) (view old).ledger (view new).ledger
+AskedBelow {T} view asked olds news place = (i : ℕ) (old new : T) → i < place → slice_get olds i ≡ Some old → slice_get news i ≡ Some new → WasAsked asked (ListenFailed (view old) (view new)) (view old).ledger (view new).ledger
 
-asked_so : (asked : Listening) (F : Type 0) (old new : PortView) → (F → PortFailed old new) → WasAsked asked F old.ledger new.ledger → WasAsked asked (PortFailed old new) old.ledger new.ledger
+asked_so : (asked : Listening) (F : Type 0) (old new : PortView) → (F → ListenFailed old new) → WasAsked asked F old.ledger new.ledger → WasAsked asked (ListenFailed old new) old.ledger new.ledger
 asked_so asked F old new failed was = ⊎_elim (λ e. inl e) (λ f. inr (f.0, failed f.1)) was
 
 -- and the one at this place
-pub asked_more : {T : Type 0} (view : T → PortView) (asked : Listening) (olds posts : List T) (place : ℕ) (x y : T) (F : Type 0) → place < length posts → slice_get olds place ≡ Some x → (F → PortFailed (view x) (view y)) → WasAsked asked F (view x).ledger (view y).ledger
+pub asked_more : {T : Type 0} (view : T → PortView) (asked : Listening) (olds posts : List T) (place : ℕ) (x y : T) (F : Type 0) → place < length posts → slice_get olds place ≡ Some x → (F → ListenFailed (view x) (view y)) → WasAsked asked F (view x).ledger (view y).ledger
     → AskedBelow view asked olds posts place → AskedBelow view asked olds (set posts place y) (place + 1)
 asked_more {T} view asked olds posts place x y F less at failed was below i old new under before after = elim (eq_or i place) [
   | equal p t ↦
       let there : slice_get (set posts place y) place ≡ Some new = subst (λ (k : ℕ). slice_get (set posts place y) k ≡ Some new) p after in
       let same : x ≡ old = some_one x old (sym at ∙ subst (λ (k : ℕ). slice_get olds k ≡ Some old) p before) in
-      subst (λ (o : T). WasAsked asked (PortFailed (view o) (view new)) (view o).ledger (view new).ledger) same
-      (subst (λ (n : T). WasAsked asked (PortFailed (view x) (view n)) (view x).ledger (view n).ledger) (sym (set_here posts place y new there less)) (asked_so asked F (view x) (view y) failed was))
+      subst (λ (o : T). WasAsked asked (ListenFailed (view o) (view new)) (view o).ledger (view new).ledger) same
+      (subst (λ (n : T). WasAsked asked (ListenFailed (view x) (view n)) (view x).ledger (view n).ledger) (sym (set_here posts place y new there less)) (asked_so asked F (view x) (view y) failed was))
   | unequal ne t ↦ below i old new (omega (arith, under, ne)) before (set_there posts place i y new ne after)
 ]
 

@@ -1,5 +1,6 @@
 -- A run of a server over the store of one lane: one list of turns is what came, what was replied, and what the store went through.
 use Rattle.std.specs.Prelude.{◌≡◌, ◌≢◌, ◌⊎◌, ◌++◌, ℕ, List, [], Some, None, slice_get}
+use Rattle.lsv_words.specs.Causes.{HasRisen}
 use Rattle.lsv_disk.specs.View.{DiskView}
 use Rattle.lsv_disk.specs.declared.file.Owner.{Owner}
 use Rattle.lsv_machine.specs.Machine.{Settings}
@@ -12,7 +13,7 @@ use Rattle.lsv_turns.specs.Turns.{LaneTurn, TapeTurn, all_taped}
 use Rattle.lsv_lane.specs.Store.{AreAnswered, AreTimed, KeepsStore, OwnerFailed}
 use Rattle.lsv_port.specs.Ledger.{Listening, WasAsked}
 use Rattle.lsv_links.specs.Turns.{AreSized}
-use Rattle.lsv_links.specs.Views.{PortFailed, PortView}
+use Rattle.lsv_links.specs.Views.{PortView}
 use Rattle.lsv_reactor.specs.Served.{PutsAll}
 use Rattle.lsv_server.specs.declared.run.End.{End}
 use Rattle.lsv_server.specs.declared.run.End.TheVariants.{Over, Store, NoMem}
@@ -60,9 +61,13 @@ unopened (faults.Device o) = Store (faults.Device o)
 unopened (faults.Damaged file) = Store (faults.Damaged file)
 unopened (faults.LanesDiffer kept asked) = Store (faults.LanesDiffer kept asked)
 
--- the port of each of these posts was asked to listen on this, once; or it failed as a whole before it noted that
+-- the port couldn't listen meanwhile
+abbrev pub ListenFailed : PortView → PortView → Type 0
+ListenFailed old new = HasRisen old.ledger.deaf new.ledger.deaf
+
+-- The port of each of these posts was asked to listen on this, once, before it made a turn. Or it couldn't listen, and noted nothing.
 abbrev pub ListenAt : {T : Type 0} (view : T → PortView) (asked : Listening) (olds news : List T) → Type 0
-ListenAt {T} view asked olds news = (i : ℕ) (old new : T) → slice_get olds i ≡ Some old → slice_get news i ≡ Some new → WasAsked asked (PortFailed (view old) (view new)) (view old).ledger (view new).ledger
+ListenAt {T} view asked olds news = (i : ℕ) (old new : T) → slice_get olds i ≡ Some old → slice_get news i ≡ Some new → WasAsked asked (ListenFailed (view old) (view new)) (view old).ledger (view new).ledger
 
 -- What posts did whose run came to no end of its own, out of memory: none did anything, and no turn was made, since the store wasn't
 -- opened. Or each listened at this, the turns' jobs are the first of what was read, and nothing was put but prefixes of their answers.

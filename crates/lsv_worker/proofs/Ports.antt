@@ -16,12 +16,14 @@ pub risen_on : (a b c : ℕ) → HasRisen a b → b ≤ c → HasRisen a c
 risen_on a b c rose le below = let low : b < 2 ^ 64 - 1 = omega arith in let up : a < b = rose low in omega arith
 
 pub continues_here : (a : PortLedger) → Continues a a
-continues_here a = record { script = refl; listens = refl; turns = omega arith; links = λ l. omega arith }
+continues_here a = record { script = refl; listens = refl; turned = λ e. e; deaf = refl; turns = omega arith; links = λ l. omega arith }
 
 pub continues_then : (a b c : PortLedger) → Continues a b → Continues b c → Continues a c
 continues_then a b c x y = record {
   script = y.script ∙ x.script;
   listens = y.listens ∙ x.listens;
+  turned = λ e. y.turned (x.turned e);
+  deaf = y.deaf ∙ x.deaf;
   turns = omega (arith, x.turns, y.turns);
   links = λ l. omega (arith, x.links l, y.links l);
 }

@@ -7,5 +7,5 @@ use Rattle.lsv_links.specs.Views.{PortView}
 abbrev pub no_port : PortView
 no_port = record {
   state = record { opened = []; link = λ l. fresh_link (λ m. false); stopped = false; failed = false };
-  ledger = record { script = []; listens = []; turns = 0; links = λ l. 0 };
+  ledger = record { script = []; listens = []; turned = false; deaf = 0; turns = 0; links = λ l. 0 };
 }

@@ -11,15 +11,15 @@ use Rattle.lsv_port.specs.declared.port.Ready.{Ready}
 use Rattle.lsv_port.specs.declared.port.Ready.TheVariants as ready
 use Rattle.lsv_port.specs.declared.step.Step.{Step}
 use Rattle.lsv_port.specs.declared.step.Step.TheVariants as step
-use Rattle.lsv_port.specs.Ledger.{Listening, PortLedger}
+use Rattle.lsv_port.specs.Ledger.{Noted, PortLedger}
 use Rattle.lsv_port.specs.Port.{LinkState, PortState}
 use Rattle.lsv_port.specs.Memory.Numbers.{has}
 use Rattle.lsv_port.specs.Memory.Script.{Sent, sent_by, fails_turn, is_stop}
 use Rattle.lsv_port.specs.Memory.Links.{LinkMap, PortOver, links_of, state_of, faults_of, ready_of, AreSentBy, AreOpened, AreOpen}
 
--- what a port in memory was asked to listen on
-abbrev pub listening_of : Asked → Listening
-listening_of asked = record { address = asked.address.items; stop_after = asked.stop_after }
+-- what a port in memory was asked to listen on, and whether it had made a turn by then
+abbrev pub noted_of : Asked → Noted
+noted_of note = record { asked = record { address = note.address.items; stop_after = note.stop_after }; turned = note.turned }
 
 -- whether a run told Stop, and whether it failed as a whole
 abbrev pub over_by : Run → PortOver
@@ -31,13 +31,16 @@ told_by p = state_of (links_of p.links) p.links.opened.items (over_by p)
 
 -- what stays of a run from call to call
 abbrev pub ledger_of : Run → PortLedger
-ledger_of p = record { script = p.script.items; listens = map listening_of p.listens.items; turns = p.turns; links = λ l. faults_of (links_of p.links l) }
+ledger_of p = record { script = p.script.items; listens = map noted_of p.listens.items; turned = p.turned; deaf = p.deaf; turns = p.turns; links = λ l. faults_of (links_of p.links l) }
 
--- a port in memory: its script, how many of its steps were taken, what it was asked to listen on, its links, those that were opened and those that are open, whether Stop was told, whether it failed as a whole, how often it did, and how often a call failed for lack of memory
+-- A port in memory: its script, how many of its steps were taken, what it was asked to listen on, whether it made a turn, and how often listening failed.
+-- Then its links, those that were opened and those that are open, whether Stop was told, whether it failed as a whole, how often it did, and how often a call failed for lack of memory.
 pub record PortValue : Type 0 where
   pub script : List Step
   pub done : ℕ
-  pub listens : List Listening
+  pub listens : List Noted
+  pub turned : Bool
+  pub deaf : ℕ
   pub links : List (ℕ × MemLink)
   pub opened : List ℕ
   pub open_now : List ℕ
@@ -48,7 +51,7 @@ pub record PortValue : Type 0 where
 
 -- a run is such a port
 abbrev pub value_of : Run → PortValue
-value_of p = record { script = p.script.items; done = p.done; listens = map listening_of p.listens.items; links = p.links.by_number.entries; opened = p.links.opened.items; open_now = p.links.open_now.items; stopped = p.stopped; failed = p.failed; turns = p.turns; refused = p.refused }
+value_of p = record { script = p.script.items; done = p.done; listens = map noted_of p.listens.items; turned = p.turned; deaf = p.deaf; links = p.links.by_number.entries; opened = p.links.opened.items; open_now = p.links.open_now.items; stopped = p.stopped; failed = p.failed; turns = p.turns; refused = p.refused }
 
 -- the links by their numbers
 abbrev pub link_map : PortValue → LinkMap
@@ -64,7 +67,7 @@ port_state p = state_of (listed p) p.opened (record { stopped = p.stopped; faile
 
 -- what stays of it from call to call
 abbrev pub port_ledger : PortValue → PortLedger
-port_ledger p = record { script = p.script; listens = p.listens; turns = p.turns; links = λ l. faults_of (link_map p l) }
+port_ledger p = record { script = p.script; listens = p.listens; turned = p.turned; deaf = p.deaf; turns = p.turns; links = λ l. faults_of (link_map p l) }
 
 -- the next step of the script, where there is one
 abbrev pub next_step : PortValue → Option Step

@@ -2,12 +2,13 @@ ghost use Rattle.std.specs.Prelude.{◌≡◌, ◌⊎◌, ◌<◌, ◌∷◌, �
 ghost use Rattle.std.specs.Result.{result_ok};
 ghost use Rattle.std.specs.Option.{option_copied};
 ghost use Rattle.std.specs.List.{slice_get};
+ghost use Rattle.lsv_words.specs.Causes.{HasRisen};
 ghost use Rattle.lsv_port.specs.declared.memory.link.MemLink.{MemLink};
 ghost use Rattle.lsv_port.specs.Port.{IsSame, Changes, Told, TellsFault, TakesWithin, MayTake, GivesWithin, after_read, after_write, closed, is_over};
-ghost use Rattle.lsv_port.specs.Ledger.{Continues, HasListenCause, HasTurnCause, HasLinkCause, Listening, WasAsked};
+ghost use Rattle.lsv_port.specs.Ledger.{Continues, HasListenCause, HasTurnCause, HasLinkCause, WasAsked};
 ghost use Rattle.lsv_port.specs.Memory.Link.{AnswersRead, AnswersWrite};
 ghost use Rattle.lsv_port.specs.Memory.Links.{links_of, is_open_in};
-ghost use Rattle.lsv_port.specs.Memory.Value.{told_by, ledger_of, value_of, listening_of, HasNoted, IsRun, IsTurn, IsRefusedTurn};
+ghost use Rattle.lsv_port.specs.Memory.Value.{told_by, ledger_of, value_of, noted_of, HasNoted, IsRun, IsTurn, IsRefusedTurn};
 
 use crate::memory::asked::Asked;
 use crate::memory::links::Links;
@@ -27,6 +28,11 @@ pub(crate) struct Run {
     pub(crate) failed: bool,
     /// What it was asked to listen on, in order.
     pub(crate) listens: Vec<Asked>,
+    /// A turn was asked for.
+    pub(crate) turned: bool,
+    /// How often listening failed.
+    pub(crate) deaf: u64,
+    /// How often listening and turns failed.
     pub(crate) turns: u64,
     pub(crate) refused: u64,
 }
@@ -48,6 +54,8 @@ impl Run {
         ensures stopped { result.stopped ≡ false }
         ensures failed { result.failed ≡ false }
         ensures listens { result.listens.items ≡ [] }
+        ensures turned { result.turned ≡ false }
+        ensures deaf { result.deaf ≡ 0 }
         ensures turns { result.turns ≡ 0 }
         ensures refused { result.refused ≡ 0 }
     {
@@ -58,6 +66,8 @@ impl Run {
             stopped: false,
             failed: false,
             listens: Vec::new(alloc),
+            turned: false,
+            deaf: 0,
             turns: 0,
             refused: 0,
         }
@@ -66,10 +76,10 @@ impl Run {
     /// Adds what it is asked to listen on to what it was asked before.
     fn note(&mut self, alloc: Global, address: &str, stop_after: Option<u32>) -> Result<(), NoMem>
         ensures same { self.new ≡ record self.old { listens = self.new.listens } }
-        ensures ok { OnOk result (map listening_of self.new.listens.items ≡ map listening_of self.old.listens.items ++ record { address = address.now; stop_after = stop_after } ∷ []) }
+        ensures ok { OnOk result (map noted_of self.new.listens.items ≡ map noted_of self.old.listens.items ++ record { asked = record { address = address.now; stop_after = stop_after }; turned = self.old.turned } ∷ []) }
         ensures err { OnErr result (self.new.listens.items ≡ self.old.listens.items) }
     {
-        let asked = Asked::new(alloc, address, stop_after)?;
+        let asked = Asked::new(alloc, address, stop_after, self.turned)?;
         self.listens.push(asked)?;
         Ok(())
     }
@@ -86,6 +96,7 @@ impl Run {
         ensures same { OnOk result (IsSame (told_by self.old) (told_by self.new)) }
         ensures failed { OnErr result (TellsFault (told_by self.old) (told_by self.new)) }
         ensures asked { WasAsked (record { address = address.now; stop_after = stop_after }) (IsErr result) (ledger_of self.old) (ledger_of self.new) }
+        ensures deaf { OnErr result (HasRisen self.old.deaf self.new.deaf) }
         ensures cause { HasListenCause (IsErr result) (ledger_of self.old) (ledger_of self.new) }
         ensures noted { HasNoted (IsErr result) (value_of self.old) (value_of self.new) }
     {
@@ -95,6 +106,7 @@ impl Run {
             }
             Err(NoMem) => {
                 self.failed = true;
+                self.deaf = self.deaf.saturating_add(1);
                 self.turns = self.turns.saturating_add(1);
                 self.refused = self.refused.saturating_add(1);
                 return Err(PortFault);
@@ -108,9 +120,11 @@ impl Run {
         ensures run { IsRun self.new }
         ensures told { IfOk result (λ ready. Told ready (told_by self.old) (told_by self.new)) }
         ensures failed { OnErr result (TellsFault (told_by self.old) (told_by self.new)) }
+        ensures turned { self.new.turned ≡ true }
         ensures cause { HasTurnCause (IsErr result) (ledger_of self.old) (ledger_of self.new) }
         ensures answer { IsTurn (result_ok result) (value_of self.old) (value_of self.new) ⊎ IsRefusedTurn (result_ok result) (value_of self.old) (value_of self.new) }
     {
+        self.turned = true;
         let Some(step) = step_at(&self.script, self.done) else {
             self.stopped = true;
             return Ok(Ready::Stop);

@@ -22,7 +22,7 @@ posts-preserved g c =
       numbered = λ h. set_all (λ i post. g.T.Post.number post ≡ i) c.posts.posts c.posts.place c.open.new.self less (c.open.ensures.number ∙ c.posts.invariant.numbered h c.posts.place _ here) (c.posts.invariant.numbered h);
       made = λ starts h. set_all (λ i post. g.T.Post.made_by (starts i) post [] []) c.posts.posts c.posts.place c.open.new.self less (c.open.ensures.made (starts c.posts.place) [] [] (c.posts.invariant.made starts h c.posts.place _ here)) (c.posts.invariant.made starts h);
       later = λ i post low e. c.posts.invariant.later i post (omega (arith, low)) (set_there c.posts.posts c.posts.place i c.open.new.self post (λ p. omega (arith, low, p)) e);
-      asked = λ told. asked_more g.T.Post.view _ c.args.posts.now c.posts.posts c.posts.place _ c.open.new.self _ less at c.open.ensures.cause.risen (c.open.ensures.asked told) (c.posts.invariant.asked told);
+      asked = λ told. asked_more g.T.Post.view _ c.args.posts.now c.posts.posts c.posts.place _ c.open.new.self _ less at (c.open.ensures.deaf told) (c.open.ensures.asked told) (c.posts.invariant.asked told);
     }
 
 pub returns-clause-asked : goal.returns-clause-asked
