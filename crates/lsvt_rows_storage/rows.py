@@ -4,13 +4,13 @@
 usage: rows.py FOLDER
 
 It is a program of its own, which knows nothing of what the crates answer. What a disk and a port answer stands in it
-as literals. What a sync that failed leaves, and which new files are synced, are worked out here by the rules that
-the functions state.
+as literals. What a sync that failed leaves, which new files are synced, and which folders lanes sync, are worked out
+here by the rules that the functions state.
 """
 from __future__ import annotations
 
 import sys
-from collections.abc import Sequence
+from collections.abc import Iterator, Sequence
 
 from oracle.rows import Rows
 
@@ -114,6 +114,92 @@ def disk_lock() -> None:
     case("disk second drop")
 
 
+def disk_shared() -> None:
+    """Disks of one program, and a stranger."""
+    title("disks of one program share a store and its locks, and no log of one is made by another")
+    case("disk third beside")
+    case("disk first root shared shared/events")
+    case("disk third length log.1/head", "fault")
+    case("disk third root shared shared/events")
+    case("disk first create numbers.0/slots", "ok")
+    drawn = b"\1\0" + b"".join(n.to_bytes(4, "big") for n in (1296, 0, 1))
+    case(f"disk first write numbers.0/slots 0 {drawn.hex()}", "ok")
+    case("disk first create_all log.1 head", "ok")
+    case("disk third create_all log.2 head", "ok")
+    case("disk third create_all log.1 head", "fault")
+    case("disk third length log.1/head", "0 bytes")
+    case("disk first length log.2/head", "0 bytes")
+    case("disk first create events.0/lines", "ok")
+    case("disk third create events.1/lines", "ok")
+    case("disk third length events.0/lines", "0 bytes")
+    title("lanes make logs at once")
+    case("disk first create_all log.65 head", "ok")
+    case("disk both 40", "38 and 39 logs")
+    case("disk first sync log.80/head", "ok")
+    case("disk third sync log.79/head", "ok")
+    for number in [79, 80]:
+        path = "shared/00/00/" + "0123456789ABCDEFGHIJKLMNOPQRSTUVWXYZ"[number // 36] \
+            + "0123456789ABCDEFGHIJKLMNOPQRSTUVWXYZ"[number % 36]
+        case(f"stored {path}/log.json", "bytes ")
+        case(f"stored {path}/slots", "bytes 00")
+    title("a disk that names other places has no store, and makes nothing there")
+    case("disk third root other other/events")
+    case("disk third length log.2/head", "fault")
+    case("disk third create log.3/exit", "fault")
+    case("stored other", "absent")
+    case("disk third root shared shared/events2")
+    case("disk third length log.2/head", "fault")
+    case("disk third root shared shared/events")
+    case("disk third length log.2/head", "0 bytes")
+    title("a stranger has no store until the last disk of the program lets go of it")
+    case("disk second root shared shared/events")
+    case("disk second length log.1/head", "fault")
+    case("disk first root shared shared/events")
+    case("disk second root shared shared/events")
+    case("disk second length log.1/head", "fault")
+    case("disk first drop")
+    case("disk second root shared shared/events")
+    case("disk second length log.1/head", "fault")
+    case("disk third length log.1/head", "0 bytes")
+    case("disk third drop")
+    case("disk second root shared shared/events")
+    case("disk second length log.1/head", "0 bytes")
+    case("disk second drop")
+    title("once no disk of the program uses a store, another one may be opened")
+    case("disk third beside")
+    case("disk first root shared shared/events")
+    case("disk third root shared shared/events")
+    case("disk first root /dev/null/store events")
+    case("disk third root /dev/null/store events")
+    case("disk second root shared shared/events")
+    case("disk second length log.1/head", "0 bytes")
+    case("disk third root another another/events")
+    case("disk third create log.1/head", "ok")
+    case("disk first root another another/events")
+    case("disk first length log.1/head", "0 bytes")
+    for which in ["first", "second", "third"]:
+        case(f"disk {which} drop")
+
+
+def disk_lanes_events() -> None:
+    """What stands at the event log of a lane."""
+    title("a lane does not write over the lines that another program left at its event log")
+    case("disk second root left lanes.1")
+    case("disk second create events.0/lines", "ok")
+    case(f"disk second write events.0/lines 0 {b'left'.hex()}0a", "ok")
+    case("disk second drop")
+    case("disk first root several lanes")
+    for call in ["length events.1/lines", "create events.1/slots", f"write events.1/lines 0 {b'over'.hex()}",
+                 "create_all events.1 lines slots", "sync events.1/lines"]:
+        case(f"disk first {call}", "fault")
+    case("stored lanes.1", f"bytes {b'left'.hex()}0a")
+    case("stored lanes.1.slots", "absent")
+    case("disk first create_all events.0 lines slots", "ok")
+    case("disk first create_all events.2 lines slots", "ok")
+    case("disk first length events.2/slots", "1 bytes")
+    case("disk first drop")
+
+
 def disk_many() -> None:
     """More files than are kept open."""
     title("a file that was closed, since more than 512 others were open after it, is opened again")
@@ -126,6 +212,125 @@ def disk_many() -> None:
     case("disk first sync log.1296/ttyout", "ok")
     case("disk first length log.1296/ttyout", "4 bytes")
     case("disk first drop")
+
+
+# Which folders lanes sync
+
+LEAVES = ["a/b/0", "a/b/1", "a/b/2"]
+BEFORE = {"new": None, "old": "a/x/9", "known": "a/b/9"}
+
+
+class Folders:
+    """Folders whose names lanes bring to the disk, by the places of their steps in a row.
+
+    A lane must know of a sync of the upper folder that succeeded and that began after its own ticket, or of the
+    name itself. Else it syncs the upper folder. Once a sync of a folder failed, each lane that needs it fails.
+    """
+
+    def __init__(self, fails: str) -> None:
+        """The syncs of one folder fail."""
+        self.fails, self.now = fails, 0
+        self.made: dict[str, int] = {".": 0, "a": 0, "a/x": 0}
+        self.tickets: dict[int, int] = {}
+        self.synced: dict[str, int] = {}
+        self.named: set[str] = set()
+        self.failed: set[str] = set()
+        self.good: list[tuple[str, int]] = []
+
+    def tick(self) -> int:
+        """The place of the next step."""
+        self.now += 1
+        return self.now
+
+    def make(self, folder: str) -> None:
+        """A folder is made where it isn't there: what was known of it is of another one."""
+        if folder not in self.made:
+            self.made[folder] = self.tick()
+            self.named.discard(folder)
+            self.synced.pop(folder, None)
+
+    def settle(self, leaf: str, ticket: int) -> str:
+        """Which folders are synced, and what came of it."""
+        text, parts = "", leaf.split("/")
+        for depth in range(len(parts)):
+            above = "/".join(parts[:depth]) or "."
+            folder = "/".join(parts[:depth + 1])
+            if above in self.failed:
+                return text + " fault."
+            if folder != leaf and folder in self.named:
+                continue
+            if self.synced.get(above, -1) < ticket:
+                text += f" {above}"
+                begun = self.tick()
+                if above == self.fails:
+                    self.failed.add(above)
+                    return text + " fault."
+                self.synced[above] = begun
+                self.good.append((above, begun))
+            self.named.add(folder)
+        for depth in range(len(parts)):
+            above, folder = "/".join(parts[:depth]) or ".", "/".join(parts[:depth + 1])
+            assert any(of == above and begun > self.made[folder] for of, begun in self.good), (leaf, folder)
+        return text + " ok."
+
+
+def names(age: str, fails: str, steps: Sequence[str]) -> list[str]:
+    """The steps of lanes in a row; what each settling printed."""
+    folders = Folders("")
+    wanted = []
+    before = BEFORE[age]
+    if before is not None:
+        folders.make("a/b" if age == "known" else "a/x")
+        folders.make(before)
+        wanted.append(folders.settle(before, folders.tick()).strip())
+    folders.fails = fails
+    for step in steps:
+        word, lane = step.split(".")
+        leaf = LEAVES[int(lane)]
+        if word == "make":
+            folders.make("a/b")
+            folders.make(leaf)
+        elif word == "take":
+            folders.tickets[int(lane)] = folders.tick()
+        else:
+            wanted.append(f"{lane}:{folders.settle(leaf, folders.tickets[int(lane)])}")
+    case(f"names {age} {fails} {' '.join(steps)}", " ".join(["names:", *wanted]))
+    return wanted
+
+
+def orders(lanes: Sequence[Sequence[str]]) -> Iterator[list[str]]:
+    """Each order of the steps of lanes in which each lane keeps its own."""
+    if not any(lanes):
+        yield []
+    for i, steps in enumerate(lanes):
+        if steps:
+            for rest in orders([*lanes[:i], steps[1:], *lanes[i + 1:]]):
+                yield [steps[0], *rest]
+
+
+def all_names() -> None:
+    """Each order of the steps of two lanes, and of three whose folders are made in their order."""
+    steps = [[f"{word}.{lane}" for word in ["make", "take", "settle"]] for lane in range(3)]
+    for age, said in [("new", "of which nothing is known"), ("old", "in one that was synced long ago"),
+                      ("known", "whose name is known")]:
+        title(f"two lanes make logs in a folder {said}")
+        for fails in ["none", "a", "a/b"]:
+            for order in orders(steps[:2]):
+                names(age, fails, order)
+    title("a folder that another lane made is no synced one, though the one above it was synced before")
+    assert names("old", "none", ["make.0", "make.1", "take.0", "take.1", "settle.1", "settle.0"])[1] == "1: a a/b ok."
+    title("three lanes make logs")
+    counts = set()
+    for order in orders(steps):
+        made = [step for step in order if step.startswith("make")]
+        if made == ["make.0", "make.1", "make.2"]:
+            wanted = names("known", "none", order)
+            counts.add(sum(text.count("a/b") for text in wanted[1:]))
+    assert counts == {1, 2, 3}
+    title("lanes on threads: a sync that began before the ticket doesn't count, a later one does, and none overlap")
+    case("threads cover", "ok, ok, ok by 2 syncs, 0 at once")
+    case("threads fail", "fault, fault, fault by 1 syncs, 0 at once")
+    case("threads reach", "ok, 0 beside it")
 
 
 # What is written again after a sync that failed
@@ -357,8 +562,8 @@ def main() -> None:
     """Writes all cases."""
     if len(sys.argv) != 2:
         sys.exit("usage: rows.py FOLDER")
-    for part in [disk_file, disk_modes, disk_gate, disk_gone, disk_lock, disk_many, files, makings, ports_share,
-        port_full, port_taken]:
+    for part in [disk_file, disk_modes, disk_gate, disk_gone, disk_lock, disk_shared, disk_lanes_events, disk_many,
+        all_names, files, makings, ports_share, port_full, port_taken]:
         part()
     ROWS.write(sys.argv[1])
     print(f"{len(ROWS.cases)} cases, {len(ROWS.wanted)} lines that must be printed")

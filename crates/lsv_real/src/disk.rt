@@ -5,33 +5,58 @@ ghost use Rattle.lsv_real.specs.Untold.{untold};
 
 use crate::call::{Call, CallFault};
 use crate::cut_notice::{JOURNAL, cut_in, last_entry};
+use crate::fault::StoreFault;
 use crate::refusal::{is_refused, report_no_store, warn_of_places};
+use crate::shared::{SharedStore, StoreSlot, release_unused};
 use crate::store::Store;
 use lsv_bundle::Body;
 use lsv_disk::{Disk, DiskFault, FileId, Owner, Part};
+use std::alloc::{AllocError, Global};
 use std::io::ErrorKind;
+use std::sync::{Arc, Mutex, Wait};
 
 /// The nanoseconds of a second.
 const NANOS: u64 = 1_000_000_000;
 
-/// The disk of the operating system. Until `root` has the store's lock each call is a fault, and makes nothing.
+/// The disk of the operating system. Until `root` has the store's lock each call is a fault, and makes nothing. The disks of a
+/// program, one for each lane, use one store together, and wait for each other by `W`.
 #[derive(Drop)]
-pub struct FileDisk {
+pub struct FileDisk<W: Wait + Copy> {
     rt: HostRuntime,
+    waits: W,
     /// Whose faults they are, on standard error.
     program: &'static str,
-    store: Option<Store>,
+    /// Where the disks of the program find the store that one of them opened.
+    slot: Arc<StoreSlot, Global>,
+    store: Option<Store<W>>,
     faults: u64,
 }
 
-impl FileDisk {
+impl<W: Wait + Copy> FileDisk<W> {
     /// A disk without a store. Its faults are told on standard error, a line each, under the program's name.
-    pub fn new(rt: HostRuntime, program: &'static str) -> Self
-        ensures { (f : FileId) → (⟦<FileDisk as Disk>⟧.view result).faults f ≡ 0 }
+    pub fn new(rt: HostRuntime, waits: W, program: &'static str) -> Result<Self, AllocError>
+        ensures { IfOk result (λ d. (f : FileId) → (⟦<FileDisk<W> as Disk>⟧.view d).faults f ≡ 0) }
+    {
+        let slot = Arc::new(rt.alloc(), Mutex::new(None))?;
+        Ok(FileDisk::at(rt, waits, program, slot))
+    }
+
+    /// A disk of the same program for another lane, without a store yet. By the same places it gets the store of this one.
+    pub fn beside(&self) -> Result<Self, AllocError>
+        ensures { IfOk result (λ d. (f : FileId) → (⟦<FileDisk<W> as Disk>⟧.view d).faults f ≡ 0) }
+    {
+        let slot = Arc::try_clone(&self.slot)?;
+        Ok(FileDisk::at(self.rt, self.waits, self.program, slot))
+    }
+
+    fn at(rt: HostRuntime, waits: W, program: &'static str, slot: Arc<StoreSlot, Global>) -> Self
+        ensures { result.faults ≡ 0 }
     {
         FileDisk {
             rt,
+            waits,
             program,
+            slot,
             store: None,
             faults: 0,
         }
@@ -42,9 +67,70 @@ impl FileDisk {
         ensures { self.new.faults ≡ self.old.faults }
     {
         self.store = None;
-        match Store::open_for_relay(self.rt, dir, events) {
+        match self.store_for_relay(dir, events) {
             Ok(store) => self.store = Some(store),
             Err(fault) => report_no_store(&self.rt, self.program, dir, events, &fault),
+        }
+    }
+
+    fn store_for_relay(&self, dir: &str, events: &str) -> Result<Store<W>, StoreFault> {
+        let opened = SharedStore::open_for_relay(self.rt, dir, events)?;
+        let shared = shared_of(self.rt.alloc(), opened)?;
+        Store::new(self.rt, self.waits, self.program, shared, true)
+    }
+
+    /// The store at these places: the one that other disks of the program use, or else one that it opens. None if it was said
+    /// why it isn't opened.
+    fn store_at(&self, dir: &str, events: &str) -> Option<Result<Store<W>, StoreFault>> {
+        let mut guard = self.slot.lock(&self.waits);
+        let slot = &mut *guard;
+        release_unused(slot);
+        if let Some(shared) = &*slot {
+            return Some(self.joined(shared, dir, events));
+        }
+        warn_of_places(&self.rt, self.program, dir, events);
+        if is_refused(self.rt, self.program, dir, events) {
+            return None;
+        }
+        match SharedStore::open(self.rt, &self.waits, self.program, dir, events) {
+            Ok(opened) => Some(self.kept(slot, opened)),
+            Err(fault) => Some(Err(fault)),
+        }
+    }
+
+    /// The store that other disks of the program use, if it is at these places.
+    fn joined(
+        &self,
+        shared: &Arc<SharedStore, Global>,
+        dir: &str,
+        events: &str,
+    ) -> Result<Store<W>, StoreFault> {
+        if !shared.is_at(dir, events) {
+            return Err(StoreFault::OtherPlaces);
+        }
+        Store::new(
+            self.rt,
+            self.waits,
+            self.program,
+            Arc::try_clone(shared)?,
+            false,
+        )
+    }
+
+    /// A store that was just opened, which the other disks of the program find from now on.
+    fn kept(
+        &self,
+        slot: &mut Option<Arc<SharedStore, Global>>,
+        opened: SharedStore,
+    ) -> Result<Store<W>, StoreFault> {
+        let shared = shared_of(self.rt.alloc(), opened)?;
+        let own = Arc::try_clone(&shared)?;
+        match Store::new(self.rt, self.waits, self.program, own, false) {
+            Ok(store) => {
+                *slot = Some(shared);
+                Ok(store)
+            }
+            Err(fault) => Err(fault),
         }
     }
 
@@ -99,11 +185,19 @@ impl FileDisk {
     }
 }
 
+/// A handle of a store for each disk that uses it.
+fn shared_of(alloc: Global, opened: SharedStore) -> Result<Arc<SharedStore, Global>, StoreFault> {
+    match Arc::new(alloc, opened) {
+        Ok(shared) => Ok(shared),
+        Err(_) => Err(AllocError.into()),
+    }
+}
+
 /// Says that a client resumes a log, and how many of its records are dropped.
-fn report_resumed(
+fn report_resumed<W: Wait + Copy>(
     rt: &HostRuntime,
     program: &str,
-    store: &mut Store,
+    store: &mut Store<W>,
     journal: FileId,
     entry: Body,
 ) {
@@ -124,7 +218,7 @@ fn report_resumed(
     );
 }
 
-impl Disk for FileDisk {
+impl<W: Wait + Copy> Disk for FileDisk<W> {
     ghost tells = { ⊥ };
 
     ghost view = { λ d. untold d.faults };
@@ -138,16 +232,12 @@ impl Disk for FileDisk {
     ghost only_now = { λ told. absurd told };
 
     fn root(&mut self, dir: &str, events: &str) {
-        // An earlier store lets go of its lock, also where there is no other.
+        // This disk lets go of an earlier store, also where there is no other.
         self.store = None;
-        let program = self.program;
-        warn_of_places(&self.rt, program, dir, events);
-        if is_refused(self.rt, program, dir, events) {
-            return;
-        }
-        match Store::open(self.rt, program, dir, events) {
-            Ok(store) => self.store = Some(store),
-            Err(fault) => report_no_store(&self.rt, program, dir, events, &fault),
+        match self.store_at(dir, events) {
+            Some(Ok(store)) => self.store = Some(store),
+            Some(Err(fault)) => report_no_store(&self.rt, self.program, dir, events, &fault),
+            None => {}
         }
     }
 

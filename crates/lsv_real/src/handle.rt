@@ -21,6 +21,9 @@ pub struct Handle {
     unsynced: Unsynced,
     /// Its folder was synced in this run, with its name in it.
     is_named: bool,
+    /// Its next sync may reach a folder that lanes share: on ext4 without a journal the first sync of a new file brings the names
+    /// of the folders above too, up to one that isn't new.
+    reaches: bool,
 }
 
 impl Handle {
@@ -31,6 +34,7 @@ impl Handle {
             file,
             unsynced,
             is_named,
+            reaches: true,
         }
     }
 
@@ -42,6 +46,21 @@ impl Handle {
     /// Its folder was synced, or wasn't.
     pub fn set_named(&mut self, is_named: bool) {
         self.is_named = is_named;
+    }
+
+    /// Whether its next sync may reach a folder that lanes share.
+    pub fn reaches(&self) -> bool {
+        self.reaches
+    }
+
+    /// The folder above its own is reached no more: another file of its folder was synced, or that folder itself.
+    pub fn end_reach(&mut self) {
+        self.reaches = false;
+    }
+
+    /// Whether nothing was written to it since its last sync, and that one succeeded.
+    pub fn is_synced(&self) -> bool {
+        self.unsynced.is_empty()
     }
 
     /// How many bytes it has.
@@ -85,7 +104,9 @@ impl Handle {
 
     /// Waits until what was written is on the disk.
     pub fn sync(&mut self) -> io::Result<()> {
-        self.unsynced.sync(&self.file)
+        self.unsynced.sync(&self.file)?;
+        self.reaches = false;
+        Ok(())
     }
 
     /// Syncs it before it is closed, where something was written. It gives what a failed sync leaves.

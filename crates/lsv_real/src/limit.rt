@@ -1,5 +1,5 @@
 // How large the system lets a file of this process become, and how many descriptors it lets it have.
-ghost use Rattle.std.specs.Prelude.{◌≡◌, ◌-◌, ◌≤◌, ◌⊎◌, ◌↔◌, IsTrue, Some, max, min, nat_lt, pos, if◌then◌else◌};
+ghost use Rattle.std.specs.Prelude.{◌≡◌, ◌-◌, ◌/◌, ◌≤◌, ◌⊎◌, ◌↔◌, IsTrue, Some, max, min, nat_lt, pos, if◌then◌else◌};
 ghost use Rattle.std.specs.IoError.{raw_os_error};
 
 use libc::types::rlimit;
@@ -38,10 +38,10 @@ pub fn most_descriptors() -> u64 {
     limit_of(RLIMIT_NOFILE)
 }
 
-/// At most this many files of the store are kept open: a log has nine, and a process has 1,024 descriptors by default.
-const MOST_FILES: u64 = 512;
+/// At most this many files of the store are kept open by all disks together: a log has nine, and a process has 1,024 descriptors by default.
+pub const MOST_FILES: u64 = 512;
 
-/// And at least this many, so that a log can be made.
+/// And at least this many by each, so that a log can be made.
 const FEWEST_FILES: u64 = 16;
 
 /// Descriptors of what is neither a file of the store nor a link: standard streams, sockets, locks, folders.
@@ -50,14 +50,12 @@ const OTHERS: u64 = 64;
 /// With fewer descriptors no client can be served.
 const FEWEST: u64 = 32;
 
-/// How many files of the store may be open under a limit of descriptors.
-pub fn files_within(limit: u64) -> usize
-    ensures { result ≡ max (min (limit - 64) 512) 16 }
+/// How many files each of so many disks of the store may have open under a limit of descriptors: they share those of one.
+pub fn files_within(limit: u64, disks: usize) -> usize
+    ensures { result ≡ max (min (limit - 64) 512 / max disks 1) 16 }
 {
-    limit
-        .saturating_sub(OTHERS)
-        .min(MOST_FILES)
-        .max(FEWEST_FILES) as usize
+    let all = limit.saturating_sub(OTHERS).min(MOST_FILES);
+    (all / disks.max(1) as u64).max(FEWEST_FILES) as usize
 }
 
 /// How many clients can be served at once under a limit of descriptors: those beside the files of the store, and one as long as

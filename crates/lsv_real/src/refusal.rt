@@ -1,10 +1,10 @@
 // What is said on standard error of a store that isn't opened, with what to do, and of places that may not be meant.
 use crate::doubt::doubt_of;
 use crate::drawn::Uncovered;
+use crate::fault::{Step, StoreFault};
 use crate::foreign::{Foreign, foreign_at, was_cut};
 use crate::limit::lacks_descriptor;
 use crate::misplaced::{InOther, Misplaced, look_at_place, look_for_other};
-use crate::store::{Step, StoreFault};
 use lsv_base::LogNo;
 use std::alloc::Global;
 use std::io::ErrorKind;
@@ -85,8 +85,13 @@ fn is_in_other(
     Ok(true)
 }
 
-/// Whether another program filled the places, or cut the event log.
-fn is_taken(rt: HostRuntime, program: &'static str, dir: &str, events: &str) -> io::Result<bool> {
+/// Whether another program filled the places, or cut the event log. Then that is said.
+pub fn is_taken(
+    rt: HostRuntime,
+    program: &'static str,
+    dir: &str,
+    events: &str,
+) -> io::Result<bool> {
     match foreign_at(&rt, rt.alloc(), dir, events)? {
         Some(Foreign::Logs) => {
             let _ = eprintln!(rt;
@@ -126,6 +131,9 @@ pub fn report_no_store(
         StoreFault::EventsInUse => {
             eprintln!(rt; "{program}: {events}: lock: another server uses this event log")
         }
+        StoreFault::OtherPlaces => eprintln!(rt;
+            "{program}: {dir}, {events}: this program uses a store at other places: nothing is changed"
+        ),
         StoreFault::RelayInUse => {
             eprintln!(rt; "{program}: {dir}: relay.lock: another relay uses this store")
         }

@@ -1,39 +1,44 @@
 // The disk of a relay, which may run beside a server. It tells no content, and counts its faults.
-ghost use Rattle.std.specs.Prelude.{◌+◌, ◌≡◌};
+ghost use Rattle.std.specs.Prelude.{◌+◌, ◌≡◌, IfOk};
 ghost use Rattle.lsv_real.specs.Untold.{untold};
 
 use crate::disk::FileDisk;
 use crate::drawn::uncovered_in;
+use crate::fault::StoreFault;
 use crate::foreign::{Foreign, foreign_at};
 use crate::look::no_store_in;
 use crate::read_only::ReadOnlyDisk;
 use crate::refusal::report_no_store;
-use crate::store::StoreFault;
 use lsv_disk::{Disk, DiskFault, FileId, Owner, Part};
+use std::alloc::AllocError;
 use std::io;
+use std::sync::Wait;
 
 /// The disk of the operating system for a relay. Files of relaying are made, written and synced, and their folder with them.
 /// All other files are only read: a call that would change or sync one is a fault. A second relay of the store gets no store.
 #[derive(Drop)]
-pub struct RelayDisk {
+pub struct RelayDisk<W: Wait + Copy> {
     rt: HostRuntime,
     /// Whose faults they are, on standard error.
     program: &'static str,
     /// The files of relaying.
-    own: FileDisk,
+    own: FileDisk<W>,
     others: ReadOnlyDisk,
 }
 
-impl RelayDisk {
+impl<W: Wait + Copy> RelayDisk<W> {
     /// A disk without a store. Its faults are reported on standard error, a line each, under the program's name.
-    pub fn new(rt: HostRuntime, program: &'static str) -> Self
-        ensures { (f : FileId) → (⟦<RelayDisk as Disk>⟧.view result).faults f ≡ 0 }
+    pub fn new(rt: HostRuntime, waits: W, program: &'static str) -> Result<Self, AllocError>
+        ensures { IfOk result (λ d. (f : FileId) → (⟦<RelayDisk<W> as Disk>⟧.view d).faults f ≡ 0) }
     {
-        RelayDisk {
-            rt,
-            program,
-            own: FileDisk::new(rt, program),
-            others: ReadOnlyDisk::new(rt, program),
+        match FileDisk::new(rt, waits, program) {
+            Ok(own) => Ok(RelayDisk {
+                rt,
+                program,
+                own,
+                others: ReadOnlyDisk::new(rt, program),
+            }),
+            Err(e) => Err(e),
         }
     }
 
@@ -91,7 +96,7 @@ fn is_of_relay(owner: Owner) -> bool {
     matches!(owner, Owner::Relay(_))
 }
 
-impl Disk for RelayDisk {
+impl<W: Wait + Copy> Disk for RelayDisk<W> {
     ghost tells = { ⊥ };
 
     ghost view = { λ d. untold (d.own.faults + d.others.faults) };

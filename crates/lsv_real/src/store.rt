@@ -1,125 +1,30 @@
-// The files of a store, behind its lock.
+// The files of a store, as one of the disks of the program uses them.
 ghost use Rattle.std.specs.Prelude.{◌≤◌, IfOk, length};
 
 use crate::bounded::bounded;
 use crate::call::CallFault;
-use crate::drawn::{Uncovered, find_uncovered};
-use crate::folders::Folders;
+use crate::fault::{Step, StoreFault, of_step};
+use crate::folders::{FolderMaker, SystemFolders};
 use crate::handle::Handle;
-use crate::limit::{SizeLimit, files_within, lacks_descriptor, most_descriptors};
-use crate::lock::{
-    EventsLocks, LockFault, lock_file, lock_folder, lock_of_relays, make_file, open_file, set_mode,
-};
+use crate::limit::{MOST_FILES, SizeLimit, files_within, lacks_descriptor, most_descriptors};
+use crate::lock::{make_file, open_file, set_mode};
 use crate::made::{InodeTable, Made, NewFile};
-use crate::path::{Place, Places, joined, log_name};
-use crate::refusal::report_tail;
-use crate::tail::{Tail, keep_tail};
+use crate::naming::Placed;
+use crate::path::{Place, folder_of, joined, log_name};
+use crate::shared::{SharedStore, disks_of};
 use crate::unsynced::Unsynced;
 use lru::LruCache;
 use lsv_disk::{FileId, Owner, Part};
-use std::alloc::{AllocError, Global};
+use std::alloc::Global;
 use std::collections::HashMap;
-use std::fmt::Display;
 use std::fs::File;
 use std::io::ErrorKind;
 use std::os::unix::fs::MetadataExt;
-use std::{fmt, fs, io};
+use std::sync::{Arc, Wait};
+use std::{fs, io};
 
 /// How a file of slots begins that has no entry.
 const CLOSED_GATE: &[u8] = &[0];
-
-/// Why a store can't be used.
-#[derive(Drop)]
-pub enum StoreFault {
-    /// Another server has its lock.
-    InUse,
-    /// Another server has the lock of the event log.
-    EventsInUse,
-    /// Another relay has the lock of relays.
-    RelayInUse,
-    /// The file of the lock of relays can't be opened or made.
-    RelayLock(io::Error),
-    /// There is a log that the number files don't cover.
-    Uncovered(Uncovered),
-    /// No line of the event log ends after so many bytes, which its journal counts.
-    StrangeEvents(u64),
-    /// What stands after the lines of the event log can't be kept.
-    TailNotKept(io::Error),
-    /// A step of opening it failed.
-    Io(Step, io::Error),
-}
-
-/// A step of opening a store.
-#[derive(Clone, Copy)]
-pub enum Step {
-    /// Making the folder of the logs and those above it.
-    Make,
-    /// Syncing their names.
-    Sync,
-    /// Taking a lock.
-    Lock,
-    /// Reading the number files, and looking for the greatest log.
-    Look,
-    /// Anything in memory.
-    Prepare,
-}
-
-impl Display for Step {
-    fn fmt<W: fmt::Write>(&self, f: &mut fmt::Formatter<W>) -> fmt::Result {
-        f.write_str(match self {
-            Step::Make => "make",
-            Step::Sync => "sync",
-            Step::Lock => "lock",
-            Step::Look => "look",
-            Step::Prepare => "open",
-        })
-    }
-}
-
-impl From<AllocError> for StoreFault {
-    fn from(e: AllocError) -> Self {
-        StoreFault::Io(Step::Prepare, e.into())
-    }
-}
-
-/// The fault of a step of opening a store.
-fn of_step<T>(step: Step, answer: io::Result<T>) -> Result<T, StoreFault> {
-    match answer {
-        Ok(t) => Ok(t),
-        Err(e) => Err(StoreFault::Io(step, e)),
-    }
-}
-
-/// The fault of a lock that wasn't taken.
-fn of_lock<T>(held: StoreFault, answer: Result<T, LockFault>) -> Result<T, StoreFault> {
-    match answer {
-        Ok(t) => Ok(t),
-        Err(LockFault::Held) => Err(held),
-        Err(LockFault::Io(e)) => Err(StoreFault::Io(Step::Lock, e)),
-    }
-}
-
-/// The fault of the lock of relays, if it wasn't taken.
-fn of_relay_lock<T>(answer: Result<T, LockFault>) -> Result<T, StoreFault> {
-    match answer {
-        Ok(t) => Ok(t),
-        Err(LockFault::Held) => Err(StoreFault::RelayInUse),
-        Err(LockFault::Io(e)) => Err(StoreFault::RelayLock(e)),
-    }
-}
-
-/// Keeps what stands after the lines of the event log, and says so.
-fn settle_tail(rt: &HostRuntime, program: &'static str, places: &Places) -> Result<(), StoreFault> {
-    match keep_tail(rt, program, places) {
-        Ok(Tail::Empty | Tail::KeptBefore) => Ok(()),
-        Ok(Tail::Strange(counted)) => Err(StoreFault::StrangeEvents(counted)),
-        Ok(Tail::Kept { count, path }) => {
-            report_tail(rt, program, places.events.as_str(), count, path.as_str());
-            Ok(())
-        }
-        Err(e) => Err(StoreFault::TailNotKept(e)),
-    }
-}
 
 /// Whether a file is made alone, or files of an owner together, as when a log begins.
 #[derive(Clone, Copy, PartialEq, Eq)]
@@ -128,103 +33,81 @@ enum Making {
     Together,
 }
 
-/// The files of a store, or those of relaying alone. While it stands, nobody else has its lock.
+/// The folder of files that are made: whether this making made it too, and the one above where it was opened before that.
 #[derive(Drop)]
-pub struct Store {
+struct FolderMade {
+    above: Option<File>,
+    is_new: bool,
+}
+
+/// The files of a store, or those of relaying alone. Each file belongs to one lane, so one disk of the program uses it.
+#[derive(Drop)]
+pub struct Store<W: Wait + Copy> {
     rt: HostRuntime,
+    waits: W,
+    /// Who says why an event log isn't used, on standard error.
+    program: &'static str,
     alloc: Global,
-    places: Places,
-    folders: Folders,
+    shared: Arc<SharedStore, Global>,
+    maker: FolderMaker,
     handles: LruCache<FileId, Handle>,
-    /// This many of them at most.
-    most_open: usize,
+    /// How many descriptors the process may have, of which the disks of the store share those of files.
+    descriptors: u64,
     /// What was written to files that are closed, and could not be synced.
     left: HashMap<FileId, Unsynced>,
     /// Whose folder was looked for, and whether it is there, by the last calls, which all asked for lengths.
     looked: Option<(Owner, bool)>,
     /// The log of which every file existed when it was to be made: nothing is written to it.
     found_whole: Option<Owner>,
+    /// The lanes above 0 whose event logs were looked at, and whether they may be used.
+    admitted: Vec<(u32, bool)>,
     limit: SizeLimit,
-    events_locks: EventsLocks,
     /// Whether only files of relaying are made and written, beside a server.
     relays: bool,
-    _folder_lock: Option<File>,
-    _file_lock: File,
 }
 
-impl Store {
-    /// Makes the folder of the logs where it is missing, takes its lock, and looks whether the number files cover its logs; then
-    /// it takes the lock of the event log, and keeps what stands after its lines. If it fails, no file of the store is changed.
-    /// What can't be read is told on standard error, under the program's name.
-    pub fn open(
-        rt: HostRuntime,
-        program: &'static str,
-        dir: &str,
-        events: &str,
-    ) -> Result<Store, StoreFault> {
-        let alloc = rt.alloc();
-        let places = Places::new(alloc, dir, events)?;
-        let mut folders = of_step(Step::Prepare, Folders::new(rt))?;
-        of_step(Step::Make, folders.make(dir))?;
-        of_step(Step::Sync, folders.sync_names(dir))?;
-        of_step(Step::Sync, folders.sync_once(dir))?;
-        let folder_lock = of_lock(StoreFault::InUse, lock_folder(&rt, dir))?;
-        if let Some(log) = of_step(Step::Look, find_uncovered(rt, program, &places))? {
-            return Err(StoreFault::Uncovered(log));
-        }
-        let file_lock = of_lock(StoreFault::InUse, lock_file(&rt, alloc, dir))?;
-        let mut events_locks = EventsLocks::new(rt, alloc);
-        of_lock(
-            StoreFault::EventsInUse,
-            events_locks.take_found(alloc, &places),
-        )?;
-        settle_tail(&rt, program, &places)?;
-        let most_open = files_within(most_descriptors());
-        Ok(Store {
-            rt,
-            alloc,
-            places,
-            folders,
-            handles: of_step(Step::Prepare, bounded(alloc, most_open))?,
-            most_open,
-            left: HashMap::new(alloc),
-            looked: None,
-            found_whole: None,
-            limit: SizeLimit::now(),
-            events_locks,
-            relays: false,
-            _folder_lock: Some(folder_lock),
-            _file_lock: file_lock,
-        })
-    }
+/// Whether several lanes have files in the folder of an owner's files.
+fn shares_folder(owner: Owner) -> bool {
+    matches!(owner, Owner::Numbers(_) | Owner::Events(_))
+}
 
-    /// Takes the lock of relays, and no lock of a server: one may run, start or end meanwhile. No folder is made, and nothing is
-    /// looked at.
-    pub fn open_for_relay(rt: HostRuntime, dir: &str, events: &str) -> Result<Store, StoreFault> {
+/// Whether a folder may be there and fit for use once nobody else of this program makes folders.
+fn may_come(e: &io::Error) -> bool {
+    matches!(e.kind(), ErrorKind::NotFound | ErrorKind::PermissionDenied)
+}
+
+impl<W: Wait + Copy> Store<W> {
+    /// The files of a store that is open.
+    pub fn new(
+        rt: HostRuntime,
+        waits: W,
+        program: &'static str,
+        shared: Arc<SharedStore, Global>,
+        relays: bool,
+    ) -> Result<Self, StoreFault> {
         let alloc = rt.alloc();
-        let lock = of_relay_lock(lock_of_relays(&rt, alloc, dir))?;
-        let most_open = files_within(most_descriptors());
+        let descriptors = most_descriptors();
         Ok(Store {
             rt,
+            waits,
+            program,
             alloc,
-            places: Places::new(alloc, dir, events)?,
-            folders: of_step(Step::Prepare, Folders::new(rt))?,
-            handles: of_step(Step::Prepare, bounded(alloc, most_open))?,
-            most_open,
+            shared,
+            maker: FolderMaker::new(rt),
+            handles: of_step(Step::Prepare, bounded(alloc, files_within(descriptors, 1)))?,
+            descriptors,
             left: HashMap::new(alloc),
             looked: None,
             found_whole: None,
+            admitted: Vec::new(alloc),
             limit: SizeLimit::now(),
-            events_locks: EventsLocks::new(rt, alloc),
-            relays: true,
-            _folder_lock: None,
-            _file_lock: lock,
+            relays,
         })
     }
 
     /// The folder and the path of a file.
     pub fn place_of(&self, f: FileId) -> io::Result<Place> {
-        match self.places.place_of(self.alloc, f)? {
+        match self.shared.places.place_of(self.alloc, f)? {
             Some(place) => Ok(place),
             None => Err(ErrorKind::InvalidInput.into()),
         }
@@ -234,7 +117,7 @@ impl Store {
     pub fn make(&mut self, f: FileId) -> Result<(), CallFault> {
         let folder = self.place_of(f)?.folder;
         let made = self.make_and_sync(folder.as_str(), f.owner, &[f.part], Making::Alone);
-        self.seen_through(f.owner, &[f.part], made)
+        self.seen_through(folder.as_str(), f.owner, &[f.part], made)
     }
 
     /// Makes files of one owner, which all stand in one folder, and waits until they and that folder are on the disk. A file
@@ -248,7 +131,7 @@ impl Store {
         };
         let folder = self.place_of(FileId::new(owner, *first))?.folder;
         let made = self.make_and_sync(folder.as_str(), owner, parts, Making::Together);
-        self.seen_through(owner, parts, made)
+        self.seen_through(folder.as_str(), owner, parts, made)
     }
 
     /// None of an owner's files was absent when it was to be made. If it is a log, each later write to it is a fault, until
@@ -269,54 +152,122 @@ impl Store {
         making: Making,
     ) -> Result<(), CallFault> {
         self.looked = None;
-        if let Err(fault) = self.make_folder(folder, owner, making) {
-            self.make_room_after(fault)?;
-            self.make_folder(folder, owner, making)?;
-        }
+        self.admit(owner)?;
+        let folder_made = match self.make_folder(folder, owner, making) {
+            Ok(folder_made) => folder_made,
+            Err(fault) => {
+                self.make_room_after(fault)?;
+                self.make_folder(folder, owner, making)?
+            }
+        };
         let opened = self.open_folder(folder)?;
         let begins = making == Making::Together && parts.contains(&Part::Slots);
         let made = self.make_files(folder, &opened, owner, parts, begins)?;
+        // What was made stands in each folder whose sync begins from now on.
+        let ticket = self.shared.folders.take_ticket();
+        let own_sync = self.sync_made(folder, &opened, owner, parts, &made)?;
+        let placed = Placed {
+            folder,
+            is_new: folder_made.is_new,
+            ticket,
+            files: ticket,
+            own_sync,
+        };
+        Ok(self.settle_made(&placed, owner, &opened, &folder_made)?)
+    }
+
+    /// Syncs those of the files that were just made that need it, and their folder where only its own lane syncs it. The number of
+    /// that sync. The first sync in a new folder reaches the one above.
+    fn sync_made(
+        &mut self,
+        folder: &str,
+        opened: &File,
+        owner: Owner,
+        parts: &[Part],
+        made: &Made,
+    ) -> io::Result<Option<u64>> {
+        let is_shared = shares_folder(owner);
+        let mut reaches = true;
         for file in made.to_sync() {
-            self.sync_made(file.id)?;
+            let _ = self.sync_open(file.id)?;
+            if reaches && !is_shared {
+                self.end_reach(owner, parts);
+                reaches = false;
+            }
         }
-        self.folders.sync_opened(folder, &opened)?;
-        self.sync_names(folder)?;
-        Ok(())
+        if is_shared {
+            return Ok(None);
+        }
+        let number = self.shared.folders.number();
+        if let Err(e) = self.sync_own_folder(opened, reaches) {
+            self.shared.folders.note_failed(&self.waits, folder);
+            return Err(e);
+        }
+        self.end_reach(owner, parts);
+        Ok(Some(number))
+    }
+
+    /// Syncs a folder that its own lane alone syncs.
+    fn sync_own_folder(&self, opened: &File, reaches: bool) -> io::Result<()> {
+        if !reaches {
+            return opened.sync_all();
+        }
+        let _reading = self.shared.folders.reading(&self.waits);
+        opened.sync_all()
+    }
+
+    /// A sync of these files reaches no folder that lanes share.
+    fn end_reach(&mut self, owner: Owner, parts: &[Part]) {
+        for part in parts {
+            if let Some(handle) = self.handles.get_mut(&FileId::new(owner, *part)) {
+                handle.end_reach();
+            }
+        }
+    }
+
+    /// Waits until the names of files that were just made are on the disk, with those of their folder and the ones above.
+    fn settle_made(
+        &mut self,
+        placed: &Placed<'_>,
+        owner: Owner,
+        opened: &File,
+        made: &FolderMade,
+    ) -> io::Result<()> {
+        let at_hand = match &made.above {
+            _ if shares_folder(owner) => Some((placed.folder, opened)),
+            Some(above) => Some((folder_of(placed.folder), above)),
+            None => None,
+        };
+        match self.settle(placed, at_hand) {
+            Err(e) if lacks_descriptor(&e) => {
+                self.close_oldest()?;
+                self.settle(placed, at_hand)
+            }
+            answer => answer,
+        }
+    }
+
+    /// Waits until names are on the disk. A relay leaves those of folders to the server, which synced them before it answered the
+    /// number of the log: no lock keeps two programs from syncing a folder at once.
+    fn settle(&self, placed: &Placed<'_>, at_hand: Option<(&str, &File)>) -> io::Result<()> {
+        let system = SystemFolders {
+            rt: &self.rt,
+            at_hand,
+        };
+        let folders = &self.shared.folders;
+        if self.relays {
+            folders.settle_without_names(&self.waits, &system, placed)
+        } else {
+            folders.settle(&self.waits, &system, placed)
+        }
     }
 
     /// Opens a folder in which something is about to be made.
     fn open_folder(&mut self, folder: &str) -> io::Result<File> {
-        match self.folders.open(folder) {
+        match File::open(&self.rt, folder) {
             Err(e) if lacks_descriptor(&e) => {
                 self.close_oldest()?;
-                self.folders.open(folder)
-            }
-            answer => answer,
-        }
-    }
-
-    /// Waits until what is named in a folder is on the disk.
-    fn sync_folder(&mut self, folder: &str) -> io::Result<()> {
-        match self.folders.sync_once(folder) {
-            Err(e) if lacks_descriptor(&e) => {
-                self.close_oldest()?;
-                self.folders.sync_once(folder)
-            }
-            answer => answer,
-        }
-    }
-
-    /// Waits until the names of a folder and of those above it are on the disk.
-    fn sync_names(&mut self, folder: &str) -> io::Result<()> {
-        if self.relays {
-            // The server synced them before it answered the number of the log. Two programs may not sync a shared folder at once:
-            // on ext4 without a journal the second could answer before the first one's write is done.
-            return Ok(());
-        }
-        match self.folders.sync_names(folder) {
-            Err(e) if lacks_descriptor(&e) => {
-                self.close_oldest()?;
-                self.folders.sync_names(folder)
+                File::open(&self.rt, folder)
             }
             answer => answer,
         }
@@ -332,21 +283,65 @@ impl Store {
     }
 
     /// Makes the folder of files that are to be made. That of a log whose files are made together must be new.
-    fn make_folder(&mut self, folder: &str, owner: Owner, making: Making) -> Result<(), CallFault> {
+    fn make_folder(
+        &mut self,
+        folder: &str,
+        owner: Owner,
+        making: Making,
+    ) -> Result<FolderMade, CallFault> {
         match (owner, making) {
-            (Owner::Log(_), Making::Together) => {
-                if !self.folders.make_new(folder)? {
-                    return Err(CallFault::FolderExists);
+            (Owner::Log(_), Making::Together) => self.make_new_folder(folder),
+            _ => {
+                if File::open(&self.rt, folder).is_err() {
+                    self.make_missing(folder)?;
                 }
+                Ok(FolderMade {
+                    above: None,
+                    is_new: false,
+                })
             }
-            _ => self.folders.make(folder)?,
         }
-        Ok(())
+    }
+
+    /// Makes a folder that must be new, and those above it that are missing.
+    fn make_new_folder(&mut self, folder: &str) -> Result<FolderMade, CallFault> {
+        let parent = folder_of(folder);
+        let above = match self.make_in(folder, parent) {
+            Err(e) if may_come(&e) => {
+                self.make_missing(parent)?;
+                self.make_in(folder, parent)?
+            }
+            answer => answer?,
+        };
+        match above {
+            Some(_) => Ok(FolderMade {
+                above,
+                is_new: true,
+            }),
+            None => Err(CallFault::FolderExists),
+        }
+    }
+
+    /// Makes a folder in one that it opens before, and gives that. None if it exists.
+    fn make_in(&mut self, folder: &str, parent: &str) -> io::Result<Option<File>> {
+        let above = File::open(&self.rt, parent)?;
+        if self.maker.make_in(folder, parent)? {
+            Ok(Some(above))
+        } else {
+            Ok(None)
+        }
+    }
+
+    /// Makes a folder and those above it that are missing, while no other lane makes or syncs one that lanes share.
+    fn make_missing(&mut self, folder: &str) -> io::Result<()> {
+        let mut known = self.shared.folders.writing(&self.waits);
+        self.maker.make(&mut *known, folder)
     }
 
     /// What came of a making. Where it failed, the folder is synced again with each of its files.
     fn seen_through(
         &mut self,
+        folder: &str,
         owner: Owner,
         parts: &[Part],
         made: Result<(), CallFault>,
@@ -357,6 +352,7 @@ impl Store {
                     handle.set_named(false);
                 }
             }
+            self.shared.folders.forget(&self.waits, folder);
         }
         made
     }
@@ -400,12 +396,19 @@ impl Store {
         }
     }
 
-    /// Waits until a file that was just made is on the disk, with its gate where it has one.
-    fn sync_made(&mut self, f: FileId) -> io::Result<()> {
-        match self.handles.get_mut(&f) {
-            Some(handle) => handle.sync(),
-            None => Err(ErrorKind::NotFound.into()),
+    /// Waits until what was written to an open file is on the disk. Whether its name is there too. While a sync may reach a
+    /// folder that lanes share, none of them is synced.
+    fn sync_open(&mut self, f: FileId) -> io::Result<bool> {
+        let Some(handle) = self.handles.get_mut(&f) else {
+            return Err(ErrorKind::NotFound.into());
+        };
+        if handle.reaches() {
+            let _reading = self.shared.folders.reading(&self.waits);
+            handle.sync()?;
+        } else {
+            handle.sync()?;
         }
+        Ok(handle.is_named())
     }
 
     /// Makes a file in its folder.
@@ -420,7 +423,8 @@ impl Store {
         };
         let metadata = file.metadata()?;
         set_mode(&file, &metadata)?;
-        self.events_locks.check(id, path.as_str(), &metadata)?;
+        self.shared
+            .check_lock(&self.waits, id, path.as_str(), &metadata)?;
         self.keep(id, file, true)?;
         let inode = metadata.ino();
         Ok(NewFile { id, inode })
@@ -488,23 +492,42 @@ impl Store {
     }
 
     /// Waits until what was written is on the disk. A file that wasn't made in this run may have been made by a
-    /// program that was killed, so its folder is synced with it, and the names of that and those above, once.
+    /// program that was killed, so its folder is synced after it, and the names of that and those above, once.
     pub fn sync(&mut self, f: FileId) -> io::Result<()> {
         self.looked = None;
-        match self.handle(f)? {
-            Some(handle) if handle.is_named() => return handle.sync(),
-            Some(_) => {}
-            None => return Ok(()),
+        if !self.handles.contains(&f) && !self.open_file(f)? {
+            return Ok(());
         }
-        let folder = self.place_of(f)?.folder;
-        self.sync_folder(folder.as_str())?;
-        self.sync_names(folder.as_str())?;
-        match self.handle(f)? {
+        if self.sync_open(f)? {
+            return Ok(());
+        }
+        self.settle_found(f)?;
+        match self.handles.get_mut(&f) {
             Some(handle) => {
                 handle.set_named(true);
-                handle.sync()
+                Ok(())
             }
             None => Err(ErrorKind::NotFound.into()),
+        }
+    }
+
+    /// Waits until the name of a file is on the disk that wasn't made in this run, or whose making failed. In the second case nothing
+    /// is known of its folder since then.
+    fn settle_found(&mut self, f: FileId) -> io::Result<()> {
+        let folder = self.place_of(f)?.folder;
+        let placed = Placed {
+            folder: folder.as_str(),
+            is_new: false,
+            ticket: self.shared.folders.take_ticket(),
+            files: 0,
+            own_sync: None,
+        };
+        match self.settle(&placed, None) {
+            Err(e) if lacks_descriptor(&e) => {
+                self.close_oldest()?;
+                self.settle(&placed, None)
+            }
+            answer => answer,
         }
     }
 
@@ -516,8 +539,32 @@ impl Store {
         Ok(self.handles.get_mut(&f))
     }
 
+    /// Looks at the event log of a lane above 0 before its first use. If it is refused, each call on it is a fault.
+    fn admit(&mut self, owner: Owner) -> io::Result<()> {
+        let Owner::Events(lane) = owner else {
+            return Ok(());
+        };
+        if lane == 0 || self.is_admitted(lane)? {
+            return Ok(());
+        }
+        Err(ErrorKind::ResourceBusy.into())
+    }
+
+    /// Whether the event log of a lane above 0 may be used.
+    fn is_admitted(&mut self, lane: u32) -> io::Result<bool> {
+        if let Some((_, is_admitted)) = self.admitted.iter().find(|(known, _)| *known == lane) {
+            return Ok(*is_admitted);
+        }
+        let is_admitted = self
+            .shared
+            .admits_events(self.rt, &self.waits, self.program, lane)?;
+        self.admitted.push((lane, is_admitted))?;
+        Ok(is_admitted)
+    }
+
     /// Opens a file. False where it is not there.
     fn open_file(&mut self, f: FileId) -> io::Result<bool> {
+        self.admit(f.owner)?;
         let place = self.place_of(f)?;
         let answer = match open_file(&self.rt, place.path.as_str()) {
             Err(e) if lacks_descriptor(&e) => {
@@ -540,7 +587,10 @@ impl Store {
     /// A file of an event log that was opened is the one whose lock this server has.
     fn check_lock(&mut self, f: FileId, path: &str, file: &File) -> io::Result<()> {
         match f.owner {
-            Owner::Events(_) => self.events_locks.check(f, path, &file.metadata()?),
+            Owner::Events(_) => {
+                self.shared
+                    .check_lock(&self.waits, f, path, &file.metadata()?)
+            }
             _ => Ok(()),
         }
     }
@@ -548,9 +598,7 @@ impl Store {
     /// Keeps a file open, in the place of the one that was not used for longest where there are too many. It is named where it
     /// was just made, and else it was found.
     fn keep(&mut self, f: FileId, file: File, is_named: bool) -> io::Result<()> {
-        if self.handles.len() >= self.most_open {
-            self.close_oldest()?;
-        }
+        self.make_room()?;
         let unsynced = match self.left.get(&f) {
             Some(unsynced) => *unsynced,
             None if is_named => Unsynced::new(),
@@ -567,6 +615,19 @@ impl Store {
         }
     }
 
+    /// Closes files until there is room for one more among those that this disk may keep open. With each disk that joins the
+    /// store they are fewer.
+    fn make_room(&mut self) -> io::Result<()> {
+        let most = files_within(self.descriptors, disks_of(&self.shared));
+        for _ in 0..MOST_FILES {
+            if self.handles.len() < most {
+                break;
+            }
+            self.close_oldest()?;
+        }
+        Ok(())
+    }
+
     /// Closes the file that was not used for longest, and syncs it before where something was written to it: a
     /// failure then is that file's, and told at its next sync.
     fn close_oldest(&mut self) -> io::Result<()> {
@@ -574,7 +635,7 @@ impl Store {
         let Some((oldest, handle)) = self.handles.pop_lru() else {
             return Ok(());
         };
-        let unsynced = handle.close();
+        let unsynced = self.close(handle);
         if unsynced.is_empty() {
             return Ok(());
         }
@@ -582,5 +643,13 @@ impl Store {
             Ok(_) => Ok(()),
             Err(_) => Err(ErrorKind::OutOfMemory.into()),
         }
+    }
+    /// Closes a file. While its sync may reach a folder that lanes share, none of them is synced.
+    fn close(&self, handle: Handle) -> Unsynced {
+        if !handle.reaches() || handle.is_synced() {
+            return handle.close();
+        }
+        let _reading = self.shared.folders.reading(&self.waits);
+        handle.close()
     }
 }

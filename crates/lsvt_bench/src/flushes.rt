@@ -5,6 +5,7 @@ ghost use Rattle.lsv_bundle.specs.declared.shape.Shape.TheVariants.{Log};
 use lsv_bundle::{Bundle, BundleFault, Shape};
 use lsv_disk::{Disk, DiskFault, FileId, Owner, Part};
 use lsv_real::FileDisk;
+use std::sync::Wait;
 use std::time::Instant;
 
 /// A line of timing and the data of a record, 100 bytes together.
@@ -23,7 +24,11 @@ fn file(part: Part) -> FileId {
 }
 
 /// One flush of two data files.
-fn flush_once(bundle: &mut Bundle, disk: &mut FileDisk, count: u64) -> Result<(), BundleFault>
+fn flush_once<W: Wait + Copy>(
+    bundle: &mut Bundle,
+    disk: &mut FileDisk<W>,
+    count: u64,
+) -> Result<(), BundleFault>
     requires { bundle.old.shape ≡ Log }
     ensures { bundle.new.shape ≡ Log }
 {
@@ -32,7 +37,11 @@ fn flush_once(bundle: &mut Bundle, disk: &mut FileDisk, count: u64) -> Result<()
     bundle.flush(disk, 1, count, count, 0)
 }
 
-fn flush_all(bundle: &mut Bundle, disk: &mut FileDisk, count: u32) -> Result<(), BundleFault>
+fn flush_all<W: Wait + Copy>(
+    bundle: &mut Bundle,
+    disk: &mut FileDisk<W>,
+    count: u32,
+) -> Result<(), BundleFault>
     requires { bundle.old.shape ≡ Log }
 {
     for i in 0..count {
@@ -42,7 +51,7 @@ fn flush_all(bundle: &mut Bundle, disk: &mut FileDisk, count: u32) -> Result<(),
 }
 
 /// The calls of a flush that reach the device: two data files, the body in a slot, and the selector.
-fn write_once(disk: &mut FileDisk, count: u32) -> Result<(), DiskFault> {
+fn write_once<W: Wait + Copy>(disk: &mut FileDisk<W>, count: u32) -> Result<(), DiskFault> {
     let count = u64::from(count);
     disk.write_at(file(Part::Stdin), count * LINE.len() as u64, LINE)?;
     disk.sync(file(Part::Stdin))?;
@@ -54,7 +63,7 @@ fn write_once(disk: &mut FileDisk, count: u32) -> Result<(), DiskFault> {
     disk.sync(file(Part::Stderr))
 }
 
-fn write_all(disk: &mut FileDisk, count: u32) -> Result<(), DiskFault> {
+fn write_all<W: Wait + Copy>(disk: &mut FileDisk<W>, count: u32) -> Result<(), DiskFault> {
     for i in 0..count {
         write_once(disk, i)?;
     }
@@ -63,8 +72,10 @@ fn write_all(disk: &mut FileDisk, count: u32) -> Result<(), DiskFault> {
 
 /// Flushes this many times, and makes the writes and syncs alone as often, in a store in this folder. Prints on standard
 /// error the nanoseconds that each took.
-pub fn flushes(rt: HostRuntime, count: u32) -> Option<u64> {
-    let mut disk = FileDisk::new(rt, "lsvt_bench");
+pub fn flushes<W: Wait + Copy>(rt: HostRuntime, waits: W, count: u32) -> Option<u64> {
+    let Ok(mut disk) = FileDisk::new(rt, waits, "lsvt_bench") else {
+        return None;
+    };
     disk.root("store", "store/events");
     let mut bundle = Bundle::create(rt.alloc(), &mut disk, OWNER, Shape::Log).ok()?;
     let start = Instant::now(&rt).ok()?;

@@ -11,6 +11,7 @@ use lsv_real::FileDisk;
 use lsv_record::{Record, Stream};
 use std::alloc::Global;
 use std::fs;
+use std::sync::Wait;
 use std::time::Instant;
 
 /// The records that are appended before each flush.
@@ -19,11 +20,13 @@ const BATCH: u32 = 100;
 /// The records of a short session.
 const SHORT: u32 = 3;
 
-/// The disk of a store in this folder.
-fn store(rt: HostRuntime) -> FileDisk {
-    let mut disk = FileDisk::new(rt, "lsvt_bench");
+/// The disk of a store in this folder. None if memory ends.
+fn store<W: Wait + Copy>(rt: HostRuntime, waits: W) -> Option<FileDisk<W>> {
+    let Ok(mut disk) = FileDisk::new(rt, waits, "lsvt_bench") else {
+        return None;
+    };
     disk.root("store", "store/events");
-    disk
+    Some(disk)
 }
 
 /// Terminal output of these bytes, a millisecond after the record before.
@@ -39,7 +42,12 @@ fn output(alloc: Global, bytes: &[u8]) -> Option<Record>
 }
 
 /// Makes a log of this number, with no record.
-fn make(alloc: Global, disk: &mut FileDisk, number: LogNo, start: Point) -> Result<IoLog, LogFault>
+fn make<W: Wait + Copy>(
+    alloc: Global,
+    disk: &mut FileDisk<W>,
+    number: LogNo,
+    start: Point,
+) -> Result<IoLog, LogFault>
     ensures { IfOk result (λ log. is_complete log ≡ false) }
 {
     let head = Head {
@@ -65,9 +73,9 @@ fn append_all(log: &mut IoLog, r: &Record, count: u32) -> Result<(), LogFault>
 
 /// Appends the same record, and flushes after each hundred, this many times. Prints on standard error the nanoseconds that
 /// the appending and the flushing took.
-fn fill(
+fn fill<W: Wait + Copy>(
     rt: &HostRuntime,
-    disk: &mut FileDisk,
+    disk: &mut FileDisk<W>,
     log: &mut IoLog,
     r: &Record,
     flushes: u32,
@@ -89,10 +97,12 @@ fn fill(
 }
 
 /// Makes log 1 of a store in this folder, and fills it with records of these data.
-pub fn filled(rt: HostRuntime, bytes: &[u8], flushes: u32) -> Option<u64>
+pub fn filled<W: Wait + Copy>(rt: HostRuntime, waits: W, bytes: &[u8], flushes: u32) -> Option<u64>
     requires { length bytes.now ≤ 2097152 }
 {
-    let mut disk = store(rt);
+    let Some(mut disk) = store(rt, waits) else {
+        return None;
+    };
     let r = output(rt.alloc(), bytes)?;
     let mut log = make(rt.alloc(), &mut disk, LogNo::new(1)?, Point::new(0)?).ok()?;
     fill(&rt, &mut disk, &mut log, &r, flushes)
@@ -107,8 +117,10 @@ fn peak(rt: &HostRuntime) -> Option<u64> {
 
 /// Opens log 1 of a store in this folder, and returns the number of its records. Prints on standard error the nanoseconds
 /// that this took, and the most memory in KiB that the process held.
-pub fn opened(rt: HostRuntime) -> Option<u64> {
-    let mut disk = store(rt);
+pub fn opened<W: Wait + Copy>(rt: HostRuntime, waits: W) -> Option<u64> {
+    let Some(mut disk) = store(rt, waits) else {
+        return None;
+    };
     let start = Instant::now(&rt).ok()?;
     let log = IoLog::open(rt.alloc(), &mut disk, LogNo::new(1)?).ok()?;
     let opening = start.elapsed(&rt).ok()?.as_nanos();
@@ -117,9 +129,9 @@ pub fn opened(rt: HostRuntime) -> Option<u64> {
 }
 
 /// Makes a log, fills it with three records, and finishes it.
-fn short_log(
+fn short_log<W: Wait + Copy>(
     alloc: Global,
-    disk: &mut FileDisk,
+    disk: &mut FileDisk<W>,
     number: LogNo,
     start: Point,
     r: &Record,
@@ -140,7 +152,12 @@ fn short_log(
 }
 
 /// Makes this many short logs, from the first number on.
-fn short_logs_of(alloc: Global, disk: &mut FileDisk, r: &Record, count: u32) -> Option<u64>
+fn short_logs_of<W: Wait + Copy>(
+    alloc: Global,
+    disk: &mut FileDisk<W>,
+    r: &Record,
+    count: u32,
+) -> Option<u64>
     requires { IsValid r.now }
 {
     for number in 0..count {
@@ -151,8 +168,10 @@ fn short_logs_of(alloc: Global, disk: &mut FileDisk, r: &Record, count: u32) -> 
 }
 
 /// Makes this many short logs of a store in this folder.
-pub fn short_logs(rt: HostRuntime, count: u32) -> Option<u64> {
-    let mut disk = store(rt);
+pub fn short_logs<W: Wait + Copy>(rt: HostRuntime, waits: W, count: u32) -> Option<u64> {
+    let Some(mut disk) = store(rt, waits) else {
+        return None;
+    };
     let r = output(rt.alloc(), b"0123456789")?;
     short_logs_of(rt.alloc(), &mut disk, &r, count)
 }

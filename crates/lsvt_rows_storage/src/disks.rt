@@ -1,11 +1,13 @@
-//! The calls of two real disks, and what stands in the file system after them.
+//! The calls of real disks, and what stands in the file system after them.
 
 use crate::names::{file_of, owner_of};
 use anyhow::{Result, anyhow};
-use lsv_disk::{Disk, DiskFault, Part};
+use lsv_disk::{Disk, DiskFault, Owner, Part};
 use lsv_real::FileDisk;
-use std::fs;
 use std::os::unix::fs::PermissionsExt;
+use std::sync::Wait;
+use std::thread::Threads;
+use std::{fs, thread};
 
 /// The most bytes that are read or written at a time.
 const MOST: usize = 64;
@@ -13,11 +15,16 @@ const MOST: usize = 64;
 /// The permission bits of a file's mode.
 const ALL_BITS: u32 = 0o777;
 
-/// Two disks, each of which may have a store.
+/// Each lane's thread takes its disk along.
+fn may_move<D: Send>(_disk: &D) {}
+
+/// Two disks of programs of their own, and one that may be another lane's in the program of the first.
 #[derive(Drop)]
-pub struct Disks {
-    first: FileDisk,
-    second: FileDisk,
+pub struct Disks<R: Wait + Threads + Copy + Send + Sync> {
+    threads: R,
+    first: FileDisk<R>,
+    second: FileDisk<R>,
+    third: FileDisk<R>,
 }
 
 /// Prints whether a call succeeded.
@@ -29,37 +36,93 @@ fn show_done(rt: &HostRuntime, answer: Result<(), DiskFault>) -> Result<()> {
     Ok(())
 }
 
-impl Disks {
-    /// Neither has a store.
-    pub fn new(rt: HostRuntime) -> Self {
-        Disks {
-            first: FileDisk::new(rt, "first"),
-            second: FileDisk::new(rt, "second"),
-        }
+impl<R: Wait + Threads + Copy + Send + Sync> Disks<R> {
+    /// None has a store.
+    pub fn new(rt: HostRuntime, threads: R) -> Result<Self> {
+        let Ok(first) = FileDisk::new(rt, threads, "first") else {
+            return Err(anyhow!("memory"));
+        };
+        may_move(&first);
+        let Ok(third) = first.beside() else {
+            return Err(anyhow!("memory"));
+        };
+        let Ok(second) = FileDisk::new(rt, threads, "second") else {
+            return Err(anyhow!("memory"));
+        };
+        Ok(Disks {
+            threads,
+            first,
+            second,
+            third,
+        })
     }
 
-    /// Makes a call of a disk: which disk, and the call's words.
+    /// Makes a call of a disk: which disk, and the call's words. By `beside` the third becomes one of the first's program, and by
+    /// `both` the first and the third make logs at once.
     pub fn answer(&mut self, rt: &HostRuntime, words: &str) -> Result<()> {
         let (which, call) = words.split_once(' ').ok_or(anyhow!("a call"))?;
+        let threads = self.threads;
         match which {
-            "first" => answer_by(rt, &mut self.first, call),
-            "second" => answer_by(rt, &mut self.second, call),
+            "first" => answer_by(rt, threads, &mut self.first, call),
+            "second" => answer_by(rt, threads, &mut self.second, call),
+            "third" if call == "beside" => {
+                let Ok(third) = self.first.beside() else {
+                    return Err(anyhow!("memory"));
+                };
+                self.third = third;
+                Ok(())
+            }
+            "third" => answer_by(rt, threads, &mut self.third, call),
+            "both" => {
+                let (first, third) = (&mut self.first, &mut self.third);
+                let count = call.parse::<u32>()?;
+                let (odd, even) = thread::join(
+                    &threads,
+                    || make_logs(first, 1, count),
+                    || make_logs(third, 2, count),
+                );
+                println!(rt; "{odd} and {even} logs")?;
+                Ok(())
+            }
             _ => Err(anyhow!("a disk")),
         }
     }
 }
 
+/// Makes each second log from this number on, so many. How many were made.
+fn make_logs<R: Wait + Copy>(disk: &mut FileDisk<R>, from: u32, count: u32) -> u32 {
+    let mut made = 0u32;
+    for i in 0..count {
+        let owner = Owner::Log(i.saturating_mul(2).saturating_add(from));
+        if disk
+            .create_all(owner, &[Part::Head, Part::Timing, Part::Slots])
+            .is_ok()
+        {
+            made = made.saturating_add(1);
+        }
+    }
+    made
+}
+
 /// Makes a call of a disk, or, by `drop`, puts one without a store in its place.
-fn answer_by(rt: &HostRuntime, disk: &mut FileDisk, call: &str) -> Result<()> {
+fn answer_by<R: Wait + Copy>(
+    rt: &HostRuntime,
+    waits: R,
+    disk: &mut FileDisk<R>,
+    call: &str,
+) -> Result<()> {
     if call == "drop" {
-        *disk = FileDisk::new(*rt, "test");
+        let Ok(fresh) = FileDisk::new(*rt, waits, "test") else {
+            return Err(anyhow!("memory"));
+        };
+        *disk = fresh;
         return Ok(());
     }
     make_call(rt, disk, call)
 }
 
 /// Makes a call of a disk.
-fn make_call(rt: &HostRuntime, disk: &mut FileDisk, call: &str) -> Result<()> {
+fn make_call<R: Wait + Copy>(rt: &HostRuntime, disk: &mut FileDisk<R>, call: &str) -> Result<()> {
     let (word, rest) = call.split_once(' ').ok_or(anyhow!("a call"))?;
     let (of, rest) = rest.split_once(' ').unwrap_or((rest, ""));
     match word {
@@ -75,7 +138,12 @@ fn make_call(rt: &HostRuntime, disk: &mut FileDisk, call: &str) -> Result<()> {
 }
 
 /// Makes files of one owner together.
-fn create_all(rt: &HostRuntime, disk: &mut FileDisk, owner: &str, parts: &str) -> Result<()> {
+fn create_all<R: Wait + Copy>(
+    rt: &HostRuntime,
+    disk: &mut FileDisk<R>,
+    owner: &str,
+    parts: &str,
+) -> Result<()> {
     let owner = owner_of(owner)?;
     let answer = match parts {
         "head" => disk.create_all(owner, &[Part::Head]),
@@ -88,7 +156,7 @@ fn create_all(rt: &HostRuntime, disk: &mut FileDisk, owner: &str, parts: &str) -
 }
 
 /// Prints the length of a file in bytes.
-fn show_length(rt: &HostRuntime, disk: &mut FileDisk, of: &str) -> Result<()> {
+fn show_length<R: Wait + Copy>(rt: &HostRuntime, disk: &mut FileDisk<R>, of: &str) -> Result<()> {
     match disk.length(file_of(of)?) {
         Ok(Some(length)) => println!(rt; "{length} bytes")?,
         Ok(None) => println!(rt; "absent")?,
@@ -98,7 +166,12 @@ fn show_length(rt: &HostRuntime, disk: &mut FileDisk, of: &str) -> Result<()> {
 }
 
 /// Reads from an offset into a buffer whose bytes were all FF. Prints the count of bytes that were read, and the buffer.
-fn show_read(rt: &HostRuntime, disk: &mut FileDisk, of: &str, words: &str) -> Result<()> {
+fn show_read<R: Wait + Copy>(
+    rt: &HostRuntime,
+    disk: &mut FileDisk<R>,
+    of: &str,
+    words: &str,
+) -> Result<()> {
     let (at, count) = words.split_once(' ').ok_or(anyhow!("a count"))?;
     let mut all = [0xFF; MOST];
     let most = count.parse::<usize>()?.min(MOST);
@@ -111,7 +184,12 @@ fn show_read(rt: &HostRuntime, disk: &mut FileDisk, of: &str, words: &str) -> Re
 }
 
 /// Writes these bytes at an offset.
-fn write(rt: &HostRuntime, disk: &mut FileDisk, of: &str, words: &str) -> Result<()> {
+fn write<R: Wait + Copy>(
+    rt: &HostRuntime,
+    disk: &mut FileDisk<R>,
+    of: &str,
+    words: &str,
+) -> Result<()> {
     let (at, digits) = words.split_once(' ').ok_or(anyhow!("bytes"))?;
     let bytes = hex::decode(rt.alloc(), digits)?;
     if bytes.len() > MOST {

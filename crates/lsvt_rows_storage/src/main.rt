@@ -3,6 +3,7 @@
 #![tactic(auto)]
 
 mod disks;
+mod folders;
 mod links;
 mod making;
 mod names;
@@ -14,22 +15,29 @@ use crate::syncing::Syncing;
 use anyhow::Result;
 use std::io::{BufRead, BufReader};
 use std::process::ExitCode;
+use std::sync::Wait;
+use std::thread::Threads;
 
 /// What the cases work with.
 #[derive(Drop)]
-struct Setting {
-    disks: Disks,
+struct Setting<R: Wait + Threads + Copy + Send + Sync> {
+    threads: R,
+    disks: Disks<R>,
     syncing: Syncing,
     links: Links,
 }
 
-impl Setting {
-    /// Two disks without a store, a file that was just made, and no port.
-    fn new(rt: HostRuntime) -> Self {
-        Setting {
-            disks: Disks::new(rt),
-            syncing: Syncing::new(),
-            links: Links::new(),
+impl<R: Wait + Threads + Copy + Send + Sync> Setting<R> {
+    /// Three disks without a store, a file that was just made, and no port.
+    fn new(rt: HostRuntime, threads: R) -> Result<Self> {
+        match Disks::new(rt, threads) {
+            Ok(disks) => Ok(Setting {
+                threads,
+                disks,
+                syncing: Syncing::new(),
+                links: Links::new(),
+            }),
+            Err(e) => Err(e),
         }
     }
 
@@ -41,6 +49,8 @@ impl Setting {
             "stored" => disks::show_stored(rt, rest),
             "mode" => disks::show_mode(rt, rest),
             "remove" => disks::remove(rt, rest),
+            "names" => folders::show_names(rt, &self.threads, rest),
+            "threads" => folders::show_threads(rt, &self.threads, rest),
             "file" => self.syncing.answer(rt, rest),
             "made" => making::show(rt, rest),
             "ports" => self.links.open(*rt, rest),
@@ -51,8 +61,11 @@ impl Setting {
     }
 }
 
-fn answer_all(rt: HostRuntime) -> Result<()> {
-    let mut setting = Setting::new(rt);
+fn answer_all<R: Wait + Threads + Copy + Send + Sync>(rt: HostRuntime, threads: R) -> Result<()> {
+    let mut setting = match Setting::new(rt, threads) {
+        Ok(setting) => setting,
+        Err(e) => return Err(e),
+    };
     for case in BufReader::new(rt.alloc(), rt.reader())?.lines(rt.alloc()) {
         let case = case?;
         setting.answer(&rt, case.as_str())?;
@@ -61,7 +74,7 @@ fn answer_all(rt: HostRuntime) -> Result<()> {
 }
 
 fn main(rt: HostRuntime) -> ExitCode {
-    match answer_all(rt) {
+    match answer_all(rt, rt) {
         Ok(()) => ExitCode::SUCCESS,
         Err(e) => {
             let _ = eprintln!(rt; "lsvt_rows_storage: {e}");

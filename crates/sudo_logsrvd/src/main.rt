@@ -27,6 +27,7 @@ use std::alloc::Global;
 use std::env;
 use std::io::ErrorKind;
 use std::process::ExitCode;
+use std::sync::Wait;
 
 /// The words behind the program's name. One that isn't UTF-8 makes them a faulty command line.
 fn words(rt: &HostRuntime, alloc: Global) -> Result<List<Bytes>, Status> {
@@ -61,7 +62,7 @@ fn ports(rt: HostRuntime) -> Result<Vec<MioPort<HostRuntime>>, Status>
     }
 }
 
-fn run(rt: HostRuntime) -> Status {
+fn run<W: Wait + Copy>(rt: HostRuntime, waits: W) -> Status {
     let alloc = rt.alloc();
     let words = match words(&rt, alloc) {
         Ok(words) => words,
@@ -76,9 +77,15 @@ fn run(rt: HostRuntime) -> Status {
         return status;
     }
     if is_relay(&words) {
-        run_over(rt, &words, RelayDisk::new(rt, "sudo_logsrvd"))
+        match RelayDisk::new(rt, waits, "sudo_logsrvd") {
+            Ok(disk) => run_over(rt, &words, disk),
+            Err(_) => Status::NoMem,
+        }
     } else {
-        run_over(rt, &words, FileDisk::new(rt, "sudo_logsrvd"))
+        match FileDisk::new(rt, waits, "sudo_logsrvd") {
+            Ok(disk) => run_over(rt, &words, disk),
+            Err(_) => Status::NoMem,
+        }
     }
 }
 
@@ -149,7 +156,7 @@ fn tell(rt: &HostRuntime, status: Status) {
 fn main(rt: HostRuntime) -> ExitCode {
     // Without /dev/null the standard descriptors stay as they are.
     let _ = open_standard(&rt);
-    let status = run(rt);
+    let status = run(rt, rt);
     tell(&rt, status);
     ExitCode::from(status.number())
 }
