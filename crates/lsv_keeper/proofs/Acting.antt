@@ -20,7 +20,7 @@ use Rattle.lsv_session.specs.declared.connection.ConnId.{ConnId}
 use Rattle.lsv_session.specs.declared.job.Job.{Job}
 use Rattle.lsv_machine.specs.Answers.{Answer, Saying.Shut, farewell, is_silent, refusal, reply_of, say}
 use Rattle.lsv_machine.specs.Counts.{Counts}
-use Rattle.lsv_machine.specs.Disks.{AllGood, AsBefore, GoodOr, Rests, IsToldIn}
+use Rattle.lsv_machine.specs.Disks.{AllGood, AsBefore, GoodOr, Rests, IsToldBy}
 use Rattle.lsv_machine.specs.Durable.{ExitIs, GoodAt, GoodFor, GoodLog, IsPrefix, Keeps, Reading}
 use Rattle.lsv_machine.specs.Failures.{Act, IsRefused, Step, WantsMemory}
 use Rattle.lsv_machine.specs.History.{Ledger, asked, heard_all, is_exit, is_gone, is_look, lowered_to, noted, reads_log, reopened, request_in, settles, tells_log, writes}
@@ -399,7 +399,7 @@ unconcerned v i n act m l concerns other stands =
 
 -- the files that a job may touch are the lane's: its log, if there is one, is the lane's own, or is written, or is one that the job asks to go on with
 abbrev pub IsAbout : (lane lanes : ℕ) → Option ℕ → Machine → Act → Type 0
-IsAbout lane lanes i m act = (n : ℕ) → i ≡ Some n → IsOfLane lane lanes n ⊎ IsToldIn m (act ∷ []) n
+IsAbout lane lanes i m act = (n : ℕ) → i ≡ Some n → IsOfLane lane lanes n ⊎ IsToldBy m act n
 
 pub about_none : (lane lanes : ℕ) (m : Machine) (act : Act) → IsAbout lane lanes None m act
 about_none lane lanes m act n e = absurd (let x : None ≡ Some n = e in cc)
@@ -407,8 +407,8 @@ about_none lane lanes m act n e = absurd (let x : None ≡ Some n = e in cc)
 pub about_own : (lane lanes : ℕ) (m : Machine) (act : Act) → ((n : ℕ) → log_of (m.states act.job.conn) ≡ Some n → m.owner n ≡ Some act.job.conn) → IsAbout lane lanes (log_of (m.states act.job.conn)) m act
 about_own lane lanes m act owned n e = inr (inl (act.job.conn, owned n e))
 
-pub about_some : (lane lanes i : ℕ) (m : Machine) (act : Act) → IsOfLane lane lanes i ⊎ IsToldIn m (act ∷ []) i → IsAbout lane lanes (Some i) m act
-about_some lane lanes i m act is n e = subst (λ (x : ℕ). IsOfLane lane lanes x ⊎ IsToldIn m (act ∷ []) x) (let x : Some i ≡ Some n = e in cc) is
+pub about_some : (lane lanes i : ℕ) (m : Machine) (act : Act) → IsOfLane lane lanes i ⊎ IsToldBy m act i → IsAbout lane lanes (Some i) m act
+about_some lane lanes i m act is n e = subst (λ (x : ℕ). IsOfLane lane lanes x ⊎ IsToldBy m act x) (let x : Some i ≡ Some n = e in cc) is
 
 -- a job is acted: what it concerns keeps what it owes, and every other log rests
 pub acted : (v : KeeperView) (now : TimeSpec) (job : Job) (i : Option ℕ) (act : Act) (m after : Machine) (old new : DiskView) → Laws old → act.job ≡ job → act.now ≡ now
@@ -423,7 +423,7 @@ acted v now job i act m after old new laws job_is now_is step counts about conce
   counts = counts;
   settled_logs = λ l n. (keeps n).settled l;
   unsettled_logs = λ l n. (keeps n).unsettled l;
-  files = touches_store v.lane v.lanes (IsToldIn m (act ∷ [])) i old new about beside;
+  files = touches_store v.lane v.lanes (IsToldBy m act) i old new about beside;
   numbers = beside.numbers;
   lines = beside.lines;
 }

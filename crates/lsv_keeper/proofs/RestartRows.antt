@@ -46,7 +46,7 @@ use Rattle.lsv_keeper.proofs.Counting.{NoneFell, counts_did, counts_marked, none
 use Rattle.lsv_keeper.proofs.Frames.{Laws, beside_on, beside_wider, resting}
 use Rattle.lsv_keeper.proofs.Numbering.{beside_asked}
 use Rattle.lsv_keeper.proofs.Reopening.{absent_of, cut_stands, damaged_of, free_log, keeps_cut, keeps_found, looked_rests, looked_stands, made_of, there_of}
-use Rattle.lsv_keeper.proofs.Restarting.{AsksRestart, at_absent, at_complete, at_damaged, at_full, at_no_point, at_owned, breaks_off, cut_is, fails_cut, marked_good, marked_weaker, meets_fault, plain_is, plainly_refused, refused_weaker, restart_act, settles_refused}
+use Rattle.lsv_keeper.proofs.Restarting.{AsksRestart, asks_now, at_absent, at_complete, at_damaged, at_full, at_no_point, at_owned, breaks_off, cut_is, fails_cut, marked_good, marked_weaker, meets_fault, plain_is, plainly_refused, refused_weaker, restart_act, settles_refused}
 
 -- ---- Who is told of what
 
@@ -180,7 +180,7 @@ module _ (v v1 v' : KeeperView) (old mid new : DiskView) (m : Machine) (job : Jo
         leaves job.conn Dead m,
         acted v now job (Some restart.log) act m (leaves job.conn Dead m) old new laws refl refl step
             (counts_did act old new up' (rose_first failed old mid new q.beside.monotone rose) refl)
-            (about_some v.lane v.lanes restart.log m act (inr (inr (inl (restart, a.request_is, refl)))))
+            (about_some v.lane v.lanes restart.log m act (inr (inr (restart, asks_now m job restart a, refl))))
             (concerns_restart now m job restart a act refl (last_to job.conn answers last) (λ i. last_untold job.conn answers i last))
             (beside_on v.lane v.lanes (Some restart.log) old mid new (looked_beside looked) (beside_wider v.lane v.lanes (Some restart.log) mid new q.beside))
             (keeps_before v restart.log act m old mid new keeps (resting v.lane v.lanes None restart.log mid new laws1 (λ e. cc) q.beside)),
@@ -336,7 +336,7 @@ module _ (v v1 v' : KeeperView) (old mid new : DiskView) (m : Machine) (job : Jo
         acted v now job (Some restart.log) act m after old new laws refl refl
             (fails_cut (settings_of v) now m job restart a answers (There c.left.now (min c.promised c.x)) free c.left.fails refused_so)
             (counts_marked act old new up' (rose_first (owners.Log restart.log ∷ []) old mid new q.beside.monotone all_rose) journal)
-            (about_some v.lane v.lanes restart.log m act (inr (inr (inl (restart, a.request_is, refl)))))
+            (about_some v.lane v.lanes restart.log m act (inr (inr (restart, asks_now m job restart a, refl))))
             (concerns_restart now m job restart a act refl (last_to job.conn answers last) (λ i. last_untold job.conn answers i last))
             (beside_on v.lane v.lanes (Some restart.log) old mid new (cut_into_beside stored into) (beside_wider v.lane v.lanes (Some restart.log) mid new q.beside))
             (keeps_before v restart.log act m old mid new (marked_keeps answers stored last into c) (resting v.lane v.lanes None restart.log mid new laws1 (λ e. cc) q.beside)),

@@ -72,6 +72,9 @@ pub record AsksRestart (m : Machine) (job : Job) (restart : Restart) : Type 0 wh
   pub living : is_dead (m.states job.conn) ≡ false
   pub idle : log_of (m.states job.conn) ≡ None
 
+pub asks_now : (m : Machine) (job : Job) (restart : Restart) → AsksRestart m job restart → AsksFor (m.states job.conn) job.body (request.Restart restart)
+asks_now m job restart a = subst (λ (b : Body). AsksFor (m.states job.conn) b (request.Restart restart)) (sym a.body_is) a.judged_so
+
 pub asks_restart : (m : Machine) (job : Job) (restart : Restart) → AsksFor (m.states job.conn) job.body (request.Restart restart) → AsksRestart m job restart
 asks_restart m job restart asks = go job.body refl asks
   where

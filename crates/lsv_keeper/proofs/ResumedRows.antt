@@ -38,7 +38,7 @@ use Rattle.lsv_keeper.proofs.Frames.{Laws, log_apart}
 use Rattle.lsv_keeper.proofs.Numbering.{beside_asked}
 use Rattle.lsv_keeper.proofs.Reopening.{IsThere, free_log, keeps_cut, made_of, there_of}
 use Rattle.lsv_keeper.proofs.RestartRows.{can, concerns_restart}
-use Rattle.lsv_keeper.proofs.Restarting.{AsksRestart, at_point, cut_good, cut_is, plainly_resumed, restart_act, resumes_at, silent_noted}
+use Rattle.lsv_keeper.proofs.Restarting.{AsksRestart, asks_now, at_point, cut_good, cut_is, plainly_resumed, restart_act, resumes_at, silent_noted}
 use Rattle.lsv_keeper.proofs.Standing.{events_stay, numbers_stay, represents_one}
 
 -- who owned a log owns it, where one more is owned
@@ -169,7 +169,7 @@ module _ (v v1 v' : KeeperView) (old new : DiskView) (m : Machine) (job : Job) (
         resumes_at job.conn restart.log x resumed.stored m,
         acted v now job (Some restart.log) act m (resumes_at job.conn restart.log x resumed.stored m) old new laws refl refl (its_step x e)
             (counts_did act old new up (rose_none old new) refl)
-            (about_some v.lane v.lanes restart.log m act (inr (inr (inl (restart, a.request_is, refl)))))
+            (about_some v.lane v.lanes restart.log m act (inr (inr (restart, asks_now m job restart a, refl))))
             (concerns_restart now m job restart a act refl tt (λ i. refl))
             its_beside (its_keeps x e),
         stands_now x e act (its_step x e),

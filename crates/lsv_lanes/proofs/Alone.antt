@@ -21,6 +21,7 @@ use Rattle.lsv_session.specs.declared.connection.ConnState.TheVariants.{Fresh, G
 use Rattle.lsv_session.specs.declared.job.Body.{Body}
 use Rattle.lsv_session.specs.declared.job.Body.TheVariants as body
 use Rattle.lsv_machine.specs.Answers.{Answer, CommitPoint, LogId, Shut, is_refused, say}
+use Rattle.lsv_machine.specs.Disks.{AsksInRun}
 use Rattle.lsv_machine.specs.Failures.{Act, AsksFor, Breaks, BreaksOff, BrokenOff, FailsAt, FailsCut, HasSet, IsRefused, LeavesLog, LogFails, LosesLine, LosesLog, Makes, MeetsFault, Step, WantsMemory, exit_in}
 use Rattle.lsv_machine.specs.Judgement.{fault_refusal, judged}
 use Rattle.lsv_machine.specs.Machine.{IsOfLane, LogState, LogState.Absent, LogState.Damaged, LogState.There, Machine, Settings, is_dead, is_running, leaves, log_of, with_log, with_owner, with_state, without_conn}
@@ -31,7 +32,6 @@ use Rattle.lsv_machine.proofs.Changing.{drawn_is}
 use Rattle.lsv_machine.proofs.Choices.{EqOr.equal, EqOr.unequal, eq_or, SameOr.alike, SameOr.apart, same_or}
 use Rattle.lsv_machine.proofs.Leaving.{LeftOwner.its, LeftOwner.another, left_owner}
 use Rattle.lsv_machine.proofs.Silent.{step_sound, tail_sound}
-use Rattle.lsv_lanes.specs.Histories.{AsksInRun}
 use Rattle.lsv_lanes.proofs.Stages.{asks_here, asks_job, asks_tail}
 
 module _ (n : ℕ) (x : LogState) where

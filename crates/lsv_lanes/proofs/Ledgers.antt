@@ -20,6 +20,7 @@ use Rattle.lsv_session.specs.declared.connection.ConnState.TheVariants.{Alerted,
 use Rattle.lsv_session.specs.declared.job.Body.{Body}
 use Rattle.lsv_session.specs.declared.job.Body.TheVariants as body
 use Rattle.lsv_machine.specs.Answers.{Answer, Saying, Saying.CommitPoint, Saying.Error, Saying.LogId, Saying.Shut, is_refused, is_silent, say}
+use Rattle.lsv_machine.specs.Disks.{AsksInRun}
 use Rattle.lsv_machine.specs.Failures.{Act, AsksFor, Breaks, BreaksOff, BrokenOff, FailsCut, IsRefused, LosesLog, MeetsFault, Step, WantsMemory}
 use Rattle.lsv_machine.specs.History.{Ledger, asked, blank, heard, heard_all, is_exit, is_gone, ledger, ledger_from, noted, reopened, request_in, restarted_by, sent_one, tells_log, writes}
 use Rattle.lsv_machine.specs.Judgement.{fault_refusal, judged}
@@ -35,7 +36,7 @@ use Rattle.lsv_machine.proofs.JobFits.{Last, Last.by_refusal, Last.by_shut, refu
 use Rattle.lsv_machine.proofs.JudgedLemmas.{judged_ok}
 use Rattle.lsv_machine.proofs.RunFits.{tail_together}
 use Rattle.lsv_machine.proofs.RunLaws.{ledger_append, start_fits}
-use Rattle.lsv_lanes.specs.Histories.{AsksInRun, SaysNoMore}
+use Rattle.lsv_lanes.specs.Histories.{SaysNoMore}
 use Rattle.lsv_lanes.proofs.Alone.{Alone, end_alone, step_alone}
 use Rattle.lsv_lanes.proofs.Deciding.{ok_is, passes}
 use Rattle.lsv_lanes.proofs.Stages.{asks_here, asks_job, asks_tail}

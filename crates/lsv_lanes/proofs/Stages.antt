@@ -14,14 +14,14 @@ use Rattle.lsv_session.specs.declared.job.Job.{Job}
 use Rattle.lsv_session.proofs.Replies.{bodies_of-append}
 use Rattle.lsv_turns.specs.Turns.{EndsWithGone}
 use Rattle.lsv_links.specs.Lanes.{is_hello}
-use Rattle.lsv_machine.specs.Disks.{AsksToResume}
+use Rattle.lsv_machine.specs.Disks.{AsksInRun, AsksNow, AsksToResume}
 use Rattle.lsv_machine.specs.Failures.{Act, AsksFor, Step}
 use Rattle.lsv_machine.specs.Machine.{IsOfLane, Machine, Settings}
 use Rattle.lsv_machine.specs.Starts.{StartsAs}
 use Rattle.lsv_machine.specs.Turns.{EndOfTurn, Happened, Happened.Did, Happened.Tailed, Happened.Begins, Run, Tail}
 use Rattle.lsv_machine.proofs.Choices.{SameOr.alike, SameOr.apart, same_or, same_refl}
 use Rattle.lsv_machine.proofs.JudgedLemmas.{judged_ok}
-use Rattle.lsv_lanes.specs.Histories.{AsksInRun, AsksNow, KeepsToLane, jobs_of}
+use Rattle.lsv_lanes.specs.Histories.{KeepsToLane, jobs_of}
 use Rattle.lsv_lanes.specs.Jobs.{AsksFirst, decider}
 use Rattle.lsv_lanes.proofs.Deciding.{HasGone, goes_on, gone_before, gone_last, none_behind}
 use Rattle.lsv_lanes.proofs.Jobs.{jobs_append}

@@ -9,16 +9,17 @@ use Rattle.lsv_session.specs.declared.connection.ConnId.{ConnId}
 use Rattle.lsv_turns.specs.Turns.{LaneTurn}
 use Rattle.lsv_links.specs.Links.{ServesPorts}
 use Rattle.lsv_links.specs.Views.{PortView}
-use Rattle.lsv_machine.specs.Disks.{IsOfLaneStore, TouchesStore}
+use Rattle.lsv_machine.specs.Disks.{AsksInRun, IsOfLaneStore, TouchesStore}
+use Rattle.lsv_machine.specs.Durable.{Reading}
 use Rattle.lsv_machine.specs.History.{ledger, writers}
 use Rattle.lsv_machine.specs.Machine.{IsOfLane, Machine, Settings, log_of}
-use Rattle.lsv_machine.specs.Recovery.{AnyTurnAsks, Turn}
+use Rattle.lsv_machine.specs.Recovery.{AnyTurnAsks, Outside, Ran, Story, Turn, all_turns}
 use Rattle.lsv_machine.specs.Starts.{StartsAs}
 use Rattle.lsv_machine.specs.Turns.{Happened, Happened.Did, Happened.Tailed, Happened.Begins, Run}
 use Rattle.lsv_machine.proofs.Choices.{EqOr.equal, EqOr.unequal, eq_or}
 use Rattle.lsv_machine.proofs.Folds.{touches_as}
 use Rattle.lsv_machine.proofs.RunLaws.{one_writer, starts_sound}
-use Rattle.lsv_lanes.specs.Histories.{AsksInRun, HasOneWriterInAll, SaysNoMore, IsOfRun, KeepsToLane, MakesTurns, jobs_of, writers_in_all}
+use Rattle.lsv_lanes.specs.Histories.{HasOneWriterInAll, SaysNoMore, IsOfRun, KeepsToLane, MakesTurns, jobs_of, writers_in_all}
 use Rattle.lsv_lanes.specs.Jobs.{CameTo}
 use Rattle.lsv_lanes.proofs.Alone.{Alone, run_alone}
 use Rattle.lsv_lanes.proofs.Deciding.{of_lane, one_lane}
@@ -150,6 +151,10 @@ module _ (old new : DiskView) where
 
   pub touches_named : (lane lanes : ℕ) (turns : List Turn) → TouchesStore lane lanes (AnyTurnAsks turns) old new → ((n : ℕ) → AnyTurnAsks turns n → IsOfLane lane lanes n) → TouchesStore lane lanes (λ n. ⊥) old new
   touches_named lane lanes turns touches own = touches_as lane lanes (AnyTurnAsks turns) (λ n. ⊥) old new (λ n asks. inl (own n asks)) touches
+
+-- a run of the machine that keeps to its lane
+pub touches_ran : (r : Reading) (set : Settings) (texts : List (List ℕ)) (o : Outside) (end : Machine) (s : Story) → Ran r set texts o end s → KeepsToLane set (all_turns s.turns) → TouchesStore set.lane set.lanes (λ n. ⊥) o.found o.left
+touches_ran r set texts o end s ran keeps = touches_own o.found o.left set texts ran.start (all_turns s.turns) ran.starts keeps ran.files
 
 pub files_apart : (a b lanes : ℕ) (file : FileId) → a < lanes → b < lanes → IsOfLaneStore a lanes (λ n. ⊥) file → IsOfLaneStore b lanes (λ n. ⊥) file → a ≡ b
 files_apart a b lanes file x y (inl (n, inr never, e)) t = absurd never

@@ -28,20 +28,6 @@ pub record KeepsToLane (set : Settings) (history : List Happened) : Type 0 where
   pub own : (k : ConnId) (n : ℕ) → AsksFirst (bodies_of k (jobs_of history)) n → IsOfLane set.lane set.lanes n
   pub ends : (k : ConnId) → EndsWithGone (bodies_of k (jobs_of history))
 
--- a job asks to go on with this log, and its judgement by the connection's state lets it through
-abbrev pub AsksNow : Machine → Act → ℕ → Type 0
-AsksNow m act n = (restart : Restart) × AsksFor (m.states act.job.conn) act.job.body (AsRestart restart) × (restart.log ≡ n)
-
--- a job of this run asks to go on with this log, and the machine as it is then lets it through
-pub record AsksInRun (set : Settings) (start : Machine) (history : List Happened) (n : ℕ) : Type 0 where
-  pub before : List Happened
-  pub act : Act
-  pub after : List Happened
-  pub is : history ≡ before ++ Did act ∷ after
-  pub mid : Machine
-  pub run : Run set start before mid
-  pub asks : AsksNow mid act n
-
 -- no more is said of a log than before, and nobody writes it
 pub record SaysNoMore (old new : Ledger) : Type 0 where
   pub writers : new.writers ≡ []

@@ -8,13 +8,13 @@ ghost use Rattle.lsv_session.specs.declared.job.Job.{Job};
 ghost use Rattle.lsv_turns.specs.Turns.{LaneTurn, jobs_in};
 ghost use Rattle.lsv_links.specs.Links.{ServesPorts};
 ghost use Rattle.lsv_links.specs.Views.{PortView};
-ghost use Rattle.lsv_machine.specs.Disks.{IsOfLaneStore, TouchesStore};
+ghost use Rattle.lsv_machine.specs.Disks.{AsksInRun, IsOfLaneStore, TouchesStore};
 ghost use Rattle.lsv_machine.specs.History.{ledger, writers};
 ghost use Rattle.lsv_machine.specs.Machine.{IsOfLane, Machine, Settings};
 ghost use Rattle.lsv_machine.specs.Recovery.{AnyTurnAsks, Turn};
 ghost use Rattle.lsv_machine.specs.Starts.{StartsAs};
 ghost use Rattle.lsv_machine.specs.Turns.{Happened, Happened.Begins, Run};
-ghost use Rattle.lsv_lanes.specs.Histories.{AsksInRun, HasOneWriterInAll, IsOfRun, KeepsToLane, MakesTurns, SaysNoMore, jobs_of};
+ghost use Rattle.lsv_lanes.specs.Histories.{HasOneWriterInAll, IsOfRun, KeepsToLane, MakesTurns, SaysNoMore, jobs_of};
 ghost use Rattle.lsv_lanes.specs.Jobs.{AsksFirst, CameTo, IsShared};
 
 use lsv_disk::Disk;

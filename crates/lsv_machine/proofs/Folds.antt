@@ -18,7 +18,7 @@ use Rattle.lsv_session.specs.declared.reply.Reply.{Reply}
 use Rattle.lsv_machine.specs.Answers.{Answer, reply_of}
 use Rattle.lsv_machine.specs.Counts.{Counts, IsCounted, all_parts, faults_among}
 use Rattle.lsv_disk.proofs.Composition.{followed, started, widened}
-use Rattle.lsv_machine.specs.Disks.{AllGood, AllWithin, AsBefore, GoodOr, KeepsNumbers, LinesAs, LinesAsBefore, LinesAsBeforeOr, LinesRest, AnyAsksToResume, IsOfLaneStore, IsToldIn, IsWritten, NumbersFit, Past, Rests, SameLines, SameLog, TouchesStore}
+use Rattle.lsv_machine.specs.Disks.{AllGood, AllWithin, AsBefore, GoodOr, KeepsNumbers, LinesAs, LinesAsBefore, LinesAsBeforeOr, LinesRest, AsksInRun, IsOfLaneStore, IsToldBy, IsToldIn, IsWritten, NumbersFit, Past, Rests, SameLines, SameLog, TouchesStore}
 use Rattle.lsv_machine.specs.Durable.{Good, GoodAt, Reading, Within}
 use Rattle.lsv_machine.specs.Failures.{Act}
 use Rattle.lsv_machine.specs.History.{Ledger, blank, ledger, noted, settled, settles}
@@ -27,7 +27,7 @@ use Rattle.lsv_machine.specs.Lines.{LinesFrom, MayHold, lines_of}
 use Rattle.lsv_machine.specs.Machine.{IsOfLane, Machine, Settings}
 use Rattle.lsv_machine.specs.Stands.{Sound, Stands}
 use Rattle.lsv_machine.specs.Turns.{EndOfTurn, Happened, Happened.Did, Happened.Tailed, Happened.Begins, Run, Tail, all_acted, turn_of}
-use Rattle.lsv_machine.proofs.Owners.{acts_told}
+use Rattle.lsv_machine.proofs.Owners.{acts_told, asks_here}
 use Rattle.lsv_machine.proofs.RunLaws.{ledger_append, run_append, stands_more}
 use Rattle.lsv_machine.proofs.Splits.{all_acted_last, append_nil, failures_append, le_or, marks_append, settled_last}
 use Rattle.lsv_machine.proofs.StepLooks.{step_seen}
@@ -233,7 +233,7 @@ going_none r set now m here is_now fit = record {
     inr (refl, rests_still r n here),
   );
   numbers = record { moments = still (NumbersFit r set.lane set.lanes) here (numbers_down r set.lane set.lanes (IsCrashImage here) (here.crash_images_at here.moment) is_now fit); now = fit };
-  files = touches_none set.lane set.lanes (IsToldIn m []) here is_now;
+  files = touches_none set.lane set.lanes (IsToldIn set m []) here is_now;
   lines = lines_still r here is_now;
 }
   where
@@ -242,14 +242,28 @@ going_none r set now m here is_now fit = record {
 
 -- ---- One job more
 
-asks_left : (acts more : List Act) (n : ℕ) → AnyAsksToResume acts n → AnyAsksToResume (acts ++ more) n
-asks_left [] more n asks = absurd asks
-asks_left (act ∷ acts) more n (inl asks) = inl asks
-asks_left (act ∷ acts) more n (inr asks) = inr (asks_left acts more n asks)
+-- what is asked in a first part of a run, and in a later one
+pub asks_left : (set : Settings) (m : Machine) (g h : List Happened) (n : ℕ) → AsksInRun set m g n → AsksInRun set m (g ++ h) n
+asks_left set m g h n t = record {
+  before = t.before;
+  act = t.act;
+  after = t.after ++ h;
+  is = ap (λ (x : List Happened). x ++ h) t.is ∙ append_assoc t.before (Did t.act ∷ t.after) h;
+  mid = t.mid;
+  run = t.run;
+  asks = t.asks;
+}
 
-asks_right : (acts more : List Act) (n : ℕ) → AnyAsksToResume more n → AnyAsksToResume (acts ++ more) n
-asks_right [] more n asks = asks
-asks_right (act ∷ acts) more n asks = inr (asks_right acts more n asks)
+pub asks_right : (set : Settings) (m : Machine) (g : List Happened) (mid : Machine) (h : List Happened) (n : ℕ) → Run set m g mid → AsksInRun set mid h n → AsksInRun set m (g ++ h) n
+asks_right set m g mid h n run t = record {
+  before = g ++ t.before;
+  act = t.act;
+  after = t.after;
+  is = ap (λ (x : List Happened). g ++ x) t.is ∙ sym (append_assoc g t.before (Did t.act ∷ t.after));
+  mid = t.mid;
+  run = run_append set g t.before m mid t.mid run t.run;
+  asks = t.asks;
+}
 
 map_append : {A B : Type 0} (f : A → B) (xs ys : List A) → map f (xs ++ ys) ≡ map f xs ++ map f ys
 map_append {A} {B} f [] ys = refl
@@ -261,23 +275,26 @@ answers_append (a ∷ acts) more = ap (λ (xs : List Answer). a.answers ++ xs) (
 
 module _ (r : Reading) (set : Settings) (now : TimeSpec) (jobs : List Job) (job : Job) (replies its : List Reply) (m mid after : Machine) (one two three : DiskView)
     (s : Going r set now jobs replies m mid one two) (t : Acted r set now job its mid after two three) (sound : Sound set m) where
-  more_files : TouchesStore set.lane set.lanes (IsToldIn m (s.acts ++ t.act ∷ [])) one three
+  more_files : TouchesStore set.lane set.lanes (IsToldIn set m (all_acted (s.acts ++ t.act ∷ []))) one three
   more_files =
-      touches_on set.lane set.lanes (IsToldIn m (s.acts ++ t.act ∷ [])) one two three
-      (touches_as set.lane set.lanes (IsToldIn m s.acts) (IsToldIn m (s.acts ++ t.act ∷ [])) one two first s.files)
-      (touches_as set.lane set.lanes (IsToldIn mid (t.act ∷ [])) (IsToldIn m (s.acts ++ t.act ∷ [])) two three last t.files)
+      touches_on set.lane set.lanes (IsToldIn set m (all_acted (s.acts ++ t.act ∷ []))) one two three
+      (touches_as set.lane set.lanes (IsToldIn set m (all_acted s.acts)) (IsToldIn set m (all_acted (s.acts ++ t.act ∷ []))) one two first s.files)
+      (touches_as set.lane set.lanes (IsToldBy mid t.act) (IsToldIn set m (all_acted (s.acts ++ t.act ∷ []))) two three last t.files)
     where
-      first : (n : ℕ) → IsToldIn m s.acts n → IsOfLane set.lane set.lanes n ⊎ IsToldIn m (s.acts ++ t.act ∷ []) n
-      first n (inl is) = inr (inl is)
-      first n (inr asks) = inr (inr (asks_left s.acts (t.act ∷ []) n asks))
+      joined : all_acted s.acts ++ Did t.act ∷ [] ≡ all_acted (s.acts ++ t.act ∷ [])
+      joined = sym (all_acted_last s.acts t.act)
 
-      of_mid : (n : ℕ) → IsOfLane set.lane set.lanes n ⊎ IsToldIn m s.acts n → IsOfLane set.lane set.lanes n ⊎ IsToldIn m (s.acts ++ t.act ∷ []) n
+      first : (n : ℕ) → IsToldIn set m (all_acted s.acts) n → IsOfLane set.lane set.lanes n ⊎ IsToldIn set m (all_acted (s.acts ++ t.act ∷ [])) n
+      first n (inl is) = inr (inl is)
+      first n (inr asks) = inr (inr (subst (λ (h : List Happened). AsksInRun set m h n) joined (asks_left set m (all_acted s.acts) (Did t.act ∷ []) n asks)))
+
+      of_mid : (n : ℕ) → IsOfLane set.lane set.lanes n ⊎ IsToldIn set m (all_acted s.acts) n → IsOfLane set.lane set.lanes n ⊎ IsToldIn set m (all_acted (s.acts ++ t.act ∷ [])) n
       of_mid n (inl lane) = inl lane
       of_mid n (inr told) = first n told
 
-      last : (n : ℕ) → IsToldIn mid (t.act ∷ []) n → IsOfLane set.lane set.lanes n ⊎ IsToldIn m (s.acts ++ t.act ∷ []) n
+      last : (n : ℕ) → IsToldBy mid t.act n → IsOfLane set.lane set.lanes n ⊎ IsToldIn set m (all_acted (s.acts ++ t.act ∷ [])) n
       last n (inl is) = of_mid n (acts_told set s.acts m mid sound s.run n is)
-      last n (inr asks) = inr (inr (asks_right s.acts (t.act ∷ []) n asks))
+      last n (inr asks) = inr (inr (subst (λ (h : List Happened). AsksInRun set m h n) joined (asks_right set m (all_acted s.acts) mid (Did t.act ∷ []) n s.run (asks_here set mid t.act [] n asks))))
 
   stands_mid : (g : List Happened) (n : ℕ) → Stands set g n m → Stands set (g ++ all_acted s.acts) n mid
   stands_mid g n stands = stands_more set n g (all_acted s.acts) m mid stands s.run
@@ -532,7 +549,7 @@ going_ends r set now jobs replies tail m mid after one two three sound s t = rec
   settled_logs = λ g n stands all. ends_settled r set g s.acts tail n m mid after one two three s.run s.settled_logs t.ended stands all;
   unsettled_logs = λ g n stands free good. let a = s.unsettled_logs g n stands free good in ends_unsettled r set g s.acts tail n m mid after one two three s.run t.ended stands free a.0 a.1;
   numbers = numbers_on r set.lane set.lanes one two three s.numbers t.ended.numbers;
-  files = touches_on set.lane set.lanes (IsToldIn m s.acts) one two three s.files
-      (touches_as set.lane set.lanes (IsWritten mid) (IsToldIn m s.acts) two three (λ n is. acts_told set s.acts m mid sound s.run n is) t.ended.files);
+  files = touches_on set.lane set.lanes (IsToldIn set m (all_acted s.acts)) one two three s.files
+      (touches_as set.lane set.lanes (IsWritten mid) (IsToldIn set m (all_acted s.acts)) two three (λ n is. acts_told set s.acts m mid sound s.run n is) t.ended.files);
   lines = flushed_after r set s.acts tail m mid after one two three s.run s.lines t.lines;
 }

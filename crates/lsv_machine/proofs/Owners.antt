@@ -19,12 +19,12 @@ use Rattle.lsv_session.specs.declared.connection.ConnState.TheVariants.{Fresh, G
 use Rattle.lsv_session.specs.declared.job.Body.{Body}
 use Rattle.lsv_session.specs.declared.job.Body.TheVariants as body
 use Rattle.lsv_machine.specs.Answers.{Answer, CommitPoint, LogId, Shut, is_refused, say}
-use Rattle.lsv_machine.specs.Disks.{AsksToResume, IsToldIn, IsWritten}
-use Rattle.lsv_machine.specs.Failures.{Act, Breaks, BreaksOff, BrokenOff, FailsCut, IsRefused, LosesLog, MeetsFault, Step, WantsMemory}
+use Rattle.lsv_machine.specs.Disks.{AsksInRun, AsksNow, IsToldIn, IsWritten}
+use Rattle.lsv_machine.specs.Failures.{Act, AsksFor, Breaks, BreaksOff, BrokenOff, FailsCut, IsRefused, LosesLog, MeetsFault, Step, WantsMemory}
 use Rattle.lsv_machine.specs.Judgement.{fault_refusal, judged}
 use Rattle.lsv_machine.specs.Machine.{IsOfLane, LogState, LogState.Absent, LogState.Damaged, LogState.There, Machine, Settings, is_dead, is_running, leaves, log_of, with_log, with_owner, with_state, without_conn}
 use Rattle.lsv_machine.specs.Stands.{Sound}
-use Rattle.lsv_machine.specs.Turns.{EndOfTurn, FlushesLines, FlushesLog, FlushesLogs, RefusesAll, RefusesOne, Run, Tail, all_acted, with_lines}
+use Rattle.lsv_machine.specs.Turns.{EndOfTurn, FlushesLines, FlushesLog, FlushesLogs, Happened, Happened.Did, RefusesAll, RefusesOne, Run, Tail, all_acted, with_lines}
 use Rattle.lsv_machine.specs.Work.{Done, adds_line, alive, answered, before_line, can_cut, cut_to, draws, dropped, ends, exited, finished, fits_file, has_line, last_number, line_fits, line_in, lined, makes, opened, opens, plain, recorded, refused, restarted_at, resumed, sets_exit, silently, taken, takes, waits, with_exit, with_record, work}
 use Rattle.lsv_machine.proofs.Changing.{drawn_is}
 use Rattle.lsv_machine.proofs.Choices.{EqOr.equal, EqOr.unequal, eq_or}
@@ -147,9 +147,9 @@ module _ (P : ℕ → Type 0) where
     answered_only set now s (Ok what) i its named =
         lined_only set now s what i (work k s what i m) (work_only s what i its (λ restart e. named restart (ap (λ (x : Request). let y : Result Request Refusal = Ok x in y) e)))
 
-    alive_only : (set : Settings) (now : TimeSpec) (b : Body) (i : ℕ) → P i → ((n : ℕ) → AsksToResume b n → P n) → Only P (alive set now k b i m).machine
+    alive_only : (set : Settings) (now : TimeSpec) (b : Body) (i : ℕ) → P i → ((restart : Restart) → AsksFor (m.states k) b (request.Restart restart) → P restart.log) → Only P (alive set now k b i m).machine
     alive_only set now (body.Msg message) i its named =
-        answered_only set now (m.states k) (judged (m.states k) message) i its (λ restart e. named restart.log (restart, (judged_ok (m.states k) message (request.Restart restart) e).0, refl))
+        answered_only set now (m.states k) (judged (m.states k) message) i its named
     alive_only set now (body.Bad fault) i its named = refused_only (fault_refusal fault)
     alive_only set now body.Gone i its named = left_only k Fresh (record m { noting = without_conn k m.noting }) h
 
@@ -163,7 +163,7 @@ module _ (P : ℕ → Type 0) where
 
   -- ---- A job
 
-  module _ (set : Settings) (m : Machine) (act : Act) (new : Machine) (h : Only P m) (named : (n : ℕ) → AsksToResume act.job.body n → P n) where
+  module _ (set : Settings) (m : Machine) (act : Act) (new : Machine) (h : Only P m) (named : (restart : Restart) → AsksFor (m.states act.job.conn) act.job.body (request.Restart restart) → P restart.log) where
     plain_only : (i : ℕ) → P i → Only P (plain set act.now act.job i m).machine
     plain_only i its =
         either_only (is_dead (m.states act.job.conn)) (dropped act.job.conn act.job.body m) (alive set act.now act.job.conn act.job.body i m)
@@ -217,22 +217,28 @@ module _ (P : ℕ → Type 0) where
 
 -- ---- Jobs, and turns
 
+pub asks_here : (set : Settings) (m : Machine) (act : Act) (h : List Happened) (n : ℕ) → AsksNow m act n → AsksInRun set m (Did act ∷ h) n
+asks_here set m act h n asks = record { before = []; act = act; after = h; is = refl; mid = m; run = refl; asks = asks }
+
+asks_job : (set : Settings) (m : Machine) (act : Act) (mid : Machine) (h : List Happened) (n : ℕ) → Step set m act mid → AsksInRun set mid h n → AsksInRun set m (Did act ∷ h) n
+asks_job set m act mid h n step t = record { before = Did act ∷ t.before; act = t.act; after = t.after; is = ap (λ (g : List Happened). Did act ∷ g) t.is; mid = t.mid; run = (mid, step, t.run); asks = t.asks }
+
 -- a log of the lane's own, one that was written before, or one that a job asked to go on with
-abbrev Mine : Settings → Machine → List Act → ℕ → Type 0
-Mine set m acts n = IsOfLane set.lane set.lanes n ⊎ IsToldIn m acts n
+abbrev Mine : Settings → Machine → List Happened → ℕ → Type 0
+Mine set m h n = IsOfLane set.lane set.lanes n ⊎ IsToldIn set m h n
 
 -- of each log that is written then, the lane's own, one that was written before, or one that a job asked to go on with
-pub acts_told : (set : Settings) (acts : List Act) (m new : Machine) → Sound set m → Run set m (all_acted acts) new → (n : ℕ) → IsWritten new n → IsOfLane set.lane set.lanes n ⊎ IsToldIn m acts n
+pub acts_told : (set : Settings) (acts : List Act) (m new : Machine) → Sound set m → Run set m (all_acted acts) new → (n : ℕ) → IsWritten new n → IsOfLane set.lane set.lanes n ⊎ IsToldIn set m (all_acted acts) n
 acts_told set [] m new sound run n (k, e) = inr (inl (k, ap (λ (x : Machine). x.owner n) (sym run) ∙ e))
 acts_told set (act ∷ acts) m new sound (mid, step, rest) n is = go (acts_told set acts mid new (step_sound set m act mid sound step) rest n is)
   where
-    of_mid : Only (Mine set m (act ∷ acts)) mid
-    of_mid = step_only (Mine set m (act ∷ acts)) set m act mid (λ i k e. inr (inl (k, e))) (λ i asks. inr (inr (inl asks))) (λ i lane. inl lane) sound step
+    of_mid : Only (Mine set m (all_acted (act ∷ acts))) mid
+    of_mid = step_only (Mine set m (all_acted (act ∷ acts))) set m act mid (λ i k e. inr (inl (k, e))) (λ restart asks. inr (inr (asks_here set m act (all_acted acts) restart.log (restart, asks, refl)))) (λ i lane. inl lane) sound step
 
-    go : IsOfLane set.lane set.lanes n ⊎ IsToldIn mid acts n → Mine set m (act ∷ acts) n
+    go : IsOfLane set.lane set.lanes n ⊎ IsToldIn set mid (all_acted acts) n → Mine set m (all_acted (act ∷ acts)) n
     go (inl lane) = inl lane
     go (inr (inl (k, e))) = of_mid n k e
-    go (inr (inr asks)) = inr (inr (inr asks))
+    go (inr (inr asks)) = inr (inr (asks_job set m act mid (all_acted acts) n step asks))
 
 -- the end of a turn gives nobody a log, nor does a piece of it
 pub lines_written : (set : Settings) (failed : List Owner) (answers : List Answer) (m new : Machine) → FlushesLines set failed answers m new → (n : ℕ) → IsWritten new n → IsWritten m n

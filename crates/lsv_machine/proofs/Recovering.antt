@@ -3,10 +3,15 @@ use Rattle.std.proofs.Common.{◌≡◌, ◌≤◌, ℕ, List, [], ◌∷◌, �
 use Rattle.std.specs.Prelude.{false}
 use Rattle.lsv_base.specs.declared.time.TimeSpec.{TimeSpec}
 use Rattle.lsv_disk.specs.View.{DiskView, Image, IsCrashImage}
+use Rattle.lsv_request.specs.declared.request.Request.TheVariants as request
+use Rattle.lsv_request.specs.declared.request.Restart.{Restart}
+use Rattle.lsv_session.specs.declared.connection.ConnState.{ConnState}
+use Rattle.lsv_session.specs.declared.job.Body.{Body}
+use Rattle.lsv_session.specs.declared.job.Body.TheVariants as body
 use Rattle.lsv_session.specs.declared.job.Job.{Job}
 use Rattle.lsv_session.specs.declared.reply.Reply.{Reply}
 use Rattle.lsv_machine.specs.Counts.{Counts}
-use Rattle.lsv_machine.specs.Disks.{AllGood, AllWithin, AnyAsksToResume, AsBefore, IsToldIn, NumbersFit, Past}
+use Rattle.lsv_machine.specs.Disks.{AllGood, AllWithin, AnyAsksToResume, AsBefore, AsksInRun, AsksToResume, IsToldIn, NumbersFit, Past, TouchesStore}
 use Rattle.lsv_machine.specs.Durable.{Good, GoodAt, GoodLog, Reading}
 use Rattle.lsv_machine.specs.History.{Ledger, ledger, noted, settled}
 use Rattle.lsv_machine.specs.InnerSoFar.{SoFar, with_turn}
@@ -15,9 +20,10 @@ use Rattle.lsv_machine.specs.Machine.{IsOfLane, LogState, LogState.Absent, LogSt
 use Rattle.lsv_machine.specs.Recovery.{AnyTurnAsks, GoesOn, Kept, Recovers, Spans, Story, Turn, all_turns, ended_at, past_of, text_after}
 use Rattle.lsv_machine.specs.Stands.{Sound, Stands}
 use Rattle.lsv_machine.specs.Starts.{GoodState, ReadsAs, StartsAs}
-use Rattle.lsv_machine.specs.Failures.{Act}
+use Rattle.lsv_machine.specs.Failures.{Act, AsksFor}
 use Rattle.lsv_machine.specs.Turns.{Happened, Happened.Begins, Happened.Did, Happened.Tailed, Run, Tail, all_acted, turn_of}
-use Rattle.lsv_machine.proofs.Folds.{counts_on, no_counts, touches_as, touches_on}
+use Rattle.lsv_machine.proofs.JudgedLemmas.{judged_ok}
+use Rattle.lsv_machine.proofs.Folds.{asks_left, asks_right, counts_on, no_counts, touches_as, touches_on}
 use Rattle.lsv_machine.proofs.LinesOver.{lines_more, text_last, turn_fresh, turn_splits}
 use Rattle.lsv_machine.proofs.Owners.{acts_told, end_written}
 use Rattle.lsv_machine.proofs.RunLaws.{run_append, stands_begun, stands_more, starts_sound}
@@ -85,7 +91,7 @@ only_opened r lane lanes texts found new o = record {
       reads = o.lines.reads.to start is;
     };
   };
-  files = touches_as lane lanes (λ n. ⊥) (AnyTurnAsks []) found new (λ n no_. absurd no_) o.files;
+  files = touches_as lane lanes (λ n. ⊥) (AnyTurnAsks []) found new (λ n never. absurd never) o.files;
 }
   where
     none : (before after : List Turn) → [] ≡ before ++ after → ended_at new.moment before ≤ new.moment
@@ -115,6 +121,7 @@ opening_begins r set texts m found new fit o = record {
     ended_lines = only_texts set m;
     moments = tt;
     counts = no_counts found new o.store.monotone;
+    files = touches_as set.lane set.lanes (λ n. ⊥) (AsksInRun set m []) found new (λ n never. absurd never) o.store.files;
   };
   recovers = only_opened r set.lane set.lanes texts found new o.store;
   stands = λ n g p on good. subst (λ (h : List Happened). Stands set h n m) (sym (append_nil g)) (start_stands r set texts found.reads m p g n o.starts o.reads_as on good);
@@ -203,14 +210,48 @@ module _ (r : Reading) (set : Settings) (texts : List (List ℕ)) (found : DiskV
 
 -- ---- What turns ask
 
-asks_before : (turns : List Turn) (t : Turn) (n : ℕ) → AnyTurnAsks turns n → AnyTurnAsks (turns ++ t ∷ []) n
-asks_before [] t n asks = absurd asks
-asks_before (u ∷ turns) t n (inl asks) = inl asks
-asks_before (u ∷ turns) t n (inr asks) = inr (asks_before turns t n asks)
+-- an event of one history and then another is of the one or of the other
+split_did : (g h before after : List Happened) (act : Act) → g ++ h ≡ before ++ Did act ∷ after → ((x : List Happened) × (g ≡ before ++ Did act ∷ x)) ⊎ ((y : List Happened) × (h ≡ y ++ Did act ∷ after))
+split_did [] h before after act e = inr (before, e)
+split_did (x ∷ g) h [] after act e = inl (g, (let a : x ≡ Did act = cc in ap (λ (z : Happened). z ∷ g) a))
+split_did (x ∷ g) h (y ∷ before) after act e = elim (split_did g h before after act (cc)) [
+  | inl here ↦ inl (here.0, (let a : x ≡ y = cc in ap (λ (z : Happened). z ∷ g) a ∙ ap (λ (zs : List Happened). y ∷ zs) here.1))
+  | inr there ↦ inr there
+]
 
-asks_last : (turns : List Turn) (t : Turn) (n : ℕ) → AnyAsksToResume t.acts n → AnyTurnAsks (turns ++ t ∷ []) n
-asks_last [] t n asks = inl asks
-asks_last (u ∷ turns) t n asks = inr (asks_last turns t n asks)
+no_did : (tail : Tail) (before after : List Happened) (act : Act) → Tailed tail ∷ [] ≡ before ++ Did act ∷ after → ⊥
+no_did tail [] after act e = cc
+no_did tail (x ∷ []) after act e = cc
+no_did tail (x ∷ y ∷ before) after act e = cc
+
+same_did : (a b : Act) (xs ys : List Happened) → Did a ∷ xs ≡ Did b ∷ ys → b ≡ a
+same_did a b xs ys e = cc
+
+acts_any : (acts : List Act) (before after : List Happened) (act : Act) (n : ℕ) → all_acted acts ≡ before ++ Did act ∷ after → AsksToResume act.job.body n → AnyAsksToResume acts n
+acts_any [] [] after act n e asks = absurd (cc)
+acts_any [] (x ∷ before) after act n e asks = absurd (cc)
+acts_any (a ∷ acts) [] after act n e asks = inl (subst (λ (x : Act). AsksToResume x.job.body n) (same_did a act (all_acted acts) after e) asks)
+acts_any (a ∷ acts) (x ∷ before) after act n e asks = inr (acts_any acts before after act n (cc) asks)
+
+turns_any : (turns : List Turn) (before after : List Happened) (act : Act) (n : ℕ) → all_turns turns ≡ before ++ Did act ∷ after → AsksToResume act.job.body n → AnyTurnAsks turns n
+turns_any [] [] after act n e asks = absurd (cc)
+turns_any [] (x ∷ before) after act n e asks = absurd (cc)
+turns_any (t ∷ turns) before after act n e asks = elim (split_did (turn_of t.acts t.tail) (all_turns turns) before after act e) [
+  | inl here ↦ elim (split_did (all_acted t.acts) (Tailed t.tail ∷ []) before here.0 act here.1) [
+    | inl job ↦ inl (acts_any t.acts before job.0 act n job.1 asks)
+    | inr tail ↦ absurd (no_did t.tail tail.0 here.0 act tail.1)
+  ]
+  | inr there ↦ inr (turns_any turns there.0 after act n there.1 asks)
+]
+
+resumes : (s : ConnState) (b : Body) (restart : Restart) → AsksFor s b (request.Restart restart) → AsksToResume b restart.log
+resumes s (body.Msg m) restart asks = (restart, (judged_ok s m (request.Restart restart) asks).0, refl)
+resumes s (body.Bad fault) restart asks = absurd asks
+resumes s body.Gone restart asks = absurd asks
+
+run_any : (set : Settings) (start : Machine) (turns : List Turn) (n : ℕ) → AsksInRun set start (all_turns turns) n → AnyTurnAsks turns n
+run_any set start turns n t = let (restart, asks, is) = t.asks in
+    turns_any turns t.before t.after t.act n t.is (subst (AsksToResume t.act.job.body) is (resumes (t.mid.states t.act.job.conn) t.act.job.body restart asks))
 
 -- what is left of a list behind a first part of it
 same_rest : (before a b : List Turn) → before ++ a ≡ before ++ b → a ≡ b
@@ -268,6 +309,7 @@ turn_joins r set texts found s now jobs replies m after old new so t =
         ];
         moments = moments_last s.turns next so.ran.moments (t.moment, tt);
         counts = subst (λ (h : List Happened). Counts h found new) (sym all) (counts_on (all_turns s.turns) (turn_of t.acts t.tail) found old new so.ran.counts t.counts);
+        files = all_files;
       };
       recovers = record {
         spans = record {
@@ -291,9 +333,7 @@ turn_joins r set texts found s now jobs replies m after old new so t =
           opening = λ k from to image is. so.recovers.lines.opening k from to image (moments.past k image (let a = so.recovers.spans.within [] s.turns refl in omega arith) is);
           turns = λ start is. lines_more r set found old new s next m after t.run so.fresh so.lines refl refl t.lines so.recovers.spans moments.past start (so.recovers.lines.turns start is);
         };
-        files = touches_on set.lane set.lanes (AnyTurnAsks (s.turns ++ next ∷ [])) found old new
-            (touches_as set.lane set.lanes (AnyTurnAsks s.turns) (AnyTurnAsks (s.turns ++ next ∷ [])) found old (λ n asks. inr (asks_before s.turns next n asks)) so.recovers.files)
-            (touches_as set.lane set.lanes (IsToldIn m t.acts) (AnyTurnAsks (s.turns ++ next ∷ [])) old new told t.files);
+        files = touches_as set.lane set.lanes (AsksInRun set so.ran.start (all_turns (s.turns ++ next ∷ []))) (AnyTurnAsks (s.turns ++ next ∷ [])) found new (λ n asks. inr (run_any set so.ran.start (s.turns ++ next ∷ []) n asks)) all_files;
       };
       stands = λ n g p on good. subst (λ (h : List Happened). Stands set h n after) (append_assoc g (all_turns s.turns) (turn_of t.acts t.tail) ∙ ap (λ (x : List Happened). g ++ x) (sym all))
           (stands_more set n (g ++ all_turns s.turns) (turn_of t.acts t.tail) m after (so.stands n g p on good) t.run);
@@ -307,13 +347,26 @@ turn_joins r set texts found s now jobs replies m after old new so t =
     joined : Run set so.ran.start (all_turns s.turns ++ turn_of t.acts t.tail) after
     joined = run_append set (all_turns s.turns) (turn_of t.acts t.tail) so.ran.start m after so.ran.run t.run
 
-    told : (n : ℕ) → IsToldIn m t.acts n → IsOfLane set.lane set.lanes n ⊎ AnyTurnAsks (s.turns ++ (turn_at now t.acts t.tail new.moment after.lines) ∷ []) n
-    told n (inl is) = elim (so.written n is) [ inl lane ↦ inl lane | inr asks ↦ inr (asks_before s.turns (turn_at now t.acts t.tail new.moment after.lines) n asks) ]
-    told n (inr asks) = inr (asks_last s.turns (turn_at now t.acts t.tail new.moment after.lines) n asks)
+    last_is : all_turns s.turns ++ turn_of t.acts t.tail ≡ all_turns (s.turns ++ turn_at now t.acts t.tail new.moment after.lines ∷ [])
+    last_is = sym (all_turns_last s.turns (turn_at now t.acts t.tail new.moment after.lines))
 
-    of_told : (n : ℕ) → IsOfLane set.lane set.lanes n ⊎ IsToldIn m t.acts n → IsOfLane set.lane set.lanes n ⊎ AnyTurnAsks (s.turns ++ (turn_at now t.acts t.tail new.moment after.lines) ∷ []) n
+    asked_before : (n : ℕ) → AsksInRun set so.ran.start (all_turns s.turns) n → AsksInRun set so.ran.start (all_turns (s.turns ++ turn_at now t.acts t.tail new.moment after.lines ∷ [])) n
+    asked_before n asks = subst (λ (h : List Happened). AsksInRun set so.ran.start h n) last_is (asks_left set so.ran.start (all_turns s.turns) (turn_of t.acts t.tail) n asks)
+
+    told : (n : ℕ) → IsToldIn set m (all_acted t.acts) n → IsOfLane set.lane set.lanes n ⊎ AsksInRun set so.ran.start (all_turns (s.turns ++ turn_at now t.acts t.tail new.moment after.lines ∷ [])) n
+    told n (inl is) = elim (so.written n is) [ inl lane ↦ inl lane | inr asks ↦ inr (asked_before n asks) ]
+    told n (inr asks) = inr (subst (λ (h : List Happened). AsksInRun set so.ran.start h n) last_is
+        (asks_right set so.ran.start (all_turns s.turns) m (turn_of t.acts t.tail) n so.ran.run (asks_left set m (all_acted t.acts) (Tailed t.tail ∷ []) n asks)))
+
+    of_told : (n : ℕ) → IsOfLane set.lane set.lanes n ⊎ IsToldIn set m (all_acted t.acts) n → IsOfLane set.lane set.lanes n ⊎ AsksInRun set so.ran.start (all_turns (s.turns ++ turn_at now t.acts t.tail new.moment after.lines ∷ [])) n
     of_told n (inl lane) = inl lane
     of_told n (inr is) = told n is
+
+    all_files : TouchesStore set.lane set.lanes (AsksInRun set so.ran.start (all_turns (s.turns ++ turn_at now t.acts t.tail new.moment after.lines ∷ []))) found new
+    all_files =
+        touches_on set.lane set.lanes (AsksInRun set so.ran.start (all_turns (s.turns ++ turn_at now t.acts t.tail new.moment after.lines ∷ []))) found old new
+        (touches_as set.lane set.lanes (AsksInRun set so.ran.start (all_turns s.turns)) (AsksInRun set so.ran.start (all_turns (s.turns ++ turn_at now t.acts t.tail new.moment after.lines ∷ []))) found old (λ n asks. inr (asked_before n asks)) so.ran.files)
+        (touches_as set.lane set.lanes (IsToldIn set m (all_acted t.acts)) (AsksInRun set so.ran.start (all_turns (s.turns ++ turn_at now t.acts t.tail new.moment after.lines ∷ []))) old new told t.files)
 
     fewer : (k : ℕ) → ((image : Image) → new.crash_images_at k image → old.crash_images_at k image) → NumbersFit r set.lane set.lanes (old.crash_images_at k) → NumbersFit r set.lane set.lanes (new.crash_images_at k)
     fewer k less fit = record { told = λ image is. fit.told image (less image is); none_above = λ a b last n is it. fit.none_above a b last n (less a is) (less b it) }

@@ -1,5 +1,5 @@
 -- What crash images hold of a log, of the numbers and of the event log: the words in which a keeper says what it leaves.
-use Rattle.std.specs.Prelude.{◌≡◌, ◌<◌, ◌⊎◌, ℕ, List, [], ◌∷◌, Some, Ok}
+use Rattle.std.specs.Prelude.{◌≡◌, ◌<◌, ◌⊎◌, ◌++◌, ℕ, List, [], ◌∷◌, Some, Ok}
 use Rattle.lsv_disk.specs.Throughout.{Jointly, Throughout}
 use Rattle.lsv_disk.specs.View.{DiskView, Image, IsCrashImage}
 use Rattle.lsv_disk.specs.declared.file.FileId.{FileId}
@@ -9,10 +9,10 @@ use Rattle.lsv_request.specs.declared.request.Restart.{Restart}
 use Rattle.lsv_session.specs.declared.connection.ConnId.{ConnId}
 use Rattle.lsv_session.specs.declared.job.Body.{Body}
 use Rattle.lsv_machine.specs.Durable.{GoodAt, Reading, Recovered, Within}
-use Rattle.lsv_machine.specs.Failures.{Act}
+use Rattle.lsv_machine.specs.Failures.{Act, AsksFor}
 use Rattle.lsv_machine.specs.History.{Ledger, request_in}
-use Rattle.lsv_machine.specs.Machine.{IsOfLane, Machine}
-use Rattle.lsv_machine.specs.Turns.{Happened}
+use Rattle.lsv_machine.specs.Machine.{IsOfLane, Machine, Settings}
+use Rattle.lsv_machine.specs.Turns.{Happened, Happened.Did, Run}
 
 -- a history, and the jobs of the turn that a crash may have cut
 pub record Past : Type 0 where
@@ -42,9 +42,27 @@ IsOfLaneStore lane lanes IsToldOf file = ((n : ℕ) × (IsOfLane lane lanes n �
 abbrev pub TouchesStore : (lane lanes : ℕ) → (IsToldOf : ℕ → Type 0) → DiskView → DiskView → Type 0
 TouchesStore lane lanes IsToldOf old new = Throughout (IsOfLaneStore lane lanes IsToldOf) (λ image. Unit {0}) old new
 
--- of other logs than the lane's these are told: those that connections write, and those that jobs ask to go on with
-abbrev pub IsToldIn : Machine → List Act → ℕ → Type 0
-IsToldIn m acts n = IsWritten m n ⊎ AnyAsksToResume acts n
+-- a job asks to go on with this log, and its judgement by the connection's state lets it through
+abbrev pub AsksNow : Machine → Act → ℕ → Type 0
+AsksNow m act n = (restart : Restart) × AsksFor (m.states act.job.conn) act.job.body (AsRestart restart) × (restart.log ≡ n)
+
+-- a job of this run asks to go on with this log, and the machine as it is then lets it through
+pub record AsksInRun (set : Settings) (start : Machine) (history : List Happened) (n : ℕ) : Type 0 where
+  pub before : List Happened
+  pub act : Act
+  pub after : List Happened
+  pub is : history ≡ before ++ Did act ∷ after
+  pub mid : Machine
+  pub run : Run set start before mid
+  pub asks : AsksNow mid act n
+
+-- of other logs than the lane's a job is told these: those that connections write, and the one that it asks to go on with
+abbrev pub IsToldBy : Machine → Act → ℕ → Type 0
+IsToldBy m act n = IsWritten m n ⊎ AsksNow m act n
+
+-- and a run from this machine: those that connections write, and those that jobs of the run ask to go on with
+abbrev pub IsToldIn : Settings → Machine → List Happened → ℕ → Type 0
+IsToldIn set m history n = IsWritten m n ⊎ AsksInRun set m history n
 
 -- ---- A log
 

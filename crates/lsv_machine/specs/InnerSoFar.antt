@@ -2,11 +2,11 @@
 use Rattle.std.specs.Prelude.{◌≡◌, ◌⊎◌, ℕ, List, [], ◌∷◌, ◌++◌}
 use Rattle.lsv_base.specs.declared.time.TimeSpec.{TimeSpec}
 use Rattle.lsv_disk.specs.View.{IsCrashImage}
-use Rattle.lsv_machine.specs.Disks.{IsWritten, NumbersFit, Past}
+use Rattle.lsv_machine.specs.Disks.{AsksInRun, IsWritten, NumbersFit, Past}
 use Rattle.lsv_machine.specs.Durable.{Good, Reading}
 use Rattle.lsv_machine.specs.Failures.{Act}
 use Rattle.lsv_machine.specs.Machine.{IsOfLane, Machine, Settings}
-use Rattle.lsv_machine.specs.Recovery.{AnyTurnAsks, GoesOn, Outside, Ran, Recovers, Story, all_turns}
+use Rattle.lsv_machine.specs.Recovery.{GoesOn, Outside, Ran, Recovers, Story, all_turns}
 use Rattle.lsv_machine.specs.Stands.{Stands}
 use Rattle.lsv_machine.specs.Turns.{Happened, Tail}
 
@@ -19,7 +19,7 @@ pub record SoFar (r : Reading) (set : Settings) (texts : List (List ℕ)) (o : O
   pub lines : r.lines o.left.reads m.lines
   pub fresh : m.fresh ≡ []
   -- each log that is written is the lane's, or a job asked to go on with it
-  pub written : (n : ℕ) → IsWritten m n → IsOfLane set.lane set.lanes n ⊎ AnyTurnAsks s.turns n
+  pub written : (n : ℕ) → IsWritten m n → IsOfLane set.lane set.lanes n ⊎ AsksInRun set ran.start (all_turns s.turns) n
 
 -- a run with one turn more
 abbrev pub with_turn : Story → TimeSpec → List Act → Tail → ℕ → List ℕ → Story

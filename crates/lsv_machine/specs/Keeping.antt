@@ -10,7 +10,7 @@ use Rattle.lsv_session.specs.declared.job.Job.{Job}
 use Rattle.lsv_session.specs.declared.reply.Reply.{Reply}
 use Rattle.lsv_machine.specs.Answers.{reply_of}
 use Rattle.lsv_machine.specs.Counts.{Counts}
-use Rattle.lsv_machine.specs.Disks.{AllGood, AllWithin, AsBefore, GoodOr, IsToldIn, IsWritten, KeepsNumbers, NumbersFit, LinesAsBeforeOr, LinesRest, Rests, TouchesStore}
+use Rattle.lsv_machine.specs.Disks.{AllGood, AllWithin, AsBefore, GoodOr, IsToldBy, IsToldIn, IsWritten, KeepsNumbers, NumbersFit, LinesAsBeforeOr, LinesRest, Rests, TouchesStore}
 use Rattle.lsv_machine.specs.Durable.{GoodAt, Reading}
 use Rattle.lsv_machine.specs.Failures.{Act, Step}
 use Rattle.lsv_machine.specs.History.{Ledger, ledger, noted, settled, settles}
@@ -39,7 +39,7 @@ pub record Acted (r : Reading) (set : Settings) (now : TimeSpec) (job : Job) (re
       → Jointly (λ images. AsBefore r n (IsCrashImage old) images ⊎ GoodOr r l (noted n l (Did act)) n images) old new
       × (AllGood r (noted n l (Did act)) n (IsCrashImage new) ⊎ ((settles n l (Did act) ≡ false) × Rests r n old new))
   pub numbers : KeepsNumbers r set.lane set.lanes old new
-  pub files : TouchesStore set.lane set.lanes (IsToldIn m (act ∷ [])) old new
+  pub files : TouchesStore set.lane set.lanes (IsToldBy m act) old new
   pub lines : LinesRest r old new
 
 -- ---- The end of a turn
@@ -97,7 +97,7 @@ pub record Going (r : Reading) (set : Settings) (now : TimeSpec) (jobs : List Jo
   pub settled_logs : KeepsSettled r set acts (all_acted acts) m old new
   pub unsettled_logs : KeepsUnsettled r set acts (all_acted acts) m old new
   pub numbers : KeepsNumbers r set.lane set.lanes old new
-  pub files : TouchesStore set.lane set.lanes (IsToldIn m acts) old new
+  pub files : TouchesStore set.lane set.lanes (IsToldIn set m (all_acted acts)) old new
   pub lines : LinesRest r old new
 
 -- a turn of these jobs at this moment
@@ -112,7 +112,7 @@ pub record Turned (r : Reading) (set : Settings) (now : TimeSpec) (jobs : List J
   pub settled_logs : KeepsSettled r set acts (turn_of acts tail) m old new
   pub unsettled_logs : KeepsUnsettled r set acts (turn_of acts tail) m old new
   pub numbers : KeepsNumbers r set.lane set.lanes old new
-  pub files : TouchesStore set.lane set.lanes (IsToldIn m acts) old new
+  pub files : TouchesStore set.lane set.lanes (IsToldIn set m (all_acted acts)) old new
   -- in each image the lines of the event log are the machine's: those of this turn are there wholly or not at all
   pub lines : LinesFlushed r set tail (with_lines_of acts m) after old new
 

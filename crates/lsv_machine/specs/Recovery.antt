@@ -4,7 +4,7 @@ use Rattle.lsv_base.specs.declared.time.TimeSpec.{TimeSpec}
 use Rattle.lsv_disk.specs.View.{DiskView, Image, IsCrashImage}
 use Rattle.lsv_disk.specs.declared.file.Owner.TheVariants.{Events}
 use Rattle.lsv_machine.specs.Counts.{Counts}
-use Rattle.lsv_machine.specs.Disks.{AllGood, AllWithin, AnyAsksToResume, LinesAs, LinesAsBefore, NumbersFit, Past, TouchesStore}
+use Rattle.lsv_machine.specs.Disks.{AllGood, AllWithin, AnyAsksToResume, AsksInRun, LinesAs, LinesAsBefore, NumbersFit, Past, TouchesStore}
 use Rattle.lsv_machine.specs.Durable.{Good, Reading}
 use Rattle.lsv_machine.specs.Failures.{Act}
 use Rattle.lsv_machine.specs.History.{ledger, settled}
@@ -151,3 +151,5 @@ pub record Ran (r : Reading) (set : Settings) (texts : List (List ℕ)) (o : Out
       → (mid : Machine) × Run set start (all_turns before) mid × Run set mid (all_turns after) end × (mid.lines ≡ text_after start.lines before)
   pub moments : AtTheirMoments s.turns
   pub counts : Counts (all_turns s.turns) o.found o.left
+  -- no file was touched but those of the lane's store, and those of other logs whose restart the machine let through
+  pub files : TouchesStore set.lane set.lanes (AsksInRun set start (all_turns s.turns)) o.found o.left
