@@ -1,5 +1,5 @@
 ghost use Rattle.std.specs.Prelude.{◌≡◌, ℕ, List, ◌++◌, IsErr, OnOk, OnErr};
-ghost use Rattle.lsv_words.specs.Pieces.{IsPrefix};
+ghost use Rattle.lsv_defs.specs.Pieces.{IsPrefix};
 ghost use Rattle.lsv_base.specs.Outside.{HasCause};
 
 use thiserror::Error;

@@ -1,5 +1,5 @@
 ghost use Rattle.std.specs.Prelude.{◌≡◌, ◌++◌, ◌≤◌, None, length, drop, IsErr, IfOk, IfErr, IfSome, IsErrOf};
-ghost use Rattle.lsv_words.specs.Pieces.{piece};
+ghost use Rattle.lsv_defs.specs.Pieces.{piece};
 ghost use Rattle.lsv_disk.specs.declared.file.Part.{Part};
 ghost use Rattle.lsv_disk.specs.Files.{file_of};
 ghost use Rattle.lsv_disk.specs.View.{HasCause, HasOwnCause};

@@ -1,6 +1,6 @@
 -- The frames of a step's messages, put together and written.
 use Rattle.std.proofs.Common.{◌≡◌, ◌<◌, ◌++◌, ◌∷◌, List, [], ℕ, zero, suc, length, take, get_or, refl, sym, ◌∙◌, ap, subst, append_assoc, append-nil, arith, Option, Some, None, IsSome, is_some, false}
-use Rattle.lsv_words.specs.Pieces.{IsPrefix}
+use Rattle.lsv_defs.specs.Pieces.{IsPrefix}
 use Rattle.lsv_wire.specs.Frame.{frame_of, IsMessage}
 use Rattle.lsv_wire.specs.declared.framing.TheConstants.{FRAME_LIMIT}
 use Rattle.lsv_msg.specs.Messages.{client_bytes}

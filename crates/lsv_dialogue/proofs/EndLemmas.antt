@@ -1,6 +1,6 @@
 -- How a conversation ends, from how it stood.
 use Rattle.std.proofs.Common.{◌≡◌, ◌≢◌, ◌≤◌, ◌<◌, ◌++◌, ◌∷◌, List, [], ℕ, length, refl, sym, ◌∙◌, ap, subst, append-nil, length-append, arith, Bool, true, false, Option, Some, None, IsSome, is_some, ◌⊎◌, inl, inr}
-use Rattle.lsv_words.specs.Causes.{HasRisen}
+use Rattle.lsv_defs.specs.Causes.{HasRisen}
 use Rattle.lsv_wire.specs.Frame.{IsPartial, IsTooLong}
 use Rattle.lsv_msg.specs.declared.fault.MsgFault.{MsgFault}
 use Rattle.lsv_msg.specs.declared.messages.ClientMessage.{ClientMessage}

@@ -1,6 +1,6 @@
 -- What writing and reading make of a link.
 use Rattle.std.proofs.Common.{◌≡◌, ◌≢◌, ◌≤◌, ◌<◌, ◌++◌, List, [], ℕ, length, refl, sym, ◌∙◌, ap, append_assoc, append-nil, length-append, arith, false, Option, Some, None, unwrap_or, option_map, take, drop}
-use Rattle.lsv_words.specs.Causes.{HasRisen}
+use Rattle.lsv_defs.specs.Causes.{HasRisen}
 use Rattle.std.proofs.lemmas.List.{take-append-drop}
 use Rattle.lsv_port.specs.declared.port.Gave.{Gave}
 use Rattle.lsv_port.specs.declared.port.Gave.TheVariants as gave

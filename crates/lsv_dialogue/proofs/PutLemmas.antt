@@ -1,6 +1,6 @@
 -- What was written of what was said, piece by piece.
 use Rattle.std.proofs.Common.{◌≡◌, ◌≤◌, ◌<◌, ◌++◌, ◌∷◌, List, [], ℕ, length, refl, sym, ◌∙◌, ap, subst, append_assoc, append-nil, length-append, arith, Option, Some, None}
-use Rattle.lsv_words.specs.Pieces.{IsPrefix}
+use Rattle.lsv_defs.specs.Pieces.{IsPrefix}
 use Rattle.lsv_wire.specs.Frame.{IsMessage}
 use Rattle.lsv_msg.specs.Messages.{client_bytes}
 use Rattle.lsv_msg.specs.declared.messages.ClientMessage.{ClientMessage}

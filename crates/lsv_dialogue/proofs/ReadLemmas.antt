@@ -1,7 +1,7 @@
 -- What a read comes to, and what a call hands on.
 use Rattle.std.proofs.Common.{◌≡◌, ◌≢◌, ◌≤◌, ◌<◌, ◌∷◌, List, [], ℕ, length, refl, sym, ◌∙◌, ap, subst, append-nil, arith, Bool, true, false, Option, Some, None, Result, Ok, Err, inl, inr}
 use Rattle.std.specs.Result.{IfErr, IsErrAnd}
-use Rattle.lsv_words.specs.Causes.{HasRisen}
+use Rattle.lsv_defs.specs.Causes.{HasRisen}
 use Rattle.lsv_wire.specs.Frame.{IsPartial, IsTooLong}
 use Rattle.lsv_msg.specs.declared.fault.MsgFault.{MsgFault}
 use Rattle.lsv_msg.specs.declared.messages.ServerMessage.{ServerMessage}

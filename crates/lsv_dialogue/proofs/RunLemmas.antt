@@ -1,7 +1,7 @@
 -- A conversation between its connect and its close.
 use Rattle.std.proofs.Common.{◌≡◌, ◌≤◌, ◌<◌, ◌++◌, ◌∷◌, List, [], ℕ, length, refl, sym, ◌∙◌, ap, subst, append-nil, arith, Bool, true, false, Option, Some, None, Result, Ok, Err, ◌⊎◌, inl, inr, unwrap_or}
 use Rattle.std.specs.Result.{is_err}
-use Rattle.lsv_words.specs.Causes.{HasRisen}
+use Rattle.lsv_defs.specs.Causes.{HasRisen}
 use Rattle.lsv_msg.specs.declared.messages.ServerMessage.{ServerMessage}
 use Rattle.lsv_link.specs.declared.connection.Connection.{Connection}
 use Rattle.lsv_link.specs.declared.link.LinkFault.{LinkFault}

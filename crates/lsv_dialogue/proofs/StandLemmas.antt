@@ -1,7 +1,7 @@
 -- How a conversation stands after each piece.
 use Rattle.std.proofs.Common.{◌≡◌, ◌≢◌, ◌≤◌, ◌<◌, ◌+◌, ◌++◌, ◌∷◌, List, [], ℕ, length, refl, sym, ◌∙◌, ap, subst, append_assoc, append-nil, length-append, arith, Bool, true, false, Option, Some, None, IfSome, unwrap_or, nat_eq, ◌⊎◌, inl, inr}
 use Rattle.std.proofs.lemmas.Bool.Decides.{nat_tests}
-use Rattle.lsv_words.specs.Pieces.{IsPrefix}
+use Rattle.lsv_defs.specs.Pieces.{IsPrefix}
 use Rattle.lsv_msg.specs.declared.messages.ClientMessage.{ClientMessage}
 use Rattle.lsv_msg.specs.declared.messages.ServerMessage.{ServerMessage}
 use Rattle.lsv_link.specs.declared.connection.Connection.{Connection}

@@ -1,6 +1,6 @@
 -- How a conversation ends, and why.
 use Rattle.std.specs.Prelude.{◌≡◌, ◌⊎◌, ◌≤◌, ◌<◌, ℕ, Bool, true, false, List, [], ◌∷◌, ◌++◌, length, IfSome, IsSome, Option, None, Some, Err}
-use Rattle.lsv_words.specs.Causes.{HasRisen}
+use Rattle.lsv_defs.specs.Causes.{HasRisen}
 use Rattle.lsv_wire.specs.Frame.{frame_of, IsMessage, IsPartial, IsTooLong}
 use Rattle.lsv_msg.specs.Messages.{server_in}
 use Rattle.lsv_msg.specs.declared.fault.MsgFault.{MsgFault}

@@ -1,7 +1,7 @@
 -- How much of what was said was written.
 use Rattle.std.specs.Prelude.{◌≡◌, ◌≤◌, ◌<◌, ℕ, List, [], ◌∷◌, ◌++◌, length}
 use Rattle.std.specs.List.{AllByRecursion}
-use Rattle.lsv_words.specs.Pieces.{IsPrefix}
+use Rattle.lsv_defs.specs.Pieces.{IsPrefix}
 use Rattle.lsv_wire.specs.Frame.{IsMessage}
 use Rattle.lsv_wire.specs.declared.framing.TheConstants.{FRAME_LIMIT}
 use Rattle.lsv_msg.specs.Messages.{client_bytes}

@@ -1,8 +1,8 @@
 -- How a conversation stands between two pieces of it: what only the proofs need.
 use Rattle.std.specs.Prelude.{◌≡◌, ◌≢◌, ◌≤◌, ◌<◌, ℕ, Bool, true, false, List, [], ◌∷◌, ◌++◌, length, Option, Some, None}
 use Rattle.std.specs.List.{AllByRecursion}
-use Rattle.lsv_words.specs.Causes.{HasRisen}
-use Rattle.lsv_words.specs.Pieces.{IsPrefix}
+use Rattle.lsv_defs.specs.Causes.{HasRisen}
+use Rattle.lsv_defs.specs.Pieces.{IsPrefix}
 use Rattle.lsv_msg.specs.declared.messages.ServerMessage.{ServerMessage}
 use Rattle.lsv_msg.specs.declared.messages.ClientMessage.{ClientMessage}
 use Rattle.lsv_link.specs.declared.connection.Connection.{Connection}

@@ -1,7 +1,7 @@
 //! What comes over the link is read, and cut into messages.
 
 ghost use Rattle.std.specs.Prelude.{◌≡◌, ◌≢◌, length, true, IfOk, IsOk, Ok, OnErr};
-ghost use Rattle.lsv_words.specs.Causes.{HasRisen};
+ghost use Rattle.lsv_defs.specs.Causes.{HasRisen};
 ghost use Rattle.lsv_link.specs.Link.{IsConnected, open_of};
 ghost use Rattle.lsv_dialogue.specs.Stands.{HasLooked, HasRead, IsNext};
 

@@ -2,7 +2,7 @@
 -- these lemmas and those of Same, and no other of this crate.
 use Rattle.std.proofs.Common.{◌≡◌, ℕ, ◌+◌, ◌≤◌, ◌<◌, ◌⊎◌, inl, inr, Result, Ok, Err, OnOk, arith, refl, sym, ◌∙◌, subst}
 use Rattle.std.proofs.lemmas.Bool.{cases_lt}
-use Rattle.lsv_words.specs.Causes.{HasRisen}
+use Rattle.lsv_defs.specs.Causes.{HasRisen}
 use Rattle.lsv_disk.specs.declared.file.FileId.{FileId}
 use Rattle.lsv_disk.specs.View.{Image, DiskView, IsCrashImage, Elapses, Elsewhere, Quiet, Uncounted, OneRead, OneMaking, RoseByOne, OneWrite, OneSync, HasCause, HasOwnCause}
 use Rattle.lsv_disk.specs.Throughout.{Throughout, Unchanged, OnlyReads, RoseAtMost, CallsAtMost, Jointly}

@@ -1,7 +1,7 @@
 -- A disk of many files: what a read gives, and what a crash may leave (POSIX fsync).
 -- In a crash the machine stops, by a power cut or a kernel panic; a killed process loses no byte that it wrote.
 use Rattle.std.specs.Prelude.{◌≡◌, ◌≢◌, ℕ, ◌+◌, ◌≤◌, List, Option}
-use Rattle.lsv_words.specs.Causes.{HasRisen}
+use Rattle.lsv_defs.specs.Causes.{HasRisen}
 use Rattle.lsv_disk.specs.declared.file.FileId.{FileId}
 
 -- the content of each file

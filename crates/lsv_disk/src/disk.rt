@@ -1,5 +1,5 @@
 ghost use Rattle.std.specs.Prelude.{◌≡◌, ◌⊎◌, ℕ, ◌+◌, ◌<◌, ◌^◌, ◌≤◌, List, [], ◌++◌, Option, Some, None, length, drop, IsErr, IfOk, OnOk, OnErr};
-ghost use Rattle.lsv_words.specs.Pieces.{piece};
+ghost use Rattle.lsv_defs.specs.Pieces.{piece};
 ghost use Rattle.lsv_disk.specs.declared.file.FileId.{FileId};
 ghost use Rattle.lsv_disk.specs.Files.{AreDistinct, IsOneOf, IsNew};
 ghost use Rattle.lsv_disk.specs.Bytes.{written, bytes_of, size_of, Reaches, Torn};

@@ -1,7 +1,7 @@
 ghost use Rattle.std.specs.Prelude.{◌≡◌, ℕ, ◌+◌, ◌-◌, ◌≤◌, ◌<◌, ◌^◌, ◌↔◌, min, IsTrue, [], ◌∷◌, ◌++◌, List, Option, Some, None, length, drop, option_map, IfOk, OnOk, OnErr, IsErr, ◌⊎◌, ◌≢◌, if◌then◌else◌};
 ghost use Rattle.std.proofs.Props.{props};
-ghost use Rattle.lsv_words.specs.Causes.{HasRisen};
-ghost use Rattle.lsv_words.specs.Pieces.{piece};
+ghost use Rattle.lsv_defs.specs.Causes.{HasRisen};
+ghost use Rattle.lsv_defs.specs.Pieces.{piece};
 ghost use Rattle.lsv_disk.specs.declared.file.FileId.{FileId};
 ghost use Rattle.lsv_disk.specs.declared.memory.call.Effect.{Effect};
 ghost use Rattle.lsv_disk.specs.declared.memory.call.Effect.TheVariants.{Made, NotMade, NotRead, NotWritten, Synced, NotSynced};

@@ -1,7 +1,7 @@
 -- The numbers of a store: from 1 to the greatest that any lane drew.
 use Rattle.std.specs.Prelude.{◌≡◌, ◌⊎◌, ℕ, ◌<◌, zero, suc, max, Option, Some, None, unwrap_or, Result, Ok, Err}
 use Rattle.std.specs.Option.{option_and_then, option_map}
-use Rattle.lsv_words.specs.Causes.{HasRisen}
+use Rattle.lsv_defs.specs.Causes.{HasRisen}
 use Rattle.lsv_disk.specs.declared.file.FileId.{FileId}
 use Rattle.lsv_disk.specs.View.{DiskView, Image}
 use Rattle.lsv_seq.specs.declared.fault.SeqFault.{SeqFault}

@@ -5,7 +5,7 @@ use Rattle.std.proofs.lemmas.Bool.Decides.{not_from_Decides, Decides-eqb, Decide
 use Rattle.std.proofs.lemmas.Slice.Eq.{bytes_eq-Decides}
 use Rattle.std.proofs.lemmas.List.{take_at, take-append-drop}
 use Rattle.std.proofs.lemmas.List.Elements.{All-nil, All-cons, All-head, All-tail}
-use Rattle.lsv_words.specs.Pieces.{IsPrefix}
+use Rattle.lsv_defs.specs.Pieces.{IsPrefix}
 use Rattle.lsv_record.specs.declared.records.Shaped.{Shaped}
 use Rattle.lsv_record.specs.declared.records.Shaped.TheVariants.{Io, Winsize, Suspend}
 use Rattle.lsv_record.specs.declared.records.Stream.{Stream}

@@ -2,7 +2,7 @@ ghost use Rattle.std.specs.Prelude.{◌≡◌, ◌≢◌, ◌⊎◌, ◌+◌, �
 ghost use Rattle.lsv_disk.specs.View.{HasOwnCause};
 ghost use Rattle.lsv_disk.specs.Throughout.{OnlyReads};
 ghost use Rattle.lsv_disk.specs.declared.file.Part.{Part};
-ghost use Rattle.lsv_words.specs.Pieces.{piece};
+ghost use Rattle.lsv_defs.specs.Pieces.{piece};
 ghost use Rattle.lsv_bundle.specs.Committed.{HasEntry};
 ghost use Rattle.lsv_bundle.specs.declared.shape.Shape.TheVariants as shapes;
 ghost use Rattle.lsv_bundle.specs.Body.{length_of};

@@ -6,7 +6,7 @@ use Rattle.std.proofs.lemmas.List.Sums.{prefix_len-le-length, prefix_len_is, pre
 use Rattle.std.proofs.lemmas.List.FromFn.{length-range_with_len, get_or-range_with_len}
 use Rattle.std.proofs.lemmas.Bool.{and_parts, and_from, eqb-true, ltb-true, eq-eqb, ne_eqb, lt-ltb, le-ltb, cases_lt, both_ways, and_left, and_right}
 use Rattle.std.proofs.Math.Nat.{mul-le-mul_right}
-use Rattle.lsv_words.specs.Pieces.{piece}
+use Rattle.lsv_defs.specs.Pieces.{piece}
 use Rattle.lsv_journal.specs.Gates.{place, gate, is_whole, count, last_of}
 
 -- an earlier entry ends before a later one begins

@@ -2,7 +2,7 @@
 use Rattle.std.proofs.Common.{◌≡◌, ◌⊎◌, inl, inr, ℕ, zero, suc, ◌+◌, ◌-◌, ◌<◌, ◌≤◌, min, true, false, List, [], ◌++◌, length, take, drop, get_or, Option, Some, None, refl, sym, ◌∙◌, ap, subst, arith}
 use Rattle.std.proofs.lemmas.List.{length-drop, length-take, append-nil, drop_all, take_at}
 use Rattle.std.proofs.lemmas.Bool.{cases_lt, cases_Bool, both_ways}
-use Rattle.lsv_words.specs.Pieces.{piece}
+use Rattle.lsv_defs.specs.Pieces.{piece}
 use Rattle.lsv_disk.specs.declared.file.FileId.{FileId}
 use Rattle.lsv_disk.specs.Bytes.{bytes_of, size_of}
 use Rattle.lsv_disk.specs.View.{DiskView, OneRead}

@@ -1,7 +1,7 @@
 -- The bytes of a file that was written over, or torn, at a place.
 use Rattle.std.proofs.Common.{◌≡◌, ℕ, ◌+◌, ◌-◌, ◌<◌, ◌≤◌, List, ◌++◌, ◌∷◌, length, take, drop, get_or, Option, Some, None, refl, sym, ◌∙◌, ap, arith}
 use Rattle.std.proofs.lemmas.List.{append_assoc, get_or-drop, length-append, length-take-le, length-drop, take_at, drop_at, drop-drop}
-use Rattle.lsv_words.specs.Pieces.{piece}
+use Rattle.lsv_defs.specs.Pieces.{piece}
 use Rattle.lsv_disk.specs.Bytes.{overwritten, written, bytes_of, Reaches, Torn, TornBytes}
 use Rattle.lsv_journal.proofs.Counting.{same_at, piece_again}
 

@@ -1,7 +1,7 @@
 -- The entry of a file of slots, by its bytes.
 use Rattle.std.proofs.Common.{◌≡◌, ◌≢◌, ◌⊎◌, inl, inr, ℕ, ◌+◌, ◌<◌, ◌≤◌, ◌==◌, nat_le, Bool, true, false, List, length, get_or, Option, Some, None, if◌then◌else◌, sym, ◌∙◌, ap, arith}
 use Rattle.std.proofs.lemmas.Bool.{and_parts, and_from, and_left, and_right, eqb-true, eq-eqb, ne_eqb, leb-true, le-leb, lt-leb, cases_lt, cases_eq}
-use Rattle.lsv_words.specs.Pieces.{piece}
+use Rattle.lsv_defs.specs.Pieces.{piece}
 use Rattle.lsv_journal.specs.Slots.{selected, has_entry, entry_of}
 
 -- the slot that the selector chooses

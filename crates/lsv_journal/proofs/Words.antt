@@ -2,8 +2,8 @@
 use Rattle.std.proofs.Common.{◌≡◌, ◌≢◌, ◌⊎◌, inl, inr, ℕ, ◌+◌, ◌≤◌, true, false, List, length, Option, Some, None, Result, Ok, Err, OnOk, IfOk, refl, sym, ◌∙◌, ap, subst, arith}
 use Rattle.std.specs.Option.{option_or, is_some}
 use Rattle.std.specs.Result.{is_err}
-use Rattle.lsv_words.specs.Pieces.{piece}
-use Rattle.lsv_words.specs.Causes.{HasRisen}
+use Rattle.lsv_defs.specs.Pieces.{piece}
+use Rattle.lsv_defs.specs.Causes.{HasRisen}
 use Rattle.lsv_disk.specs.declared.file.FileId.{FileId}
 use Rattle.lsv_disk.specs.declared.file.Part.TheVariants.{Commit, Slots}
 use Rattle.lsv_disk.specs.Bytes.{bytes_of, size_of}

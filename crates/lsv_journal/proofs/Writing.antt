@@ -2,7 +2,7 @@
 use Rattle.std.proofs.Common.{◌≡◌, ◌≢◌, ◌⊎◌, inl, inr, ℕ, ◌+◌, ◌≤◌, ◌==◌, true, List, [], ◌∷◌, ◌++◌, length, take, drop, get_or, Some, None, if◌then◌else◌, refl, sym, ◌∙◌, ap, subst, arith}
 use Rattle.std.proofs.lemmas.List.{get_or-drop, take_at, drop-drop}
 use Rattle.std.proofs.lemmas.Bool.{cases_eq}
-use Rattle.lsv_words.specs.Pieces.{piece}
+use Rattle.lsv_defs.specs.Pieces.{piece}
 use Rattle.lsv_disk.specs.Bytes.{overwritten, TornBytes}
 use Rattle.lsv_journal.specs.declared.slot.Slot.{Slot}
 use Rattle.lsv_journal.specs.declared.slot.Slot.TheVariants.{First, Second}

@@ -1,7 +1,7 @@
 -- The file of a journal: entries of a gate byte and a body of n bytes each, and behind them one more gate byte.
 use Rattle.std.specs.Prelude.{ℕ, zero, suc, ◌+◌, ◌*◌, ◌==◌, ◌&&◌, nat_lt, Bool, List, length, slice_index, Option, Some, None}
 use Rattle.std.specs.List.{range_with_len, prefix_len}
-use Rattle.lsv_words.specs.Pieces.{piece}
+use Rattle.lsv_defs.specs.Pieces.{piece}
 
 -- the byte at which an entry stands, its gate
 abbrev pub place : ℕ → ℕ → ℕ

@@ -1,6 +1,6 @@
 -- The file of a journal of two slots: byte 0 is the gate, byte 1 the selector, and then come two slots of n bytes each.
 use Rattle.std.specs.Prelude.{◌≡◌, ◌≢◌, ℕ, ◌+◌, ◌*◌, ◌≤◌, max, ◌==◌, ◌&&◌, nat_le, Bool, List, length, slice_index, Option, Some, None, if◌then◌else◌}
-use Rattle.lsv_words.specs.Pieces.{piece}
+use Rattle.lsv_defs.specs.Pieces.{piece}
 
 -- the byte at which the selected slot begins: the second where the selector is 1, else the first
 abbrev pub selected : ℕ → List ℕ → ℕ

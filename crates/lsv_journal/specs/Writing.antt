@@ -1,6 +1,6 @@
 -- What a selection leaves of the bytes of a file, wherever a crash comes in it, and what is found there.
 use Rattle.std.specs.Prelude.{◌≡◌, ◌⊎◌, ℕ, List, Option, Some, None}
-use Rattle.lsv_words.specs.Pieces.{piece}
+use Rattle.lsv_defs.specs.Pieces.{piece}
 use Rattle.lsv_journal.specs.declared.slot.Slot.{Slot}
 use Rattle.lsv_journal.specs.Slots.{entry_of, KeepsSlot, StaysWithin}
 use Rattle.lsv_journal.specs.Represents.{free, Stands}

@@ -1,5 +1,5 @@
 ghost use Rattle.std.specs.Prelude.{◌≡◌, ◌⊎◌, ℕ, ◌+◌, ◌≤◌, ◌<◌, ◌∷◌, Option, Some, None, length, take, IsErr, OnOk};
-ghost use Rattle.lsv_words.specs.Pieces.{piece};
+ghost use Rattle.lsv_defs.specs.Pieces.{piece};
 ghost use Rattle.lsv_disk.specs.declared.file.FileId.{FileId};
 ghost use Rattle.lsv_disk.specs.Bytes.{bytes_of};
 ghost use Rattle.lsv_disk.specs.View.{IsSynced, HasCause};

@@ -11,7 +11,7 @@ use Rattle.lsv_disk.specs.declared.file.Owner.TheVariants.{Log}
 use Rattle.lsv_disk.specs.declared.file.Part.{Part}
 use Rattle.lsv_disk.specs.declared.file.Part.TheVariants as parts
 use Rattle.lsv_disk.proofs.Composition.{risen_first, risen_second}
-use Rattle.lsv_words.specs.Causes.{HasRisen}
+use Rattle.lsv_defs.specs.Causes.{HasRisen}
 use Rattle.lsv_machine.specs.Counts.{Counts, IsCounted, all_parts, asks_for, failed_in, faults_among, faults_of, is_among, is_mark, journal_of, one_if, same_owner}
 use Rattle.lsv_machine.specs.Failures.{Act}
 use Rattle.lsv_machine.specs.History.{request_in}

@@ -31,7 +31,7 @@ use Rattle.lsv_seq.specs.declared.entry.Entry.{Entry}
 use Rattle.lsv_seq.specs.declared.fault.SeqFault.{SeqFault}
 use Rattle.lsv_seq.specs.declared.fault.SeqFault.TheVariants as seq_faults
 use Rattle.lsv_seq.proofs.Laws.{entry_alone, left_as_some, numbers_owner}
-use Rattle.lsv_words.specs.Causes.{HasRisen}
+use Rattle.lsv_defs.specs.Causes.{HasRisen}
 use Rattle.lsv_disk.specs.declared.file.Owner.{Owner}
 use Rattle.lsv_seq.specs.declared.numbers.Numbers.{Numbers}
 use Rattle.lsv_seq.specs.Drawn.{IsAsSomeCrash, IsNumbersFile, LastDrawn, entry_at, judged, judged_entry, numbers_file}

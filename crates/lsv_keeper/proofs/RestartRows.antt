@@ -8,7 +8,7 @@ use Rattle.lsv_disk.specs.View.{DiskView}
 use Rattle.lsv_disk.specs.declared.file.Owner.{Owner}
 use Rattle.lsv_disk.specs.declared.file.Owner.TheVariants as owners
 use Rattle.lsv_disk.proofs.Composition.{risen_first}
-use Rattle.lsv_words.specs.Causes.{HasRisen}
+use Rattle.lsv_defs.specs.Causes.{HasRisen}
 use Rattle.lsv_bundle.specs.Shape.{journal_of}
 use Rattle.lsv_iolog.specs.Later.{cut_log, drops}
 use Rattle.lsv_iolog.specs.Recovered.{Replays, owner_of}

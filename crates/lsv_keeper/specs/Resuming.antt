@@ -5,7 +5,7 @@ use Rattle.lsv_disk.specs.View.{DiskView, Image, IsCrashImage}
 use Rattle.lsv_disk.specs.declared.file.FileId.{FileId}
 use Rattle.lsv_disk.specs.declared.file.Part.TheVariants.{Timing}
 use Rattle.lsv_bundle.specs.Shape.{journal_of}
-use Rattle.lsv_words.specs.Causes.{HasRisen}
+use Rattle.lsv_defs.specs.Causes.{HasRisen}
 use Rattle.lsv_iolog.specs.Later.{cut_log, drops}
 use Rattle.lsv_iolog.specs.Moments.{IsAsBefore, IsEither}
 use Rattle.lsv_iolog.specs.Reading.{ViewState, committed_laid, committed_text}

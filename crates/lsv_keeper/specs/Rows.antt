@@ -7,7 +7,7 @@ use Rattle.lsv_disk.specs.View.{DiskView, Image, IsCrashImage}
 use Rattle.lsv_disk.specs.declared.file.FileId.{FileId}
 use Rattle.lsv_disk.specs.declared.file.Owner.{Owner}
 use Rattle.lsv_disk.specs.declared.file.Owner.TheVariants as owners
-use Rattle.lsv_words.specs.Causes.{HasRisen}
+use Rattle.lsv_defs.specs.Causes.{HasRisen}
 use Rattle.lsv_iolog.specs.Recovered.{Replays}
 use Rattle.lsv_record.specs.Points.{Stored}
 use Rattle.lsv_session.specs.declared.connection.ConnId.{ConnId}

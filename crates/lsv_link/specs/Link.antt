@@ -1,6 +1,6 @@
 -- What is known of an outgoing link, and what each answer of it says.
 use Rattle.std.specs.Prelude.{◌≡◌, ◌≢◌, ◌⊎◌, ℕ, ◌≤◌, Bool, true, false, List, [], ◌∷◌, ◌++◌, take, Option, Some, None, option_map, unwrap_or, Result, Ok, Err}
-use Rattle.lsv_words.specs.Causes.{HasRisen}
+use Rattle.lsv_defs.specs.Causes.{HasRisen}
 use Rattle.lsv_base.specs.Script.{one_more}
 use Rattle.lsv_port.specs.declared.port.Took.{Took}
 use Rattle.lsv_port.specs.declared.port.Took.TheVariants as took

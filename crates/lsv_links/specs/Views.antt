@@ -1,7 +1,7 @@
 -- What is known of a port, and what of it failed meanwhile.
 use Rattle.std.specs.Prelude.{◌≡◌, ◌≢◌, ◌≤◌, ℕ, Bool, true, false, List, [], ◌∷◌, length}
 use Rattle.std.specs.List.{AllByRecursion}
-use Rattle.lsv_words.specs.Causes.{HasRisen}
+use Rattle.lsv_defs.specs.Causes.{HasRisen}
 use Rattle.lsv_port.specs.Ledger.{PortLedger}
 use Rattle.lsv_port.specs.Port.{PortState}
 

@@ -1,7 +1,7 @@
 -- What a call says of a port in memory.
 use Rattle.std.proofs.Common.{◌≡◌, ◌≢◌, inl, inr, ◌≤◌, ℕ, Bool, true, false, ◌==◌, cond, List, take, Option, Some, None, is_some, option_map, refl, sym, ap, subst, ◌∙◌, arith}
 use Rattle.lsv_base.specs.Outside.{HasCause}
-use Rattle.lsv_words.specs.Causes.{HasRisen}
+use Rattle.lsv_defs.specs.Causes.{HasRisen}
 use Rattle.lsv_port.specs.declared.memory.link.MemLink.{MemLink}
 use Rattle.lsv_port.specs.declared.memory.links.Links.{Links}
 use Rattle.lsv_port.specs.declared.memory.run.Run.{Run}

@@ -1,6 +1,6 @@
 -- What stays of a port from call to call, whether it tells its content or not, and why a call failed.
 use Rattle.std.specs.Prelude.{◌≡◌, ◌⊎◌, ℕ, ◌≤◌, Bool, true, List, [], ◌∷◌, ◌++◌, Option}
-use Rattle.lsv_words.specs.Causes.{HasRisen}
+use Rattle.lsv_defs.specs.Causes.{HasRisen}
 use Rattle.lsv_port.specs.declared.step.Step.{Step}
 
 -- what a port is asked to listen on: an address, and after how many links, opened and closed, it tells Stop

@@ -1,6 +1,6 @@
 ghost use Rattle.std.specs.Prelude.{◌≡◌, ◌⊎◌, ◌<◌, ℕ, true, false, [], Some, length, map, IfOk, OnOk, OnErr, IsErr};
 ghost use Rattle.std.specs.Result.{result_ok};
-ghost use Rattle.lsv_words.specs.Causes.{HasRisen};
+ghost use Rattle.lsv_defs.specs.Causes.{HasRisen};
 ghost use Rattle.lsv_port.specs.declared.memory.link.MemLink.{MemLink};
 ghost use Rattle.lsv_port.specs.Ledger.{Continues, HasListenCause, HasTurnCause, HasLinkCause, WasAsked};
 ghost use Rattle.lsv_port.specs.Port.{IsOpen, IsSame, Changes, Told, TellsFault, TakesWithin, MayTake, GivesWithin, after_read, after_write, closed, is_over};

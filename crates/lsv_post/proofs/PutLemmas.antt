@@ -1,7 +1,7 @@
 -- What was done with the links of a post that was stopped.
 use Rattle.std.proofs.Common.{◌≡◌, ℕ, ◌<◌, zero, suc, false, Option, Some, None, List, [], ◌∷◌, ◌++◌, refl, sym, ap, subst, ◌∙◌, append_assoc, append-nil}
 use Rattle.std.specs.List.{All, Contains}
-use Rattle.lsv_words.specs.Pieces.{IsPrefix}
+use Rattle.lsv_defs.specs.Pieces.{IsPrefix}
 use Rattle.lsv_port.specs.Port.{PortState}
 use Rattle.lsv_session.specs.Transcript.{AreJobs, answers, bodies_of, frames_of, said_to}
 use Rattle.lsv_session.specs.declared.connection.ConnId.{ConnId}

@@ -5,7 +5,7 @@ use Rattle.std.proofs.lemmas.Bool.{cases_eq}
 use Rattle.std.proofs.lemmas.List.{append-nil}
 use Rattle.std.specs.List.{AllByRecursion}
 use Rattle.std.specs.Prelude.{Result, Ok, Err, OnErr, OnOk, is_err}
-use Rattle.lsv_words.specs.Causes.{HasRisen}
+use Rattle.lsv_defs.specs.Causes.{HasRisen}
 use Rattle.lsv_port.specs.Ledger.{Continues, GoesOn, PortLedger}
 use Rattle.lsv_port.specs.Port.{Changes, IsOwed, IsSame, LinkState, PortState, TellsFault, Told}
 use Rattle.lsv_port.specs.declared.port.Ready.{Ready}

@@ -1,6 +1,6 @@
 -- The faults of a relay's disk are those of its two disks together: a call of one of them has its cause there.
 use Rattle.std.proofs.Common.{◌+◌, ◌≡◌, ◌<◌, ◌≤◌, ◌-◌, ℕ, arith}
-use Rattle.lsv_words.specs.Causes.{HasRisen}
+use Rattle.lsv_defs.specs.Causes.{HasRisen}
 use Rattle.lsv_disk.specs.declared.file.FileId.{FileId}
 use Rattle.lsv_disk.specs.View.{HasCause, HasOwnCause}
 use Rattle.lsv_real.specs.Untold.{untold}

@@ -1,6 +1,6 @@
 // The port of the operating system, over epoll(7). It tells no content, and counts its faults.
 ghost use Rattle.std.specs.Prelude.{◌≡◌, ◌≤◌, IfOk, OnErr};
-ghost use Rattle.lsv_words.specs.Causes.{HasRisen};
+ghost use Rattle.lsv_defs.specs.Causes.{HasRisen};
 ghost use Rattle.lsv_real.specs.UntoldPort.{untold_port, ledger_of};
 
 mod accepted;

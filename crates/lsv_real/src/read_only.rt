@@ -1,6 +1,6 @@
 // The disk of the operating system, of which nothing is changed. It tells no content, and counts its faults.
 ghost use Rattle.std.specs.Prelude.{◌≤◌, ◌≡◌, IfOk, OnErr, length};
-ghost use Rattle.lsv_words.specs.Causes.{HasRisen};
+ghost use Rattle.lsv_defs.specs.Causes.{HasRisen};
 ghost use Rattle.lsv_real.specs.Untold.{untold};
 
 use crate::call::Call;

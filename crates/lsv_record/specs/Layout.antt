@@ -1,6 +1,6 @@
 -- The layout of records in the files of a log, and what a layout is read as.
 use Rattle.std.specs.Prelude.{◌≡◌, ℕ, ◌+◌, ◌^◌, ◌<◌, ◌≤◌, List, length, All}
-use Rattle.lsv_words.specs.Pieces.{IsPrefix}
+use Rattle.lsv_defs.specs.Pieces.{IsPrefix}
 use Rattle.lsv_record.specs.declared.laid.Laid.{Laid}
 use Rattle.lsv_record.specs.declared.log.LayFault.{LayFault}
 use Rattle.lsv_record.specs.declared.log.LayFault.TheVariants as faults

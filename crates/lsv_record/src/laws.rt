@@ -1,7 +1,7 @@
 //! Laws of the definitions that the contracts of this crate cite. They do nothing when they run.
 
 ghost use Rattle.std.specs.Prelude.{◌≡◌, ◌≢◌, ◌↔◌, ℕ, ◌+◌, ◌^◌, ◌<◌, ◌≤◌, ◌⊎◌, List, [], ◌∷◌, ◌++◌, length, take, drop, map, Bool, All, Some, None, IsTrue};
-ghost use Rattle.lsv_words.specs.Pieces.{IsPrefix};
+ghost use Rattle.lsv_defs.specs.Pieces.{IsPrefix};
 ghost use Rattle.lsv_record.specs.Layout.{Begins, stream_in, IsLayout, layout_of, IsRead, Fails};
 ghost use Rattle.lsv_record.specs.Lines.{IsLineAt, IsBadAt, IsWindow, OneBegins};
 ghost use Rattle.lsv_record.specs.Points.{IsFirst, first, kept, cut};

@@ -1,6 +1,6 @@
 ghost use Rattle.std.specs.Prelude.{◌≡◌, ◌+◌, ◌^◌, ◌<◌, ◌≤◌, ◌++◌, ◌∷◌, [], length, drop, IfOk, OnOk, OnErr};
 ghost use Rattle.std.specs.Fmt.{decimal};
-ghost use Rattle.lsv_words.specs.Pieces.{IsPrefix};
+ghost use Rattle.lsv_defs.specs.Pieces.{IsPrefix};
 ghost use Rattle.lsv_record.specs.Records.{line_of, fields_of, last_digits};
 
 use crate::Record;

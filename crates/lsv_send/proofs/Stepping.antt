@@ -13,8 +13,8 @@ use Rattle.lsv_iolog.specs.declared.fault.LogFault.{LogFault}
 use Rattle.lsv_iolog.specs.declared.fault.LogFault.TheVariants as logs
 use Rattle.lsv_msg.specs.declared.messages.ClientMessage.{ClientMessage}
 use Rattle.lsv_msg.specs.declared.messages.ServerMessage.{ServerMessage}
-use Rattle.lsv_words.specs.Causes.{HasRisen}
-use Rattle.lsv_words.specs.Pieces.{IsPrefix}
+use Rattle.lsv_defs.specs.Causes.{HasRisen}
+use Rattle.lsv_defs.specs.Pieces.{IsPrefix}
 use Rattle.lsv_record.specs.declared.records.Record.{Record}
 use Rattle.lsv_send.specs.Handing.{CanRecord, HandsOut, HasNoPoint, IsTaken, Source, TakesAfter, TakesEach}
 use Rattle.lsv_send.specs.Faults.{IsCaused, IsOfMessage, IsStuck, IsUntaken, knows}

@@ -24,7 +24,7 @@ use Rattle.lsv_link.specs.declared.connection.Connection.{Connection}
 use Rattle.lsv_msg.specs.declared.messages.ServerMessage.{ServerMessage}
 use Rattle.lsv_record.specs.Records.{elapsed}
 use Rattle.lsv_record.specs.declared.records.Record.{Record}
-use Rattle.lsv_words.specs.Causes.{HasRisen}
+use Rattle.lsv_defs.specs.Causes.{HasRisen}
 use Rattle.lsv_send.specs.Handing.{HasNoPoint, HasWaited, SaysAt, Wanting, WantsEach, is_there, said_at}
 use Rattle.lsv_send.specs.Judging.{is_done, is_over, is_silent}
 use Rattle.lsv_send.specs.Lines.{lines_of}

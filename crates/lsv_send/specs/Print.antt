@@ -1,6 +1,6 @@
 -- For private clauses: how much of a line was printed when a message wasn't taken.
 use Rattle.std.specs.Prelude.{◌≡◌, ℕ, List, ◌++◌, Option, Some}
-use Rattle.lsv_words.specs.Pieces.{IsPrefix}
+use Rattle.lsv_defs.specs.Pieces.{IsPrefix}
 use Rattle.lsv_send.specs.declared.fault.SendFault.{SendFault}
 use Rattle.lsv_send.specs.declared.fault.SendFault.TheVariants.{Log, Sink, Strange, LongId, NoMem}
 

@@ -17,7 +17,7 @@ use Rattle.lsv_msg.specs.declared.messages.ServerMessage.{ServerMessage}
 use Rattle.lsv_playback.specs.Playing.{IsOpened}
 use Rattle.lsv_record.specs.declared.records.Record.{Record}
 use Rattle.lsv_send_args.specs.Request.{Asked, Sending}
-use Rattle.lsv_words.specs.Pieces.{IsPrefix}
+use Rattle.lsv_defs.specs.Pieces.{IsPrefix}
 use Rattle.lsv_send.specs.Faults.{HandsUntil}
 use Rattle.lsv_send.specs.Handing.{Far, HandsOut, Source, TakesEach, Wanting, WantsEach, is_there}
 use Rattle.lsv_send.specs.Judging.{is_silent}

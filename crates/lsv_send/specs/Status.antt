@@ -8,7 +8,7 @@ use Rattle.lsv_dialogue.specs.declared.ends.TalkFault.TheVariants as talks
 use Rattle.lsv_iolog.specs.declared.fault.LogFault.{LogFault}
 use Rattle.lsv_iolog.specs.declared.fault.LogFault.TheVariants as logs
 use Rattle.lsv_link.specs.Link.{Continues, LinkCounts}
-use Rattle.lsv_words.specs.Causes.{HasRisen}
+use Rattle.lsv_defs.specs.Causes.{HasRisen}
 use Rattle.lsv_send.specs.declared.fault.SendFault.{SendFault}
 use Rattle.lsv_send.specs.declared.fault.SendFault.TheVariants as faults
 use Rattle.lsv_send.specs.declared.status.SendStatus.{SendStatus}

@@ -12,8 +12,8 @@ use Rattle.lsv_msg.specs.declared.messages.ClientMessage.{ClientMessage}
 use Rattle.lsv_record.specs.Records.{elapsed}
 use Rattle.lsv_record.specs.declared.records.Record.{Record}
 use Rattle.lsv_transcript.specs.Transcript.{ending}
-use Rattle.lsv_words.specs.Causes.{HasRisen}
-use Rattle.lsv_words.specs.Pieces.{IsPrefix}
+use Rattle.lsv_defs.specs.Causes.{HasRisen}
+use Rattle.lsv_defs.specs.Pieces.{IsPrefix}
 use Rattle.lsv_send.specs.Faults.{HandsUntil}
 use Rattle.lsv_send.specs.Handing.{Far, HandsOut, HasNoPoint, IsExitBy, Source, TakesEach}
 use Rattle.lsv_send.specs.Judging.{is_done}

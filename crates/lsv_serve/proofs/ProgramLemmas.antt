@@ -1,7 +1,7 @@
 -- A run of the program: its cause and its places by its status.
 use Rattle.std.proofs.Common.{◌≡◌, ◌⊎◌, inl, inr, List, ℕ, None, refl, sym, subst}
 use Rattle.lsv_conf.specs.Lines.{Placed, first_refused}
-use Rattle.lsv_words.specs.Causes.{HasRisen}
+use Rattle.lsv_defs.specs.Causes.{HasRisen}
 use Rattle.lsv_disk.specs.View.{DiskView, Image, IsCrashImage}
 use Rattle.lsv_machine.specs.Machine.{Settings}
 use Rattle.lsv_serve.specs.declared.status.Status.{Status}

@@ -1,6 +1,6 @@
 -- The start of a run: the places that the disk is given, a store that isn't opened, and a run that did nothing.
 use Rattle.std.proofs.Common.{◌≡◌, ◌≢◌, ◌≤◌, ◌⊎◌, inl, inr, [], List, map, ℕ, Bool, Option, None, Ok, refl, sym, ap, subst, ◌∙◌, append-nil, arith}
-use Rattle.lsv_words.specs.Causes.{HasRisen}
+use Rattle.lsv_defs.specs.Causes.{HasRisen}
 use Rattle.lsv_disk.specs.Throughout.{Jointly, Throughout}
 use Rattle.lsv_disk.specs.View.{DiskView, Image, IsCrashImage, IsLeftAlone, IsUntouched, Places}
 use Rattle.lsv_disk.specs.declared.file.FileId.{FileId}

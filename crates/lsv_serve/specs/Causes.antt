@@ -1,6 +1,6 @@
 -- Why a run ended as it did.
 use Rattle.std.specs.Prelude.{◌≡◌, ◌≤◌, ◌⊎◌, ℕ, List, Some, None, option_map}
-use Rattle.lsv_words.specs.Causes.{HasRisen}
+use Rattle.lsv_defs.specs.Causes.{HasRisen}
 use Rattle.lsv_conf.specs.Lines.{Placed, first_refused}
 use Rattle.lsv_conf.specs.Settings.{told}
 use Rattle.lsv_disk.specs.View.{DiskView, IsCrashImage}

@@ -1,8 +1,8 @@
 -- For proofs of a run under way: what its reads have made so far.
 use Rattle.std.specs.Prelude.{◌≡◌, ◌≤◌, ◌<◌, ◌-◌, ◌^◌, ◌⊎◌, ◌++◌, ℕ, Bool, true, false, List, [], ◌∷◌, length, map, IsSome}
 use Rattle.std.specs.List.{AllByRecursion, concat}
-use Rattle.lsv_words.specs.Causes.{HasRisen}
-use Rattle.lsv_words.specs.Pieces.{IsPrefix}
+use Rattle.lsv_defs.specs.Causes.{HasRisen}
+use Rattle.lsv_defs.specs.Pieces.{IsPrefix}
 use Rattle.lsv_base.specs.Time.{nanos_of}
 use Rattle.lsv_base.specs.declared.time.TimeSpec.{TimeSpec}
 use Rattle.lsv_wire.specs.Frame.{frame_of}

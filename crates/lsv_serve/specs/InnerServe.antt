@@ -1,8 +1,8 @@
 -- For proofs of a run of `serve` or `load`: ports as posts, and how its end is told.
 use Rattle.std.specs.Prelude.{◌≡◌, ◌⊎◌, ◌++◌, ◌∷◌, ℕ, List, [], Some, false, length, map, slice_get}
 use Rattle.std.proofs.Math.ListN.{get_or}
-use Rattle.lsv_words.specs.Causes.{HasRisen}
-use Rattle.lsv_words.specs.Pieces.{IsPrefix}
+use Rattle.lsv_defs.specs.Causes.{HasRisen}
+use Rattle.lsv_defs.specs.Pieces.{IsPrefix}
 use Rattle.lsv_disk.specs.View.{DiskView, IsLeftAlone}
 use Rattle.lsv_port.specs.Port.{fresh_link}
 use Rattle.lsv_session.specs.declared.job.Job.{Job}

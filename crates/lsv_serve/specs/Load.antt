@@ -1,7 +1,7 @@
 -- A run of the command `load`: the generated conversations are served, and the summary of their logs is put.
 use Rattle.std.specs.Prelude.{◌≡◌, ◌++◌, ℕ, List, [], Option, None}
-use Rattle.lsv_words.specs.Causes.{HasRisen}
-use Rattle.lsv_words.specs.Pieces.{IsPrefix}
+use Rattle.lsv_defs.specs.Causes.{HasRisen}
+use Rattle.lsv_defs.specs.Pieces.{IsPrefix}
 use Rattle.lsv_conf.specs.Lines.{Placed, first_refused}
 use Rattle.lsv_disk.specs.View.{DiskView, IsLeftAlone}
 use Rattle.lsv_machine.specs.Machine.{Settings}

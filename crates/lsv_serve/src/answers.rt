@@ -1,8 +1,8 @@
 //! What is said to the connection, as bytes.
 
 ghost use Rattle.std.specs.Prelude.{◌≡◌, ◌≤◌, ◌&&◌, ◌++◌, ◌∷◌, [], ℕ, List, OnOk, OnErr};
-ghost use Rattle.lsv_words.specs.Causes.{HasRisen};
-ghost use Rattle.lsv_words.specs.Pieces.{IsPrefix};
+ghost use Rattle.lsv_defs.specs.Causes.{HasRisen};
+ghost use Rattle.lsv_defs.specs.Pieces.{IsPrefix};
 ghost use Rattle.lsv_wire.specs.Frame.{frame_of};
 ghost use Rattle.lsv_msg.specs.Messages.{server_bytes};
 ghost use Rattle.lsv_session.specs.Connections.{same, server_hello};

@@ -5,7 +5,7 @@ ghost use Rattle.lsv_args.specs.Reading as told;
 ghost use Rattle.lsv_args.specs.Reading.{Asked, IsInRange, Load, Once, Relay, Serve, asked_in};
 ghost use Rattle.lsv_conf.specs.Lines.{first_refused};
 ghost use Rattle.lsv_conf.specs.Settings.{settings_in};
-ghost use Rattle.lsv_words.specs.Causes.{HasRisen};
+ghost use Rattle.lsv_defs.specs.Causes.{HasRisen};
 ghost use Rattle.lsv_event.specs.declared.event.Kind.TheVariants as kinds;
 ghost use Rattle.lsv_lane.specs.Store.{IsFresh};
 ghost use Rattle.lsv_post.specs.Ports.{IsUnopened};

@@ -5,7 +5,7 @@ use Rattle.std.proofs.Math.ListN.{set}
 use Rattle.std.proofs.lemmas.Option.{slice_get-get_or, slice_get_within}
 use Rattle.lsv_reactor.proofs.Own.{EqOr.equal, EqOr.unequal, eq_or}
 use Rattle.lsv_reactor.proofs.Places.{set_here, set_there}
-use Rattle.lsv_words.specs.Causes.{HasRisen}
+use Rattle.lsv_defs.specs.Causes.{HasRisen}
 use Rattle.lsv_port.specs.Ledger.{Continues, Listening, WasAsked}
 use Rattle.lsv_links.specs.Views.{PortView}
 use Rattle.lsv_reactor.specs.Served.{KeepPorts, PutsAll}

@@ -1,7 +1,7 @@
 -- Which links of a server are served to their end, and how: each over which a legal conversation comes that opens a log, where nothing is in its way.
 use Rattle.std.specs.Prelude.{◌≡◌, ◌≤◌, ◌<◌, ◌++◌, ℕ, List, [], ◌∷◌, map, Some, Contains}
 use Rattle.std.specs.List.{flat_map}
-use Rattle.lsv_words.specs.Causes.{HasRisen}
+use Rattle.lsv_defs.specs.Causes.{HasRisen}
 use Rattle.lsv_disk.specs.View.{DiskView}
 use Rattle.lsv_disk.specs.declared.file.FileId.{FileId}
 use Rattle.lsv_iolog.specs.Recovered.{Replays}

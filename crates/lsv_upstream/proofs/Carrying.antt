@@ -6,7 +6,7 @@ use Rattle.std.specs.Int.{w32, from_be_bytes, to_be_bytes}
 use Rattle.std.proofs.lemmas.Bool.{cases_lt}
 use Rattle.std.proofs.lemmas.List.{append-nil, length-append, take-append-le}
 use Rattle.std.proofs.lemmas.List.Concat.{flat_map-cons}
-use Rattle.lsv_words.specs.Pieces.{IsPrefix}
+use Rattle.lsv_defs.specs.Pieces.{IsPrefix}
 use Rattle.lsv_wire.specs.Frame.{IsMessage, IsPartial, frame_of, stated_length}
 use Rattle.lsv_wire.proofs.Streams.{stated_length-frame_of}
 use Rattle.lsv_msg.specs.Fitting.{FitsClient}

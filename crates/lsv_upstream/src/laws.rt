@@ -28,7 +28,7 @@ ghost use Rattle.lsv_upstream.specs.Relayed.{IsAcknowledged, IsRelayed, Visit, a
 ghost use Rattle.lsv_upstream.specs.Runs.{RunsOn, ServerRun, history_at};
 ghost use Rattle.lsv_upstream.specs.Sent.{BeginsAlike};
 ghost use Rattle.lsv_wire.specs.Frame.{IsMessage, frame_of};
-ghost use Rattle.lsv_words.specs.Pieces.{IsPrefix};
+ghost use Rattle.lsv_defs.specs.Pieces.{IsPrefix};
 
 /// A relayed log is held, if a commit point at the elapsed time of its records comes to a connection of the relay that
 /// writes it: what the upstream was sent of it is a prefix of the records, and they are promised through the first that

@@ -11,7 +11,7 @@ use Rattle.lsv_wire.specs.declared.field.TheConstants.{LAST_FIELD_NUMBER}
 use Rattle.lsv_wire.specs.Varint.{varint}
 use Rattle.lsv_wire.specs.Fields.{◌>>=◌, varint_at, after_bytes, value_at, field_at, next_field, with_field, step_within, fields_from, number_field, bytes_field}
 use Rattle.lsv_wire.proofs.Lists.{fields_from-step}
-use Rattle.lsv_words.specs.Pieces.{piece}
+use Rattle.lsv_defs.specs.Pieces.{piece}
 use Rattle.lsv_wire.proofs.Steps.{next_field-end}
 use Rattle.lsv_wire.proofs.Varints.{varint_at-forward}
 use Rattle.lsv_wire.proofs.ReadBack.{varint_at-varint}

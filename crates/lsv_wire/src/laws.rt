@@ -1,7 +1,7 @@
 //! Laws of the definitions that the contracts of this crate cite. They do nothing when they run.
 
 ghost use Rattle.std.specs.Prelude.{◌≡◌, ◌↔◌, ◌⊎◌, ℕ, ◌+◌, ◌-◌, ◌≤◌, ◌<◌, ◌^◌, List, [], ◌∷◌, ◌++◌, length, drop, All, Option, Some, None, Ok};
-ghost use Rattle.lsv_words.specs.Pieces.{piece};
+ghost use Rattle.lsv_defs.specs.Pieces.{piece};
 ghost use Rattle.lsv_wire.specs.Frame.{frame_of, IsMessage, framed, Cut, Over};
 ghost use Rattle.lsv_wire.specs.Varint.{varint};
 ghost use Rattle.lsv_wire.specs.Fields.{varint_at, next_field, AreFields, fields_from, with_field, number_field, bytes_field};

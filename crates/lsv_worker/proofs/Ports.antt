@@ -1,6 +1,6 @@
 -- What calls of a port say one after another.
 use Rattle.std.proofs.Common.{◌≡◌, ◌≢◌, ◌⊎◌, ℕ, ◌<◌, ◌≤◌, ◌-◌, ◌^◌, ◌||◌, Bool, true, false, refl, sym, ap, subst, ◌∙◌, inl, inr, ⊎_elim, arith}
-use Rattle.lsv_words.specs.Causes.{HasRisen}
+use Rattle.lsv_defs.specs.Causes.{HasRisen}
 use Rattle.lsv_port.specs.Ledger.{Continues, HasLinkCause, PortLedger}
 use Rattle.lsv_port.specs.Port.{Changes, IsOwed, LinkState, PortState, closed, is_over}
 use Rattle.lsv_worker.specs.Outgoing.{Alone, SameInput}

@@ -2,7 +2,7 @@
 use Rattle.std.proofs.Common.{◌≡◌, ◌≢◌, ℕ, ◌≤◌, List, [], ◌∷◌, ◌++◌, length, take, drop, refl, sym, ap, subst, ◌∙◌, append_assoc}
 use Rattle.std.proofs.lemmas.List.{append-nil, take-append-drop}
 use Rattle.std.proofs.Math.Seq.{drop-nil}
-use Rattle.lsv_words.specs.Pieces.{IsPrefix}
+use Rattle.lsv_defs.specs.Pieces.{IsPrefix}
 use Rattle.lsv_port.specs.Port.{Changes, LinkState, PortState, after_write}
 use Rattle.lsv_port.specs.declared.port.Gave.TheVariants as gave
 use Rattle.lsv_worker.specs.Outgoing.{PutOf, SameInput, Speaks, Writes}

@@ -1,7 +1,7 @@
 -- What one connection stands for: its link of the port, its jobs, its replies.
 use Rattle.std.specs.Prelude.{◌≡◌, ◌≢◌, ◌⊎◌, ℕ, zero, suc, ◌<◌, ◌≤◌, ◌+◌, ◌%◌, ◌&&◌, ◌||◌, not, Bool, true, false, List, [], ◌∷◌, ◌++◌, length, map}
 use Rattle.std.specs.List.{All}
-use Rattle.lsv_words.specs.Causes.{HasRisen}
+use Rattle.lsv_defs.specs.Causes.{HasRisen}
 use Rattle.lsv_port.specs.Ledger.{PortLedger}
 use Rattle.lsv_port.specs.Port.{IsOwed, LinkState, PortState}
 use Rattle.lsv_session.specs.Transcript.{answers}

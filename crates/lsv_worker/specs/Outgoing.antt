@@ -1,6 +1,6 @@
 -- From the replies to a connection to the bytes on its link.
 use Rattle.std.specs.Prelude.{◌≡◌, ◌≢◌, ◌⊎◌, ℕ, Bool, true, false, List, [], ◌∷◌, ◌++◌}
-use Rattle.lsv_words.specs.Pieces.{IsPrefix}
+use Rattle.lsv_defs.specs.Pieces.{IsPrefix}
 use Rattle.lsv_port.specs.Port.{LinkState, PortState}
 use Rattle.lsv_session.specs.Connections.{same}
 use Rattle.lsv_session.specs.declared.connection.ConnId.{ConnId}

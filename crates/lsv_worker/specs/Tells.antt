@@ -1,7 +1,7 @@
 -- What comes of a connection that has ended, in the words of its bytes, jobs and replies.
 use Rattle.std.specs.Prelude.{◌≡◌, ◌%◌, ℕ, Some, List}
 use Rattle.std.specs.List.{Contains}
-use Rattle.lsv_words.specs.Pieces.{IsPrefix}
+use Rattle.lsv_defs.specs.Pieces.{IsPrefix}
 use Rattle.lsv_port.specs.Port.{LinkState, PortState}
 use Rattle.lsv_session.specs.Transcript.{answers, bodies_of}
 use Rattle.lsv_session.specs.declared.connection.ConnId.{ConnId}

@@ -1,7 +1,7 @@
 //! Where a worker puts jobs.
 
 ghost use Rattle.std.specs.Prelude.{◌≡◌, ◌≢◌, ℕ, ◌<◌, ◌≤◌, List, ◌++◌, ◌∷◌, [], OnOk, OnErr, IfErr};
-ghost use Rattle.lsv_words.specs.Causes.{HasRisen};
+ghost use Rattle.lsv_defs.specs.Causes.{HasRisen};
 ghost use Rattle.lsv_session.specs.declared.job.Job.{Job};
 
 use lsv_session::{Full, Job};

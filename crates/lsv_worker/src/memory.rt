@@ -1,7 +1,7 @@
 //! An inbox in memory, of one lane.
 
 ghost use Rattle.std.specs.Prelude.{◌≡◌, ℕ, ◌<◌, ◌≤◌, ◌==◌, ◌↔◌, [], ◌∷◌, ◌++◌, length, vec_capacity, IfOk, IfErr, IsTrue, OnOk, OnErr, refl};
-ghost use Rattle.lsv_words.specs.Causes.{HasRisen};
+ghost use Rattle.lsv_defs.specs.Causes.{HasRisen};
 ghost use Rattle.lsv_session.specs.declared.job.Job.{Job};
 ghost use Rattle.lsv_links.specs.Lanes.{one_lane};
 ghost use Rattle.lsv_worker.specs.Memory.{Admits, HasRoom, IsOrderly, KeepsOrder, count_in, order_here, order_through, waiting};

@@ -1,7 +1,7 @@
 //! A disk in memory that tells nothing of its content, as a real one.
 
 ghost use Rattle.std.specs.Prelude.{◌≤◌, ◌≡◌, OnErr};
-ghost use Rattle.lsv_words.specs.Causes.{HasRisen};
+ghost use Rattle.lsv_defs.specs.Causes.{HasRisen};
 ghost use Rattle.lsvt_conversations.specs.Untold.{untold};
 
 use lsv_base::NoMem;

@@ -1,7 +1,7 @@
 //! A disk in memory whose calls fail, or end, where they are told to.
 
 ghost use Rattle.std.specs.Prelude.{◌≤◌, ◌≡◌, OnErr};
-ghost use Rattle.lsv_words.specs.Causes.{HasRisen};
+ghost use Rattle.lsv_defs.specs.Causes.{HasRisen};
 ghost use Rattle.lsvt_doubles.specs.Untold.{untold};
 
 use lsv_base::NoMem;

@@ -1,7 +1,7 @@
 -- What a call on the disk in memory leaves alone, in the words of the trait.
 use Rattle.std.proofs.Common.{◌≡◌, inl, inr, ℕ, ◌+◌, ◌≤◌, List, Option, Result, Ok, Err, OnErr, IsErr}
 use Rattle.std.proofs.lemmas.Bool.{false≢true}
-use Rattle.lsv_words.specs.Causes.{HasRisen}
+use Rattle.lsv_defs.specs.Causes.{HasRisen}
 use Rattle.lsv_disk.specs.declared.file.FileId.{FileId}
 use Rattle.lsv_disk.specs.declared.memory.call.Call.{Call}
 use Rattle.lsv_disk.specs.declared.memory.call.Effect.{Effect}

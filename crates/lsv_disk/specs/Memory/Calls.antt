@@ -9,7 +9,7 @@ use Rattle.lsv_disk.specs.declared.memory.call.Effect.{Effect}
 use Rattle.lsv_disk.specs.declared.memory.call.Effect.TheVariants.{Held, Made, NotMade, NotRead, Written, NotWritten, Synced, NotSynced}
 use Rattle.lsv_disk.specs.Bytes.{written, Torn}
 use Rattle.lsv_disk.specs.View.{Image, Places, DiskView}
-use Rattle.lsv_words.specs.Causes.{HasRisen}
+use Rattle.lsv_defs.specs.Causes.{HasRisen}
 use Rattle.lsv_disk.specs.Files.{same_file}
 
 -- what the calls on a file did, the last one first

@@ -2,7 +2,7 @@
 use Rattle.std.specs.Prelude.{◌≡◌, ◌⊎◌, ℕ, nat_eq, ◌+◌, ◌≤◌, Bool, true, false, List, length, take, map, min, if◌then◌else◌, Option, Some, None}
 use Rattle.std.specs.List.{Contains, slice_get}
 use Rattle.std.specs.Map.{lookup}
-use Rattle.lsv_words.specs.Pieces.{IsPrefix}
+use Rattle.lsv_defs.specs.Pieces.{IsPrefix}
 use Rattle.lsv_base.specs.Script.{one_more}
 use Rattle.lsv_port.specs.declared.memory.asked.Asked.{Asked}
 use Rattle.lsv_port.specs.declared.memory.link.MemLink.{MemLink}

@@ -1,6 +1,6 @@
 -- How far the layout of a log has been read.
 use Rattle.std.specs.Prelude.{◌≡◌, ◌+◌, ◌^◌, ◌<◌, ◌++◌, length, get_or}
-use Rattle.lsv_words.specs.Pieces.{IsPrefix}
+use Rattle.lsv_defs.specs.Pieces.{IsPrefix}
 use Rattle.lsv_record.specs.declared.laid.Laid.{Laid}
 use Rattle.lsv_record.specs.declared.log.Reader.{Reader}
 use Rattle.lsv_record.specs.declared.records.Record.{Record}

@@ -9,7 +9,7 @@ use Rattle.lsv_bundle.specs.Body.{length_of}
 use Rattle.lsv_record.specs.declared.records.Record.{Record}
 use Rattle.lsv_record.specs.declared.records.Shaped.{Shaped}
 use Rattle.lsv_record.specs.Lines.{IsLineAt}
-use Rattle.lsv_words.specs.Pieces.{piece}
+use Rattle.lsv_defs.specs.Pieces.{piece}
 use Rattle.lsv_record.specs.Records.{IsGood, event_of}
 use Rattle.lsv_record.specs.Tally.{Totals, with_line, told_count}
 use Rattle.lsv_iolog.specs.declared.fault.LogFault.TheVariants as logs

@@ -1,6 +1,6 @@
 use Rattle.std.proofs.Common.{replicate, ℕ, subst, ◌≡◌, ◌++◌, ◌-◌, drop, length}
 use Rattle.std.proofs.lemmas.List.{length-replicate}
-use Rattle.lsv_words.specs.Pieces.{piece}
+use Rattle.lsv_defs.specs.Pieces.{piece}
 use Rattle.lsv_disk.specs.Bytes.{bytes_of}
 use Rattle.lsv_journal.proofs.Fronts.{body_read}
 use Rattle.lsv_journal.proofs.gates.body_before.Goals as goal
