@@ -15,7 +15,7 @@ use Rattle.lsv_machine.proofs.RunLaws.{one_writer}
 use Rattle.lsv_keeper.specs.Reading.{reading_of}
 use Rattle.lsv_keeper.specs.Represents.{Free, LogIs}
 use Rattle.lsv_keeper.specs.Value.{KeeperView}
-use Rattle.lsv_turns.specs.Turns.{LaneTurn}
+use Rattle.lsv_turn.specs.Turns.{LaneTurn}
 use Rattle.lsv_lane.specs.InnerLane.{Standing}
 use Rattle.lsv_lane.specs.Store.{Conforms, IsFresh, KeepsStore}
 

@@ -22,8 +22,8 @@ use Rattle.lsv_machine.proofs.Choices.{SameOr.alike, SameOr.apart, same_or}
 use Rattle.lsv_machine.proofs.RunLaws.{starts_sound}
 use Rattle.lsv_machine.proofs.Silent.{none_append, silence}
 use Rattle.lsv_keeper.specs.Value.{KeeperView}
-use Rattle.lsv_turns.specs.Turns as lane_turns
-use Rattle.lsv_turns.specs.Turns.{AreAskedIn, LaneTurn, NoneFor, jobs_in, replies_in}
+use Rattle.lsv_turn.specs.Turns as lane_turns
+use Rattle.lsv_turn.specs.Turns.{AreAskedIn, LaneTurn, NoneFor, jobs_in, replies_in}
 use Rattle.lsv_lane.specs.InnerLane.{Standing}
 use Rattle.lsv_lane.specs.Store.{AreTurns}
 use Rattle.lsv_lane.proofs.Silences.{Behind, BehindIn, behind_append, behind_in}

@@ -24,7 +24,7 @@ use Rattle.lsv_keeper.specs.Room.{IsRoomier}
 use Rattle.lsv_keeper.specs.Tails.{TurnGives}
 use Rattle.lsv_keeper.specs.Value.{AreLinked, AreWhole, IsResting, KeeperView, SameSet, event_line, settings_of}
 use Rattle.lsv_keeper.proofs.Causes.{all_as, failed_same, rose_first, rose_second}
-use Rattle.lsv_turns.specs.Turns.{LaneTurn, TapeTurn, all_taped, taped}
+use Rattle.lsv_turn.specs.Turns.{LaneTurn, TapeTurn, all_taped, taped}
 use Rattle.lsv_lane.specs.InnerLane.{IsMade, Standing}
 use Rattle.lsv_lane.specs.Store.{AreAnswered, IsAnswered, lane_settings}
 use Rattle.lsv_lane.proofs.TurnLists.{all_last, are_turns_last, taped_last}

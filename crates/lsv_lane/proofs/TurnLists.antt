@@ -3,7 +3,7 @@ use Rattle.std.proofs.Common.{◌≡◌, ◌++◌, ◌∷◌, [], List}
 use Rattle.std.specs.List.{AllByRecursion}
 use Rattle.std.proofs.lemmas.List.{map-append}
 use Rattle.lsv_machine.specs.Recovery.{Turn}
-use Rattle.lsv_turns.specs.Turns.{LaneTurn, all_taped, taped}
+use Rattle.lsv_turn.specs.Turns.{LaneTurn, all_taped, taped}
 use Rattle.lsv_lane.specs.Store.{AreTurns, IsTurn}
 
 pub all_last : {A : Type 0} (P : A → Type 0) (xs : List A) (x : A) → AllByRecursion P xs → P x → AllByRecursion P (xs ++ x ∷ [])

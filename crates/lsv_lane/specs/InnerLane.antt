@@ -9,7 +9,7 @@ use Rattle.lsv_keeper.specs.Causes.{HasFailed, StoreRose}
 use Rattle.lsv_keeper.specs.Reading.{reading_of}
 use Rattle.lsv_keeper.specs.Represents.{Represents}
 use Rattle.lsv_keeper.specs.Value.{IsResting, KeeperView, settings_of}
-use Rattle.lsv_turns.specs.Turns.{LaneTurn, TapeTurn, all_taped}
+use Rattle.lsv_turn.specs.Turns.{LaneTurn, TapeTurn, all_taped}
 use Rattle.lsv_lane.specs.Store.{AreAnswered, AreTimed, AreTurns}
 
 -- from what a lane begins: its settings, the texts of the run, and the disk and the tape as they were

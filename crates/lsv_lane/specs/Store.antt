@@ -20,7 +20,7 @@ use Rattle.lsv_machine.specs.Turns.{Happened, Happened.Begins}
 use Rattle.lsv_keeper.specs.Causes.{AnyIsOf, IsDeviceFault}
 use Rattle.lsv_keeper.specs.Reading.{reading_of}
 use Rattle.lsv_keeper.specs.Value.{event_line}
-use Rattle.lsv_turns.specs.Turns.{LaneTurn}
+use Rattle.lsv_turn.specs.Turns.{LaneTurn}
 
 -- ---- What is asked for
 

@@ -7,7 +7,7 @@ ghost use Rattle.lsv_keeper.specs.Opening.{IsStoreFault, KeepsEntry};
 ghost use Rattle.lsv_keeper.specs.Views.{view_of};
 ghost use Rattle.lsv_seq.specs.Drawn.{entry_at};
 ghost use Rattle.lsv_seq.specs.Value.{last_of};
-ghost use Rattle.lsv_turns.specs.Turns.{LaneTurn, all_taped};
+ghost use Rattle.lsv_turn.specs.Turns.{LaneTurn, all_taped};
 ghost use Rattle.lsv_lane.specs.InnerLane.{Begun, IsMade};
 ghost use Rattle.lsv_lane.specs.Store.{AreAnswered, AreTimed, IsFresh, KeepsStore, OwnerFailed, lane_settings};
 ghost use Rattle.lsv_keeper.specs.declared.fault.StoreFault.TheVariants as faults;
@@ -19,7 +19,7 @@ use lsv_hook::{Formatter, LineWriter};
 use lsv_keeper::{Keeper, StoreFault};
 use lsv_mask::{Prompt, Search};
 use lsv_session::{Job, Reply};
-use lsv_turns::{Lane, Tape};
+use lsv_turn::{Lane, Tape};
 use std::alloc::Global;
 
 /// The lane of a store: its keeper, and what it works with. Nothing else changes the lane's files meanwhile.

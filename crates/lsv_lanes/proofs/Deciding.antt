@@ -16,7 +16,7 @@ use Rattle.lsv_request.specs.declared.request.Request.TheVariants as request
 use Rattle.lsv_request.specs.declared.request.Restart.{Restart}
 use Rattle.lsv_session.specs.declared.job.Body.{Body}
 use Rattle.lsv_session.specs.declared.job.Body.TheVariants as body
-use Rattle.lsv_turns.specs.Turns.{EndsWithGone}
+use Rattle.lsv_turn.specs.Turns.{EndsWithGone}
 use Rattle.lsv_links.specs.Lanes.{is_hello, lane_by, lane_of, lane_of_log}
 use Rattle.lsv_machine.specs.Disks.{AsksToResume}
 use Rattle.lsv_machine.specs.Machine.{IsOfLane}

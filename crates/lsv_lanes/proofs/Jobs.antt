@@ -11,7 +11,7 @@ use Rattle.lsv_session.specs.declared.job.Body.TheVariants as body
 use Rattle.lsv_session.specs.declared.job.Job.{Job}
 use Rattle.lsv_session.specs.declared.reply.Reply.{Reply}
 use Rattle.lsv_session.proofs.Replies.{bodies_of-append}
-use Rattle.lsv_turns.specs.Turns.{EndsWithGone, LaneTurn, jobs_in, replies_in}
+use Rattle.lsv_turn.specs.Turns.{EndsWithGone, LaneTurn, jobs_in, replies_in}
 use Rattle.lsv_links.specs.Lanes.{lane_of, share}
 use Rattle.lsv_links.specs.Links.{AtMostStarved, Brings, IsServed, ServesLink, ServesPort, ServesPorts, conn_of}
 use Rattle.lsv_links.specs.Views.{PortView}

@@ -12,7 +12,7 @@ use Rattle.lsv_session.specs.declared.job.Body.{Body}
 use Rattle.lsv_session.specs.declared.job.Body.TheVariants as body
 use Rattle.lsv_session.specs.declared.job.Job.{Job}
 use Rattle.lsv_session.proofs.Replies.{bodies_of-append}
-use Rattle.lsv_turns.specs.Turns.{EndsWithGone}
+use Rattle.lsv_turn.specs.Turns.{EndsWithGone}
 use Rattle.lsv_links.specs.Lanes.{is_hello}
 use Rattle.lsv_machine.specs.Disks.{AsksInRun, AsksNow, AsksToResume}
 use Rattle.lsv_machine.specs.Failures.{Act, AsksFor, Step}

@@ -6,7 +6,7 @@ use Rattle.lsv_disk.specs.View.{DiskView}
 use Rattle.lsv_disk.specs.declared.file.FileId.{FileId}
 use Rattle.lsv_disk.specs.declared.file.Owner.TheVariants as owners
 use Rattle.lsv_session.specs.declared.connection.ConnId.{ConnId}
-use Rattle.lsv_turns.specs.Turns.{LaneTurn}
+use Rattle.lsv_turn.specs.Turns.{LaneTurn}
 use Rattle.lsv_links.specs.Links.{ServesPorts}
 use Rattle.lsv_links.specs.Views.{PortView}
 use Rattle.lsv_machine.specs.Disks.{AsksInRun, IsOfLaneStore, TouchesStore}

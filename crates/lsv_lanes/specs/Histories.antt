@@ -5,7 +5,7 @@ use Rattle.lsv_request.specs.declared.request.Restart.{Restart}
 use Rattle.lsv_session.specs.Transcript.{bodies_of}
 use Rattle.lsv_session.specs.declared.connection.ConnId.{ConnId}
 use Rattle.lsv_session.specs.declared.job.Job.{Job}
-use Rattle.lsv_turns.specs.Turns.{EndsWithGone, LaneTurn, jobs_in}
+use Rattle.lsv_turn.specs.Turns.{EndsWithGone, LaneTurn, jobs_in}
 use Rattle.lsv_machine.specs.Failures.{Act, AsksFor}
 use Rattle.lsv_machine.specs.History.{Ledger, writers}
 use Rattle.lsv_machine.specs.Machine.{IsOfLane, Machine, Settings}

@@ -4,7 +4,7 @@ use Rattle.lsv_session.specs.Transcript.{bodies_of}
 use Rattle.lsv_session.specs.declared.connection.ConnId.{ConnId}
 use Rattle.lsv_session.specs.declared.job.Body.{Body}
 use Rattle.lsv_session.specs.declared.job.Job.{Job}
-use Rattle.lsv_turns.specs.Turns.{EndsWithGone}
+use Rattle.lsv_turn.specs.Turns.{EndsWithGone}
 use Rattle.lsv_links.specs.Lanes.{is_hello, lane_of, share}
 use Rattle.lsv_machine.specs.Disks.{AsksToResume}
 

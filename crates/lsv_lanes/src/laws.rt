@@ -5,7 +5,7 @@ ghost use Rattle.lsv_disk.specs.declared.file.FileId.{FileId};
 ghost use Rattle.lsv_session.specs.Transcript.{AreFirst, bodies_of};
 ghost use Rattle.lsv_session.specs.declared.connection.ConnId.{ConnId};
 ghost use Rattle.lsv_session.specs.declared.job.Job.{Job};
-ghost use Rattle.lsv_turns.specs.Turns.{LaneTurn, jobs_in};
+ghost use Rattle.lsv_turn.specs.Turns.{LaneTurn, jobs_in};
 ghost use Rattle.lsv_links.specs.Links.{ServesPorts};
 ghost use Rattle.lsv_links.specs.Views.{PortView};
 ghost use Rattle.lsv_machine.specs.Disks.{AsksInRun, IsOfLaneStore, TouchesStore};

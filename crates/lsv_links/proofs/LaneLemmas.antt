@@ -5,7 +5,7 @@ use Rattle.lsv_session.specs.declared.job.Body.{Body}
 use Rattle.lsv_session.specs.declared.job.Body.TheVariants.{Gone}
 use Rattle.lsv_session.specs.declared.job.Job.{Job}
 use Rattle.lsv_session.specs.declared.reply.Reply.{Reply}
-use Rattle.lsv_turns.specs.Turns.{LaneTurn, jobs_in, replies_in}
+use Rattle.lsv_turn.specs.Turns.{LaneTurn, jobs_in, replies_in}
 use Rattle.lsv_links.specs.Lanes.{one_lane}
 use Rattle.lsv_links.specs.Links.{ServesBy, ServesLink}
 use Rattle.lsv_links.specs.Views.{PortView}

@@ -11,7 +11,7 @@ use Rattle.lsv_session.specs.declared.job.Body.TheVariants.{Bad, Gone, Msg}
 use Rattle.lsv_session.specs.declared.job.Fault.TheVariants as fault
 use Rattle.lsv_session.specs.declared.job.Job.{Job}
 use Rattle.lsv_session.specs.declared.reply.Reply.{Reply}
-use Rattle.lsv_turns.specs.Turns.{LaneTurn, jobs_in, replies_in, shuts}
+use Rattle.lsv_turn.specs.Turns.{LaneTurn, jobs_in, replies_in, shuts}
 use Rattle.lsv_links.specs.Lanes.{lane_of}
 use Rattle.lsv_links.specs.Views.{IsCrowded, LinkFailed, PortFailed, PortView}
 

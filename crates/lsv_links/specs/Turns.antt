@@ -3,7 +3,7 @@ use Rattle.std.specs.Prelude.{◌≡◌, ◌≤◌, ◌==◌, if◌then◌else�
 use Rattle.std.specs.List.{AllByRecursion}
 use Rattle.lsv_session.specs.declared.job.Job.{Job}
 use Rattle.lsv_session.specs.declared.reply.Reply.{Reply}
-use Rattle.lsv_turns.specs.Turns.{LaneTurn}
+use Rattle.lsv_turn.specs.Turns.{LaneTurn}
 
 -- the most jobs that come at once, and so of a turn
 abbrev pub most_jobs : ℕ

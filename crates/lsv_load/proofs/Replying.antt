@@ -23,7 +23,7 @@ use Rattle.lsv_machine.specs.Turns.{Happened, Tail, turn_of}
 use Rattle.lsv_machine.proofs.Choices.{SameOr.alike, SameOr.apart, same_or, same_refl}
 use Rattle.lsv_machine.proofs.RunLaws.{starts_sound}
 use Rattle.lsv_machine.proofs.Silent.{none_append, silence}
-use Rattle.lsv_turns.specs.Turns.{LaneTurn, NoneFor, jobs_in, replies_in}
+use Rattle.lsv_turn.specs.Turns.{LaneTurn, NoneFor, jobs_in, replies_in}
 use Rattle.lsv_lane.specs.Store.{KeepsStore}
 use Rattle.lsv_server.specs.Complete.{messages_of}
 use Rattle.lsv_server.proofs.Sent.{none_brought, replies_are}

@@ -7,7 +7,7 @@ use Rattle.lsv_port.specs.Memory.Numbers.{has}
 use Rattle.lsv_port.specs.Memory.Value.{PortValue, port_state}
 use Rattle.lsv_links.specs.Lanes.{one_lane}
 use Rattle.lsv_links.specs.Links as links
-use Rattle.lsv_turns.specs.Turns.{LaneTurn, jobs_in, replies_in}
+use Rattle.lsv_turn.specs.Turns.{LaneTurn, jobs_in, replies_in}
 use Rattle.lsv_load.specs.Runs.{ServesOne, view_of}
 
 one_number : (m n : ℕ) → (m == n) ≡ true → m ≡ n

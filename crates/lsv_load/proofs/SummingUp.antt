@@ -24,7 +24,7 @@ use Rattle.lsv_session.specs.declared.reply.Reply.{Reply}
 use Rattle.lsv_machine.specs.Legal.{IsLegal, whole_log}
 use Rattle.lsv_machine.specs.Machine.{Settings}
 use Rattle.lsv_machine.proofs.Choices.{same_true}
-use Rattle.lsv_turns.specs.Turns.{LaneTurn, jobs_in, replies_in}
+use Rattle.lsv_turn.specs.Turns.{LaneTurn, jobs_in, replies_in}
 use Rattle.lsv_lane.specs.Store.{KeepsStore}
 use Rattle.lsv_links.specs.Links.{Seats, conn_of}
 use Rattle.lsv_links.specs.Views.{LinkFailed}

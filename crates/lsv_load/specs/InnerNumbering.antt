@@ -1,6 +1,6 @@
 -- For proofs of a lane that notes numbers: what its turns have made so far.
 use Rattle.std.specs.Prelude.{◌≡◌, ℕ, Bool, false, List}
-use Rattle.lsv_turns.specs.Turns.{LaneTurn, replies_in}
+use Rattle.lsv_turn.specs.Turns.{LaneTurn, replies_in}
 use Rattle.lsv_load.specs.Numbers.{numbers_told}
 
 -- the turns made the lane, and unless one is lacking these are the numbers of which they told

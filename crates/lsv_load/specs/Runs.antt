@@ -17,7 +17,7 @@ use Rattle.lsv_session.specs.declared.job.Job.{Job}
 use Rattle.lsv_server.specs.Runs.{HasStoreCause, RunsStore}
 use Rattle.lsv_server.specs.declared.run.End.{End}
 use Rattle.lsv_server.specs.declared.run.End.TheVariants as ends
-use Rattle.lsv_turns.specs.Turns.{LaneTurn, TapeTurn, jobs_in, replies_in}
+use Rattle.lsv_turn.specs.Turns.{LaneTurn, TapeTurn, jobs_in, replies_in}
 use Rattle.lsv_load.specs.Faults.{HasReplayCause}
 use Rattle.lsv_load.specs.Load.{load_script}
 use Rattle.lsv_load.specs.Numbers.{numbers_told}

@@ -9,13 +9,13 @@ ghost use Rattle.lsv_port.specs.Memory.Value.{TellsScript, TellsSteps};
 ghost use Rattle.lsv_port.specs.Port.{PortState};
 ghost use Rattle.lsv_session.specs.Transcript.{AreJobs};
 ghost use Rattle.lsv_session.specs.declared.connection.ConnState.TheVariants.{Fresh};
-ghost use Rattle.lsv_turns.specs.Turns.{TapeTurn};
+ghost use Rattle.lsv_turn.specs.Turns.{TapeTurn};
 ghost use Rattle.lsv_load.specs.Load.{load_script, whole_sent};
 ghost use Rattle.lsv_load.specs.Logs.{bodies_of, log_at};
 ghost use Rattle.lsv_load.specs.Whole.{SumsUpAll};
 
 use lsv_disk::Disk;
-use lsv_turns::Tape;
+use lsv_turn::Tape;
 
 /// The script of a load sends conversation i on link i, for each i from 1 to the count, and nothing on any other link. Where
 /// a port that follows it told Stop, it took all of the script.

@@ -1,14 +1,14 @@
 //! A lane that notes of which logs its replies tell.
 
 ghost use Rattle.std.specs.Prelude.{◌≡◌, ◌++◌, [], List, IfOk, OnOk};
-ghost use Rattle.lsv_turns.specs.Turns.{LaneTurn, replies_in};
+ghost use Rattle.lsv_turn.specs.Turns.{LaneTurn, replies_in};
 ghost use Rattle.lsv_load.specs.InnerNumbering.{IsNoting};
 ghost use Rattle.lsv_load.specs.Numbers.{number_told, numbers_told};
 
 use lsv_base::{LogNo, NoMem, TimeSpec};
 use lsv_msg::ServerMessage;
 use lsv_session::{Job, Reply, ReplyBody};
-use lsv_turns::Lane;
+use lsv_turn::Lane;
 use std::alloc::Global;
 
 /// A lane over another, whose turns it does. It notes the number of each log of which they tell.

@@ -9,7 +9,7 @@ ghost use Rattle.lsv_links.specs.Turns.{AreSized};
 ghost use Rattle.lsv_port.specs.Memory.Value.{port_state};
 ghost use Rattle.lsv_server.specs.Runs.{RunsStore};
 ghost use Rattle.lsv_server.specs.declared.run.End.TheVariants as ends;
-ghost use Rattle.lsv_turns.specs.Turns.{LaneTurn, replies_in};
+ghost use Rattle.lsv_turn.specs.Turns.{LaneTurn, replies_in};
 ghost use Rattle.lsv_load.specs.Numbers.{numbers_told};
 ghost use Rattle.lsv_gen.specs.Load.{conversation};
 ghost use Rattle.lsv_load.specs.Runs.{IsSumOf, LeavesLoad, PutsOne, RunsLoad, ServesLoad, ServesOne, ended_by};
@@ -28,7 +28,7 @@ use lsv_port::MemPort;
 use lsv_post::WorkerPost;
 use lsv_reactor::{PortsEnd, Post, serve};
 use lsv_server::Plan;
-use lsv_turns::{Lane, Tape};
+use lsv_turn::{Lane, Tape};
 use std::alloc::Global;
 use std::slice;
 

@@ -8,7 +8,7 @@ use Rattle.lsv_session.specs.Transcript.AreJobs.{Rest, Message, NoMessage, TooLo
 use Rattle.lsv_session.specs.declared.job.Body.{Body}
 use Rattle.lsv_session.specs.declared.job.Body.TheVariants.{Msg, Gone}
 use Rattle.lsv_session.proofs.Jobs.{cut_message, cut_nothing}
-use Rattle.lsv_turns.specs.Turns.{EndsWithGone}
+use Rattle.lsv_turn.specs.Turns.{EndsWithGone}
 use Rattle.lsv_links.specs.Lanes.{share}
 use Rattle.lsv_links.proofs.PrefixLemmas.{brings_first}
 use Rattle.lsv_links.specs.Links.{AtMostStarved, Brings, BringsSome, is_bad, was_bad}

@@ -11,7 +11,7 @@ use Rattle.lsv_session.specs.Transcript.{AreJobs}
 use Rattle.lsv_session.specs.declared.job.Body.{Body}
 use Rattle.lsv_session.specs.declared.job.Job.{Job}
 use Rattle.lsv_session.specs.declared.reply.Reply.{Reply}
-use Rattle.lsv_turns.specs.Turns.{AreAsked}
+use Rattle.lsv_turn.specs.Turns.{AreAsked}
 use Rattle.lsv_links.specs.Lanes.{one_lane}
 use Rattle.lsv_worker.specs.Links.{IsTold}
 use Rattle.lsv_worker.specs.Memory.{waiting}

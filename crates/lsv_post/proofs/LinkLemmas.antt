@@ -16,7 +16,7 @@ use Rattle.lsv_session.specs.declared.job.Body.TheVariants.{Bad, Gone}
 use Rattle.lsv_session.specs.declared.job.Fault.TheVariants as faults
 use Rattle.lsv_session.specs.declared.job.Job.{Job}
 use Rattle.lsv_session.specs.declared.reply.Reply.{Reply}
-use Rattle.lsv_turns.specs.Turns.{AreAsked, EndsWithGone, shuts}
+use Rattle.lsv_turn.specs.Turns.{AreAsked, EndsWithGone, shuts}
 use Rattle.lsv_links.specs.Lanes.{lane_of, one_lane, share}
 use Rattle.lsv_links.specs.Links.{Brings, HasEndCause, IsLetOff, IsServed, IsTurnedAway, Puts, ServesBy, ServesLink, ServesPort, conn_of, was_bad}
 use Rattle.lsv_links.specs.Views.{IsCrowded, LinkFailed, PortFailed, PortView}

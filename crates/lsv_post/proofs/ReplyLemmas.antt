@@ -7,7 +7,7 @@ use Rattle.lsv_session.specs.declared.connection.ConnId.{ConnId}
 use Rattle.lsv_session.specs.declared.job.Job.{Job}
 use Rattle.lsv_session.specs.declared.reply.Reply.{Reply}
 use Rattle.lsv_session.specs.declared.reply.ReplyBody.TheVariants.{Shut}
-use Rattle.lsv_turns.specs.Turns.{AreAsked, EndsWithGone, NoneFor, is_shut, shuts}
+use Rattle.lsv_turn.specs.Turns.{AreAsked, EndsWithGone, NoneFor, is_shut, shuts}
 use Rattle.lsv_worker.specs.Outgoing.{HasEarlyShut, HasShut, TalksOn}
 use Rattle.lsv_post.proofs.BoolLemmas.{or_here, or_later}
 

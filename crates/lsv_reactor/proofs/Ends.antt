@@ -11,7 +11,7 @@ use Rattle.lsv_session.specs.declared.connection.ConnId.{ConnId}
 use Rattle.lsv_session.specs.declared.job.Body.{Body}
 use Rattle.lsv_session.specs.declared.job.Job.{Job}
 use Rattle.lsv_session.specs.declared.reply.Reply.{Reply}
-use Rattle.lsv_turns.specs.Turns.{AreAsked, AreAskedIn, EndsWithGone, LaneTurn, NoneFor, is_shut, jobs_in, replies_in, shuts}
+use Rattle.lsv_turn.specs.Turns.{AreAsked, AreAskedIn, EndsWithGone, LaneTurn, NoneFor, is_shut, jobs_in, replies_in, shuts}
 use Rattle.std.specs.List.{Contains}
 use Rattle.lsv_links.specs.Lanes.{lane_of, one_lane}
 use Rattle.lsv_links.proofs.PrefixLemmas.{brings_first}

@@ -7,7 +7,7 @@ use Rattle.std.proofs.lemmas.Bool.Decides.{nat_tests}
 use Rattle.lsv_session.specs.declared.job.Job.{Job}
 use Rattle.lsv_session.specs.declared.reply.Reply.{Reply}
 use Rattle.lsv_links.specs.Turns.{AreOf, jobs_of, replies_to}
-use Rattle.lsv_turns.specs.Turns.{LaneTurn, jobs_in}
+use Rattle.lsv_turn.specs.Turns.{LaneTurn, jobs_in}
 use Rattle.lsv_reactor.specs.Calls.{IsCall, call_of, calls_in, calls_of, is_by, jobs_by}
 
 -- two numbers, and the value of their test

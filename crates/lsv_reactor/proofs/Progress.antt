@@ -6,7 +6,7 @@ use Rattle.lsv_session.specs.declared.job.Job.{Job}
 use Rattle.lsv_session.specs.declared.reply.Reply.{Reply}
 use Rattle.std.specs.List.{Contains}
 use Rattle.lsv_port.specs.Ledger.{PortLedger}
-use Rattle.lsv_turns.specs.Turns.{AreAsked, LaneTurn, jobs_in, replies_in}
+use Rattle.lsv_turn.specs.Turns.{AreAsked, LaneTurn, jobs_in, replies_in}
 use Rattle.lsv_links.specs.Lanes.{one_lane}
 use Rattle.lsv_links.specs.Links.{ServesPort}
 use Rattle.lsv_links.specs.Turns.{jobs_of, replies_to}

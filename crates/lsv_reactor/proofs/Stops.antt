@@ -14,7 +14,7 @@ use Rattle.lsv_links.specs.Lanes.{one_lane}
 use Rattle.lsv_links.specs.Links.{PutsPrefixes}
 use Rattle.lsv_links.specs.Turns.{replies_to}
 use Rattle.lsv_links.specs.Views.{PortView}
-use Rattle.lsv_turns.specs.Turns.{LaneTurn, jobs_in, replies_in}
+use Rattle.lsv_turn.specs.Turns.{LaneTurn, jobs_in, replies_in}
 use Rattle.lsv_reactor.specs.Calls.{IsCall, calls_in, calls_of, jobs_by}
 use Rattle.lsv_reactor.specs.InnerLoop.{KeepLedgers, ArePosts, AreStopped, IsPost}
 use Rattle.lsv_reactor.specs.Served.{PutsAll}

@@ -9,7 +9,7 @@ use Rattle.lsv_port.specs.Ledger.{Continues, PortLedger}
 use Rattle.lsv_port.proofs.LedgerLemmas.{continues_same}
 use Rattle.lsv_links.specs.Turns.{most_jobs}
 use Rattle.lsv_links.specs.Views.{PortView}
-use Rattle.lsv_turns.specs.Turns.{AreAskedIn, LaneTurn, replies_in}
+use Rattle.lsv_turn.specs.Turns.{AreAskedIn, LaneTurn, replies_in}
 use Rattle.lsv_reactor.specs.Calls.{call_of, calls_in}
 use Rattle.lsv_reactor.specs.InnerLoop.{ArePosts, IsLane}
 use Rattle.lsv_reactor.proofs.Own.{some_call}

@@ -6,7 +6,7 @@ use Rattle.lsv_links.specs.Lanes.{one_lane}
 use Rattle.lsv_links.specs.Links.{ServesPort}
 use Rattle.lsv_links.specs.Turns.{AreOf}
 use Rattle.lsv_links.specs.Views.{PortView}
-use Rattle.lsv_turns.specs.Turns.{AreAsked, LaneTurn}
+use Rattle.lsv_turn.specs.Turns.{AreAsked, LaneTurn}
 
 -- the call that gave these jobs, if it gave any
 abbrev pub call_of : List Job → List (List Job)

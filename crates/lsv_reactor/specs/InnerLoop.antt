@@ -13,7 +13,7 @@ use Rattle.lsv_reactor.specs.declared.post.PostEnd.{PostEnd}
 use Rattle.lsv_reactor.specs.declared.post.PostEnd.TheVariants as post_end
 use Rattle.lsv_reactor.specs.declared.rounds.PortsEnd.{PortsEnd}
 use Rattle.lsv_reactor.specs.declared.rounds.PortsEnd.TheVariants.{Stopped, Failed}
-use Rattle.lsv_turns.specs.Turns.{AreAskedIn, LaneTurn}
+use Rattle.lsv_turn.specs.Turns.{AreAskedIn, LaneTurn}
 
 -- a post is numbered by its place, and its port is the one with this ledger still; of these calls it answered its own, and of these replies it took its own
 pub record IsPost {T S : Type 0} (number : T → ℕ) (view : T → PortView) (made_by : S → T → List (List Job) → List Reply → Type 0) (start : S) (ledger : PortLedger) (i : ℕ) (post : T) (calls : List (List Job)) (replies : List Reply) : Type 0 where

@@ -8,12 +8,12 @@ ghost use Rattle.lsv_links.specs.Turns.{AreSized};
 ghost use Rattle.lsv_reactor.specs.Calls.{calls_in};
 ghost use Rattle.lsv_reactor.specs.InnerLoop.{KeepLedgers, AreMade, AreOver, ArePosts, AreStopped, IsLane, worse};
 ghost use Rattle.lsv_reactor.specs.Served.{KeepPorts, PutsAll, ServesAll};
-ghost use Rattle.lsv_turns.specs.Turns.{LaneTurn, replies_in};
+ghost use Rattle.lsv_turn.specs.Turns.{LaneTurn, replies_in};
 
 use crate::visit::visit;
 use crate::{Post, PostEnd};
 use lsv_base::NoMem;
-use lsv_turns::Lane;
+use lsv_turn::Lane;
 use std::alloc::Global;
 
 /// How the ports of a server ended: nothing more is to come of any.

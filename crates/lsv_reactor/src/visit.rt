@@ -7,13 +7,13 @@ ghost use Rattle.lsv_session.specs.declared.reply.Reply.{Reply};
 ghost use Rattle.lsv_links.specs.Turns.{most_jobs};
 ghost use Rattle.lsv_reactor.specs.Calls.{call_of, calls_in};
 ghost use Rattle.lsv_reactor.specs.InnerLoop.{ArePosts, IsLane};
-ghost use Rattle.lsv_turns.specs.Turns.{LaneTurn, replies_in};
+ghost use Rattle.lsv_turn.specs.Turns.{LaneTurn, replies_in};
 
 use crate::Post;
 use crate::deliver::deliver;
 use lsv_base::NoMem;
 use lsv_session::Job;
-use lsv_turns::Lane;
+use lsv_turn::Lane;
 use std::alloc::Global;
 
 /// So often a post is tried again without waiting, while jobs come of it.

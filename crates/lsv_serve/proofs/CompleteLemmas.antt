@@ -45,7 +45,7 @@ use Rattle.lsv_serve.specs.Causes.{HasConfCause, HasProgramCause, HasStatusCause
 use Rattle.lsv_serve.specs.Complete.{AllAmple, AreAmple, Completes, IsServedBy, IsUnhindered, answers_of, came_in, messages_of}
 use Rattle.lsv_lane.specs.Store.{AreTurns, Conforms}
 use Rattle.lsv_serve.specs.Once.{RunsOnce, once_settings}
-use Rattle.lsv_turns.specs.Turns as tape
+use Rattle.lsv_turn.specs.Turns as tape
 use Rattle.lsv_serve.specs.Tape.{Leaves, TapeTurn, TurnsOf, bodies_in, once_conn, replies_in, shuts, turn_of, was_shut}
 use Rattle.lsv_serve.specs.World.{World, placed}
 use Rattle.lsv_serve.specs.declared.status.Status.{Status}

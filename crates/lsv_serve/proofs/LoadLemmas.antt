@@ -8,7 +8,7 @@ use Rattle.lsv_machine.specs.Disks.{NumbersFit}
 use Rattle.lsv_machine.specs.Durable.{Reading}
 use Rattle.lsv_machine.specs.Machine.{Settings}
 use Rattle.lsv_keeper.specs.Reading.{reading_of}
-use Rattle.lsv_turns.specs.Turns.{TapeTurn}
+use Rattle.lsv_turn.specs.Turns.{TapeTurn}
 use Rattle.lsv_lane.specs.Store.{IsFresh}
 use Rattle.lsv_server.specs.Runs.{IsUp}
 use Rattle.lsv_server.specs.declared.run.End.TheVariants as up

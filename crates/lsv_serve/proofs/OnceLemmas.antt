@@ -6,7 +6,7 @@ use Rattle.lsv_session.specs.Transcript.{said_to}
 use Rattle.lsv_machine.specs.Machine.{Settings}
 use Rattle.lsv_machine.specs.Recovery.{Outside}
 use Rattle.lsv_keeper.specs.Causes.{StoreRose}
-use Rattle.lsv_turns.specs.Turns.{LaneTurn, all_taped}
+use Rattle.lsv_turn.specs.Turns.{LaneTurn, all_taped}
 use Rattle.lsv_lane.specs.Store.{AreAnswered, KeepsStore}
 use Rattle.lsv_server.proofs.RunLemmas.{keeps_less}
 use Rattle.lsv_serve.specs.declared.status.Status.{Status}

@@ -16,7 +16,7 @@ use Rattle.lsv_machine.specs.Machine.{Machine, Settings, is_dead, log_of, withou
 use Rattle.lsv_machine.specs.Recovery.{Outside, Turn, all_turns}
 use Rattle.lsv_machine.specs.Turns.{EndOfTurn, FlushesLines, FlushesLog, FlushesLogs, Happened, RefusesAll, RefusesOne, Run, Tail, turn_of, with_lines}
 use Rattle.lsv_machine.specs.Work.{plain}
-use Rattle.lsv_turns.specs.Turns.{LaneTurn}
+use Rattle.lsv_turn.specs.Turns.{LaneTurn}
 use Rattle.lsv_lane.specs.Store.{AreTurns, IsTurn, KeepsStore}
 use Rattle.lsv_serve.specs.Tape.{TapeTurn, jobs_of, once_conn}
 use Rattle.lsv_serve.specs.Tape as tapes

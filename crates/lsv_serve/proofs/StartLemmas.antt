@@ -22,7 +22,7 @@ use Rattle.lsv_keeper.specs.Reading.{reading_of}
 use Rattle.lsv_keeper.proofs.Causes.{all_as}
 use Rattle.lsv_keeper.specs.declared.fault.StoreFault.{StoreFault}
 use Rattle.lsv_keeper.specs.declared.fault.StoreFault.TheVariants as faults
-use Rattle.lsv_turns.specs.Turns.{LaneTurn, TapeTurn}
+use Rattle.lsv_turn.specs.Turns.{LaneTurn, TapeTurn}
 use Rattle.lsv_lane.specs.Store.{AreAnswered, IsAnswered, IsFresh, KeepsStore, OwnerFailed}
 use Rattle.lsv_lane.proofs.Conforming.{keeps_none}
 use Rattle.lsv_server.specs.Runs.{HasStoreCause}

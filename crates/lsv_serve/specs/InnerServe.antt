@@ -14,7 +14,7 @@ use Rattle.lsv_reactor.specs.declared.rounds.PortsEnd.TheVariants.{Stopped, Fail
 use Rattle.lsv_server.specs.Runs.{HasEndCause}
 use Rattle.lsv_server.specs.declared.run.End.{End}
 use Rattle.lsv_server.specs.declared.run.End.TheVariants as ends
-use Rattle.lsv_turns.specs.Turns.{TapeTurn}
+use Rattle.lsv_turn.specs.Turns.{TapeTurn}
 use Rattle.lsv_load.specs.Runs.{RunsLoad}
 use Rattle.lsv_load.specs.declared.run.LoadEnd.{LoadEnd}
 use Rattle.lsv_load.specs.declared.run.LoadEnd.TheVariants as loads

@@ -6,7 +6,7 @@ use Rattle.lsv_conf.specs.Lines.{Placed, first_refused}
 use Rattle.lsv_disk.specs.View.{DiskView, IsLeftAlone}
 use Rattle.lsv_machine.specs.Machine.{Settings}
 use Rattle.lsv_machine.specs.Recovery.{Outside}
-use Rattle.lsv_turns.specs.Turns.{LaneTurn, TapeTurn}
+use Rattle.lsv_turn.specs.Turns.{LaneTurn, TapeTurn}
 use Rattle.lsv_lane.specs.Store.{KeepsStore}
 use Rattle.lsv_server.specs.Complete.{Completes}
 use Rattle.lsv_server.specs.Runs.{IsUp}

@@ -10,7 +10,7 @@ use Rattle.lsv_seq.specs.Drawn.{entry_at}
 use Rattle.lsv_keeper.specs.Causes.{StoreRose}
 use Rattle.lsv_keeper.specs.Opening.{KeepsEntry}
 use Rattle.lsv_keeper.specs.declared.fault.StoreFault.{StoreFault}
-use Rattle.lsv_turns.specs.Turns.{all_taped}
+use Rattle.lsv_turn.specs.Turns.{all_taped}
 use Rattle.lsv_lane.specs.Store.{AreAnswered, KeepsStore, lane_settings}
 use Rattle.lsv_serve.specs.declared.status.Status.{Status}
 use Rattle.lsv_serve.specs.declared.status.Status.TheVariants.{NoUpstream, Pending, Served, Usage, Conf, Store, ReadFault, WriteFault, PortFault, NoMem}

@@ -8,8 +8,8 @@ use Rattle.lsv_port.specs.Ledger.{Listening}
 use Rattle.lsv_port.specs.declared.port.Port
 use Rattle.lsv_machine.specs.Machine.{Settings}
 use Rattle.lsv_session.specs.declared.job.Job.{Job}
-use Rattle.lsv_turns.specs.Turns.{LaneTurn, TapeTurn, jobs_in, replies_in}
-use Rattle.lsv_turns.specs.declared.tape.Tape
+use Rattle.lsv_turn.specs.Turns.{LaneTurn, TapeTurn, jobs_in, replies_in}
+use Rattle.lsv_turn.specs.declared.tape.Tape
 use Rattle.lsv_lane.specs.Store.{KeepsStore}
 use Rattle.lsv_links.specs.Lanes.{one_lane}
 use Rattle.lsv_links.specs.Links.{PutsPrefixes, ServesPorts}

@@ -4,8 +4,8 @@ use Rattle.lsv_base.specs.declared.sink.Sink
 use Rattle.lsv_base.specs.declared.source.Source
 use Rattle.lsv_disk.specs.View.{DiskView}
 use Rattle.lsv_disk.specs.declared.disk.Disk
-use Rattle.lsv_turns.specs.Turns.{TapeTurn}
-use Rattle.lsv_turns.specs.declared.tape.Tape
+use Rattle.lsv_turn.specs.Turns.{TapeTurn}
+use Rattle.lsv_turn.specs.declared.tape.Tape
 
 -- what is known of the source and of the sink
 pub record Wires : Type 1 where

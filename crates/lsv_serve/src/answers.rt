@@ -7,7 +7,7 @@ ghost use Rattle.lsv_wire.specs.Frame.{frame_of};
 ghost use Rattle.lsv_msg.specs.Messages.{server_bytes};
 ghost use Rattle.lsv_session.specs.Connections.{same, server_hello};
 ghost use Rattle.lsv_session.specs.Transcript.{frames_of, said_to};
-ghost use Rattle.lsv_turns.specs.Turns.{is_shut};
+ghost use Rattle.lsv_turn.specs.Turns.{is_shut};
 ghost use Rattle.lsv_serve.specs.Tape.{once_conn, shuts};
 
 use crate::server::CONN;

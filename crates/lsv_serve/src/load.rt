@@ -20,7 +20,7 @@ use lsv_lane::Bay;
 use lsv_load::{LoadEnd, run_load};
 use lsv_mask::{Prompt, Search};
 use lsv_server::Plan;
-use lsv_turns::Tape;
+use lsv_turn::Tape;
 use std::alloc::Global;
 
 /// Puts the summary of a load, and says how the run ended.

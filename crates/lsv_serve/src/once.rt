@@ -22,7 +22,7 @@ use lsv_keeper::StoreFault;
 use lsv_lane::{Bay, StoreLane};
 use lsv_mask::{Prompt, Search};
 use lsv_server::Plan;
-use lsv_turns::Tape;
+use lsv_turn::Tape;
 use std::alloc::Global;
 
 /// Serves one connection, from the source to the sink, over the store of one lane. Its turns are kept on the tape. Nothing else

@@ -35,7 +35,7 @@ use lsv_load::a_load_sums_up_all_its_conversations;
 use lsv_mask::Search;
 use lsv_port::Port;
 use lsv_server::Notices;
-use lsv_turns::Tape;
+use lsv_turn::Tape;
 use std::alloc::Global;
 
 /// What the words ask for. Words that ask for nothing are Usage.

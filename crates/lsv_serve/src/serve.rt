@@ -24,7 +24,7 @@ use lsv_mask::{Prompt, Search};
 use lsv_port::Port;
 use lsv_reactor::PortsEnd;
 use lsv_server::{End, Notices, Plan, Site, serve_store};
-use lsv_turns::Tape;
+use lsv_turn::Tape;
 use std::alloc::Global;
 
 /// How the program tells the end of a run.

@@ -6,7 +6,7 @@ ghost use Rattle.lsv_msg.specs.Messages.{server_bytes};
 ghost use Rattle.lsv_session.specs.Connections.{server_hello};
 ghost use Rattle.lsv_session.specs.Transcript.{frames_of, said_to};
 ghost use Rattle.lsv_session.specs.declared.job.Body.TheVariants as bodies;
-ghost use Rattle.lsv_turns.specs.Turns.{LaneTurn};
+ghost use Rattle.lsv_turn.specs.Turns.{LaneTurn};
 ghost use Rattle.lsv_serve.specs.InnerRun.{AnswerEnds, Ended, HelloEnds, Serves, TurnMade, UnderWay, unput};
 ghost use Rattle.lsv_serve.specs.Tape.{jobs_of, once_conn, shuts};
 ghost use Rattle.lsv_serve.specs.World.{wires_of};
@@ -16,7 +16,7 @@ use crate::incoming::{Incoming, put_job};
 use crate::status::Status;
 use lsv_base::{Bytes, NoMem, Sink, Source};
 use lsv_session::{Body, ConnId, Job, Reply};
-use lsv_turns::Lane;
+use lsv_turn::Lane;
 use std::alloc::Global;
 
 /// The one connection.

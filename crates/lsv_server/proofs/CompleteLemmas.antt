@@ -36,7 +36,7 @@ use Rattle.lsv_complete.specs.Among as among
 use Rattle.lsv_complete.specs.Among.{FitsAmong, IsServedAmong, IsUndisturbed, came_of}
 use Rattle.lsv_complete.proofs.Served.{served_among}
 use Rattle.lsv_keeper.specs.Reading.{IsDrawn}
-use Rattle.lsv_turns.specs.Turns.{LaneTurn, jobs_in, replies_in, shuts}
+use Rattle.lsv_turn.specs.Turns.{LaneTurn, jobs_in, replies_in, shuts}
 use Rattle.lsv_lane.specs.Store.{Conforms, KeepsStore}
 use Rattle.lsv_links.specs.Lanes.{one_lane}
 use Rattle.lsv_links.specs.Links.{AtMostStarved, Brings, Puts, ServesBy, ServesLink, ServesPort, conn_of}

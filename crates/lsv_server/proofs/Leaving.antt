@@ -28,7 +28,7 @@ use Rattle.lsv_machine.proofs.Silent.{none_append, silence, step_sound}
 use Rattle.lsv_complete.specs.Among.{FitsAmong, IsUndisturbed, NeverGone, answers_to, asked_before, asks_new, bodies_of, came_of, lines_before, sends, sent_in, speaks}
 use Rattle.lsv_complete.proofs.Served.{isnt_shut_among}
 use Rattle.lsv_lane.proofs.Farewells.{IsUnknown, gone_unknown}
-use Rattle.lsv_turns.specs.Turns as lane_turns
+use Rattle.lsv_turn.specs.Turns as lane_turns
 use Rattle.lsv_server.proofs.Written.{AllWritten, Ends, Written, could_end, run_written}
 
 -- ---- Histories in two parts

@@ -17,7 +17,7 @@ use Rattle.lsv_keeper.specs.Opening.{IsStoreFault, KeepsEntry}
 use Rattle.lsv_keeper.specs.declared.fault.StoreFault.{StoreFault}
 use Rattle.lsv_keeper.specs.declared.fault.StoreFault.TheVariants as faults
 use Rattle.lsv_seq.specs.Drawn.{entry_at}
-use Rattle.lsv_turns.specs.Turns.{LaneTurn, TapeTurn}
+use Rattle.lsv_turn.specs.Turns.{LaneTurn, TapeTurn}
 use Rattle.lsv_lane.specs.Store.{KeepsStore, OwnerFailed}
 use Rattle.lsv_server.specs.Runs.{HasEndCause, HasTurns, IsUp, LeavesPorts, ListenAt, ListenFailed, RunsStore, unopened}
 use Rattle.lsv_reactor.specs.declared.rounds.PortsEnd.{PortsEnd}

@@ -23,8 +23,8 @@ use Rattle.lsv_machine.specs.Turns.{Happened, Happened.Begins, Happened.Did, Hap
 use Rattle.lsv_machine.proofs.Choices.{SameOr.alike, SameOr.apart, same_or, same_refl}
 use Rattle.lsv_complete.specs.Among as among
 use Rattle.lsv_complete.specs.Among.{answers_to, came_of, sent_in}
-use Rattle.lsv_turns.specs.Turns as lane_turns
-use Rattle.lsv_turns.specs.Turns.{LaneTurn, jobs_in, replies_in}
+use Rattle.lsv_turn.specs.Turns as lane_turns
+use Rattle.lsv_turn.specs.Turns.{LaneTurn, jobs_in, replies_in}
 use Rattle.lsv_lane.specs.Store.{AreTurns}
 use Rattle.lsv_server.specs.Complete.{came_by, messages_of}
 

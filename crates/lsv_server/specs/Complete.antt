@@ -24,7 +24,7 @@ use Rattle.lsv_machine.specs.Recovery.{Story, Turn}
 use Rattle.lsv_machine.specs.Work.{last_number}
 use Rattle.lsv_complete.specs.Among.{FitsAmong}
 use Rattle.lsv_keeper.specs.Reading.{IsDrawn}
-use Rattle.lsv_turns.specs.Turns.{LaneTurn, jobs_in, replies_in}
+use Rattle.lsv_turn.specs.Turns.{LaneTurn, jobs_in, replies_in}
 use Rattle.lsv_lane.specs.Store.{KeepsStore}
 use Rattle.lsv_links.specs.Lanes.{one_lane}
 use Rattle.lsv_links.specs.Links.{Puts, ServesPort, conn_of}

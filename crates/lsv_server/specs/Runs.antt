@@ -9,7 +9,7 @@ use Rattle.lsv_keeper.specs.Causes.{StoreRose}
 use Rattle.lsv_keeper.specs.Opening.{IsStoreFault, KeepsEntry}
 use Rattle.lsv_keeper.specs.declared.fault.StoreFault.{StoreFault}
 use Rattle.lsv_keeper.specs.declared.fault.StoreFault.TheVariants as faults
-use Rattle.lsv_turns.specs.Turns.{LaneTurn, TapeTurn, all_taped}
+use Rattle.lsv_turn.specs.Turns.{LaneTurn, TapeTurn, all_taped}
 use Rattle.lsv_lane.specs.Store.{AreAnswered, AreTimed, KeepsStore, OwnerFailed}
 use Rattle.lsv_port.specs.Ledger.{Listening, WasAsked}
 use Rattle.lsv_links.specs.Turns.{AreSized}

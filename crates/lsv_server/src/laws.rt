@@ -9,10 +9,10 @@ ghost use Rattle.lsv_reactor.specs.declared.rounds.PortsEnd.{PortsEnd};
 ghost use Rattle.lsv_server.specs.Complete.{Completes};
 ghost use Rattle.lsv_server.specs.Runs.{RunsStore};
 ghost use Rattle.lsv_server.specs.declared.run.End.TheVariants.{Over};
-ghost use Rattle.lsv_turns.specs.Turns.{LaneTurn, TapeTurn, jobs_in, replies_in};
+ghost use Rattle.lsv_turn.specs.Turns.{LaneTurn, TapeTurn, jobs_in, replies_in};
 
 use lsv_disk::Disk;
-use lsv_turns::Tape;
+use lsv_turn::Tape;
 
 /// In a run that came to its end over a store, each connection is served over which a legal conversation came that opens
 /// a log, whatever came of others, if no call of the disk failed, memory was ample for it, and no limit was passed: all of

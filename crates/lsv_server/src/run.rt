@@ -1,7 +1,7 @@
 //! A run: the store is opened, the ports begin to listen, what comes is served, and the store is given back.
 
 ghost use Rattle.std.specs.Prelude.{◌≡◌, [], ℕ, List, Some, length, slice_get};
-ghost use Rattle.lsv_turns.specs.Turns.{LaneTurn};
+ghost use Rattle.lsv_turn.specs.Turns.{LaneTurn};
 ghost use Rattle.lsv_lane.specs.InnerLane.{Begun};
 ghost use Rattle.lsv_lane.specs.Store.{IsFresh, lane_settings};
 ghost use Rattle.lsv_keeper.specs.declared.fault.StoreFault.{StoreFault};
@@ -17,7 +17,7 @@ use lsv_keeper::StoreFault;
 use lsv_lane::{Bay, StoreLane};
 use lsv_mask::Search;
 use lsv_reactor::{PortsEnd, Post, serve};
-use lsv_turns::{Lane, Tape};
+use lsv_turn::{Lane, Tape};
 use std::alloc::Global;
 
 /// How a run ended.

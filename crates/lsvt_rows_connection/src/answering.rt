@@ -3,7 +3,7 @@
 use lsv_base::{Bytes, NoMem, TimeSpec};
 use lsv_msg::{ClientMessage, ServerMessage};
 use lsv_session::{Body, ConnId, Job, Reply, ReplyBody};
-use lsv_turns::Lane;
+use lsv_turn::Lane;
 use std::alloc::Global;
 
 /// The text that gets an answer of `LADEN` bytes.

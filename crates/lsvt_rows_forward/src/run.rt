@@ -10,7 +10,7 @@ use lsv_hook::{Formatter, JsonLines, SudoLines};
 use lsv_link::{Cut, MemLink};
 use lsv_mask::{Prompt, TextSearch};
 use lsv_serve::{Kept, Outside, logsrvd};
-use lsv_turns::NoTape;
+use lsv_turn::NoTape;
 use lsvt_doubles::{Hostile, Plan, Watched};
 use std::alloc::Global;
 use std::mem;

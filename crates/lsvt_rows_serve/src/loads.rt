@@ -12,7 +12,7 @@ use lsv_load::{LoadEnd, run_load};
 use lsv_mask::{Prompt, TextSearch};
 use lsv_seq::Numbers;
 use lsv_server::Plan;
-use lsv_turns::NoTape;
+use lsv_turn::NoTape;
 use lsvt_doubles::{Hostile, Plan as Fate};
 use std::alloc::Global;
 use std::mem;

@@ -12,7 +12,7 @@ use lsv_link::MemLink;
 use lsv_mask::{Prompt, TextSearch};
 use lsv_port::{MemPort, Step};
 use lsv_serve::{Kept, Outside, logsrvd};
-use lsv_turns::MemTape;
+use lsv_turn::MemTape;
 use lsvt_doubles::{Hostile, Plan, Watched};
 use std::alloc::Global;
 use std::mem;

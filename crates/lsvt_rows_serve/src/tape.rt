@@ -3,7 +3,7 @@
 use anyhow::{Result, anyhow};
 use lsv_msg::ClientMessage;
 use lsv_session::{Body, ConnId, Fault, Job};
-use lsv_turns::MemTape;
+use lsv_turn::MemTape;
 use std::alloc::Global;
 
 /// What a connection brought, one kind after the other.

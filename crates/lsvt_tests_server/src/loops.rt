@@ -10,7 +10,7 @@ use lsv_msg::decode_client;
 use lsv_reactor::PortsEnd;
 use lsv_server::{End, Plan, Site, serve_store};
 use lsv_session::Body;
-use lsv_turns::MemTape;
+use lsv_turn::MemTape;
 use lsv_wire::Framer;
 use lsvt_doubles::{Hostile, Plan as Calls};
 use std::alloc::Global;

@@ -22,7 +22,7 @@ use lsv_real::{
 };
 use lsv_serve::{Kept, Outside, Status, logsrvd};
 use lsv_tcp::TcpLink;
-use lsv_turns::NoTape;
+use lsv_turn::NoTape;
 use std::alloc::Global;
 use std::env;
 use std::io::ErrorKind;

@@ -3,7 +3,7 @@ use Rattle.std.proofs.Common.{◌≡◌, ◌∙◌, ℕ, [], Some, length, arith
 use Rattle.std.specs.Prelude.{slice_get, slice_index_or}
 use Rattle.lsv_links.proofs.PrefixLemmas.{served_prefixes}
 use Rattle.lsv_links.specs.Lanes.{one_lane}
-use Rattle.lsv_turns.specs.Turns.{jobs_in, replies_in}
+use Rattle.lsv_turn.specs.Turns.{jobs_in, replies_in}
 use Rattle.lsv_load.proofs.Running.{first_there, only_one, only_place, same_script}
 use Rattle.lsv_load.proofs.run.serve_one.Goals as goal
 

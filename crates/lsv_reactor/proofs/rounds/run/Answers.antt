@@ -1,5 +1,5 @@
 use Rattle.std.proofs.Common.{ℕ, ◌++◌, [], length}
-use Rattle.lsv_turns.specs.Turns.{replies_in}
+use Rattle.lsv_turn.specs.Turns.{replies_in}
 use Rattle.lsv_reactor.specs.Calls.{calls_in}
 use Rattle.lsv_reactor.proofs.Progress.{ledgers_kept, served_all}
 use Rattle.lsv_reactor.proofs.Stops.{none_waits}

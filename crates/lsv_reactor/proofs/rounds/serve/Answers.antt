@@ -1,6 +1,6 @@
 use Rattle.std.proofs.Common.{◌++◌, [], subst}
 use Rattle.lsv_port.specs.Ledger.{Continues, PortLedger}
-use Rattle.lsv_turns.specs.Turns.{replies_in}
+use Rattle.lsv_turn.specs.Turns.{replies_in}
 use Rattle.lsv_reactor.specs.Calls.{calls_in}
 use Rattle.lsv_reactor.proofs.TurnLemmas.{are_ledgers, is_ledger, lane_begins, ledgers_of, posts_begin}
 use Rattle.lsv_reactor.proofs.Stops.{ledgers_all, stopped_all}

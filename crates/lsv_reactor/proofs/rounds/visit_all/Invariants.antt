@@ -1,6 +1,6 @@
 use Rattle.std.proofs.Common.{List, ℕ}
 use Rattle.lsv_port.specs.Ledger.{PortLedger}
-use Rattle.lsv_turns.specs.Turns.{LaneTurn, replies_in}
+use Rattle.lsv_turn.specs.Turns.{LaneTurn, replies_in}
 use Rattle.lsv_reactor.specs.Calls.{calls_in}
 use Rattle.lsv_reactor.specs.InnerLoop.{ArePosts, IsLane}
 use Rattle.lsv_reactor.proofs.rounds.visit_all.Given as goal

@@ -1,4 +1,4 @@
-use Rattle.lsv_turns.specs.Turns.{replies_in}
+use Rattle.lsv_turn.specs.Turns.{replies_in}
 use Rattle.lsv_reactor.specs.Calls.{calls_in}
 use Rattle.lsv_reactor.proofs.visit.pass.Goals as goal
 

@@ -1,5 +1,5 @@
 use Rattle.std.proofs.Common.{◌≤◌, ◌++◌, ◌∷◌, [], length, vec_len}
-use Rattle.lsv_turns.specs.Turns.{LaneTurn, replies_in}
+use Rattle.lsv_turn.specs.Turns.{LaneTurn, replies_in}
 use Rattle.lsv_reactor.specs.Calls.{call_of, calls_in}
 use Rattle.lsv_reactor.proofs.TurnLemmas.{lane_turned, posts_none, posts_turned}
 use Rattle.lsv_reactor.proofs.Own.{no_jobs, some_jobs}

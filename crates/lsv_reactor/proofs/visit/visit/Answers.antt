@@ -1,5 +1,5 @@
 use Rattle.std.proofs.Common.{List, ◌++◌, sym, subst, vec_len}
-use Rattle.lsv_turns.specs.Turns.{replies_in}
+use Rattle.lsv_turn.specs.Turns.{replies_in}
 use Rattle.lsv_reactor.specs.Calls.{call_of, calls_in}
 use Rattle.lsv_reactor.specs.InnerLoop.{ArePosts}
 use Rattle.lsv_reactor.proofs.TurnLemmas.{posts_none}

@@ -1,6 +1,6 @@
 use Rattle.std.proofs.Common.{◌≤◌, ◌++◌, List, ℕ, length}
 use Rattle.lsv_port.specs.Ledger.{PortLedger}
-use Rattle.lsv_turns.specs.Turns.{LaneTurn, replies_in}
+use Rattle.lsv_turn.specs.Turns.{LaneTurn, replies_in}
 use Rattle.lsv_links.specs.Turns.{most_jobs}
 use Rattle.lsv_reactor.specs.Calls.{call_of, calls_in}
 use Rattle.lsv_reactor.specs.InnerLoop.{ArePosts, IsLane}

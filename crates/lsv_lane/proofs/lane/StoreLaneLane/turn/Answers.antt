@@ -2,7 +2,7 @@ use Rattle.std.proofs.Common.{List, ◌∙◌, subst}
 use Rattle.lsv_session.specs.declared.reply.Reply.{Reply}
 use Rattle.lsv_keeper.specs.Causes.{AnyIsOf, MayFail, Says}
 use Rattle.lsv_keeper.specs.Views.{view_of}
-use Rattle.lsv_turns.specs.Turns.{LaneTurn}
+use Rattle.lsv_turn.specs.Turns.{LaneTurn}
 use Rattle.lsv_lane.specs.InnerLane.{IsMade}
 use Rattle.lsv_lane.proofs.Laws.{are_asked}
 use Rattle.lsv_lane.proofs.Standing.{gives_first, made_roomier, made_taped, made_turn, roomier_rests, roomier_stands}

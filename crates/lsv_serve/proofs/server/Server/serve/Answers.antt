@@ -1,5 +1,5 @@
 use Rattle.std.proofs.Common.{List, map}
-use Rattle.lsv_turns.specs.Turns.{LaneTurn}
+use Rattle.lsv_turn.specs.Turns.{LaneTurn}
 use Rattle.lsv_serve.specs.Tape.{turn_of}
 use Rattle.lsv_serve.proofs.EndLemmas.{runs_gone_in, runs_last, runs_out}
 use Rattle.lsv_serve.proofs.server.Server.serve.Goals as goal

@@ -7,7 +7,7 @@ use lsv_session::Job;
 pub trait Tape {
     ghost use Rattle.std.specs.Prelude.{List};
     ghost use Rattle.lsv_session.specs.declared.job.Job.{Job};
-    ghost use Rattle.lsv_turns.specs.Turns.{TapeTurn};
+    ghost use Rattle.lsv_turn.specs.Turns.{TapeTurn};
 
     /// Whether this type tells the turns that it was given.
     ghost tells: { Type 0 };

@@ -1,5 +1,5 @@
 ghost use Rattle.std.specs.Prelude.{◌≡◌, ◌<◌, [], ◌∷◌, ◌++◌, map, vec_capacity, vec_len, IfOk};
-ghost use Rattle.lsv_turns.specs.Kept.{turn_of};
+ghost use Rattle.lsv_turn.specs.Kept.{turn_of};
 
 use crate::Tape;
 use lsv_base::{List, NoMem, TimeSpec};

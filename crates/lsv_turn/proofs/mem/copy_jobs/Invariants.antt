@@ -1,5 +1,5 @@
 use Rattle.std.proofs.Common.{◌≡◌, take}
-use Rattle.lsv_turns.proofs.mem.copy_jobs.Given as goal
+use Rattle.lsv_turn.proofs.mem.copy_jobs.Given as goal
 
 abbrev pub invariant-loop-job : goal.invariant-loop-job
 invariant-loop-job l = l.copy.items ≡ take l.job-index l.jobs

@@ -1,6 +1,6 @@
 ghost use Rattle.std.specs.Prelude.{List, [], ◌∷◌, ◌++◌, IsSome, IfOk, OnErr};
 ghost use Rattle.lsv_base.specs.Time.{nanos_of};
-ghost use Rattle.lsv_turns.specs.Turns.{AreAskedIn, LaneTurn};
+ghost use Rattle.lsv_turn.specs.Turns.{AreAskedIn, LaneTurn};
 
 use lsv_base::{NoMem, TimeSpec};
 use lsv_session::{Job, Reply};
@@ -8,7 +8,7 @@ use lsv_session::{Job, Reply};
 /// What does the turns of a lane. A turn has jobs of many connections, and gives replies.
 pub trait Lane {
     ghost use Rattle.std.specs.Prelude.{List};
-    ghost use Rattle.lsv_turns.specs.Turns.{LaneTurn};
+    ghost use Rattle.lsv_turn.specs.Turns.{LaneTurn};
 
     /// Whether it is known to whom it replies.
     ghost tells: { Type 0 };
