@@ -10,7 +10,7 @@ use Rattle.lsv_session.specs.declared.job.Body.TheVariants.{Bad}
 use Rattle.lsv_session.specs.declared.job.Fault.TheVariants as fault
 use Rattle.lsv_machine.specs.Machine.{Machine, Settings}
 use Rattle.lsv_machine.specs.Recovery.{Story}
-use Rattle.lsv_complete.specs.Among.{FitsAmong}
+use Rattle.lsv_progress.specs.Among.{FitsAmong}
 use Rattle.lsv_turn.specs.Turns.{LaneTurn, TapeTurn, jobs_in}
 use Rattle.lsv_links.specs.Links.{conn_of}
 use Rattle.lsv_server.specs.Complete.{AllAmple}

@@ -32,9 +32,9 @@ use Rattle.lsv_machine.specs.Recovery.{Turn, all_turns}
 use Rattle.lsv_machine.specs.Silence.{EndsWithGone}
 use Rattle.lsv_machine.specs.Starts.{ReadsAs}
 use Rattle.lsv_machine.specs.Turns.{Happened, Happened.Tailed, all_acted}
-use Rattle.lsv_complete.specs.Among as among
-use Rattle.lsv_complete.specs.Among.{FitsAmong, IsServedAmong, IsUndisturbed, came_of}
-use Rattle.lsv_complete.proofs.Served.{served_among}
+use Rattle.lsv_progress.specs.Among as among
+use Rattle.lsv_progress.specs.Among.{FitsAmong, IsServedAmong, IsUndisturbed, came_of}
+use Rattle.lsv_progress.proofs.Served.{served_among}
 use Rattle.lsv_keeper.specs.Reading.{IsDrawn}
 use Rattle.lsv_turn.specs.Turns.{LaneTurn, jobs_in, replies_in, shuts}
 use Rattle.lsv_lane.specs.Store.{Conforms, KeepsStore}

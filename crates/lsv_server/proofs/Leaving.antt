@@ -25,8 +25,8 @@ use Rattle.lsv_machine.proofs.Choices.{SameOr.alike, SameOr.apart, same_or}
 use Rattle.lsv_machine.proofs.OutcomeLemmas.{plainly_or}
 use Rattle.lsv_machine.proofs.RunLaws.{run_append, starts_sound}
 use Rattle.lsv_machine.proofs.Silent.{none_append, silence, step_sound}
-use Rattle.lsv_complete.specs.Among.{FitsAmong, IsUndisturbed, NeverGone, answers_to, asked_before, asks_new, bodies_of, came_of, lines_before, sends, sent_in, speaks}
-use Rattle.lsv_complete.proofs.Served.{isnt_shut_among}
+use Rattle.lsv_progress.specs.Among.{FitsAmong, IsUndisturbed, NeverGone, answers_to, asked_before, asks_new, bodies_of, came_of, lines_before, sends, sent_in, speaks}
+use Rattle.lsv_progress.proofs.Served.{isnt_shut_among}
 use Rattle.lsv_lane.proofs.Farewells.{IsUnknown, gone_unknown}
 use Rattle.lsv_turn.specs.Turns as lane_turns
 use Rattle.lsv_server.proofs.Written.{AllWritten, Ends, Written, could_end, run_written}

@@ -21,8 +21,8 @@ use Rattle.lsv_machine.specs.Recovery.{Turn, all_turns}
 use Rattle.lsv_machine.specs.Silence.{EndsWithGone, NoJobs}
 use Rattle.lsv_machine.specs.Turns.{Happened, Happened.Begins, Happened.Did, Happened.Tailed, Tail, turn_of}
 use Rattle.lsv_machine.proofs.Choices.{SameOr.alike, SameOr.apart, same_or, same_refl}
-use Rattle.lsv_complete.specs.Among as among
-use Rattle.lsv_complete.specs.Among.{answers_to, came_of, sent_in}
+use Rattle.lsv_progress.specs.Among as among
+use Rattle.lsv_progress.specs.Among.{answers_to, came_of, sent_in}
 use Rattle.lsv_turn.specs.Turns as lane_turns
 use Rattle.lsv_turn.specs.Turns.{LaneTurn, jobs_in, replies_in}
 use Rattle.lsv_lane.specs.Store.{AreTurns}

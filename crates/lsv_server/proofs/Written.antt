@@ -25,7 +25,7 @@ use Rattle.lsv_machine.specs.Work.{Done, alive, answered, before_line, can_cut, 
 use Rattle.lsv_machine.proofs.Choices.{EqOr, EqOr.equal, EqOr.unequal, eq_or}
 use Rattle.lsv_machine.proofs.Silent.{step_sound, tail_sound}
 use Rattle.lsv_machine.proofs.StepLooks.{none_among}
-use Rattle.lsv_complete.specs.Among.{IsUndisturbed}
+use Rattle.lsv_progress.specs.Among.{IsUndisturbed}
 
 -- each of these logs is written
 abbrev pub Written : (ℕ → Option ConnId) → List ℕ → Type 0

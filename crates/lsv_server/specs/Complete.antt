@@ -22,7 +22,7 @@ use Rattle.lsv_machine.specs.Legal.{IsLegal, told_of, whole_log}
 use Rattle.lsv_machine.specs.Machine.{Machine, Settings}
 use Rattle.lsv_machine.specs.Recovery.{Story, Turn}
 use Rattle.lsv_machine.specs.Work.{last_number}
-use Rattle.lsv_complete.specs.Among.{FitsAmong}
+use Rattle.lsv_progress.specs.Among.{FitsAmong}
 use Rattle.lsv_keeper.specs.Reading.{IsDrawn}
 use Rattle.lsv_turn.specs.Turns.{LaneTurn, jobs_in, replies_in}
 use Rattle.lsv_lane.specs.Store.{KeepsStore}

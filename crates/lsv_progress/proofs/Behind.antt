@@ -14,12 +14,12 @@ use Rattle.lsv_machine.specs.Turns.{Happened, Happened.Did, Happened.Tailed, Hap
 use Rattle.lsv_machine.specs.Work.{Done, dropped, next_number, plain, silently}
 use Rattle.lsv_machine.proofs.Choices.{SameOr.alike, SameOr.apart, same_or}
 use Rattle.lsv_machine.proofs.StepLooks.{step_seen}
-use Rattle.lsv_complete.specs.Among.{IsHeld, IsHeld.Over, IsLeftAlone, IsUndisturbed, answers_to, speaks}
-use Rattle.lsv_complete.proofs.Alone.{Hears, own, to_others}
-use Rattle.lsv_complete.proofs.Beside.{step_moves}
-use Rattle.lsv_complete.proofs.Numbers.{Steady, next_above, next_may, step_steady, tail_keeps, tail_steady}
-use Rattle.lsv_complete.proofs.Tails.{calm_tail, unowned_tail}
-use Rattle.lsv_complete.proofs.Twins.{Complete}
+use Rattle.lsv_progress.specs.Among.{IsHeld, IsHeld.Over, IsLeftAlone, IsUndisturbed, answers_to, speaks}
+use Rattle.lsv_progress.proofs.Alone.{Hears, own, to_others}
+use Rattle.lsv_progress.proofs.Beside.{step_moves}
+use Rattle.lsv_progress.proofs.Numbers.{Steady, next_above, next_may, step_steady, tail_keeps, tail_steady}
+use Rattle.lsv_progress.proofs.Tails.{calm_tail, unowned_tail}
+use Rattle.lsv_progress.proofs.Twins.{Complete}
 
 module _ (set : Settings) (n : ℕ) (k : ConnId) where
   -- ---- A complete log stays as it is

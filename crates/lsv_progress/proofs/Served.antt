@@ -15,13 +15,13 @@ use Rattle.lsv_machine.specs.Turns.{Happened, Happened.Did, Happened.Tailed, Hap
 use Rattle.lsv_machine.specs.Work.{next_number}
 use Rattle.lsv_machine.proofs.LegalTurns.{legal_served, none_is_shut}
 use Rattle.lsv_machine.proofs.RunLaws.{starts_sound}
-use Rattle.lsv_complete.specs.Among.{FitsAmong, IsServedAmong, IsUndisturbed, NeverGone, answers_to, asked_before, bodies_of, came_of, lines_before}
-use Rattle.lsv_complete.proofs.Alone.{heard, lines_turns, own_at_moments, own_sent, own_turn, own_turns, spoken_turns}
-use Rattle.lsv_complete.proofs.Asked.{legal_anyhow}
-use Rattle.lsv_complete.proofs.Living.{Close, Close.early, Close.open_still, Close.over, Live, Ran, live_goes}
-use Rattle.lsv_complete.proofs.Numbers.{Opening, Steady, next_above, next_of_lane, opening, opens_at}
-use Rattle.lsv_complete.proofs.Twins.{Place.outside, Unfinished}
-use Rattle.lsv_complete.proofs.Waiting.{Rising, among, only}
+use Rattle.lsv_progress.specs.Among.{FitsAmong, IsServedAmong, IsUndisturbed, NeverGone, answers_to, asked_before, bodies_of, came_of, lines_before}
+use Rattle.lsv_progress.proofs.Alone.{heard, lines_turns, own_at_moments, own_sent, own_turn, own_turns, spoken_turns}
+use Rattle.lsv_progress.proofs.Asked.{legal_anyhow}
+use Rattle.lsv_progress.proofs.Living.{Close, Close.early, Close.open_still, Close.over, Live, Ran, live_goes}
+use Rattle.lsv_progress.proofs.Numbers.{Opening, Steady, next_above, next_of_lane, opening, opens_at}
+use Rattle.lsv_progress.proofs.Twins.{Place.outside, Unfinished}
+use Rattle.lsv_progress.proofs.Waiting.{Rising, among, only}
 
 module _ (set : Settings) (texts : List (List ℕ)) (k : ConnId) (start end : Machine) (turns : List Turn) (later : List Body) (number : ℕ) (starts : StartsAs set texts start) (run : Run set start (all_turns turns) end)
     (moments : AtTheirMoments turns) (calm : IsUndisturbed k (all_turns turns)) (ends : EndsWithGone k (all_turns turns)) (parts : (later ≡ []) ⊎ NeverGone k (all_turns turns))

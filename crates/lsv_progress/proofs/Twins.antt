@@ -21,7 +21,7 @@ use Rattle.lsv_machine.specs.Machine.{LogState, LogState.Absent, LogState.Damage
 use Rattle.lsv_machine.specs.Work.{Done, adds_line, draws, empty_log, exited, finished, fits_file, has_line, last_number, line_fits, line_in, lined, makes, opened, opens, recorded, refused, silently, taken, takes, waits, with_exit, with_record, work}
 use Rattle.lsv_machine.proofs.Choices.{EqOr.equal, EqOr.unequal, eq_or}
 use Rattle.lsv_machine.proofs.Shapes.{its_state}
-use Rattle.lsv_complete.proofs.Waiting.{among, insert_itself, its_log_is, only}
+use Rattle.lsv_progress.proofs.Waiting.{among, insert_itself, its_log_is, only}
 
 -- a log that has no exit, or isn't there
 abbrev pub Unfinished : LogState → Type 0

@@ -12,11 +12,11 @@ use Rattle.lsv_machine.specs.Machine.{LogState.There, Machine, Settings, with_lo
 use Rattle.lsv_machine.specs.Turns.{Commits, EndOfTurn, FlushesLines, FlushesLog, FlushesLogs, Tail, raised, with_lines}
 use Rattle.lsv_machine.proofs.Choices.{EqOr.equal, EqOr.unequal, SameOr.alike, SameOr.apart, eq_or, same_or, same_refl}
 use Rattle.lsv_machine.proofs.StepLooks.{none_among}
-use Rattle.lsv_complete.specs.Among.{answers_to}
-use Rattle.lsv_complete.proofs.Alone.{own_tail, to_append}
-use Rattle.lsv_complete.proofs.Numbers.{tail_keeps}
-use Rattle.lsv_complete.proofs.Twins.{Mirrors, Unfinished}
-use Rattle.lsv_complete.proofs.Waiting.{AllAbove, Rising, above_none, among, only}
+use Rattle.lsv_progress.specs.Among.{answers_to}
+use Rattle.lsv_progress.proofs.Alone.{own_tail, to_append}
+use Rattle.lsv_progress.proofs.Numbers.{tail_keeps}
+use Rattle.lsv_progress.proofs.Twins.{Mirrors, Unfinished}
+use Rattle.lsv_progress.proofs.Waiting.{AllAbove, Rising, above_none, among, only}
 
 -- ---- One log, and others
 

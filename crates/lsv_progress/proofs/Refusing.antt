@@ -9,8 +9,8 @@ use Rattle.lsv_machine.specs.Failures.{Act, AsksFor, Step, WantsMemory}
 use Rattle.lsv_machine.specs.Machine.{Machine, Settings, is_dead}
 use Rattle.lsv_machine.specs.Work.{Done, restarted}
 use Rattle.lsv_machine.proofs.OutcomeLemmas.{plainly_or}
-use Rattle.lsv_complete.specs.Among.{IsHeld, IsHeld.NotYet, IsHeld.Over, IsHeld.Written, why_not}
-use Rattle.lsv_complete.proofs.Asked.{asked_does}
+use Rattle.lsv_progress.specs.Among.{IsHeld, IsHeld.NotYet, IsHeld.Over, IsHeld.Written, why_not}
+use Rattle.lsv_progress.proofs.Asked.{asked_does}
 
 restart_refused : (k j : ConnId) (n point : ℕ) (m : Machine) (held : IsHeld k n m) → (restarted j n point m).answers ≡ refusal j (why_not held)
 restart_refused k j n point m (NotYet absent free) = rw (free, absent) refl

@@ -17,7 +17,7 @@ use Rattle.lsv_machine.specs.Recovery.{AtTheirMoments, Turn, all_turns}
 use Rattle.lsv_machine.specs.Silence.{AllTo, NoneTo}
 use Rattle.lsv_machine.specs.Turns.{Happened, Happened.Did, Happened.Tailed, Happened.Begins, Tail, all_acted}
 use Rattle.lsv_machine.proofs.Choices.{SameOr.alike, SameOr.apart, same_or, same_true}
-use Rattle.lsv_complete.specs.Among.{IsUndisturbed, answers_to, bodies_of, came_of, sent_in, speaks}
+use Rattle.lsv_progress.specs.Among.{IsUndisturbed, answers_to, bodies_of, came_of, sent_in, speaks}
 
 -- ---- Answers
 

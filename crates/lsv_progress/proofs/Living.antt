@@ -25,15 +25,15 @@ use Rattle.lsv_machine.proofs.Choices.{SameOr.alike, SameOr.apart, same_or}
 use Rattle.lsv_machine.proofs.OutcomeLemmas.{number_is, plainly_or}
 use Rattle.lsv_machine.proofs.Silent.{others_none, silence}
 use Rattle.lsv_machine.proofs.StepLooks.{step_seen}
-use Rattle.lsv_complete.specs.Among.{IsHeld, IsHeld.NotYet, IsHeld.Written, IsLeftAlone, IsUndisturbed, NeverGone, asks_new, lines_before, sends, speaks}
-use Rattle.lsv_complete.proofs.Alone.{Hears, own, own_lines, spoken, to_itself, to_others}
-use Rattle.lsv_complete.proofs.Asked.{asked_does, asked_in}
-use Rattle.lsv_complete.proofs.Behind.{gone_is, goes_after, last_rises, stays_complete}
-use Rattle.lsv_complete.proofs.Beside.{Guarded, step_moves}
-use Rattle.lsv_complete.proofs.Numbers.{Steady, next_above, next_may, opening, opens_at, same_next, step_steady, tail_keeps, tail_steady}
-use Rattle.lsv_complete.proofs.Tails.{Ended, WritesOnly, tail_ended}
-use Rattle.lsv_complete.proofs.Twins.{Complete, Lined, Mirrors, Outcome, Outcome.dies, Outcome.ends_it, Outcome.goes_on, Pair, Place, Place.inside, Place.outside, Unfinished, clash, lined_twin, not_running_log, work_twin}
-use Rattle.lsv_complete.proofs.Waiting.{among, only}
+use Rattle.lsv_progress.specs.Among.{IsHeld, IsHeld.NotYet, IsHeld.Written, IsLeftAlone, IsUndisturbed, NeverGone, asks_new, lines_before, sends, speaks}
+use Rattle.lsv_progress.proofs.Alone.{Hears, own, own_lines, spoken, to_itself, to_others}
+use Rattle.lsv_progress.proofs.Asked.{asked_does, asked_in}
+use Rattle.lsv_progress.proofs.Behind.{gone_is, goes_after, last_rises, stays_complete}
+use Rattle.lsv_progress.proofs.Beside.{Guarded, step_moves}
+use Rattle.lsv_progress.proofs.Numbers.{Steady, next_above, next_may, opening, opens_at, same_next, step_steady, tail_keeps, tail_steady}
+use Rattle.lsv_progress.proofs.Tails.{Ended, WritesOnly, tail_ended}
+use Rattle.lsv_progress.proofs.Twins.{Complete, Lined, Mirrors, Outcome, Outcome.dies, Outcome.ends_it, Outcome.goes_on, Pair, Place, Place.inside, Place.outside, Unfinished, clash, lined_twin, not_running_log, work_twin}
+use Rattle.lsv_progress.proofs.Waiting.{among, only}
 
 -- ---- What is asked, by its place
 

@@ -29,9 +29,9 @@ use Rattle.lsv_machine.specs.Work.{Done, adds_line, alive, answered, before_line
 use Rattle.lsv_machine.proofs.Choices.{EqOr.equal, EqOr.unequal, eq_or}
 use Rattle.lsv_machine.proofs.OutcomeLemmas.{number_is}
 use Rattle.lsv_machine.proofs.StepLooks.{none_among}
-use Rattle.lsv_complete.specs.Among.{asks_new}
-use Rattle.lsv_complete.proofs.Asked.{judged_asks}
-use Rattle.lsv_complete.proofs.Waiting.{Rising, among, beside_log, insert_beside, insert_rises, left_beside, left_rises}
+use Rattle.lsv_progress.specs.Among.{asks_new}
+use Rattle.lsv_progress.proofs.Asked.{judged_asks}
+use Rattle.lsv_progress.proofs.Waiting.{Rising, among, beside_log, insert_beside, insert_rises, left_beside, left_rises}
 
 -- a log is as it was, so is who writes it, and whether it waits
 pub record Untouched (n : ℕ) (m new : Machine) : Type 0 where

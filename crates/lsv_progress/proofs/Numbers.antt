@@ -15,9 +15,9 @@ use Rattle.lsv_machine.proofs.Changing.{drawn_is}
 use Rattle.lsv_machine.proofs.Choices.{EqOr.equal, EqOr.unequal, eq_or}
 use Rattle.lsv_machine.proofs.Silent.{step_sound, tail_sound}
 use Rattle.lsv_machine.proofs.StepLooks.{none_among}
-use Rattle.lsv_complete.specs.Among.{IsUndisturbed, MayGet, asked_before, asks_new}
-use Rattle.lsv_complete.proofs.Beside.{step_moves}
-use Rattle.lsv_complete.proofs.Waiting.{Rising}
+use Rattle.lsv_progress.specs.Among.{IsUndisturbed, MayGet, asked_before, asks_new}
+use Rattle.lsv_progress.proofs.Beside.{step_moves}
+use Rattle.lsv_progress.proofs.Waiting.{Rising}
 
 -- ---- The next number
 

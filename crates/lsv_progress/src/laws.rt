@@ -2,7 +2,7 @@
 
 ghost use Rattle.std.specs.Prelude.{◌≡◌, ◌≢◌, ◌⊎◌, ◌++◌, ℕ, List, [], false};
 ghost use Rattle.std.specs.List.{list_any};
-ghost use Rattle.lsv_complete.specs.Among.{FitsAmong, IsHeld, IsServedAmong, IsUndisturbed, NeverGone, answers_to, bodies_of, why_not};
+ghost use Rattle.lsv_progress.specs.Among.{FitsAmong, IsHeld, IsServedAmong, IsUndisturbed, NeverGone, answers_to, bodies_of, why_not};
 ghost use Rattle.lsv_machine.specs.Answers.{refusal};
 ghost use Rattle.lsv_machine.specs.Failures.{Act, AsksFor, Step, WantsMemory};
 ghost use Rattle.lsv_machine.specs.Legal.{IsLegal, all_answers, is_shut};

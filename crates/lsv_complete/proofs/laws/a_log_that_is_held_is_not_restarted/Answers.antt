@@ -1,5 +1,0 @@
-use Rattle.lsv_complete.proofs.Refusing.{held_refuses}
-use Rattle.lsv_complete.proofs.laws.a_log_that_is_held_is_not_restarted.Goals as goal
-
-pub returns : goal.returns
-returns c = record { refused = held_refuses }
