@@ -25,7 +25,7 @@ use lsv_keeper::StoreFault;
 use lsv_lane::{Bay, StoreLane};
 use lsv_mask::Search;
 use lsv_port::MemPort;
-use lsv_post::WorkerPost;
+use lsv_endpoint::WorkerPost;
 use lsv_reactor::{PortsEnd, Post, serve};
 use lsv_server::Plan;
 use lsv_turn::{Lane, Tape};

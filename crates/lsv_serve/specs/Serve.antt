@@ -16,7 +16,7 @@ use Rattle.lsv_links.specs.Links.{PutsPrefixes, ServesPorts}
 use Rattle.lsv_links.specs.Views.{PortFailed, PortView}
 use Rattle.lsv_reactor.specs.declared.rounds.PortsEnd.{PortsEnd}
 use Rattle.lsv_reactor.specs.declared.rounds.PortsEnd.TheVariants.{Stopped, Failed}
-use Rattle.lsv_post.specs.Ports.{view_by}
+use Rattle.lsv_endpoint.specs.Ports.{view_by}
 use Rattle.lsv_server.specs.Complete.{Completes}
 use Rattle.lsv_server.specs.Runs.{HasStoreCause, ListenAt, RunsStore}
 use Rattle.lsv_server.specs.declared.run.End.{End}

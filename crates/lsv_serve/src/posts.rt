@@ -1,11 +1,11 @@
 //! The ports of a server as posts.
 
 ghost use Rattle.std.specs.Prelude.{◌≡◌, ◌≤◌, ◌<◌, ◌+◌, ◌++◌, ◌∷◌, [], ℕ, Some, map, length, slice_get, vec_capacity, vec_len, IfErr, IfOk};
-ghost use Rattle.lsv_post.specs.Ports.{IsUnopened, view_by};
+ghost use Rattle.lsv_endpoint.specs.Ports.{IsUnopened, view_by};
 ghost use Rattle.lsv_serve.specs.InnerServe.{ArePosts, IsSeated};
 
 use lsv_port::Port;
-use lsv_post::WorkerPost;
+use lsv_endpoint::WorkerPost;
 use lsv_reactor::Post;
 use std::alloc::Global;
 

@@ -8,7 +8,7 @@ ghost use Rattle.lsv_conf.specs.Settings.{settings_in};
 ghost use Rattle.lsv_defs.specs.Causes.{HasRisen};
 ghost use Rattle.lsv_event.specs.declared.event.Kind.TheVariants as kinds;
 ghost use Rattle.lsv_lane.specs.Store.{IsFresh};
-ghost use Rattle.lsv_post.specs.Ports.{IsUnopened};
+ghost use Rattle.lsv_endpoint.specs.Ports.{IsUnopened};
 ghost use Rattle.lsv_serve.specs.Causes.{HasConfCause};
 ghost use Rattle.lsv_serve.specs.Complete.{OnceAs};
 ghost use Rattle.lsv_serve.specs.Load.{LoadsAs};

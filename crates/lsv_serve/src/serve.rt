@@ -3,7 +3,7 @@
 ghost use Rattle.std.specs.Prelude.{◌≡◌, ◌≤◌, ℕ, Some, length, slice_get};
 ghost use Rattle.lsv_event.specs.declared.event.Kind.TheVariants as kinds;
 ghost use Rattle.lsv_lane.specs.Store.{IsFresh};
-ghost use Rattle.lsv_post.specs.Ports.{IsUnopened};
+ghost use Rattle.lsv_endpoint.specs.Ports.{IsUnopened};
 ghost use Rattle.lsv_server.specs.Runs.{HasEndCause};
 ghost use Rattle.lsv_serve.specs.Causes.{HasPlaces};
 ghost use Rattle.lsv_serve.specs.InnerServe.{RunsAs, told};

@@ -2,7 +2,7 @@
 
 ghost use Rattle.std.specs.Prelude.{◌≡◌, [], IfOk};
 ghost use Rattle.lsv_port.specs.Memory.Value.{port_ledger, port_state};
-ghost use Rattle.lsv_post.specs.Ports.{view_by};
+ghost use Rattle.lsv_endpoint.specs.Ports.{view_by};
 
 use crate::answering::Answering;
 use crate::ports::links;
@@ -11,7 +11,7 @@ use anyhow::{Result, anyhow};
 use lsv_base::NoMem;
 use lsv_msg::ClientMessage;
 use lsv_port::{MemPort, Step};
-use lsv_post::WorkerPost;
+use lsv_endpoint::WorkerPost;
 use lsv_reactor::{PortsEnd, Post, serve};
 use lsv_session::{Body, Job};
 use lsvt_doubles::Watched;

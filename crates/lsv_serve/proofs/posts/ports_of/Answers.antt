@@ -1,8 +1,8 @@
 use Rattle.std.proofs.Common.{◌≡◌, ◌++◌, ◌∷◌, [], List, map, length, sym, ap, ◌∙◌, arith, append_assoc, append-nil}
 use Rattle.std.proofs.lemmas.List.{length-append, map-append}
 use Rattle.std.specs.Vec.Iter.{into_iter_items}
-use Rattle.lsv_post.specs.Ports.{view_by}
-use Rattle.lsv_post.specs.declared.post.WorkerPost.{WorkerPost}
+use Rattle.lsv_endpoint.specs.Ports.{view_by}
+use Rattle.lsv_endpoint.specs.declared.post.WorkerPost.{WorkerPost}
 use Rattle.lsv_links.specs.Views.{PortView}
 use Rattle.lsv_serve.proofs.PostLemmas.{nothing_left}
 use Rattle.lsv_serve.proofs.posts.ports_of.Goals as goal

@@ -1,7 +1,7 @@
 use Rattle.std.proofs.Common.{◌≡◌, ◌≤◌, ◌++◌, map, length}
 use Rattle.std.specs.Prelude.{vec_capacity}
 use Rattle.std.specs.Vec.Iter.{into_iter_items, into_iter_len}
-use Rattle.lsv_post.specs.Ports.{view_by}
+use Rattle.lsv_endpoint.specs.Ports.{view_by}
 use Rattle.lsv_serve.proofs.posts.ports_of.Given as goal
 
 abbrev pub invariant-loop-post : goal.invariant-loop-post

@@ -3,8 +3,8 @@ use Rattle.std.specs.Prelude.{slice_get, vec_len}
 use Rattle.std.proofs.lemmas.List.{length-append, length-map, map-append}
 use Rattle.std.specs.Vec.Iter.{into_iter_items}
 use Rattle.lsv_worker.specs.Worker.{setting}
-use Rattle.lsv_post.specs.InnerPost.{IsMade}
-use Rattle.lsv_post.specs.Ports.{view_by}
+use Rattle.lsv_endpoint.specs.InnerPost.{IsMade}
+use Rattle.lsv_endpoint.specs.Ports.{view_by}
 use Rattle.lsv_links.specs.Views.{PortView}
 use Rattle.lsv_reactor.specs.Calls.{jobs_by}
 use Rattle.lsv_serve.specs.InnerServe.{ArePosts}

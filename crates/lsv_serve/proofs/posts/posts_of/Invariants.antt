@@ -2,8 +2,8 @@ use Rattle.std.proofs.Common.{◌≡◌, ◌≤◌, ◌+◌, ◌++◌, [], map, 
 use Rattle.std.specs.Prelude.{vec_capacity}
 use Rattle.std.specs.Vec.Iter.{into_iter_items, into_iter_len}
 use Rattle.lsv_worker.specs.Worker.{setting}
-use Rattle.lsv_post.specs.InnerPost.{IsMade}
-use Rattle.lsv_post.specs.Ports.{view_by}
+use Rattle.lsv_endpoint.specs.InnerPost.{IsMade}
+use Rattle.lsv_endpoint.specs.Ports.{view_by}
 use Rattle.lsv_reactor.specs.Calls.{jobs_by}
 use Rattle.lsv_serve.specs.InnerServe.{ArePosts}
 use Rattle.lsv_serve.proofs.posts.posts_of.Given as goal

@@ -1,9 +1,9 @@
 use Rattle.std.proofs.Common.{◌≡◌, map, length, refl, sym, ap, ◌∙◌, arith}
 use Rattle.lsv_port.specs.Ledger.{Listening}
 use Rattle.lsv_links.specs.Views.{PortView}
-use Rattle.lsv_post.specs.InnerPost.{IsMade}
-use Rattle.lsv_post.specs.Ports.{view_by}
-use Rattle.lsv_post.specs.declared.post.WorkerPost.{WorkerPost}
+use Rattle.lsv_endpoint.specs.InnerPost.{IsMade}
+use Rattle.lsv_endpoint.specs.Ports.{view_by}
+use Rattle.lsv_endpoint.specs.declared.post.WorkerPost.{WorkerPost}
 use Rattle.lsv_reactor.specs.Calls.{jobs_by}
 use Rattle.lsv_serve.specs.InnerServe.{port_at}
 use Rattle.lsv_serve.specs.Once.{once_settings}

@@ -5,9 +5,9 @@ use Rattle.std.proofs.lemmas.Option.{get_or_from_slice_get, slice_get_within}
 use Rattle.lsv_port.specs.Ledger.{PortLedger}
 use Rattle.lsv_port.specs.Port.{PortState}
 use Rattle.lsv_port.specs.Memory.Value.{port_ledger, port_state}
-use Rattle.lsv_post.specs.InnerPost.{IsMade}
-use Rattle.lsv_post.specs.Ports.{view_by}
-use Rattle.lsv_post.specs.declared.post.WorkerPost.{WorkerPost}
+use Rattle.lsv_endpoint.specs.InnerPost.{IsMade}
+use Rattle.lsv_endpoint.specs.Ports.{view_by}
+use Rattle.lsv_endpoint.specs.declared.post.WorkerPost.{WorkerPost}
 use Rattle.lsvt_doubles.specs.declared.watched.Watched.{Watched}
 use Rattle.lsvt_rows_connection.proofs.served.serve_one.Goals as goal
 
