@@ -25,8 +25,8 @@ use Rattle.lsv_machine.proofs.RunLaws.{starts_sound}
 use Rattle.lsv_machine.proofs.Silent.{none_append, silence}
 use Rattle.lsv_turn.specs.Turns.{LaneTurn, NoneFor, jobs_in, replies_in}
 use Rattle.lsv_lane.specs.Store.{KeepsStore}
-use Rattle.lsv_server.specs.Complete.{messages_of}
-use Rattle.lsv_server.proofs.Sent.{none_brought, replies_are}
+use Rattle.lsv_service.specs.Complete.{messages_of}
+use Rattle.lsv_service.proofs.Sent.{none_brought, replies_are}
 use Rattle.lsv_load.specs.Numbers.{at_most_one, number_in, number_told}
 use Rattle.lsv_load.proofs.Counting.{AreTo, told_to}
 

@@ -16,8 +16,8 @@ use Rattle.lsv_machine.specs.Recovery.{Outside}
 use Rattle.lsv_reactor.specs.Served.{KeepPorts}
 use Rattle.lsv_reactor.specs.declared.rounds.PortsEnd.TheVariants.{Stopped}
 use Rattle.lsv_seq.specs.Drawn.{entry_at, judged}
-use Rattle.lsv_server.specs.Runs.{HasTurns, IsUp, unopened}
-use Rattle.lsv_server.specs.declared.run.End.TheVariants as ends
+use Rattle.lsv_service.specs.Runs.{HasTurns, IsUp, unopened}
+use Rattle.lsv_service.specs.declared.run.End.TheVariants as ends
 use Rattle.lsv_turn.specs.Turns.{LaneTurn, TapeTurn, jobs_in, replies_in}
 use Rattle.lsv_links.proofs.PrefixLemmas.{served_prefixes}
 use Rattle.lsv_links.specs.Lanes.{one_lane}

@@ -28,7 +28,7 @@ use Rattle.lsv_turn.specs.Turns.{LaneTurn, jobs_in, replies_in}
 use Rattle.lsv_lane.specs.Store.{KeepsStore}
 use Rattle.lsv_links.specs.Links.{Seats, conn_of}
 use Rattle.lsv_links.specs.Views.{LinkFailed}
-use Rattle.lsv_server.specs.Complete.{Completes, IsServedBy, came_by}
+use Rattle.lsv_service.specs.Complete.{Completes, IsServedBy, came_by}
 use Rattle.lsv_load.specs.Load.{load_script, whole_sent}
 use Rattle.lsv_load.specs.Logs.{bodies_of, log_at, logs_of}
 use Rattle.lsv_load.specs.Numbers.{numbers_told}

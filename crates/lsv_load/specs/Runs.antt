@@ -14,9 +14,9 @@ use Rattle.lsv_links.specs.Views.{PortView}
 use Rattle.lsv_reactor.specs.declared.rounds.PortsEnd.TheVariants.{Stopped}
 use Rattle.lsv_record.specs.Points.{Stored}
 use Rattle.lsv_session.specs.declared.job.Job.{Job}
-use Rattle.lsv_server.specs.Runs.{HasStoreCause, RunsStore}
-use Rattle.lsv_server.specs.declared.run.End.{End}
-use Rattle.lsv_server.specs.declared.run.End.TheVariants as ends
+use Rattle.lsv_service.specs.Runs.{HasStoreCause, RunsStore}
+use Rattle.lsv_service.specs.declared.run.End.{End}
+use Rattle.lsv_service.specs.declared.run.End.TheVariants as ends
 use Rattle.lsv_turn.specs.Turns.{LaneTurn, TapeTurn, jobs_in, replies_in}
 use Rattle.lsv_load.specs.Faults.{HasReplayCause}
 use Rattle.lsv_load.specs.Load.{load_script}

@@ -13,8 +13,8 @@ use Rattle.lsv_machine.specs.Recovery.{Story}
 use Rattle.lsv_progress.specs.Among.{FitsAmong}
 use Rattle.lsv_turn.specs.Turns.{LaneTurn, TapeTurn, jobs_in}
 use Rattle.lsv_links.specs.Links.{conn_of}
-use Rattle.lsv_server.specs.Complete.{AllAmple}
-use Rattle.lsv_server.specs.Runs.{IsUp}
+use Rattle.lsv_service.specs.Complete.{AllAmple}
+use Rattle.lsv_service.specs.Runs.{IsUp}
 use Rattle.lsv_load.specs.Logs.{bodies_of, logs_of}
 use Rattle.lsv_load.specs.Runs.{RunsLoad}
 use Rattle.lsv_load.specs.declared.run.LoadEnd.TheVariants.{Served}

@@ -43,5 +43,5 @@ pub fn a_load_sums_up_all_its_conversations<D: Disk, G: Tape>()
 {
     a_load_sends_its_conversations();
     a_generated_conversation_is_legal();
-    lsv_server::a_legal_conversation_over_a_link_is_served::<D, G>();
+    lsv_service::a_legal_conversation_over_a_link_is_served::<D, G>();
 }

@@ -10,9 +10,9 @@ use Rattle.lsv_machine.specs.Machine.{Settings}
 use Rattle.lsv_keeper.specs.Reading.{reading_of}
 use Rattle.lsv_turn.specs.Turns.{TapeTurn}
 use Rattle.lsv_lane.specs.Store.{IsFresh}
-use Rattle.lsv_server.specs.Runs.{IsUp}
-use Rattle.lsv_server.specs.declared.run.End.TheVariants as up
-use Rattle.lsv_server.proofs.CompleteLemmas.{completes}
+use Rattle.lsv_service.specs.Runs.{IsUp}
+use Rattle.lsv_service.specs.declared.run.End.TheVariants as up
+use Rattle.lsv_service.proofs.CompleteLemmas.{completes}
 use Rattle.lsv_load.specs.Runs.{RunsLoad, view_of}
 use Rattle.lsv_load.specs.Whole.{SumsUpAll}
 use Rattle.lsv_load.specs.declared.run.LoadEnd.{LoadEnd}

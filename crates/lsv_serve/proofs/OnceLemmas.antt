@@ -8,7 +8,7 @@ use Rattle.lsv_machine.specs.Recovery.{Outside}
 use Rattle.lsv_keeper.specs.Causes.{StoreRose}
 use Rattle.lsv_turn.specs.Turns.{LaneTurn, all_taped}
 use Rattle.lsv_lane.specs.Store.{AreAnswered, KeepsStore}
-use Rattle.lsv_server.proofs.RunLemmas.{keeps_less}
+use Rattle.lsv_service.proofs.RunLemmas.{keeps_less}
 use Rattle.lsv_serve.specs.declared.status.Status.{Status}
 use Rattle.lsv_serve.specs.declared.status.Status.TheVariants.{NoUpstream, Pending, Served, Usage, Conf, Store, ReadFault, WriteFault, PortFault, NoMem}
 use Rattle.lsv_serve.specs.Causes.{HasStatusCause}

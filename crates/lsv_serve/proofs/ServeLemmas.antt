@@ -20,16 +20,16 @@ use Rattle.lsv_port.specs.Ledger.{Listening, WasAsked}
 use Rattle.lsv_reactor.specs.Served.{HasPortsEnd, ServesAll}
 use Rattle.lsv_reactor.specs.declared.rounds.PortsEnd.{PortsEnd}
 use Rattle.lsv_reactor.specs.declared.rounds.PortsEnd.TheVariants.{Stopped, Failed}
-use Rattle.lsv_server.specs.Runs.{HasEndCause, IsUp, ListenAt, ListenFailed, RunsStore}
-use Rattle.lsv_server.proofs.RunLemmas.{keeps_less}
-use Rattle.lsv_server.specs.Runs as posts_leave
-use Rattle.lsv_server.specs.declared.run.End.{End}
-use Rattle.lsv_server.specs.declared.run.End.TheVariants as ends
+use Rattle.lsv_service.specs.Runs.{HasEndCause, IsUp, ListenAt, ListenFailed, RunsStore}
+use Rattle.lsv_service.proofs.RunLemmas.{keeps_less}
+use Rattle.lsv_service.specs.Runs as posts_leave
+use Rattle.lsv_service.specs.declared.run.End.{End}
+use Rattle.lsv_service.specs.declared.run.End.TheVariants as ends
 use Rattle.lsv_serve.specs.declared.status.Status.{Status}
 use Rattle.lsv_serve.specs.Causes.{HasPlaces, HasPlacesAt}
 use Rattle.lsv_serve.specs.InnerServe.{RunsAs, nothing, port_at, told}
 use Rattle.lsv_serve.specs.Program.{lines_in, listening_by, machine_of, prompts_of, set_by}
-use Rattle.lsv_server.proofs.CompleteLemmas.{completes}
+use Rattle.lsv_service.proofs.CompleteLemmas.{completes}
 use Rattle.lsv_serve.specs.Serve.{ArePortsEnded, CompletesLinks, HasServeCause, EndsPorts, RunsServe, RunsTo, ServerWorld, ServesAs}
 use Rattle.lsv_serve.specs.World.{placed}
 use Rattle.lsv_serve.proofs.ProgramLemmas.{Unread}

@@ -25,8 +25,8 @@ use Rattle.lsv_keeper.specs.declared.fault.StoreFault.TheVariants as faults
 use Rattle.lsv_turn.specs.Turns.{LaneTurn, TapeTurn}
 use Rattle.lsv_lane.specs.Store.{AreAnswered, IsAnswered, IsFresh, KeepsStore, OwnerFailed}
 use Rattle.lsv_lane.proofs.Conforming.{keeps_none}
-use Rattle.lsv_server.specs.Runs.{HasStoreCause}
-use Rattle.lsv_server.proofs.RunLemmas.{keeps_less}
+use Rattle.lsv_service.specs.Runs.{HasStoreCause}
+use Rattle.lsv_service.proofs.RunLemmas.{keeps_less}
 use Rattle.lsv_serve.specs.declared.status.Status.{Status}
 use Rattle.lsv_serve.specs.declared.status.Status.TheVariants.{NoUpstream, Pending, Served, Usage, Conf, Store, ReadFault, WriteFault, PortFault, NoMem}
 use Rattle.lsv_serve.specs.Causes.{HasStatusCause, MayServeAgain}

@@ -7,7 +7,7 @@ use Rattle.lsv_disk.specs.View.{DiskView, IsCrashImage}
 use Rattle.lsv_machine.specs.Disks.{NumbersFit}
 use Rattle.lsv_keeper.specs.Reading.{reading_of}
 use Rattle.lsv_lane.specs.Store.{IsFresh}
-use Rattle.lsv_server.specs.Runs.{HasStoreCause}
+use Rattle.lsv_service.specs.Runs.{HasStoreCause}
 use Rattle.lsv_serve.specs.declared.status.Status.{Status}
 use Rattle.lsv_serve.specs.declared.status.Status.TheVariants.{NoUpstream, Pending, Served, Usage, Conf, Store, ReadFault, WriteFault, PortFault, NoMem}
 use Rattle.lsv_serve.specs.World.{World}

@@ -11,9 +11,9 @@ use Rattle.lsv_machine.specs.Machine.{Settings}
 use Rattle.lsv_links.specs.Views.{PortView}
 use Rattle.lsv_port.specs.Ledger.{Listening}
 use Rattle.lsv_reactor.specs.declared.rounds.PortsEnd.TheVariants.{Stopped, Failed}
-use Rattle.lsv_server.specs.Runs.{HasEndCause}
-use Rattle.lsv_server.specs.declared.run.End.{End}
-use Rattle.lsv_server.specs.declared.run.End.TheVariants as ends
+use Rattle.lsv_service.specs.Runs.{HasEndCause}
+use Rattle.lsv_service.specs.declared.run.End.{End}
+use Rattle.lsv_service.specs.declared.run.End.TheVariants as ends
 use Rattle.lsv_turn.specs.Turns.{TapeTurn}
 use Rattle.lsv_load.specs.Runs.{RunsLoad}
 use Rattle.lsv_load.specs.declared.run.LoadEnd.{LoadEnd}

@@ -8,8 +8,8 @@ use Rattle.lsv_machine.specs.Machine.{Settings}
 use Rattle.lsv_machine.specs.Recovery.{Outside}
 use Rattle.lsv_turn.specs.Turns.{LaneTurn, TapeTurn}
 use Rattle.lsv_lane.specs.Store.{KeepsStore}
-use Rattle.lsv_server.specs.Complete.{Completes}
-use Rattle.lsv_server.specs.Runs.{IsUp}
+use Rattle.lsv_service.specs.Complete.{Completes}
+use Rattle.lsv_service.specs.Runs.{IsUp}
 use Rattle.lsv_load.specs.Runs.{RunsLoad, view_of}
 use Rattle.lsv_load.specs.Whole.{SumsUpAll}
 use Rattle.lsv_load.specs.declared.run.LoadEnd.TheVariants as ends

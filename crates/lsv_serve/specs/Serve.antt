@@ -17,10 +17,10 @@ use Rattle.lsv_links.specs.Views.{PortFailed, PortView}
 use Rattle.lsv_reactor.specs.declared.rounds.PortsEnd.{PortsEnd}
 use Rattle.lsv_reactor.specs.declared.rounds.PortsEnd.TheVariants.{Stopped, Failed}
 use Rattle.lsv_endpoint.specs.Ports.{view_by}
-use Rattle.lsv_server.specs.Complete.{Completes}
-use Rattle.lsv_server.specs.Runs.{HasStoreCause, ListenAt, RunsStore}
-use Rattle.lsv_server.specs.declared.run.End.{End}
-use Rattle.lsv_server.specs.declared.run.End.TheVariants as ends
+use Rattle.lsv_service.specs.Complete.{Completes}
+use Rattle.lsv_service.specs.Runs.{HasStoreCause, ListenAt, RunsStore}
+use Rattle.lsv_service.specs.declared.run.End.{End}
+use Rattle.lsv_service.specs.declared.run.End.TheVariants as ends
 use Rattle.lsv_serve.specs.declared.status.Status.{Status}
 use Rattle.lsv_serve.specs.declared.status.Status.TheVariants.{NoUpstream, Pending, Served, Usage, Conf, Store, ReadFault, WriteFault, PortFault, NoMem}
 use Rattle.lsv_serve.specs.Causes.{HasConfCause, HasPlacesAt, MayServeAgain}

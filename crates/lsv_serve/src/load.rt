@@ -19,7 +19,7 @@ use lsv_hook::{Formatter, LineWriter};
 use lsv_lane::Bay;
 use lsv_load::{LoadEnd, run_load};
 use lsv_mask::{Prompt, Search};
-use lsv_server::Plan;
+use lsv_service::Plan;
 use lsv_turn::Tape;
 use std::alloc::Global;
 

@@ -21,7 +21,7 @@ use lsv_hook::{Formatter, LineWriter};
 use lsv_keeper::StoreFault;
 use lsv_lane::{Bay, StoreLane};
 use lsv_mask::{Prompt, Search};
-use lsv_server::Plan;
+use lsv_service::Plan;
 use lsv_turn::Tape;
 use std::alloc::Global;
 

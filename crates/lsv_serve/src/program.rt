@@ -34,7 +34,7 @@ use lsv_link::Link;
 use lsv_load::a_load_sums_up_all_its_conversations;
 use lsv_mask::Search;
 use lsv_port::Port;
-use lsv_server::Notices;
+use lsv_service::Notices;
 use lsv_turn::Tape;
 use std::alloc::Global;
 

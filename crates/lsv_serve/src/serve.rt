@@ -4,7 +4,7 @@ ghost use Rattle.std.specs.Prelude.{◌≡◌, ◌≤◌, ℕ, Some, length, sli
 ghost use Rattle.lsv_event.specs.declared.event.Kind.TheVariants as kinds;
 ghost use Rattle.lsv_lane.specs.Store.{IsFresh};
 ghost use Rattle.lsv_endpoint.specs.Ports.{IsUnopened};
-ghost use Rattle.lsv_server.specs.Runs.{HasEndCause};
+ghost use Rattle.lsv_service.specs.Runs.{HasEndCause};
 ghost use Rattle.lsv_serve.specs.Causes.{HasPlaces};
 ghost use Rattle.lsv_serve.specs.InnerServe.{RunsAs, told};
 ghost use Rattle.lsv_serve.specs.Once.{once_settings};
@@ -23,7 +23,7 @@ use lsv_lane::Bay;
 use lsv_mask::{Prompt, Search};
 use lsv_port::Port;
 use lsv_reactor::PortsEnd;
-use lsv_server::{End, Notices, Plan, Site, serve_store};
+use lsv_service::{End, Notices, Plan, Site, serve_store};
 use lsv_turn::Tape;
 use std::alloc::Global;
 

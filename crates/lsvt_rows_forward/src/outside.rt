@@ -3,7 +3,7 @@
 use lsv_base::{Clock, LogNo, TimeSpec};
 use lsv_dialogue::Cause;
 use lsv_forward::{Outcome, RelayNotices};
-use lsv_server::{Notices, Site};
+use lsv_service::{Notices, Site};
 use std::alloc::{AllocError, Global};
 
 /// A clock that stands still.

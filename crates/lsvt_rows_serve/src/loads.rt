@@ -11,7 +11,7 @@ use lsv_lane::Bay;
 use lsv_load::{LoadEnd, run_load};
 use lsv_mask::{Prompt, TextSearch};
 use lsv_seq::Numbers;
-use lsv_server::Plan;
+use lsv_service::Plan;
 use lsv_turn::NoTape;
 use lsvt_doubles::{Hostile, Plan as Fate};
 use std::alloc::Global;

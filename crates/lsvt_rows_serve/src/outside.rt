@@ -2,7 +2,7 @@
 
 use lsv_base::{Bytes, Clock, LogNo, TimeSpec};
 use lsv_forward::{Outcome, RelayNotices};
-use lsv_server::{Notices, Site};
+use lsv_service::{Notices, Site};
 use std::alloc::Global;
 
 /// A clock that stands still.

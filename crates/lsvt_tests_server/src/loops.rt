@@ -8,7 +8,7 @@ use lsv_lane::Bay;
 use lsv_mask::{Prompt, TextSearch};
 use lsv_msg::decode_client;
 use lsv_reactor::PortsEnd;
-use lsv_server::{End, Plan, Site, serve_store};
+use lsv_service::{End, Plan, Site, serve_store};
 use lsv_session::Body;
 use lsv_turn::MemTape;
 use lsv_wire::Framer;

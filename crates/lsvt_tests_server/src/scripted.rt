@@ -4,7 +4,7 @@ ghost use Rattle.lsvt_tests_server.specs.Nothing.{no_port};
 
 use lsv_base::{Clock, TimeSpec};
 use lsv_reactor::{Post, PostEnd};
-use lsv_server::{Notices, Site};
+use lsv_service::{Notices, Site};
 use lsv_session::{Body, ConnId, Job, Reply, ReplyBody};
 
 /// A clock that stands still.

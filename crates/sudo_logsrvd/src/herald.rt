@@ -6,7 +6,7 @@ ghost use Rattle.std.specs.Net.Grammar.{IsIpText};
 ghost use Rattle.std.specs.declared.net.ip_addr.IpAddr.{IpAddr};
 
 use lsv_base::LogNo;
-use lsv_server::{Notices, Site};
+use lsv_service::{Notices, Site};
 use std::net::IpAddr;
 use std::str;
 

@@ -3,8 +3,8 @@ use Rattle.std.proofs.Common.{◌∙◌, subst}
 use Rattle.lsv_disk.specs.View.{DiskView, Image}
 use Rattle.lsv_lane.specs.Store.{KeepsStore}
 use Rattle.lsv_reactor.specs.declared.rounds.PortsEnd.TheVariants.{Stopped}
-use Rattle.lsv_server.specs.Runs.{RunsStore}
-use Rattle.lsv_server.specs.declared.run.End.TheVariants.{Over}
+use Rattle.lsv_service.specs.Runs.{RunsStore}
+use Rattle.lsv_service.specs.declared.run.End.TheVariants.{Over}
 use Rattle.lsv_turn.specs.Turns.{replies_in}
 use Rattle.lsv_load.specs.Numbers.{numbers_told}
 use Rattle.lsv_load.specs.Replayed.{AreReplayed}

@@ -1,7 +1,7 @@
 -- Behind the turns the disk was only read.
 use Rattle.std.proofs.Common.{◌∙◌}
 use Rattle.lsv_reactor.specs.declared.rounds.PortsEnd.TheVariants.{Stopped}
-use Rattle.lsv_server.specs.declared.run.End.TheVariants as ends
+use Rattle.lsv_service.specs.declared.run.End.TheVariants as ends
 use Rattle.lsv_iolog.proofs.Scans.{reads_nothing}
 use Rattle.lsv_load.proofs.Running.{at_err, at_ok, fresh_read, served_ends}
 use Rattle.lsv_load.proofs.run.load_lane.Goals as goal

@@ -43,9 +43,9 @@ use Rattle.lsv_links.specs.Links.{AtMostStarved, Brings, Puts, ServesBy, ServesL
 use Rattle.lsv_links.specs.Links as links
 use Rattle.lsv_links.specs.Views.{LinkFailed, PortView}
 use Rattle.lsv_links.proofs.LaneLemmas.{one_lane_serves}
-use Rattle.lsv_server.specs.Complete.{AllAmple, AreAmple, Completes, IsServedBy, IsUnhindered, answers_of, came_by, messages_of}
-use Rattle.lsv_server.proofs.Leaving.{isnt_shut_early, unshut_replies}
-use Rattle.lsv_server.proofs.Sent.{NoGone, ends_with_gone, first_no_gone, jobs_no_gone, replies_are, said_all, spoken, spoken_all, told_same, turns_sent}
+use Rattle.lsv_service.specs.Complete.{AllAmple, AreAmple, Completes, IsServedBy, IsUnhindered, answers_of, came_by, messages_of}
+use Rattle.lsv_service.proofs.Leaving.{isnt_shut_early, unshut_replies}
+use Rattle.lsv_service.proofs.Sent.{NoGone, ends_with_gone, first_no_gone, jobs_no_gone, replies_are, said_all, spoken, spoken_all, told_same, turns_sent}
 
 -- ---- Counts that didn't rise
 

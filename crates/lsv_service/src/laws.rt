@@ -6,9 +6,9 @@ ghost use Rattle.lsv_links.specs.Lanes.{one_lane};
 ghost use Rattle.lsv_links.specs.Links.{ServesPort};
 ghost use Rattle.lsv_links.specs.Views.{PortView};
 ghost use Rattle.lsv_reactor.specs.declared.rounds.PortsEnd.{PortsEnd};
-ghost use Rattle.lsv_server.specs.Complete.{Completes};
-ghost use Rattle.lsv_server.specs.Runs.{RunsStore};
-ghost use Rattle.lsv_server.specs.declared.run.End.TheVariants.{Over};
+ghost use Rattle.lsv_service.specs.Complete.{Completes};
+ghost use Rattle.lsv_service.specs.Runs.{RunsStore};
+ghost use Rattle.lsv_service.specs.declared.run.End.TheVariants.{Over};
 ghost use Rattle.lsv_turn.specs.Turns.{LaneTurn, TapeTurn, jobs_in, replies_in};
 
 use lsv_disk::Disk;

@@ -7,7 +7,7 @@ ghost use Rattle.lsv_lane.specs.Store.{IsFresh, lane_settings};
 ghost use Rattle.lsv_keeper.specs.declared.fault.StoreFault.{StoreFault};
 ghost use Rattle.lsv_reactor.specs.Served.{KeepPorts, PutsAll, ServesAll};
 ghost use Rattle.lsv_reactor.specs.declared.rounds.PortsEnd.{PortsEnd};
-ghost use Rattle.lsv_server.specs.Runs.{HasEndCause, LeavesPorts, ListenAt, RunsStore, unopened};
+ghost use Rattle.lsv_service.specs.Runs.{HasEndCause, LeavesPorts, ListenAt, RunsStore, unopened};
 
 use crate::{Notices, Plan, Site};
 use lsv_base::{Clock, NoMem};

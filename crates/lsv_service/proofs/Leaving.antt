@@ -29,7 +29,7 @@ use Rattle.lsv_progress.specs.Among.{FitsAmong, IsUndisturbed, NeverGone, answer
 use Rattle.lsv_progress.proofs.Served.{isnt_shut_among}
 use Rattle.lsv_lane.proofs.Farewells.{IsUnknown, gone_unknown}
 use Rattle.lsv_turn.specs.Turns as lane_turns
-use Rattle.lsv_server.proofs.Written.{AllWritten, Ends, Written, could_end, run_written}
+use Rattle.lsv_service.proofs.Written.{AllWritten, Ends, Written, could_end, run_written}
 
 -- ---- Histories in two parts
 

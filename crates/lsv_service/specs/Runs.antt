@@ -15,8 +15,8 @@ use Rattle.lsv_port.specs.Ledger.{Listening, WasAsked}
 use Rattle.lsv_links.specs.Turns.{AreSized}
 use Rattle.lsv_links.specs.Views.{PortView}
 use Rattle.lsv_reactor.specs.Served.{PutsAll}
-use Rattle.lsv_server.specs.declared.run.End.{End}
-use Rattle.lsv_server.specs.declared.run.End.TheVariants.{Over, Store, NoMem}
+use Rattle.lsv_service.specs.declared.run.End.{End}
+use Rattle.lsv_service.specs.declared.run.End.TheVariants.{Over, Store, NoMem}
 
 -- the store was opened; out of memory it was where a turn was made
 abbrev pub IsUp : End → List LaneTurn → Type 0

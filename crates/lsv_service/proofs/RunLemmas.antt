@@ -19,10 +19,10 @@ use Rattle.lsv_keeper.specs.declared.fault.StoreFault.TheVariants as faults
 use Rattle.lsv_seq.specs.Drawn.{entry_at}
 use Rattle.lsv_turn.specs.Turns.{LaneTurn, TapeTurn}
 use Rattle.lsv_lane.specs.Store.{KeepsStore, OwnerFailed}
-use Rattle.lsv_server.specs.Runs.{HasEndCause, HasTurns, IsUp, LeavesPorts, ListenAt, ListenFailed, RunsStore, unopened}
+use Rattle.lsv_service.specs.Runs.{HasEndCause, HasTurns, IsUp, LeavesPorts, ListenAt, ListenFailed, RunsStore, unopened}
 use Rattle.lsv_reactor.specs.declared.rounds.PortsEnd.{PortsEnd}
-use Rattle.lsv_server.specs.declared.run.End.{End}
-use Rattle.lsv_server.specs.declared.run.End.TheVariants.{Over, Store, NoMem}
+use Rattle.lsv_service.specs.declared.run.End.{End}
+use Rattle.lsv_service.specs.declared.run.End.TheVariants.{Over, Store, NoMem}
 
 -- what holds where the store was opened, holds for less
 pub keeps_less : (up less : Type 0) (set : Settings) (texts : List (List ℕ)) (o : Outside) (turns : List LaneTurn) → (less → up) → KeepsStore up set texts o turns → KeepsStore less set texts o turns

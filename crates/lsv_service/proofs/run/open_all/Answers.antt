@@ -2,8 +2,8 @@ use Rattle.std.proofs.Common.{◌≡◌, ◌<◌, ◌≤◌, ◌∙◌, [], ℕ,
 use Rattle.std.specs.Prelude.{slice_get}
 use Rattle.std.proofs.lemmas.Option.{slice_get-get_or, slice_get_within}
 use Rattle.lsv_reactor.proofs.Places.{set_there}
-use Rattle.lsv_server.proofs.RunLemmas.{asked_more, set_all}
-use Rattle.lsv_server.proofs.run.open_all.Goals as goal
+use Rattle.lsv_service.proofs.RunLemmas.{asked_more, set_all}
+use Rattle.lsv_service.proofs.run.open_all.Goals as goal
 
 pub posts-init : goal.posts-init
 posts-init g c = record { numbered = λ h. h; made = λ starts h. h; later = λ i post low e. e; asked = λ told i old new less was is. absurd (omega (arith, less)) }

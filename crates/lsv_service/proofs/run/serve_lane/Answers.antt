@@ -1,8 +1,8 @@
 use Rattle.std.proofs.Common.{◌≢◌, [], subst}
 use Rattle.lsv_reactor.specs.Served.{ServesAll}
 use Rattle.lsv_reactor.specs.declared.rounds.PortsEnd.{PortsEnd}
-use Rattle.lsv_server.proofs.RunLemmas.{keeps_less, same_end}
-use Rattle.lsv_server.proofs.run.serve_lane.Goals as goal
+use Rattle.lsv_service.proofs.RunLemmas.{keeps_less, same_end}
+use Rattle.lsv_service.proofs.run.serve_lane.Goals as goal
 
 pub returns-in-Ok-clause-runs : goal.returns-in-Ok-clause-runs
 returns-in-Ok-clause-runs g c = λ starts start made lane.

@@ -26,7 +26,7 @@ use Rattle.lsv_progress.specs.Among.{answers_to, came_of, sent_in}
 use Rattle.lsv_turn.specs.Turns as lane_turns
 use Rattle.lsv_turn.specs.Turns.{LaneTurn, jobs_in, replies_in}
 use Rattle.lsv_lane.specs.Store.{AreTurns}
-use Rattle.lsv_server.specs.Complete.{came_by, messages_of}
+use Rattle.lsv_service.specs.Complete.{came_by, messages_of}
 
 -- ---- Without the Gone
 

@@ -1,8 +1,8 @@
 use Rattle.std.proofs.Common.{[], ap}
 use Rattle.lsv_lane.specs.Store.{lane_settings}
 use Rattle.lsv_port.specs.Ledger.{Listening}
-use Rattle.lsv_server.proofs.RunLemmas.{keeps_ports, leaves_ports, listen_on, not_over, runs_unopened, unopened_cause}
-use Rattle.lsv_server.proofs.run.serve_store.Goals as goal
+use Rattle.lsv_service.proofs.RunLemmas.{keeps_ports, leaves_ports, listen_on, not_over, runs_unopened, unopened_cause}
+use Rattle.lsv_service.proofs.run.serve_store.Goals as goal
 
 pub returns-in-Err-clause-runs : goal.returns-in-Err-clause-runs
 returns-in-Err-clause-runs g c = λ starts made. rw c.unopened-end.ensures (

@@ -1,7 +1,7 @@
 use Rattle.std.proofs.Common.{◌≡◌, ◌<◌, ◌≤◌, [], ℕ, Some, length, slice_get}
 use Rattle.lsv_port.specs.Ledger.{WasAsked}
-use Rattle.lsv_server.specs.Runs.{ListenFailed}
-use Rattle.lsv_server.proofs.run.open_all.Given as goal
+use Rattle.lsv_service.specs.Runs.{ListenFailed}
+use Rattle.lsv_service.proofs.run.open_all.Given as goal
 
 abbrev pub invariant-posts : goal.invariant-posts
 invariant-posts g l = record {
