@@ -59,7 +59,7 @@ held rows pending = record { rows = rows; pending = pending; skip = 0 }
 abbrev pub at : List Row → Option (Text × List Text) → ℕ → Walk
 at rows pending position = record { held = held rows pending; waiting = idle; position = position; is_trailing = false; stopped = None }
 
--- behind the name of an option
+-- after the name of an option
 abbrev pub behind : List Row → Text → ℕ → Walk
 behind rows id position = record { held = held rows (Some (id, [])); waiting = option id; position = position; is_trailing = false; stopped = None }
 

@@ -1,4 +1,4 @@
--- The words of `once` and of `load` are taken, with the option of `load` in front of its number or behind it.
+-- The words of `once` and of `load` are taken, with the option of `load` in front of its number or after it.
 use Rattle.std.proofs.Common.{◌≡◌, ◌∙◌, ◌&&◌, ◌==◌, ℕ, true, false, List, [], ◌∷◌, ◌++◌, Option, Some, None, codes, fold, refl, ap, ap₂, option_map}
 use lib.Utf8.{encode}
 use Rattle.std.specs.Option.{option_and_then}
@@ -90,7 +90,7 @@ once_asked file good =
 
 -- ---- the number of `load`
 
--- what is pending behind `-f FILE`, where it is given
+-- what is pending after `-f FILE`, where it is given
 abbrev pending_of : Option Text → Option (Text × List Text)
 pending_of None = None
 pending_of (Some v) = Some (codes "conf", v ∷ [])
@@ -126,7 +126,7 @@ counts (b ∷ bytes) good =
       adds = λ rows fresh. adds_row (filled count) (b ∷ bytes) rows refl fresh;
     }
 
--- the number in front of words that are taken behind it
+-- the number in front of words that are taken after it
 count_taken : (n : Text) (c : Counts n) (rows : List Row) (file : Option Text) (rest : List Text) (all : List Row) → settle_fault loaded.rules false (held rows (pending_of file)) ≡ []
     → Taken loaded (at (settled_rows loaded.rules (pending_of file) rows) (Some (codes "count", n ∷ [])) 2) rest all → Taken loaded (at rows (pending_of file) 1) (n ∷ rest) all
 unfolding walk_fault
@@ -141,7 +141,7 @@ count_taken n c rows file rest all settle t = record {
 abbrev count_row : Text → Row
 count_row n = row_of (filled count) n
 
--- the number behind the option
+-- the number after the option
 behind_walk : (file : Option Text) (n : Text) → is_file file ≡ true → is_count n ≡ true → Taken loaded (at [] None 1) (file_words file ++ n ∷ []) (file_rows file ++ count_row n ∷ [])
 unfolding walk_fault
 behind_walk None n good number =

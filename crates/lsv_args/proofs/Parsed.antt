@@ -55,7 +55,7 @@ number_parsed {E} text (Ok n) h =
     ap (λ k. Some k) h.1 ∙ ap (λ t. cond t (Some (digits_value 10 ds)) None) (sym (numeral_fits ds h.0.0 h.0.1))
 number_parsed {E} text (Err e) h = unread (without_leading_plus text) (is_numeral (without_leading_plus text) && nat_lt (digits_value 10 (without_leading_plus text)) (2 ^ 32)) refl h
 
--- a text or another, behind references
+-- a text or another, after references
 pub unwrapped : (o : Option (Bor (List ℕ))) (d : Bor (List ℕ)) → (unwrap_or o d).now ≡ unwrap_or (option_map (λ s. s.now) o) d.now
 unwrapped None d = refl
 unwrapped (Some s) d = refl

@@ -120,7 +120,7 @@ used_one id acc a v rows is none good =
     let push = used_push a v rows is.sets fresh in
     subst (HasValue id acc) (sym push.1) (value_push id acc rows push.0 good (λ same. (v, push.3, sym (is.passes (ap (λ x. bytes_eq x id) (sym push.2) ∙ same) v) ∙ passes)))
 
--- the rows behind a use that is taken
+-- the rows after a use that is taken
 pub used_passes : (id : Text) (acc : Text → Bool) (a : Rule) (values : List Text) (rows : List Row) → IsPlainRule id acc a → use_fault false a values rows ≡ [] → HasValue id acc rows → HasValue id acc (used a values rows)
 used_passes id acc a values rows is none good =
     let parts = both_none _ _ none in

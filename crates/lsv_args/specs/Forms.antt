@@ -1,4 +1,4 @@
--- Options of a command, as they stand behind it in any order.
+-- Options of a command, as they stand after it in any order.
 use Rattle.std.specs.Prelude.{◌==◌, ◌&&◌, ℕ, List, [], ◌∷◌, Option, Some, None, Bool, true, false, not, is_some, codes, unwrap_or, option_and_then}
 use Rattle.std.specs.List.{flat_map}
 use Rattle.clap.specs.ValueTests.{accepts}
@@ -54,7 +54,7 @@ stop_after_in (File v ∷ more) = stop_after_in more
 stop_after_in (Lanes v ∷ more) = stop_after_in more
 stop_after_in (StopAfter v ∷ more) = Some v
 
--- whether the first of these is another option than all behind it
+-- whether the first of these is another option than all after it
 abbrev pub is_other : Given → List Given → Bool
 is_other (File v) more = not (is_some (file_in more))
 is_other (Lanes v) more = not (is_some (lanes_in more))

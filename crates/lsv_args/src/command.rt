@@ -25,7 +25,7 @@ pub enum Command {
     Serve(Opts),
     /// Sends stored logs to another server.
     Relay(Opts),
-    /// So many generated connections.
+    /// This many generated connections.
     Load(Opts, u32),
 }
 

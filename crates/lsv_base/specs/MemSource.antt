@@ -13,7 +13,7 @@ abbrev pub first_piece : List (List ℕ) → List ℕ
 first_piece [] = []
 first_piece (piece ∷ pieces) = piece
 
--- these pieces without so many bytes of the first one
+-- these pieces without this many bytes of the first one
 abbrev pub without_front : ℕ → List (List ℕ) → List (List ℕ)
 without_front n [] = []
 without_front n (piece ∷ pieces) = drop n piece ∷ pieces

@@ -100,7 +100,7 @@ impl Bytes {
         }
     }
 
-    /// Forgets the first bytes, so many. A large block that holds none then is let go.
+    /// Forgets the first bytes, this many. A large block that holds none then is let go.
     pub fn drop_front(&mut self, count: usize)
         requires { count ≤ length self.old }
         ensures { self.new ≡ drop count self.old }
@@ -116,7 +116,7 @@ impl Bytes {
         }
     }
 
-    /// Each of the first bytes, so many, becomes this one.
+    /// Each of the first bytes, this many, becomes this one.
     pub fn fill_front(&mut self, count: usize, byte: u8)
         requires { count ≤ length self.old }
         ensures { self.new ≡ replicate count byte ++ drop count self.old }
@@ -155,7 +155,7 @@ impl Bytes {
     }
 }
 
-/// Each of the first bytes, so many, becomes this one.
+/// Each of the first bytes, this many, becomes this one.
 fn fill_front(bytes: &mut [u8], count: usize, byte: u8)
     requires { count ≤ length bytes.old }
     ensures { bytes.new ≡ replicate count byte ++ drop count bytes.old }

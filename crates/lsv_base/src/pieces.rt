@@ -49,7 +49,7 @@ impl Pieces {
         }
     }
 
-    /// Takes so many bytes off the first piece.
+    /// Takes this many bytes off the first piece.
     pub fn advance(&mut self, n: usize)
         requires { n ≤ length (first_piece self.old) }
         ensures { self.new ≡ from_filled (without_front n self.old) }

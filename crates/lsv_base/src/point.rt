@@ -52,7 +52,7 @@ impl Point {
         }
     }
 
-    /// The point so many nanoseconds later, where there is one.
+    /// The point this many nanoseconds later, where there is one.
     pub fn plus(self, nanos: u64) -> Option<Self>
         ensures { SomeIff result (self + nanos < 2 ^ 63) (self + nanos) }
     {

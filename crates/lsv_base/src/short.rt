@@ -5,7 +5,7 @@ ghost use Rattle.std.specs.Bool.{OnFalse, OnTrue};
 
 use std::marker::Model;
 
-/// So many bytes are a few: with them, `Bytes` takes 32 bytes, and so it does with a vector.
+/// This many bytes are a few: with them, `Bytes` takes 32 bytes, and so it does with a vector.
 const SIZE: usize = 30;
 
 /// At most 30 bytes.
@@ -60,7 +60,7 @@ impl Short {
         }
     }
 
-    /// Forgets the first bytes, so many.
+    /// Forgets the first bytes, this many.
     pub fn drop_front(&mut self, count: usize)
         requires { count ≤ length self.old }
         ensures { self.new ≡ drop count self.old }
@@ -70,7 +70,7 @@ impl Short {
         *self = rest;
     }
 
-    /// Each of the first bytes, so many, becomes this one.
+    /// Each of the first bytes, this many, becomes this one.
     pub fn fill_front(&mut self, count: usize, byte: u8)
         requires { count ≤ length self.old }
         ensures { self.new ≡ replicate count byte ++ drop count self.old }

@@ -187,7 +187,7 @@ zero_lengths Id = refl
 zero_lengths Commit = refl
 zero_lengths Slots = refl
 
--- the data files of a shape, of which so many bytes are committed
+-- the data files of a shape, of which this many bytes are committed
 abbrev pub fresh : List ℕ → Part → FileView
 fresh lengths part = record { part = part; committed = slice_index lengths (index_of part); staged = [] }
 

@@ -1,4 +1,4 @@
--- The first bytes of a file, before and after a write behind them.
+-- The first bytes of a file, before and after a write after them.
 use Rattle.std.proofs.Common.{◌≡◌, ℕ, ◌+◌, ◌≤◌, List, ◌++◌, length, take, drop, Option, Some, None, sym, ◌∙◌, ap, subst, arith, append_assoc, length-append}
 use Rattle.std.proofs.lemmas.List.{take-append-drop, take_at, length-take-le}
 use Rattle.lsv_defs.specs.Pieces.{IsPrefix}
@@ -31,7 +31,7 @@ pub prefix_before : (prefix more : List ℕ) (file : Option (List ℕ)) → HasP
 prefix_before prefix more None is = elim is [ ]
 prefix_before prefix more (Some bytes) is = (more ++ is.0, is.1 ∙ append_assoc prefix more is.0)
 
--- a write behind them leaves the first bytes, whatever else a crash leaves of it
+-- a write after them leaves the first bytes, whatever else a crash leaves of it
 pub torn_prefix : (n m : ℕ) (old new : Option (List ℕ)) (content : List ℕ) → old ≡ Some content → Torn n m old new → HasPrefix (take n (bytes_of old)) new
 torn_prefix n m (Some o) (Some w) content there torn =
     (drop n w, sym (take-append-drop n w) ∙ ap (λ (l : List ℕ). l ++ drop n w) torn.before)

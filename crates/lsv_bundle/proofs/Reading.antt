@@ -35,13 +35,13 @@ piece_of_prefix content n at m = elim (cases_lt n at) [
       ∙ take_of_take m (n - at) (drop at content)
 ]
 
--- what stands behind the bytes that were read
+-- what stands after the bytes that were read
 pub behind : (n room : ℕ) (buf : List ℕ) → n ≤ room → room ≤ length buf → drop n (take room buf) ++ drop room buf ≡ drop n buf
 behind n room buf less within =
     sym (drop-append-le n (take room buf) (drop room buf) (let k = length-take-le room buf within in omega (arith, k, less)))
     ∙ ap (drop n) (take-append-drop room buf)
 
--- a read of so many bytes of the file as are committed and as the buffer takes
+-- a read of this many bytes of the file as are committed and as the buffer takes
 module _ (content buf new : List ℕ) (committed at room count : ℕ) (room_is : room ≡ min (committed - at) (length buf)) where
   within : room ≤ length buf
   within = omega (arith, room_is)

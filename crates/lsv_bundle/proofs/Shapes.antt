@@ -237,7 +237,7 @@ eight_at shape.Log lengths Slots is = elim is [ ]
 eight_at shape.Lines lengths part is = subst (λ (p : Part). slice_index (eight shape.Lines lengths) (index_of p) ≡ lengths p) (sym is) refl
 eight_at shape.Relay lengths part is = subst (λ (p : Part). slice_index (eight shape.Relay lengths) (index_of p) ≡ lengths p) (sym is) refl
 
--- once what is staged is committed, so many bytes are, and nothing is staged
+-- once what is staged is committed, this many bytes are, and nothing is staged
 pub commit_lengths : (files : List FileView) (i : ℕ) → slice_index (map (λ f. f.committed) (map commit_file files)) i ≡ slice_index (map (λ f. f.committed) files) i + length (slice_index_or (map (λ f. f.staged) files) i [])
 commit_lengths [] i = refl
 commit_lengths (file ∷ files) zero = refl
@@ -450,7 +450,7 @@ shape_distinct owner shape.Log = (
 shape_distinct owner shape.Lines = (λ is. is, tt)
 shape_distinct owner shape.Relay = (λ is. is, tt)
 
--- the journal's part behind the parts of a list
+-- the journal's part after the parts of a list
 module _ (owner : Owner) where
   some_more : (parts : List Part) (f : FileId) → IsOneOf owner parts f → IsOneOf owner (parts ++ (Slots ∷ [])) f
   some_more [] f is = elim is [ ]

@@ -31,7 +31,7 @@ Differ (file ∷ files) = Each (λ other. other.part ≢ file.part) files × Dif
 abbrev pub KeepsPrefix : Owner → DiskView → Image → FileView → Type 0
 KeepsPrefix owner old image file = HasPrefix (prefix_at old (file_of owner file.part) file.committed) (image (file_of owner file.part))
 
--- what was staged reads behind the committed bytes, and where nothing was, a crash leaves the file as it reads
+-- what was staged reads after the committed bytes, and where nothing was, a crash leaves the file as it reads
 pub record IsAppended (owner : Owner) (old new : DiskView) (file : FileView) : Type 0 where
   pub content : List ℕ
   pub there : new.reads (file_of owner file.part) ≡ Some content
@@ -60,7 +60,7 @@ EachPart P (part ∷ parts) = P part × EachPart P parts
 abbrev pub commit_file : FileView → FileView
 commit_file file = record { part = file.part; committed = file.committed + length file.staged; staged = [] }
 
--- data files of which so many bytes are committed, and nothing is staged
+-- data files of which this many bytes are committed, and nothing is staged
 abbrev pub cut_to : List FileView → List ℕ → List FileView
 cut_to [] lengths = []
 cut_to (file ∷ files) [] = file ∷ files

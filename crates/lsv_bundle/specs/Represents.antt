@@ -46,7 +46,7 @@ pub record Represents (bundle : BundleView) (disk : DiskView) : Type 0 where
   pub files : Each (IsDurableFile bundle.owner disk) bundle.files
   pub lengths : (body : Body) → bundle.last ≡ Some body → (part : Part) → IsPart bundle.shape part → length_of body part ≡ committed_length bundle part
 
--- a crash leaves behind the committed bytes of the file what is staged of it
+-- a crash leaves after the committed bytes of the file what is staged of it
 pub record IsWritten (owner : Owner) (disk : DiskView) (file : FileView) : Type 0 where
   pub durable : IsDurable disk (file_of owner file.part) (file.committed + length file.staged)
   pub extended : prefix_at disk (file_of owner file.part) (file.committed + length file.staged) ≡ prefix_at disk (file_of owner file.part) file.committed ++ file.staged

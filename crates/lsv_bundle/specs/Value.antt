@@ -9,7 +9,7 @@ use Rattle.lsv_bundle.specs.declared.shape.Shape.{Shape}
 use Rattle.lsv_bundle.specs.declared.body.Body.{Body}
 use Rattle.lsv_bundle.specs.Shape.{IsPart, index_of, eight}
 
--- a data file: how many of its bytes are committed, and what is staged behind them
+-- a data file: how many of its bytes are committed, and what is staged after them
 pub record FileView : Type 0 where
   pub part : Part
   pub committed : ℕ

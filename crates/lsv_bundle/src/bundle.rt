@@ -26,7 +26,7 @@ use std::alloc::Global;
 use std::marker::Model;
 
 /// A journal and up to eight data files. Its last entry says how many bytes of each data file are committed; what
-/// is staged stands behind them only once the next entry is there.
+/// is staged stands after them only once the next entry is there.
 #[derive(Drop)]
 pub struct Bundle {
     pub(crate) owner: Owner,
@@ -143,7 +143,7 @@ impl Bundle {
         Body::new(kind, count, elapsed, next_lengths(&self.files), extra)
     }
 
-    /// Stages these bytes of a part behind what is staged. `Full(part)` exactly where the file would pass 2^40
+    /// Stages these bytes of a part after what is staged. `Full(part)` exactly where the file would pass 2^40
     /// bytes with them, `Broken` exactly where the bundle is: where it fails, it is unchanged.
     pub fn stage(&mut self, part: Part, bytes: &[u8]) -> Result<(), BundleFault>
         requires part { IsPart self.old.shape part }
@@ -165,7 +165,7 @@ impl Bundle {
         Ok(())
     }
 
-    /// Keeps of a part so many of the staged bytes, and forgets those behind them. Where they were all that was staged
+    /// Keeps of a part this many of the staged bytes, and forgets those after them. Where they were all that was staged
     /// since, the bundle is as it was before. It takes no memory.
     pub fn unstage(&mut self, part: Part, keep: usize)
         requires part { IsPart self.old.shape part }

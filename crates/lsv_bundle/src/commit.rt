@@ -79,75 +79,12 @@ impl Bundle {
         commit(&mut self.files);
     }
 
-    /// So many bytes of each data file are committed.
+    /// This many bytes of each data file are committed.
     fn cut_files(&mut self, lengths: &[u64])
         requires { length lengths.now ≡ 8 }
         ensures { self.new ≡ with_files self.old (cut_to self.old.files lengths.now) }
     {
         cut(&mut self.files, lengths);
-    }
-
-    /// The first of three steps that come to a flush, so that those of several bundles can go phase by phase: writes of
-    /// each data file what is staged, and then syncs each of which something is. Each crash image holds what was
-    /// committed before. The faults of each step are those of `flush`.
-    pub fn write_data<D: Disk>(&mut self, disk: &mut D) -> Result<(), BundleFault>
-        requires represents { D.tells → self.old.is_broken ≡ false → Represents self.old (D.view disk.old) }
-        ensures same { OnOk result (self.new ≡ self.old) }
-        ensures whole { OnOk result (self.new.is_broken ≡ false) }
-        ensures any_moment { D.tells → self.old.is_broken ≡ false → Throughout (IsDataFile self.old.owner self.old.shape) (KeepsCommitted self.old (D.view disk.old)) (D.view disk.old) (D.view disk.new) }
-        ensures written { D.tells → OnOk result (DataIsWritten self.new (D.view disk.new)) }
-        ensures below { D.tells → self.old.is_broken ≡ false → (part : Part) → IsPart self.old.shape part
-            → committed_bytes self.old (D.view disk.new) part ≡ committed_bytes self.old (D.view disk.old) part }
-        ensures represents { D.tells → self.new.is_broken ≡ false → Represents self.new (D.view disk.new) }
-        ensures synced { D.tells → OnOk result (SyncsStaged self.old (D.view disk.old) (D.view disk.new)) }
-        ensures calls { D.tells → CallsAtMost 1 1 (IsStagedFile self.old) (D.view disk.old) (D.view disk.new) }
-        ensures disk { IsErrOf result BundleFault.Disk → self.new.is_broken ≡ true }
-        ensures fault { IfErr result (λ e. (e ≡ BundleFault.Disk) ⊎ (e ≡ BundleFault.Broken)) }
-        ensures cause { HasOwnCause (IsDataFile self.old.owner self.old.shape) (IsErrOf result BundleFault.Disk) (D.view disk.old) (D.view disk.new) }
-        ensures blame { HasOwnCause (IsStagedFile self.old) (IsErrOf result BundleFault.Disk) (D.view disk.old) (D.view disk.new) }
-        ensures broken { IsErrOf result BundleFault.Broken ↔ (self.old.is_broken ≡ true) }
-        ensures kept { KeptAtError (IsErr result) (IsErrOf result BundleFault.Broken) self.old self.new disk.old disk.new }
-    {
-        self.check_whole()?;
-        if write_staged(disk, self.owner, &self.files).is_err() {
-            self.is_broken = true;
-            return Err(BundleFault::Disk);
-        }
-        Ok(())
-    }
-
-    /// The second of the three steps: writes the next entry into the journal's free slot, and syncs. Each crash image
-    /// holds what was committed before.
-    pub fn write_entry<D: Disk>(
-        &mut self,
-        disk: &mut D,
-        kind: u8,
-        count: u64,
-        elapsed: u64,
-        extra: u64,
-    ) -> Result<(), BundleFault>
-        requires represents { D.tells → self.old.is_broken ≡ false → Represents self.old (D.view disk.old) }
-        ensures value { OnOk result (IsEntryWritten (next_body self.old kind count elapsed extra) self.old self.new) }
-        ensures any_moment { D.tells → self.old.is_broken ≡ false → Throughout (λ g. g ≡ journal_of self.old.owner) (KeepsCommitted self.old (D.view disk.old)) (D.view disk.old) (D.view disk.new) }
-        ensures written { D.tells → OnOk result (DataIsWritten self.old (D.view disk.old) → DataIsWritten self.new (D.view disk.new)) }
-        ensures represents { D.tells → self.new.is_broken ≡ false → Represents self.new (D.view disk.new) }
-        ensures synced { D.tells → OnOk result ((D.view disk.new).syncs (journal_of self.old.owner) ≡ (D.view disk.old).syncs (journal_of self.old.owner) + 1) }
-        ensures calls { D.tells → CallsAtMost 1 1 (λ g. g ≡ journal_of self.old.owner) (D.view disk.old) (D.view disk.new) }
-        ensures disk { IsErrOf result BundleFault.Disk → self.new.is_broken ≡ true }
-        ensures fault { IfErr result (λ e. (e ≡ BundleFault.Disk) ⊎ (e ≡ BundleFault.Broken)) }
-        ensures cause { HasOwnCause (IsOwn (journal_of self.old.owner)) (IsErrOf result BundleFault.Disk) (D.view disk.old) (D.view disk.new) }
-        ensures blame { HasCause (journal_of self.old.owner) (IsErrOf result BundleFault.Disk) (D.view disk.old) (D.view disk.new) }
-        ensures broken { IsErrOf result BundleFault.Broken ↔ (self.old.is_broken ≡ true) }
-        ensures kept { KeptAtError (IsErr result) (IsErrOf result BundleFault.Broken) self.old self.new disk.old disk.new }
-    {
-        self.check_whole()?;
-        let body = self.next_body(kind, count, elapsed, extra);
-        if self.journal.write_slot(disk, body.encode()).is_err() {
-            self.is_broken = true;
-            return Err(BundleFault::Disk);
-        }
-        self.prepared = Some(body);
-        Ok(())
     }
 
     /// The last step of a flush: selects the entry that was written, and syncs. Its lengths are those of what is
@@ -265,7 +202,7 @@ impl Bundle {
         self.select_entry(disk)
     }
 
-    /// Adds one entry, of kind 2, that commits so many bytes of each data file, none more than before, and writes to
+    /// Adds one entry, of kind 2, that commits this many bytes of each data file, none more than before, and writes to
     /// no data file. Nothing is staged. At every moment a crash leaves what was committed before or what is now, and
     /// after Ok the latter alone. The faults are those of `flush`, `Disk` only where a device call on the journal's
     /// file of slots failed. It takes no memory.

@@ -21,7 +21,7 @@ pub(crate) const FILE_LIMIT: u64 = 1 << 40;
 /// A buffer of more bytes is let go once what is staged in it is committed.
 const KEPT_CAPACITY: usize = 1 << 17;
 
-/// A data file of a bundle: how many of its bytes are committed, and what is staged behind them.
+/// A data file of a bundle: how many of its bytes are committed, and what is staged after them.
 #[derive(Debug, Drop)]
 pub(crate) struct DataFile {
     part: Part,
@@ -65,7 +65,7 @@ impl DataFile {
         self.committed.saturating_sub(at)
     }
 
-    /// Stages these bytes behind what is staged, which all together are fewer than 2^64.
+    /// Stages these bytes after what is staged, which all together are fewer than 2^64.
     pub(crate) fn stage(&mut self, bytes: &[u8]) -> Result<(), AllocError>
         requires fits { self.old.committed + length self.old.staged + length bytes.now < 2 ^ 64 }
         ensures ok { OnOk result (self.new ≡ record { part = self.old.part; committed = self.old.committed; staged = self.old.staged ++ bytes.now }) }
@@ -74,7 +74,7 @@ impl DataFile {
         self.staged.extend_from_slice(bytes)
     }
 
-    /// Keeps so many of the staged bytes, and forgets those behind them.
+    /// Keeps this many of the staged bytes, and forgets those after them.
     pub(crate) fn unstage(&mut self, keep: usize)
         ensures { self.new ≡ record { part = self.old.part; committed = self.old.committed; staged = take keep self.old.staged } }
     {
@@ -89,7 +89,7 @@ impl DataFile {
         empty(&mut self.staged);
     }
 
-    /// So many bytes are committed from now on, and nothing is staged.
+    /// This many bytes are committed from now on, and nothing is staged.
     fn cut(&mut self, committed: u64)
         ensures { self.new ≡ record { part = self.old.part; committed = committed; staged = [] } }
     {
@@ -103,7 +103,7 @@ impl DataFile {
         FileId::new(owner, self.part)
     }
 
-    /// Writes what is staged behind the committed bytes.
+    /// Writes what is staged after the committed bytes.
     fn write<D: Disk>(&self, disk: &mut D, owner: Owner) -> Result<(), DiskFault>
         requires durable { D.tells → IsDurableFile owner (D.view disk.old) self.now }
         ensures any_moment { D.tells → Throughout (λ g. g ≡ file_of owner self.now.part) (λ image. KeepsPrefix owner (D.view disk.old) image self.now) (D.view disk.old) (D.view disk.new) }
@@ -215,7 +215,7 @@ pub(crate) fn commit(files: &mut [DataFile])
     commit(rest);
 }
 
-/// So many bytes of each file are committed from now on, and nothing is staged.
+/// This many bytes of each file are committed from now on, and nothing is staged.
 pub(crate) fn cut(files: &mut [DataFile], lengths: &[u64])
     requires { length files.old ≤ length lengths.now }
     ensures { files.new ≡ cut_to files.old lengths.now }
@@ -241,7 +241,7 @@ pub(crate) fn put_lengths(lengths: &mut [u64], files: &[DataFile])
     put_lengths(later, rest);
 }
 
-/// The data files of a shape, of which so many bytes are committed.
+/// The data files of a shape, of which this many bytes are committed.
 pub(crate) fn data_files(
     alloc: Global,
     shape: Shape,

@@ -76,7 +76,7 @@ pub(crate) fn make_files<D: Disk>(
     disk.create_all(owner, &absent[..count])
 }
 
-/// Each of an owner's files has so many bytes; else the first that hasn't is damaged.
+/// Each of an owner's files has this many bytes; else the first that hasn't is damaged.
 pub(crate) fn check_lengths<D: Disk>(
     disk: &mut D,
     owner: Owner,

@@ -27,11 +27,11 @@ pub not_true : (t : Bool) → (t ≡ true → ⊥) → t ≡ false
 not_true true h = absurd (h refl)
 not_true false h = refl
 
--- all that stands behind a place
+-- all that stands after a place
 pub rest_of : (bytes : List ℕ) (k : ℕ) → take (length bytes - (k + 1)) (drop (k + 1) bytes) ≡ drop (suc k) bytes
 rest_of bytes k = take_rest bytes (k + 1) ∙ ap (λ n. drop n bytes) (add-one k)
 
--- the pieces of what stands behind the first separator
+-- the pieces of what stands after the first separator
 abbrev pub pieces_behind : ℕ → Option (List ℕ) → List (List ℕ)
 pieces_behind c None = []
 pieces_behind c (Some bytes) = pieces c bytes
@@ -40,7 +40,7 @@ cut_first : (c b : ℕ) (bytes : List ℕ) (t : Bool) → (b == c) ≡ t → pie
 cut_first c b bytes true e rest = rw e refl
 cut_first c b bytes false e rest = rw e (ap (onto b) rest)
 
--- the first piece, and those behind it
+-- the first piece, and those after it
 pub pieces_cut : (c : ℕ) (bytes : List ℕ) → pieces c bytes ≡ before c bytes ∷ pieces_behind c (behind c bytes)
 pieces_cut c [] = refl
 pieces_cut c (b ∷ bytes) = cut_first c b bytes (b == c) refl (pieces_cut c bytes)
@@ -49,7 +49,7 @@ shorter_first : (c b : ℕ) (bytes rest : List ℕ) (t : Bool) → (b == c) ≡ 
 shorter_first c b bytes rest true is e more = let same : bytes ≡ rest = some_is (rw is at e) in rw (← same) (omega arith)
 shorter_first c b bytes rest false is e more = let less : length rest < length bytes = more (rw is at e) in omega arith
 
--- what stands behind a separator is shorter
+-- what stands after a separator is shorter
 pub behind_shorter : (c : ℕ) (bytes rest : List ℕ) → behind c bytes ≡ Some rest → length rest < length bytes
 behind_shorter c [] rest e = absurd (cc)
 behind_shorter c (b ∷ bytes) rest e = shorter_first c b bytes rest (b == c) refl e (behind_shorter c bytes rest)

@@ -54,7 +54,7 @@ left_next n section behind_it rest more bytes line is first cut section_is =
     ∙ ap (λ b. at n (now_of section) b ∷ placed (n + 1) (section_behind (now_of section) (line_of b)) (pieces_left 10 more)) (sym first)
     ∙ ap (λ s. at n (now_of section) line ∷ placed (n + 1) s (pieces_left 10 more)) (sym section_is)
 
--- behind one more line
+-- after one more line
 pub reading_next : (text : List ℕ) (old new : Settings) (number next : ℕ) (section behind_it rest more : Option (Bor (List ℕ))) (bytes : Bor (List ℕ)) (line : List ℕ)
     → rest ≡ Some bytes → line ≡ before 10 bytes.now → now_of more ≡ behind 10 bytes.now
     → refuses (now_of section) (line_of line) ≡ false → now_of behind_it ≡ section_behind (now_of section) (line_of line)

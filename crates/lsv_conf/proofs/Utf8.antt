@@ -48,7 +48,7 @@ before_is_text c bytes low u = cut_is_text bytes (before c bytes) u (before_stop
 some_same : {A : Type 0} {x y : A} → Some x ≡ Some y → x ≡ y
 some_same e = cc
 
--- where a separator stands, and what stands behind it
+-- where a separator stands, and what stands after it
 record Behind (c : ℕ) (bytes rest : List ℕ) : Type 0 where
   at : ℕ
   within : at < length bytes

@@ -16,7 +16,7 @@ pub data Line : Type 0 where
   -- none of these
   Bad : Line
 
--- a key and what stands behind the first `=`
+-- a key and what stands after the first `=`
 abbrev pub setting_of : List ℕ → Option (List ℕ) → Line
 setting_of key None = Bad
 setting_of key (Some value) = if is_empty key then Bad else Setting key value
@@ -42,7 +42,7 @@ pub record Placed : Type 0 where
   pub section : Option (List ℕ)
   pub line : Line
 
--- the section behind a line
+-- the section after a line
 abbrev pub section_behind : Option (List ℕ) → Line → Option (List ℕ)
 section_behind section (Section name) = Some name
 section_behind section Empty = section

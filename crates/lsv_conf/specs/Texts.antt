@@ -6,7 +6,7 @@ abbrev pub before : ℕ → List ℕ → List ℕ
 before c [] = []
 before c (b ∷ bytes) = if b == c then [] else b ∷ before c bytes
 
--- what stands behind the first such byte, where there is one
+-- what stands after the first such byte, where there is one
 abbrev pub behind : ℕ → List ℕ → Option (List ℕ)
 behind c [] = None
 behind c (b ∷ bytes) = if b == c then Some bytes else behind c bytes

@@ -22,7 +22,7 @@ is_host bytes = not (is_empty bytes) && list_all (λ b. not (is_mark b)) bytes
 abbrev pub is_port : List ℕ → Bool
 is_port digits = not (is_empty digits) && not (slice_index digits 0 == 48) && all_ascii_digits digits && nat_lt (digits_value 10 digits) 65536
 
--- what may stand behind a host in brackets: nothing, or a colon and a port
+-- what may stand after a host in brackets: nothing, or a colon and a port
 abbrev pub is_port_part : List ℕ → Bool
 is_port_part [] = true
 is_port_part (b ∷ digits) = b == 58 && is_port digits

@@ -36,7 +36,7 @@ fn is_port(digits: &[u8]) -> bool
     text.parse::<u16>().is_ok()
 }
 
-/// Whether this may stand behind a host in brackets: nothing, or a colon and a port.
+/// Whether this may stand after a host in brackets: nothing, or a colon and a port.
 fn is_port_part(bytes: &[u8]) -> bool
     ensures { result ≡ is_port_part bytes.now }
 {

@@ -21,7 +21,7 @@ impl From<NoMem> for ConfFault {
     }
 }
 
-/// Takes in a line, and answers the section behind it.
+/// Takes in a line, and answers the section after it.
 fn take_line<'t>(
     draft: &mut Draft,
     alloc: Global,

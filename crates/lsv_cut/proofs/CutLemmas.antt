@@ -80,7 +80,7 @@ one_cut bytes (NoMessage fault) Nothing a b = absurd (partial_is_message bytes f
 one_cut bytes (NoMessage fault) (Message m taken) a b = absurd (first_is_message bytes m taken fault b a)
 one_cut bytes (NoMessage fault) (NoMessage other) a b = ap NoMessage (one_fault bytes fault other a b)
 
--- what is behind a frame is what is left after as many bytes
+-- what is after a frame is what is left after as many bytes
 after_frame : (bytes message rest : List ℕ) → InFront message rest bytes → rest ≡ drop (4 + length message) bytes
 after_frame bytes message rest front =
     let size : length (frame_of message) ≡ 4 + length message = omega (arith, length-frame_of message [], length-append (frame_of message) []) in

@@ -66,7 +66,7 @@ cut_up read said h (Message b m behind message later front is j) ok =
 cut_up read said h (NoMessage b m behind fault front is) ok = absurd (cc)
 cut_up read said h (TooLong b n long) ok = absurd (cc)
 
--- some bytes, so many
+-- some bytes, this many
 far : (n : ℕ) → (more : List ℕ) × (length more ≡ n)
 far zero = ([], refl)
 far (suc n) = let less = far n in (0 ∷ less.0, ap (λ (k : ℕ). suc k) less.1)

@@ -163,7 +163,7 @@ spoken voices.Over unsent output answers kept none put failed over = absurd (ove
 
 -- ---- A post that ended
 
--- what is known of a post whose worker keeps no connection, behind Stop or a fault of its port
+-- what is known of a post whose worker keeps no connection, after Stop or a fault of its port
 pub record HasEnded (set : Setting) (start now : PortView) (jobs : List Job) (replies : List Reply) : Type 0 where
   pub stands : Stands set [] now.state (λ lane. one_lane lane jobs) replies
   pub lanes : set.lanes ≡ 1

@@ -46,7 +46,7 @@ none_at : (k : ConnId) (before after : List Reply) (r : Reply) → NoneFor k (be
 none_at k [] after r n = n.0
 none_at k (x ∷ before) after r n = none_at k before after r n.1
 
--- a lane that replies to those who asked says nothing behind a shut
+-- a lane that replies to those who asked says nothing after a shut
 pub not_on : (k : ConnId) (jobs : List Job) (replies : List Reply) → AreAsked jobs replies → EndsWithGone (bodies_of k jobs) → TalksOn k replies → ⊥
 not_on k jobs replies asked ends t =
     let s = shut_at k t.before t.shut in

@@ -113,7 +113,7 @@ mode_then Failing p q F G e f h = (e ∙ h.0, f h.1)
 mode_then Stopping p q F G e f h = e ∙ h
 mode_then Failed p q F G e f h = (⊎_elim (λ a. inl (e ∙ a)) (λ b. inr (e ∙ b)) h.0, f h.1)
 
--- behind a turn that told this
+-- after a turn that told this
 pub mode_turned : (is : Ready) (p : Phase) (F : Type 0) → p ≡ phase_after is → IsInMode (after_ready is) p F
 mode_turned (ready.Opened l) p F e = e
 mode_turned (ready.Readable l) p F e = e
@@ -150,7 +150,7 @@ one_emptied a i j one orderly same = record {
   orderly = orderly;
 }
 
--- each job that waits is of the worker, there are few, and those behind the first are light
+-- each job that waits is of the worker, there are few, and those after the first are light
 pub own_waiting : (a : Worker) (i : MemInbox) (number : ℕ) (given : List Job) → AreOne a i → (setting a).number ≡ number → given ≡ waiting i → AllByRecursion (λ job. job.conn.worker ≡ number) given
 own_waiting a i number given one is e =
     subst (λ (js : List Job). AllByRecursion (λ job. job.conn.worker ≡ number) js) (sym e)

@@ -21,7 +21,7 @@ use Rattle.lsv_endpoint.specs.declared.mode.Mode.{Mode}
 use Rattle.lsv_endpoint.specs.declared.mode.Mode.TheVariants.{Going, Failing, Stopping, Failed}
 use Rattle.lsv_endpoint.specs.declared.post.WorkerPost.{WorkerPost}
 
--- the mode behind a turn that told this
+-- the mode after a turn that told this
 abbrev pub after_ready : Ready → Mode
 after_ready (ready.Opened l) = Going
 after_ready (ready.Readable l) = Going

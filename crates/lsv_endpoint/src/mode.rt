@@ -20,7 +20,7 @@ pub(crate) enum Mode {
 }
 
 impl Mode {
-    /// The mode of a post that goes on, behind a turn that told this.
+    /// The mode of a post that goes on, after a turn that told this.
     pub(crate) fn after(ready: Ready) -> Mode
         ensures { result ≡ after_ready ready }
     {

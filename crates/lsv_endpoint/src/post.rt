@@ -118,7 +118,7 @@ impl<P: Port> WorkerPost<P> {
         self.worker.turn_failed(&mut self.port, &mut self.inbox);
     }
 
-    /// Writes what is unsent, and reads where reading had stopped. Behind Stop or a fault, what of a connection that has left
+    /// Writes what is unsent, and reads where reading had stopped. After Stop or a fault, what of a connection that has left
     /// and was shut is kept then, has lost a reply for want of memory.
     fn try_links(&mut self)
         requires begun { (start : PortView) × (gave : List Job) × (took : List Reply) × IsUnderWay P.tells P.state P.ledger start self.old gave took }
@@ -170,7 +170,7 @@ impl<P: Port> Post for WorkerPost<P> {
         listens
     }
 
-    /// Of a call come at most 256 jobs, and those behind the first hold at most 64 MiB.
+    /// Of a call come at most 256 jobs, and those after the first hold at most 64 MiB.
     fn wait(&mut self, jobs: &mut Vec<Job>)
         requires begun { (start : PortView) × (gave : List (List Job)) × (took : List Reply) × IsMade P.tells P.state P.ledger start self.old (jobs_by gave) took }
         requires empty { jobs.old.items ≡ [] }
@@ -199,7 +199,7 @@ impl<P: Port> Post for WorkerPost<P> {
         self.inbox.take(jobs);
     }
 
-    /// Behind a reply that was lost each one is dropped: what is put on a link stays a prefix of its answers.
+    /// After a reply that was lost each one is dropped: what is put on a link stays a prefix of its answers.
     fn take(&mut self, reply: Reply) {
         if self.lost {
             return;

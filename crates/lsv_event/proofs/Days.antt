@@ -22,7 +22,7 @@ use Rattle.lsv_base.specs.Time.{nanos_of, nanos_of_parts}
 use Rattle.lsv_base.specs.declared.time.TimeSpec.{TimeSpec}
 use Rattle.lsv_event.specs.Dates.{Day, day_after, day_of, day_text, clock_text, date_of, date_text}
 
--- a day of the calendar, of which so many have passed since 1970 began
+-- a day of the calendar, of which this many have passed since 1970 began
 record IsDay (n : ℕ) (d : Day) : Type 0 where
   month : IsInRange 1 12 d.month
   day : IsInRange 1 (days_in_month (pos d.year) d.month) d.day
@@ -70,7 +70,7 @@ unfolding day_of days_from_civil
 is_day zero = record { month = omega arith; day = omega arith; counted = omega (arith, signed_arith) }
 is_day (suc n) = next_day n (day_of n) (is_day n)
 
--- so many years have at least 365 days each
+-- this many years have at least 365 days each
 many_days : (n : ℕ) → 365 * n ≤ days_of_years n
 unfolding days_of_years
 many_days zero = omega arith
@@ -90,11 +90,11 @@ date_is n date at few =
     let ours : Date = record { year = pos (day_of n).year; month = (day_of n).month; day = (day_of n).day; year_in = omega (arith, signed_arith); month_in = is.month; day_in = is.day } in
     epoch_day_injective date ours (at ∙ sym is.counted)
 
--- the time of day so many seconds after midnight
+-- the time of day this many seconds after midnight
 clock_is : (t : Time) (seconds : ℕ) → time_nanos t ≡ seconds * 1000000000 → seconds < 86400 → (t.hour ≡ seconds / 3600) × (t.minute ≡ seconds / 60 % 60) × (t.second ≡ seconds % 60) × (t.subsec_nanosecond ≡ 0)
 clock_is t seconds e few = omega arith
 
--- what a clock in UTC shows so many seconds after the start of 1970
+-- what a clock in UTC shows this many seconds after the start of 1970
 whole_days : (seconds : ℕ) (dt : DateTime) → civil_nanos dt ≡ pos seconds *ℤ pos 1000000000 → (epoch_day dt.date ≡ pos (seconds / 86400)) × (time_nanos dt.time ≡ seconds % 86400 * 1000000000)
 whole_days seconds dt e = omega (arith, signed_arith, civil_nanos-parts dt, time_nanos_bound dt.time)
 

@@ -9,7 +9,7 @@ use Rattle.lsv_event.specs.InnerLine.{Has, some_part}
 use Rattle.lsv_event.specs.SudoLine.{joined}
 use Rattle.lsv_event.specs.declared.line.Line.{Line}
 
--- a part behind others
+-- a part after others
 abbrev between : List ℕ → List ℕ
 between part = codes " ; " ++ part
 

@@ -16,7 +16,7 @@ day_after d =
     else (if nat_lt d.month 12 then record { year = d.year; month = d.month + 1; day = 1 }
     else record { year = d.year + 1; month = 1; day = 1 })
 
--- the day so many days after 1 January 1970
+-- the day this many days after 1 January 1970
 unfoldable pub day_of : ℕ → Day
 day_of zero = record { year = 1970; month = 1; day = 1 }
 day_of (suc n) = day_after (day_of n)
@@ -29,11 +29,11 @@ two_digits n = (48 + n / 10 % 10) ∷ (48 + n % 10) ∷ []
 abbrev pub day_text : Day → List ℕ
 day_text d = two_digits (d.year / 100) ++ two_digits d.year ++ 45 ∷ two_digits d.month ++ 45 ∷ two_digits d.day
 
--- the time of day so many seconds after midnight, as HH:MM:SS
+-- the time of day this many seconds after midnight, as HH:MM:SS
 abbrev pub clock_text : ℕ → List ℕ
 clock_text seconds = two_digits (seconds / 3600) ++ 58 ∷ two_digits (seconds / 60 % 60) ++ 58 ∷ two_digits (seconds % 60)
 
--- the date of the moment so many seconds after the start of 1970, as YYYY-MM-DDTHH:MM:SSZ
+-- the date of the moment this many seconds after the start of 1970, as YYYY-MM-DDTHH:MM:SSZ
 abbrev pub date_text : ℕ → List ℕ
 date_text seconds = day_text (day_of (seconds / 86400)) ++ 84 ∷ clock_text (seconds % 86400) ++ 90 ∷ []
 

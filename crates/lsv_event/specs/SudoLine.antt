@@ -34,7 +34,7 @@ abbrev pub joined : List (List ℕ) → List ℕ
 joined [] = []
 joined (first ∷ rest) = first ++ flat_map (λ part. codes " ; " ++ part) rest
 
--- the arguments of a command, each behind a space: the first text is the command itself
+-- the arguments of a command, each after a space: the first text is the command itself
 abbrev pub arguments_in : Option Value → List ℕ
 arguments_in None = []
 arguments_in (Some (Num n)) = []

@@ -15,7 +15,7 @@ use std::alloc::Global;
 /// Most lines are no longer, in bytes.
 const USUAL_LINE: usize = 256;
 
-/// The start of a line, and the parts behind it.
+/// The start of a line, and the parts after it.
 #[derive(Debug, Drop)]
 pub struct Line {
     pub text: Vec<u8>,

@@ -122,7 +122,7 @@ fn put_command_text(line: &mut Line, info: &Info) -> Result<(), NoMem>
     }
 }
 
-/// Goes on with the arguments of a command, each behind a space. The first text is the command itself.
+/// Goes on with the arguments of a command, each after a space. The first text is the command itself.
 fn put_arguments(line: &mut Line, texts: &[Bytes]) -> Result<(), NoMem>
     ensures { (start : List ℕ) (parts : List (List ℕ)) (last : List ℕ) → Has start (parts ++ last ∷ []) line.old
         → OnOk result (Has start (parts ++ (last ++ escaped (flat_map (λ text. 32 ∷ text) (drop 1 texts.now))) ∷ []) line.new) }

@@ -17,7 +17,7 @@ use std::marker::Model;
 /// The kind of an entry by which lines are committed.
 const FLUSHED: u8 = 1;
 
-/// The event log of a lane: what is committed stands in its files, and lines are added behind that.
+/// The event log of a lane: what is committed stands in its files, and lines are added after that.
 #[derive(Drop)]
 pub struct EventLog {
     pub(crate) lane: u32,
@@ -38,7 +38,7 @@ impl Model for EventLog {
 }
 
 impl EventLog {
-    /// Adds a line behind those that are there, with its line feed. `Full(Lines)` exactly where the text would pass
+    /// Adds a line after those that are there, with its line feed. `Full(Lines)` exactly where the text would pass
     /// 2^40 bytes with it, `Broken` exactly where the log is: where it fails, it is unchanged.
     pub fn add(&mut self, line: &[u8]) -> Result<(), BundleFault>
         ensures sound { IsEventLog self.new }

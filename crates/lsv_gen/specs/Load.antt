@@ -13,7 +13,7 @@ use Rattle.lsv_msg.specs.declared.messages.ClientMessage.{ClientMessage}
 use Rattle.lsv_msg.specs.declared.messages.ClientMessage.TheVariants.{Accept, Exit, Hello, Ttyout}
 use Rattle.lsv_wire.specs.Frame.{frame_of}
 
--- so many milliseconds
+-- this many milliseconds
 abbrev pub millis : ℕ → TimeSpec
 millis n = time_of (n * 1000000)
 

@@ -39,7 +39,7 @@ line_of word text = word ++ 32 ∷ text ++ 10 ∷ []
 abbrev pub line : String → List ℕ → List ℕ
 line word text = line_of (codes word) text
 
--- the lines of these sums: the elapsed time in seconds, with nine digits behind the point
+-- the lines of these sums: the elapsed time in seconds, with nine digits after the point
 abbrev pub lines_of : Totals → List ℕ
 lines_of t = line "logs" (decimal t.logs) ++ line "records" (decimal t.records) ++ line "bytes" (decimal t.bytes) ++ line "elapsed" (seconds t.elapsed) ++ line "complete" (decimal t.complete)
 

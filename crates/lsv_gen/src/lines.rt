@@ -15,7 +15,7 @@ fn put_number(alloc: Global, out: &mut Bytes, n: u64) -> Result<(), NoMem>
     out.add(text.as_bytes())
 }
 
-/// Puts the last digits of a number, so many.
+/// Puts the last digits of a number, this many.
 fn put_last_digits(out: &mut Bytes, count: u8, n: u64) -> Result<(), NoMem>
     ensures { OnOk result (out.new ≡ out.old ++ last_digits count n) }
 {
@@ -26,7 +26,7 @@ fn put_last_digits(out: &mut Bytes, count: u8, n: u64) -> Result<(), NoMem>
     out.add(&[b'0' + (n % 10) as u8])
 }
 
-/// Puts nanoseconds as seconds, with nine digits behind the point.
+/// Puts nanoseconds as seconds, with nine digits after the point.
 fn put_seconds(alloc: Global, out: &mut Bytes, nanos: u64) -> Result<(), NoMem>
     ensures { OnOk result (out.new ≡ out.old ++ seconds nanos) }
 {

@@ -14,7 +14,7 @@ use lsv_msg::{
 use lsv_wire::{FRAME_LIMIT, FrameFault, frame};
 use std::alloc::Global;
 
-/// So many milliseconds, of which there are at most 1,275.
+/// This many milliseconds, of which there are at most 1,275.
 fn millis(n: u32) -> TimeSpec
     requires { n ≤ 1275 }
     ensures { result ≡ load.millis n }
@@ -35,7 +35,7 @@ fn entry(alloc: Global, key: &str, text: Bytes) -> Result<Entry, NoMem>
     })
 }
 
-/// A word and a number behind it.
+/// A word and a number after it.
 fn numbered(alloc: Global, word: &str, n: u32) -> Result<Bytes, NoMem>
     ensures { IfOk result (λ text. text ≡ word.now ++ decimal n) }
 {
@@ -95,7 +95,7 @@ fn output(alloc: Global, j: u32) -> Result<ClientMessage, NoMem>
     }))
 }
 
-/// The exit of conversation i, which took so many milliseconds.
+/// The exit of conversation i, which took this many milliseconds.
 fn exit(alloc: Global, i: u32, duration: u32) -> Result<ClientMessage, NoMem>
     requires duration { duration ≡ load.duration (i % 50 + 1) }
     requires short { duration ≤ 1275 }

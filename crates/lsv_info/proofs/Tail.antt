@@ -1,4 +1,4 @@
--- A line feed behind a text that was printed changes none of its tokens.
+-- A line feed after a text that was printed changes none of its tokens.
 use Rattle.std.proofs.Common.{◌≡◌, ℕ, Bool, true, false, cond, ◌&&◌, List, [], ◌∷◌, ◌++◌, refl, sym, ap, ap₂, ◌∙◌, append_assoc, append-nil}
 use Rattle.json.specs.Token.{Token, begin_object, end_object, begin_array, end_array, key, string, number, boolean, null, bad}
 use Rattle.json.specs.Word.{ends_word, word}
@@ -44,7 +44,7 @@ unfolding lex
 lex_separator true r = refl
 lex_separator false r = refl
 
--- behind a value stands a comma, a closing bracket or what follows
+-- after a value stands a comma, a closing bracket or what follows
 ends_after : (ts : List Token) (r : List ℕ) → ends_word r ≡ true → ends_word (print_from true ts ++ r) ≡ true
 unfolding print_from
 ends_after [] r h = h

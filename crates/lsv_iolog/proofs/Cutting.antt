@@ -25,7 +25,7 @@ use Rattle.lsv_iolog.specs.Inner.Scanning.{text_of, Scan, IsReading}
 use Rattle.lsv_iolog.proofs.Staging.{some_line}
 use Rattle.lsv_iolog.proofs.Scans.{line_before_end, scanning_starts, scanning_goes_on, text_same}
 
--- the first records of two lists, one behind another
+-- the first records of two lists, one after another
 take_behind : (m : ℕ) (xs ys : List Record) → length xs ≤ m → (more : List Record) × (take m (xs ++ ys) ≡ xs ++ more)
 take_behind m [] ys le = (take m ys, refl)
 take_behind zero (x ∷ xs) ys le = absurd (let no_ : ⊥ = omega (arith, le) in no_)

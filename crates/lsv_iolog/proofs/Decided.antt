@@ -232,7 +232,7 @@ dec_parts P d = dec_as
     (dec_both (d Head) (dec_both (d Exit) (dec_both (d Timing) (dec_both (d Stdin) (dec_both (d Stdout) (dec_both (d Stderr) (dec_both (d Ttyin) (d Ttyout))))))))
     (each_part P) (λ h. (h Head tt, (h Exit tt, (h Timing tt, (h Stdin tt, (h Stdout tt, (h Stderr tt, (h Ttyin tt, h Ttyout tt))))))))
 
--- a file with a beginning of so many bytes isn't short
+-- a file with a beginning of this many bytes isn't short
 begun : (bytes : List ℕ) (file : Option (List ℕ)) (n : ℕ) → length bytes ≡ n → HasPrefix bytes file → IsShort file n → ⊥
 begun bytes None n long has short = has
 begun bytes (Some file) n long has short =

@@ -52,7 +52,7 @@ dec_below P d (suc b) = elim (d b) [
   ]
 ]
 
--- and all lists of so many of them
+-- and all lists of this many of them
 module _ (Q : ℕ → Type 0) (b : ℕ) (small : (n : ℕ) → Q n → n < b) (dq : (n : ℕ) → Dec (Q n)) where
   Listed : (List ℕ → Type 0) → ℕ → Type 0
   Listed P n = (xs : List ℕ) × (length xs ≡ n) × All Q xs × P xs

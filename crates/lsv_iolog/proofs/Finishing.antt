@@ -1,4 +1,4 @@
--- A log is finished: the text of its exit is staged behind its records, and one entry commits all.
+-- A log is finished: the text of its exit is staged after its records, and one entry commits all.
 use Rattle.std.proofs.Common.{◌≡◌, ◌≢◌, ℕ, ◌+◌, Bool, true, false, List, [], ◌∷◌, ◌++◌, length, Option, Some, None, refl, sym, ◌∙◌, ap, subst, arith, length-append}
 use Rattle.std.specs.Prelude.{◌==◌}
 use Rattle.std.specs.Option.{option_map_or}

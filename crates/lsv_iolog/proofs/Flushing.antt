@@ -55,7 +55,7 @@ entry_body b disk entry e = (entry_parts (on_shape b.shape (committed_bytes b di
 pub entry_bytes : (b : BundleView) (disk : DiskView) (entry : Committed) → b.shape ≡ shapes.Log → committed b disk ≡ Some entry → (part : Part) → IsPart shapes.Log part → entry.bytes part ≡ committed_bytes b disk part
 entry_bytes b disk entry shape e part is = ap (λ (bs : Part → List ℕ). bs part) (sym (entry_parts (on_shape b.shape (committed_bytes b disk)) b.last entry e).1) ∙ now_bytes b disk entry.body part shape is
 
--- the layouts of records and of others behind them
+-- the layouts of records and of others after them
 two_laid : (e n s : Part → List ℕ) (records more : List Record) → ((part : Part) → IsPart shapes.Log part → n part ≡ e part ++ s part) → laid_in e ≡ layout_of records → laid_in s ≡ layout_of more → laid_in n ≡ layout_of (records ++ more)
 two_laid e n s records more next one two = λ i. record {
   timing = (next Timing tt ∙ join (ap (λ (l : Laid). l.timing) one) (ap (λ (l : Laid). l.timing) two) ∙ sym (timing_of-append records more)) i;

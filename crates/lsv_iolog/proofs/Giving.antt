@@ -123,7 +123,7 @@ prefix_all a b is long =
     let none : is.0 ≡ [] = no_rest is.0 (omega (arith, e, long, length-append a is.0)) in
     is.1 ∙ ap (λ (xs : List ℕ). a ++ xs) none ∙ append-nil a
 
--- and one with what stands behind it is longer
+-- and one with what stands after it is longer
 prefix_more : (a b t : List ℕ) (k : ℕ) → IsPrefix a t → b ≡ take k (drop (length a) t) → IsPrefix (a ++ b) t
 prefix_more a b t k is next =
     let rest : drop (length a) t ≡ is.0 = ap (drop (length a)) is.1 ∙ drop_at a is.0 (length a) refl in
@@ -179,7 +179,7 @@ begins_more lines rs disk told r next is stands good in_time of = record {
   lines_all : lines_of (map shape_of rs ++ told ∷ []) ≡ timing_of (rs ++ r ∷ [])
   lines_all = ap (λ (t : Shaped). lines_of (map shape_of rs ++ t ∷ [])) (sym of.shape) ∙ ap lines_of (sym (shapes_push rs r)) ∙ lines_are_timing (rs ++ r ∷ [])
 
--- the record stands behind the others
+-- the record stands after the others
 pub behind_more : (old new : Scan) (rs : List Record) (disk later : DiskView) (told : Shaped) (r : Record) → new.view ≡ old.view → OnlyReads disk later → new.tally ≡ with_line old.tally told → IsReading new later
     → IsLineAt (text_of old.view disk Timing) old.tally.timing told new.tally.timing → IsGood told → new.tally.elapsed < 2 ^ 63 → IsRecordOf (text_of old.view disk) old.tally told r → IsBehindLines old rs disk → IsBehindLines new (rs ++ r ∷ []) later
 behind_more old new rs disk later told r view reads tally window stands good in_time of is = record {

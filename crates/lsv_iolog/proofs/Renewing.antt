@@ -71,14 +71,14 @@ layout_begins all rs rest is valid in_time = record {
   streams = λ s. (stream_of s rest, layout_stream all s ∙ ap (stream_of s) is ∙ stream_of-append s rs rest);
 }
 
--- with as many cuts the later state goes on behind the earlier one
+-- with as many cuts the later state goes on after the earlier one
 goes_on : (was now : Stored) (rs more : List Record) → was.records ≡ rs ++ more → was.cuts ≡ now.cuts → IsLater was now → (rest : List Record) × (now.records ≡ rs ++ rest)
 goes_on was now rs more is cuts later = elim later [
   | inl cut ↦ absurd (let no_ : ⊥ = omega (arith, cut, cuts) in no_)
   | inr same ↦ (more ++ same.1.0, same.1.1 ∙ ap (λ (l : List Record). l ++ same.1.0) is ∙ append_assoc rs more same.1.0)
 ]
 
--- a view that reads on behind the records that were given
+-- a view that reads on after the records that were given
 pub later_behind : (view : ViewState) (old new : DiskView) (was now : Stored) (rs more : List Record) → HasEntry (owner_of view.number) view.body old.reads → OnlyReads old new
     → AreThere (owner_of view.number) view.body new.reads
     → was.records ≡ rs ++ more → was.cuts ≡ view.body.extra → HoldsLog view.number now old.reads → IsLater was now → view.given ≡ totals_of (map shape_of rs) → view.start ≡ view.given.timing → view.window ≡ [] → IsBehind view rs new

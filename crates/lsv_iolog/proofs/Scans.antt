@@ -106,7 +106,7 @@ told_elapsed-append xs ys = sum_by-append told_delay xs ys
 told_elapsed-cons : (x : Shaped) (xs : List Shaped) → told_elapsed (x ∷ xs) ≡ told_delay x + told_elapsed xs
 told_elapsed-cons x xs = sum_by-append told_delay (x ∷ []) xs ∙ ap (λ (n : ℕ). n + told_elapsed xs) (zero-add (told_delay x))
 
--- the lines that a whole text has go on behind those that were read, where the text does
+-- the lines that a whole text has go on after those that were read, where the text does
 goes_on : (text : List ℕ) (read whole : List Shaped) → All IsGood read → All IsGood whole → IsPrefix (lines_of read) text → text ≡ lines_of whole → length (lines_of read) < length text
     → (line : Shaped) × ((more : List Shaped) × (whole ≡ read ++ line ∷ more))
 goes_on text read whole good all begins is before =

@@ -62,7 +62,7 @@ pub record IsWindowOf (text : List ℕ) (start : ℕ) (window : List ℕ) (next 
   pub before : start ≤ next
   pub after : next ≤ start + length window
 
--- the view stands behind these records: the committed bytes, which are there, begin with their layout
+-- the view stands after these records: the committed bytes, which are there, begin with their layout
 pub record IsBehind (view : ViewState) (records : List Record) (disk : DiskView) : Type 0 where
   pub begins : Begins (committed_laid view.number view.body disk) records
   pub given : view.given ≡ totals_of (map shape_of records)
@@ -87,7 +87,7 @@ pub record HasShrunk (view : ViewState) (image : Image) : Type 0 where
   pub cuts : body.extra ≡ view.body.extra
   pub fewer : length_of body Timing < view.given.timing
 
--- the line behind these records goes on as the entry says: it is among its count, and within its elapsed time
+-- the line after these records goes on as the entry says: it is among its count, and within its elapsed time
 pub record GoesOn (body : Body) (records : List Record) (told : Shaped) : Type 0 where
   pub count : length records < body.count
   pub time : elapsed records + told_delay told ≤ body.elapsed
@@ -118,14 +118,14 @@ pub record IsLeftOver (l : Laid) (body : Body) (records : List Record) (before :
 abbrev pub IsStreamFault : Laid → Body → List Record → List Stream → Stream → Type 0
 IsStreamFault l body records before s = LacksData l body records s ⊎ IsLeftOver l body records before s
 
--- no line stands behind these records, or the lines go on or end otherwise than the entry says
+-- no line stands after these records, or the lines go on or end otherwise than the entry says
 abbrev pub IsTimingFault : Laid → Body → List Record → Type 0
 IsTimingFault l body records = IsBadAt l.timing (length (timing_of records))
     ⊎ ((told : Shaped) × NextLine l records told × (GoesOn body records told → ⊥))
     ⊎ ((l.timing ≡ timing_of records) × (EndsThere l body records → ⊥))
     ⊎ (2 ^ 40 < length l.timing)
 
--- what is at fault behind these records
+-- what is at fault after these records
 abbrev pub IsFaultBehind : Laid → Body → List Record → Part → Type 0
 IsFaultBehind l body records Timing = IsTimingFault l body records
 IsFaultBehind l body records Stdin = IsStreamFault l body records [] streams.Stdin

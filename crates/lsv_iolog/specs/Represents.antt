@@ -33,14 +33,14 @@ pub record Represents (log : IoLogView) (value : LogValue) (disk : DiskView) : T
   pub staged : HasStaged log.bundle value.staged
   pub valid : All IsValid value.staged
   pub small : next_length log.bundle Timing ≤ 2 ^ 40
-  -- nothing is staged behind an exit
+  -- nothing is staged after an exit
   pub ends : value.stored.exit ≢ None → value.staged ≡ []
   pub head : head_of value.stored.head ≡ Ok log.head
   pub count : log.count ≡ length (all_of value)
   pub time : log.elapsed ≡ elapsed (all_of value)
   pub in_time : elapsed (all_of value) < 2 ^ 63
 
--- this record is staged behind what was, and nothing else is otherwise
+-- this record is staged after what was, and nothing else is otherwise
 pub record Stages (old : IoLogView) (r : Record) (new : IoLogView) : Type 0 where
   pub timing : staged new.bundle Timing ≡ staged old.bundle Timing ++ line_of r
   pub streams : (s : Stream) → staged new.bundle (part_of s) ≡ staged old.bundle (part_of s) ++ data_in s r

@@ -29,7 +29,7 @@ is_complete log = option_map_or (λ (body : Body). body.kind == 3) log.bundle.la
 abbrev pub kind_of : IoLogView → Option ℕ
 kind_of log = option_map (λ (body : Body). body.kind) log.bundle.last
 
--- what a log's value stands for: a stored log, and records that are staged behind its own
+-- what a log's value stands for: a stored log, and records that are staged after its own
 pub record LogValue : Type 0 where
   pub stored : Stored
   pub staged : List Record

@@ -30,7 +30,7 @@ pub(crate) fn part_of(stream: Stream) -> Part
 }
 
 impl IoLog {
-    /// Stages a valid record behind the others of a log that isn't complete, and answers the nanoseconds from the start
+    /// Stages a valid record after the others of a log that isn't complete, and answers the nanoseconds from the start
     /// of the log to it. `TooLong`, with the elapsed time so far, exactly where it would reach 2^63; else `Broken`
     /// exactly where the log is; else `Full(part)` exactly where the timing would pass 2^40 bytes, or else the stream
     /// would. Where it fails, the log is unchanged. It commits nothing.
@@ -65,7 +65,7 @@ impl IoLog {
     }
 }
 
-/// Stages the line of a record behind so many bytes of timing, and its data. Where either is refused, nothing is.
+/// Stages the line of a record after this many bytes of timing, and its data. Where either is refused, nothing is.
 fn stage_record(bundle: &mut Bundle, line: &Bytes, keep: usize, r: &Record) -> Result<(), LogFault>
     requires shape { bundle.old.shape ≡ shapes.Log }
     requires whole { bundle.old.is_broken ≡ false }

@@ -120,7 +120,7 @@ impl IoLog {
         }
     }
 
-    /// How many cuts there are once the log ends behind these lines: one that drops no record isn't counted.
+    /// How many cuts there are once the log ends after these lines: one that drops no record isn't counted.
     fn cuts_behind(&self, kept: &Tally) -> Result<u64, LogFault>
         ensures cuts { IfOk result (λ cuts. cuts ≡ (if nat_lt kept.now.count self.now.count then cuts_in self.now.bundle.last + 1 else cuts_in self.now.bundle.last)) }
         ensures room { OnOk result (nat_lt kept.now.count self.now.count ≡ true → cuts_in self.now.bundle.last < 2 ^ 63 - 1) }
@@ -136,7 +136,7 @@ impl IoLog {
         Ok(cuts + 1)
     }
 
-    /// Cuts the files behind the lines that come to this, and counts so many cuts.
+    /// Cuts the files after the lines that come to this, and counts this many cuts.
     fn cut_behind<D: Disk>(&mut self, disk: &mut D, kept: &Tally, cuts: u64) -> Result<(), LogFault>
         requires whole { self.old.is_broken ≡ false }
         requires flushed { IsFlushed self.old }
@@ -177,7 +177,7 @@ impl IoLog {
     }
 }
 
-/// The lengths of the files of a log that ends behind these lines: the head's and the exit's are as they were.
+/// The lengths of the files of a log that ends after these lines: the head's and the exit's are as they were.
 fn lengths_behind(body: &Body, kept: &Tally) -> [u64; 8]
     ensures { result ≡ eight shapes.Log (length_behind body.now kept.now) }
 {

@@ -92,7 +92,7 @@ impl Lines {
         self.tally = before;
     }
 
-    /// Reads on in another view of the same log, behind the lines that were read.
+    /// Reads on in another view of the same log, after the lines that were read.
     pub(crate) fn renew(&mut self, view: View)
         requires shape { view.shape ≡ shapes.Log }
         requires timing { self.old.tally.timing ≤ length_of view.body Part.Timing }

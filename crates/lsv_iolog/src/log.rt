@@ -33,7 +33,7 @@ pub(crate) const FLUSHED: u8 = 1;
 /// The kind of the last entry of a log that is complete.
 pub(crate) const COMPLETE: u8 = 3;
 
-/// An open log: what is committed of it stands in its files, and records are staged behind that.
+/// An open log: what is committed of it stands in its files, and records are staged after that.
 #[derive(Drop)]
 pub struct IoLog {
     pub(crate) alloc: Global,

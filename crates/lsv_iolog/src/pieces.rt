@@ -14,7 +14,7 @@ use lsv_bundle::{Body, View};
 use lsv_disk::{Disk, Part};
 use std::alloc::Global;
 
-/// Committed bytes of a part from an offset on, as many as there are and at most so many.
+/// Committed bytes of a part from an offset on, as many as there are and at most this many.
 pub(crate) fn read_piece<D: Disk>(
     alloc: Global,
     disk: &mut D,

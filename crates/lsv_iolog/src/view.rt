@@ -40,7 +40,7 @@ use std::marker::Model;
 pub enum Renewed {
     /// It was cut as often as before.
     Same,
-    /// It was cut since, and there are now so many cuts.
+    /// It was cut since, and there are now this many cuts.
     Cut(u64),
 }
 
@@ -205,7 +205,7 @@ impl LogView {
     }
 }
 
-/// Gives the next record, or fails and may stand behind its line.
+/// Gives the next record, or fails and may stand after its line.
 fn next_record<D: Disk>(
     alloc: Global,
     disk: &mut D,
@@ -270,7 +270,7 @@ fn told_record<D: Disk>(
     }
 }
 
-/// So many bytes of a stream, behind those that the lines told before.
+/// This many bytes of a stream, after those that the lines told before.
 fn told_data<D: Disk>(
     alloc: Global,
     disk: &mut D,

@@ -164,7 +164,7 @@ first_in_part n r bytes enough whole =
     let room : n + 1 < r = elim enough [ inl wide ↦ wide | inr all ↦ omega (arith, end, all, one) ] in
     is_whole_by n (take r bytes) 0 (get_or-take r bytes (place n 0) 0 (omega (arith, room)) ∙ gate_of_whole n bytes 0 whole) (omega (arith, end, long, room, one))
 
--- behind an entry there is a gate
+-- after an entry there is a gate
 pub gate_behind : (n : ℕ) (bytes : List ℕ) → last_of n bytes (count n bytes) ≢ None → place n (count n bytes) < length bytes
 gate_behind n bytes some = behind (count n bytes) some (λ i lt. count_passes n bytes i lt) where
   behind : (m : ℕ) → last_of n bytes m ≢ None → ((i : ℕ) → i < m → is_whole n bytes i ≡ true) → place n m < length bytes

@@ -44,7 +44,7 @@ whole_all n end bytes to stops = to.1 ∙ ap (place n) (sym (count_is n bytes to
     | inr not_whole ↦ not_whole
   ]
 
--- what a piece shows of the entries behind it
+-- what a piece shows of the entries after it
 pub is_more : (n room : ℕ) (rest : List ℕ) → n + 1 < room ⊎ length rest ≤ room → IsMore n rest (place n (count n (take room rest)))
 is_more n room rest enough = record {
   entries = count n (take room rest);
@@ -60,7 +60,7 @@ pub length_by : (file : Option (List ℕ)) (total : ℕ) → size_of file ≡ So
 length_by (Some bytes) total is = cc
 length_by None total is = absurd (let no : ⊥ = cc in no)
 
--- what was read into a buffer of so many bytes
+-- what was read into a buffer of this many bytes
 module _ (n at total most count seen : ℕ) (bytes old buf : List ℕ) (long : length bytes ≡ total) (wide : n + 1 < most)
     (counted : count ≡ length (piece bytes at most)) (is : buf ≡ piece bytes at most ++ drop count old) (within : seen ≡ min count (total - at)) where
   seen_all : seen ≡ length (piece bytes at most)
@@ -72,7 +72,7 @@ module _ (n at total most count seen : ℕ) (bytes old buf : List ℕ) (long : l
   pub seen_more : (more : ℕ) → more ≡ place n (Entries.count n (take seen buf)) → IsMore n (drop at bytes) more
   seen_more more takes = subst (λ (k : ℕ). IsMore n (drop at bytes) k) (sym (takes ∙ ap (λ (b : List ℕ). place n (Entries.count n b)) seen_piece)) (is_more n most (drop at bytes) (inl wide))
 
--- the entries that a piece showed, behind those before it
+-- the entries that a piece showed, after those before it
 pub whole_more : (n end more : ℕ) (bytes : List ℕ) → WholeTo n bytes end → IsMore n (drop end bytes) more → WholeTo n bytes (end + more)
 whole_more n end more bytes to is = (to.0 + is.entries, ends, whole) where
   rest_is : drop end bytes ≡ drop (place n to.0) bytes

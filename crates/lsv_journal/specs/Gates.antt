@@ -1,4 +1,4 @@
--- The file of a journal: entries of a gate byte and a body of n bytes each, and behind them one more gate byte.
+-- The file of a journal: entries of a gate byte and a body of n bytes each, and after them one more gate byte.
 use Rattle.std.specs.Prelude.{ℕ, zero, suc, ◌+◌, ◌*◌, ◌==◌, ◌&&◌, nat_lt, Bool, List, length, slice_index, Option, Some, None}
 use Rattle.std.specs.List.{range_with_len, prefix_len}
 use Rattle.lsv_defs.specs.Pieces.{piece}
@@ -19,7 +19,7 @@ body n bytes entry = piece bytes (place n entry + 1) n
 abbrev pub is_whole : ℕ → List ℕ → ℕ → Bool
 is_whole n bytes entry = (gate n bytes entry == 1) && nat_lt (place n (entry + 1)) (length bytes)
 
--- how many entries the file has: so many count in a row from its front
+-- how many entries the file has: this many count in a row from its front
 unfoldable pub count : ℕ → List ℕ → ℕ
 count n bytes = prefix_len (is_whole n bytes) (range_with_len 0 (length bytes))
 

@@ -232,7 +232,7 @@ keeps_owned v i k act m old new own settled = record {
 good_down : (r : Reading) (i : ℕ) (l l' : Ledger) → Down (GoodOr r l l' i)
 good_down r i l l' = each_down (λ image. GoodAt r l i image ⊎ GoodAt r l' i image)
 
--- calls before, or behind, in which the log rests
+-- calls before, or after, in which the log rests
 pub keeps_after : (v : KeeperView) (i : ℕ) (act : Act) (m : Machine) (a b c : DiskView) → Resting v.lane v.lanes i a b → OwnKeeps v i act m b c → OwnKeeps v i act m a c
 keeps_after v i act m a b c rests keeps = record {
   settled = λ l stands all.
@@ -289,7 +289,7 @@ keeps_before v i act m a b c keeps rests = record {
 
 -- ---- A log that is written
 
--- what a history says of a log that holds these records, and promises so many
+-- what a history says of a log that holds these records, and promises this many
 pub record Owned (l : Ledger) (whole : Stored) (promised : ℕ) : Type 0 where
   pub head : whole.head ≡ l.head
   pub shown : IsPrefix whole.records l.shown

@@ -42,7 +42,7 @@ rose_one o old new rose p is = subst (λ x. OwnerRose x old new) (only o p is) r
 pub rose_both : (xs ys : List Owner) (old new : DiskView) → AllRose xs old new → AllRose ys old new → AllRose (xs ++ ys) old new
 rose_both xs ys old new s t o is = elim (Contains-append_cases xs ys o is) [ inl x ↦ s o x | inr y ↦ t o y ]
 
--- in calls before others, and in calls behind others
+-- in calls before others, and in calls after others
 pub owner_first : (o : Owner) (a b c : DiskView) → NoneFell b c → OwnerRose o a b → OwnerRose o a c
 owner_first o a b c up (file, own, risen) = (file, own, risen_first (a.faults file) (b.faults file) (c.faults file) risen (up file))
 

@@ -32,7 +32,7 @@ next_same : (a b : Entry) → b.last ≡ a.last → b.lane ≡ a.lane → b.lane
 next_same a b last lane lanes =
     ap (λ (x : ℕ). if x == 0 then b.lane + 1 else x + b.lanes) last ∙ ap (λ (x : ℕ). if a.last == 0 then x + 1 else a.last + b.lanes) lane ∙ ap (λ (x : ℕ). if a.last == 0 then a.lane + 1 else a.last + x) lanes
 
--- behind a number that isn't 0
+-- after a number that isn't 0
 next_behind : (e : Entry) → 1 ≤ e.last → next e ≡ e.last + e.lanes
 next_behind e some = elim (eq_or e.last 0) [ equal p t ↦ absurd (omega arith) | unequal p t ↦ rw t refl ]
 

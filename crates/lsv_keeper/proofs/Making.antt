@@ -68,7 +68,7 @@ draws_none v drawn old new m (faults.Changed kept now) at same over spent failed
 
 -- ---- What is kept
 
--- with room, and a draw behind it
+-- with room, and a draw after it
 pub drawn_keeps : (v v1 v2 : KeeperView) → IsReserved v v1 → v2 ≡ record v1 { numbers = v2.numbers } → Keeps v v2
 drawn_keeps v v1 v2 res e =
     let k = reserved_keeps v v1 res in

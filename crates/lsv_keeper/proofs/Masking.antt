@@ -1,4 +1,4 @@
--- A mask that stands behind the records of a log, or covers nothing.
+-- A mask that stands after the records of a log, or covers nothing.
 use Rattle.std.proofs.Common.{◌≡◌, ◌⊎◌, ℕ, List, [], ◌∷◌, ◌++◌, length, true, refl, sym, ◌∙◌, ap, subst, inl, inr, arith}
 use Rattle.std.specs.Prelude.{◌==◌}
 use Rattle.std.proofs.lemmas.Bool.Decides.{nat_tests}
@@ -18,7 +18,7 @@ uncovered records r =
     let is : covered [] records r ≡ r = cc in
     is
 
--- so behind all records alike
+-- so after all records alike
 pub covers_alike : (texts : List (List ℕ)) (a b : List Record) (r : Record) → (a ≡ b) ⊎ (texts ≡ []) → covered texts a r ≡ covered texts b r
 covers_alike texts a b r (inl same) = ap (λ (rs : List Record). covered texts rs r) same
 covers_alike texts a b r (inr none) = subst (λ (t : List (List ℕ)). covered t a r ≡ covered t b r) (sym none) (uncovered a r ∙ sym (uncovered b r))
@@ -53,7 +53,7 @@ covers_none texts mask r none = record {
   shape = refl;
 }
 
--- the mask that stands behind these records
+-- the mask that stands after these records
 pub masks_now : (texts : List (List ℕ)) (mask : Seen) (records : List Record) → mask ≡ seen texts records → Masks texts mask records
 masks_now texts mask records is = record { behind = records; stands = is; these = inl refl }
 

@@ -116,7 +116,7 @@ module _ (v : KeeperView) (n : ℕ) (act : Act) (m : Machine) (old new : DiskVie
       r : Reading
       r = reading_of v.lane v.lanes
 
-  -- each image of these is good for the history before the cut, or for that behind it
+  -- each image of these is good for the history before the cut, or for that after it
   cut_each : (point : ℕ) (stored : Stored) (l : Ledger) (images : Image → Type 0) → GoodLog l (Some stored) → GoodLog (noted n l (Did act)) (Some (cut_log stored point)) → AllCut n point stored images
       → GoodOr (reading_of v.lane v.lanes) l (noted n l (Did act)) n images
   cut_each point stored l images before after all image is = elim (all image is) [

@@ -258,7 +258,7 @@ module _ (v v1 v' : KeeperView) (old mid new : DiskView) (m : Machine) (job : Jo
         }
       ]
 
-  -- the machine behind a fault: its log was looked at, and then this is the row of its refusal; or it was cut into
+  -- the machine after a fault: its log was looked at, and then this is the row of its refusal; or it was cut into
   pub data Behind (fault : LogFault) : Type 0 where
     as_was : IsLooked restart.log old mid → Represents v1 mid m → (Quits v v' job.conn m mid new → RowIs v now job (refusal job.conn (restart_refusal fault)) m v' old new) → Behind fault
     was_cut : (stored : Stored) (c : CutLeft stored) → fault ≡ faults.Disk → IsCutInto restart.log restart.point stored old mid → JournalRose restart.log old mid

@@ -306,7 +306,7 @@ cut_good l k stored point x some going good =
       exit = exit_none l (resumed_by k point l) stored.records (take x stored.records) stored.exit stored.exit refl going going t.keeps.exit;
     })
 
--- so many first records of it, for a history in which the restart is marked
+-- this many first records of it, for a history in which the restart is marked
 pub marked_good : (l : Ledger) (stored part : Stored) (point x left : ℕ) → first stored.records point ≡ Some x → stored.exit ≡ None → GoodLog l (Some stored)
     → part.head ≡ stored.head → part.records ≡ take left stored.records → part.exit ≡ None → (left ≡ x) ⊎ (left ≡ length stored.records)
     → GoodLog (record l { promised = lowered_to l.promised l.shown point }) (Some part)

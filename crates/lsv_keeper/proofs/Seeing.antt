@@ -36,7 +36,7 @@ split_next : (qs more rest : List Record) (r : Record) → r ∷ [] ≡ more ++ 
 split_next qs [] rest r e some = absurd (some refl)
 split_next qs (x ∷ more) rest r e some = (more, let same : r ≡ x = cc in ap (λ (y : Record). y ∷ more) (sym same))
 
--- behind the first records of a log stands the next one
+-- after the first records of a log stands the next one
 pub next_is : (all qs more : List Record) (r : Record) → All IsValid all → elapsed all < 2 ^ 63 → all ≡ qs ++ more → Begins (layout_of all) (qs ++ r ∷ []) → (rest : List Record) × (more ≡ r ∷ rest)
 next_is all qs more r valid time whole begins =
     let laid : IsLayout (layout_of all) all = record { timing = refl; streams = λ s. same_stream s } in
@@ -70,7 +70,7 @@ add_one i (Some k) = ap Some (let e : i + suc k ≡ i + 1 + k = omega arith in e
 
 -- ---- Reading
 
--- behind so many records of the log, with so much time left to the point
+-- after this many records of the log, with so much time left to the point
 pub record Saw (view : ViewState) (before mask : Seen) (stored : Stored) (now : DiskView) (point left i : ℕ) : Type 0 where
   pub given : List Record
   pub more : List Record
@@ -197,7 +197,7 @@ seeing_found told start view next before mask mask' old now new point left i r t
     take_all [] ys = refl
     take_all (x ∷ xs) ys = ap (λ (rs : List Record). x ∷ rs) (take_all xs ys)
 
--- the record ends behind the point
+-- the record ends after the point
 pub seeing_past : (told : Type 0) (start view next : ViewState) (before mask mask' : Seen) (old now new : DiskView) (point left i : ℕ) (r : Record) → told
     → Seeing told start view before mask old now point left i
     → next.number ≡ view.number → next.body ≡ view.body → OnlyReads now new

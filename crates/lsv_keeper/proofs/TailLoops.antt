@@ -27,7 +27,7 @@ above_all n [] all i is = absurd is
 above_all n (y ∷ ys) all i (inl e) = subst (λ z. n < z) (sym e) all.0
 above_all n (y ∷ ys) all i (inr is) = above_all n ys all.1 i is
 
--- the numbers before one are below it, and those behind it above
+-- the numbers before one are below it, and those after it above
 pub rising_before : (xs : List ℕ) (n : ℕ) (ys : List ℕ) → Rising (xs ++ n ∷ ys) → (i : ℕ) → IsOneOf i xs → i < n
 rising_before [] n ys up i is = absurd is
 rising_before (x ∷ xs) n ys up i (inl e) = subst (λ z. z < n) (sym e) (above_all x (xs ++ n ∷ ys) up.0 n (in_middle xs))

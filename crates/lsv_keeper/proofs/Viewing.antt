@@ -83,7 +83,7 @@ view_whole n part stored image is (inl damage) =
     none_short (p ∷ parts) own same (inl (e, short)) = long_enough (image (file_of (owner_of n) p)) (is.entry.bytes p) (length_of damage.body p) (is.holds.bytes p own.0) (is.holds.lengths p own.0 ∙ same p own.0) short
     none_short (p ∷ parts) own same (inr (long, rest)) = none_short parts own.1 same rest
 
--- ---- Nothing is at fault behind its first records
+-- ---- Nothing is at fault after its first records
 
 delay_told : (r : Record) → told_delay (shape_of r) ≡ delay_of r
 delay_told (records.Io d s b) = refl

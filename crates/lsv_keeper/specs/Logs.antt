@@ -44,7 +44,7 @@ with_open n its logs = λ i. if i == n then its else logs i
 
 -- ---- A record
 
--- a record is covered as the mask of these texts says, and the mask then stands behind it; without texts it may stay where it stands
+-- a record is covered as the mask of these texts says, and the mask then stands after it; without texts it may stay where it stands
 pub record Covers (texts : List (List ℕ)) (old : Seen) (r stored : Record) (new : Seen) : Type 0 where
   pub covered : (records : List Record) → old ≡ seen texts records → stored ≡ covered texts records r
   pub behind : (records : List Record) → old ≡ seen texts records → (new ≡ seen texts (records ++ stored ∷ [])) ⊎ ((texts ≡ []) × (new ≡ old))

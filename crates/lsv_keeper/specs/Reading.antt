@@ -13,11 +13,11 @@ use Rattle.lsv_machine.specs.Durable.{Reading}
 abbrev pub IsBare : Image → ℕ → Type 0
 IsBare image n = (file : FileId) → IsOfLog n file → image file ≡ None
 
--- this is the last number that was drawn in a lane of so many: 0 where its number file has no entry
+-- this is the last number that was drawn in a lane of this many: 0 where its number file has no entry
 abbrev pub IsDrawn : (lane lanes : ℕ) → Image → ℕ → Type 0
 IsDrawn lane lanes image last = LastDrawn lane lanes last image ⊎ ((entry_at lane image ≡ None) × (last ≡ 0))
 
--- how images are read, for a lane of so many
+-- how images are read, for a lane of this many
 abbrev pub reading_of : (lane lanes : ℕ) → Reading
 reading_of lane lanes = record {
   replays = Replays;

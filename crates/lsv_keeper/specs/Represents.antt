@@ -24,13 +24,13 @@ use Rattle.lsv_keeper.specs.Value.{KeeperView, log_in, sessions_of, settings_of}
 
 -- ---- Logs
 
--- the mask stands behind these records; where there are no texts it covers nothing, and may stand behind any
+-- the mask stands after these records; where there are no texts it covers nothing, and may stand after any
 pub record Masks (texts : List (List ℕ)) (mask : Seen) (records : List Record) : Type 0 where
   pub behind : List Record
   pub stands : mask ≡ seen texts behind
   pub these : (behind ≡ records) ⊎ (texts ≡ [])
 
--- a log that a connection writes is open, matches the disk with its staged records behind the committed ones, and its mask stands behind all of them, where it covers anything; what the machine promises is committed
+-- a log that a connection writes is open, matches the disk with its staged records after the committed ones, and its mask stands after all of them, where it covers anything; what the machine promises is committed
 pub record Held (v : KeeperView) (disk : DiskView) (m : Machine) (n : ℕ) : Type 0 where
   pub its : OpenLog
   pub here : log_in v n ≡ Some its

@@ -96,7 +96,7 @@ LogRose n old new = (file : FileId) × IsOfLog n file × HasRisen (old.faults fi
 abbrev pub JournalRose : ℕ → DiskView → DiskView → Type 0
 JournalRose n old new = HasRisen (old.faults (journal_of (owner_of n))) (new.faults (journal_of (owner_of n)))
 
--- the log is cut, and open with the mask behind its records
+-- the log is cut, and open with the mask after its records
 pub record IsResumed (n point : ℕ) (texts : List (List ℕ)) (its : OpenLog) (old new : DiskView) : Type 0 where
   pub stored : Stored
   pub into : IsCutInto n point stored old new

@@ -5,7 +5,7 @@ use Rattle.lsv_session.specs.declared.reply.Reply.{Reply}
 use Rattle.lsv_keeper.specs.Replies.{room_in}
 use Rattle.lsv_keeper.specs.Value.{KeeperView, room, sessions_of}
 
--- there is room for a turn of so many jobs: for two connections and four replies a job
+-- there is room for a turn of this many jobs: for two connections and four replies a job
 pub record HasRoom (jobs : ℕ) (v : KeeperView) (out : Vec Reply) : Type 0 where
   pub places : 2 * jobs ≤ room v
   pub replies : 4 * jobs ≤ room_in out

@@ -106,7 +106,7 @@ pub record IsPartOf (whole : Stored) (promised : ℕ) (part : Stored) : Type 0 w
 abbrev pub AllParts : ℕ → Stored → ℕ → (Image → Type 0) → Type 0
 AllParts i whole promised images = (image : Image) → images image → (part : Stored) × Replays image i (Some part) × IsPartOf whole promised part
 
--- a log that its connection lets go: whatever fails, each image holds the records promised, and some of those behind them
+-- a log that its connection lets go: whatever fails, each image holds the records promised, and some of those after them
 pub record Closed (i : ℕ) (m : Machine) (old new : DiskView) : Type 0 where
   pub whole : Stored
   pub promised : ℕ

@@ -20,7 +20,7 @@ use Rattle.lsv_keeper.specs.Logs.{open_logs, with_open}
 
 -- a keeper of a lane
 pub record KeeperView : Type 0 where
-  -- what the words and settings of the run say: the lane, how many lanes there are, whether exits have event lines, the form of the lines, and the prompts behind which what is typed is masked
+  -- what the words and settings of the run say: the lane, how many lanes there are, whether exits have event lines, the form of the lines, and the prompts after which what is typed is masked
   pub lane : ℕ
   pub lanes : ℕ
   pub log_exit : Bool
@@ -28,7 +28,7 @@ pub record KeeperView : Type 0 where
   pub texts : List (List ℕ)
   -- what each connection is doing, and which one writes a log
   pub table : Table
-  -- the logs that connections write, each with the mask behind its records
+  -- the logs that connections write, each with the mask after its records
   pub logs : OpenLogs
   pub numbers : Numbers
   pub events : EventLogView

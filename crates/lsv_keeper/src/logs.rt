@@ -19,7 +19,7 @@ use lsv_record::Record;
 use lsv_request::Refusal;
 use std::alloc::{AllocError, Global};
 
-/// A log that a connection writes, and the mask behind its records.
+/// A log that a connection writes, and the mask after its records.
 #[derive(Drop)]
 pub struct OpenLog {
     pub log: IoLog,

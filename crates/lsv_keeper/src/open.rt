@@ -87,7 +87,7 @@ fn events_fault(lane: u32, fault: BundleFault) -> StoreFault
 }
 
 impl<F: LineWriter + Drop, H: Search + Drop> Keeper<F, H> {
-    /// Opens the store of a lane of so many lanes, at most eight: its numbers, and then its event log; what is absent or
+    /// Opens the store of a lane of this many lanes, at most eight: its numbers, and then its event log; what is absent or
     /// has no entry is made. `Device` only where a device call on a file of that owner failed; `LanesDiffer` where the
     /// number file is of another number of lanes; `Damaged` of the number file where its last entry isn't one of the
     /// lane's, and of the event log's lines where these are absent or fewer than its last entry says. Whatever fails, no

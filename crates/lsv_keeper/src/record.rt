@@ -43,7 +43,7 @@ pub(crate) fn windowed(message: &ClientMessage)
 }
 
 impl<F: LineWriter, H: Search> Keeper<F, H> {
-    /// A valid record goes to the log that the connection writes, masked as it is behind the others, and the log waits for
+    /// A valid record goes to the log that the connection writes, masked as it is after the others, and the log waits for
     /// its commit point. A log that doesn't take it is let go, and so is one for which memory runs out.
     #[inline(always)]
     pub(crate) fn record<D: Disk>(

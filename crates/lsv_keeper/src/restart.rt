@@ -30,7 +30,7 @@ use lsv_request::{Refusal, Restart};
 use lsv_session::{ConnId, ConnState};
 
 impl<F: LineWriter, H: Search> Keeper<F, H> {
-    /// Goes on with a log that nobody writes behind its first record that ends at a point, and drops the records behind that
+    /// Goes on with a log that nobody writes after its first record that ends at a point, and drops the records after that
     /// one; or refuses the connection.
     pub(crate) fn restart<D: Disk>(&mut self, disk: &mut D, conn: ConnId, restart: Restart) -> Told
         requires stands { D.tells → (m : Machine) × Represents (view_of self.old) (D.view disk.old) m }

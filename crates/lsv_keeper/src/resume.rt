@@ -74,7 +74,7 @@ fn see_through<D: Disk, H: Search>(
     Err(LogFault::NoPoint(point))
 }
 
-/// The mask behind the records that a log is to keep. Without texts it covers nothing, and no record is read.
+/// The mask after the records that a log is to keep. Without texts it covers nothing, and no record is read.
 fn mask_behind<D: Disk, H: Search>(
     alloc: Global,
     disk: &mut D,

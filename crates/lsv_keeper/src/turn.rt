@@ -23,7 +23,7 @@ use lsv_mask::Search;
 use lsv_session::{Job, Reply};
 
 impl<F: LineWriter, H: Search> Keeper<F, H> {
-    /// Makes room for a turn of so many jobs: for two connections and four replies a job. It changes nothing else,
+    /// Makes room for a turn of this many jobs: for two connections and four replies a job. It changes nothing else,
     /// nor what the keeper stands for.
     pub fn ready(&mut self, jobs: usize, out: &mut Vec<Reply>) -> Result<(), NoMem>
         ensures same { IsRoomier (view_of self.old) (view_of self.new) }

@@ -118,7 +118,7 @@ says_shut (CommitPoint c) e = absurd (cc)
 says_shut (Error why) e = absurd (cc)
 says_shut Shut e = refl
 
--- behind a Shut among replies none is to its connection
+-- after a Shut among replies none is to its connection
 behind_said : (k : ConnId) (answers : List Answer) (before after : List Reply) (r : Reply) → Behind k answers → map reply_of answers ≡ before ++ r ∷ after → same r.conn k ≡ true → r.body ≡ reply.Shut → NoneFor k after
 behind_said k [] [] after r b e is shut = absurd (cc)
 behind_said k [] (x ∷ before) after r b e is shut = absurd (cc)

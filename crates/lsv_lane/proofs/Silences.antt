@@ -1,4 +1,4 @@
--- Behind a Shut nothing goes to its connection.
+-- After a Shut nothing goes to its connection.
 use Rattle.std.proofs.Common.{◌≡◌, ◌≢◌, ◌⊎◌, inl, inr, ◌++◌, ◌∷◌, [], List, ℕ, Bool, true, false, Some, None, refl, sym, ap, subst, ◌∙◌}
 use Rattle.std.specs.Prelude.{◌||◌}
 use Rattle.std.specs.List.{list_any}
@@ -35,7 +35,7 @@ abbrev pub ShutIn : ConnId → List Answer → Type 0
 ShutIn k [] = ⊥
 ShutIn k (a ∷ answers) = ((a.conn ≡ k) × (a.says ≡ Shut)) ⊎ ShutIn k answers
 
--- behind one that shuts the connection none goes to it
+-- after one that shuts the connection none goes to it
 abbrev pub Behind : ConnId → List Answer → Type 0
 Behind k [] = Unit {0}
 Behind k (a ∷ answers) = (a.conn ≡ k → a.says ≡ Shut → NoneTo k answers) × Behind k answers
@@ -97,7 +97,7 @@ step_behind set k m act new (inr d) = elim d.how [
   ]
 ]
 
--- who is shut by a job is hushed behind it
+-- who is shut by a job is hushed after it
 step_hushes : (set : Settings) (k : ConnId) (m : Machine) (act : Act) (new : Machine) (h : List Happened) → Step set m act new → EndsWithGone k (Did act ∷ h) → ShutIn k act.answers → Hushed k new h
 step_hushes set k m act new h step ends s =
     let seen = step_seen set m act new step in
@@ -173,9 +173,9 @@ flushes_stays set failed (n ∷ numbers) k answers m new s e (mid, its, rest, pa
     let first = flush_stays set failed n k its m mid s e one in
     rw parts (stays_append k its rest mid new first (flushes_stays set failed numbers k rest mid new (flushed_sound set failed n its m mid s one) first.dead more))
 
--- ---- The end of a turn: behind a Shut
+-- ---- The end of a turn: after a Shut
 
--- behind a Shut to it nothing goes to it, and it is dead
+-- after a Shut to it nothing goes to it, and it is dead
 record Hushes (k : ConnId) (answers : List Answer) (new : Machine) : Type 0 where
   behind : Behind k answers
   dead : ShutIn k answers → new.states k ≡ Dead
@@ -235,7 +235,7 @@ tail_hushes set k m tail new s t =
 
 -- ---- A history
 
--- in each job and end of a turn, nothing goes to the connection behind a Shut to it, and nothing in the rest
+-- in each job and end of a turn, nothing goes to the connection after a Shut to it, and nothing in the rest
 abbrev pub BehindIn : ConnId → List Happened → Type 0
 BehindIn k [] = Unit {0}
 BehindIn k (Did act ∷ h) = Behind k act.answers × (ShutIn k act.answers → NothingTo k h) × BehindIn k h

@@ -1,4 +1,4 @@
--- What the keeper and the disk stand for behind an opening, and behind each turn.
+-- What the keeper and the disk stand for after an opening, and after each turn.
 use Rattle.std.proofs.Common.{◌≡◌, ◌≤◌, ◌++◌, ◌∷◌, [], List, ℕ, Bool, Option, Some, None, refl, sym, ap, subst, ◌∙◌, append_assoc, inl, inr, arith}
 use Rattle.std.specs.List.{AllByRecursion}
 use Rattle.std.specs.Prelude.{IsSome}
@@ -83,7 +83,7 @@ roomier_gives v w now jobs m said said' v' old new r g =
     let t : TurnGives (record v { table = w.table }) now jobs m said said' v' old new = subst (λ (y : KeeperView). TurnGives y now jobs m said said' v' old new) (other_table v w r) g in
     record { replies = t.replies; after = t.after; told = t.told; turned = t.turned; no_line = t.no_line; represents = t.represents }
 
--- ---- Behind an opening
+-- ---- After an opening
 
 standing_open : (lane lanes : ℕ) (kind : Kind) (log_exit : Bool) (texts : List (List ℕ)) (found new : DiskView) (v : KeeperView) → IsSetTo lane lanes kind log_exit texts v → NumbersFit (reading_of lane lanes) lane lanes (IsCrashImage found)
     → OpensAs lane lanes texts found new v → Standing (lane_settings lane lanes kind log_exit) texts found new v []
@@ -110,7 +110,7 @@ made_open tells taping lane lanes kind log_exit texts found new v tape is rests 
     append_nil_of [] = refl
     append_nil_of (x ∷ xs) = ap (λ (ys : List TapeTurn). x ∷ ys) (append_nil_of xs)
 
--- ---- Behind a turn
+-- ---- After a turn
 
 standing_turn : (set : Settings) (texts : List (List ℕ)) (found old new : DiskView) (v v' : KeeperView) (turns : List LaneTurn) (t : LaneTurn) → settings_of v ≡ set → (s : Standing set texts found old v turns)
     → TurnGives v t.now t.jobs s.machine [] t.replies v' old new → Standing set texts found new v' (turns ++ t ∷ [])
@@ -156,7 +156,7 @@ module _ (tells taping : Type 0) (set : Settings) (texts : List (List ℕ)) (fou
   pub made_taped : (old : DiskView) (v : KeeperView) (kept kept' : List TapeTurn) (turns : List LaneTurn) → (taping → kept' ≡ kept) → IsMade tells taping set texts found old v tape kept turns → IsMade tells taping set texts found old v tape kept' turns
   made_taped old v kept kept' turns same is = record { rests = is.rests; set_is = is.set_is; timed = is.timed; taped = λ told. same told ∙ is.taped told; standing = is.standing; later = is.later; failed = is.failed; answered = is.answered }
 
-  -- behind a turn, which was kept
+  -- after a turn, which was kept
   pub made_turn : (old new : DiskView) (v v' : KeeperView) (kept kept' : List TapeTurn) (turns : List LaneTurn) (t : LaneTurn) → IsSome (nanos_of t.now) → (taping → kept' ≡ kept ++ taped t ∷ [])
       → IsResting v' → SameSet v v' → (tells → (m : Machine) → Represents v old m → TurnGives v t.now t.jobs m [] t.replies v' old new)
       → Says (AnyIsOf t.jobs) (MayFail v old new) [] t.replies → (HasFailed v' → MayFail v old new) → ((file : FileId) → old.faults file ≤ new.faults file) → IsMade tells taping set texts found old v tape kept turns → IsMade tells taping set texts found new v' tape kept' (turns ++ t ∷ [])

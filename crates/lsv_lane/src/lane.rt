@@ -59,7 +59,7 @@ pub struct Unopened<D, C, G> {
 }
 
 impl<D: Disk, C: Clock, G: Tape, F: LineWriter + Drop, H: Search + Drop> StoreLane<D, C, G, F, H> {
-    /// Opens the store of a lane of so many, at most eight. If it can't be opened the bay is given back, with the fault of
+    /// Opens the store of a lane of this many, at most eight. If it can't be opened the bay is given back, with the fault of
     /// `Keeper::open`; the next run may begin with its disk. An entry of the number file that was there is there still.
     pub fn open(
         alloc: Global,

@@ -143,7 +143,7 @@ still_of lanes home (x ∷ []) (y ∷ ys) l e = go (is_hello x) e
     go false d = d
 still_of lanes home (x ∷ z ∷ later) ys l e = e
 
--- ---- Nothing behind the end
+-- ---- Nothing after the end
 
 -- the connection's end is among these
 abbrev pub HasGone : List Body → Type 0

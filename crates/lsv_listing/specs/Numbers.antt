@@ -16,7 +16,7 @@ drawn_in (Err fault) = None
 abbrev pub drawn : ℕ → Image → Option (ℕ × ℕ)
 drawn lane image = drawn_in (viewed lane (entry_at lane image))
 
--- the greatest number that the first so many lanes drew; none where a number file of theirs is damaged
+-- the greatest number that the first this many lanes drew; none where a number file of theirs is damaged
 abbrev pub greatest : ℕ → Image → Option ℕ
 greatest zero image = Some 0
 greatest (suc lanes) image = option_and_then (λ most. option_map (λ d. max most d.0) (drawn lanes image)) (greatest lanes image)

@@ -38,7 +38,7 @@ pub record ListedTo (searched : Option Expression) (image : Image) (n : ℕ) (fi
   pub put_is : put ≡ listing searched found
   pub first_is : first ≡ first_damage found
 
--- a first part of the lines of at most so many logs is put
+-- a first part of the lines of at most this many logs is put
 pub record ListedPart (searched : Option Expression) (image : Image) (n : ℕ) (put : List Item) : Type 0 where
   pub found : List Found
   pub are : AreFound image found

@@ -22,7 +22,7 @@ pub fn last_number<D: Disk>(disk: &mut D) -> Result<u32, ListFault>
     greatest(disk, lanes)
 }
 
-/// The greatest number that the first so many lanes drew.
+/// The greatest number that the first this many lanes drew.
 fn greatest<D: Disk>(disk: &mut D, lanes: u32) -> Result<u32, ListFault>
     ensures last { D.tells → IfOk result (λ n. greatest lanes (D.view disk.old).reads ≡ Some n) }
     ensures refused { D.tells → IfErr result (λ e. e ≢ faults.Disk → greatest lanes (D.view disk.old).reads ≡ None) }

@@ -111,7 +111,7 @@ module _ (tells : Type 0) (start log : ViewState) (old now : DiskView) (before s
   laid_is : committed_laid log.number log.body now ≡ laid_at start.number start.body old.reads
   laid_is = laid_same start log old now is.number is.body (same_image old now (is.reads told))
 
-  -- there is no log where a part is at fault behind the records so far
+  -- there is no log where a part is at fault after the records so far
   no_log : (part : Part) → IsOpened start.number start.body start.head old.reads → IsFaultBehind (committed_laid log.number log.body now) log.body so_far.0 part → IsUnread old.reads start.number (logs.Damaged part)
   no_log part opened fault stored holds =
       stored_undamaged (Unit {0}) any_way start.number old.reads (play any_way so_far.0) stored part holds (inr (record {

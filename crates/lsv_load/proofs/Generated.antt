@@ -30,7 +30,7 @@ use Rattle.lsv_load.specs.Logs.{bodies_of, exit_at, head_at, log_at, record_at, 
 
 -- ---- Times
 
--- a time of so many nanoseconds fits its fields
+-- a time of this many nanoseconds fits its fields
 time_fits : (n : ℕ) → n < 2 ^ 63 → FitsTime (time_of n)
 time_fits n small = (record { sfits = omega (arith, small) }, record { sfits = omega (arith, small) })
 

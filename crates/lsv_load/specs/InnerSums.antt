@@ -52,7 +52,7 @@ pub record AddsAll (n : ℕ) (body : Body) (image : Image) (old new : Totals) : 
   pub all : AreAll (laid_at n body image) body records
   pub sums : (logs : List Stored) → old ≡ totals_of logs → new ≡ totals_with logs records
 
--- records of a log are added one by one: it only read, and stands behind those that were added
+-- records of a log are added one by one: it only read, and stands after those that were added
 pub record IsAdding (tells : Type 0) (start log : ViewState) (old now : DiskView) (before sums : Totals) : Type 0 where
   pub number : log.number ≡ start.number
   pub body : log.body ≡ start.body

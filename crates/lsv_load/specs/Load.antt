@@ -14,7 +14,7 @@ abbrev pub all_links : ℕ → List Step
 all_links zero = []
 all_links (suc n) = all_links n ++ link_steps (suc n)
 
--- the script of a load of so many conversations: Stop comes last
+-- the script of a load of this many conversations: Stop comes last
 abbrev pub load_script : ℕ → List Step
 load_script n = all_links n ++ Stop ∷ []
 

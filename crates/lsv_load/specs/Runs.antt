@@ -31,7 +31,7 @@ use Rattle.lsv_load.specs.declared.run.LoadEnd.TheVariants.{NoMem, Served, Store
 abbrev pub view_of : PortValue → PortView
 view_of port = record { state = port_state port; ledger = port_ledger port }
 
--- a port to which nothing has come yet, which hasn't failed and wasn't asked to listen, of a load of so many conversations
+-- a port to which nothing has come yet, which hasn't failed and wasn't asked to listen, of a load of this many conversations
 pub record IsNew (count : ℕ) (port : PortValue) : Type 0 where
   pub script : port.script ≡ load_script count
   pub opened : (port_state port).opened ≡ []
@@ -107,7 +107,7 @@ EndsLoad disk_tells count turns found served left up (Served text) = IsServed di
 EndsLoad disk_tells count turns found served left up (Store fault) = IsNotOpened disk_tells found served up fault ⊎ IsServed disk_tells count turns served left up (Store fault)
 EndsLoad disk_tells count turns found served left up NoMem = LeavesLoad count turns
 
--- a load over the store of one lane: the run of its turns, behind which the disk was only read, and how it ended
+-- a load over the store of one lane: the run of its turns, after which the disk was only read, and how it ended
 pub record RunsLoad {D : Type 0} (disk_tells tape_tells : Type 0) (view : D → DiskView) (set : Settings) (texts : List (List ℕ)) (count : ℕ) (found left : D) (tape tape' : List TapeTurn) (end : LoadEnd) : Type 0 where
   pub turns : List LaneTurn
   pub served : D

@@ -6,7 +6,7 @@ use lsv_gen::conversation;
 use lsv_port::Step;
 use std::alloc::Global;
 
-/// What happens at the port of a load of so many conversations: each has a link of its own, which is opened, gives its
+/// What happens at the port of a load of this many conversations: each has a link of its own, which is opened, gives its
 /// bytes and ends, one after another. Stop comes last.
 pub(crate) fn load_script(alloc: Global, count: u32) -> Result<Vec<Step>, NoMem>
     requires { count ≤ 10000 }

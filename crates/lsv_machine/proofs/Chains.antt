@@ -23,7 +23,7 @@ lt_or a b = go (nat_lt a b) refl
 abbrev Lies : ℕ → List Turn → ℕ → Type 0
 Lies from ts k = InTurn (record { opened = from; turns = ts }) k ⊎ (ended_at from ts ≤ k)
 
--- a moment behind the opening lies in a turn, or behind all turns
+-- a moment after the opening lies in a turn, or after all turns
 lies : (from : ℕ) (ts : List Turn) (k : ℕ) → from ≤ k → Lies from ts k
 lies from [] k late = inr late
 lies from (t ∷ ts) k late = elim (lt_or k t.ended) [

@@ -172,7 +172,7 @@ module _ (set : Settings) (texts : List (List ℕ)) (k : ConnId) (n : ℕ) (head
 
   -- ---- Room for event lines
 
-  -- the event log takes so many bytes more
+  -- the event log takes this many bytes more
   abbrev Room : Machine → ℕ → Type 0
   Room m more = length m.lines + length m.fresh + more ≤ 2 ^ 40
 
@@ -729,7 +729,7 @@ module _ (set : Settings) (texts : List (List ℕ)) (k : ConnId) (n : ℕ) (head
 
     -- ---- Turns
 
-    -- behind the exit nothing comes
+    -- after the exit nothing comes
     over_goes : (came : List Came) (turns : List Turn) (m end : Machine) (log : LogState) → AreSent k came turns → flat_map (λ c. c.bodies) came ≡ [] → Rests k n log m → Run set m (all_turns turns) end → (all_answers turns ≡ []) × Rests k n log end
     over_goes [] [] m end log sent none r run = (refl, subst (λ (x : Machine). Rests k n log x) (sym run) r)
     over_goes [] (turn ∷ turns) m end log sent none r run = absurd sent
@@ -760,7 +760,7 @@ module _ (set : Settings) (texts : List (List ℕ)) (k : ConnId) (n : ℕ) (head
     abbrev from_here : ConnState → List ℕ → List Answer
     from_here s times = map (λ says. say k says) (opened_says s ++ map (λ point. CommitPoint point) times) ++ say k Shut ∷ []
 
-    -- what one turn tells, and what is told behind it
+    -- what one turn tells, and what is told after it
     turn_told : (s t : ConnState) (any : Bool) (point : ℕ) (times : List ℕ) (of_jobs of_tail rest : List Answer) → (is_running s ≡ true → is_running t ≡ true) → (is_running t ≡ false → any ≡ false)
         → of_jobs ≡ opened_by s t → of_tail ≡ (if any then say k (CommitPoint point) ∷ [] else []) → rest ≡ from_here t times
         → (of_jobs ++ of_tail) ++ rest ≡ from_here s ((if any then point ∷ [] else []) ++ times)

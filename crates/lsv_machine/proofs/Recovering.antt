@@ -253,7 +253,7 @@ run_any : (set : Settings) (start : Machine) (turns : List Turn) (n : ℕ) → A
 run_any set start turns n t = let (restart, asks, is) = t.asks in
     turns_any turns t.before t.after t.act n t.is (subst (AsksToResume t.act.job.body) is (resumes (t.mid.states t.act.job.conn) t.act.job.body restart asks))
 
--- what is left of a list behind a first part of it
+-- what is left of a list after a first part of it
 same_rest : (before a b : List Turn) → before ++ a ≡ before ++ b → a ≡ b
 same_rest [] a b e = e
 same_rest (t ∷ before) a b e = same_rest before a b (cc)

@@ -106,7 +106,7 @@ resumed_longer = holding (one_byte 5 ∷ one_byte 9 ∷ [])
 abbrev pub one_lane : Settings
 one_lane = record { lane = 0; lanes = 1; log_exit = false; line_of = λ now k asked log. [] }
 
--- a log with these records, so many of them promised
+-- a log with these records, this many of them promised
 abbrev pub promising : List Record → ℕ → LogState
 promising records promised = There (record { head = head_text the_head; records = records; exit = None; cuts = 0 }) promised
 

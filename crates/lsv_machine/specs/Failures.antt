@@ -69,7 +69,7 @@ pub record IsSet (exit : List ℕ) (old new : LogState) : Type 0 where
   pub was : old ≡ There stored promised
   pub now : new ≡ There (with_exit exit stored) promised
 
--- a log that failed inside a cut at this point: it may have been cut or not, and of the records promised those behind the point may be gone
+-- a log that failed inside a cut at this point: it may have been cut or not, and of the records promised those after the point may be gone
 pub record FailsInCut (point : ℕ) (old new : LogState) : Type 0 where
   pub stored : Stored
   pub promised : ℕ

@@ -69,7 +69,7 @@ abbrev pub raised_to : Option ℕ → List Record → ℕ → Option ℕ
 raised_to None records point = None
 raised_to (Some promised) records point = Some (raised promised records point)
 
--- a cut at a point that failed promises no record behind the first that ends there
+-- a cut at a point that failed promises no record after the first that ends there
 abbrev pub lowered_to : Option ℕ → List Record → ℕ → Option ℕ
 lowered_to None records point = None
 lowered_to (Some promised) records point = Some (min promised (unwrap_or (first records point) promised))

@@ -34,7 +34,7 @@ has_place s (request.Restart restart) = false
 has_place s (request.Record r) = is_running s
 has_place s (request.Exit exit) = is_running s
 
--- the connection's state behind a request that has its place. n: the number of the log
+-- the connection's state after a request that has its place. n: the number of the log
 abbrev pub goes_to : ℕ → ConnState → Request → ConnState
 goes_to n s request.Hello = Greeted
 goes_to n s (request.Accept accept) = if is_running s then s else Running (Some n)
@@ -110,12 +110,12 @@ pub record Came : Type 0 where
   pub now : TimeSpec
   pub bodies : List Body
 
--- the state behind what is asked
+-- the state after what is asked
 abbrev pub behind : ℕ → ConnState → Result Request Refusal → ConnState
 behind n s (Ok asked) = goes_to n s asked
 behind n s (Err why) = s
 
--- the state behind all that is sent in a turn
+-- the state after all that is sent in a turn
 abbrev pub behind_all : ℕ → ConnState → List Body → ConnState
 behind_all n s [] = s
 behind_all n s (b ∷ bodies) = behind_all n (behind n s (request_in b)) bodies

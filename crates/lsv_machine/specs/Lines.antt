@@ -9,7 +9,7 @@ use Rattle.lsv_machine.specs.Turns.{Happened, Happened.Did, Happened.Tailed, Hap
 abbrev pub lines_of : List Act → List ℕ
 lines_of acts = flat_map (λ act. act.line) acts
 
--- a history turns the text of the event log, and the lines of the turn under way, into these: the jobs add lines, and the end of the turn puts them behind the text, or loses them
+-- a history turns the text of the event log, and the lines of the turn under way, into these: the jobs add lines, and the end of the turn puts them after the text, or loses them
 -- where the event log failed; the start of a run finds those of a turn that was cut, or not
 abbrev pub LinesFrom : (lane : ℕ) (text fresh : List ℕ) → List Happened → (text' fresh' : List ℕ) → Type 0
 LinesFrom lane text fresh [] text' fresh' = (text' ≡ text) × (fresh' ≡ fresh)

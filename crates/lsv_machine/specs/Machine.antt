@@ -10,7 +10,7 @@ use Rattle.lsv_session.specs.declared.connection.ConnState.TheVariants.{Fresh, G
 
 -- ---- What is known
 
--- a log: absent; damaged; or there, with so many of its records promised
+-- a log: absent; damaged; or there, with this many of its records promised
 pub data LogState : Type 0 where
   Absent : LogState
   Damaged : LogState
@@ -18,7 +18,7 @@ pub data LogState : Type 0 where
 
 -- what a lane's machine knows: of the logs, of the connections and of the number file, and what this turn has left to its end
 pub record Machine : Type 0 where
-  -- the prompts behind which what is typed is masked in this run
+  -- the prompts after which what is typed is masked in this run
   pub texts : List (List ℕ)
   -- the log of each number
   pub logs : ℕ → LogState
@@ -32,7 +32,7 @@ pub record Machine : Type 0 where
   pub failed_draws : ℕ
   -- the logs that took a record in this turn from the connection that writes them, rising
   pub waiting : List ℕ
-  -- the text of the event log: its lines, one behind the other
+  -- the text of the event log: its lines, one after the other
   pub lines : List ℕ
   -- the text of this turn's event lines, which are not in the event log yet
   pub fresh : List ℕ

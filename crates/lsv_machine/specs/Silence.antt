@@ -37,7 +37,7 @@ NoJobs k (Did act ∷ history) = (act.job.conn ≢ k) × NoJobs k history
 NoJobs k (Tailed tail ∷ history) = NoJobs k history
 NoJobs k (Begins texts ∷ history) = NoJobs k history
 
--- in this history the connection has no job behind its Gone
+-- in this history the connection has no job after its Gone
 abbrev pub EndsWithGone : ConnId → List Happened → Type 0
 EndsWithGone k [] = Unit {0}
 EndsWithGone k (Did act ∷ history) = (act.job.conn ≡ k → act.job.body ≡ body.Gone → NoJobs k history) × EndsWithGone k history

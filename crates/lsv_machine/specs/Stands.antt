@@ -28,7 +28,7 @@ pub record Agrees (n : ℕ) (m : Machine) (l : Ledger) : Type 0 where
   pub shut : (k : ConnId) → l.shut k ≡ is_dead (m.states k)
   pub writers : l.writers ≡ as_list (m.owner n)
 
--- a log, with so many records promised and this writer, against what the history has shown and told of it
+-- a log, with this many records promised and this writer, against what the history has shown and told of it
 pub record HoldsRecords (stored : Stored) (promised : ℕ) (writer : Option ConnId) (shown : List Record) (told : Option ℕ) : Type 0 where
   -- its records are a prefix of those shown, and all of them while it is written
   pub prefix : IsPrefix stored.records shown

@@ -45,13 +45,13 @@ refused k why m = ends k (refusal k why) m
 abbrev pub fits_file : List ℕ → Bool
 fits_file text = nat_le (length text) (2 ^ 40)
 
--- the file of a record's stream takes its data behind these records
+-- the file of a record's stream takes its data after these records
 abbrev pub stream_takes : List Record → Record → Bool
 stream_takes records (Io delay stream bytes) = fits_file (stream_of stream (records ++ Io delay stream bytes ∷ []))
 stream_takes records (Winsize delay rows cols) = true
 stream_takes records (Suspend delay signal) = true
 
--- the files that a record goes to take it behind these records: the timing, and that of its stream
+-- the files that a record goes to take it after these records: the timing, and that of its stream
 abbrev pub files_take : List Record → Record → Bool
 files_take records r = fits_file (timing_of (records ++ r ∷ [])) && stream_takes records r
 
@@ -125,7 +125,7 @@ with_record r stored = record stored { records = stored.records ++ r ∷ [] }
 abbrev pub waits : ℕ → Machine → Machine
 waits n m = record m { waiting = insert_once n m.waiting }
 
--- a record goes to the end of a log, masked as it is behind the others; or the log doesn't take it
+-- a record goes to the end of a log, masked as it is after the others; or the log doesn't take it
 abbrev pub taken : ConnId → ℕ → Record → LogState → Machine → Done
 taken k n r (There stored promised) m =
     if takes stored r then silently (waits n (with_log n (There (with_record (covered m.texts stored.records r) stored) promised) m)) else refused k LogFull m
@@ -192,7 +192,7 @@ has_line set (request.Record r) = false
 abbrev pub line_in : Settings → TimeSpec → ConnId → ConnState → Request → ℕ → List ℕ
 line_in set now k s asked n = set.line_of now k asked (if opens s asked then Some n else log_of s)
 
--- the event log takes a line behind those of this turn
+-- the event log takes a line after those of this turn
 abbrev pub line_fits : List ℕ → Machine → Bool
 line_fits line m = nat_le (length m.lines + length m.fresh + length line) (2 ^ 40)
 

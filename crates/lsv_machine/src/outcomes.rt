@@ -31,7 +31,7 @@ pub fn who_is_shut_is_dead()
     ensures tail { (set : Settings) (old : Machine) (tail : Tail) (new : Machine) → Sound set old → EndOfTurn set old tail new → ShutsAreDead new tail.answers }
 {}
 
-/// Nothing is said to a dead connection in the rest of a run, up to its Gone and behind it, and nothing to one that went, if
+/// Nothing is said to a dead connection in the rest of a run, up to its Gone and after it, and nothing to one that went, if
 /// no job of it comes any more. What is sound stays so.
 pub fn nothing_is_said_after_a_shut()
     ensures dead { (set : Settings) (k : ConnId) (h : List Happened) (m end : Machine) → Sound set m → m.states k ≡ Dead → EndsWithGone k h → Run set m h end → NothingTo k h }

@@ -106,7 +106,7 @@ recent_without t output none = by_length (cases_lt 256 (length output))
         let all : drop (length output - 256) output ≡ output = ap (λ (i : ℕ). drop i output) zero_at ∙ all_left output in
         ap (λ (o : List ℕ). last_bytes 256 (t ++ o)) all ∙ sym (by_feed false t output (ap has_line_feed (sym all) ∙ none))
 
--- Output of which the last bytes have a line feed leaves what stands behind the last one.
+-- Output of which the last bytes have a line feed leaves what stands after the last one.
 pub recent_with : (t output : List ℕ) (k : ℕ) → k < length (drop (length output - 256) output) → get_or (drop (length output - 256) output) k 0 ≡ 10 → has_line_feed (drop (k + 1) (drop (length output - 256) output)) ≡ false
     → last_bytes 256 (drop (k + 1) (drop (length output - 256) output)) ≡ tail_with t output
 recent_with t output k below feed none =
@@ -126,7 +126,7 @@ no_feed (x ∷ xs) h = go (x == 10) refl (no_feed xs (λ k below is. h (suc k) (
     go true e rest = absurd (h 0 (omega arith) e)
     go false e rest = ap (λ (b : Bool). b || has_line_feed xs) e ∙ rest
 
--- what a copy to the front and a copy behind it leave
+-- what a copy to the front and a copy after it leave
 pub appended : (bytes moved recent : List ℕ) (len kept k : ℕ) → length bytes ≡ 256 → len ≤ 256 → length recent ≤ 256 → kept ≡ min len (256 - length recent) → moved ≡ copy_within bytes (len - kept) len 0
     → take (kept + length recent) (put_mid kept k moved recent) ≡ last_bytes 256 (take len bytes ++ recent)
 appended bytes moved recent len kept k whole small few is after =

@@ -25,7 +25,7 @@ prompted texts bytes = list_any (λ text. occurs text bytes) texts
 abbrev pub has_line_feed : List ℕ → Bool
 has_line_feed bytes = list_any (λ byte. byte == 10) bytes
 
--- what stands behind the last line feed: all, where there is none
+-- what stands after the last line feed: all, where there is none
 abbrev pub last_line : List ℕ → List ℕ
 last_line [] = []
 last_line (byte ∷ bytes) = if has_line_feed (byte ∷ bytes) then last_line bytes else byte ∷ bytes
@@ -46,7 +46,7 @@ is_end byte = byte == 10 || byte == 13
 abbrev pub ends_line : List ℕ → Bool
 ends_line bytes = list_any is_end bytes
 
--- whether a password is awaited behind these records and one more, where it was or wasn't behind these: output tells
+-- whether a password is awaited after these records and one more, where it was or wasn't after these: output tells
 -- by the line that it leaves, and the end of a typed line ends it
 abbrev pub hot_with : List (List ℕ) → List Record → Bool → Record → Bool
 hot_with texts records was (Io delay Ttyout []) = was
@@ -58,12 +58,12 @@ hot_with texts records was (Io delay Stderr bytes) = was
 hot_with texts records was (Winsize delay rows cols) = was
 hot_with texts records was (Suspend delay signal) = was
 
--- the same behind these records and all that follow them
+-- the same after these records and all that follow them
 abbrev pub hot_behind : List (List ℕ) → List Record → Bool → List Record → Bool
 hot_behind texts records was [] = was
 hot_behind texts records was (r ∷ more) = hot_behind texts (records ++ r ∷ []) (hot_with texts records was r) more
 
--- whether a password is awaited behind these records
+-- whether a password is awaited after these records
 abbrev pub hot : List (List ℕ) → List Record → Bool
 hot texts records = hot_behind texts [] false records
 
@@ -72,7 +72,7 @@ abbrev pub starred : List ℕ → List ℕ
 starred [] = []
 starred (byte ∷ bytes) = if is_end byte then byte ∷ bytes else 42 ∷ starred bytes
 
--- a record as it is stored behind these records
+-- a record as it is stored after these records
 abbrev pub covered : List (List ℕ) → List Record → Record → Record
 covered texts records (Io delay Ttyin bytes) = Io delay Ttyin (if hot texts records then starred bytes else bytes)
 covered texts records (Io delay Ttyout bytes) = Io delay Ttyout bytes
@@ -91,12 +91,12 @@ mask_behind texts records (r ∷ more) = covered texts records r ∷ mask_behind
 abbrev pub mask : List (List ℕ) → List Record → List Record
 mask texts records = mask_behind texts [] records
 
--- what a mask keeps of the records behind which it stands
+-- what a mask keeps of the records after which it stands
 pub record Seen : Type 0 where
   pub texts : List (List ℕ)
   pub tail : List ℕ
   pub is_hot : Bool
 
--- the mask that stands behind these records
+-- the mask that stands after these records
 abbrev pub seen : List (List ℕ) → List Record → Seen
 seen texts records = record { texts = texts; tail = tail records; is_hot = hot texts records }

@@ -7,7 +7,7 @@ ghost use Rattle.lsv_record.specs.declared.records.Record.{Record};
 ghost use Rattle.lsv_record.specs.declared.records.Stream.{Stream};
 ghost use Rattle.lsv_record.specs.declared.records.Stream.TheVariants.{Ttyin};
 
-/// No password is awaited before the first record, and behind one more it is awaited as `hot_with` says. Prompted is
+/// No password is awaited before the first record, and after one more it is awaited as `hot_with` says. Prompted is
 /// what has one of the texts somewhere in it.
 pub fn a_password_is_awaited_behind_a_prompt()
     ensures none { (texts : List (List ℕ)) → hot texts [] ≡ false }

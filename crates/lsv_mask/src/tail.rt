@@ -5,7 +5,7 @@ ghost use Rattle.lsv_mask.specs.Masking.{last_bytes};
 use memchr::memrchr;
 use std::marker::Model;
 
-/// So many bytes of output are kept.
+/// This many bytes of output are kept.
 const SIZE: usize = 256;
 
 /// The end of the last line of output, in at most 256 bytes. Contracts see these bytes.

@@ -27,7 +27,7 @@ pub record WrittenIsRead : Type 0 where
 
 -- ---- One field
 
--- a field stands at a place, and this rest behind it
+-- a field stands at a place, and this rest after it
 pub record Stands (text : List ℕ) (at : ℕ) (f : Field) (next : ℕ) (rest : List ℕ) : Type 0 where
   pub is : next_field text at ≡ Ok (Some (f, next))
   pub fields : fields_from text at ≡ with_field f (fields_from text next)
@@ -65,7 +65,7 @@ one_field larger text at u v f next rest s e = rw (s.fields, e, place s.is) refl
 abbrev pub Acts : {S U : Type 0} → (ℕ → S → Field → Result S MsgFault) → ℕ → ℕ → (ℕ → U → Field → Result U MsgFault) → (S → U) → Type 0
 Acts {S} take lo hi larger put = (key : ℕ) (s t : S) (f : Field) → lo ≤ f.number → f.number ≤ hi → take key s f ≡ Ok t → larger key (put s) f ≡ Ok (put t)
 
--- the larger table reads this message at this place, and goes on behind it
+-- the larger table reads this message at this place, and goes on after it
 pub record Found {S A U : Type 0} (m : Format S A) (larger : ℕ → U → Field → Result U MsgFault) (put : S → U) (text rest : List ℕ) (at : ℕ) (a : A) : Type 0 where
   pub state : S
   pub next : ℕ

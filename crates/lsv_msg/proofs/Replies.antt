@@ -32,7 +32,7 @@ commit_field : (t : TimeSpec) → server_bytes (server.CommitPoint t) ≡ bytes_
 unfolding canon
 commit_field t = refl
 
--- what is written behind six bytes, and then of these the last three
+-- what is written after six bytes, and then of these the last three
 pub commit_framed : (end : ℕ) (bytes : List ℕ) (t : TimeSpec) → take end bytes ≡ 0 ∷ 0 ∷ 0 ∷ 0 ∷ 0 ∷ 0 ∷ canon time_spec t → end ≤ length bytes → 6 ≤ end → end ≤ 46
     → take end (set (set (set bytes 3 (end - 4)) 4 18) 5 (end - 6)) ≡ frame_of (server_bytes (server.CommitPoint t))
 commit_framed end bytes t is within low high =

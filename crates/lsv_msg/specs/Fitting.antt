@@ -45,7 +45,7 @@ FitsServer (server.LogId id) = Unit {0}
 FitsServer (server.Error message) = Unit {0}
 FitsServer (server.Abort message) = Unit {0}
 
--- the texts of a value have at most so many bytes
+-- the texts of a value have at most this many bytes
 abbrev pub ValueWithin : ℕ → Value → Type 0
 ValueWithin n (values.Num number) = Unit {0}
 ValueWithin n (values.Text text) = length text ≤ n
@@ -55,7 +55,7 @@ ValueWithin n (values.Nums numbers) = Unit {0}
 abbrev pub EntryWithin : ℕ → Entry → Type 0
 EntryWithin n e = (length e.key ≤ n) × ValueWithin n e.value
 
--- each text of a message, a record's data too, has at most so many bytes
+-- each text of a message, a record's data too, has at most this many bytes
 abbrev pub ClientWithin : ℕ → ClientMessage → Type 0
 ClientWithin n (client.Accept m) = AllByRecursion (EntryWithin n) m.info_msgs.entries
 ClientWithin n (client.Reject m) = (length m.reason ≤ n) × AllByRecursion (EntryWithin n) m.info_msgs.entries

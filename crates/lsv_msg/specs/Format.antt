@@ -186,7 +186,7 @@ repeated_said number m = record {
   write = flat_map (λ a. (message m).write number (Some a));
 }
 
--- at most so many varints from a place up to the end
+-- at most this many varints from a place up to the end
 abbrev pub packed_within : ℕ → List ℕ → ℕ → ℕ → Result (List ℤ) MsgFault
 packed_within zero bytes key at = Ok []
 packed_within (suc more) bytes key at =

@@ -62,7 +62,7 @@ impl<T: Drop> From<AllocFailed<T>> for MsgFault {
 /// Why a message isn't written.
 #[derive(Clone, Copy, Debug, PartialEq, Eq, Error)]
 pub enum EncodeFault {
-    /// The canonical bytes are so many, more than a frame holds.
+    /// The canonical bytes are this many, more than a frame holds.
     #[error("a message of {0} bytes is longer than a frame holds")]
     TooLong(u64),
     #[error("out of memory")]

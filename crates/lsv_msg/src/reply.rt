@@ -1,4 +1,4 @@
-//! Replies are put behind one another, each in its frame.
+//! Replies are put after one another, each in its frame.
 
 ghost use Rattle.std.specs.Prelude.{◌≡◌, ◌+◌, ◌≤◌, ◌<◌, ◌++◌, length, take, OnOk, OnErr, IsErrOf};
 ghost use Rattle.lsv_wire.specs.Fields.{bytes_field};

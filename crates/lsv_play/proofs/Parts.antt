@@ -15,7 +15,7 @@ part_of_more (item ∷ part) [] more is = absurd is
 part_of_more (item ∷ part) (first ∷ whole) more (inl is) = inl (is.0, part_of_more part whole more is.1)
 part_of_more (item ∷ part) (first ∷ whole) more (inr is) = inr is
 
--- behind the same items
+-- after the same items
 pub part_behind : (done part whole : List Item) → IsPart part whole → IsPart (done ++ part) (done ++ whole)
 part_behind [] part whole is = is
 part_behind (item ∷ done) part whole is = inl (refl, part_behind done part whole is)
@@ -34,7 +34,7 @@ pub play_append : (o : Options) (records more : List Record) → play o (records
 play_append o [] more = refl
 play_append o (r ∷ records) more = ap (λ items. items_of o r ++ items) (play_append o records more) ∙ sym (append_assoc (items_of o r) (play o records) (play o more))
 
--- what is shown of one of these records is, behind what is shown of those before it, a first part of what is shown of all
+-- what is shown of one of these records is, after what is shown of those before it, a first part of what is shown of all
 pub part_there : (o : Options) (records : List Record) (i : ℕ) (r : Record) (part : List Item) → i < length records → r ≡ get_or records i r → IsPart part (items_of o r)
     → IsPart (play o (take i records) ++ part) (play o records)
 part_there o records i r part lt is first =

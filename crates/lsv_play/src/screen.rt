@@ -8,7 +8,7 @@ use lsv_base::{Bytes, SinkFault};
 /// What a screen is told.
 #[derive(Debug, Drop)]
 pub enum Item {
-    /// So many nanoseconds are waited.
+    /// This many nanoseconds are waited.
     Wait(u64),
     /// These bytes are put.
     Put(Bytes),
@@ -25,7 +25,7 @@ pub trait Screen {
     /// How often a call has failed.
     ghost faults: { Self → ℕ };
 
-    /// Waits so many nanoseconds, or fails.
+    /// Waits this many nanoseconds, or fails.
     fn wait(&mut self, nanos: u64) -> Result<(), SinkFault>
         ensures shown { tells → OnOk result (shown self.new ≡ shown self.old ++ Item.Wait nanos ∷ []) }
         ensures failed { tells → OnErr result (shown self.new ≡ shown self.old) }

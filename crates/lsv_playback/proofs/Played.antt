@@ -40,7 +40,7 @@ same_image old new reads = fun_ext (λ f. unchanged_reads old new reads.unchange
 play_push : (o : Options) (rs : List Record) (r : Record) → play o (rs ++ r ∷ []) ≡ play o rs ++ items_of o r
 play_push o rs r = play_append o rs (r ∷ []) ∙ ap (λ (items : List Item). play o rs ++ items) (append-nil (items_of o r))
 
--- a loop over the records of a log: it only read, and stands behind records that are put
+-- a loop over the records of a log: it only read, and stands after records that are put
 pub record IsPlaying (tells shows : Type 0) (o : Options) (start log : ViewState) (old now : DiskView) (before shown : List Item) (failed fails : ℕ) : Type 0 where
   pub number : log.number ≡ start.number
   pub body : log.body ≡ start.body

@@ -68,7 +68,7 @@ module _ (n : ℕ) (body : Body) (head : Head) (image : Image) (log : Stored) (o
 line_some : (r : Record) → 1 ≤ length (line_of r)
 line_some r = omega (arith, length-append (text_of (shape_of r)) (10 ∷ []))
 
--- a layout has no room for records behind its own
+-- a layout has no room for records after its own
 no_more : (l : Laid) (rs : List Record) (r : Record) (more : List Record) → IsLayout l rs → Begins l (rs ++ r ∷ more) → ⊥
 no_more l rs r more laid begins =
     let rest = begins.timing in

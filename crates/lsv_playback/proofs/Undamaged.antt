@@ -98,11 +98,11 @@ no_line_at_end text at next told end line =
     omega (arith, counts, length-append (shaped_line told) (drop next text), line_long told)
 
 module _ (l : Laid) (body : Body) (all rs : List Record) (laid : IsLayout l all) (begins : Begins l all) (count : body.count ≡ length all) (time : body.elapsed ≡ elapsed all) where
-  -- behind all records the timing ends
+  -- after all records the timing ends
   at_end : all ≡ rs ++ [] → length (timing_of rs) ≡ length l.timing
   at_end is = ap length (ap timing_of (sym (append-nil rs) ∙ sym is) ∙ sym laid.timing)
 
-  -- the line behind the first records is the next record's
+  -- the line after the first records is the next record's
   next_shape : (r : Record) (more : List Record) (told : Shaped) → all ≡ rs ++ r ∷ more → NextLine l rs told → told ≡ shape_of r
   next_shape r more told is next =
       (one_line l.timing (length (timing_of rs)) next.0 (length (timing_of rs) + length (line_of r)) told (shape_of r) next.1 (line_behind l rs r more (subst (Begins l) is begins))).0

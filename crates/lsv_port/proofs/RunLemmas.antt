@@ -109,7 +109,7 @@ read_keeps a buf v w h = (ap (λ (s : LinkState). s.is_open) h.view ∙ read_ope
 pub write_keeps : (a : Gave) (bytes : List ℕ) (v w : MemLink) → IsWritten a bytes v w → (w.is_open ≡ v.is_open) × IsSound w × IsSameSent v w
 write_keeps a bytes v w h = (ap (λ (s : LinkState). s.is_open) h.view ∙ write_open a bytes (view_of v), h.sound, h.sent)
 
--- no bytes are read behind the end
+-- no bytes are read after the end
 pub read_may : (l : ℕ) (a : Took) (buf : List ℕ) (old new : Links) → UsesOne l (IsRead a buf) old new → MayTake a (told_of (links_of old l))
 read_may l a buf old new h = subst (λ (o : Option MemLink). MayTake a (told_of o)) (sym h.here) h.used.may
 

@@ -114,7 +114,7 @@ Told (Writable l) old new = TellsWritable l old new
 Told Woken old new = IsSame old new
 Told Stop old new = TellsStop old new
 
--- at least one, and at most so many
+-- at least one, and at most this many
 abbrev pub IsCountOf : ℕ → ℕ → Type 0
 IsCountOf most n = (0 < n) × (n ≤ most)
 

@@ -141,7 +141,7 @@ impl Port for MemPort {
         self.run.listen(self.alloc, address, stop_after)
     }
 
-    /// Takes the next step of the script, and tells what it made; behind the last one it tells Stop. It fails at a
+    /// Takes the next step of the script, and tells what it made; after the last one it tells Stop. It fails at a
     /// BreakTurn; and where memory is refused, without a step.
     fn turn(&mut self, _held: &[u32]) -> Result<Ready, PortFault>
         ensures told { IfOk result (λ ready. Told ready (port_state self.old) (port_state self.new)) }

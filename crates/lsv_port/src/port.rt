@@ -29,7 +29,7 @@ pub enum Ready {
 /// What a read of a link gave.
 #[derive(Clone, Copy, Debug, PartialEq, Eq)]
 pub enum Took {
-    /// So many bytes, at least one, stand at the front of the buffer.
+    /// This many bytes, at least one, stand at the front of the buffer.
     Bytes(usize),
     /// None are there now. A later turn tells when there are some.
     NotYet,
@@ -42,7 +42,7 @@ pub enum Took {
 /// What a write to a link did.
 #[derive(Clone, Copy, Debug, PartialEq, Eq)]
 pub enum Gave {
-    /// So many of the bytes, at least one, were put.
+    /// This many of the bytes, at least one, were put.
     Bytes(usize),
     /// The link takes none now: it is full. A later turn tells when it takes some.
     NotYet,
@@ -66,7 +66,7 @@ pub trait Port {
     ghost ledger: { Self → PortLedger };
 
     /// Begins to take links at this address, a host and a port number as `*:30343`. With a number in `stop_after`
-    /// a turn tells Stop once so many links were opened and closed. A port that tells notes what it was asked to listen on,
+    /// a turn tells Stop once this many links were opened and closed. A port that tells notes what it was asked to listen on,
     /// and whether it had made a turn by then; and it counts the calls that failed.
     fn listen(&mut self, address: &str, stop_after: Option<u32>) -> Result<(), PortFault>
         ensures same { tells → OnOk result (IsSame (state self.old) (state self.new)) }

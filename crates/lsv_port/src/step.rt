@@ -10,9 +10,9 @@ pub enum Step {
     Open(u32),
     /// Bytes arrive on a link. After its Last none do.
     Give(u32, Bytes),
-    /// A link takes so many bytes more. Until its first Room it takes all.
+    /// A link takes this many bytes more. Until its first Room it takes all.
     Room(u32, u32),
-    /// A link's input ends behind the bytes that have arrived.
+    /// A link's input ends after the bytes that have arrived.
     Last(u32),
     /// A link's next read or write fails.
     Break(u32),

@@ -1,4 +1,4 @@
--- Behind the exit: nothing comes of the connection any more, and its log stays as it is.
+-- After the exit: nothing comes of the connection any more, and its log stays as it is.
 use Rattle.std.proofs.Common.{◌≡◌, ◌≢◌, ◌≤◌, ℕ, List, [], ◌∷◌, refl, sym, ◌∙◌, ap, subst, inl, inr, arith, Option, Some, None, ◌⊎◌}
 use Rattle.std.specs.Prelude.{◌&&◌, not, Bool, true, false}
 use Rattle.lsv_session.specs.declared.connection.ConnId.{ConnId}

@@ -61,7 +61,7 @@ exit_runs s (request.Alert report) e place = absurd (cc)
 exit_runs s (request.Restart restart) e place = absurd (cc)
 exit_runs s (request.Record r) e place = absurd (cc)
 
--- who isn't in a session behind what it asks wasn't before, and asked for no log
+-- who isn't in a session after what it asks wasn't before, and asked for no log
 off_before : (n : ℕ) (s : ConnState) (what : Request) → is_exit (Ok what) ≡ false → has_place s what ≡ true → is_running (goes_to n s what) ≡ false → (is_running s ≡ false) × (asks_new (Ok what) ≡ false)
 off_before n s request.Hello not_exit place off = (go (is_running s) place, refl)
   where
@@ -83,7 +83,7 @@ off_before n s (request.Restart restart) not_exit place off = absurd (cc)
 off_before n s (request.Record r) not_exit place off = clash (is_running s) place off
 off_before n s (request.Exit exit) not_exit place off = absurd (cc)
 
--- the place behind what is asked
+-- the place after what is asked
 place_next : (n : ℕ) (k : ConnId) (s : ConnState) (what : Request) → is_exit (Ok what) ≡ false → has_place s what ≡ true → Place n k s → Place n k (goes_to n s what)
 place_next n k s request.Hello not_exit place here = outside refl refl
 place_next n k s (request.Accept accept) not_exit place here = go (is_running s) refl
@@ -484,7 +484,7 @@ module _ (set : Settings) (n : ℕ) (k : ConnId) (later : List Body) (lane : IsO
 
   -- ---- All that happens
 
-  -- nothing is sent behind the Gone
+  -- nothing is sent after the Gone
   nothing_spoken : (history : List Happened) → NoJobs k history → spoken k history ≡ []
   nothing_spoken [] none = refl
   nothing_spoken (Did act ∷ history) none = elim (same_or act.job.conn k) [

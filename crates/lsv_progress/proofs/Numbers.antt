@@ -30,7 +30,7 @@ next_of_lane set m s = (drawn_is set m (next_number set m) s (next_may set m)).0
 pub next_above : (set : Settings) (m : Machine) → Sound set m → m.last < next_number set m
 next_above set m s = (drawn_is set m (next_number set m) s (next_may set m)).1
 
--- behind a number that was drawn comes the next one
+-- after a number that was drawn comes the next one
 next_again : (set : Settings) (m new : Machine) → Sound set m → new.last ≡ next_number set m → next_number set new ≡ next_number set m + set.lanes
 next_again set m new s is = elim (eq_or new.last 0) [
   | equal p t ↦ absurd (let above = next_above set m s in omega arith)

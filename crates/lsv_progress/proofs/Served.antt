@@ -149,7 +149,7 @@ module _ (set : Settings) (texts : List (List ℕ)) (k : ConnId) (start end : Ma
         alone = left;
       }
 
--- who never goes sends nothing behind its Gone
+-- who never goes sends nothing after its Gone
 never_ends : (k : ConnId) (history : List Happened) → NeverGone k history → EndsWithGone k history
 never_ends k [] never = tt
 never_ends k (Did act ∷ history) never = ((λ p q. absurd (never.0 p q)), never_ends k history never.1)

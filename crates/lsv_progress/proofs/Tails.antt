@@ -123,7 +123,7 @@ module _ (n : ℕ) (k : ConnId) where
       now = refl;
     }
 
-    -- the end of a turn for the connection alone, and how the machines stand behind it
+    -- the end of a turn for the connection alone, and how the machines stand after it
     pub record Ended (m m' new : Machine) (tail : Tail) : Type 0 where
       pub new' : Machine
       pub ended : EndOfTurn set m' (own_tail k tail) new'

@@ -86,7 +86,7 @@ pub record MayGet (set : Settings) (m : Machine) (asked n : ℕ) : Type 0 where
   pub few : passed ≤ asked
   pub is : n ≡ next_number set m + passed * set.lanes
 
--- whatever number its log gets, no file, elapsed time or log number passes its limit, and the event log has room for its lines behind those that others leave before its last
+-- whatever number its log gets, no file, elapsed time or log number passes its limit, and the event log has room for its lines after those that others leave before its last
 abbrev pub FitsAmong : Settings → ConnId → (start : Machine) → List Turn → List Body → Type 0
 FitsAmong set k start turns bodies = (n : ℕ) → MayGet set start (asked_before k (all_turns turns)) n
     → Fits set k n Fresh (start.lines ++ lines_before k (all_turns turns)) (came_of k turns) bodies

@@ -18,7 +18,7 @@ ghost use Rattle.lsv_session.specs.declared.connection.ConnState.TheVariants.{Fr
 ghost use Rattle.lsv_session.specs.declared.job.Body.{Body};
 
 /// A legal conversation that opens a log is served, whatever other connections send in the same run and however memory
-/// wants for them, if no owner fails, memory is ample for its own jobs, no limit is passed and nothing comes behind its
+/// wants for them, if no owner fails, memory is ample for its own jobs, no limit is passed and nothing comes after its
 /// Gone: it is told its log's number and its commit points and nothing else, and its log is all that was sent, as it is
 /// masked. At each moment that log is no other's, and no job of another changes it. Before its exit comes it isn't shut.
 /// `number` stands for that of the log in the states of the conversation; it is legal with any, if with one.

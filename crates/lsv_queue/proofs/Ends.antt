@@ -1,4 +1,4 @@
--- Where as many end marks were taken as there are numbers, and nothing stands behind an end mark, nothing is left.
+-- Where as many end marks were taken as there are numbers, and nothing stands after an end mark, nothing is left.
 use Rattle.std.proofs.Common.{◌≡◌, ◌≢◌, ℕ, zero, suc, ◌+◌, ◌<◌, ◌≤◌, ◌==◌, Bool, true, false, List, [], ◌∷◌, ◌++◌, length, map, Option, Some, None, if◌then◌else◌, sym, refl, zero-add, ap, ◌∙◌, subst, arith}
 use Rattle.std.proofs.lemmas.Grind.{common_steps}
 use Rattle.std.proofs.lemmas.List.{length-append}

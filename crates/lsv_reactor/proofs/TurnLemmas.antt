@@ -1,4 +1,4 @@
--- The lane and the posts behind a turn.
+-- The lane and the posts after a turn.
 use Rattle.std.proofs.Common.{◌≡◌, ◌≤◌, ◌++◌, ◌∷◌, [], List, ℕ, length, sym, ap, subst, ◌∙◌, append-nil, arith, false, Option, Some, None}
 use Rattle.std.specs.Prelude.{slice_get}
 use Rattle.std.specs.List.{AllByRecursion}
@@ -18,7 +18,7 @@ all_last : {A : Type 0} (P : A → Type 0) (xs : List A) (x : A) → AllByRecurs
 all_last P [] x all is = (is, tt)
 all_last P (y ∷ xs) x all is = (all.0, all_last P xs x all.1 is)
 
--- the calls behind one turn more
+-- the calls after one turn more
 calls_last : (turns : List LaneTurn) (t : LaneTurn) → 1 ≤ length t.jobs → calls_in (turns ++ t ∷ []) ≡ calls_in turns ++ call_of t.jobs
 calls_last [] t some = sym (some_call t.jobs some)
 calls_last (u ∷ turns) t some = ap (λ (l : List (List Job)). u.jobs ∷ l) (calls_last turns t some)

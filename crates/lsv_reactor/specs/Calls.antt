@@ -17,7 +17,7 @@ call_of (job ∷ jobs) = (job ∷ jobs) ∷ []
 abbrev pub jobs_by : List (List Job) → List Job
 jobs_by calls = flat_map (λ jobs. jobs) calls
 
--- the calls behind these turns, if each turn has all jobs that one call gave
+-- the calls after these turns, if each turn has all jobs that one call gave
 abbrev pub calls_in : List LaneTurn → List (List Job)
 calls_in turns = map (λ t. t.jobs) turns
 

@@ -36,7 +36,7 @@ pub record IsLane {L M : Type 0} (tells : Type 0) (made_by : M → L → List La
 abbrev pub AreMade : {T S : Type 0} (made_by : S → T → List (List Job) → List Reply → Type 0) (starts : ℕ → S) (posts : List T) (gave : ℕ → List (List Job)) (took : ℕ → List Reply) → Type 0
 AreMade {T} made_by starts posts gave took = (i : ℕ) (post : T) → slice_get posts i ≡ Some post → made_by (starts i) post (gave i) (took i)
 
--- how the first so many ports ended
+-- how the first this many ports ended
 abbrev pub HasEndBelow : {T S : Type 0} (tells : Type 0) (begun : S → PortView) (view : T → PortView) (starts : ℕ → S) (posts : List T) (count : ℕ) → PortsEnd → Type 0
 HasEndBelow {T} tells begun view starts posts count Stopped = tells → (i : ℕ) (post : T) → i < count → slice_get posts i ≡ Some post → (view post).state.stopped ≡ true
 HasEndBelow {T} tells begun view starts posts count Failed = (i : ℕ) × ((post : T) × (slice_get posts i ≡ Some post) × PortFailed (begun (starts i)) (view post))
@@ -47,7 +47,7 @@ worse end post_end.Stopped = end
 worse end post_end.Failed = Failed
 worse end post_end.Lost = end
 
--- the first so many posts have come to their ends, and served their ports
+-- the first this many posts have come to their ends, and served their ports
 pub record AreOver {T S : Type 0} (tells : Type 0) (number : T → ℕ) (begun : S → PortView) (view : T → PortView) (starts : ℕ → S) (posts : List T) (gave : ℕ → List (List Job)) (took : ℕ → List Reply) (count : ℕ) (end : PortsEnd) : Type 0 where
   pub each : tells → (i : ℕ) (post : T) → i < count → slice_get posts i ≡ Some post → Serves (number post) (gave i) (took i) (begun (starts i)) (view post)
   pub ended : HasEndBelow tells begun view starts posts count end
@@ -56,7 +56,7 @@ pub record AreOver {T S : Type 0} (tells : Type 0) (number : T → ℕ) (begun :
 abbrev pub KeepLedgers : {T : Type 0} (view : T → PortView) (ledgers : ℕ → PortLedger) (posts : List T) → Type 0
 KeepLedgers {T} view ledgers posts = (i : ℕ) (post : T) → slice_get posts i ≡ Some post → Continues (ledgers i) (view post).ledger
 
--- the first so many posts were stopped: their links are closed, the jobs of these calls are the first of what was read of them, and nothing was put on them but prefixes of the answers by these replies
+-- the first this many posts were stopped: their links are closed, the jobs of these calls are the first of what was read of them, and nothing was put on them but prefixes of the answers by these replies
 pub record AreStopped {T S : Type 0} (tells : Type 0) (begun : S → PortView) (view : T → PortView) (starts : ℕ → S) (ledgers : ℕ → PortLedger) (posts : List T) (calls : List (List Job)) (took : List Reply) (count : ℕ) : Type 0 where
   pub continues : (i : ℕ) (post : T) → i < count → slice_get posts i ≡ Some post → Continues (ledgers i) (view post).ledger
   pub put : tells → (i : ℕ) (post : T) → i < count → slice_get posts i ≡ Some post → PutsPrefixes i (λ lane. one_lane lane (jobs_by calls)) (λ lane. one_lane lane took) (begun (starts i)) (view post)

@@ -48,7 +48,7 @@ pub trait Post {
     ghost made_by: { Start → Self → List (List Job) → List Reply → Type 0 };
 
     /// Begins to take links at this address, a host and a port number. With a number in `stop_after` its port tells Stop once
-    /// so many links were opened and closed. False where the port can't listen: that is a failure of it, which `wait` acts on.
+    /// this many links were opened and closed. False where the port can't listen: that is a failure of it, which `wait` acts on.
     /// A port that tells notes what it was asked to listen on, and whether it had made a turn by then; and it counts the calls
     /// that failed.
     fn open(&mut self, address: &str, stop_after: Option<u32>) -> bool

@@ -49,7 +49,7 @@ owner_has (Events lane) part = false
 abbrev pub has_place : FileId → Bool
 has_place f = owner_has f.owner f.part
 
--- a path, of a lane above 0 with its number behind it
+-- a path, of a lane above 0 with its number after it
 abbrev pub lane_path : List ℕ → ℕ → List ℕ
 lane_path path lane = if nat_eq lane 0 then path else path ++ codes "." ++ decimal lane
 

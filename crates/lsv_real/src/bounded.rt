@@ -9,7 +9,7 @@ use std::io;
 use std::io::ErrorKind;
 use std::num::NonZeroUsize;
 
-/// An empty map that keeps so many entries, those that were asked for last. It keeps one at least.
+/// An empty map that keeps this many entries, those that were asked for last. It keeps one at least.
 pub fn bounded<K: Eq + Hash, V>(alloc: Global, most: usize) -> io::Result<LruCache<K, V>>
     ensures { IfOk result (λ map. map ≡ lru_cache [] most) }
 {

@@ -30,7 +30,7 @@ impl Clock for WallClock {
     }
 }
 
-/// The time of so many seconds and nanoseconds, or 0 where it isn't valid.
+/// The time of this many seconds and nanoseconds, or 0 where it isn't valid.
 fn time_of(secs: u64, nanos: u32) -> TimeSpec
     ensures { IsSome (nanos_of result) }
 {

@@ -20,7 +20,7 @@ pub enum StoreFault {
     RelayLock(io::Error),
     /// There is a log that the number files don't cover.
     Uncovered(Uncovered),
-    /// No line of the event log ends after so many bytes, which its journal counts.
+    /// No line of the event log ends after this many bytes, which its journal counts.
     StrangeEvents(u64),
     /// What stands after the lines of the event log can't be kept.
     TailNotKept(io::Error),

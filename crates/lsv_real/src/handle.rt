@@ -11,7 +11,7 @@ use std::os::unix::fs::FileExt;
 /// The bytes of the system's smallest page.
 const PAGE: usize = 4096;
 
-/// After so many signals in a row a read is a fault.
+/// After this many signals in a row a read is a fault.
 const MOST_INTERRUPTS: u32 = 1024;
 
 /// A file that is kept open.
@@ -91,7 +91,7 @@ impl Handle {
     /// sync waits for the write, and tells what failed.
     pub fn set_out(&self, at: u64, count: usize) {
         // The hint would have the system let go a whole page, and takes a page that is named up to the file's end for one.
-        // So the byte behind the write is named too, and what may fill a page isn't.
+        // So the byte after the write is named too, and what may fill a page isn't.
         if count >= PAGE - 1 {
             return;
         }

@@ -4,10 +4,10 @@ use lru::LruCache;
 use std::alloc::Global;
 use std::io;
 
-/// So many folders are remembered at most, those that were asked for last.
+/// This many folders are remembered at most, those that were asked for last.
 const MOST_REMEMBERED: usize = 1024;
 
-/// Of so many folders it is remembered at most that a sync failed.
+/// Of this many folders it is remembered at most that a sync failed.
 const MOST_FAILED: usize = 64;
 
 /// What is known of a folder.

@@ -50,7 +50,7 @@ const OTHERS: u64 = 64;
 /// With fewer descriptors no client can be served.
 const FEWEST: u64 = 32;
 
-/// How many files each of so many disks of the store may have open under a limit of descriptors: they share those of one.
+/// How many files each of this many disks of the store may have open under a limit of descriptors: they share those of one.
 pub fn files_within(limit: u64, disks: usize) -> usize
     ensures { result ≡ max (min (limit - 64) 512 / max disks 1) 16 }
 {

@@ -4,7 +4,7 @@ use std::alloc::Global;
 use std::io::ErrorKind;
 use std::{env, io};
 
-/// So many logs have their folders in one folder, DIR/ab/cd, and are neighbours there.
+/// This many logs have their folders in one folder, DIR/ab/cd, and are neighbours there.
 const NEIGHBOURS: u32 = 36 * 36;
 
 /// The path of a file of the log that was asked for last. Where it may, the process moves into the folder of that log's

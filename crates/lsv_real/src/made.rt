@@ -28,7 +28,7 @@ impl InodeTable {
         number.saturating_sub(1) / self.in_block()
     }
 
-    /// How many inodes stand behind this one in its block.
+    /// How many inodes stand after this one in its block.
     fn behind(self, number: u64) -> usize {
         let count = self.in_block();
         (count - 1 - number.saturating_sub(1) % count) as usize
@@ -97,7 +97,7 @@ impl Made {
         }
     }
 
-    /// Behind how many of so many files that of slots is made.
+    /// After how many of this many files that of slots is made.
     fn place_of_slots(&self, count: usize) -> usize {
         let beside = self.table.behind(self.folder);
         if count <= beside { 0 } else { beside }

@@ -129,7 +129,7 @@ fn relay_name(part: Part) -> Option<&'static str>
     }
 }
 
-/// A path, of a lane above 0 with its number behind it.
+/// A path, of a lane above 0 with its number after it.
 pub fn lane_path(alloc: Global, path: &str, lane: u32) -> Result<String, AllocError>
     ensures { IfOk result (λ text. string_bytes text ≡ lane_path path.now lane) }
 {

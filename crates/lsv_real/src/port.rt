@@ -39,7 +39,7 @@ pub struct MioPort<N: Net + Drop> {
     leaving: Leaving,
     /// The number of the link that was opened last.
     last: u32,
-    /// A turn tells Stop once so many links of all ports were closed.
+    /// A turn tells Stop once this many links of all ports were closed.
     stop_after: Option<u32>,
     turned_away: TurnedAway,
     faults: Faults,
@@ -115,7 +115,7 @@ impl<N: Net + Drop> MioPort<N> {
         Ok(self.at_once(held).unwrap_or(Ready::Woken))
     }
 
-    /// So many links were closed that Stop is told.
+    /// This many links were closed that Stop is told.
     fn is_over(&self) -> bool {
         match self.stop_after {
             Some(count) => self.door.closed() >= u64::from(count),

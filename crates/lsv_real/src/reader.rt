@@ -24,7 +24,7 @@ pub struct Reader {
     bytes: Vec<u8>,
 }
 
-/// So many bytes of a file are read ahead: of a journal all that one has, of a stream those of many records. The head is
+/// This many bytes of a file are read ahead: of a journal all that one has, of a stream those of many records. The head is
 /// read at once, and the timing in pieces.
 fn ahead_of(part: Part) -> usize {
     match part {
@@ -80,7 +80,7 @@ impl Reader {
     }
 
     /// Reads as many bytes as there are and as the buffer takes. Where it takes fewer than are to be read ahead, they come
-    /// of what this look read before, if all stand there, and else with those behind them.
+    /// of what this look read before, if all stand there, and else with those after them.
     pub fn read(&mut self, look: u64, at: u64, buf: &mut [u8]) -> io::Result<usize>
         ensures { IfOk result (λ n. n ≤ length buf.old) }
     {
@@ -97,7 +97,7 @@ impl Reader {
         }
     }
 
-    /// So many bytes from an offset on, where this look read them all.
+    /// This many bytes from an offset on, where this look read them all.
     fn window(&self, look: u64, at: u64, count: usize) -> Option<&[u8]>
         ensures { IfSome result (λ window. length window.now ≡ count) }
     {

@@ -122,7 +122,7 @@ impl<W: Wait + Copy> Store<W> {
 
     /// Makes files of one owner, which all stand in one folder, and waits until they and that folder are on the disk. A file
     /// of slots begins with its gate. Files are synced before the folder: where a file system has a journal, one transaction
-    /// takes all of it then, and the syncs of folders behind it find nothing to write. The folder of a log is made too: if it
+    /// takes all of it then, and the syncs of folders after it find nothing to write. The folder of a log is made too: if it
     /// exists, another log may stand in it, and nothing in it is changed.
     pub fn make_all(&mut self, owner: Owner, parts: &[Part]) -> Result<(), CallFault> {
         let [first, ..] = parts else {
@@ -357,7 +357,7 @@ impl<W: Wait + Copy> Store<W> {
         made
     }
 
-    /// Makes files in a folder, and says which are to be synced. A gate is on its way to the disk while the files behind it
+    /// Makes files in a folder, and says which are to be synced. A gate is on its way to the disk while the files after it
     /// are made.
     fn make_files(
         &mut self,

@@ -10,7 +10,7 @@ use std::io::{ErrorKind, Print, Read};
 use std::time::Duration;
 use std::{io, thread};
 
-/// After so many signals, or waits for nothing, in a row a read or a write is a fault.
+/// After this many signals, or waits for nothing, in a row a read or a write is a fault.
 const MOST_INTERRUPTS: u32 = 1024;
 
 /// A source gives no more bytes than this.

@@ -25,9 +25,9 @@ const MOST_KEPT: u32 = 100;
 pub enum Tail {
     /// No byte, or fewer bytes than the journal counts.
     Empty,
-    /// No line ends after so many bytes, which the journal counts: it is that of another log.
+    /// No line ends after this many bytes, which the journal counts: it is that of another log.
     Strange(u64),
-    /// So many bytes after those that the journal counts. They are in a file of this name now, and the log ends where they began.
+    /// This many bytes after those that the journal counts. They are in a file of this name now, and the log ends where they began.
     Kept { count: u64, path: String },
     /// The same, and the file had them before: what was cut off once was there again.
     KeptBefore,
@@ -76,7 +76,7 @@ pub fn committed_length(
     }
 }
 
-/// Whether no line is cut after so many bytes: there are none, or the last one is a line feed.
+/// Whether no line is cut after this many bytes: there are none, or the last one is a line feed.
 fn ends_line(log: &File, counted: u64) -> io::Result<bool> {
     let Some(last) = counted.checked_sub(1) else {
         return Ok(true);
@@ -144,7 +144,7 @@ fn is_start(copy: &File, has: u64, log: &File, from: u64, to: u64) -> io::Result
     Ok(true)
 }
 
-/// How many pieces so many bytes come to.
+/// How many pieces this many bytes come to.
 fn pieces_of(count: u64) -> u64 {
     count.div_ceil(PIECE as u64)
 }
@@ -154,7 +154,7 @@ fn offset_of(piece: u64) -> u64 {
     piece.saturating_mul(PIECE as u64)
 }
 
-/// The length of the piece that begins here, of so many bytes.
+/// The length of the piece that begins here, of this many bytes.
 fn length_at(at: u64, count: u64) -> usize
     ensures { result ≤ 4096 }
 {
@@ -176,7 +176,7 @@ fn copy_bytes(log: &File, from: u64, to: u64, copy: &File) -> io::Result<()> {
     Ok(())
 }
 
-/// Ends a file after so many bytes, and waits until it is so on the disk.
+/// Ends a file after this many bytes, and waits until it is so on the disk.
 fn cut(log: &File, length: u64) -> io::Result<()> {
     log.set_len(length)?;
     log.sync_all()

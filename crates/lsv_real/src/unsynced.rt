@@ -8,7 +8,7 @@ use std::io;
 use std::io::ErrorKind;
 use std::os::unix::fs::FileExt;
 
-/// So many bytes are written again at a time.
+/// This many bytes are written again at a time.
 const PIECE: usize = 4096;
 
 /// A file that is written and synced: one of the system's, or one of a test.

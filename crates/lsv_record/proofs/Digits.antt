@@ -17,7 +17,7 @@ some_power : (k : ℕ) → 1 ≤ 10 ^ k
 some_power zero = lit≤ tt
 some_power (suc k) = let h = some_power k in let power : 10 ^ suc k ≡ 10 * 10 ^ k = omega arith in omega arith
 
--- a number with a one before so many digits
+-- a number with a one before this many digits
 pub one_before : (k n : ℕ) → n < 10 ^ k → 10 ^ k + n < 2 ^ 64 → decimal (10 ^ k + n) ≡ 49 ∷ last_digits k n
 one_before zero n h fits =
     let none : n ≡ 0 = omega arith in

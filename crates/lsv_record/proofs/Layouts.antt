@@ -30,7 +30,7 @@ stream_of-push s rs r = stream_of-append s rs (r ∷ []) ∙ ap (λ t. stream_of
 pub elapsed-push : (rs : List Record) (r : Record) → elapsed (rs ++ r ∷ []) ≡ elapsed rs + delay_of r
 elapsed-push rs r = let h = elapsed-append rs (r ∷ []) in omega arith
 
--- one record more is laid behind the others
+-- one record more is laid after the others
 pub layout_more : (l m : Laid) (rs : List Record) (r : Record) → IsLayout l rs → m.timing ≡ l.timing ++ line_of r → ((s : Stream) → stream_in s m ≡ stream_in s l ++ data_in s r) → IsLayout m (rs ++ r ∷ [])
 layout_more l m rs r laid timing streams = record {
   timing = timing ∙ ap (λ t. t ++ line_of r) laid.timing ∙ sym (timing_of-push rs r);

@@ -149,7 +149,7 @@ valid_at : (qs : List Record) (r : Record) (more : List Record) → All IsValid 
 valid_at [] r more h = All-head IsValid r more h
 valid_at (q ∷ qs) r more h = valid_at qs r more (All-tail IsValid q (qs ++ r ∷ more) h)
 
--- the line of the next record stands behind the records before it
+-- the line of the next record stands after the records before it
 pub line_behind : (l : Laid) (qs : List Record) (r : Record) (more : List Record) → Begins l (qs ++ r ∷ more) → IsLineAt l.timing (length (timing_of qs)) (shape_of r) (length (timing_of qs) + length (line_of r))
 line_behind l qs r more begins =
     let behind : IsPrefix (timing_of (r ∷ more)) (drop (length (timing_of qs)) l.timing) = second_prefix (timing_of qs) (timing_of (r ∷ more)) l.timing (subst (λ (t : List ℕ). IsPrefix t l.timing) (timing_of-append qs (r ∷ more)) begins.timing) in
@@ -175,7 +175,7 @@ lacks_none l qs (records.Io d t b) more s begins short =
 lacks_none l qs (records.Winsize d r c) more s begins short = short
 lacks_none l qs (records.Suspend d g) more s begins short = short
 
--- nothing is at fault behind records that are followed by another one
+-- nothing is at fault after records that are followed by another one
 no_fault_before : (l : Laid) (qs : List Record) (r : Record) (more : List Record) (fault : LayFault) → Begins l (qs ++ r ∷ more) → IsFaulty l qs fault → ⊥
 no_fault_before l qs r more (faults.BadLine offset) begins bad =
     bad.1.no_line (shape_of r) (length (timing_of qs) + length (line_of r)) (subst (λ (k : ℕ). IsLineAt l.timing k (shape_of r) (length (timing_of qs) + length (line_of r))) (sym bad.0) (line_behind l qs r more begins))
@@ -187,7 +187,7 @@ no_fault_before l qs r more faults.TooLong begins (told, next, late) =
     omega (arith, late, begins.time, elapsed-append qs (r ∷ more), ap told_delay same.0, delay_told r)
 no_fault_before l qs r more faults.NoMem begins bad = bad
 
--- nor is anything behind the whole timing
+-- nor is anything after the whole timing
 no_fault_at_end : (l : Laid) (rs : List Record) (fault : LayFault) → IsRead l rs → IsFaulty l rs fault → ⊥
 no_fault_at_end l rs (faults.BadLine offset) read bad = omega (arith, bad.0, bad.1.before_end, ap length read.whole)
 no_fault_at_end l rs (faults.Short s) read (told, next, short) = none_at_end l.timing (length (timing_of rs)) told next.0 (omega (arith, ap length read.whole)) next.1
@@ -232,7 +232,7 @@ short_stream l rs (Suspend d g) s t short other = absurd short
 no_line_at : (l : Laid) (rs : List Record) (offset : ℕ) (told : Shaped) → IsFaulty l rs (faults.BadLine offset) → (next : ℕ) → IsLineAt l.timing (length (timing_of rs)) told next → ⊥
 no_line_at l rs offset told bad next line = bad.1.no_line told next (subst (λ (k : ℕ). IsLineAt l.timing k told next) (sym bad.0) line)
 
--- behind the same records one thing is at fault
+-- after the same records one thing is at fault
 same_fault : (l : Laid) (rs : List Record) (a b : LayFault) → IsFaulty l rs a → IsFaulty l rs b → a ≡ b
 same_fault l rs (faults.BadLine p) (faults.BadLine q) x y = ap faults.BadLine (x.0 ∙ sym y.0)
 same_fault l rs (faults.BadLine p) (faults.Short t) x (told, next, short) = absurd (no_line_at l rs p told x next.0 next.1)
@@ -304,7 +304,7 @@ pub one_layout : (l : Laid) (rs qs : List Record) → All IsValid rs → All IsV
 one_layout l rs qs valid other laid laid_too =
     one_of_two l rs qs laid laid_too (compare l.timing (λ s. stream_in s l) rs qs (whole_layout l rs valid laid) (whole_layout l qs other laid_too))
 
--- the data of the next record stand behind those of the records before it
+-- the data of the next record stand after those of the records before it
 pub data_behind : (l : Laid) (qs : List Record) (r : Record) (more : List Record) → Begins l (qs ++ r ∷ more) → (s : Stream) → take (length (data_in s r)) (drop (length (stream_of s qs)) (stream_in s l)) ≡ data_in s r
 data_behind l qs r more begins s =
     let behind : IsPrefix (stream_of s (r ∷ more)) (drop (length (stream_of s qs)) (stream_in s l)) = second_prefix (stream_of s qs) (stream_of s (r ∷ more)) (stream_in s l) (subst (λ (t : List ℕ). IsPrefix t (stream_in s l)) (stream_of-append s qs (r ∷ more)) (begins.streams s)) in

@@ -84,7 +84,7 @@ nothing_taken l told old new r behind shape records offset time in_time taken no
   fits = λ s. let prefix = behind.begins.streams s in (prefix.0, prefix.1 ∙ ap (λ (t : List ℕ). t ++ prefix.0) (sym (append-nil (stream_of s old.records)) ∙ ap (λ (t : List ℕ). stream_of s old.records ++ t) (sym (none s))));
 }
 
--- the count of a stream, where so many bytes were taken of one
+-- the count of a stream, where this many bytes were taken of one
 pub counted : (taken : List ℕ) (s stream : Stream) (bytes : List ℕ) (count : ℕ) → length taken ≡ 5 → length bytes ≡ count →
     get_or (set taken (event_of stream) (get_or taken (event_of stream) 0 + count)) (event_of s) 0 ≡ get_or taken (event_of s) 0 + length (cond (nat_eq (event_of s) (event_of stream)) bytes [])
 counted taken s stream bytes count five long = by_case (cases_eq (event_of s) (event_of stream))
@@ -134,7 +134,7 @@ data_taken l told old new delay stream bytes count event behind at_event told_is
       fits = λ s. fitting l old s stream bytes count behind there;
     }
 
--- the record is kept behind the others
+-- the record is kept after the others
 pub kept : (l : Laid) (told : Shaped) (old mid new : Reader) (r : Record) (next : ℕ) → IsBehind l old → IsTaken l told old mid r → IsLineAt l.timing old.at told next → new.records ≡ mid.records ++ r ∷ [] → new.at ≡ next → new.elapsed ≡ mid.elapsed → new.taken ≡ mid.taken → IsBehind l new
 kept l told old mid new r next behind step line records offset time taken =
     let rs = old.records in

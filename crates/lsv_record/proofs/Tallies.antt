@@ -102,7 +102,7 @@ lines_once text (a ∷ ls) (b ∷ ms) good other f g =
     let same = first_line a b (lines_of ls ++ f.0) (lines_of ms ++ g.0) (All-head IsGood a ls good) (All-head IsGood b ms other) e in
     lines_behind a b ls ms same.0 (lines_once (lines_of ls ++ f.0) ls ms (All-tail IsGood a ls good) (All-tail IsGood b ms other) (f.0, refl) (g.0, same.1))
 
--- behind lines with which a text begins stands the next one
+-- after lines with which a text begins stands the next one
 pub line_after : (text : List ℕ) (lines : List Shaped) (told : Shaped) (more : List Shaped) → IsGood told → IsPrefix (lines_of (lines ++ told ∷ more)) text → IsLineAt text (length (lines_of lines)) told (length (lines_of (lines ++ told ∷ [])))
 line_after text lines told more good f =
     let behind : IsPrefix (lines_of (told ∷ more)) (drop (length (lines_of lines)) text) = second_prefix (lines_of lines) (lines_of (told ∷ more)) text (subst (λ (t : List ℕ). IsPrefix t text) (flat_map-append shaped_line lines (told ∷ more)) f) in
@@ -112,7 +112,7 @@ line_after text lines told more good f =
     ap (λ (k : ℕ). drop k text) next ∙ (sym (drop-drop (length (shaped_line told)) (length (lines_of lines)) text) ∙ (ap (drop (length (shaped_line told))) spelled ∙ drop_at (shaped_line told) (lines_of more ++ behind.0) (length (shaped_line told)) refl)) in
     record { good = good; spelled = spelled ∙ ap (λ (t : List ℕ). shaped_line told ++ t) (sym dropped); after = next }
 
--- a text that begins with lines begins with one more where one stands behind them
+-- a text that begins with lines begins with one more where one stands after them
 pub lines_grow : (text : List ℕ) (lines : List Shaped) (told : Shaped) (next : ℕ) → IsPrefix (lines_of lines) text → IsLineAt text (length (lines_of lines)) told next → IsPrefix (lines_of (lines ++ told ∷ [])) text
 lines_grow text lines told next f line =
     let rest : drop (length (lines_of lines)) text ≡ f.0 = ap (drop (length (lines_of lines))) f.1 ∙ drop_at (lines_of lines) f.0 (length (lines_of lines)) refl in

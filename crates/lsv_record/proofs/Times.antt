@@ -1,4 +1,4 @@
--- Delays in seconds, with nine digits behind the point.
+-- Delays in seconds, with nine digits after the point.
 use Rattle.std.proofs.Common.{◌≡◌, ◌≢◌, ℕ, ◌+◌, ◌*◌, ◌/◌, ◌%◌, ◌^◌, ◌<◌, ◌≤◌, List, ◌∷◌, ◌++◌, get_or, None, All, arith, refl, sym, ap, ◌∙◌, subst, lit<}
 use Rattle.std.specs.Str.Parse.{AllDigits, digits_value}
 use Rattle.std.specs.Fmt.{decimal}

@@ -48,7 +48,7 @@ pub record IsRead (l : Laid) (records : List Record) : Type 0 where
   pub begins : Begins l records
   pub whole : l.timing ≡ timing_of records
 
--- the line behind these records
+-- the line after these records
 abbrev pub NextLine : Laid → List Record → Shaped → Type 0
 NextLine l records told = (next : ℕ) × IsLineAt l.timing (length (timing_of records)) told next
 
@@ -58,14 +58,14 @@ IsShort l records (Io delay stream count) s = (s ≡ stream) × (elapsed records
 IsShort l records (Winsize delay rows cols) s = ⊥
 IsShort l records (Suspend delay signal) s = ⊥
 
--- what is at fault with the line behind these records
+-- what is at fault with the line after these records
 abbrev pub IsRefused : Laid → List Record → Shaped → LayFault → Type 0
 IsRefused l records told (faults.BadLine offset) = ⊥
 IsRefused l records told (faults.Short stream) = IsShort l records told stream
 IsRefused l records told faults.TooLong = 2 ^ 63 ≤ elapsed records + told_delay told
 IsRefused l records told faults.NoMem = ⊥
 
--- what is at fault behind these records: no line stands there, or a line is refused
+-- what is at fault after these records: no line stands there, or a line is refused
 abbrev pub IsFaulty : Laid → List Record → LayFault → Type 0
 IsFaulty l records (faults.BadLine offset) = (offset ≡ length (timing_of records)) × IsBadAt l.timing offset
 IsFaulty l records (faults.Short stream) = (told : Shaped) × NextLine l records told × IsRefused l records told (faults.Short stream)

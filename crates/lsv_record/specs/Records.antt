@@ -9,12 +9,12 @@ use Rattle.lsv_record.specs.declared.records.Record.TheVariants.{Io, Winsize, Su
 use Rattle.lsv_record.specs.declared.records.Shaped.{Shaped}
 use Rattle.lsv_record.specs.declared.records.Shaped.TheVariants as shapes
 
--- exactly so many digits of a number, the last ones, the most significant first
+-- exactly this many digits of a number, the last ones, the most significant first
 unfoldable pub last_digits : ℕ → ℕ → List ℕ
 last_digits zero n = []
 last_digits (suc k) n = last_digits k (n / 10) ++ (48 + n % 10) ∷ []
 
--- nanoseconds as seconds, with nine digits behind the point
+-- nanoseconds as seconds, with nine digits after the point
 abbrev pub seconds : ℕ → List ℕ
 seconds nanos = decimal (nanos / 1000000000) ++ 46 ∷ last_digits 9 (nanos % 1000000000)
 

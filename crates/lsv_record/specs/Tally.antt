@@ -8,7 +8,7 @@ use Rattle.lsv_record.specs.declared.records.Stream.TheVariants.{Stdin, Stdout, 
 use Rattle.lsv_record.specs.Lines.{IsLineAt, told_delay}
 use Rattle.lsv_record.specs.Records.{event_of, shaped_line}
 
--- these lines, one behind another
+-- these lines, one after another
 abbrev pub lines_of : List Shaped → List ℕ
 lines_of lines = flat_map shaped_line lines
 
@@ -64,7 +64,7 @@ pub record IsBounded (totals : Totals) : Type 0 where
   pub streams : length totals.data_bytes ≡ 5
   pub sizes : (k : ℕ) → get_or totals.data_bytes k 0 ≤ 2097152 * totals.count
 
--- with the line behind these totals the elapsed time reaches 2 ^ 63 ns
+-- with the line after these totals the elapsed time reaches 2 ^ 63 ns
 pub record PassesTime (text : List ℕ) (totals : Totals) : Type 0 where
   pub told : Shaped
   pub next : ℕ

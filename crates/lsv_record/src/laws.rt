@@ -52,7 +52,7 @@ pub fn the_tests_tell_what_is_valid()
     ensures valid { (r : Record) → IsTrue (is_valid r) ↔ IsValid r }
 {}
 
-/// The layout of a prefix of the records is a prefix of the layout, with the layout of the others behind it.
+/// The layout of a prefix of the records is a prefix of the layout, with the layout of the others after it.
 pub fn a_prefix_of_the_records_is_laid_first()
     ensures timing { (records others : List Record) → timing_of (records ++ others) ≡ timing_of records ++ timing_of others }
     ensures streams { (s : Stream) (records others : List Record) → stream_of s (records ++ others) ≡ stream_of s records ++ stream_of s others }
@@ -65,7 +65,7 @@ pub fn a_line_has_at_most_56_bytes()
     ensures valid { (r : Record) → IsValid r → length (line_of r) ≤ 56 }
 {}
 
-/// A layout begins in one way: of two beginnings one begins with the other, and behind a beginning stand the line and
+/// A layout begins in one way: of two beginnings one begins with the other, and after a beginning stand the line and
 /// the data of the next record.
 pub fn a_layout_begins_in_one_way()
     ensures once { (l : Laid) (records others : List Record) → Begins l records → Begins l others → OneBegins records others }
@@ -75,7 +75,7 @@ pub fn a_layout_begins_in_one_way()
         (s : Stream) → take (length (data_in s r)) (drop (length (stream_of s records)) (stream_in s l)) ≡ data_in s r }
 {}
 
-/// The same of lines alone: a text begins with lines in one way, behind which the next one stands, and where one
+/// The same of lines alone: a text begins with lines in one way, after which the next one stands, and where one
 /// stands the text begins with it too.
 pub fn a_text_begins_with_lines_in_one_way()
     ensures once { (text : List ℕ) (lines others : List Shaped) → All IsGood lines → All IsGood others →

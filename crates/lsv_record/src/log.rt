@@ -106,7 +106,7 @@ impl Reader {
     }
 }
 
-/// A copy of so many bytes from an offset on. None where there are fewer.
+/// A copy of this many bytes from an offset on. None where there are fewer.
 fn data_at(alloc: Global, stream: &[u8], from: usize, count: usize) -> Result<Option<Bytes>, NoMem>
     requires { from ≤ length stream.now }
     ensures { IfOk result (λ found. MatchOption found (length stream.now < from + count)

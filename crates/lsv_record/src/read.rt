@@ -16,7 +16,7 @@ use thiserror::Error;
 /// Delays and elapsed times stay below this, in nanoseconds.
 pub(crate) const TIME_LIMIT: u64 = 1 << 63;
 
-/// A record has at most so many bytes of data.
+/// A record has at most this many bytes of data.
 const DATA_LIMIT: u64 = 2_097_152;
 
 /// Rows and columns stay below this.
@@ -43,7 +43,7 @@ impl From<NoMem> for LineFault {
     }
 }
 
-/// The line of timing at an offset, and the offset behind its line feed. None at the end of the text. It is a bad line
+/// The line of timing at an offset, and the offset after its line feed. None at the end of the text. It is a bad line
 /// where the text from there doesn't begin with the line of a valid record, as where a number has a needless zero in
 /// front, where the delay reaches 2^63 nanoseconds, or where the line feed is missing.
 pub fn read_line(
@@ -135,7 +135,7 @@ fn signal_told(alloc: Global, delay: u64, rest: &[u8]) -> Result<Option<Shaped>,
     Ok(Some(Shaped::Suspend(delay, Bytes::of(alloc, rest)?)))
 }
 
-/// The nanoseconds of a delay in seconds, with nine digits behind the point.
+/// The nanoseconds of a delay in seconds, with nine digits after the point.
 fn delay_of(text: &[u8]) -> Option<u64>
     ensures { Reads (λ delay. delay < 2 ^ 63) seconds text.now result }
 {
@@ -203,7 +203,7 @@ fn digits_in(text: &[u8]) -> Option<u64>
     Some(number)
 }
 
-/// What stands before the first such byte, and what stands behind it.
+/// What stands before the first such byte, and what stands after it.
 fn split_first(text: &[u8], stop: u8) -> Option<(&[u8], &[u8])>
     ensures found { IfSome result (λ parts. text.now ≡ parts.0.now ++ stop ∷ parts.1.now) }
     ensures first { IfSome result (λ parts. All (λ byte. byte ≢ stop) parts.0.now) }

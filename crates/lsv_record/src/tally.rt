@@ -125,7 +125,7 @@ impl Tally {
         Ok(Some(told))
     }
 
-    /// Takes a line of so many bytes into the totals.
+    /// Takes a line of this many bytes into the totals.
     fn take(&mut self, told: &Shaped, len: u64) -> Result<(), TimingFault>
         requires good { IsGood told.now }
         requires len { len ≡ length (shaped_line told.now) }

@@ -20,7 +20,7 @@ const WINSIZE: u8 = 5;
 /// The event of a signal.
 const SUSPEND: u8 = 7;
 
-/// The line of timing of a record, which needn't be valid: the event, the delay in seconds with nine digits behind
+/// The line of timing of a record, which needn't be valid: the event, the delay in seconds with nine digits after
 /// the point, and what the event tells (sudoers I/O log format).
 pub fn line(alloc: Global, r: &Record) -> Result<Bytes, NoMem>
     ensures { IfOk result (λ line. line ≡ line_of r.now) }

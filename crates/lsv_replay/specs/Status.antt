@@ -22,7 +22,7 @@ number_of Absent = 8
 number_of NoMem = 9
 number_of Quiet = 10
 
--- what the program prints behind its name
+-- what the program prints after its name
 abbrev pub text_of : ReplayStatus → List ℕ
 text_of Shown = []
 text_of Usage = codes "usage"

@@ -1,4 +1,4 @@
-//! The program behind its name.
+//! The program after its name.
 ghost use Rattle.std.specs.Prelude.{◌≡◌, ◌⊎◌, ◌++◌, List, Some, None, [], IsTrue, IfOk, Err};
 ghost use Rattle.std.specs.List.{list_all};
 ghost use Rattle.std.specs.Str.{is_utf8};

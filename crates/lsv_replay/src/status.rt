@@ -54,7 +54,7 @@ impl ReplayStatus {
         }
     }
 
-    /// What the program prints on standard error behind its name. It is empty for `Shown`.
+    /// What the program prints on standard error after its name. It is empty for `Shown`.
     pub fn text(&self, alloc: Global) -> Result<Bytes, lsv_base::NoMem>
         ensures { IfOk result (λ text. text ≡ text_of self.now) }
     {

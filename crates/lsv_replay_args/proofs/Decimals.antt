@@ -68,7 +68,7 @@ number_parsed {E} (b ∷ digits) (Ok x) some low high h =
 number_parsed {E} (b ∷ digits) (Err e) some low high h =
     failed_by (b ∷ digits) e (is_small (b ∷ digits)) refl (parse_plain own {E = E} 64 (b ∷ digits) (Err e) h (λ e. absurd (omega arith))) some
 
--- ---- the digits behind a point
+-- ---- the digits after a point
 
 -- so few digits scaled to nine are below a whole one
 pub fraction_small : (k v : ℕ) → k ≤ 9 → v < 10 ^ k → v * 10 ^ (9 - k) < 2 ^ 64

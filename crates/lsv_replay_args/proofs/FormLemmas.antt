@@ -379,7 +379,7 @@ more_counted Listing more n few = omega arith
 more_counted Following more n few = omega arith
 more_counted (Further v) more n few = omega arith
 
--- a word in front, behind what waits
+-- a word in front, after what waits
 module _ (v : Text) (good : is_value v ≡ true) (more : List Given) (after : List Row)
     (later : (q : Pending) (rs : List Row) → Settles q rs (add after (Further v)) → waiting q + length (further_in more) < 2 ^ 64 → Taken (state q rs) (words_in more) (rows_with (add after (Further v)) more)) where
   word_from : (p : Pending) (rows : List Row) → Settles p rows after → waiting p + suc (length (further_in more)) < 2 ^ 64 → Taken (state p rows) (v ∷ words_in more) (rows_with (add after (Further v)) more)

@@ -80,7 +80,7 @@ has_push id (x ∷ rows) r e f = has_step (bytes_eq x.id id) (has_row id rows) (
 
 -- ---- more values of a row
 
--- the row of an id with these values behind its own, or a new one
+-- the row of an id with these values after its own, or a new one
 abbrev pub appended : Text → Reading → List Text → List Row → List Row
 appended id how values rows = with_values id how CommandLine values rows
 

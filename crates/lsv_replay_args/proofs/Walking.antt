@@ -55,7 +55,7 @@ waits false = idle
 abbrev pub at : List Row → Option (Text × List Text) → Bool → Walk
 at rows pending behind_word = record { held = held rows pending; waiting = waits behind_word; position = 1; is_trailing = false; stopped = None }
 
--- behind the name of an option
+-- after the name of an option
 abbrev behind : List Row → Text → Walk
 behind rows id = record { held = held rows (Some (id, [])); waiting = option id; position = 1; is_trailing = false; stopped = None }
 
@@ -319,7 +319,7 @@ sets_follow = record {
 abbrev pub word_rule : Rule
 word_rule = rule_of (Further [])
 
--- so many values are wanted
+-- this many values are wanted
 enough : (n : ℕ) → 0 < n → n < 2 ^ 64 → range_kinds 1 usize_max n ≡ []
 enough n some few =
     let a : (n == 0) ≡ false = grind (arith, nat_tests) in
@@ -335,7 +335,7 @@ any_values (w ∷ ws) = any_values ws
 pub words_settle : (w : Text) (ws : List Text) (rows : List Row) → length (w ∷ ws) < 2 ^ 64 → settle_fault ruled.rules false (held rows (Some (codes "words", w ∷ ws))) ≡ []
 words_settle w ws rows few = ap₂ or_else (enough (length (w ∷ ws)) (omega arith) few) (any_values ws)
 
--- and stand behind the words of their row
+-- and stand after the words of their row
 pub words_settled : (w : Text) (ws : List Text) (rows : List Row) → settled_rows ruled.rules (Some (codes "words", w ∷ ws)) rows ≡ appended (codes "words") (reading_by word_rule) (w ∷ ws) rows
 words_settled w ws rows = refl
 
@@ -352,11 +352,11 @@ further_fault rows pending true b bytes e =
 further_fault rows pending false b bytes e =
     ap₂ or_else (refused_by idle b bytes (held rows pending) e) (ap (λ (m : Held × Step). step_fault ruled 1 m.0 m.1) (read_by idle b bytes (held rows pending) e))
 
--- the walk behind a word, where this is held before it
+-- the walk after a word, where this is held before it
 abbrev at_word : Held → Text → Walk
 at_word h word = record { held = pushed (codes "words") word h; waiting = positional; position = 1; is_trailing = false; stopped = None }
 
--- a word in front, behind another word
+-- a word in front, after another word
 pub next_word_taken : (v : Text) → is_value v ≡ true → (ws : List Text) (rows : List Row) (rest : List Text) (all : List Row)
     → Taken (at rows (Some (codes "words", ws ++ v ∷ [])) true) rest all → Taken (at rows (Some (codes "words", ws)) true) (v ∷ rest) all
 next_word_taken [] good ws rows rest all t = absurd (cc)
@@ -365,7 +365,7 @@ next_word_taken (b ∷ bytes) good ws rows rest all t =
     word_taken (at rows (Some (codes "words", ws)) true) (at rows (Some (codes "words", ws ++ (b ∷ bytes) ∷ [])) true) (b ∷ bytes) rest all
     (further_fault rows (Some (codes "words", ws)) true b bytes e) (further_walked rows (Some (codes "words", ws)) true b bytes e) t
 
--- a word in front, behind nothing
+-- a word in front, after nothing
 pub first_word_taken : (v : Text) → is_value v ≡ true → (rows : List Row) (rest : List Text) (all : List Row)
     → Taken (at rows (Some (codes "words", v ∷ [])) true) rest all → Taken (at rows None false) (v ∷ rest) all
 first_word_taken [] good rows rest all t = absurd (cc)
@@ -373,7 +373,7 @@ first_word_taken (b ∷ bytes) good rows rest all t =
     let e = not_true (b == 45) good in
     word_taken (at rows None false) (at rows (Some (codes "words", (b ∷ bytes) ∷ [])) true) (b ∷ bytes) rest all (further_fault rows None false b bytes e) (further_walked rows None false b bytes e) t
 
--- a word in front, behind the value of an option
+-- a word in front, after the value of an option
 pub other_word_taken : (v : Text) → is_value v ≡ true → (id u : Text) → bytes_eq id (codes "words") ≡ false → (rows after : List Row) (rest : List Text) (all : List Row)
     → settle_fault ruled.rules false (held rows (Some (id, u ∷ []))) ≡ [] → settled_rows ruled.rules (Some (id, u ∷ [])) rows ≡ after
     → Taken (at after (Some (codes "words", v ∷ [])) true) rest all → Taken (at rows (Some (id, u ∷ [])) false) (v ∷ rest) all

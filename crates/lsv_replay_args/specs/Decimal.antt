@@ -13,11 +13,11 @@ is_digits text = not (is_empty text) && all_ascii_digits text
 abbrev pub digits_in : List ℕ → Option ℕ
 digits_in digits = if is_digits digits && nat_lt (digits_value 10 digits) (2 ^ 64) then Some (digits_value 10 digits) else None
 
--- the billionths that one to nine digits behind a point are
+-- the billionths that one to nine digits after a point are
 abbrev pub fraction_in : List ℕ → Option ℕ
 fraction_in digits = if is_digits digits && nat_le (length digits) 9 then Some (digits_value 10 digits * 10 ^ (9 - length digits)) else None
 
--- the billionths behind a point, none where there is no point
+-- the billionths after a point, none where there is no point
 abbrev pub fraction_of : Option (List ℕ) → Option ℕ
 fraction_of None = Some 0
 fraction_of (Some digits) = fraction_in digits

@@ -103,7 +103,7 @@ further_in [] = []
 further_in (Further v ∷ more) = v ∷ further_in more
 further_in (_ ∷ more) = further_in more
 
--- whether the first of these is another option than all behind it, or no option
+-- whether the first of these is another option than all after it, or no option
 abbrev pub is_other : Given → List Given → Bool
 is_other (Dir v) more = not (is_some (dir_in more))
 is_other (Streams v) more = not (is_some (list_in more))

@@ -26,7 +26,7 @@ pub fn billionths(text: &[u8]) -> Option<u64>
     }
 }
 
-/// The billionths that one to nine digits behind a point are.
+/// The billionths that one to nine digits after a point are.
 fn fraction_in(digits: &[u8]) -> Option<u64>
     ensures { result ≡ fraction_in digits.now }
 {
@@ -37,7 +37,7 @@ fn fraction_in(digits: &[u8]) -> Option<u64>
     Some(value * scale(digits.len()))
 }
 
-/// What the last of so many digits behind a point counts for, in billionths.
+/// What the last of this many digits after a point counts for, in billionths.
 fn scale(digits: usize) -> u64
     requires { digits ≤ 9 }
     ensures { result ≡ 10 ^ (9 - digits) }

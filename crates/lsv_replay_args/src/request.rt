@@ -46,7 +46,7 @@ pub enum Task {
     List(List<Bytes>),
 }
 
-/// Reads the words behind the program's name.
+/// Reads the words after the program's name.
 pub fn read_request(alloc: Global, words: &List<Bytes>) -> Result<Request, ArgFault>
     requires { IsTrue (list_all is_utf8 words.now) }
     ensures ok { IfOk result (λ r. asked words.now ≡ Some (asked_in r)) }

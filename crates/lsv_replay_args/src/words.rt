@@ -24,7 +24,7 @@ pub fn texts_of(alloc: Global, words: &[Bytes]) -> Result<Vec<&str>, AllocError>
     Ok(texts)
 }
 
-/// What stands before the first such byte, and what stands behind it, if there is one.
+/// What stands before the first such byte, and what stands after it, if there is one.
 pub fn cut(separator: u8, bytes: &[u8]) -> (&[u8], Option<&[u8]>)
     ensures before { result.0.now ≡ before separator bytes.now }
     ensures behind { option_map (λ rest. rest.now) result.1 ≡ behind separator bytes.now }

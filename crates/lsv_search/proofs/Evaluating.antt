@@ -17,7 +17,7 @@ use Rattle.lsv_search.specs.Meaning.{says, test_of, test_in, holds, conjunction_
 use Rattle.lsv_search.specs.Steps.{tested, steps_of, conjunction_steps, factor_steps, AreStepsOf}
 use Rattle.lsv_search.specs.Evaluation.{applied, first_of}
 
--- what these steps say, the last first, behind what was said before
+-- what these steps say, the last first, after what was said before
 abbrev after : Head → List Bool → List Step → List Bool
 after head said steps = fold (applied head) said steps
 

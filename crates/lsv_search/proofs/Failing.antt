@@ -1,4 +1,4 @@
--- The first bad word of what is read, behind what was taken.
+-- The first bad word of what is read, after what was taken.
 use Rattle.std.proofs.Common.{◌≡◌, ◌∙◌, ◌⊎◌, inl, inr, ◌+◌, ◌<◌, ◌≤◌, ℕ, zero, suc, List, [], ◌∷◌, ◌++◌, length, drop, get_or, Option, Some, None, option_map, refl, sym, ap, subst, arith}
 use Rattle.std.specs.Prelude.{slice_get}
 use Rattle.std.proofs.lemmas.Option.{slice_get_cases, slice_get_within, slice_get-get_or}
@@ -11,7 +11,7 @@ use Rattle.lsv_search.specs.Places.{Due, IsUnfinished, Refuses, Takes, FailsAt, 
 use Rattle.lsv_search.specs.Reading.{HasRead, FailsFrom}
 use Rattle.lsv_search.proofs.Walking.{Walks, walks_fails}
 
--- behind words that were read and are taken
+-- after words that were read and are taken
 pub fails_behind : (old new : Reader) (words : List (List ℕ)) (more : List Step) (first due : Due) (at : ℕ) → HasRead old new words more → Walks first words due → FailsFrom due new at → FailsFrom first old at
 fails_behind old new words more first due at read walks (n, is, bad) =
     let here : FailsAt due (drop new.at old.words.now) n = subst (λ (ws : List (List ℕ)). FailsAt due (drop new.at ws) n) read.same bad in

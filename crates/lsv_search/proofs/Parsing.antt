@@ -1,4 +1,4 @@
--- Parts of an expression that are read one behind the other.
+-- Parts of an expression that are read one after the other.
 use Rattle.std.proofs.Common.{◌≡◌, ◌≢◌, ◌∙◌, ◌+◌, ◌<◌, ◌≤◌, ℕ, suc, Bool, true, false, cond, List, [], ◌∷◌, ◌++◌, length, drop, get_or, Option, Some, None, Bor, option_map, nat_lt, refl, sym, ap, subst, arith, codes, append_assoc, length-append}
 use Rattle.std.proofs.lemmas.List.{append-nil, drop_all}
 use Rattle.std.specs.Prelude.{slice_get}
@@ -27,7 +27,7 @@ use Rattle.lsv_search.specs.Reading.{HasRead, ReadsExpression, ReadsConjunction,
 use Rattle.lsv_search.proofs.Failing.{drop_at, token_word}
 use Rattle.lsv_search.proofs.Evaluating.{test_is}
 
--- one part behind another
+-- one part after another
 pub read_then : (a b c : Reader) (words more : List (List ℕ)) (done next : List Step) → HasRead a b words done → HasRead b c more next → HasRead a c (words ++ more) (done ++ next)
 read_then a b c words more done next first second = record {
   same = second.same ∙ first.same;
@@ -202,7 +202,7 @@ reads_single depth a b reads = record { c = grammar.Single reads.f; read = reads
 pub reads_alone : (depth : ℕ) (a b : Reader) → ReadsConjunction depth a b → ReadsExpression depth a b
 reads_alone depth a b reads = record { e = grammar.Alone reads.c; read = reads.read; deep = reads.deep; tests = reads.tests }
 
--- one factor more, behind an `and`
+-- one factor more, after an `and`
 reads_and : (depth : ℕ) (z a b c d : Reader) → ReadsConjunction depth z a → next_token a ≡ Some tokens.And → b.words.now ≡ a.words.now → b.at ≡ a.at + 1 → b.steps.items ≡ a.steps.items
     → ReadsFactor depth b c → d.words.now ≡ c.words.now → d.at ≡ c.at → d.steps.items ≡ c.steps.items ++ steps.And ∷ [] → ReadsConjunction depth z d
 reads_and depth z a b c d before is same one kept reads after place pushed =
@@ -254,7 +254,7 @@ reads_more depth z a b c d before same kept passed stays reads after place pushe
     by_token (Some tokens.Or) e = beside (λ is. let no : Some tokens.Or ≡ Some tokens.And = sym e ∙ is in cc)
     by_token (Some (tokens.Word name)) e = beside (λ is. let no : Some (tokens.Word name) ≡ Some tokens.And = sym e ∙ is in cc)
 
--- one conjunction more, behind an `or`
+-- one conjunction more, after an `or`
 pub reads_or : (depth : ℕ) (z a b c d : Reader) → ReadsExpression depth z a → next_token a ≡ Some tokens.Or → b.words.now ≡ a.words.now → b.at ≡ a.at + 1 → b.steps.items ≡ a.steps.items
     → ReadsConjunction depth b c → d.words.now ≡ c.words.now → d.at ≡ c.at → d.steps.items ≡ c.steps.items ++ steps.Or ∷ [] → ReadsExpression depth z d
 reads_or depth z a b c d before is same one kept reads after place pushed =

@@ -41,7 +41,7 @@ fails_to_start depth r none outer long = by_word (slice_get r.words.now r.at) re
         let begun : starting (length outer) (Some (token_of word)) ≡ None = ap (λ d. starting d (Some (token_of word))) long ∙ (ap (starting depth) (sym token) ∙ none) in
         fails_here r word (Factor outer) e (not_begun outer (token_of word) begun)
 
--- behind a `!`, a parenthesis or a name
+-- after a `!`, a parenthesis or a name
 pub fails_in_negation : (depth : ℕ) (a b : Reader) (at : ℕ) → next_token a ≡ Some tokens.Exclamation → depth < most_depth → b.words.now ≡ a.words.now → b.at ≡ a.at + 1 → FailsInFactor (depth + 1) b at → FailsInFactor depth a at
 fails_in_negation depth a b at is lt same one bad outer long =
     let w = token_word (slice_get a.words.now a.at) tokens.Exclamation is in
@@ -74,7 +74,7 @@ neither_follows outer tokens.Or goes or closing = absurd (or refl)
 neither_follows outer (tokens.Word None) goes or closing = refl
 neither_follows outer (tokens.Word (Some name)) goes or closing = absurd (goes tt)
 
--- no closing parenthesis behind an expression
+-- no closing parenthesis after an expression
 pub fails_to_close : (depth : ℕ) (a b c : Reader) (at : ℕ) → next_token a ≡ Some tokens.Opening → depth < most_depth → b.words.now ≡ a.words.now → b.at ≡ a.at + 1 → ReadsExpression (depth + 1) b c → Ends c → at ≡ c.at → next_token c ≢ Some tokens.Closing → FailsInFactor depth a at
 fails_to_close depth a b c at is lt same one reads ends here unclosed outer long =
     let w = token_word (slice_get a.words.now a.at) tokens.Opening is in
@@ -90,7 +90,7 @@ fails_to_close depth a b c at is lt same one reads ends here unclosed outer long
         fails_here c word (Operator (Parenthesis ∷ outer)) e
         (neither_follows (Parenthesis ∷ outer) (token_of word) (λ goes. ends.factor (subst GoesOn (sym token) goes)) (λ or. ends.conjunction (token ∙ or)) (λ closing. unclosed (token ∙ closing)))
 
--- what is bad where a factor is due is bad behind a factor, where the word begins one
+-- what is bad where a factor is due is bad after a factor, where the word begins one
 behind_factor : (outer : List Opened) (t : Token) (word : List ℕ) (words : List (List ℕ)) (n : ℕ) → token_of word ≡ t → GoesOn (Some t) → t ≢ tokens.And → FailsAt (Factor outer) (word ∷ words) n → FailsAt (Operator outer) (word ∷ words) n
 behind_factor outer t word words zero is goes other bad = ap (follow outer) is ∙ (same_refusal t goes other ∙ (ap (begin outer) (sym is) ∙ bad))
   where
@@ -137,14 +137,14 @@ fails_in_more depth z a b at reads goes same passed stays bad outer long settled
 pub fails_at_first : (depth : ℕ) (r : Reader) (at : ℕ) → FailsInFactor depth r at → FailsInExpression depth r at
 fails_at_first depth r at bad outer long settled = bad outer long
 
--- a conjunction behind an `or` is bad
+-- a conjunction after an `or` is bad
 pub fails_in_or : (depth : ℕ) (z a b : Reader) (at : ℕ) → ReadsExpression depth z a → next_token a ≡ Some tokens.Or → b.words.now ≡ a.words.now → b.at ≡ a.at + 1 → FailsInExpression depth b at → FailsInExpression depth z at
 fails_in_or depth z a b at reads is same one bad outer long settled =
     let w = token_word (slice_get a.words.now a.at) tokens.Or is in
     let walk : Walks (Factor outer) (words_of reads.e) (Operator outer) = walks_expression reads.e outer reads.tests (omega (arith, reads.deep)) settled in
     fails_behind z a (words_of reads.e) _ (Factor outer) (Operator outer) at reads.read walk (fails_after a b w.0 (Operator outer) (Factor outer) at w.1 same one (ap (follow outer) w.2) (bad outer long settled))
 
--- a word behind the whole expression
+-- a word after the whole expression
 pub fails_behind_all : (a b : Reader) → ReadsExpression 0 a b → Ends b → b.at < length b.words.now → FailsFrom (Factor []) a b.at
 fails_behind_all a b reads ends lt =
     let walk : Walks (Factor []) (words_of reads.e) (Operator []) = walks_expression reads.e [] reads.tests (omega (arith, reads.deep)) refl in

@@ -20,7 +20,7 @@ pub walks_append : (a b c : Due) (words more : List (List ℕ)) → Walks a word
 walks_append a b c [] more e rest = subst (λ d. Walks d more c) (sym e) rest
 walks_append a b c (word ∷ words) more (next, takes, walks) rest = (next, takes, walks_append next b c words more walks rest)
 
--- what is bad behind words that are taken is bad behind the start
+-- what is bad after words that are taken is bad after the start
 pub walks_fails : (a b : Due) (words more : List (List ℕ)) (n : ℕ) → Walks a words b → FailsAt b more n → FailsAt a (words ++ more) (length words + n)
 walks_fails a b [] more n e bad = subst (FailsAt a more) (sym (zero-add n)) (subst (λ d. FailsAt d more n) (sym e) bad)
 walks_fails a b (word ∷ words) more n (next, takes, walks) bad =
@@ -77,7 +77,7 @@ named_token word name is =
 pub one_deeper : (opened : Opened) (outer : List Opened) → length outer < most_depth → deeper opened outer ≡ Some (Factor (opened ∷ outer))
 one_deeper opened outer lt = ap (λ b. cond b (Some (Factor (opened ∷ outer))) None) (lt-ltb (length outer) most_depth lt)
 
--- what takes the words of a factor where one is due takes them behind a factor too
+-- what takes the words of a factor where one is due takes them after a factor too
 factor_follows : (f : grammar.Factor) (outer : List Opened) (last : Due) → Walks (Factor outer) (factor_words f) last → Walks (Operator outer) (factor_words f) last
 factor_follows (grammar.Not f) outer last (next, takes, walks) = (next, takes, walks)
 factor_follows (grammar.Enclosed e) outer last (next, takes, walks) = (next, takes, walks)

@@ -41,7 +41,7 @@ complete (Parenthesis ∷ outer) = Operator (Parenthesis ∷ outer)
 abbrev pub deeper : Opened → List Opened → Option Due
 deeper opened outer = if nat_lt (length outer) most_depth then Some (Factor (opened ∷ outer)) else None
 
--- what is due behind a word that begins a factor
+-- what is due after a word that begins a factor
 abbrev pub begin : List Opened → Token → Option Due
 begin outer Exclamation = deeper Negation outer
 begin outer Opening = deeper Parenthesis outer
@@ -51,13 +51,13 @@ begin outer Or = None
 begin outer (Word None) = None
 begin outer (Word (Some name)) = Some (Argument name outer)
 
--- what is due behind a closing parenthesis, where one is open
+-- what is due after a closing parenthesis, where one is open
 abbrev pub close : List Opened → Option Due
 close [] = None
 close (Negation ∷ outer) = None
 close (Parenthesis ∷ outer) = Some (complete outer)
 
--- what is due behind a word that follows a factor
+-- what is due after a word that follows a factor
 abbrev pub follow : List Opened → Token → Option Due
 follow outer Exclamation = begin outer Exclamation
 follow outer Opening = begin outer Opening

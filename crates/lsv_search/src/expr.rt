@@ -44,7 +44,7 @@ impl From<NoMem> for ExprFault {
 /// Why a part of an expression isn't read.
 #[derive(Clone, Copy, Debug, PartialEq, Eq)]
 pub enum Stopped {
-    /// At this word, or behind the last one.
+    /// At this word, or after the last one.
     At(usize),
     NoMem,
 }

@@ -122,7 +122,7 @@ fn has_command(alloc: Global, info: &Info, pattern: &Pattern) -> Result<bool, No
     pattern.is_found(alloc, shown.as_str())
 }
 
-/// Puts the arguments of a command at the end, each behind a space. The first text is the command itself.
+/// Puts the arguments of a command at the end, each after a space. The first text is the command itself.
 fn put_arguments(text: &mut Bytes, texts: &[Bytes]) -> Result<(), NoMem>
     ensures { OnOk result (text.new ≡ text.old ++ flat_map (λ argument. 32 ∷ argument) (drop 1 texts.now)) }
 {

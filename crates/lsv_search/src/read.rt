@@ -99,7 +99,7 @@ impl Reader<'_> {
         }
     }
 
-    /// Conjunctions with `or` between them. So many `!` and `(` are open before it.
+    /// Conjunctions with `or` between them. This many `!` and `(` are open before it.
     #[cycle(reading)]
     fn expression(&mut self, depth: usize) -> Result<(), Stopped>
         requires depth { depth ≤ most_depth }

@@ -51,7 +51,7 @@ pub enum Start {
 /// How deep `!` and `(` may be nested.
 const MOST_DEPTH: usize = 100;
 
-/// What a word begins where a factor is due and so many `!` and `(` are open, if it begins something.
+/// What a word begins where a factor is due and this many `!` and `(` are open, if it begins something.
 pub fn start_of(token: Option<Token>, depth: usize) -> Option<Start>
     ensures { result ≡ starting depth token }
 {

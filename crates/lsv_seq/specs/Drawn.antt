@@ -24,7 +24,7 @@ IsNumbersFile lane g = IsOwn (numbers_file lane) g
 abbrev pub entry_at : ℕ → Image → Option Entry
 entry_at lane image = option_map entry_in (LastAt 12 (numbers_file lane) image)
 
--- the last number that was drawn of a lane of so many lanes is this one, or 0 where none was
+-- the last number that was drawn of a lane of this many lanes is this one, or 0 where none was
 abbrev pub LastDrawn : ℕ → ℕ → ℕ → Image → Type 0
 LastDrawn lane lanes last image = entry_at lane image ≡ Some (record { last = last; lane = lane; lanes = lanes })
 
@@ -32,7 +32,7 @@ LastDrawn lane lanes last image = entry_at lane image ≡ Some (record { last = 
 abbrev pub IsAsSomeCrash : ℕ → DiskView → Image → Type 0
 IsAsSomeCrash lane disk image = (was : Image) × IsCrashImage disk was × (entry_at lane image ≡ entry_at lane was)
 
--- what an entry says to who asks for a lane of so many lanes: the last number, or why it is refused
+-- what an entry says to who asks for a lane of this many lanes: the last number, or why it is refused
 abbrev pub judged_entry : ℕ → ℕ → Entry → Result ℕ SeqFault
 judged_entry lane lanes e = if e.lanes == lanes then (if e.lane == lane && is_of_lane e then Ok e.last else Err Damaged) else Err (LanesDiffer e.lanes lanes)
 

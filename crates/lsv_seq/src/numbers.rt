@@ -41,7 +41,7 @@ impl Numbers {
     ghost use Rattle.lsv_seq.specs.Value.{lane_of, lanes_of, last_of, pending_of, next_of, IsSameLane, HasDrawn, IsPassedOver, IsNextOf, IsChanged};
     ghost use Rattle.lsv_seq.specs.Represents.{Represents};
 
-    /// Opens the numbers of a lane of so many lanes, at most eight; files that are absent or have no entry are made, with the
+    /// Opens the numbers of a lane of this many lanes, at most eight; files that are absent or have no entry are made, with the
     /// last number 0. Where there is an entry it stays the last one, whatever fails: it is taken over at most, and where
     /// the slots have it nothing is written.
     /// `LanesDiffer` exactly where the last entry is of another number of lanes, else `Damaged` exactly where its lane or its

@@ -138,7 +138,7 @@ module _ (old : Wires) where
   abbrev frames : List Reply → List ℕ
   frames replies = frames_of (said_to once_conn replies)
 
-  -- behind the answers of a turn all answers are put
+  -- after the answers of a turn all answers are put
   all_put : (Made : List LaneTurn → Type 0) (now : Wires) (over : Bool) (unread : List ℕ) (replies : List Reply) (put : List ℕ) → (u : Unput Made old now over unread replies) → old.sink_tells → put ≡ now.put ++ frames replies
       → put ≡ old.put ++ answers once_conn (replies_in (u.earlier ++ u.last ∷ []))
   all_put Made now over unread replies put u told e =

@@ -46,7 +46,7 @@ HasProgramCause lines faults faults' old new NoMem = Unit {0}
 abbrev pub HasPlaces : (logs events : List ℕ) → DiskView → Type 0
 HasPlaces logs events disk = (disk.places ≡ Some (record { logs = logs; events = events })) ⊎ (disk.places ≡ None)
 
--- the places behind a run of the program, by its status: a disk that wasn't given any has those of before
+-- the places after a run of the program, by its status: a disk that wasn't given any has those of before
 abbrev pub HasPlacesAt : (logs events : List ℕ) (old new : DiskView) → Status → Type 0
 HasPlacesAt logs events old new Served = HasPlaces logs events new
 HasPlacesAt logs events old new Usage = new.places ≡ old.places

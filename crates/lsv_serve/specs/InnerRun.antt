@@ -30,7 +30,7 @@ abbrev pub Cuts : (over : Bool) → (read : List ℕ) (said : List Body) (unread
 Cuts true read said unread = AreAllJobs read said
 Cuts false read said unread = HasCut read said unread
 
--- some jobs more were cut from the front of what is unread, and put behind others
+-- some jobs more were cut from the front of what is unread, and put after others
 pub record CutsOn (jobs : List Job) (over : Bool) (unread : List ℕ) (jobs' : List Job) (over' : Bool) (unread' : List ℕ) : Type 0 where
   pub bodies : List Body
   pub are : jobs' ≡ jobs ++ jobs_of bodies

@@ -30,7 +30,7 @@ set_by found = settings_of (lines_in found)
 abbrev pub machine_of : conf.Settings → Settings
 machine_of set = once_settings set.format set.log_exit
 
--- the texts behind which what is typed is masked: where passwords are stored as they are typed, none
+-- the texts after which what is typed is masked: where passwords are stored as they are typed, none
 abbrev pub prompts_of : conf.Settings → List (List ℕ)
 prompts_of set = if set.log_passwords then [] else set.prompts
 

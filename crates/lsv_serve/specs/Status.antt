@@ -17,7 +17,7 @@ number_of NoUpstream = 1
 number_of (Pending left) = 8
 number_of NoMem = 9
 
--- what the program prints behind its name
+-- what the program prints after its name
 abbrev pub text_of : Status → List ℕ
 text_of Served = []
 text_of Usage = codes "usage"

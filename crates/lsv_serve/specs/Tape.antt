@@ -28,7 +28,7 @@ pub record TapeTurn : Type 0 where
   pub bodies : List Body
   pub replies : List Reply
 
--- the turns of a run: those of its reads, and behind them that in which the connection goes, where there is one
+-- the turns of a run: those of its reads, and after them that in which the connection goes, where there is one
 pub record Tape : Type 0 where
   pub reads : List TapeTurn
   pub leaving : List TapeTurn
@@ -70,7 +70,7 @@ ShutLast (t ∷ turns) = ((turns ≡ []) ⊎ (shuts t.replies ≡ false)) × Shu
 
 -- ---- What was read
 
--- one turn for each piece: it brings the jobs that the piece completes, behind those of the bytes that were read before
+-- one turn for each piece: it brings the jobs that the piece completes, after those of the bytes that were read before
 abbrev pub TurnsOf : (read : List ℕ) (said : List Body) → List (List ℕ) → List TapeTurn → Type 0
 TurnsOf read said [] [] = Unit {0}
 TurnsOf read said [] (t ∷ turns) = ⊥

@@ -109,7 +109,7 @@ fn load_by<
     (out, status)
 }
 
-/// Serves so many generated conversations over the store of one lane, and puts the summary of the logs that they leave. Nothing
+/// Serves this many generated conversations over the store of one lane, and puts the summary of the logs that they leave. Nothing
 /// else changes the store while it runs.
 pub fn serve_load<
     S: Source,

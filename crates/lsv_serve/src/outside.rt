@@ -44,7 +44,7 @@ pub struct Options {
     pub form: Kind,
     /// Whether exits have event lines.
     pub log_exit: bool,
-    /// The prompts behind which what is typed is masked.
+    /// The prompts after which what is typed is masked.
     pub prompts: List<Bytes>,
     /// The folder of the logs.
     pub logs: Bytes,

@@ -22,7 +22,7 @@ use std::alloc::Global;
 /// The one connection.
 pub(crate) const CONN: ConnId = ConnId { worker: 0, seq: 1 };
 
-/// At most so many bytes are read at a time.
+/// At most this many bytes are read at a time.
 const PIECE: usize = 65_536;
 
 /// How the reading of a run ended.

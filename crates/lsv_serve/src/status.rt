@@ -51,7 +51,7 @@ impl Status {
         }
     }
 
-    /// What the program prints on standard error behind its name. It is empty for `Served`.
+    /// What the program prints on standard error after its name. It is empty for `Served`.
     pub fn text(&self, alloc: Global) -> Result<Bytes, NoMem>
         ensures { IfOk result (λ text. text ≡ text_of self.now) }
     {

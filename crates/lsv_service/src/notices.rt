@@ -3,7 +3,7 @@
 pub struct Site<'a> {
     /// A host and a port number, as `*:30343`.
     pub address: &'a str,
-    /// After so many connections the server ends.
+    /// After this many connections the server ends.
     pub stop_after: Option<u32>,
     /// The folder of the logs.
     pub logs: &'a str,

@@ -9,7 +9,7 @@ pub struct Plan<F: LineWriter, H: Search> {
     pub formatter: Formatter<F>,
     /// Whether exits have event lines.
     pub log_exit: bool,
-    /// The prompts behind which what is typed is masked.
+    /// The prompts after which what is typed is masked.
     pub texts: List<Bytes>,
     pub prompt: Prompt<H>,
 }

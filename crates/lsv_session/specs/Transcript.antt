@@ -16,7 +16,7 @@ use Rattle.lsv_session.specs.declared.reply.Reply.{Reply}
 use Rattle.lsv_session.specs.declared.reply.ReplyBody.{ReplyBody}
 use Rattle.lsv_session.specs.declared.reply.ReplyBody.TheVariants.{Say, Shut}
 
--- the frame of a message stands in front of these bytes, and this rest behind it
+-- the frame of a message stands in front of these bytes, and this rest after it
 pub record InFront (message rest bytes : List ℕ) : Type 0 where
   pub is_message : IsMessage message
   pub whole : bytes ≡ frame_of message ++ rest

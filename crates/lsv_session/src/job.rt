@@ -23,7 +23,7 @@ pub enum Body {
 pub enum Fault {
     /// The bytes of a frame are no message.
     Malformed(MsgFault),
-    /// A frame states so many bytes, more than a message may have.
+    /// A frame states this many bytes, more than a message may have.
     TooLarge(u32),
     NoMem,
 }

@@ -72,7 +72,7 @@ impl Table {
         self.owners.get(&log.get()).copied()
     }
 
-    /// Room for so many connections that aren't known yet.
+    /// Room for this many connections that aren't known yet.
     pub fn reserve(&mut self, more: usize) -> Result<(), NoMem>
         ensures same { sessions self.new ≡ sessions self.old }
         ensures ok { OnOk result (more ≤ spare self.new) }
@@ -84,7 +84,7 @@ impl Table {
         Ok(())
     }
 
-    /// Room for so many further owners.
+    /// Room for this many further owners.
     pub fn reserve_owners(&mut self, more: usize) -> Result<(), NoMem>
         ensures same { sessions self.new ≡ sessions self.old }
         ensures ok { OnOk result (more ≤ spare_owners self.new) }

@@ -20,7 +20,7 @@ use lsv_record::Record;
 use lsv_request::record_message;
 use std::alloc::Global;
 
-/// At most so many messages are given at once.
+/// At most this many messages are given at once.
 const MOST: usize = 16;
 
 /// Once the messages have more bytes of data than this, no more are given.

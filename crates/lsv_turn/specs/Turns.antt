@@ -64,7 +64,7 @@ abbrev pub EndsWithGone : List Body → Type 0
 EndsWithGone [] = Unit {0}
 EndsWithGone (b ∷ bodies) = (b ≡ Gone → bodies ≡ []) × EndsWithGone bodies
 
--- of these replies none is to a connection that brought none of these jobs; and none behind one that shuts its connection, if that brings nothing behind its end
+-- of these replies none is to a connection that brought none of these jobs; and none after one that shuts its connection, if that brings nothing after its end
 pub record AreAsked (jobs : List Job) (replies : List Reply) : Type 0 where
   pub asked : (k : ConnId) → bodies_of k jobs ≡ [] → NoneFor k replies
   pub behind : (k : ConnId) (before after : List Reply) (r : Reply) → EndsWithGone (bodies_of k jobs) → replies ≡ before ++ r ∷ after → same r.conn k ≡ true → r.body ≡ Shut → NoneFor k after

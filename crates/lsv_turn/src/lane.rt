@@ -20,7 +20,7 @@ pub trait Lane {
     ghost made_by: { Start → Self → List LaneTurn → Type 0 };
 
     /// Does a turn of these jobs, and gives its moment. The replies are this turn's alone. Where it is told, none is to a
-    /// connection that brought nothing, and none behind the Shut of one that brings nothing behind its end.
+    /// connection that brought nothing, and none after the Shut of one that brings nothing after its end.
     fn turn(&mut self, jobs: Vec<Job>, replies: &mut Vec<Reply>) -> Result<TimeSpec, NoMem>
         requires begun { (start : Start) × (turns : List LaneTurn) × made_by start self.old turns }
         ensures valid { IfOk result (λ now. IsSome (nanos_of now)) }

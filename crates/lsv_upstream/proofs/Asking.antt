@@ -11,7 +11,7 @@ use Rattle.lsv_request.specs.declared.request.Request.{Request}
 use Rattle.lsv_request.specs.declared.request.Request.TheVariants as request
 use Rattle.lsv_upstream.specs.Playing.{StillAsks, StillAsks.Greets, StillAsks.Opens, StillAsks.Over, StillAsks.Plays, StillAsks.Resumes, asks_from, ending}
 
--- the record behind the first p
+-- the record after the first p
 pub record Behind (rs : List Record) (p : ℕ) (r : Record) (more : List Record) : Type 0 where
   pub within : p < length rs
   pub drops : drop (p + 1) rs ≡ more

@@ -32,7 +32,7 @@ use Rattle.lsv_machine.proofs.Fits.{fits_of_stands}
 use Rattle.lsv_machine.proofs.WorkFits.{holds_there}
 use Rattle.lsv_machine.specs.Stands.{StandsFor}
 
--- a job tells its connection at most one commit point, and a Shut behind it
+-- a job tells its connection at most one commit point, and a Shut after it
 told_shape : (k j : ConnId) (c : ℕ) (answers : List Answer) → Shape j answers → HasPoint k c answers → (d : ℕ) × (answers ≡ say j (CommitPoint d) ∷ say j Shut ∷ [])
 told_shape k j c answers (quiet e) t = absurd (subst (HasPoint k c) e t)
 told_shape k j c answers (told_log n e) t = absurd (elim (subst (HasPoint k c) e t) [ inl x ↦ let y = x.1 in cc | inr x ↦ x ])

@@ -116,7 +116,7 @@ elapsed_append (r ∷ base) rs = let more = elapsed_append base rs in omega (ari
 one_more_some : (o : Option ℕ) (n : ℕ) → o ≡ Some n → one_more o ≡ Some (suc n)
 one_more_some o n e = rw e refl
 
--- behind records that end below a point, the first that ends there is among the others
+-- after records that end below a point, the first that ends there is among the others
 pub first_after : (base rs : List Record) (c f : ℕ) → elapsed base < c → first rs (c - elapsed base) ≡ Some f → first (base ++ rs) c ≡ Some (length base + f)
 first_after [] rs c f low e =
     let z : c - 0 ≡ c = omega arith in

@@ -49,7 +49,7 @@ read_refused bytes at key number type after fault lt is e v =
     let f : field_at bytes at ≡ Err fault = field_at-typed bytes at key number type after is e ∙ ap (λ (r : Result (FieldValue × ℕ) WireFault). r >>= with_number number) v in
     rw (lt-leb (length bytes) at lt, f) refl
 
--- what stands behind a part
+-- what stands after a part
 pub behind_part : (bytes part rest : List ℕ) (at : ℕ) → drop at bytes ≡ part ++ rest → drop (at + length part) bytes ≡ rest
 behind_part bytes part rest at is = sym (drop-drop (length part) at bytes) ∙ ap (drop (length part)) is ∙ drop_at part rest (length part) refl
 

@@ -8,7 +8,7 @@ use Rattle.lsv_wire.specs.declared.field.WireFault.{WireFault}
 use Rattle.lsv_wire.specs.Fields.{FieldList, next_field, with_field, step_within, fields_within, fields_from, AreFields, IsWithin}
 use Rattle.lsv_wire.proofs.Steps.{next_field-steps, next_field-end, next_field-not_end}
 
--- two readings of the others that agree behind a place make one step that agrees
+-- two readings of the others that agree after a place make one step that agrees
 steps_agree : (bytes : List ℕ) (at : ℕ) (f g : ℕ → FieldList) (r : Result (Option (Field × ℕ)) WireFault) → next_field bytes at ≡ r
     → ((next : ℕ) → at < next → next ≤ length bytes → f next ≡ g next) → step_within f r ≡ step_within g r
 steps_agree bytes at f g (Ok None) e same = refl

@@ -28,7 +28,7 @@ after_bytes-forward n bytes key at end e =
     let there : at + n ≤ length bytes = ltb-false _ _ g.0 in
     subst (λ (m : ℕ). (at ≤ m) × (m ≤ length bytes)) (ok_is (at + n) end g.1) (omega arith, there)
 
--- a value ends behind its place, within the text
+-- a value ends after its place, within the text
 pub record Ends (bytes : List ℕ) (at : ℕ) (v : FieldValue × ℕ) : Type 0 where
   pub forward : at ≤ v.1
   pub there : v.1 ≤ length bytes
@@ -82,7 +82,7 @@ value_at-ends type bytes key at v e =
       ]
     ]
 
--- a field ends behind its place, within the text, and its number is one that a field may have
+-- a field ends after its place, within the text, and its number is one that a field may have
 pub record Steps (bytes : List ℕ) (at : ℕ) (f : Field × ℕ) : Type 0 where
   pub forward : at < f.1
   pub there : f.1 ≤ length bytes

@@ -77,7 +77,7 @@ put_in g x k w lt le =
 small_mod : (g k w : ℕ) → g < 2 ^ k → k ≤ w → g % 2 ^ w ≡ g
 small_mod g k w lt le = mod-eq_of_lt (let wide : 2 ^ k ≤ 2 ^ w = pow-le-pow_right {n = 2} (omega arith) le in omega arith)
 
--- what has been read of a varint: so many bytes that say that another follows, and their groups
+-- what has been read of a varint: this many bytes that say that another follows, and their groups
 pub record IsReadTo (text : List ℕ) (i value : ℕ) : Type 0 where
   pub continues : i ≤ continued text
   pub so_far : value ≡ grouped (take i text) % 2 ^ 64

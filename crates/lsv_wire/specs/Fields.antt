@@ -32,7 +32,7 @@ fixed_at w bytes key at =
     if nat_lt (length bytes) (at + byte_len w) then Err (Truncated key)
     else Ok (from_le_bytes w (take (byte_len w) (drop at bytes)), at + byte_len w)
 
--- the place after so many bytes
+-- the place after this many bytes
 unfoldable pub after_bytes : ℕ → List ℕ → ℕ → ℕ → Result ℕ WireFault
 after_bytes n bytes key at = if nat_lt (length bytes) (at + n) then Err (Truncated key) else Ok (at + n)
 
@@ -77,13 +77,13 @@ AreFields bytes at (f ∷ fs) fault = (next : ℕ) × (next_field bytes at ≡ O
 abbrev pub with_field : Field → FieldList → FieldList
 with_field f list = record { fields = f ∷ list.fields; fault = list.fault }
 
--- one step of a reading of at most so many fields
+-- one step of a reading of at most this many fields
 abbrev pub step_within : (ℕ → FieldList) → Result (Option (Field × ℕ)) WireFault → FieldList
 step_within others (Ok None) = record { fields = []; fault = None }
 step_within others (Ok (Some f)) = with_field f.0 (others f.1)
 step_within others (Err fault) = record { fields = []; fault = Some fault }
 
--- at most so many fields from a place on
+-- at most this many fields from a place on
 abbrev pub fields_within : ℕ → List ℕ → ℕ → FieldList
 fields_within zero bytes at = record { fields = []; fault = None }
 fields_within (suc n) bytes at = step_within (fields_within n bytes) (next_field bytes at)

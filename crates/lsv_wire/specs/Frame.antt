@@ -1,4 +1,4 @@
--- Length-prefixed framing (sudo_logsrv.proto(5)): each message stands behind its length.
+-- Length-prefixed framing (sudo_logsrv.proto(5)): each message stands after its length.
 use Rattle.std.specs.Prelude.{◌≡◌, ◌⊎◌, ℕ, ◌+◌, ◌<◌, ◌≤◌, List, ◌++◌, length, take}
 use Rattle.std.specs.List.{flat_map, AllByRecursion}
 use Rattle.std.specs.Int.{w32, to_be_bytes, from_be_bytes}
@@ -16,7 +16,7 @@ IsMessage message = length message ≤ FRAME_LIMIT
 abbrev pub stated_length : List ℕ → ℕ
 stated_length bytes = from_be_bytes w32 (take 4 bytes)
 
--- a length within the limit stands in front, and fewer bytes than it states behind it
+-- a length within the limit stands in front, and fewer bytes than it states after it
 pub record IsCutShort (bytes : List ℕ) : Type 0 where
   pub length_is_there : 4 ≤ length bytes
   pub within : stated_length bytes ≤ FRAME_LIMIT

@@ -11,7 +11,7 @@ abbrev pub grouped : List ℕ → ℕ
 grouped [] = 0
 grouped (b ∷ bs) = b % 128 + 128 * grouped bs
 
--- the shortest spelling of a number with at most so many bytes that say that another follows
+-- the shortest spelling of a number with at most this many bytes that say that another follows
 abbrev pub spelled_within : ℕ → ℕ → List ℕ
 spelled_within zero n = n ∷ []
 spelled_within (suc more) n = if nat_lt n 128 then n ∷ [] else (n % 128 + 128) ∷ spelled_within more (n / 128)

@@ -199,7 +199,7 @@ fn four_at(bytes: &[u8], key: usize, at: usize) -> Result<(u32, usize), WireFaul
     Ok((n, at + 4))
 }
 
-/// The place after so many bytes.
+/// The place after this many bytes.
 #[tactic(auto, unfolding(crate::specs::Fields::after_bytes))]
 fn after_bytes(n: u64, bytes: &[u8], key: usize, at: usize) -> Result<usize, WireFault>
     requires { at ≤ length bytes.now }

@@ -65,7 +65,7 @@ all_open last s port P (x ∷ links) live so t =
     let here : (port.link x.number).is_open ≡ x.live = subst (λ (l : Link). (port.link l.number).is_open ≡ l.live) t.1 (live x.conn.seq t.0) in
     subst (AllByRecursion P) (sym (in_more x.live x (open_in links))) (open_if x.live P x.number (numbers_in links) (λ e. so x.number (here ∙ e)) (all_open last s port P links live so t.3))
 
--- a link that is opened when so many are open
+-- a link that is opened when this many are open
 pub crowds : (s : Setting) (links : List Link) (l : ℕ) (before mid : PortState) (jobs : ℕ → List Job) (replies : List Reply) → 128 ≤ length (open_in links) → Opens l before mid → Stands s links before jobs replies → IsCrowded (mid.link l).beside
 crowds s links l before mid jobs replies many opens h = record {
   those = numbers_in links;

@@ -1,4 +1,4 @@
--- Calls of a worker, one behind another.
+-- Calls of a worker, one after another.
 use Rattle.std.proofs.Common.{◌≡◌, ℕ, true, List, refl, ap, ◌∙◌, arith}
 use Rattle.lsv_port.specs.Port.{PortState}
 use Rattle.lsv_port.specs.declared.port.Ready.{Ready}

@@ -56,7 +56,7 @@ stands_ext n phase link s p q replies same h = record {
   wants = h.wants;
 }
 
--- one step behind another
+-- one step after another
 pub link_then : (phase : Phase) (a b c : Link) (s t u : PortState) (p q r : ℕ → List Job) → LinkStep phase a b s t p q → LinkStep phase b c t u q r → LinkStep phase a c s u p r
 link_then phase a b c s t u p q r x y = record {
   number = y.number ∙ x.number;

@@ -35,7 +35,7 @@ own_put : (worker : ℕ) (jobs : List Job) (job : Job) → AllByRecursion (λ j.
 own_put worker [] job h is = (is, tt)
 own_put worker (x ∷ jobs) job h is = (h.0, own_put worker jobs job h.1 is)
 
--- no job is behind the first where none waited
+-- no job is after the first where none waited
 behind_first : (jobs : List Job) (job : Job) → length jobs ≡ 0 → bytes_behind_first (jobs ++ job ∷ []) ≡ bytes_behind_first jobs
 behind_first [] job none = refl
 behind_first (x ∷ jobs) job none = absurd (omega arith)
@@ -68,7 +68,7 @@ order_same old new worker same bytes = record {
   };
 }
 
--- one job more, which adds so many bytes to those behind the first
+-- one job more, which adds this many bytes to those after the first
 order_more : (old new : MemInbox) (job : Job) (n : ℕ) → new.worker ≡ old.worker → job.conn.worker ≡ old.worker → length (waiting old) < 256 → waiting new ≡ waiting old ++ job ∷ []
     → bytes_behind_first (waiting old ++ job ∷ []) ≡ bytes_behind_first (waiting old) + n → new.bytes ≡ old.bytes + n → (IsOrderly old → old.bytes + n ≤ 67108864) → KeepsOrder old new
 order_more old new job n worker is room put adds bytes light = record {
@@ -91,7 +91,7 @@ order_first old new job size worker is room none put bytes =
     let adds : bytes_behind_first (waiting old ++ job ∷ []) ≡ bytes_behind_first (waiting old) + 0 = behind_first (waiting old) job none ∙ sym (add-zero (bytes_behind_first (waiting old))) in
     order_more old new job 0 worker is room.few put adds (bytes ∙ sym (add-zero old.bytes)) (λ o. let c : old.bytes ≡ bytes_behind_first (waiting old) = o.counted in let l : bytes_behind_first (waiting old) ≤ 67108864 = o.light in omega (arith, c, l))
 
--- a job behind others
+-- a job after others
 pub order_behind : (old new : MemInbox) (job : Job) (size : ℕ) → new.worker ≡ old.worker → job.conn.worker ≡ old.worker → HasRoom old size → 0 < length (waiting old) → waiting new ≡ waiting old ++ job ∷ [] → size ≡ counted (job_bytes job) → new.bytes ≡ old.bytes + size → KeepsOrder old new
 order_behind old new job size worker is room some put e bytes =
     let light : old.bytes + size ≤ 67108864 = room.light some in

@@ -433,7 +433,7 @@ opens_kept s links l link before after jobs replies first fresh uncrowded opens 
       told = told_on s.phase before after opens.stopped opens.failed h.told;
     }
 
--- a worker that counted so many links that it turned away
+-- a worker that counted this many links that it turned away
 abbrev counting : ℕ → Setting → Setting
 counting w s = record s { wanting = w }
 

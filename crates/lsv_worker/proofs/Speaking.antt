@@ -70,7 +70,7 @@ sent_at Failed unsent output answers count le h = sent_none unsent output answer
 sent_at Starved unsent output answers count le h = sent_none unsent output answers count h
 sent_at Over unsent output answers count le h = sent_none unsent output answers count h
 
--- so many bytes were sent
+-- this many bytes were sent
 pub writes_more : (l count : ℕ) (old mid new : Outgoing) (s t u : PortState) → Writes l old mid s t → Changes l (after_write (gave.Bytes count) mid.unsent (t.link l)) t u → count ≤ length mid.unsent
     → new.unsent ≡ drop count mid.unsent → new.voice ≡ mid.voice → Writes l old new s u
 writes_more l count old mid new s t u w change le unsent voice = record {

@@ -37,7 +37,7 @@ IsTold Stopping port = port.stopped ≡ true
 IsTold Failed port = port.failed ≡ true
 IsTold Stopped port = Unit {0}
 
--- the home lane of this connection, of so many lanes, is that of its number
+-- the home lane of this connection, of this many lanes, is that of its number
 pub record IsAtHome (count : ℕ) (c : ConnId) (marks : Marks) : Type 0 where
   pub lanes : marks.lanes ≡ count
   pub home : marks.home ≡ c.seq % count
@@ -87,7 +87,7 @@ reads_in Stopping = true
 reads_in Failed = false
 reads_in Stopped = false
 
--- so many times this number
+-- this many times this number
 abbrev pub repeated : ℕ → ℕ → List ℕ
 repeated zero n = []
 repeated (suc k) n = n ∷ repeated k n
@@ -96,7 +96,7 @@ repeated (suc k) n = n ∷ repeated k n
 abbrev pub WasRead : ℕ → LinkState → LinkState → Type 0
 WasRead k old new = new.reads ≡ old.reads ++ repeated k 65536
 
--- a link was read at most so many times
+-- a link was read at most this many times
 pub record WasReadAtMost (most : ℕ) (old new : LinkState) : Type 0 where
   pub times : ℕ
   pub few : times ≤ most

@@ -10,19 +10,19 @@ use Rattle.lsv_worker.specs.declared.memory.MemInbox.{MemInbox}
 abbrev pub waiting : MemInbox → List Job
 waiting inbox = inbox.jobs.items
 
--- how many bytes the jobs behind the first are taken to hold
+-- how many bytes the jobs after the first are taken to hold
 abbrev pub bytes_behind_first : List Job → ℕ
 bytes_behind_first [] = 0
 bytes_behind_first (first ∷ jobs) = sum_by job_bytes jobs
 
--- each job that waits is of the inbox's worker, there are at most 256, and those behind the first hold what is counted, at most 64 MiB
+-- each job that waits is of the inbox's worker, there are at most 256, and those after the first hold what is counted, at most 64 MiB
 pub record IsOrderly (inbox : MemInbox) : Type 0 where
   pub own : AllByRecursion (λ job. job.conn.worker ≡ inbox.worker) (waiting inbox)
   pub few : length (waiting inbox) ≤ 256
   pub counted : inbox.bytes ≡ bytes_behind_first (waiting inbox)
   pub light : bytes_behind_first (waiting inbox) ≤ 67108864
 
--- there is room for one more of this size: fewer than 256 wait, and it is the first, or those behind the first hold at most 64 MiB with it
+-- there is room for one more of this size: fewer than 256 wait, and it is the first, or those after the first hold at most 64 MiB with it
 pub record HasRoom (inbox : MemInbox) (size : ℕ) : Type 0 where
   pub few : length (waiting inbox) < 256
   pub light : 0 < length (waiting inbox) → inbox.bytes + size ≤ 67108864

@@ -48,7 +48,7 @@ abbrev pub HasEarlyShut : ConnId → List Reply → Type 0
 HasEarlyShut c [] = ⊥
 HasEarlyShut c (reply ∷ replies) = IsEarlyShutOf c reply ⊎ HasEarlyShut c replies
 
--- behind a reply that shuts the connection stands one more to it
+-- after a reply that shuts the connection stands one more to it
 pub record TalksOn (c : ConnId) (replies : List Reply) : Type 0 where
   pub before : List Reply
   pub reply : Reply

@@ -56,7 +56,7 @@ abbrev pub AreSpared : List Link → PortState → PortState → Type 0
 AreSpared [] before after = Unit {0}
 AreSpared (link ∷ links) before after = IsSpared link (before.link link.number) (after.link link.number) × AreSpared links before after
 
--- each connection goes to one of so many lanes
+-- each connection goes to one of this many lanes
 abbrev pub AreOfLanes : ℕ → List Link → Type 0
 AreOfLanes lanes [] = Unit {0}
 AreOfLanes lanes (link ∷ links) = (link.incoming.route.lanes ≡ lanes) × AreOfLanes lanes links

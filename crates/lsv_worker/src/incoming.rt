@@ -233,7 +233,7 @@ impl Incoming {
         }
     }
 
-    /// A Shut was taken that isn't the last: nothing more is cut, and its end comes behind what waits.
+    /// A Shut was taken that isn't the last: nothing more is cut, and its end comes after what waits.
     pub(crate) fn shut(&mut self)
         ensures goes { (read : List ℕ) (put : ℕ → List Body) (marks : Marks) → Hears self.old read put marks → Hears self.new read put (record marks { shut = true }) }
         ensures keeps { KeepsWant self.old self.new }

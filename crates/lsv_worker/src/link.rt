@@ -63,7 +63,7 @@ pub struct Link {
 /// How many times a link is read in one call.
 const MOST_READS: u32 = 16;
 
-/// A link with so many unsent bytes isn't read.
+/// A link with this many unsent bytes isn't read.
 const LADEN: usize = 65_536;
 
 /// The length of the buffer that links are read into.
@@ -391,7 +391,7 @@ impl Link {
         self.incoming.want();
     }
 
-    /// Takes a Shut. It is closed at once where nothing is unsent. One that its end asked for counts only behind its end.
+    /// Takes a Shut. It is closed at once where nothing is unsent. One that its end asked for counts only after its end.
     fn take_shut<P: Port>(&mut self, last: bool, port: &mut P)
         requires is_open { P.tells → self.old.live ≡ true → IsOpen (P.state port.old) self.old.number }
         ensures takes { P.tells → (reply : Reply) → reply.conn ≡ self.old.conn → reply.body ≡ said.Shut → reply.last ≡ last → Takes reply self.old self.new (P.state port.old) (P.state port.new) }

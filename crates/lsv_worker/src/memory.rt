@@ -20,7 +20,7 @@ const MOST_JOBS: usize = 256;
 const MOST_BYTES: u64 = 67_108_864;
 
 /// An inbox in memory, of one lane and of one worker: a job of another is refused. It is full where 256 jobs wait, or where
-/// those behind the first would hold more than 64 MiB, as `job_size` has it.
+/// those after the first would hold more than 64 MiB, as `job_size` has it.
 #[derive(Debug, Drop)]
 pub struct MemInbox {
     pub(crate) worker: u32,

@@ -20,7 +20,7 @@ pub enum Voice {
     Failed,
     /// Memory ran out for a reply.
     Starved,
-    /// A reply came behind a Shut, or the worker was stopped.
+    /// A reply came after a Shut, or the worker was stopped.
     Over,
 }
 
@@ -75,7 +75,7 @@ impl Outgoing {
         }
     }
 
-    /// So many bytes were sent.
+    /// This many bytes were sent.
     fn drop_front(&mut self, count: usize)
         requires { count ≤ length self.old.unsent }
         ensures unsent { self.new.unsent ≡ drop count self.old.unsent }

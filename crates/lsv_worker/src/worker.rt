@@ -134,7 +134,7 @@ fn count_served(links: &[Link]) -> usize
     second
 }
 
-/// The first links of a table, so many, go to its end.
+/// The first links of a table, this many, go to its end.
 fn rotate(links: &mut Vec<Link>, count: usize)
     requires within { count ≤ length links.old.items }
     ensures items { links.new.items ≡ drop count links.old.items ++ take count links.old.items }

@@ -7,7 +7,7 @@ use lsv_session::{Body, ConnId, Fault, Job};
 use lsvt_model::RunSettings;
 use std::alloc::Global;
 
-/// The words behind this one.
+/// The words after this one.
 fn number_behind(words: &str, name: &str) -> Result<u32> {
     let mut words = words.split_whitespace();
     for _ in 0..100u8 {

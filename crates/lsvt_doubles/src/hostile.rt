@@ -17,9 +17,9 @@ pub enum Plan {
     Call(u64),
     /// The asking of this number for a length fails.
     Length(u64),
-    /// The machine stops behind the call of this number: no later one reaches the disk.
+    /// The machine stops after the call of this number: no later one reaches the disk.
     Stop(u64),
-    /// Each sync of this file fails while it has so many bytes or more.
+    /// Each sync of this file fails while it has this many bytes or more.
     Sync(FileId, u64),
 }
 

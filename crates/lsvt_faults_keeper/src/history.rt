@@ -115,7 +115,7 @@ fn said(message: &ServerMessage) -> Result<Says> {
     }
 }
 
-/// How many of these answers, which come behind those of the jobs before, are the job's own. The others are of later
+/// How many of these answers, which come after those of the jobs before, are the job's own. The others are of later
 /// jobs, or of the turn's end. It is told by what a job can be answered: a record, a hello or an alert that is
 /// refused is so at the turn's end, as in conversations that are legal.
 pub fn own_answers(conn: ConnId, asked: &Asked, answers: &[Answer]) -> usize {

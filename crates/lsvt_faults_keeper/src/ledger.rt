@@ -133,7 +133,7 @@ impl<'a> Ledger<'a> {
     }
 
     /// A restart of the log is accepted where it has no answer and the connection wasn't shut. One that failed inside its cut
-    /// promises no record behind the first that ends at its point.
+    /// promises no record after the first that ends at its point.
     fn restart(&mut self, act: &Act, restart: &Restart) -> Result<()> {
         let ends = first(&self.sent, restart.point.nanos());
         if act.answers.is_empty() {
@@ -146,7 +146,7 @@ impl<'a> Ledger<'a> {
         Ok(())
     }
 
-    /// A connection writes the log behind so many records: what was sent is cut there.
+    /// A connection writes the log after this many records: what was sent is cut there.
     fn resume(&mut self, conn: ConnId, ends: Option<usize>) -> Result<()> {
         let kept = ends.unwrap_or(self.sent.len());
         self.writers.push(conn)?;
@@ -157,7 +157,7 @@ impl<'a> Ledger<'a> {
         Ok(())
     }
 
-    /// No record behind these is promised.
+    /// No record after these is promised.
     fn lower(&mut self, ends: Option<usize>) {
         if let (Some(promised), Some(kept)) = (self.promised, ends) {
             self.promised = Some(promised.min(kept));

@@ -1,5 +1,5 @@
 //! Reads scripts of turns from standard input, and lets the keeper play each over a disk in memory: with each device call
-//! failing, and with a crash behind each, in each way in which a crash may leave what wasn't synced. After each turn, and
+//! failing, and with a crash after each, in each way in which a crash may leave what wasn't synced. After each turn, and
 //! of each store that was opened again, it is looked at whether what was promised is there. README.md says what the lines
 //! are.
 #![tactic(auto)]

@@ -1,4 +1,4 @@
-//! The table: each script with each device call failing, and with a crash behind each in each fill.
+//! The table: each script with each device call failing, and with a crash after each in each fill.
 
 use crate::run::{Run, open_keeper, play};
 use crate::script::Script;
@@ -23,7 +23,7 @@ impl Counts {
         }
     }
 
-    /// One case more, which had so many refusals.
+    /// One case more, which had this many refusals.
     fn add(&mut self, refused: u64, breaches: u64) {
         self.cases = self.cases.saturating_add(1);
         self.refused = self.refused.saturating_add(u64::from(refused > 0));
@@ -95,7 +95,7 @@ fn crash(rt: &HostRuntime, run: &Run, number: u64, again: &str, counts: &mut Cou
     Ok(())
 }
 
-/// The machine stops before the first call, and behind each.
+/// The machine stops before the first call, and after each.
 fn stops(rt: &HostRuntime, script: &Script, calls: u64, again: &str) -> Result<Counts> {
     let mut counts = Counts::new();
     for number in 0..=calls {
@@ -105,7 +105,7 @@ fn stops(rt: &HostRuntime, script: &Script, calls: u64, again: &str) -> Result<C
     Ok(counts)
 }
 
-/// The store that a crash leaves of a run in this fill is opened, and the machine stops behind each call of that.
+/// The store that a crash leaves of a run in this fill is opened, and the machine stops after each call of that.
 fn crash_twice(
     rt: &HostRuntime,
     run: &Run,
@@ -132,7 +132,7 @@ fn crash_twice(
     Ok(())
 }
 
-/// The machine stops behind each call, and again behind each call of the opening that follows.
+/// The machine stops after each call, and again after each call of the opening that follows.
 fn stops_twice(rt: &HostRuntime, script: &Script, calls: u64, again: &str) -> Result<Counts> {
     let mut counts = Counts::new();
     for number in 0..=calls {

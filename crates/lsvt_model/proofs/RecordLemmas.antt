@@ -15,7 +15,7 @@ pub elapsed_push : (rs : List Record) (r : Record) → elapsed (rs ++ r ∷ []) 
 elapsed_push [] r = omega arith
 elapsed_push (x ∷ rs) r = omega (arith, elapsed_push rs r)
 
--- so many records end at the point
+-- this many records end at the point
 pub record Ends (rs : List Record) (point n : ℕ) : Type 0 where
   pub ends : elapsed (take n rs) ≡ point
   pub within : point ≤ elapsed rs

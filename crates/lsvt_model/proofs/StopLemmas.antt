@@ -35,7 +35,7 @@ owners_stopped xs = ext (owner_at xs)
 
 -- ---- The loop over the logs
 
--- so many logs are stopped, and the others as they were
+-- this many logs are stopped, and the others as they were
 pub record StoppedTo (xs ys : List Log) (i : ℕ) : Type 0 where
   pub passed : take i xs ≡ map stopped (take i ys)
   pub rest : drop i xs ≡ drop i ys

@@ -18,7 +18,7 @@ use Rattle.lsvt_model.specs.declared.logs.Log.{Log}
 pub ext : {A B : Type 0} {f g : A → B} → ((x : A) → f x ≡ g x) → f ≡ g
 ext h = λ i x. h x i
 
--- a place behind so many more
+-- a place after this many more
 abbrev pub later : ℕ → Option ℕ → Option ℕ
 later i None = None
 later i (Some n) = Some (i + n)

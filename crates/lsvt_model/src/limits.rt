@@ -40,7 +40,7 @@ fn fits_files(l: &Laid, r: &Record) -> bool
     fits_file(&l.timing) && fits_stream(l, r)
 }
 
-/// The point at which a record would end behind these. None where the elapsed time would reach 2^63 nanoseconds or a file
+/// The point at which a record would end after these. None where the elapsed time would reach 2^63 nanoseconds or a file
 /// that it goes to doesn't take it.
 pub fn end_with(alloc: Global, records: &Records, r: &Record) -> Result<Option<u64>, NoMem>
     ensures { IfOk result (λ found. SomeIff found (IsTrue (takes (bare records.now) r.now)) (elapsed records.now + delay_of r.now)) }
@@ -54,7 +54,7 @@ pub fn end_with(alloc: Global, records: &Records, r: &Record) -> Result<Option<u
     Ok(None)
 }
 
-/// Whether the files that a record goes to take it behind these.
+/// Whether the files that a record goes to take it after these.
 #[tactic(auto, using(crate::proofs::RecordLemmas::layout_fits))]
 fn files_take(alloc: Global, records: &[Record], r: &Record) -> Result<bool, NoMem>
     ensures { IfOk result (λ fits. fits ≡ files_take records.now r.now) }
@@ -64,7 +64,7 @@ fn files_take(alloc: Global, records: &[Record], r: &Record) -> Result<bool, NoM
     Ok(fits_files(&laid, r))
 }
 
-/// The point so many nanoseconds later. None where it reaches 2^63.
+/// The point this many nanoseconds later. None where it reaches 2^63.
 fn later(point: u64, nanos: u64) -> Option<u64>
     ensures { SomeIff result (point + nanos < 2 ^ 63) (point + nanos) }
 {
@@ -76,7 +76,7 @@ fn later(point: u64, nanos: u64) -> Option<u64>
     }
 }
 
-/// A record as it is stored behind these.
+/// A record as it is stored after these.
 pub fn covered(
     alloc: Global,
     texts: &List<Bytes>,

@@ -34,7 +34,7 @@ pub fn raised(promised: usize, records: &[Record], point: u64) -> usize
     promised.max(first(records, point).unwrap_or(promised))
 }
 
-/// So many nanoseconds as a time.
+/// This many nanoseconds as a time.
 pub fn time_of(nanos: u64) -> TimeSpec
     ensures { result ≡ time_of nanos }
 {

@@ -62,7 +62,7 @@ impl Records {
         Ok(())
     }
 
-    /// Keeps so many records: those through the first that ends at this point.
+    /// Keeps this many records: those through the first that ends at this point.
     pub(crate) fn cut(&mut self, kept: usize, point: u64)
         requires { first self.old point ≡ Some kept }
         ensures { self.new ≡ take kept self.old }

@@ -20,7 +20,7 @@ use lsv_record::Record;
 use lsv_request::{Accept, Refusal, Request, Restart};
 use lsv_session::{Body, ConnId, ConnState, Job};
 
-/// So many cuts can't be counted.
+/// This many cuts can't be counted.
 const CUTS_LIMIT: u64 = 9_223_372_036_854_775_808;
 
 /// The event log has no more bytes.
@@ -317,7 +317,7 @@ impl Model {
         Ok(Told::Nothing)
     }
 
-    /// A record goes to the end of a log, masked as it is behind the others; or the log doesn't take it.
+    /// A record goes to the end of a log, masked as it is after the others; or the log doesn't take it.
     fn take(&mut self, conn: ConnId, number: LogNo, r: Record) -> Result<Told, NoMem>
         ensures { IfOk result (λ told. Gives (taken conn number r ((machine_of self.old).logs number) (machine_of self.old)) conn told (machine_of self.new)) }
     {
@@ -360,7 +360,7 @@ impl Model {
     }
 }
 
-/// The number of cuts with one that leaves so many records. None where it can't be counted.
+/// The number of cuts with one that leaves this many records. None where it can't be counted.
 fn cuts_with(log: &Log, kept: usize) -> Option<u64>
     ensures { SomeIff result (IsTrue (can_cut kept (stored_of log.now))) (cut_to kept (stored_of log.now)).cuts }
 {
@@ -371,7 +371,7 @@ fn cuts_with(log: &Log, kept: usize) -> Option<u64>
     if cuts < CUTS_LIMIT { Some(cuts) } else { None }
 }
 
-/// Whether the event log takes a line behind those of this turn.
+/// Whether the event log takes a line after those of this turn.
 fn takes_line(lines: &[u8], fresh: &[u8], line: &[u8]) -> bool
     ensures { result ≡ nat_le (length lines.now + length fresh.now + length line.now) (2 ^ 40) }
 {

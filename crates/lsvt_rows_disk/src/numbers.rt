@@ -5,7 +5,7 @@ use lsv_seq::{Numbers, SeqFault, last_drawn};
 use lsvt_doubles::{FILLS, Hostile, Plan};
 use std::alloc::Global;
 
-/// A lane of so many lanes.
+/// A lane of this many lanes.
 fn lane_of(words: &str) -> Result<(u32, u32)> {
     let (lane, lanes) = words.split_once(' ').ok_or(anyhow!("a lane of lanes"))?;
     Ok((lane.parse::<u32>()?, lanes.parse::<u32>()?))

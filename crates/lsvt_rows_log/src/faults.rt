@@ -1,4 +1,4 @@
-//! The table: each script with each device call failing, and with a crash behind each, in each fill.
+//! The table: each script with each device call failing, and with a crash after each, in each fill.
 
 use crate::script::{Play, Script};
 use crate::shown::{is_absent, number, shown};
@@ -8,7 +8,7 @@ use lsv_iolog::IoLog;
 use lsvt_doubles::{FILLS, Plan};
 use std::alloc::Global;
 
-/// An opening is cut off behind each of fewer calls than these, and the last of these openings makes all of its calls.
+/// An opening is cut off after each of fewer calls than these, and the last of these openings makes all of its calls.
 const REOPENING: u64 = 32;
 
 /// What was looked at.
@@ -20,7 +20,7 @@ struct Counts {
     breaches: u64,
 }
 
-/// A script, and what is read of the log after so many of its steps, where nothing fails.
+/// A script, and what is read of the log after this many of its steps, where nothing fails.
 #[derive(Drop)]
 struct Table<'s> {
     alloc: Global,
@@ -94,7 +94,7 @@ impl<'s> Table<'s> {
         })
     }
 
-    /// Whether this is what stands before or after the step behind so many.
+    /// Whether this is what stands before or after the step after this many.
     fn is_near(&self, done: usize, text: &str) -> bool {
         let near = self.texts.get(done..).unwrap_or(&[]);
         near.iter().take(2).any(|near| near.as_str() == text)
@@ -185,7 +185,7 @@ impl<'s> Table<'s> {
         Ok(())
     }
 
-    /// Prints what is read where nothing fails: before the first step, and behind each that changes it.
+    /// Prints what is read where nothing fails: before the first step, and after each that changes it.
     fn print_texts(&self, rt: &HostRuntime) -> Result<()> {
         let mut last = "";
         for (done, text) in self.texts.iter().enumerate() {

@@ -135,7 +135,7 @@ impl Opened {
         Ok(())
     }
 
-    /// Stages a record so many times.
+    /// Stages a record this many times.
     pub fn append_many(&mut self, alloc: Global, words: &str) -> Result<()> {
         let (times, rest) = words.split_once(' ').ok_or(anyhow!("a record"))?;
         for _ in 0..times.parse::<u64>()? {
@@ -171,7 +171,7 @@ impl Opened {
         Ok(log.finish(store, &exit))
     }
 
-    /// Opens the numbers of a lane of so many lanes.
+    /// Opens the numbers of a lane of this many lanes.
     pub fn open_numbers(&mut self, store: &mut Store, words: &str) -> Result<()> {
         let (lane, lanes) = words.split_once(' ').ok_or(anyhow!("a lane of lanes"))?;
         let lane = lane.parse::<u32>()?;

@@ -19,7 +19,7 @@ const NONE: Longest = Longest {
 };
 
 impl Longest {
-    /// A buffer of so many bytes for this part is noted.
+    /// A buffer of this many bytes for this part is noted.
     fn note(&mut self, part: Part, len: usize) {
         let longest = match part {
             Part::Timing => &mut self.timing,

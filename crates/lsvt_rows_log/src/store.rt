@@ -39,7 +39,7 @@ fn part_of(name: &str) -> Option<Part> {
     None
 }
 
-/// An owner: a log's number, or `lane` and the lane behind a point.
+/// An owner: a log's number, or `lane` and the lane after a point.
 fn owner_of(word: &str) -> Result<Owner> {
     match word.split_once('.') {
         Some(("lane", lane)) => Ok(Owner::Numbers(lane.parse::<u32>()?)),

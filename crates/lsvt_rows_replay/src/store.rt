@@ -33,7 +33,7 @@ fn part_of(name: &str) -> Option<Part> {
     None
 }
 
-/// The file that two words name: a log's number, or `lane` and the lane behind a point, and the name of a part.
+/// The file that two words name: a log's number, or `lane` and the lane after a point, and the name of a part.
 fn file_of(owner: &str, part: &str) -> Option<FileId> {
     let part = part_of(part)?;
     let owner = match owner.split_once('.') {

@@ -59,7 +59,7 @@ impl Names {
     }
 }
 
-/// These bytes so many times.
+/// These bytes this many times.
 fn repeated(alloc: Global, bytes: &[u8], times: u32) -> Result<Bytes, NoMem> {
     let mut all = Bytes::new(alloc);
     for _ in 0..times {

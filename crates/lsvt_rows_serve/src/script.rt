@@ -19,7 +19,7 @@ fn link_in(words: &str) -> Result<(u32, &str)> {
     Ok((link.parse::<u32>()?, rest))
 }
 
-/// A name and a number behind it.
+/// A name and a number after it.
 fn counted(words: &str) -> Result<(&str, usize)> {
     let (name, count) = words.split_once(' ').ok_or(anyhow!("a number"))?;
     Ok((name, count.parse::<usize>()?))
@@ -60,7 +60,7 @@ impl Scripts {
         Ok(())
     }
 
-    /// These bytes arrive on a link, so many times.
+    /// These bytes arrive on a link, this many times.
     fn repeat(&mut self, alloc: Global, link: u32, bytes: &[u8], times: usize) -> Result<()> {
         for _ in 0..times {
             self.give(alloc, link, bytes)?;

@@ -18,7 +18,7 @@ const MOST_PUT: usize = 512;
 
 const MOST_SHOWN: usize = 64;
 
-/// Bytes as they are printed: their digits, or of more than so many their number and their digest.
+/// Bytes as they are printed: their digits, or of more than this many their number and their digest.
 fn shown(alloc: Global, bytes: &[u8], most: usize) -> Result<String> {
     if bytes.len() <= most {
         return Ok(hex::encode(alloc, bytes)?);
@@ -55,7 +55,7 @@ fn show_port(rt: &HostRuntime, place: usize, watched: &Watched) -> Result<()> {
     Ok(())
 }
 
-/// The records of a log, up to so many.
+/// The records of a log, up to this many.
 fn records_of(
     alloc: Global,
     disk: &mut Hostile,
@@ -71,7 +71,7 @@ fn records_of(
     Ok(records)
 }
 
-/// The data of these records, one behind the other.
+/// The data of these records, one after the other.
 fn text_of(alloc: Global, records: &[Record]) -> Result<Vec<u8>> {
     let mut text = Vec::new(alloc);
     for r in records {

@@ -11,7 +11,7 @@ use std::alloc::Global;
 struct Brought {
     conn: ConnId,
     words: String,
-    /// The last kind, and how often it came one behind the other.
+    /// The last kind, and how often it came one after the other.
     kind: String,
     times: u64,
 }

@@ -68,8 +68,8 @@ fn show(rt: &HostRuntime, totals: &Totals) -> Result<()> {
     Ok(())
 }
 
-/// The summary of a load of so many conversations, and of one more log, which is open and has one change of the window's
-/// size, where the word `open` stands behind the number.
+/// The summary of a load of this many conversations, and of one more log, which is open and has one change of the window's
+/// size, where the word `open` stands after the number.
 pub fn summary(rt: &HostRuntime, words: &str) -> Result<()> {
     let (number, rest) = words.split_once(' ').unwrap_or((words, ""));
     let mut totals = totals_of(rt.alloc(), number.parse::<u32>()?)?;

@@ -89,7 +89,7 @@ impl<R: Wait + Threads + Copy + Send + Sync> Disks<R> {
     }
 }
 
-/// Makes each second log from this number on, so many. How many were made.
+/// Makes each second log from this number on, this many. How many were made.
 fn make_logs<R: Wait + Copy>(disk: &mut FileDisk<R>, from: u32, count: u32) -> u32 {
     let mut made = 0u32;
     for i in 0..count {

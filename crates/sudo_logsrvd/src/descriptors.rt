@@ -4,10 +4,10 @@ use lsv_base::{Bytes, List};
 use lsv_real::{clients_within, most_descriptors};
 use lsv_serve::Status;
 
-/// So many clients are served at once at most.
+/// This many clients are served at once at most.
 const CLIENTS: u64 = 128;
 
-/// So many descriptors let all of them be served.
+/// This many descriptors let all of them be served.
 const ENOUGH: u64 = 704;
 
 /// If the words are those of a server, says on standard error whether the limit of open files lets it serve fewer clients than it

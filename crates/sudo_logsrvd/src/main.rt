@@ -29,7 +29,7 @@ use std::io::ErrorKind;
 use std::process::ExitCode;
 use std::sync::Wait;
 
-/// The words behind the program's name. One that isn't UTF-8 makes them a faulty command line.
+/// The words after the program's name. One that isn't UTF-8 makes them a faulty command line.
 fn words(rt: &HostRuntime, alloc: Global) -> Result<List<Bytes>, Status> {
     let args = match env::args(rt) {
         Ok(args) => args,

@@ -35,7 +35,7 @@ impl Progress {
         self.is_shown
     }
 
-    /// So many records were written.
+    /// This many records were written.
     pub fn sent(&self, records: u64) {
         let before = self.records.replace(records);
         if before / STEP != records / STEP {

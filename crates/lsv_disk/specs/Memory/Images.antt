@@ -90,7 +90,7 @@ left_by Old past = durable_after past
 left_by Read past = reads_after past
 left_by (Byte byte) past = smeared_after byte past
 
--- so many of the calls end with the last that durable the file, or there is none
+-- this many of the calls end with the last that durable the file, or there is none
 pub record IsDurableAt (calls : List Call) (file : FileId) (end : ℕ) : Type 0 where
   pub within : end ≤ length calls
   pub durable : (before : ℕ) → end ≡ before + 1 → (d : Call) → (same_file (slice_index_or calls before d).file file && makes_durable (slice_index_or calls before d).effect) ≡ true

@@ -12,7 +12,7 @@ pub(crate) enum Effect {
     NotRead,
     /// These bytes at that place.
     Written(u64, Vec<u8>),
-    /// So many bytes at that place, of which any may have come through.
+    /// This many bytes at that place, of which any may have come through.
     NotWritten(u64, usize),
     Synced,
     NotSynced,

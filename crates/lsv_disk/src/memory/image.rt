@@ -54,7 +54,7 @@ fn read_on(
     }
 }
 
-/// Writes so many of one byte.
+/// Writes this many of one byte.
 fn put_run(
     alloc: Global,
     content: Option<Vec<u8>>,

@@ -48,7 +48,7 @@ length_behind body kept part = length_of body part
 abbrev pub last_of : BundleView → Body
 last_of bundle = unwrap_or bundle.last (record { kind = 0; count = 0; elapsed = 0; lens = []; extra = 0 })
 
--- the entry of a cut behind these lines, with so many cuts
+-- the entry of a cut after these lines, with this many cuts
 abbrev pub body_behind : Body → Totals → ℕ → Body
 body_behind body kept cuts = cut_body (eight shapes.Log (length_behind body kept)) kept.count kept.elapsed cuts
 
@@ -56,6 +56,6 @@ body_behind body kept cuts = cut_body (eight shapes.Log (length_behind body kept
 abbrev pub entry_behind : BundleView → DiskView → Totals → ℕ → Committed
 entry_behind bundle disk kept cuts = committed_cut bundle disk (eight shapes.Log (length_behind (last_of bundle) kept)) kept.count kept.elapsed cuts
 
--- the files are cut behind these lines
+-- the files are cut after these lines
 abbrev pub IsCutTo : Totals → ℕ → BundleView → BundleView → Type 0
 IsCutTo kept cuts old new = IsCommitted (body_behind (last_of old) kept cuts) (λ part. slice_index (eight shapes.Log (length_behind (last_of old) kept)) (index_of part)) old new

@@ -104,7 +104,7 @@ EachCounted body tally (s ∷ rest) = IsCounted body tally s × EachCounted body
 abbrev pub IsFirstUncounted : Body → Totals → Stream → Type 0
 IsFirstUncounted body tally s = EachCounted body tally (streams_before s) × (IsCounted body tally s → ⊥)
 
--- a loop over the lines of a view: it only read, and stands behind lines with which the timing begins
+-- a loop over the lines of a view: it only read, and stands after lines with which the timing begins
 pub record IsScanning (tells : Type 0) (view : View) (old now : DiskView) (scan : Scan) : Type 0 where
   pub view_is : scan.view ≡ view
   pub reads : tells → OnlyReads old now

@@ -7,7 +7,7 @@ use Rattle.lsv_record.specs.declared.records.Stream.{Stream}
 use Rattle.lsv_record.specs.Records.{data_in}
 use Rattle.lsv_iolog.specs.Recovered.{part_of}
 
--- behind what was staged these bytes of timing and the record's data are, and nothing else is otherwise
+-- after what was staged these bytes of timing and the record's data are, and nothing else is otherwise
 pub record StagesIn (line : List ℕ) (r : Record) (old new : BundleView) : Type 0 where
   pub timing : staged new Timing ≡ staged old Timing ++ line
   pub streams : (s : Stream) → staged new (part_of s) ≡ staged old (part_of s) ++ data_in s r

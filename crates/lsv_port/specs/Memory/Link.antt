@@ -37,7 +37,7 @@ pub record IsReadOut (v : MemLink) : Type 0 where
   pub taken : v.taken ≡ length v.arrived
   pub ended : v.last ≡ true → v.ended ≡ true
 
--- a link as it can come about: an end is told behind all bytes, and an open link that isn't owed a read was read out, or a call on it failed
+-- a link as it can come about: an end is told after all bytes, and an open link that isn't owed a read was read out, or a call on it failed
 pub record IsSound (v : MemLink) : Type 0 where
   pub within : v.taken ≤ length v.arrived
   pub ended : v.ended ≡ true → (v.last ≡ true) × (v.taken ≡ length v.arrived)
@@ -52,11 +52,11 @@ pub record IsSameSent (old new : MemLink) : Type 0 where
 abbrev pub took_of : MemLink → ℕ → Took
 took_of v room = if v.breaks then took.Failed else if waiting_of v == 0 then (if v.last then took.End else took.NotYet) else took.Bytes (min (waiting_of v) room)
 
--- how many of so many bytes the link takes
+-- how many of this many bytes the link takes
 abbrev pub taken_of : MemLink → ℕ → ℕ
 taken_of v count = min (unwrap_or v.room count) count
 
--- what a write of so many bytes answers
+-- what a write of this many bytes answers
 abbrev pub gave_of : MemLink → ℕ → Gave
 gave_of v count = if v.breaks then gave.Failed else if taken_of v count == 0 then gave.NotYet else gave.Bytes (taken_of v count)
 
@@ -68,7 +68,7 @@ with_bytes bytes v = if v.last then v else record v { arrived = v.arrived ++ byt
 abbrev pub with_last : MemLink → MemLink
 with_last v = if v.last then v else record v { last = true; owed = v.owed || v.is_open }
 
--- the link after there was room for so many bytes more
+-- the link after there was room for this many bytes more
 abbrev pub with_room : ℕ → MemLink → MemLink
 with_room count v = record v { room = Some (min (unwrap_or v.room 0 + count) (2 ^ 64 - 1)); full = v.full && not v.is_open }
 

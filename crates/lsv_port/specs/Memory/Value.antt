@@ -77,7 +77,7 @@ next_step p = slice_get p.script p.done
 abbrev pub answer_of : LinkMap → Step → Option Ready
 answer_of links step = if fails_turn step then None else (if is_stop step then Some ready.Stop else Some (ready_of links step))
 
--- what a turn tells, None where it fails: behind the last step it tells Stop
+-- what a turn tells, None where it fails: after the last step it tells Stop
 abbrev pub turn_of : LinkMap → Option Step → Option Ready
 turn_of links None = Some ready.Stop
 turn_of links (Some step) = answer_of links step

@@ -8,7 +8,7 @@ use std::alloc::Global;
 #[derive(Debug, Drop)]
 pub struct Asked {
     pub address: Vec<u8>,
-    /// After so many links, opened and closed, it was to tell Stop.
+    /// After this many links, opened and closed, it was to tell Stop.
     pub stop_after: Option<u32>,
     /// The port had made a turn by then.
     pub turned: bool,

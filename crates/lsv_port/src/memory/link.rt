@@ -161,7 +161,7 @@ impl MemLink {
         self.pass_on(buf)
     }
 
-    /// How many of so many bytes the link takes.
+    /// How many of this many bytes the link takes.
     fn takes(&self, count: usize) -> usize
         ensures { result ≡ taken_of self.now count }
     {
@@ -239,7 +239,7 @@ impl MemLink {
         self.is_open
     }
 
-    /// The link takes so many bytes more. Says whether it may be written.
+    /// The link takes this many bytes more. Says whether it may be written.
     pub(crate) fn make_room(&mut self, count: usize) -> bool
         ensures link { self.new ≡ with_room count self.old }
         ensures told { result ≡ self.old.is_open }

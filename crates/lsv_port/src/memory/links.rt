@@ -103,7 +103,7 @@ impl Links {
         Ready::Woken
     }
 
-    /// A link takes so many bytes more.
+    /// A link takes this many bytes more.
     fn make_room(&mut self, number: u32, count: u32) -> Ready
         ensures answer { result ≡ told_if (is_open_in (links_of self.old number)) (Ready.Writable number) }
         ensures change { ChangesOne number (with_room count) self.old self.new }

@@ -114,7 +114,7 @@ impl Run {
         }
     }
 
-    /// Takes the next step. Behind the last one Stop is told.
+    /// Takes the next step. After the last one Stop is told.
     pub(crate) fn turn(&mut self, alloc: Global) -> Result<Ready, PortFault>
         requires run { IsRun self.old }
         ensures run { IsRun self.new }

@@ -8,7 +8,7 @@ use std::io;
 use std::io::{ErrorKind, Read, Write};
 use std::net::{Shutdown, SocketAddr};
 
-/// After so many signals in a row a read or a write is a fault.
+/// After this many signals in a row a read or a write is a fault.
 const MOST_INTERRUPTS: u32 = 1024;
 
 /// An open link.

@@ -34,7 +34,7 @@ pub struct Door {
     sockets: OnceLock<Sockets>,
     opened: AtomicU64,
     closed: AtomicU64,
-    /// So many links are open at most.
+    /// This many links are open at most.
     most: u64,
 }
 

@@ -5,13 +5,13 @@ use std::alloc::Global;
 use std::collections::VecDeque;
 use std::time::{Duration, Instant};
 
-/// So many of them at most: the one that was closed first is let go for a further one.
+/// This many of them at most: the one that was closed first is let go for a further one.
 const MOST: usize = 16;
 
-/// A peer has so many seconds to end.
+/// A peer has this many seconds to end.
 const LONGEST: u64 = 2;
 
-/// So many bytes are read at a time, and so often between two waits.
+/// This many bytes are read at a time, and so often between two waits.
 const PIECE: usize = 4096;
 
 const MOST_READS: u32 = 16;

@@ -17,16 +17,16 @@ const LISTENER: Token = Token(usize::MAX);
 
 const FURTHER: Token = Token(usize::MAX - 1);
 
-/// One wait gives so many events at most.
+/// One wait gives this many events at most.
 const MOST_EVENTS: usize = 256;
 
-/// A wait without anything to tell ends after so many milliseconds.
+/// A wait without anything to tell ends after this many milliseconds.
 const LONGEST: u64 = 50;
 
-/// And after so many where links are held, and no bytes went over one since the last wait.
+/// And after this many where links are held, and no bytes went over one since the last wait.
 const SHORT: u64 = 1;
 
-/// But after so many of these waits in a row nothing can move before an event tells it: the messages of one read are taken in fewer
+/// But after this many of these waits in a row nothing can move before an event tells it: the messages of one read are taken in fewer
 /// turns.
 const MOST_SHORT: u32 = 64;
 
@@ -57,7 +57,7 @@ pub struct Wakes {
     next: usize,
     /// Bytes went over a link since the last wait.
     has_moved: bool,
-    /// So many waits in a row began without that.
+    /// This many waits in a row began without that.
     still: u32,
 }
 

@@ -9,7 +9,7 @@ use Rattle.lsv_record.specs.declared.records.Stream.{Stream}
 use Rattle.lsv_record.specs.Records.{timing_of, stream_of, elapsed, event_of, shape_of, delay_of, data_in}
 use Rattle.lsv_record.specs.Layout.{Begins, stream_in}
 
--- The reader stands behind its records, with which the layout begins.
+-- The reader stands after its records, with which the layout begins.
 pub record IsBehind (l : Laid) (reader : Reader) : Type 0 where
   pub begins : Begins l reader.records
   pub offset : reader.at ≡ length (timing_of reader.records)

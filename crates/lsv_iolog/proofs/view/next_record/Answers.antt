@@ -1,4 +1,4 @@
--- The next record stands behind the others, or this is at fault there.
+-- The next record stands after the others, or this is at fault there.
 use Rattle.std.proofs.Common.{◌≡◌, ℕ, List, Option, get_or, sym, ◌∙◌, ap, subst}
 use Rattle.lsv_disk.specs.declared.file.Part.{Part}
 use Rattle.lsv_disk.specs.declared.file.Part.TheVariants.{Timing}

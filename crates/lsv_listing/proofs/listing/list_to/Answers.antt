@@ -1,4 +1,4 @@
--- Each log is listed behind those before it.
+-- Each log is listed after those before it.
 use Rattle.std.proofs.Common.{◌≡◌, ◌≤◌, ◌+◌, arith, rules}
 use Rattle.std.specs.Option.{option_or}
 use Rattle.lsv_listing.proofs.Answers.{err_as}

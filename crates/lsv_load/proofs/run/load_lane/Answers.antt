@@ -1,4 +1,4 @@
--- Behind the turns the disk was only read.
+-- After the turns the disk was only read.
 use Rattle.std.proofs.Common.{◌∙◌}
 use Rattle.lsv_reactor.specs.declared.rounds.PortsEnd.TheVariants.{Stopped}
 use Rattle.lsv_service.specs.declared.run.End.TheVariants as ends

@@ -1,7 +1,7 @@
 use Rattle.lsv_playback.proofs.Played.{IsPlaying}
 use Rattle.lsv_playback.proofs.playing.play_records.Given as goal
 
--- the view stands behind the records that are put
+-- the view stands after the records that are put
 abbrev pub invariant-records : goal.invariant-records
 invariant-records g l =
     IsPlaying g.D.Disk.tells g.S.Screen.tells l.o l.initial.log l.log (g.D.Disk.view l.initial.disk) (g.D.Disk.view l.disk) (g.S.Screen.shown l.initial.screen) (g.S.Screen.shown l.screen)

@@ -1,4 +1,4 @@
--- A view that was renewed stands behind the records that it gave.
+-- A view that was renewed stands after the records that it gave.
 use Rattle.std.proofs.Common.{◌≡◌, ◌≤◌, ℕ, [], refl, sym, ◌∙◌, ap, subst}
 use Rattle.lsv_disk.specs.View.{DiskView}
 use Rattle.lsv_bundle.specs.Body.{length_of}
