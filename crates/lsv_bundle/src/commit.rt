@@ -9,14 +9,14 @@ ghost use Rattle.lsv_journal.specs.Value as journals;
 ghost use Rattle.lsv_journal.specs.Represents as represents;
 ghost use Rattle.lsv_bundle.specs.declared.body.Body.{Body};
 ghost use Rattle.lsv_bundle.specs.declared.fault.BundleFault.{BundleFault};
-ghost use Rattle.lsv_bundle.specs.Shape.{IsPart, index_of, journal_of, IsDataFile, IsWritable, IsOwnFile};
+ghost use Rattle.lsv_bundle.specs.Shape.{IsPart, index_of, journal_of, IsWritable, IsOwnFile};
 ghost use Rattle.lsv_bundle.specs.Value.{next_length, next_body, lengths_of, cut_body, IsStagedFile, NoneStaged, KeptAtError, IsEntryWritten, IsCommitted, IsPrepared};
 ghost use Rattle.lsv_bundle.specs.Committed.{KeepsBytes, IsOwnImage, HoldsEntry, IsBeforeOrAfter, KeepsCommitted, committed_bytes, committed, committed_as, committed_next, committed_cut};
 ghost use Rattle.lsv_bundle.specs.Represents.{Each, IsDurableFile, IsWritten, Represents, DataIsWritten};
 ghost use Rattle.lsv_bundle.specs.Calls.{SyncsStaged, CallsOfFlush};
 ghost use Rattle.lsv_bundle.specs.InnerFiles.{IsAmong, IsStagedAmong, Differ, KeepsPrefix, IsSyncedOnce, commit_file, cut_to, with_files};
 
-use crate::data_file::{DataFile, commit, cut, sync_all, write_all, write_staged};
+use crate::data_file::{DataFile, commit, cut, sync_all, write_all};
 use crate::{Body, Bundle, BundleFault};
 use lsv_disk::{Disk, Owner};
 use lsv_journal::{Journal, JournalFault};
@@ -90,7 +90,7 @@ impl Bundle {
     /// The last step of a flush: selects the entry that was written, and syncs. Its lengths are those of what is
     /// staged, and that is written. Each crash image holds what was committed before or what is committed with it,
     /// and after Ok the latter alone.
-    pub fn select_entry<D: Disk>(&mut self, disk: &mut D) -> Result<(), BundleFault>
+    fn select_entry<D: Disk>(&mut self, disk: &mut D) -> Result<(), BundleFault>
         requires represents { D.tells → self.old.is_broken ≡ false → Represents self.old (D.view disk.old) }
         requires prepared { self.old.is_broken ≡ false → IsPrepared self.old }
         requires written { D.tells → self.old.is_broken ≡ false → DataIsWritten self.old (D.view disk.old) }

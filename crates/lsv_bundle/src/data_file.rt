@@ -185,24 +185,6 @@ pub(crate) fn sync_all<D: Disk>(
     sync_all(disk, owner, rest)
 }
 
-/// Writes of each of the files what is staged, and then syncs each of which something is.
-pub(crate) fn write_staged<D: Disk>(
-    disk: &mut D,
-    owner: Owner,
-    files: &[DataFile],
-) -> Result<(), DiskFault>
-    requires durable { D.tells → Each (IsDurableFile owner (D.view disk.old)) files.now }
-    requires differ { Differ files.now }
-    ensures any_moment { D.tells → Throughout (IsAmong owner files.now) (λ image. Each (KeepsPrefix owner (D.view disk.old) image) files.now) (D.view disk.old) (D.view disk.new) }
-    ensures written { D.tells → OnOk result (Each (IsWritten owner (D.view disk.new)) files.now) }
-    ensures once { D.tells → OnOk result (Each (IsSyncedOnce owner (D.view disk.old) (D.view disk.new)) files.now) }
-    ensures calls { D.tells → CallsAtMost 1 1 (IsStagedAmong owner files.now) (D.view disk.old) (D.view disk.new) }
-    ensures cause { HasOwnCause (IsStagedAmong owner files.now) (IsErr result) (D.view disk.old) (D.view disk.new) }
-{
-    write_all(disk, owner, files)?;
-    sync_all(disk, owner, files)
-}
-
 /// What is staged of each file is committed.
 pub(crate) fn commit(files: &mut [DataFile])
     ensures { files.new ≡ map commit_file files.old }
