@@ -44,4 +44,5 @@ served_prefixes lane_tells lanes worker jobs replies old new s = record {
   closed = s.closed;
   put = λ l opened. put_at lane_tells lanes worker l (s.seats.seat l) jobs replies old new (s.served l opened);
   known = s.known;
+  goes_on = s.goes_on;
 }

@@ -86,7 +86,8 @@ Wanted = Unit {0}
 abbrev pub IsRefused : LinkState → Type 0
 IsRefused link = IsCrowded link.beside ⊎ Wanted
 
--- a link that is no connection: it was closed unread and unwritten, before the port opened another one, told Stop, or failed as a whole
+-- A link that is no connection: it was closed unread and unwritten. That was before the port opened another one, told Stop,
+-- or failed as a whole.
 pub record IsTurnedAway (port : PortState) (l : ℕ) : Type 0 where
   pub input : (port.link l).input ≡ []
   pub reads : (port.link l).reads ≡ []
@@ -133,8 +134,8 @@ pub record ServesPorts (lane_tells : ℕ → Type 0) (lanes : ℕ) (turns : ℕ 
 
 -- ---- What was done by the end of any run
 
--- What a connection brought of the bytes that were read, up to some point: all that it brings is the first of their jobs,
--- perhaps that memory ran out, and its end; and of all that these bodies are the first.
+-- What a connection brought of the bytes that were read, up to some point. In all a connection brings the first jobs of its
+-- bytes, perhaps one want of memory, and its end. These bodies are the first of that.
 pub record BringsSome (input : List ℕ) (bodies : List Body) : Type 0 where
   pub heard : List Body
   pub starved : List Body
@@ -158,9 +159,11 @@ IsPut worker l None jobs replies port = IsTurnedAway port l
 IsPut worker l (Some seq) jobs replies port = ServesSome (conn_of worker seq) (port.link l) jobs replies
 
 -- All links of a port, whose worker has this number, are closed, and were served up to some point. Nothing was put on them but
--- prefixes of the answers by these replies, and each of these jobs that is the worker's is of one of them.
+-- prefixes of the answers by these replies. Each of these jobs that is the worker's is of one of them.
 pub record PutsPrefixes (worker : ℕ) (jobs : ℕ → List Job) (replies : ℕ → List Reply) (old new : PortView) : Type 0 where
   pub seats : Seats old.state new.state
   pub closed : (l : ℕ) → (new.state.link l).is_open ≡ false
   pub put : (l : ℕ) → Contains seats.opened l → IsPut worker l (seats.seat l) jobs replies new.state
   pub known : (m : ℕ) (job : Job) → Contains (jobs m) job → job.conn.worker ≡ worker → (l : ℕ) × Contains seats.opened l × (seats.seat l ≡ Some job.conn.seq)
+  -- it is the same port still, and no count of it fell
+  pub goes_on : GoesOn old.ledger new.ledger
