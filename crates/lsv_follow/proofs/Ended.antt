@@ -10,11 +10,11 @@ use Rattle.lsv_play.specs.declared.options.Options.{Options}
 use Rattle.lsv_play.specs.declared.screen.Item.{Item}
 use Rattle.lsv_play.specs.declared.screen.Item.TheVariants.{Wait}
 use Rattle.lsv_play.specs.Items.{IsPart}
-use Rattle.lsv_play.specs.Playing.{items_of, play}
+use Rattle.lsv_play.specs.Schedule.{items_of, play}
 use Rattle.lsv_play.proofs.Parts.{part_of_more, part_whole, play_append}
-use Rattle.lsv_playback.specs.declared.fault.PlayFault.{PlayFault}
-use Rattle.lsv_playback.specs.declared.fault.PlayFault.TheVariants as plays
-use Rattle.lsv_playback.proofs.Undamaged.{no_view_damage}
+use Rattle.lsv_play.specs.declared.fault.PlayFault.{PlayFault}
+use Rattle.lsv_play.specs.declared.fault.PlayFault.TheVariants as plays
+use Rattle.lsv_play.proofs.Undamaged.{no_view_damage}
 use Rattle.lsv_follow.specs.Ending.{AreFirstLooks, EndsAt, Follows, FollowsLooks, IsNotFollowed, PutsLooks, gave, most_quiet, pauses, quiet}
 use Rattle.lsv_follow.specs.Followed.{followed, followed_by, pause}
 use Rattle.lsv_follow.specs.declared.end.FollowEnd.{FollowEnd}

@@ -22,10 +22,10 @@ use Rattle.lsv_record.proofs.Layouts.{timing_of-append}
 use Rattle.lsv_record.proofs.Once.{one_begins, one_layout}
 use Rattle.lsv_record.proofs.Tallies.{lines_are_timing}
 use Rattle.lsv_play.specs.declared.options.Options.{Options}
-use Rattle.lsv_play.specs.Playing.{play}
-use Rattle.lsv_playback.specs.Playing.{IsOpened, IsSoundSoFar, laid_at, text_at}
-use Rattle.lsv_playback.proofs.Stored.{begins_log, is_layout, some_of_all}
-use Rattle.lsv_playback.proofs.Undamaged.{no_view_damage, stored_undamaged}
+use Rattle.lsv_play.specs.Schedule.{play}
+use Rattle.lsv_play.specs.Playing.{IsOpened, IsSoundSoFar, laid_at, text_at}
+use Rattle.lsv_play.proofs.Stored.{begins_log, is_layout, some_of_all}
+use Rattle.lsv_play.proofs.Undamaged.{no_view_damage, stored_undamaged}
 use Rattle.lsv_follow.specs.declared.follow.Seen.{Seen}
 use Rattle.lsv_follow.specs.declared.follow.Seen.TheVariants as seen
 use Rattle.lsv_follow.proofs.Fronts.{all_sound}

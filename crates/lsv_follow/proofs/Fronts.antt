@@ -11,7 +11,7 @@ use Rattle.lsv_record.specs.declared.records.Record.{Record}
 use Rattle.lsv_record.specs.Layout.{Begins, stream_in}
 use Rattle.lsv_record.specs.Records.{IsValid, stream_of, timing_of}
 use Rattle.lsv_record.proofs.Layouts.{elapsed-append, stream_of-append, timing_of-append}
-use Rattle.lsv_playback.specs.Playing.{IsSoundSoFar}
+use Rattle.lsv_play.specs.Playing.{IsSoundSoFar}
 
 valid_front : (front more : List Record) → All IsValid (front ++ more) → All IsValid front
 valid_front [] more h = All-nil IsValid

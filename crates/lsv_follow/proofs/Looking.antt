@@ -22,10 +22,10 @@ use Rattle.lsv_play.specs.declared.screen.Item.{Item}
 use Rattle.lsv_play.specs.declared.screen.Item.TheVariants.{Wait}
 use Rattle.lsv_play.specs.Items.{IsPart}
 use Rattle.lsv_play.proofs.Parts.{part_behind, part_whole}
-use Rattle.lsv_playback.specs.Faults as playback
-use Rattle.lsv_playback.specs.declared.fault.PlayFault.{PlayFault}
-use Rattle.lsv_playback.specs.declared.fault.PlayFault.TheVariants as plays
-use Rattle.lsv_playback.proofs.Played.{same_image}
+use Rattle.lsv_play.specs.Faults as play_faults
+use Rattle.lsv_play.specs.declared.fault.PlayFault.{PlayFault}
+use Rattle.lsv_play.specs.declared.fault.PlayFault.TheVariants as plays
+use Rattle.lsv_play.proofs.Played.{same_image}
 use Rattle.lsv_follow.specs.Ending.{AreFirstLooks, EndsAt, EndsWith, Follows, FollowsLooks, IsNotFollowed, PutsLooks, gave, most_quiet, quiet}
 use Rattle.lsv_follow.specs.Faults.{IsLookFault, of_look, of_opening}
 use Rattle.lsv_follow.specs.Followed.{followed, followed_by, pause}
@@ -352,7 +352,7 @@ end_same (Err y) e d is same = let at : y ≡ d = cc in sym is ∙ at
 end_disk : (a b : PlayFault) → ends.Fault a ≡ ends.Fault b → a ≡ b
 end_disk a b e = cc
 
-play_disk : (e : LogFault) → playback.of_log e ≡ plays.Disk → e ≡ logs.Disk
+play_disk : (e : LogFault) → play_faults.of_log e ≡ plays.Disk → e ≡ logs.Disk
 play_disk logs.Absent e = absurd (cc)
 play_disk (logs.Damaged part) e = absurd (cc)
 play_disk logs.Complete e = absurd (cc)
@@ -363,7 +363,7 @@ play_disk (logs.Full part) e = absurd (cc)
 play_disk (logs.TooLong point) e = absurd (cc)
 play_disk logs.NoMem e = absurd (cc)
 
-play_screen : (e : LogFault) → playback.of_log e ≡ plays.Screen → ⊥
+play_screen : (e : LogFault) → play_faults.of_log e ≡ plays.Screen → ⊥
 play_screen logs.Absent e = cc
 play_screen (logs.Damaged part) e = cc
 play_screen logs.Complete e = cc
@@ -376,19 +376,19 @@ play_screen logs.NoMem e = cc
 
 pub look_disk : (e : FollowFault) → of_look e ≡ ends.Fault plays.Disk → e ≡ faults.Log logs.Disk
 look_disk (faults.Resumed s m) e = absurd (cc)
-look_disk (faults.Log fault) e = ap (λ (f : LogFault). faults.Log f) (play_disk fault (end_disk (playback.of_log fault) plays.Disk e))
+look_disk (faults.Log fault) e = ap (λ (f : LogFault). faults.Log f) (play_disk fault (end_disk (play_faults.of_log fault) plays.Disk e))
 look_disk faults.NoMem e = absurd (cc)
 
 pub look_screen : (e : FollowFault) → of_look e ≡ ends.Fault plays.Screen → ⊥
 look_screen (faults.Resumed s m) e = cc
-look_screen (faults.Log fault) e = play_screen fault (end_disk (playback.of_log fault) plays.Screen e)
+look_screen (faults.Log fault) e = play_screen fault (end_disk (play_faults.of_log fault) plays.Screen e)
 look_screen faults.NoMem e = cc
 
-pub opening_disk : (e : LogFault) → ends.Fault (playback.of_log e) ≡ ends.Fault plays.Disk → e ≡ logs.Disk
-opening_disk e is = play_disk e (end_disk (playback.of_log e) plays.Disk is)
+pub opening_disk : (e : LogFault) → ends.Fault (play_faults.of_log e) ≡ ends.Fault plays.Disk → e ≡ logs.Disk
+opening_disk e is = play_disk e (end_disk (play_faults.of_log e) plays.Disk is)
 
-pub opening_screen : (e : LogFault) → ends.Fault (playback.of_log e) ≡ ends.Fault plays.Screen → ⊥
-opening_screen e is = play_screen e (end_disk (playback.of_log e) plays.Screen is)
+pub opening_screen : (e : LogFault) → ends.Fault (play_faults.of_log e) ≡ ends.Fault plays.Screen → ⊥
+opening_screen e is = play_screen e (end_disk (play_faults.of_log e) plays.Screen is)
 
 pub screen_no_disk : ends.Fault plays.Screen ≡ ends.Fault plays.Disk → ⊥
 screen_no_disk e = cc

@@ -1,8 +1,8 @@
 -- A fault of a log that is read, as one of following it.
 use Rattle.lsv_iolog.specs.declared.fault.LogFault.{LogFault}
 use Rattle.lsv_iolog.specs.declared.fault.LogFault.TheVariants as logs
-use Rattle.lsv_playback.specs.Faults as playback
-use Rattle.lsv_playback.specs.declared.fault.PlayFault.TheVariants as plays
+use Rattle.lsv_play.specs.Faults as play_faults
+use Rattle.lsv_play.specs.declared.fault.PlayFault.TheVariants as plays
 use Rattle.lsv_follow.specs.declared.end.FollowEnd.{FollowEnd}
 use Rattle.lsv_follow.specs.declared.end.FollowEnd.TheVariants as ends
 use Rattle.lsv_follow.specs.declared.fault.FollowFault.{FollowFault}
@@ -36,10 +36,10 @@ IsLookFault NoMem = Unit {0}
 
 -- a log isn't opened, as in play
 abbrev pub of_opening : LogFault → FollowEnd
-of_opening fault = ends.Fault (playback.of_log fault)
+of_opening fault = ends.Fault (play_faults.of_log fault)
 
 -- a look failed: the log was cut, or else as in play
 abbrev pub of_look : FollowFault → FollowEnd
 of_look (Resumed seen now) = ends.Resumed seen now
-of_look (Log fault) = ends.Fault (playback.of_log fault)
+of_look (Log fault) = ends.Fault (play_faults.of_log fault)
 of_look NoMem = ends.Fault plays.NoMem

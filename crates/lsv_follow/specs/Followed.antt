@@ -3,7 +3,7 @@ use Rattle.std.specs.Prelude.{ℕ, List, [], ◌∷◌, ◌++◌}
 use Rattle.lsv_play.specs.declared.options.Options.{Options}
 use Rattle.lsv_play.specs.declared.screen.Item.{Item}
 use Rattle.lsv_play.specs.declared.screen.Item.TheVariants.{Wait}
-use Rattle.lsv_play.specs.Playing.{items_of}
+use Rattle.lsv_play.specs.Schedule.{items_of}
 use Rattle.lsv_follow.specs.declared.follow.Seen.{Seen}
 use Rattle.lsv_follow.specs.declared.follow.Seen.TheVariants as seen
 

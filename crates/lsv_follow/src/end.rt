@@ -1,12 +1,12 @@
 ghost use Rattle.std.specs.Prelude.{◌≡◌};
-ghost use Rattle.lsv_playback.specs.declared.fault.PlayFault.TheVariants as plays;
+ghost use Rattle.lsv_play.specs.declared.fault.PlayFault.TheVariants as plays;
 ghost use Rattle.lsv_follow.specs.Faults.{of_look, of_opening};
 ghost use Rattle.lsv_follow.specs.declared.end.FollowEnd.TheVariants as ends;
 
 use crate::FollowFault;
 use lsv_base::SinkFault;
 use lsv_iolog::LogFault;
-use lsv_playback::PlayFault;
+use lsv_play::PlayFault;
 use thiserror::Error;
 
 /// Why a log isn't followed to its end.

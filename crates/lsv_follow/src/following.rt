@@ -6,7 +6,7 @@ ghost use Rattle.lsv_disk.specs.View.{HasOwnCause};
 ghost use Rattle.lsv_iolog.specs.Recovered.{IsOfLog};
 ghost use Rattle.lsv_play.specs.Items.{IsPart};
 ghost use Rattle.lsv_play.specs.declared.screen.Item.{Item};
-ghost use Rattle.lsv_playback.specs.declared.fault.PlayFault.TheVariants as plays;
+ghost use Rattle.lsv_play.specs.declared.fault.PlayFault.TheVariants as plays;
 ghost use Rattle.lsv_record.specs.declared.records.Record.{Record};
 ghost use Rattle.lsv_follow.specs.Ending.{Follows, FollowsLooks, most_quiet};
 ghost use Rattle.lsv_follow.specs.Followed.{followed_by};
@@ -16,8 +16,7 @@ ghost use Rattle.lsv_follow.specs.declared.end.FollowEnd.TheVariants as ends;
 use crate::{Follow, FollowEnd, Seen};
 use lsv_base::{LogNo, SinkFault};
 use lsv_disk::Disk;
-use lsv_play::{Options, Screen, play_record};
-use lsv_playback::PlayFault;
+use lsv_play::{Options, PlayFault, Screen, play_record};
 use std::alloc::Global;
 
 /// How long is waited after a look that found no further record, in nanoseconds.

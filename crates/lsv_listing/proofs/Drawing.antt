@@ -8,7 +8,7 @@ use Rattle.lsv_disk.specs.Throughout.{OnlyReads}
 use Rattle.lsv_disk.specs.View.{Image, DiskView}
 use Rattle.lsv_disk.proofs.Composition.{OnlyNow, reads_trans}
 use Rattle.lsv_iolog.proofs.Scans.{reads_nothing}
-use Rattle.lsv_playback.proofs.Played.{same_image}
+use Rattle.lsv_play.proofs.Played.{same_image}
 use Rattle.lsv_seq.specs.declared.entry.Entry.{Entry}
 use Rattle.lsv_seq.specs.declared.fault.SeqFault.TheVariants.{Damaged}
 use Rattle.lsv_seq.specs.Drawn.{entry_at, viewed}

@@ -16,7 +16,7 @@ use Rattle.lsv_iolog.proofs.Scans.{reads_nothing}
 use Rattle.lsv_play.specs.declared.screen.Item.{Item}
 use Rattle.lsv_play.specs.Items.{IsPart}
 use Rattle.lsv_play.proofs.Parts.{part_behind, part_whole}
-use Rattle.lsv_playback.proofs.Played.{same_image}
+use Rattle.lsv_play.proofs.Played.{same_image}
 use Rattle.lsv_search.specs.Grammar.{Expression}
 use Rattle.lsv_search.specs.Steps.{AreStepsOf}
 use Rattle.lsv_search.specs.declared.step.Step.{Step}

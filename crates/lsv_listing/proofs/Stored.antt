@@ -15,8 +15,8 @@ use Rattle.lsv_iolog.specs.Recovered.{HoldsLog, Replays, owner_of}
 use Rattle.lsv_iolog.proofs.Replaying.{prefix_same}
 use Rattle.lsv_iolog.proofs.Viewing.{all_there as file_long}
 use Rattle.lsv_record.specs.Points.{Stored}
-use Rattle.lsv_playback.specs.Playing.{IsOpened, text_at}
-use Rattle.lsv_playback.proofs.Undamaged.{no_view_damage}
+use Rattle.lsv_play.specs.Playing.{IsOpened, text_at}
+use Rattle.lsv_play.proofs.Undamaged.{no_view_damage}
 use Rattle.lsv_listing.specs.Listing.{Found, Nowhere, Faulty, There, IsFound}
 
 none_some : {X : Type 0} (o : Option X) (x : X) → o ≡ None → o ≡ Some x → ⊥

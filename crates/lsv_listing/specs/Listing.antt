@@ -13,7 +13,7 @@ use Rattle.lsv_iolog.specs.Recovered.{Replays}
 use Rattle.lsv_play.specs.declared.screen.Item.{Item}
 use Rattle.lsv_play.specs.declared.screen.Item.TheVariants.{Put}
 use Rattle.lsv_play.specs.Items.{IsPart}
-use Rattle.lsv_playback.specs.Playing.{IsOpened}
+use Rattle.lsv_play.specs.Playing.{IsOpened}
 use Rattle.lsv_search.specs.Grammar.{Expression}
 use Rattle.lsv_search.specs.Meaning.{matches}
 use Rattle.lsv_listing.specs.Numbers.{last_number}

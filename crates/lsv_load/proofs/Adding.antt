@@ -16,10 +16,10 @@ use Rattle.lsv_iolog.specs.Faults.{IsNextFault}
 use Rattle.lsv_iolog.specs.Reading.{IsBehind, IsFaultBehind, IsSoundBehind, IsWhole, ViewState, committed_laid}
 use Rattle.lsv_iolog.proofs.Scans.{reads_nothing}
 use Rattle.lsv_play.specs.declared.options.Options.{Options}
-use Rattle.lsv_play.specs.Playing.{play}
-use Rattle.lsv_playback.specs.Playing.{IsOpened, IsSoundSoFar, laid_at}
-use Rattle.lsv_playback.proofs.Played.{begins_same}
-use Rattle.lsv_playback.proofs.Undamaged.{stored_undamaged}
+use Rattle.lsv_play.specs.Schedule.{play}
+use Rattle.lsv_play.specs.Playing.{IsOpened, IsSoundSoFar, laid_at}
+use Rattle.lsv_play.proofs.Played.{begins_same}
+use Rattle.lsv_play.proofs.Undamaged.{stored_undamaged}
 use Rattle.lsv_record.specs.declared.laid.Laid.{Laid}
 use Rattle.lsv_record.specs.declared.records.Record.{Record}
 use Rattle.lsv_record.specs.Layout.{IsLayout}

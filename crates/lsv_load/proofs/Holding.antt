@@ -17,8 +17,8 @@ use Rattle.lsv_info.specs.declared.times.Head.{Head}
 use Rattle.lsv_iolog.specs.Recovered.{HasExit, HoldsLog, IsLog, Replays, owner_of}
 use Rattle.lsv_iolog.proofs.Replaying.{on_log, same_laid}
 use Rattle.lsv_iolog.proofs.Viewing.{all_there}
-use Rattle.lsv_playback.specs.Playing.{AreAll, IsOpened, laid_at, text_at}
-use Rattle.lsv_playback.proofs.Stored.{same_body}
+use Rattle.lsv_play.specs.Playing.{AreAll, IsOpened, laid_at, text_at}
+use Rattle.lsv_play.proofs.Stored.{same_body}
 use Rattle.lsv_record.specs.declared.records.Record.{Record}
 use Rattle.lsv_record.specs.Points.{Stored}
 use Rattle.lsv_record.proofs.Layouts.{layout_is_texts}

@@ -13,8 +13,8 @@ use Rattle.lsv_iolog.specs.Faults.{IsOpenFault}
 use Rattle.lsv_iolog.specs.Reading.{IsBehind, ViewState, committed_text}
 use Rattle.lsv_iolog.specs.Recovered.{Replays, owner_of}
 use Rattle.lsv_iolog.proofs.Replaying.{one_replay}
-use Rattle.lsv_playback.specs.Playing.{IsOpened}
-use Rattle.lsv_playback.proofs.Undamaged.{no_view_damage}
+use Rattle.lsv_play.specs.Playing.{IsOpened}
+use Rattle.lsv_play.proofs.Undamaged.{no_view_damage}
 use Rattle.lsv_record.specs.Points.{Stored}
 use Rattle.lsv_load.specs.InnerSums.{IsDamage, IsUnread}
 use Rattle.lsv_load.specs.Replayed.{HasNoLog}

@@ -11,7 +11,7 @@ use Rattle.lsv_gen.specs.declared.totals.Totals.{Totals}
 use Rattle.lsv_iolog.specs.Reading.{IsBehind, ViewState}
 use Rattle.lsv_iolog.specs.declared.fault.LogFault.{LogFault}
 use Rattle.lsv_iolog.specs.declared.fault.LogFault.TheVariants as logs
-use Rattle.lsv_playback.specs.Playing.{AreAll, IsSoundSoFar, laid_at}
+use Rattle.lsv_play.specs.Playing.{AreAll, IsSoundSoFar, laid_at}
 use Rattle.lsv_record.specs.Points.{Stored}
 use Rattle.lsv_record.specs.declared.records.Record.{Record}
 use Rattle.lsv_load.specs.Replayed.{AreReplayed, HasNoLog}

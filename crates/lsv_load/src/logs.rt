@@ -7,7 +7,7 @@ ghost use Rattle.lsv_gen.specs.Summary.{totals_of};
 ghost use Rattle.lsv_iolog.specs.Faults.{IsNextFault, IsOpenFault};
 ghost use Rattle.lsv_iolog.specs.Reading.{IsBehind};
 ghost use Rattle.lsv_iolog.specs.Recovered.{IsOfLog, Replays};
-ghost use Rattle.lsv_playback.specs.Playing.{IsOpened};
+ghost use Rattle.lsv_play.specs.Playing.{IsOpened};
 ghost use Rattle.lsv_record.specs.Points.{Stored};
 ghost use Rattle.lsv_load.specs.InnerSums.{AddsAll, IsDamage, IsFitting, IsUnread};
 

@@ -6,7 +6,7 @@ use Rattle.lsv_record.specs.declared.records.Record.{Record}
 use Rattle.lsv_play.specs.declared.screen.Item.{Item}
 use Rattle.lsv_play.specs.declared.options.Options.{Options}
 use Rattle.lsv_play.specs.Items.{IsPart}
-use Rattle.lsv_play.specs.Playing.{items_of, play}
+use Rattle.lsv_play.specs.Schedule.{items_of, play}
 
 -- a first part is one of more
 pub part_of_more : (part whole more : List Item) → IsPart part whole → IsPart part (whole ++ more)

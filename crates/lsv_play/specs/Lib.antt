@@ -1,3 +1,5 @@
+pub mod Faults
 pub mod Items
 pub mod MemScreen
 pub mod Playing
+pub mod Schedule

@@ -1,53 +1,94 @@
--- What is shown of a log's records: before each its wait, and then its bytes, where they are asked for.
-use Rattle.std.specs.Prelude.{ℕ, ◌*◌, ◌/◌, ◌-◌, ◌^◌, min, get_or, Bool, false, not, ◌&&◌, if◌then◌else◌, List, [], ◌∷◌, Option, Some, None, codes}
-use Rattle.std.specs.List.{flat_map}
-use Rattle.std.specs.Str.{bytes_eq}
+-- What may be put of a log that is played, by how its playing ended.
+use Rattle.std.specs.Prelude.{◌≡◌, ◌⊎◌, ℕ, List, [], length, take, None, Result, Ok, Err, ◌∷◌, ◌++◌}
+use Rattle.lsv_disk.specs.declared.file.Part.{Part}
+use Rattle.lsv_disk.specs.declared.file.Part.TheVariants.{Head as HeadPart}
+use Rattle.lsv_disk.specs.Bytes.{bytes_of}
+use Rattle.lsv_disk.specs.Files.{file_of}
+use Rattle.lsv_disk.specs.View.{Image}
+use Rattle.lsv_bundle.specs.declared.body.Body.{Body}
+use Rattle.lsv_bundle.specs.Body.{length_of}
+use Rattle.lsv_bundle.specs.Committed.{HasEntry}
+use Rattle.lsv_info.specs.declared.times.Head.{Head}
+use Rattle.lsv_info.specs.Reading.{head_of}
+use Rattle.lsv_record.specs.declared.laid.Laid.{Laid}
 use Rattle.lsv_record.specs.declared.records.Record.{Record}
-use Rattle.lsv_record.specs.declared.records.Record.TheVariants.{Io, Winsize, Suspend}
-use Rattle.lsv_record.specs.declared.records.Stream.{Stream}
-use Rattle.lsv_record.specs.Records.{delay_of, event_of}
+use Rattle.lsv_record.specs.Layout.{Begins, IsLayout}
+use Rattle.lsv_record.specs.Records.{elapsed}
+use Rattle.lsv_iolog.specs.Damage.{IsViewDamage}
+use Rattle.lsv_iolog.specs.Reading.{AreThere, IsFaultBehind, IsSoundBehind}
+use Rattle.lsv_iolog.specs.Recovered.{owner_of, laid_in, Replays}
 use Rattle.lsv_play.specs.declared.options.Options.{Options}
 use Rattle.lsv_play.specs.declared.screen.Item.{Item}
-use Rattle.lsv_play.specs.declared.screen.Item.TheVariants.{Wait, Put}
+use Rattle.lsv_play.specs.Items.{IsPart}
+use Rattle.lsv_play.specs.Schedule.{play}
+use Rattle.lsv_play.specs.declared.fault.PlayFault.{PlayFault}
+use Rattle.lsv_play.specs.declared.fault.PlayFault.TheVariants.{Absent, Damaged, Disk, Screen, NoMem}
 
--- the record ends a suspension, so that its delay is the time during which the command was suspended
-abbrev pub resumes : Record → Bool
-resumes (Io delay stream bytes) = false
-resumes (Winsize delay rows cols) = false
-resumes (Suspend delay signal) = bytes_eq signal (codes "CONT")
+-- the bytes of a part that an entry of a log commits, in an image of the disk
+abbrev pub text_at : ℕ → Body → Image → Part → List ℕ
+text_at n body image part = take (length_of body part) (bytes_of (image (file_of (owner_of n) part)))
 
--- no more than the longest wait, where there is one
-abbrev pub at_most : Option ℕ → ℕ → ℕ
-at_most None nanos = nanos
-at_most (Some longest) nanos = min nanos longest
+-- and the timing and the streams of them
+abbrev pub laid_at : ℕ → Body → Image → Laid
+laid_at n body image = laid_in (text_at n body image)
 
--- a delay at the options' speed, rounded down, no longer than the longest wait, and below 2 ^ 63 ns
-abbrev pub scaled : Options → ℕ → ℕ
-scaled o delay = min (at_most o.longest (delay * 1000000000 / o.speed)) (2 ^ 63 - 1)
+-- these are all records: the bytes are their layout, and they are as many and of as much time as the entry says
+pub record AreAll (l : Laid) (body : Body) (records : List Record) : Type 0 where
+  pub begins : Begins l records
+  pub layout : IsLayout l records
+  pub count : body.count ≡ length records
+  pub time : body.elapsed ≡ elapsed records
 
--- how long is waited for a delay; a time of suspension is skipped, unless it is asked for
-abbrev pub wait_of : Options → ℕ → Bool → ℕ
-wait_of o delay resumes = if resumes && not o.suspended then 0 else scaled o delay
+-- after no shorter part of these records a part is at fault
+abbrev pub IsSoundSoFar : Laid → Body → List Record → Type 0
+IsSoundSoFar l body records = (before : List Record) (r : Record) (more : List Record) → records ≡ before ++ r ∷ more → IsSoundBehind l body before
 
--- the bytes of this stream are shown
-abbrev pub is_selected : Options → Stream → Bool
-is_selected o stream = get_or o.streams (event_of stream) false
+-- these records are given, one after another: the bytes begin with their layout
+pub record AreGiven (l : Laid) (body : Body) (records : List Record) : Type 0 where
+  pub begins : Begins l records
+  pub sound : IsSoundSoFar l body records
 
--- bytes are put where there are some
-abbrev pub put_of : List ℕ → List Item
-put_of [] = []
-put_of (byte ∷ bytes) = Put (byte ∷ bytes) ∷ []
+-- these are the records before the first fault: the bytes begin with their layout, and after it this part is at fault
+pub record AreBeforeFault (l : Laid) (body : Body) (part : Part) (records : List Record) : Type 0 where
+  pub begins : Begins l records
+  pub sound : IsSoundSoFar l body records
+  pub fault : IsFaultBehind l body records part
 
--- the bytes that are shown of a record
-abbrev pub bytes_shown : Options → Record → List Item
-bytes_shown o (Io delay stream bytes) = if is_selected o stream then put_of bytes else []
-bytes_shown o (Winsize delay rows cols) = []
-bytes_shown o (Suspend delay signal) = []
+-- a first part is put of the schedule of records that are given
+abbrev pub PlaysSome : Options → Laid → Body → List Item → Type 0
+PlaysSome o l body put = (records : List Record) × AreGiven l body records × IsPart put (play o records)
 
--- what is shown of a record: its wait, and then its bytes
-abbrev pub items_of : Options → Record → List Item
-items_of o r = Wait (wait_of o (delay_of r) (resumes r)) ∷ bytes_shown o r
+-- what is put of a log with this entry and these bytes: all at the end, all before a fault, and else a first part
+abbrev pub PlaysRecords : {T : Type 0} → Options → Laid → Body → Result T PlayFault → List Item → Type 0
+PlaysRecords o l body (Ok end) put = (records : List Record) × AreAll l body records × (put ≡ play o records)
+PlaysRecords o l body (Err (Damaged part)) put = (records : List Record) × AreBeforeFault l body part records × (put ≡ play o records)
+PlaysRecords o l body (Err Disk) put = PlaysSome o l body put
+PlaysRecords o l body (Err Screen) put = PlaysSome o l body put
+PlaysRecords o l body (Err NoMem) put = PlaysSome o l body put
+PlaysRecords o l body (Err Absent) put = ⊥
 
--- the playback schedule: what is shown of these records, in order
-abbrev pub play : Options → List Record → List Item
-play o records = flat_map (items_of o) records
+-- a log isn't opened: it is absent, or a file is absent or short or its head no head, or a read failed, or memory ran out
+abbrev pub IsNotOpened : {T : Type 0} → ℕ → Image → Result T PlayFault → Type 0
+IsNotOpened n image (Ok end) = ⊥
+IsNotOpened n image (Err Absent) = Replays image n None
+IsNotOpened n image (Err (Damaged part)) = IsViewDamage n part image
+IsNotOpened n image (Err Disk) = Unit {0}
+IsNotOpened n image (Err Screen) = ⊥
+IsNotOpened n image (Err NoMem) = Unit {0}
+
+-- the log has this last entry, each of its data files is there and has as many bytes as this says, and the text of its head is this head
+pub record IsOpened (n : ℕ) (body : Body) (head : Head) (image : Image) : Type 0 where
+  pub entry : HasEntry (owner_of n) body image
+  pub there : AreThere (owner_of n) body image
+  pub head_is : head_of (text_at n body image HeadPart) ≡ Ok head
+
+-- the log is opened, and its records are played
+pub record PlaysLog {T : Type 0} (o : Options) (n : ℕ) (image : Image) (r : Result T PlayFault) (put : List Item) : Type 0 where
+  pub body : Body
+  pub head : Head
+  pub opened : IsOpened n body head image
+  pub records : PlaysRecords o (laid_at n body image) body r put
+
+-- what is put of the log of this number, as an image of the disk has it: nothing where it isn't opened
+abbrev pub Plays : {T : Type 0} → Options → ℕ → Image → Result T PlayFault → List Item → Type 0
+Plays o n image r put = (IsNotOpened n image r × (put ≡ [])) ⊎ PlaysLog o n image r put

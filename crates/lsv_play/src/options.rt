@@ -19,7 +19,7 @@ pub struct Options {
 
 impl Options {
     ghost use Rattle.std.specs.Prelude.{◌≡◌};
-    ghost use Rattle.lsv_play.specs.Playing.{is_selected};
+    ghost use Rattle.lsv_play.specs.Schedule.{is_selected};
 
     /// Whether the bytes of this stream are shown.
     pub fn is_selected(&self, stream: Stream) -> bool

@@ -2,7 +2,7 @@ ghost use Rattle.std.specs.Prelude.{◌≡◌, ◌++◌, IsErr, List, OnOk, OnEr
 ghost use Rattle.lsv_base.specs.Outside.{HasCause};
 ghost use Rattle.lsv_play.specs.declared.screen.Item.{Item};
 ghost use Rattle.lsv_play.specs.Items.{IsPart};
-ghost use Rattle.lsv_play.specs.Playing.{bytes_shown, items_of, play, resumes};
+ghost use Rattle.lsv_play.specs.Schedule.{bytes_shown, items_of, play, resumes};
 
 use crate::{Options, Screen, wait_of};
 use lsv_base::SinkFault;

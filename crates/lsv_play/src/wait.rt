@@ -1,5 +1,5 @@
 ghost use Rattle.std.specs.Prelude.{◌≡◌};
-ghost use Rattle.lsv_play.specs.Playing.{wait_of};
+ghost use Rattle.lsv_play.specs.Schedule.{wait_of};
 
 use crate::Options;
 

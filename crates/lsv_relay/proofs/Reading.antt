@@ -14,7 +14,7 @@ use Rattle.lsv_info.specs.declared.times.Exit.{Exit}
 use Rattle.lsv_iolog.specs.Reading.{IsBehind, IsWhole, ViewState, committed_laid, committed_text}
 use Rattle.lsv_iolog.specs.Recovered as logs
 use Rattle.lsv_msg.specs.declared.messages.ClientMessage.{ClientMessage}
-use Rattle.lsv_playback.proofs.Stored.{some_of_all}
+use Rattle.lsv_play.proofs.Stored.{some_of_all}
 use Rattle.lsv_record.specs.Layout.{Begins, IsLayout}
 use Rattle.lsv_record.specs.Points.{first}
 use Rattle.lsv_record.specs.declared.laid.Laid.{Laid}

@@ -24,8 +24,8 @@ use Rattle.lsv_iolog.proofs.Viewing.{all_there}
 use Rattle.lsv_kept.specs.declared.state.State.{State}
 use Rattle.lsv_kept.specs.declared.state.State.TheVariants as states
 use Rattle.lsv_msg.specs.declared.messages.ClientMessage.{ClientMessage}
-use Rattle.lsv_playback.specs.Playing.{IsOpened}
-use Rattle.lsv_playback.proofs.Stored.{begins_log, is_layout, same_body, some_of_all}
+use Rattle.lsv_play.specs.Playing.{IsOpened}
+use Rattle.lsv_play.proofs.Stored.{begins_log, is_layout, same_body, some_of_all}
 use Rattle.lsv_record.specs.Layout.{Begins, IsLayout}
 use Rattle.lsv_record.specs.Points.{Stored, first}
 use Rattle.lsv_record.specs.declared.records.Record.{Record}

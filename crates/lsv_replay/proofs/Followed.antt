@@ -11,8 +11,8 @@ use Rattle.lsv_iolog.specs.Recovered.{Replays}
 use Rattle.lsv_play.specs.declared.options.Options.{Options}
 use Rattle.lsv_play.specs.declared.screen.Item.{Item}
 use Rattle.lsv_play.specs.Items.{IsPart}
-use Rattle.lsv_play.specs.Playing.{play}
-use Rattle.lsv_playback.specs.declared.fault.PlayFault.TheVariants as plays
+use Rattle.lsv_play.specs.Schedule.{play}
+use Rattle.lsv_play.specs.declared.fault.PlayFault.TheVariants as plays
 use Rattle.lsv_record.specs.Points.{Stored}
 use Rattle.lsv_replay_args.specs.Asked.{manner_in}
 use Rattle.lsv_replay_args.specs.Request.{Asked, Follow, Manner}

@@ -16,8 +16,8 @@ use Rattle.lsv_listing.specs.Numbers.{IsListed}
 use Rattle.lsv_play.specs.declared.screen.Item.{Item}
 use Rattle.lsv_follow.specs.declared.end.FollowEnd.{FollowEnd}
 use Rattle.lsv_follow.specs.declared.end.FollowEnd.TheVariants as ends
-use Rattle.lsv_playback.specs.declared.fault.PlayFault.{PlayFault}
-use Rattle.lsv_playback.specs.declared.fault.PlayFault.TheVariants as plays
+use Rattle.lsv_play.specs.declared.fault.PlayFault.{PlayFault}
+use Rattle.lsv_play.specs.declared.fault.PlayFault.TheVariants as plays
 use Rattle.lsv_search.specs.Grammar.{Expression, IsSearch}
 use Rattle.lsv_replay_args.specs.Asked.{task_in}
 use Rattle.lsv_replay_args.specs.declared.request.Task.{Task}

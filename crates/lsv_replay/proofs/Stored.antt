@@ -7,12 +7,12 @@ use Rattle.lsv_iolog.specs.Recovered.{Replays}
 use Rattle.lsv_play.specs.declared.options.Options.{Options}
 use Rattle.lsv_play.specs.declared.screen.Item.{Item}
 use Rattle.lsv_play.specs.Items.{IsPart}
-use Rattle.lsv_play.specs.Playing.{play}
-use Rattle.lsv_playback.specs.declared.fault.PlayFault.{PlayFault}
-use Rattle.lsv_playback.specs.declared.fault.PlayFault.TheVariants as plays
-use Rattle.lsv_playback.specs.Playing.{Plays}
-use Rattle.lsv_playback.proofs.Stored.{stored_part, stored_there, stored_whole}
-use Rattle.lsv_playback.proofs.Undamaged.{stored_undamaged}
+use Rattle.lsv_play.specs.Schedule.{play}
+use Rattle.lsv_play.specs.declared.fault.PlayFault.{PlayFault}
+use Rattle.lsv_play.specs.declared.fault.PlayFault.TheVariants as plays
+use Rattle.lsv_play.specs.Playing.{Plays}
+use Rattle.lsv_play.proofs.Stored.{stored_part, stored_there, stored_whole}
+use Rattle.lsv_play.proofs.Undamaged.{stored_undamaged}
 use Rattle.lsv_record.specs.Points.{Stored}
 use Rattle.lsv_replay_args.specs.Asked.{manner_in}
 use Rattle.lsv_replay_args.specs.Request.{Asked, Manner, Play}

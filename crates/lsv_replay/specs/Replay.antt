@@ -11,8 +11,8 @@ use Rattle.lsv_play.specs.declared.options.Options.{Options}
 use Rattle.lsv_play.specs.declared.screen.Item.{Item}
 use Rattle.lsv_follow.specs.declared.end.FollowEnd.{FollowEnd}
 use Rattle.lsv_follow.specs.Ending.{Follows}
-use Rattle.lsv_playback.specs.declared.fault.PlayFault.{PlayFault}
-use Rattle.lsv_playback.specs.Playing.{Plays}
+use Rattle.lsv_play.specs.declared.fault.PlayFault.{PlayFault}
+use Rattle.lsv_play.specs.Playing.{Plays}
 use Rattle.lsv_replay_args.specs.Asked.{manner_in}
 use Rattle.lsv_replay_args.specs.Program.{program}
 use Rattle.lsv_replay_args.specs.Request.{Asked, Follow, IsRefused, Manner, Play, Search}

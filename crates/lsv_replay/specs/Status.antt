@@ -4,8 +4,8 @@ use Rattle.lsv_listing.specs.declared.fault.ListFault.{ListFault}
 use Rattle.lsv_listing.specs.declared.fault.ListFault.TheVariants as lists
 use Rattle.lsv_follow.specs.declared.end.FollowEnd.{FollowEnd}
 use Rattle.lsv_follow.specs.declared.end.FollowEnd.TheVariants as follows
-use Rattle.lsv_playback.specs.declared.fault.PlayFault.{PlayFault}
-use Rattle.lsv_playback.specs.declared.fault.PlayFault.TheVariants as plays
+use Rattle.lsv_play.specs.declared.fault.PlayFault.{PlayFault}
+use Rattle.lsv_play.specs.declared.fault.PlayFault.TheVariants as plays
 use Rattle.lsv_replay.specs.declared.status.ReplayStatus.{ReplayStatus}
 use Rattle.lsv_replay.specs.declared.status.ReplayStatus.TheVariants.{Shown, Usage, BadExpression, Damaged, ReadFault, WriteFault, Resumed, Absent, NoMem, Quiet}
 

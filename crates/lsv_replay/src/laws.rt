@@ -7,7 +7,7 @@ ghost use Rattle.lsv_iolog.specs.Recovered.{Replays};
 ghost use Rattle.lsv_play.specs.declared.options.Options.{Options};
 ghost use Rattle.lsv_play.specs.declared.screen.Item.{Item};
 ghost use Rattle.lsv_play.specs.Items.{IsPart};
-ghost use Rattle.lsv_play.specs.Playing.{play};
+ghost use Rattle.lsv_play.specs.Schedule.{play};
 ghost use Rattle.lsv_record.specs.Points.{Stored};
 ghost use Rattle.lsv_replay_args.specs.Asked.{manner_in};
 ghost use Rattle.lsv_replay_args.specs.Request.{Manner};

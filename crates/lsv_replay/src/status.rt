@@ -6,7 +6,7 @@ use lsv_base::Bytes;
 use lsv_disk::Part;
 use lsv_follow::FollowEnd;
 use lsv_listing::ListFault;
-use lsv_playback::PlayFault;
+use lsv_play::PlayFault;
 use std::alloc::Global;
 
 /// How a run of the program ended.

@@ -14,8 +14,8 @@ use Rattle.lsv_iolog.specs.Reading.{IsBehind, IsFaultBehind, IsWhole, ViewState,
 use Rattle.lsv_iolog.specs.declared.fault.LogFault.{LogFault}
 use Rattle.lsv_iolog.specs.declared.fault.LogFault.TheVariants as logs
 use Rattle.lsv_msg.specs.declared.messages.ClientMessage.{ClientMessage}
-use Rattle.lsv_playback.specs.Playing.{laid_at}
-use Rattle.lsv_playback.proofs.Played.{same_image}
+use Rattle.lsv_play.specs.Playing.{laid_at}
+use Rattle.lsv_play.proofs.Played.{same_image}
 use Rattle.lsv_record.specs.declared.laid.Laid.{Laid}
 use Rattle.lsv_record.specs.declared.records.Record.{Record}
 use Rattle.lsv_request.specs.Stored.{record_message}

@@ -7,8 +7,8 @@ use Rattle.lsv_info.specs.declared.times.Head.{Head}
 use Rattle.lsv_iolog.specs.Reading.{ViewState, committed_laid}
 use Rattle.lsv_iolog.specs.declared.fault.LogFault.{LogFault}
 use Rattle.lsv_iolog.specs.declared.fault.LogFault.TheVariants as logs
-use Rattle.lsv_playback.specs.Playing.{IsOpened, laid_at}
-use Rattle.lsv_playback.proofs.Played.{same_image}
+use Rattle.lsv_play.specs.Playing.{IsOpened, laid_at}
+use Rattle.lsv_play.proofs.Played.{same_image}
 use Rattle.lsv_record.specs.Points.{first}
 use Rattle.lsv_record.specs.Records.{elapsed}
 use Rattle.lsv_record.specs.declared.laid.Laid.{Laid}

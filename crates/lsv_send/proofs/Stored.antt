@@ -12,8 +12,8 @@ use Rattle.lsv_info.specs.declared.times.Head.{Head}
 use Rattle.lsv_iolog.specs.Recovered.{Replays}
 use Rattle.lsv_msg.specs.declared.messages.ClientMessage.{ClientMessage}
 use Rattle.lsv_msg.specs.declared.messages.ServerMessage.{ServerMessage}
-use Rattle.lsv_playback.specs.Playing.{IsOpened, laid_at}
-use Rattle.lsv_playback.proofs.Stored.{begins_log, is_layout, some_of_all}
+use Rattle.lsv_play.specs.Playing.{IsOpened, laid_at}
+use Rattle.lsv_play.proofs.Stored.{begins_log, is_layout, some_of_all}
 use Rattle.lsv_record.specs.Layout.{Begins, IsLayout}
 use Rattle.lsv_record.specs.Points.{Stored, first}
 use Rattle.lsv_record.specs.Records.{delay_of, elapsed}

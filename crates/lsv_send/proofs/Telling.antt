@@ -14,8 +14,8 @@ use Rattle.lsv_info.specs.declared.times.Head.{Head}
 use Rattle.lsv_iolog.specs.Reading.{IsBehind, IsWhole, ViewState, committed_laid}
 use Rattle.lsv_msg.specs.declared.messages.ClientMessage.{ClientMessage}
 use Rattle.lsv_msg.specs.declared.messages.ServerMessage.{ServerMessage}
-use Rattle.lsv_playback.specs.Playing.{laid_at}
-use Rattle.lsv_playback.proofs.Played.{same_image}
+use Rattle.lsv_play.specs.Playing.{laid_at}
+use Rattle.lsv_play.proofs.Played.{same_image}
 use Rattle.lsv_record.specs.Layout.{Begins, IsLayout}
 use Rattle.lsv_record.specs.Records.{elapsed}
 use Rattle.lsv_record.specs.declared.laid.Laid.{Laid}

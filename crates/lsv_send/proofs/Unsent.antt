@@ -15,8 +15,8 @@ use Rattle.lsv_iolog.specs.Recovered.{Replays}
 use Rattle.lsv_msg.specs.declared.messages.ClientMessage.{ClientMessage}
 use Rattle.lsv_msg.specs.declared.messages.ServerMessage.{ServerMessage}
 use Rattle.lsv_msg.specs.declared.messages.ServerMessage.TheVariants as server
-use Rattle.lsv_playback.specs.Playing.{IsOpened, laid_at}
-use Rattle.lsv_playback.proofs.Stored.{some_of_all}
+use Rattle.lsv_play.specs.Playing.{IsOpened, laid_at}
+use Rattle.lsv_play.proofs.Stored.{some_of_all}
 use Rattle.lsv_record.specs.Points.{Stored}
 use Rattle.lsv_record.specs.Records.{elapsed}
 use Rattle.lsv_record.specs.declared.records.Record.{Record}

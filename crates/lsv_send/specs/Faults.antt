@@ -11,7 +11,7 @@ use Rattle.lsv_iolog.specs.Reading.{IsFaultBehind}
 use Rattle.lsv_iolog.specs.declared.fault.LogFault.{LogFault}
 use Rattle.lsv_iolog.specs.declared.fault.LogFault.TheVariants as logs
 use Rattle.lsv_msg.specs.declared.messages.ServerMessage.{ServerMessage}
-use Rattle.lsv_playback.specs.Playing.{laid_at, text_at}
+use Rattle.lsv_play.specs.Playing.{laid_at, text_at}
 use Rattle.lsv_record.specs.Records.{elapsed}
 use Rattle.lsv_record.specs.declared.records.Record.{Record}
 use Rattle.lsv_transcript.specs.Transcript.{is_id}

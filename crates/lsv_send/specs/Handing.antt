@@ -10,7 +10,7 @@ use Rattle.lsv_info.specs.declared.times.Exit.{Exit}
 use Rattle.lsv_info.specs.declared.times.Head.{Head}
 use Rattle.lsv_msg.specs.declared.messages.ClientMessage.{ClientMessage}
 use Rattle.lsv_msg.specs.declared.messages.ServerMessage.{ServerMessage}
-use Rattle.lsv_playback.specs.Playing.{AreAll, laid_at, text_at}
+use Rattle.lsv_play.specs.Playing.{AreAll, laid_at, text_at}
 use Rattle.lsv_record.specs.Layout.{Begins}
 use Rattle.lsv_record.specs.Records.{elapsed}
 use Rattle.lsv_record.specs.declared.laid.Laid.{Laid}

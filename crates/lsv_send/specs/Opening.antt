@@ -10,7 +10,7 @@ use Rattle.lsv_iolog.specs.Recovered.{Replays}
 use Rattle.lsv_iolog.specs.declared.fault.LogFault.{LogFault}
 use Rattle.lsv_iolog.specs.declared.fault.LogFault.TheVariants as logs
 use Rattle.lsv_msg.specs.declared.messages.ClientMessage.{ClientMessage}
-use Rattle.lsv_playback.specs.Playing.{AreAll, IsOpened, laid_at}
+use Rattle.lsv_play.specs.Playing.{AreAll, IsOpened, laid_at}
 use Rattle.lsv_record.specs.Layout.{Begins}
 use Rattle.lsv_record.specs.Points.{first}
 use Rattle.lsv_record.specs.Records.{elapsed}

@@ -14,7 +14,7 @@ use Rattle.lsv_iolog.specs.declared.fault.LogFault.{LogFault}
 use Rattle.lsv_iolog.specs.declared.fault.LogFault.TheVariants as logs
 use Rattle.lsv_link.specs.Link.{LinkCounts, LinkState}
 use Rattle.lsv_msg.specs.declared.messages.ServerMessage.{ServerMessage}
-use Rattle.lsv_playback.specs.Playing.{IsOpened}
+use Rattle.lsv_play.specs.Playing.{IsOpened}
 use Rattle.lsv_record.specs.declared.records.Record.{Record}
 use Rattle.lsv_send_args.specs.Request.{Asked, Sending}
 use Rattle.lsv_defs.specs.Pieces.{IsPrefix}

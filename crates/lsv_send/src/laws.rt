@@ -7,7 +7,7 @@ ghost use Rattle.lsv_dialogue.specs.declared.ends.End.TheVariants as ends;
 ghost use Rattle.lsv_disk.specs.View.{Image};
 ghost use Rattle.lsv_info.specs.declared.times.Exit.{Exit};
 ghost use Rattle.lsv_iolog.specs.Recovered.{Replays};
-ghost use Rattle.lsv_playback.specs.Playing.{IsOpened};
+ghost use Rattle.lsv_play.specs.Playing.{IsOpened};
 ghost use Rattle.lsv_record.specs.Points.{Stored};
 ghost use Rattle.lsv_transcript.specs.Plan.{Plan};
 ghost use Rattle.lsv_transcript.specs.Transcript.{may_say};

@@ -4,8 +4,8 @@ use Rattle.lsv_disk.specs.View.{DiskView}
 use Rattle.lsv_disk.proofs.Composition.{reads_trans}
 use Rattle.lsv_iolog.specs.declared.fault.LogFault.TheVariants as logs
 use Rattle.lsv_iolog.proofs.Viewing.{err_of}
-use Rattle.lsv_playback.specs.declared.fault.PlayFault.TheVariants as plays
-use Rattle.lsv_playback.proofs.Played.{own_cause, screen_none}
+use Rattle.lsv_play.specs.declared.fault.PlayFault.TheVariants as plays
+use Rattle.lsv_play.proofs.Played.{own_cause, screen_none}
 use Rattle.lsv_follow.specs.Faults.{of_opening}
 use Rattle.lsv_follow.specs.declared.end.FollowEnd.TheVariants as ends
 use Rattle.lsv_follow.proofs.Looking.{end_same, open_fails, opened_cuts, opened_follows, opening_disk, opening_screen}

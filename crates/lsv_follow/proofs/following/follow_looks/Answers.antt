@@ -5,8 +5,8 @@ use Rattle.lsv_disk.proofs.Composition.{reads_trans}
 use Rattle.lsv_iolog.specs.declared.fault.LogFault.{LogFault}
 use Rattle.lsv_iolog.specs.declared.fault.LogFault.TheVariants as logs
 use Rattle.lsv_record.specs.declared.records.Record.{Record}
-use Rattle.lsv_playback.specs.declared.fault.PlayFault.TheVariants as plays
-use Rattle.lsv_playback.proofs.Played.{own_cause, own_none, screen_cause, screen_none}
+use Rattle.lsv_play.specs.declared.fault.PlayFault.TheVariants as plays
+use Rattle.lsv_play.proofs.Played.{own_cause, own_none, screen_cause, screen_none}
 use Rattle.lsv_follow.specs.Faults.{of_look}
 use Rattle.lsv_follow.specs.Following.{cuts_seen}
 use Rattle.lsv_follow.specs.declared.end.FollowEnd.{FollowEnd}

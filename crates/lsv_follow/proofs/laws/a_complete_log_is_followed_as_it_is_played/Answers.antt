@@ -2,7 +2,7 @@
 use Rattle.std.proofs.Common.{◌≡◌, List, [], ◌∷◌, ◌++◌, map, append_assoc, refl, sym, ap, ◌∙◌}
 use Rattle.lsv_play.specs.declared.options.Options.{Options}
 use Rattle.lsv_play.specs.declared.screen.Item.{Item}
-use Rattle.lsv_play.specs.Playing.{items_of, play}
+use Rattle.lsv_play.specs.Schedule.{items_of, play}
 use Rattle.lsv_record.specs.declared.records.Record.{Record}
 use Rattle.lsv_follow.specs.declared.follow.Seen.{Seen}
 use Rattle.lsv_follow.specs.declared.follow.Seen.TheVariants as seen

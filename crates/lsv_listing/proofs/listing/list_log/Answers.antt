@@ -6,8 +6,8 @@ use Rattle.lsv_disk.specs.View.{DiskView}
 use Rattle.lsv_info.specs.declared.times.Head.{Head}
 use Rattle.lsv_iolog.specs.declared.fault.LogFault.TheVariants as logs
 use Rattle.lsv_iolog.proofs.Viewing.{err_of}
-use Rattle.lsv_playback.specs.Playing.{IsOpened}
-use Rattle.lsv_playback.proofs.Played.{opened_log}
+use Rattle.lsv_play.specs.Playing.{IsOpened}
+use Rattle.lsv_play.proofs.Played.{opened_log}
 use Rattle.lsv_listing.specs.Listing.{IsFound, There}
 use Rattle.lsv_listing.specs.Walk.{ListsOne}
 use Rattle.lsv_listing.specs.declared.fault.ListFault.{ListFault}

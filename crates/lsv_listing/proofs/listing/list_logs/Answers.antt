@@ -1,7 +1,7 @@
 -- The numbers are read, and then the logs are listed.
 use Rattle.std.proofs.Common.{[], None, Some, Err, inl, append-nil, subst, sym}
 use Rattle.lsv_disk.specs.View.{DiskView, Image}
-use Rattle.lsv_playback.proofs.Played.{same_image}
+use Rattle.lsv_play.proofs.Played.{same_image}
 use Rattle.lsv_listing.specs.Walk.{ListsTo}
 use Rattle.lsv_listing.proofs.Answers.{err_as}
 use Rattle.lsv_listing.proofs.Drawing.{last_small}

@@ -1,7 +1,7 @@
 -- Lane 0 says how many lanes there are, and all of them are gone through.
 use Rattle.std.proofs.Common.{◌≡◌, ◌≢◌, ℕ, Some, None, subst}
 use Rattle.lsv_disk.specs.View.{DiskView, Image}
-use Rattle.lsv_playback.proofs.Played.{same_image}
+use Rattle.lsv_play.proofs.Played.{same_image}
 use Rattle.lsv_listing.specs.Numbers.{greatest, last_number}
 use Rattle.lsv_listing.specs.declared.fault.ListFault.{ListFault}
 use Rattle.lsv_listing.specs.declared.fault.ListFault.TheVariants as faults

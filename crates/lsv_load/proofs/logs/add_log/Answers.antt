@@ -6,7 +6,7 @@ use Rattle.lsv_bundle.specs.declared.body.Body.{Body}
 use Rattle.lsv_iolog.specs.declared.fault.LogFault.TheVariants as logs
 use Rattle.lsv_iolog.specs.Recovered.{Replays}
 use Rattle.lsv_iolog.proofs.Viewing.{err_of}
-use Rattle.lsv_playback.specs.Playing.{text_at}
+use Rattle.lsv_play.specs.Playing.{text_at}
 use Rattle.lsv_disk.specs.declared.file.Part.TheVariants.{Exit}
 use Rattle.lsv_record.specs.Points.{Stored}
 use Rattle.lsv_load.specs.InnerSums.{IsFitting, IsUnread}

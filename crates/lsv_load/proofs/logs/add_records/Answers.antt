@@ -5,7 +5,7 @@ use Rattle.lsv_iolog.specs.declared.fault.LogFault.TheVariants as logs
 use Rattle.lsv_iolog.specs.Reading.{IsBehind, IsWhole}
 use Rattle.lsv_iolog.proofs.Scans.{if_none_at, if_some_at, none_there}
 use Rattle.lsv_iolog.proofs.Viewing.{err_is, err_of}
-use Rattle.lsv_playback.proofs.Played.{own_cause, own_none}
+use Rattle.lsv_play.proofs.Played.{own_cause, own_none}
 use Rattle.lsv_record.specs.declared.records.Record.{Record}
 use Rattle.lsv_load.specs.InnerSums.{IsUnread}
 use Rattle.lsv_load.proofs.Adding.{adding_goes_on, adding_starts, err_holds, next_ends, next_fails}

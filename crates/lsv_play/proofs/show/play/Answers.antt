@@ -1,6 +1,6 @@
 use Rattle.std.proofs.Common.{◌∙◌, ◌++◌, List, take, refl, ap, append_assoc, arith}
 use Rattle.lsv_play.specs.declared.screen.Item.{Item}
-use Rattle.lsv_play.specs.Playing.{play}
+use Rattle.lsv_play.specs.Schedule.{play}
 use Rattle.lsv_play.proofs.Parts.{on_err, part_there}
 use Rattle.lsv_play.proofs.show.play.Goals as goal
 

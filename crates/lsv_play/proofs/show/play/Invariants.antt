@@ -1,5 +1,5 @@
 use Rattle.std.proofs.Common.{◌≡◌, ◌++◌, ◌≤◌, take}
-use Rattle.lsv_play.specs.Playing.{play}
+use Rattle.lsv_play.specs.Schedule.{play}
 use Rattle.lsv_play.proofs.show.play.Given as goal
 
 abbrev pub invariant-loop-r : goal.invariant-loop-r

@@ -2,7 +2,7 @@
 use Rattle.std.proofs.Common.{◌≡◌, ◌∙◌, ◌++◌, ℕ, List, [], ◌∷◌, inl, refl, ap, append_assoc, rules}
 use Rattle.lsv_play.specs.declared.screen.Item.{Item}
 use Rattle.lsv_play.specs.declared.screen.Item.TheVariants.{Wait}
-use Rattle.lsv_play.specs.Playing.{resumes, wait_of}
+use Rattle.lsv_play.specs.Schedule.{resumes, wait_of}
 use Rattle.lsv_record.specs.Records.{delay_of}
 use Rattle.lsv_play.proofs.Parts.{if_err}
 use Rattle.lsv_play.proofs.show.play_record.Goals as goal

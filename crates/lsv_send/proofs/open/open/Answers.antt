@@ -2,7 +2,7 @@ use Rattle.std.proofs.Common.{◌∙◌, ap}
 use Rattle.std.specs.Prelude.{option_map}
 use Rattle.std.proofs.lemmas.Result.{IfErr-weaker, IfOk-weaker}
 use Rattle.lsv_disk.proofs.Composition.{reads_trans}
-use Rattle.lsv_playback.proofs.Played.{opened_log}
+use Rattle.lsv_play.proofs.Played.{opened_log}
 use Rattle.lsv_send_args.specs.Asked.{goes_in, what_in}
 use Rattle.lsv_send_args.specs.Request.{Records}
 use Rattle.lsv_send.proofs.Opened.{resumed_not, resumed_opens}

@@ -9,7 +9,7 @@ use Rattle.lsv_iolog.specs.declared.fault.LogFault.TheVariants as logs
 use Rattle.lsv_iolog.specs.Reading.{IsBehind, IsWhole, ViewState}
 use Rattle.lsv_iolog.proofs.Scans.{if_none_at, if_some_at}
 use Rattle.lsv_iolog.proofs.Viewing.{err_of}
-use Rattle.lsv_playback.proofs.Played.{same_image}
+use Rattle.lsv_play.proofs.Played.{same_image}
 use Rattle.lsv_follow.specs.Faults.{of_log}
 use Rattle.lsv_follow.specs.declared.fault.FollowFault.{FollowFault}
 use Rattle.lsv_follow.specs.declared.fault.FollowFault.TheVariants.{Log}

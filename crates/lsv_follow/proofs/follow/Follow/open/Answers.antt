@@ -3,7 +3,7 @@ use Rattle.std.proofs.Common.{◌≡◌, ◌⊎◌, refl, sym, subst}
 use Rattle.lsv_iolog.specs.declared.fault.LogFault.{LogFault}
 use Rattle.lsv_iolog.specs.declared.fault.LogFault.TheVariants as logs
 use Rattle.lsv_iolog.proofs.Viewing.{err_of}
-use Rattle.lsv_playback.proofs.Undamaged.{no_view_damage}
+use Rattle.lsv_play.proofs.Undamaged.{no_view_damage}
 use Rattle.lsv_follow.proofs.Causes.{if_err_at, open_fault}
 use Rattle.lsv_follow.proofs.Follows.{cuts_are, not_absent}
 use Rattle.lsv_follow.proofs.follow.Follow.open.Goals as goal

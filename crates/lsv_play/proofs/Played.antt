@@ -25,12 +25,12 @@ use Rattle.lsv_record.specs.Records.{elapsed}
 use Rattle.lsv_play.specs.declared.options.Options.{Options}
 use Rattle.lsv_play.specs.declared.screen.Item.{Item}
 use Rattle.lsv_play.specs.Items.{IsPart}
-use Rattle.lsv_play.specs.Playing.{items_of, play}
+use Rattle.lsv_play.specs.Schedule.{items_of, play}
 use Rattle.lsv_play.proofs.Parts.{part_behind, part_whole, play_append}
-use Rattle.lsv_playback.specs.Faults.{of_log}
-use Rattle.lsv_playback.specs.Playing.{IsNotOpened, IsOpened, Plays, PlaysRecords, laid_at, text_at, AreGiven, IsSoundSoFar}
-use Rattle.lsv_playback.specs.declared.fault.PlayFault.{PlayFault}
-use Rattle.lsv_playback.specs.declared.fault.PlayFault.TheVariants as faults
+use Rattle.lsv_play.specs.Faults.{of_log}
+use Rattle.lsv_play.specs.Playing.{IsNotOpened, IsOpened, Plays, PlaysRecords, laid_at, text_at, AreGiven, IsSoundSoFar}
+use Rattle.lsv_play.specs.declared.fault.PlayFault.{PlayFault}
+use Rattle.lsv_play.specs.declared.fault.PlayFault.TheVariants as faults
 
 -- a disk that was only read reads as before
 pub same_image : (old new : DiskView) → OnlyReads old new → new.reads ≡ old.reads

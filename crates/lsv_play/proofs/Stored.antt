@@ -26,11 +26,11 @@ use Rattle.lsv_record.proofs.Once.{laid_is_read, one_begins, one_layout}
 use Rattle.lsv_play.specs.declared.options.Options.{Options}
 use Rattle.lsv_play.specs.declared.screen.Item.{Item}
 use Rattle.lsv_play.specs.Items.{IsPart}
-use Rattle.lsv_play.specs.Playing.{play}
+use Rattle.lsv_play.specs.Schedule.{play}
 use Rattle.lsv_play.proofs.Parts.{part_of_more, part_whole, play_append}
-use Rattle.lsv_playback.specs.Playing.{IsOpened, Plays, PlaysRecords, laid_at, text_at}
-use Rattle.lsv_playback.specs.declared.fault.PlayFault.{PlayFault}
-use Rattle.lsv_playback.specs.declared.fault.PlayFault.TheVariants.{Absent, Damaged, Disk, Screen, NoMem}
+use Rattle.lsv_play.specs.Playing.{IsOpened, Plays, PlaysRecords, laid_at, text_at}
+use Rattle.lsv_play.specs.declared.fault.PlayFault.{PlayFault}
+use Rattle.lsv_play.specs.declared.fault.PlayFault.TheVariants.{Absent, Damaged, Disk, Screen, NoMem}
 
 -- ---- the bytes that are committed are the log's
 

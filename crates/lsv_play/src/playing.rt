@@ -6,14 +6,13 @@ ghost use Rattle.lsv_disk.specs.View.{HasOwnCause};
 ghost use Rattle.lsv_iolog.specs.Reading.{IsBehind};
 ghost use Rattle.lsv_iolog.specs.Recovered.{IsOfLog};
 ghost use Rattle.lsv_play.specs.declared.screen.Item.{Item};
-ghost use Rattle.lsv_playback.specs.Playing.{Plays, PlaysRecords, laid_at};
-ghost use Rattle.lsv_playback.specs.declared.fault.PlayFault.TheVariants as faults;
+ghost use Rattle.lsv_play.specs.Playing.{Plays, PlaysRecords, laid_at};
+ghost use Rattle.lsv_play.specs.declared.fault.PlayFault.TheVariants as faults;
 
-use crate::PlayFault;
+use crate::{Options, PlayFault, Screen, play_record};
 use lsv_base::LogNo;
 use lsv_disk::Disk;
 use lsv_iolog::LogView;
-use lsv_play::{Options, Screen, play_record};
 use std::alloc::Global;
 
 /// Plays the log of this number, as its files read: what is put before it stops is a first part of its records.

@@ -4,10 +4,10 @@ use Rattle.lsv_disk.specs.View.{DiskView}
 use Rattle.lsv_disk.proofs.Composition.{reads_trans}
 use Rattle.lsv_iolog.specs.declared.fault.LogFault.TheVariants as logs
 use Rattle.lsv_iolog.proofs.Viewing.{err_of}
-use Rattle.lsv_playback.specs.Faults.{of_log}
-use Rattle.lsv_playback.specs.declared.fault.PlayFault.TheVariants as faults
-use Rattle.lsv_playback.proofs.Played.{err_same, log_disk, log_screen, open_fails, opened_log, opened_plays, own_cause, screen_none}
-use Rattle.lsv_playback.proofs.playing.play_log.Goals as goal
+use Rattle.lsv_play.specs.Faults.{of_log}
+use Rattle.lsv_play.specs.declared.fault.PlayFault.TheVariants as faults
+use Rattle.lsv_play.proofs.Played.{err_same, log_disk, log_screen, open_fails, opened_log, opened_plays, own_cause, screen_none}
+use Rattle.lsv_play.proofs.playing.play_log.Goals as goal
 
 pub returns-in_err-log-clause-played : goal.returns-in_err-log-clause-played
 returns-in_err-log-clause-played g c told = (

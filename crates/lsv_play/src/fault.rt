@@ -1,6 +1,6 @@
 ghost use Rattle.std.specs.Prelude.{◌≡◌};
-ghost use Rattle.lsv_playback.specs.Faults.{of_log};
-ghost use Rattle.lsv_playback.specs.declared.fault.PlayFault.TheVariants as faults;
+ghost use Rattle.lsv_play.specs.Faults.{of_log};
+ghost use Rattle.lsv_play.specs.declared.fault.PlayFault.TheVariants as faults;
 
 use lsv_base::SinkFault;
 use lsv_disk::Part;

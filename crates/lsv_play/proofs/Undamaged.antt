@@ -31,9 +31,9 @@ use Rattle.lsv_record.proofs.Layouts.{elapsed-append, elapsed-push, stream_of-ap
 use Rattle.lsv_record.proofs.Once.{data_length, line_behind, one_begins, one_line}
 use Rattle.lsv_play.specs.declared.options.Options.{Options}
 use Rattle.lsv_play.specs.declared.screen.Item.{Item}
-use Rattle.lsv_playback.specs.Playing.{Plays, laid_at}
-use Rattle.lsv_playback.specs.declared.fault.PlayFault.TheVariants.{Damaged}
-use Rattle.lsv_playback.proofs.Stored.{begins_log, is_layout, same_body, some_of_all}
+use Rattle.lsv_play.specs.Playing.{Plays, laid_at}
+use Rattle.lsv_play.specs.declared.fault.PlayFault.TheVariants.{Damaged}
+use Rattle.lsv_play.proofs.Stored.{begins_log, is_layout, same_body, some_of_all}
 
 one_some : (o : Option (List ℕ)) (a b : List ℕ) → o ≡ Some a → o ≡ Some b → a ≡ b
 one_some o a b one two = cc

@@ -6,11 +6,11 @@ use Rattle.lsv_iolog.specs.Reading.{IsBehind, IsWhole}
 use Rattle.lsv_iolog.proofs.Scans.{if_none_at, if_some_at, none_there}
 use Rattle.lsv_iolog.proofs.Viewing.{err_of}
 use Rattle.lsv_record.specs.declared.records.Record.{Record}
-use Rattle.lsv_playback.specs.Faults.{of_log}
-use Rattle.lsv_playback.specs.declared.fault.PlayFault.{PlayFault}
-use Rattle.lsv_playback.specs.declared.fault.PlayFault.TheVariants as faults
-use Rattle.lsv_playback.proofs.Played.{err_same, log_disk, log_screen, loop_ends, memory_no_disk, memory_no_screen, next_ends, next_fails, no_disk, ok_no_err, own_cause, own_none, playing_goes_on, playing_starts, screen_cause, screen_none, show_fails}
-use Rattle.lsv_playback.proofs.playing.play_records.Goals as goal
+use Rattle.lsv_play.specs.Faults.{of_log}
+use Rattle.lsv_play.specs.declared.fault.PlayFault.{PlayFault}
+use Rattle.lsv_play.specs.declared.fault.PlayFault.TheVariants as faults
+use Rattle.lsv_play.proofs.Played.{err_same, log_disk, log_screen, loop_ends, memory_no_disk, memory_no_screen, next_ends, next_fails, no_disk, ok_no_err, own_cause, own_none, playing_goes_on, playing_starts, screen_cause, screen_none, show_fails}
+use Rattle.lsv_play.proofs.playing.play_records.Goals as goal
 
 pub records-init : goal.records-init
 records-init g c =

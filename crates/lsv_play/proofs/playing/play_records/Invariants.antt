@@ -1,5 +1,5 @@
-use Rattle.lsv_playback.proofs.Played.{IsPlaying}
-use Rattle.lsv_playback.proofs.playing.play_records.Given as goal
+use Rattle.lsv_play.proofs.Played.{IsPlaying}
+use Rattle.lsv_play.proofs.playing.play_records.Given as goal
 
 -- the view stands after the records that are put
 abbrev pub invariant-records : goal.invariant-records

@@ -6,11 +6,11 @@ ghost use Rattle.lsv_iolog.specs.Recovered.{Replays};
 ghost use Rattle.lsv_play.specs.declared.options.Options.{Options};
 ghost use Rattle.lsv_play.specs.declared.screen.Item.{Item};
 ghost use Rattle.lsv_play.specs.Items.{IsPart};
-ghost use Rattle.lsv_play.specs.Playing.{play};
+ghost use Rattle.lsv_play.specs.Schedule.{play};
 ghost use Rattle.lsv_record.specs.Points.{Stored};
-ghost use Rattle.lsv_playback.specs.Playing.{Plays};
-ghost use Rattle.lsv_playback.specs.declared.fault.PlayFault.{PlayFault};
-ghost use Rattle.lsv_playback.specs.declared.fault.PlayFault.TheVariants as faults;
+ghost use Rattle.lsv_play.specs.Playing.{Plays};
+ghost use Rattle.lsv_play.specs.declared.fault.PlayFault.{PlayFault};
+ghost use Rattle.lsv_play.specs.declared.fault.PlayFault.TheVariants as faults;
 
 /// Of a log that the disk holds, what is put is a first part of the schedule of its records, and at the end all of it;
 /// and such a log is never said to be absent or damaged.

@@ -1,8 +1,8 @@
 -- A fault of a log that is read, as one of its playing.
 use Rattle.lsv_iolog.specs.declared.fault.LogFault.{LogFault}
 use Rattle.lsv_iolog.specs.declared.fault.LogFault.TheVariants as logs
-use Rattle.lsv_playback.specs.declared.fault.PlayFault.{PlayFault}
-use Rattle.lsv_playback.specs.declared.fault.PlayFault.TheVariants.{Absent, Damaged, Disk, NoMem}
+use Rattle.lsv_play.specs.declared.fault.PlayFault.{PlayFault}
+use Rattle.lsv_play.specs.declared.fault.PlayFault.TheVariants.{Absent, Damaged, Disk, NoMem}
 
 -- the same fault; those that never come of reading count as want of memory
 abbrev pub of_log : LogFault → PlayFault

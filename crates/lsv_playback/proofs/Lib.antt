@@ -1,3 +1,0 @@
-pub mod Played
-pub mod Stored
-pub mod Undamaged

@@ -1,6 +1,0 @@
-use Rattle.lsv_playback.proofs.Stored.{stored_part, stored_there, stored_whole}
-use Rattle.lsv_playback.proofs.Undamaged.{stored_undamaged}
-use Rattle.lsv_playback.proofs.laws.a_stored_log_is_played.Goals as goal
-
-pub returns : goal.returns
-returns c = record { part = stored_part; whole = stored_whole; there = stored_there (Unit {0}); undamaged = stored_undamaged (Unit {0}) }
