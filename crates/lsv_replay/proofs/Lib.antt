@@ -1,3 +1,9 @@
+pub mod Cases
+pub mod Drawing
 pub mod Followed
+pub mod Found
+pub mod Heads
+pub mod Held
+pub mod Listed
 pub mod Replayed
 pub mod Stored

@@ -10,9 +10,9 @@ use Rattle.lsv_disk.specs.Throughout.{OnlyReads}
 use Rattle.lsv_disk.specs.View.{Image, DiskView, HasOwnCause, IsUntouched}
 use Rattle.lsv_disk.proofs.Composition.{OnlyNow, unchanged_reads}
 use Rattle.lsv_iolog.specs.Recovered.{IsOfLog}
-use Rattle.lsv_listing.specs.declared.fault.ListFault.{ListFault}
-use Rattle.lsv_listing.specs.declared.fault.ListFault.TheVariants as lists
-use Rattle.lsv_listing.specs.Numbers.{IsListed}
+use Rattle.lsv_replay.specs.declared.fault.ListFault.{ListFault}
+use Rattle.lsv_replay.specs.declared.fault.ListFault.TheVariants as lists
+use Rattle.lsv_replay.specs.Numbers.{IsListed}
 use Rattle.lsv_play.specs.declared.screen.Item.{Item}
 use Rattle.lsv_follow.specs.declared.end.FollowEnd.{FollowEnd}
 use Rattle.lsv_follow.specs.declared.end.FollowEnd.TheVariants as ends

@@ -5,8 +5,8 @@ use Rattle.std.specs.Str.{is_utf8}
 use Rattle.clap.specs.Faults.{fault_of}
 use Rattle.lsv_base.specs.LogNo.{log_no_in}
 use Rattle.lsv_disk.specs.View.{Image, DiskView, IsCrashImage, Quiet, Uncounted}
-use Rattle.lsv_listing.specs.declared.fault.ListFault.{ListFault}
-use Rattle.lsv_listing.specs.Listing.{Lists}
+use Rattle.lsv_replay.specs.declared.fault.ListFault.{ListFault}
+use Rattle.lsv_replay.specs.Listing.{Lists}
 use Rattle.lsv_play.specs.declared.options.Options.{Options}
 use Rattle.lsv_play.specs.declared.screen.Item.{Item}
 use Rattle.lsv_follow.specs.declared.end.FollowEnd.{FollowEnd}

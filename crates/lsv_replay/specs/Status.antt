@@ -1,7 +1,7 @@
 -- How a run ended, as the program tells it.
 use Rattle.std.specs.Prelude.{ℕ, List, [], ◌++◌, codes, decimal, Result, Ok, Err}
-use Rattle.lsv_listing.specs.declared.fault.ListFault.{ListFault}
-use Rattle.lsv_listing.specs.declared.fault.ListFault.TheVariants as lists
+use Rattle.lsv_replay.specs.declared.fault.ListFault.{ListFault}
+use Rattle.lsv_replay.specs.declared.fault.ListFault.TheVariants as lists
 use Rattle.lsv_follow.specs.declared.end.FollowEnd.{FollowEnd}
 use Rattle.lsv_follow.specs.declared.end.FollowEnd.TheVariants as follows
 use Rattle.lsv_play.specs.declared.fault.PlayFault.{PlayFault}

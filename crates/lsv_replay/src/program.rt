@@ -7,7 +7,7 @@ ghost use Rattle.lsv_base.specs.LogNo.{log_no_in};
 ghost use Rattle.lsv_base.specs.Outside.{HasCause};
 ghost use Rattle.lsv_disk.specs.Throughout.{OnlyReads};
 ghost use Rattle.lsv_disk.specs.View.{HasOwnCause};
-ghost use Rattle.lsv_listing.specs.Numbers.{IsListed};
+ghost use Rattle.lsv_replay.specs.Numbers.{IsListed};
 ghost use Rattle.lsv_play.specs.declared.screen.Item.{Item};
 ghost use Rattle.lsv_replay_args.specs.Asked.{IsTextual, asked_in, manner_in, task_in};
 ghost use Rattle.lsv_replay_args.specs.Request.{Asked, Follow, Play, Search, dir_asked};
@@ -15,11 +15,10 @@ ghost use Rattle.lsv_replay.specs.Replay.{Answers, Asks, Does, FollowsNumber, Ha
 ghost use Rattle.lsv_replay.specs.Tasks.{IsOfTask};
 ghost use Rattle.lsv_replay.specs.declared.status.ReplayStatus.TheVariants as statuses;
 
-use crate::ReplayStatus;
+use crate::{ReplayStatus, list_logs};
 use lsv_base::{Bytes, List, LogNo};
 use lsv_disk::Disk;
 use lsv_follow::follow_log;
-use lsv_listing::list_logs;
 use lsv_play::{Options, Screen, play_log};
 use lsv_replay_args::{ArgFault, Request, Task, read_request};
 use lsv_search::{ExprFault, read_expr};
@@ -94,14 +93,14 @@ fn do_task<D: Disk, S: Screen>(
     ensures screen { HasCause (result ≡ statuses.WriteFault) (S.faults screen.old) (S.faults screen.new) }
 {
     match task {
-        Task::Play(options, id) => play(alloc, options, id, disk, screen),
-        Task::Follow(options, id) => follow(alloc, options, id, disk, screen),
-        Task::List(words) => list(alloc, words, disk, screen),
+        Task::Play(options, id) => play_id(alloc, options, id, disk, screen),
+        Task::Follow(options, id) => follow_id(alloc, options, id, disk, screen),
+        Task::List(words) => list_searched(alloc, words, disk, screen),
     }
 }
 
 /// Plays the log with this identifier.
-fn play<D: Disk, S: Screen>(
+fn play_id<D: Disk, S: Screen>(
     alloc: Global,
     options: &Options,
     id: &Bytes,
@@ -121,7 +120,7 @@ fn play<D: Disk, S: Screen>(
 }
 
 /// Follows the log with this identifier.
-fn follow<D: Disk, S: Screen>(
+fn follow_id<D: Disk, S: Screen>(
     alloc: Global,
     options: &Options,
     id: &Bytes,
@@ -143,7 +142,7 @@ fn follow<D: Disk, S: Screen>(
 }
 
 /// Lists the logs that these words search for.
-fn list<D: Disk, S: Screen>(
+fn list_searched<D: Disk, S: Screen>(
     alloc: Global,
     words: &List<Bytes>,
     disk: &mut D,

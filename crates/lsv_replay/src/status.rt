@@ -1,11 +1,11 @@
 ghost use Rattle.std.specs.Prelude.{◌≡◌, IfOk};
 ghost use Rattle.lsv_replay.specs.Status.{number_of, of_following, of_listing, of_playing, text_of};
 
+use crate::ListFault;
 use itoa::Buffer;
 use lsv_base::Bytes;
 use lsv_disk::Part;
 use lsv_follow::FollowEnd;
-use lsv_listing::ListFault;
 use lsv_play::PlayFault;
 use std::alloc::Global;
 

@@ -3,8 +3,8 @@
 use lsv_base::LogNo;
 use lsv_disk::{Disk, Part};
 use lsv_iolog::{LogFault, LogView};
-use lsv_listing::{ListFault, last_number};
 use lsv_real::{Lack, ReadOnlyDisk, Uncovered, folder_of_log, has_numbers, lack_of, uncovered_in};
+use lsv_replay::{ListFault, last_number};
 use std::str;
 
 /// Says which logs a listing passed over though their files are there: those above the last number, those whose journal is gone or

@@ -1,5 +1,0 @@
-use Rattle.lsv_listing.proofs.Stored.{absent_found, stored_found}
-use Rattle.lsv_listing.proofs.laws.a_stored_log_is_found.Goals as goal
-
-pub returns : goal.returns
-returns c = record { stored = stored_found; absent = absent_found }
