@@ -1,7 +1,1 @@
-pub mod Untold
-pub mod Places
 pub mod UntoldPort
-pub mod Made
-pub mod Drawn
-pub mod Misplaced
-pub mod Doubts

@@ -4,7 +4,7 @@ ghost use Rattle.lsv_bundle.specs.declared.shape.Shape.TheVariants.{Log};
 
 use lsv_bundle::{Bundle, BundleFault, Shape};
 use lsv_disk::{Disk, DiskFault, FileId, Owner, Part};
-use lsv_real::FileDisk;
+use lsv_real_disk::FileDisk;
 use std::sync::Wait;
 use std::time::Instant;
 

@@ -7,7 +7,7 @@ use lsv_base::{Bytes, List, LogNo, Point};
 use lsv_disk::Disk;
 use lsv_info::{Exit, Head, Info};
 use lsv_iolog::{IoLog, LogFault};
-use lsv_real::FileDisk;
+use lsv_real_disk::FileDisk;
 use lsv_record::{Record, Stream};
 use std::alloc::Global;
 use std::fs;

@@ -1,7 +1,7 @@
 //! The making of a log's nine files with its first entry.
 use lsv_bundle::{Bundle, BundleFault, Shape};
 use lsv_disk::{Disk, Owner, Part};
-use lsv_real::FileDisk;
+use lsv_real_disk::FileDisk;
 use lsv_seq::Numbers;
 use std::alloc::Global;
 use std::sync::Wait;

@@ -3,7 +3,7 @@
 use crate::names::{file_of, owner_of};
 use anyhow::{Result, anyhow};
 use lsv_disk::{Disk, DiskFault, Owner, Part};
-use lsv_real::FileDisk;
+use lsv_real_disk::FileDisk;
 use std::os::unix::fs::PermissionsExt;
 use std::sync::Wait;
 use std::thread::Threads;

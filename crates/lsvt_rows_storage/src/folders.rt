@@ -1,7 +1,7 @@
 //! How lanes bring the names of their folders to the disk. The folders are a double, and not the system's.
 
 use anyhow::{Result, anyhow};
-use lsv_real::{FolderCalls, FolderSync, Placed, SharedFolders};
+use lsv_real_disk::{FolderCalls, FolderSync, Placed, SharedFolders};
 use std::io::ErrorKind;
 use std::sync::Wait;
 use std::sync::atomic::{AtomicU64, Ordering};

@@ -3,7 +3,7 @@
 use crate::names::{name_of, part_of};
 use anyhow::{Result, anyhow};
 use lsv_disk::{FileId, Owner, Part};
-use lsv_real::{InodeTable, Made, NewFile};
+use lsv_real_disk::{InodeTable, Made, NewFile};
 
 /// The part that has a gate, which is written when it is made.
 const GATED: Part = Part::Slots;

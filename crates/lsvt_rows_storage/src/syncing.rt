@@ -1,7 +1,7 @@
 //! What is written again after a sync that failed. The file is a double, and not one of the system's.
 
 use anyhow::{Result, anyhow};
-use lsv_real::{SyncedFile, Unsynced};
+use lsv_real_disk::{SyncedFile, Unsynced};
 use std::cell::Cell;
 use std::io;
 use std::io::ErrorKind;

@@ -1,7 +1,7 @@
 //! Whether the limit of open files suffices, as it is told at the start of a server.
 
 use lsv_base::{Bytes, List};
-use lsv_real::{clients_within, most_descriptors};
+use lsv_real_disk::{clients_within, most_descriptors};
 use lsv_serve::Status;
 
 /// This many clients are served at once at most.

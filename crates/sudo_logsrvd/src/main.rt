@@ -17,9 +17,8 @@ use lsv_base::{Bytes, List};
 use lsv_disk::Disk;
 use lsv_hook::Formatter;
 use lsv_mask::{Prompt, TextSearch};
-use lsv_real::{
-    FileDisk, FileTexts, MioPort, RelayDisk, StdSink, StdSource, WallClock, open_standard,
-};
+use lsv_real::{FileTexts, MioPort, StdSink, StdSource, WallClock, open_standard};
+use lsv_real_disk::{FileDisk, RelayDisk};
 use lsv_serve::{Kept, Outside, Status, logsrvd};
 use lsv_tcp::TcpLink;
 use lsv_turn::NoTape;

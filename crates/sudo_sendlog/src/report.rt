@@ -5,7 +5,7 @@ use lsv_base::{Bytes, List, Point};
 use lsv_dialogue::Cause;
 use lsv_disk::Part;
 use lsv_iolog::LogFault;
-use lsv_real::is_denied;
+use lsv_real_disk::is_denied;
 use lsv_send::{SendStatus, request_of};
 use lsv_send_args::WordsFault;
 

@@ -3,7 +3,9 @@
 use lsv_base::LogNo;
 use lsv_disk::{Disk, Part};
 use lsv_iolog::{LogFault, LogView};
-use lsv_real::{Lack, ReadOnlyDisk, Uncovered, folder_of_log, has_numbers, lack_of, uncovered_in};
+use lsv_real_disk::{
+    Lack, ReadOnlyDisk, Uncovered, folder_of_log, has_numbers, lack_of, uncovered_in,
+};
 use lsv_replay::{ListFault, last_number};
 use std::str;
 

@@ -8,7 +8,8 @@ mod usage;
 
 use crate::report::{advise, report};
 use lsv_base::{Bytes, List};
-use lsv_real::{ReadOnlyDisk, StdScreen};
+use lsv_real::StdScreen;
+use lsv_real_disk::ReadOnlyDisk;
 use lsv_replay::{ReplayStatus, sudoreplay};
 use std::alloc::Global;
 use std::env;

@@ -3,7 +3,7 @@
 use crate::{logs, search, usage};
 use lsv_base::{Bytes, List, LogNo};
 use lsv_disk::Part;
-use lsv_real::is_denied;
+use lsv_real_disk::is_denied;
 use lsv_replay::{ReplayStatus, request_of};
 use lsv_replay_args::Task;
 use std::str;

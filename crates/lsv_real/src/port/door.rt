@@ -1,6 +1,6 @@
 // What the ports of a program share.
 use super::address::listen_at;
-use crate::limit::{clients_within, most_descriptors};
+use lsv_real_disk::{clients_within, most_descriptors};
 use std::io;
 use std::net::{Net, TcpListener};
 use std::sync::OnceLock;

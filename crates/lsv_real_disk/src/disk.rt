@@ -1,0 +1,300 @@
+// The disk of the operating system. It tells no content, and counts its faults.
+ghost use Rattle.std.specs.Prelude.{◌≤◌, ◌≡◌, IfOk, OnErr};
+ghost use Rattle.lsv_defs.specs.Causes.{HasRisen};
+ghost use Rattle.lsv_real_disk.specs.Untold.{untold};
+
+use crate::call::{Call, CallFault};
+use crate::cut_notice::{JOURNAL, cut_in, last_entry};
+use crate::fault::StoreFault;
+use crate::refusal::{is_refused, report_no_store, warn_of_places};
+use crate::shared::{SharedStore, StoreSlot, release_unused};
+use crate::store::Store;
+use lsv_bundle::Body;
+use lsv_disk::{Disk, DiskFault, FileId, Owner, Part};
+use std::alloc::{AllocError, Global};
+use std::io::ErrorKind;
+use std::sync::{Arc, Mutex, Wait};
+
+/// The nanoseconds of a second.
+const NANOS: u64 = 1_000_000_000;
+
+/// The disk of the operating system. Until `root` has the store's lock each call is a fault, and makes nothing. The disks of a
+/// program, one for each lane, use one store together, and wait for each other by `W`.
+#[derive(Drop)]
+pub struct FileDisk<W: Wait + Copy> {
+    rt: HostRuntime,
+    waits: W,
+    /// Whose faults they are, on standard error.
+    program: &'static str,
+    /// Where the disks of the program find the store that one of them opened.
+    slot: Arc<StoreSlot, Global>,
+    store: Option<Store<W>>,
+    faults: u64,
+}
+
+impl<W: Wait + Copy> FileDisk<W> {
+    /// A disk without a store. Its faults are told on standard error, a line each, under the program's name.
+    pub fn new(rt: HostRuntime, waits: W, program: &'static str) -> Result<Self, AllocError>
+        ensures { IfOk result (λ d. (f : FileId) → (⟦<FileDisk<W> as Disk>⟧.view d).faults f ≡ 0) }
+    {
+        let slot = Arc::new(rt.alloc(), Mutex::new(None))?;
+        Ok(FileDisk::at(rt, waits, program, slot))
+    }
+
+    /// A disk of the same program for another lane, without a store yet. By the same places it gets the store of this one.
+    pub fn beside(&self) -> Result<Self, AllocError>
+        ensures { IfOk result (λ d. (f : FileId) → (⟦<FileDisk<W> as Disk>⟧.view d).faults f ≡ 0) }
+    {
+        let slot = Arc::try_clone(&self.slot)?;
+        Ok(FileDisk::at(self.rt, self.waits, self.program, slot))
+    }
+
+    fn at(rt: HostRuntime, waits: W, program: &'static str, slot: Arc<StoreSlot, Global>) -> Self
+        ensures { result.faults ≡ 0 }
+    {
+        FileDisk {
+            rt,
+            waits,
+            program,
+            slot,
+            store: None,
+            faults: 0,
+        }
+    }
+
+    /// Takes the store at these places for a relay: of its calls those on files of relaying alone may be made.
+    pub fn open_for_relay(&mut self, dir: &str, events: &str)
+        ensures { self.new.faults ≡ self.old.faults }
+    {
+        self.store = None;
+        match self.store_for_relay(dir, events) {
+            Ok(store) => self.store = Some(store),
+            Err(fault) => report_no_store(&self.rt, self.program, dir, events, &fault),
+        }
+    }
+
+    fn store_for_relay(&self, dir: &str, events: &str) -> Result<Store<W>, StoreFault> {
+        let opened = SharedStore::open_for_relay(self.rt, dir, events)?;
+        let shared = shared_of(self.rt.alloc(), opened)?;
+        Store::new(self.rt, self.waits, self.program, shared, true)
+    }
+
+    /// The store at these places: the one that other disks of the program use, or else one that it opens. None if it was said
+    /// why it isn't opened.
+    fn store_at(&self, dir: &str, events: &str) -> Option<Result<Store<W>, StoreFault>> {
+        let mut guard = self.slot.lock(&self.waits);
+        let slot = &mut *guard;
+        release_unused(slot);
+        if let Some(shared) = &*slot {
+            return Some(self.joined(shared, dir, events));
+        }
+        warn_of_places(&self.rt, self.program, dir, events);
+        if is_refused(self.rt, self.program, dir, events) {
+            return None;
+        }
+        match SharedStore::open(self.rt, &self.waits, self.program, dir, events) {
+            Ok(opened) => Some(self.kept(slot, opened)),
+            Err(fault) => Some(Err(fault)),
+        }
+    }
+
+    /// The store that other disks of the program use, if it is at these places.
+    fn joined(
+        &self,
+        shared: &Arc<SharedStore, Global>,
+        dir: &str,
+        events: &str,
+    ) -> Result<Store<W>, StoreFault> {
+        if !shared.is_at(dir, events) {
+            return Err(StoreFault::OtherPlaces);
+        }
+        Store::new(
+            self.rt,
+            self.waits,
+            self.program,
+            Arc::try_clone(shared)?,
+            false,
+        )
+    }
+
+    /// A store that was just opened, which the other disks of the program find from now on.
+    fn kept(
+        &self,
+        slot: &mut Option<Arc<SharedStore, Global>>,
+        opened: SharedStore,
+    ) -> Result<Store<W>, StoreFault> {
+        let shared = shared_of(self.rt.alloc(), opened)?;
+        let own = Arc::try_clone(&shared)?;
+        match Store::new(self.rt, self.waits, self.program, own, false) {
+            Ok(store) => {
+                *slot = Some(shared);
+                Ok(store)
+            }
+            Err(fault) => Err(fault),
+        }
+    }
+
+    /// Whether it has a store.
+    pub fn has_store(&self) -> bool {
+        self.store.is_some()
+    }
+
+    /// A failure is a fault, counted and told.
+    fn told<T: Drop>(
+        &mut self,
+        f: FileId,
+        call: Call,
+        answer: Result<T, CallFault>,
+    ) -> Result<T, DiskFault>
+        ensures ok { IfOk result (λ t. answer ≡ Ok t) }
+        ensures counts { self.old.faults ≤ self.new.faults }
+        ensures cause { OnErr result (HasRisen self.old.faults self.new.faults) }
+    {
+        match answer {
+            Ok(t) => Ok(t),
+            Err(e) => {
+                self.tell(f, call, &e);
+                self.faults = self.faults.saturating_add(1);
+                Err(DiskFault)
+            }
+        }
+    }
+
+    /// Says on standard error what failed. Why there is no store was said by `root`.
+    fn tell(&self, f: FileId, call: Call, fault: &CallFault) {
+        let program = self.program;
+        let Some(store) = &self.store else {
+            return;
+        };
+        let _ = match (store.place_of(f), fault) {
+            (Ok(place), CallFault::Io(e)) => {
+                let path = place.path.as_str();
+                eprintln!(self.rt; "{program}: {path}: {call}: {e}")
+            }
+            (Ok(place), CallFault::FolderExists) => {
+                let folder = place.folder.as_str();
+                eprintln!(self.rt;
+                    "{program}: {folder}: create: this folder of a new log exists, so the number file is older than the store: nothing in it is changed; end the server, and put seq2 back from a newer copy"
+                )
+            }
+            (Err(_), CallFault::Io(e)) => eprintln!(self.rt; "{program}: the store: {call}: {e}"),
+            (Err(_), CallFault::FolderExists) => {
+                eprintln!(self.rt; "{program}: the store: {call}: the folder exists")
+            }
+        };
+    }
+}
+
+/// A handle of a store for each disk that uses it.
+fn shared_of(alloc: Global, opened: SharedStore) -> Result<Arc<SharedStore, Global>, StoreFault> {
+    match Arc::new(alloc, opened) {
+        Ok(shared) => Ok(shared),
+        Err(_) => Err(AllocError.into()),
+    }
+}
+
+/// Says that a client resumes a log, and how many of its records are dropped.
+fn report_resumed<W: Wait + Copy>(
+    rt: &HostRuntime,
+    program: &str,
+    store: &mut Store<W>,
+    journal: FileId,
+    entry: Body,
+) {
+    let mut bytes = [0; JOURNAL];
+    let (Ok(place), Ok(count)) = (store.place_of(journal), store.read(journal, 0, &mut bytes))
+    else {
+        return;
+    };
+    let Some(before) = last_entry(&bytes[..count]) else {
+        return;
+    };
+    let folder = place.folder.as_str();
+    let of = before.count;
+    let dropped = of.saturating_sub(entry.count);
+    let (seconds, nanos) = (entry.elapsed / NANOS, entry.elapsed % NANOS);
+    let _ = eprintln!(rt;
+        "{program}: {folder}: a client resumes this log at {seconds}.{nanos:09} s: of its {of} records it drops the last {dropped}"
+    );
+}
+
+impl<W: Wait + Copy> Disk for FileDisk<W> {
+    ghost tells = { ⊥ };
+
+    ghost view = { λ d. untold d.faults };
+
+    ghost reads_itself = { λ told. absurd told };
+
+    ghost absent_or_empty = { λ told. absurd told };
+
+    ghost is_now = { λ told. absurd told };
+
+    ghost only_now = { λ told. absurd told };
+
+    fn root(&mut self, dir: &str, events: &str) {
+        // This disk lets go of an earlier store, also where there is no other.
+        self.store = None;
+        match self.store_at(dir, events) {
+            Some(Ok(store)) => self.store = Some(store),
+            Some(Err(fault)) => report_no_store(&self.rt, self.program, dir, events, &fault),
+            None => {}
+        }
+    }
+
+    fn create(&mut self, f: FileId) -> Result<(), DiskFault> {
+        let answer = match &mut self.store {
+            Some(store) => store.make(f),
+            None => Err(ErrorKind::NotFound.into()),
+        };
+        self.told(f, Call::Create, answer)
+    }
+
+    fn create_all(&mut self, owner: Owner, parts: &[Part]) -> Result<(), DiskFault> {
+        let answer = match &mut self.store {
+            Some(store) => store.make_all(owner, parts),
+            None => Err(ErrorKind::NotFound.into()),
+        };
+        let [first, ..] = parts else {
+            // No file was asked for, so none is at fault.
+            return Ok(());
+        };
+        self.told(FileId::new(owner, *first), Call::Create, answer)
+    }
+
+    fn length(&mut self, f: FileId) -> Result<Option<u64>, DiskFault> {
+        let answer = match &mut self.store {
+            Some(store) => store.length(f).map_err(CallFault::Io),
+            None => Err(ErrorKind::NotFound.into()),
+        };
+        self.told(f, Call::Length, answer)
+    }
+
+    fn read_at(&mut self, f: FileId, at: u64, buf: &mut [u8]) -> Result<usize, DiskFault> {
+        let answer = match &mut self.store {
+            Some(store) => store.read(f, at, buf).map_err(CallFault::Io),
+            None => Err(ErrorKind::NotFound.into()),
+        };
+        self.told(f, Call::Read, answer)
+    }
+
+    fn write_at(&mut self, f: FileId, at: u64, bytes: &[u8]) -> Result<(), DiskFault> {
+        let answer = match &mut self.store {
+            Some(store) => {
+                if let Some(entry) = cut_in(f, bytes) {
+                    report_resumed(&self.rt, self.program, store, f, entry);
+                }
+                store.write(f, at, bytes)
+            }
+            None => Err(ErrorKind::NotFound.into()),
+        };
+        self.told(f, Call::Write, answer)
+    }
+
+    fn sync(&mut self, f: FileId) -> Result<(), DiskFault> {
+        let answer = match &mut self.store {
+            Some(store) => store.sync(f).map_err(CallFault::Io),
+            None => Err(ErrorKind::NotFound.into()),
+        };
+        self.told(f, Call::Sync, answer)
+    }
+}
