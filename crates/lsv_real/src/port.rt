@@ -15,6 +15,7 @@ use address::advice;
 use door::Door;
 use leaving::Leaving;
 use lsv_port::{Gave, Port, PortFault, Ready, Took};
+use lsv_real_disk::Reports;
 use std::alloc::{AllocError, Global};
 use std::collections::HashMap;
 use std::io;
@@ -29,10 +30,9 @@ use wakes::Wakes;
 /// taken for want of memory or of descriptors waits, or is closed at once and is no link.
 #[derive(Drop)]
 pub struct MioPort<N: Net + Drop> {
-    rt: HostRuntime,
+    /// Who reports failures of the port as a whole, and counts them.
+    reports: Reports,
     net: N,
-    /// Whose faults they are, on standard error.
-    program: &'static str,
     door: Arc<Door, Global>,
     wakes: Option<Wakes>,
     links: HashMap<u32, Accepted>,
@@ -42,18 +42,12 @@ pub struct MioPort<N: Net + Drop> {
     /// A turn tells Stop once this many links of all ports were closed.
     stop_after: Option<u32>,
     turned_away: TurnedAway,
-    faults: Faults,
-}
-
-/// How often a port failed as a whole, and how often its links did.
-#[derive(Clone, Copy)]
-struct Faults {
-    turns: u64,
-    links: u64,
+    /// How often a link failed.
+    link_faults: u64,
 }
 
 impl<N: Net + Drop> MioPort<N> {
-    /// A port that doesn't listen yet. Its faults are told on standard error, a line each, under the program's name.
+    /// A port that doesn't listen yet. Its faults are reported on standard error, a line each, under the program's name.
     pub fn new(rt: HostRuntime, net: N, program: &'static str) -> Result<Self, AllocError>
         ensures { IfOk result (λ p. ⟦<MioPort<N> as Port>⟧.ledger p ≡ ledger_of 0 0) }
     {
@@ -64,17 +58,16 @@ impl<N: Net + Drop> MioPort<N> {
     /// A port that shares the listening socket of this one.
     pub fn beside(&self, net: N) -> Result<Self, AllocError> {
         let door = Arc::try_clone(&self.door)?;
-        Ok(MioPort::at(self.rt, net, self.program, door))
+        Ok(MioPort::at(self.reports.rt, net, self.reports.program, door))
     }
 
     fn at(rt: HostRuntime, net: N, program: &'static str, door: Arc<Door, Global>) -> Self
-        ensures turns { result.faults.turns ≡ 0 }
-        ensures links { result.faults.links ≡ 0 }
+        ensures turns { result.reports.faults ≡ 0 }
+        ensures links { result.link_faults ≡ 0 }
     {
         MioPort {
-            rt,
+            reports: Reports::new(rt, program),
             net,
-            program,
             door,
             wakes: None,
             links: HashMap::new(rt.alloc()),
@@ -82,7 +75,7 @@ impl<N: Net + Drop> MioPort<N> {
             last: 0,
             stop_after: None,
             turned_away: TurnedAway::new(),
-            faults: Faults { turns: 0, links: 0 },
+            link_faults: 0,
         }
     }
 }
@@ -90,16 +83,18 @@ impl<N: Net + Drop> MioPort<N> {
 impl<N: Net + Drop> MioPort<N> {
     /// Begins to listen, where it doesn't yet.
     fn start(&mut self, address: &str) -> io::Result<()>
-        ensures { self.new.faults ≡ self.old.faults }
+        ensures turns { self.new.reports.faults ≡ self.old.reports.faults }
+        ensures links { self.new.link_faults ≡ self.old.link_faults }
     {
         let sockets = self.door.sockets(&self.net, address)?;
-        self.wakes = Some(Wakes::new(self.rt.alloc(), &self.net, sockets)?);
+        self.wakes = Some(Wakes::new(self.reports.rt.alloc(), &self.net, sockets)?);
         Ok(())
     }
 
     /// What the next turn tells.
     fn next(&mut self, held: &[u32]) -> io::Result<Ready>
-        ensures { self.new.faults ≡ self.old.faults }
+        ensures turns { self.new.reports.faults ≡ self.old.reports.faults }
+        ensures links { self.new.link_faults ≡ self.old.link_faults }
     {
         if self.is_over() {
             return Ok(Ready::Stop);
@@ -111,7 +106,7 @@ impl<N: Net + Drop> MioPort<N> {
             return Err(ErrorKind::NotConnected.into());
         };
         wakes.wait(!held.is_empty())?;
-        self.leaving.drain(&self.rt);
+        self.leaving.drain(&self.reports.rt);
         Ok(self.at_once(held).unwrap_or(Ready::Woken))
     }
 
@@ -125,7 +120,8 @@ impl<N: Net + Drop> MioPort<N> {
 
     /// What is told without a wait: what the last one gave, and then one connection.
     fn at_once(&mut self, held: &[u32]) -> Option<Ready>
-        ensures { self.new.faults ≡ self.old.faults }
+        ensures turns { self.new.reports.faults ≡ self.old.reports.faults }
+        ensures links { self.new.link_faults ≡ self.old.link_faults }
     {
         let told = self.wakes.as_mut()?.next(&mut self.links, held);
         match told {
@@ -136,7 +132,8 @@ impl<N: Net + Drop> MioPort<N> {
 
     /// Takes a connection, where one waits and there are descriptors for it.
     fn open(&mut self) -> Option<Ready>
-        ensures { self.new.faults ≡ self.old.faults }
+        ensures turns { self.new.reports.faults ≡ self.old.reports.faults }
+        ensures links { self.new.link_faults ≡ self.old.link_faults }
     {
         let wakes = self.wakes.as_mut()?;
         let mut stream = wakes.accept(self.door.has_room())?;
@@ -162,23 +159,24 @@ impl<N: Net + Drop> MioPort<N> {
 
     /// Says that a link was turned away, at most once a minute.
     fn report_turned_away(&mut self, accepted: &Accepted)
-        ensures { self.new.faults ≡ self.old.faults }
+        ensures turns { self.new.reports.faults ≡ self.old.reports.faults }
+        ensures links { self.new.link_faults ≡ self.old.link_faults }
     {
-        if !self.turned_away.is_due(&self.rt) {
+        if !self.turned_away.is_due(&self.reports.rt) {
             return;
         }
         let Some(peer) = accepted.peer() else {
             return;
         };
-        let program = self.program;
+        let program = self.reports.program;
         let others = self.door.open();
         let port = self.local_addr().map_or(0, |address| address.port());
-        let _ = eprintln!(self.rt;
+        let _ = eprintln!(self.reports.rt;
             "{program}: {others} clients are connected, {peer} was turned away; see who they are by ss -tn 'sport = :{port}'"
         );
     }
 
-    /// A failure of the port as a whole is counted, and told with what to do.
+    /// A failure of the port as a whole is counted, and reported with what to do.
     fn checked<T: Drop>(
         &mut self,
         what: &str,
@@ -186,24 +184,21 @@ impl<N: Net + Drop> MioPort<N> {
         answer: io::Result<T>,
     ) -> Result<T, PortFault>
         ensures ok { IfOk result (λ t. answer ≡ Ok t) }
-        ensures turns { self.old.faults.turns ≤ self.new.faults.turns }
-        ensures links { self.new.faults.links ≡ self.old.faults.links }
-        ensures cause { OnErr result (HasRisen self.old.faults.turns self.new.faults.turns) }
+        ensures turns { self.old.reports.faults ≤ self.new.reports.faults }
+        ensures links { self.new.link_faults ≡ self.old.link_faults }
+        ensures cause { OnErr result (HasRisen self.old.reports.faults self.new.reports.faults) }
     {
-        match answer {
-            Ok(t) => Ok(t),
-            Err(e) => {
-                let program = self.program;
-                let _ = eprintln!(self.rt; "{program}: {what}: {e}{todo}");
-                self.faults.turns = self.faults.turns.saturating_add(1);
-                Err(PortFault)
-            }
+        if let Err(e) = &answer {
+            let program = self.reports.program;
+            let _ = eprintln!(self.reports.rt; "{program}: {what}: {e}{todo}");
         }
+        self.reports.checked(answer, PortFault)
     }
 
     /// Bytes went over a link.
     fn note_moved(&mut self)
-        ensures { self.new.faults ≡ self.old.faults }
+        ensures turns { self.new.reports.faults ≡ self.old.reports.faults }
+        ensures links { self.new.link_faults ≡ self.old.link_faults }
     {
         if let Some(wakes) = &mut self.wakes {
             wakes.note_moved();
@@ -216,7 +211,7 @@ impl<N: Net + Drop> Port for MioPort<N> {
 
     ghost state = { λ _. untold_port };
 
-    ghost ledger = { λ p. ledger_of p.faults.turns p.faults.links };
+    ghost ledger = { λ p. ledger_of p.reports.faults p.link_faults };
 
     ghost open_was_opened = { λ told. absurd told };
 
@@ -241,7 +236,7 @@ impl<N: Net + Drop> Port for MioPort<N> {
             None => Took::Failed,
         };
         match took {
-            Took::Failed => self.faults.links = self.faults.links.saturating_add(1),
+            Took::Failed => self.link_faults = self.link_faults.saturating_add(1),
             Took::Bytes(_) => self.note_moved(),
             Took::NotYet | Took::End => {}
         }
@@ -254,7 +249,7 @@ impl<N: Net + Drop> Port for MioPort<N> {
             None => Gave::Failed,
         };
         match gave {
-            Gave::Failed => self.faults.links = self.faults.links.saturating_add(1),
+            Gave::Failed => self.link_faults = self.link_faults.saturating_add(1),
             Gave::Bytes(_) => self.note_moved(),
             Gave::NotYet => {}
         }
@@ -269,7 +264,7 @@ impl<N: Net + Drop> Port for MioPort<N> {
         if !accepted.was_used() {
             self.report_turned_away(&accepted);
         } else if accepted.may_read() {
-            self.leaving.add(&self.rt, accepted);
+            self.leaving.add(&self.reports.rt, accepted);
         }
     }
 }

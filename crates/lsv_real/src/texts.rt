@@ -2,6 +2,7 @@
 ghost use Rattle.std.specs.Prelude.{◌≡◌, None};
 
 use lsv_base::{Bytes, TextFault, Texts};
+use lsv_real_disk::Reports;
 use std::alloc::Global;
 use std::fs::File;
 use std::io;
@@ -13,21 +14,16 @@ const MOST_BYTES: u64 = 1 << 20;
 /// The text files of the operating system, as a settings file.
 #[derive(Drop)]
 pub struct FileTexts {
-    rt: HostRuntime,
-    /// Whose faults they are, on standard error.
-    program: &'static str,
-    faults: u64,
+    reports: Reports,
 }
 
 impl FileTexts {
-    /// Its faults are told on standard error, a line each, under the program's name.
+    /// Its faults are reported on standard error, a line each, under the program's name.
     pub fn new(rt: HostRuntime, program: &'static str) -> Self
         ensures { ⟦<FileTexts as Texts>⟧.faults result ≡ 0 }
     {
         FileTexts {
-            rt,
-            program,
-            faults: 0,
+            reports: Reports::new(rt, program),
         }
     }
 }
@@ -37,18 +33,18 @@ impl Texts for FileTexts {
 
     ghost texts = { λ _ path. None };
 
-    ghost faults = { λ t. t.faults };
+    ghost faults = { λ t. t.reports.faults };
 
     fn text(&mut self, _alloc: Global, path: &str) -> Result<Option<Bytes>, TextFault> {
-        match read_text(&self.rt, path) {
+        let rt = self.reports.rt;
+        match read_text(&rt, path) {
             Ok(bytes) => Ok(Some(Bytes::from_vec(bytes))),
             Err(e) if e.kind() == ErrorKind::NotFound => Ok(None),
             Err(e) if e.kind() == ErrorKind::OutOfMemory => Err(TextFault::NoMem),
             Err(e) => {
-                let program = self.program;
-                let _ = eprintln!(self.rt; "{program}: {path}: read: {e}");
-                self.faults = self.faults.saturating_add(1);
-                Err(TextFault::Failed)
+                let program = self.reports.program;
+                let _ = eprintln!(rt; "{program}: {path}: read: {e}");
+                self.reports.checked(Err(e), TextFault::Failed)
             }
         }
     }

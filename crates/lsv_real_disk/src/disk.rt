@@ -7,6 +7,7 @@ use crate::call::{Call, CallFault};
 use crate::cut_notice::{JOURNAL, cut_in, last_entry};
 use crate::fault::StoreFault;
 use crate::refusal::{is_refused, report_no_store, warn_of_places};
+use crate::reports::Reports;
 use crate::shared::{SharedStore, StoreSlot, release_unused};
 use crate::store::Store;
 use lsv_bundle::Body;
@@ -22,18 +23,15 @@ const NANOS: u64 = 1_000_000_000;
 /// program, one for each lane, use one store together, and wait for each other by `W`.
 #[derive(Drop)]
 pub struct FileDisk<W: Wait + Copy> {
-    rt: HostRuntime,
+    reports: Reports,
     waits: W,
-    /// Whose faults they are, on standard error.
-    program: &'static str,
     /// Where the disks of the program find the store that one of them opened.
     slot: Arc<StoreSlot, Global>,
     store: Option<Store<W>>,
-    faults: u64,
 }
 
 impl<W: Wait + Copy> FileDisk<W> {
-    /// A disk without a store. Its faults are told on standard error, a line each, under the program's name.
+    /// A disk without a store. Its faults are reported on standard error, a line each, under the program's name.
     pub fn new(rt: HostRuntime, waits: W, program: &'static str) -> Result<Self, AllocError>
         ensures { IfOk result (λ d. (f : FileId) → (⟦<FileDisk<W> as Disk>⟧.view d).faults f ≡ 0) }
     {
@@ -46,37 +44,47 @@ impl<W: Wait + Copy> FileDisk<W> {
         ensures { IfOk result (λ d. (f : FileId) → (⟦<FileDisk<W> as Disk>⟧.view d).faults f ≡ 0) }
     {
         let slot = Arc::try_clone(&self.slot)?;
-        Ok(FileDisk::at(self.rt, self.waits, self.program, slot))
+        Ok(FileDisk::at(self.reports.rt, self.waits, self.reports.program, slot))
     }
 
     fn at(rt: HostRuntime, waits: W, program: &'static str, slot: Arc<StoreSlot, Global>) -> Self
-        ensures { result.faults ≡ 0 }
+        ensures { result.reports.faults ≡ 0 }
     {
         FileDisk {
-            rt,
+            reports: Reports::new(rt, program),
             waits,
-            program,
             slot,
             store: None,
-            faults: 0,
         }
     }
 
     /// Takes the store at these places for a relay: of its calls those on files of relaying alone may be made.
     pub fn open_for_relay(&mut self, dir: &str, events: &str)
-        ensures { self.new.faults ≡ self.old.faults }
+        ensures { self.new.reports.faults ≡ self.old.reports.faults }
     {
         self.store = None;
         match self.store_for_relay(dir, events) {
             Ok(store) => self.store = Some(store),
-            Err(fault) => report_no_store(&self.rt, self.program, dir, events, &fault),
+            Err(fault) => report_no_store(
+                &self.reports.rt,
+                self.reports.program,
+                dir,
+                events,
+                &fault,
+            ),
         }
     }
 
     fn store_for_relay(&self, dir: &str, events: &str) -> Result<Store<W>, StoreFault> {
-        let opened = SharedStore::open_for_relay(self.rt, dir, events)?;
-        let shared = shared_of(self.rt.alloc(), opened)?;
-        Store::new(self.rt, self.waits, self.program, shared, true)
+        let opened = SharedStore::open_for_relay(self.reports.rt, dir, events)?;
+        let shared = shared_of(self.reports.rt.alloc(), opened)?;
+        Store::new(
+            self.reports.rt,
+            self.waits,
+            self.reports.program,
+            shared,
+            true,
+        )
     }
 
     /// The store at these places: the one that other disks of the program use, or else one that it opens. None if it was said
@@ -88,11 +96,17 @@ impl<W: Wait + Copy> FileDisk<W> {
         if let Some(shared) = &*slot {
             return Some(self.joined(shared, dir, events));
         }
-        warn_of_places(&self.rt, self.program, dir, events);
-        if is_refused(self.rt, self.program, dir, events) {
+        warn_of_places(&self.reports.rt, self.reports.program, dir, events);
+        if is_refused(self.reports.rt, self.reports.program, dir, events) {
             return None;
         }
-        match SharedStore::open(self.rt, &self.waits, self.program, dir, events) {
+        match SharedStore::open(
+            self.reports.rt,
+            &self.waits,
+            self.reports.program,
+            dir,
+            events,
+        ) {
             Ok(opened) => Some(self.kept(slot, opened)),
             Err(fault) => Some(Err(fault)),
         }
@@ -109,9 +123,9 @@ impl<W: Wait + Copy> FileDisk<W> {
             return Err(StoreFault::OtherPlaces);
         }
         Store::new(
-            self.rt,
+            self.reports.rt,
             self.waits,
-            self.program,
+            self.reports.program,
             Arc::try_clone(shared)?,
             false,
         )
@@ -123,9 +137,15 @@ impl<W: Wait + Copy> FileDisk<W> {
         slot: &mut Option<Arc<SharedStore, Global>>,
         opened: SharedStore,
     ) -> Result<Store<W>, StoreFault> {
-        let shared = shared_of(self.rt.alloc(), opened)?;
+        let shared = shared_of(self.reports.rt.alloc(), opened)?;
         let own = Arc::try_clone(&shared)?;
-        match Store::new(self.rt, self.waits, self.program, own, false) {
+        match Store::new(
+            self.reports.rt,
+            self.waits,
+            self.reports.program,
+            own,
+            false,
+        ) {
             Ok(store) => {
                 *slot = Some(shared);
                 Ok(store)
@@ -139,47 +159,45 @@ impl<W: Wait + Copy> FileDisk<W> {
         self.store.is_some()
     }
 
-    /// A failure is a fault, counted and told.
-    fn told<T: Drop>(
+    /// A failure is a fault, reported and counted.
+    fn checked<T: Drop>(
         &mut self,
         f: FileId,
         call: Call,
         answer: Result<T, CallFault>,
     ) -> Result<T, DiskFault>
         ensures ok { IfOk result (λ t. answer ≡ Ok t) }
-        ensures counts { self.old.faults ≤ self.new.faults }
-        ensures cause { OnErr result (HasRisen self.old.faults self.new.faults) }
+        ensures counts { self.old.reports.faults ≤ self.new.reports.faults }
+        ensures cause { OnErr result (HasRisen self.old.reports.faults self.new.reports.faults) }
     {
-        match answer {
-            Ok(t) => Ok(t),
-            Err(e) => {
-                self.tell(f, call, &e);
-                self.faults = self.faults.saturating_add(1);
-                Err(DiskFault)
-            }
+        if let Err(e) = &answer {
+            self.report(f, call, e);
         }
+        self.reports.checked(answer, DiskFault)
     }
 
     /// Says on standard error what failed. Why there is no store was said by `root`.
-    fn tell(&self, f: FileId, call: Call, fault: &CallFault) {
-        let program = self.program;
+    fn report(&self, f: FileId, call: Call, fault: &CallFault) {
+        let program = self.reports.program;
         let Some(store) = &self.store else {
             return;
         };
         let _ = match (store.place_of(f), fault) {
             (Ok(place), CallFault::Io(e)) => {
                 let path = place.path.as_str();
-                eprintln!(self.rt; "{program}: {path}: {call}: {e}")
+                eprintln!(self.reports.rt; "{program}: {path}: {call}: {e}")
             }
             (Ok(place), CallFault::FolderExists) => {
                 let folder = place.folder.as_str();
-                eprintln!(self.rt;
+                eprintln!(self.reports.rt;
                     "{program}: {folder}: create: this folder of a new log exists, so the number file is older than the store: nothing in it is changed; end the server, and put seq2 back from a newer copy"
                 )
             }
-            (Err(_), CallFault::Io(e)) => eprintln!(self.rt; "{program}: the store: {call}: {e}"),
+            (Err(_), CallFault::Io(e)) => eprintln!(self.reports.rt;
+                "{program}: the store: {call}: {e}"
+            ),
             (Err(_), CallFault::FolderExists) => {
-                eprintln!(self.rt; "{program}: the store: {call}: the folder exists")
+                eprintln!(self.reports.rt; "{program}: the store: {call}: the folder exists")
             }
         };
     }
@@ -221,7 +239,7 @@ fn report_resumed<W: Wait + Copy>(
 impl<W: Wait + Copy> Disk for FileDisk<W> {
     ghost tells = { ⊥ };
 
-    ghost view = { λ d. untold d.faults };
+    ghost view = { λ d. untold d.reports.faults };
 
     ghost reads_itself = { λ told. absurd told };
 
@@ -236,7 +254,13 @@ impl<W: Wait + Copy> Disk for FileDisk<W> {
         self.store = None;
         match self.store_at(dir, events) {
             Some(Ok(store)) => self.store = Some(store),
-            Some(Err(fault)) => report_no_store(&self.rt, self.program, dir, events, &fault),
+            Some(Err(fault)) => report_no_store(
+                &self.reports.rt,
+                self.reports.program,
+                dir,
+                events,
+                &fault,
+            ),
             None => {}
         }
     }
@@ -246,7 +270,7 @@ impl<W: Wait + Copy> Disk for FileDisk<W> {
             Some(store) => store.make(f),
             None => Err(ErrorKind::NotFound.into()),
         };
-        self.told(f, Call::Create, answer)
+        self.checked(f, Call::Create, answer)
     }
 
     fn create_all(&mut self, owner: Owner, parts: &[Part]) -> Result<(), DiskFault> {
@@ -258,7 +282,7 @@ impl<W: Wait + Copy> Disk for FileDisk<W> {
             // No file was asked for, so none is at fault.
             return Ok(());
         };
-        self.told(FileId::new(owner, *first), Call::Create, answer)
+        self.checked(FileId::new(owner, *first), Call::Create, answer)
     }
 
     fn length(&mut self, f: FileId) -> Result<Option<u64>, DiskFault> {
@@ -266,7 +290,7 @@ impl<W: Wait + Copy> Disk for FileDisk<W> {
             Some(store) => store.length(f).map_err(CallFault::Io),
             None => Err(ErrorKind::NotFound.into()),
         };
-        self.told(f, Call::Length, answer)
+        self.checked(f, Call::Length, answer)
     }
 
     fn read_at(&mut self, f: FileId, at: u64, buf: &mut [u8]) -> Result<usize, DiskFault> {
@@ -274,20 +298,20 @@ impl<W: Wait + Copy> Disk for FileDisk<W> {
             Some(store) => store.read(f, at, buf).map_err(CallFault::Io),
             None => Err(ErrorKind::NotFound.into()),
         };
-        self.told(f, Call::Read, answer)
+        self.checked(f, Call::Read, answer)
     }
 
     fn write_at(&mut self, f: FileId, at: u64, bytes: &[u8]) -> Result<(), DiskFault> {
         let answer = match &mut self.store {
             Some(store) => {
                 if let Some(entry) = cut_in(f, bytes) {
-                    report_resumed(&self.rt, self.program, store, f, entry);
+                    report_resumed(&self.reports.rt, self.reports.program, store, f, entry);
                 }
                 store.write(f, at, bytes)
             }
             None => Err(ErrorKind::NotFound.into()),
         };
-        self.told(f, Call::Write, answer)
+        self.checked(f, Call::Write, answer)
     }
 
     fn sync(&mut self, f: FileId) -> Result<(), DiskFault> {
@@ -295,6 +319,6 @@ impl<W: Wait + Copy> Disk for FileDisk<W> {
             Some(store) => store.sync(f).map_err(CallFault::Io),
             None => Err(ErrorKind::NotFound.into()),
         };
-        self.told(f, Call::Sync, answer)
+        self.checked(f, Call::Sync, answer)
     }
 }

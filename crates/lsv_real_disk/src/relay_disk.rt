@@ -99,7 +99,7 @@ fn is_of_relay(owner: Owner) -> bool {
 impl<W: Wait + Copy> Disk for RelayDisk<W> {
     ghost tells = { ⊥ };
 
-    ghost view = { λ d. untold (d.own.faults + d.others.faults) };
+    ghost view = { λ d. untold (d.own.reports.faults + d.others.reports.faults) };
 
     ghost reads_itself = { λ told. absurd told };
 
