@@ -558,12 +558,21 @@ def port_taken() -> None:
     case("port other listen no port", "fault, then fault")
 
 
+def port_bell() -> None:
+    """A port's bell."""
+    title("a port whose bell is rung doesn't wait")
+    case("bell before", "40 turns report nothing, and don't wait")
+    title("nor if another thread rings it")
+    case("bell during", "40 turns report nothing, and don't wait")
+
+
 def main() -> None:
     """Writes all cases."""
     if len(sys.argv) != 2:
         sys.exit("usage: rows.py FOLDER")
     for part in [disk_file, disk_modes, disk_gate, disk_gone, disk_lock, disk_shared, disk_lanes_events, disk_many,
-        all_names, files, makings, ports_share, port_full, port_taken]:
+        all_names, files, makings, ports_share, port_full, port_taken,
+        port_bell]:
         part()
     ROWS.write(sys.argv[1])
     print(f"{len(ROWS.cases)} cases, {len(ROWS.wanted)} lines that must be printed")

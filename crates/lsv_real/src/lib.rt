@@ -8,7 +8,7 @@ mod streams;
 mod texts;
 
 pub use clock::WallClock;
-pub use port::MioPort;
+pub use port::{MioBell, MioPort};
 pub use standard::open_standard;
 pub use streams::{StdScreen, StdSink, StdSource};
 pub use texts::FileTexts;

@@ -5,6 +5,7 @@ ghost use Rattle.lsv_real.specs.UntoldPort.{untold_port, ledger_of};
 
 mod accepted;
 mod address;
+mod bell;
 mod door;
 mod leaving;
 mod turned_away;
@@ -12,6 +13,7 @@ mod wakes;
 
 use accepted::Accepted;
 use address::advice;
+pub use bell::MioBell;
 use door::Door;
 use leaving::Leaving;
 use lsv_port::{Gave, Port, PortFault, Ready, Took};
@@ -34,6 +36,7 @@ pub struct MioPort<N: Net + Drop> {
     reports: Reports,
     net: N,
     door: Arc<Door, Global>,
+    bell: MioBell,
     wakes: Option<Wakes>,
     links: HashMap<u32, Accepted>,
     leaving: Leaving,
@@ -52,16 +55,31 @@ impl<N: Net + Drop> MioPort<N> {
         ensures { IfOk result (λ p. ⟦<MioPort<N> as Port>⟧.ledger p ≡ ledger_of 0 0) }
     {
         let door = Arc::new(rt.alloc(), Door::new())?;
-        Ok(MioPort::at(rt, net, program, door))
+        Ok(MioPort::at(rt, net, program, door, MioBell::new(rt.alloc())?))
     }
 
     /// A port that shares the listening socket of this one.
-    pub fn beside(&self, net: N) -> Result<Self, AllocError> {
+    pub fn beside(&self, net: N) -> Result<Self, AllocError>
+        ensures { IfOk result (λ p. ⟦<MioPort<N> as Port>⟧.ledger p ≡ ledger_of 0 0) }
+    {
         let door = Arc::try_clone(&self.door)?;
-        Ok(MioPort::at(self.reports.rt, net, self.reports.program, door))
+        let rt = self.reports.rt;
+        let bell = MioBell::new(rt.alloc())?;
+        Ok(MioPort::at(rt, net, self.reports.program, door, bell))
     }
 
-    fn at(rt: HostRuntime, net: N, program: &'static str, door: Arc<Door, Global>) -> Self
+    /// A handle of this port's own bell, for another thread.
+    pub fn bell(&self) -> Result<MioBell, AllocError> {
+        self.bell.try_clone()
+    }
+
+    fn at(
+        rt: HostRuntime,
+        net: N,
+        program: &'static str,
+        door: Arc<Door, Global>,
+        bell: MioBell,
+    ) -> Self
         ensures turns { result.reports.faults ≡ 0 }
         ensures links { result.link_faults ≡ 0 }
     {
@@ -69,6 +87,7 @@ impl<N: Net + Drop> MioPort<N> {
             reports: Reports::new(rt, program),
             net,
             door,
+            bell,
             wakes: None,
             links: HashMap::new(rt.alloc()),
             leaving: Leaving::new(rt.alloc()),
@@ -87,7 +106,9 @@ impl<N: Net + Drop> MioPort<N> {
         ensures links { self.new.link_faults ≡ self.old.link_faults }
     {
         let sockets = self.door.sockets(&self.net, address)?;
-        self.wakes = Some(Wakes::new(self.reports.rt.alloc(), &self.net, sockets)?);
+        let wakes = Wakes::new(self.reports.rt.alloc(), &self.net, sockets)?;
+        self.bell.set(wakes.waker()?);
+        self.wakes = Some(wakes);
         Ok(())
     }
 

@@ -2,6 +2,7 @@
 //! in which it runs. README.md names the cases.
 #![tactic(auto)]
 
+mod bells;
 mod disks;
 mod folders;
 mod links;
@@ -53,6 +54,7 @@ impl<R: Wait + Threads + Copy + Send + Sync> Setting<R> {
             "threads" => folders::show_threads(rt, &self.threads, rest),
             "file" => self.syncing.answer(rt, rest),
             "made" => making::show(rt, rest),
+            "bell" => bells::show(rt, &self.threads, rest),
             "ports" => self.links.open(*rt, rest),
             "port" => self.links.answer(rt, rest),
             "client" => self.links.answer_client(rt, rest),

@@ -4,7 +4,7 @@ use super::door::Sockets;
 use lsv_port::Ready;
 use mio::event::Event;
 use mio::net::{TcpListener, TcpStream};
-use mio::{Events, Interest, Poll, Token};
+use mio::{Events, Interest, Poll, Token, Waker};
 use std::alloc::Global;
 use std::collections::HashMap;
 use std::io;
@@ -16,6 +16,9 @@ use std::time::Duration;
 const LISTENER: Token = Token(usize::MAX);
 
 const FURTHER: Token = Token(usize::MAX - 1);
+
+/// The name of the port's bell. No link has its number either.
+const BELL: Token = Token(usize::MAX - 2);
 
 /// One wait gives this many events at most.
 const MOST_EVENTS: usize = 256;
@@ -81,6 +84,11 @@ impl Wakes {
             has_moved: false,
             still: 0,
         })
+    }
+
+    /// What ends a wait from another thread.
+    pub fn waker(&self) -> io::Result<Waker> {
+        Waker::new(self.poll.registry(), BELL)
     }
 
     /// Bytes went over a link, so that one that is held may go on.
@@ -203,7 +211,7 @@ fn accept_of(first: &TcpListener, second: &TcpListener) -> io::Result<(TcpStream
     }
 }
 
-/// The link of an event. None where it is that of a socket that listens.
+/// The link of an event. None if it is that of a socket that listens, or of the bell.
 fn link_of(event: &Event) -> Option<u32> {
     u32::try_from(event.token().0).ok()
 }
