@@ -1,12 +1,14 @@
-//! The trusted edge beside the disk: the port of sockets, text files, the clock, standard input and standard output. They tell no content, and count their faults.
+//! The trusted edge beside the disk: the port of sockets, text files, the clock, the command line, standard input and standard output. They tell no content, and count their faults.
 #![tactic(auto)]
 
+mod arguments;
 mod clock;
 mod port;
 mod standard;
 mod streams;
 mod texts;
 
+pub use arguments::{ArgumentFault, arguments};
 pub use clock::WallClock;
 pub use port::{MioBell, MioPort};
 pub use standard::open_standard;

@@ -17,35 +17,15 @@ use lsv_base::{Bytes, List};
 use lsv_disk::Disk;
 use lsv_hook::Formatter;
 use lsv_mask::{Prompt, TextSearch};
-use lsv_real::{FileTexts, MioPort, StdSink, StdSource, WallClock, open_standard};
+use lsv_real::{
+    ArgumentFault, FileTexts, MioPort, StdSink, StdSource, WallClock, arguments, open_standard,
+};
 use lsv_real_disk::{FileDisk, RelayDisk};
 use lsv_serve::{Kept, Outside, Status, logsrvd};
 use lsv_tcp::TcpLink;
 use lsv_turn::NoTape;
-use std::alloc::Global;
-use std::env;
-use std::io::ErrorKind;
 use std::process::ExitCode;
 use std::sync::Wait;
-
-/// The words after the program's name. One that isn't UTF-8 makes them a faulty command line.
-fn words(rt: &HostRuntime, alloc: Global) -> Result<List<Bytes>, Status> {
-    let args = match env::args(rt) {
-        Ok(args) => args,
-        Err(e) if e.kind() == ErrorKind::OutOfMemory => return Err(Status::NoMem),
-        Err(_) => return Err(Status::Usage),
-    };
-    let mut words = List::new(alloc);
-    for arg in args.skip(1) {
-        let Ok(word) = Bytes::of(alloc, arg.as_bytes()) else {
-            return Err(Status::NoMem);
-        };
-        let Ok(()) = words.push(word) else {
-            return Err(Status::NoMem);
-        };
-    }
-    Ok(words)
-}
 
 /// The one port of `serve`.
 fn ports(rt: HostRuntime) -> Result<Vec<MioPort<HostRuntime>>, Status>
@@ -61,15 +41,14 @@ fn ports(rt: HostRuntime) -> Result<Vec<MioPort<HostRuntime>>, Status>
     }
 }
 
+/// Does what the words ask for, over the disk that their command needs.
 fn run<W: Wait + Copy>(rt: HostRuntime, waits: W) -> Status {
-    let alloc = rt.alloc();
-    let words = match words(&rt, alloc) {
+    let words = match arguments(&rt) {
         Ok(words) => words,
-        Err(status) => {
-            if status == Status::Usage {
-                let _ = eprintln!(rt; "sudo_logsrvd: a word isn't UTF-8");
-            }
-            return status;
+        Err(ArgumentFault::NoMem) => return Status::NoMem,
+        Err(ArgumentFault::NotText) => {
+            let _ = eprintln!(rt; "sudo_logsrvd: a word isn't UTF-8");
+            return Status::Usage;
         }
     };
     if let Err(status) = descriptors::check(&rt, &words) {

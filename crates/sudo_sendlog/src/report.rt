@@ -5,6 +5,7 @@ use lsv_base::{Bytes, List, Point};
 use lsv_dialogue::Cause;
 use lsv_disk::Part;
 use lsv_iolog::LogFault;
+use lsv_real::ArgumentFault;
 use lsv_real_disk::is_denied;
 use lsv_send::{SendStatus, request_of};
 use lsv_send_args::WordsFault;
@@ -33,12 +34,17 @@ pub fn report(rt: &HostRuntime, words: &List<Bytes>, status: &SendStatus) {
 }
 
 /// Says why the words weren't read.
-pub fn report_unread(rt: &HostRuntime, status: &SendStatus) {
-    if let SendStatus::Usage = status {
-        let _ = eprintln!(rt; "sudo_sendlog: a word isn't UTF-8");
-        let _ = eprintln!(rt; "{FORMS}");
-    } else {
-        let _ = eprintln!(rt; "sudo_sendlog: out of memory");
+pub fn report_unread(rt: &HostRuntime, fault: ArgumentFault) -> SendStatus {
+    match fault {
+        ArgumentFault::NoMem => {
+            let _ = eprintln!(rt; "sudo_sendlog: out of memory");
+            SendStatus::NoMem
+        }
+        ArgumentFault::NotText => {
+            let _ = eprintln!(rt; "sudo_sendlog: a word isn't UTF-8");
+            let _ = eprintln!(rt; "{FORMS}");
+            SendStatus::Usage
+        }
     }
 }
 

@@ -7,46 +7,17 @@ mod search;
 mod usage;
 
 use crate::report::{advise, report};
-use lsv_base::{Bytes, List};
-use lsv_real::StdScreen;
+use lsv_real::{ArgumentFault, StdScreen, arguments};
 use lsv_real_disk::ReadOnlyDisk;
 use lsv_replay::{ReplayStatus, sudoreplay};
-use std::alloc::Global;
-use std::env;
-use std::io::ErrorKind;
 use std::process::ExitCode;
-
-/// The words after the program's name. One that isn't UTF-8 makes them a faulty command line.
-fn words(rt: &HostRuntime, alloc: Global) -> Result<List<Bytes>, ReplayStatus> {
-    let args = match env::args(rt) {
-        Ok(args) => args,
-        Err(e) if e.kind() == ErrorKind::OutOfMemory => return Err(ReplayStatus::NoMem),
-        Err(_) => return Err(ReplayStatus::Usage),
-    };
-    let mut words = List::new(alloc);
-    for arg in args.skip(1) {
-        let Ok(word) = Bytes::of(alloc, arg.as_bytes()) else {
-            return Err(ReplayStatus::NoMem);
-        };
-        let Ok(()) = words.push(word) else {
-            return Err(ReplayStatus::NoMem);
-        };
-    }
-    Ok(words)
-}
 
 /// Does what the words ask for, and says on standard error what there is to say of it.
 fn run(rt: HostRuntime) -> ReplayStatus {
     let alloc = rt.alloc();
-    let words = match words(&rt, alloc) {
+    let words = match arguments(&rt) {
         Ok(words) => words,
-        Err(status) => {
-            if status == ReplayStatus::Usage {
-                let _ = eprintln!(rt; "sudoreplay: a word isn't UTF-8");
-            }
-            tell(&rt, status);
-            return status;
-        }
+        Err(fault) => return unread(&rt, fault),
     };
     let mut disk = ReadOnlyDisk::new(rt, "sudoreplay");
     let mut screen = StdScreen::new(rt);
@@ -56,6 +27,19 @@ fn run(rt: HostRuntime) -> ReplayStatus {
         report(&rt, &words, status);
         tell(&rt, status);
     }
+    status
+}
+
+/// Says why the words can't be had.
+fn unread(rt: &HostRuntime, fault: ArgumentFault) -> ReplayStatus {
+    let status = match fault {
+        ArgumentFault::NoMem => ReplayStatus::NoMem,
+        ArgumentFault::NotText => {
+            let _ = eprintln!(rt; "sudoreplay: a word isn't UTF-8");
+            ReplayStatus::Usage
+        }
+    };
+    tell(rt, status);
     status
 }
 
