@@ -44,7 +44,7 @@ log_same a b is = cc
 no_log : (a : LogFault) → NoMem ≡ Log a → ⊥
 no_log a is = cc
 
--- and where it answers `Log`, it is the device
+-- and if it answers `Log`, it is the device
 pub disk_alone : (e fault : LogFault) → of_log e ≡ Log fault → (e ≡ logs.Disk) ⊎ (e ≡ logs.NoMem) → fault ≡ logs.Disk
 disk_alone e fault is (inl disk) = sym (log_same logs.Disk fault (sym (ap of_log disk) ∙ is))
 disk_alone e fault is (inr memory) = absurd (no_log fault (sym (ap of_log memory) ∙ is))

@@ -109,7 +109,7 @@ impl Follow {
         }
     }
 
-    /// What is said if all records were shown.
+    /// The answer if all records were shown.
     fn at_end(&self) -> Seen
         ensures end { self.now.view.body.kind ≡ 3 → result ≡ Seen.End }
         ensures going { self.now.view.body.kind ≢ 3 → result ≡ Seen.Nothing }

@@ -43,12 +43,12 @@ part_there o records i r part lt is first =
     ap (play o) (sym (take-append-drop i records)) ∙ (play_append o (take i records) (drop i records) ∙ ap (λ (rs : List Record). play o (take i records) ++ play o rs) next) in
     subst (IsPart (play o (take i records) ++ part)) (sym split) (part_behind (play o (take i records)) part _ (part_of_more part (items_of o r) (play o (drop (suc i) records)) first))
 
--- what holds holds where there is an error
+-- what holds, holds if there is an error
 pub on_err : {T E P : Type 0} (r : Result T E) → P → OnErr r P
 on_err (Ok x) p = tt
 on_err (Err e) p = p
 
--- what follows of an error's clause holds where there is one
+-- what follows from an error's clause holds if there is an error
 pub if_err : {T E : Type 0} (r : Result T E) (P Q : Type 0) → OnErr r P → (P → Q) → OnErr r Q
 if_err (Ok x) P Q is step = tt
 if_err (Err e) P Q is step = step is

@@ -66,7 +66,7 @@ last_or (z ∷ rs) (y ∷ front) r x more e =
       | inr p ↦ inr (p.0, ap (λ (w : Record). w ∷ rs) h ∙ ap (λ (ws : List Record). y ∷ ws) p.1)
     ]
 
--- where after these nothing is at fault, one more may be given
+-- if after these nothing is at fault, one more may be given
 sound_push : (l : Laid) (body : Body) (rs : List Record) (r : Record) → IsSoundSoFar l body rs → IsSoundBehind l body rs → IsSoundSoFar l body (rs ++ r ∷ [])
 sound_push l body rs r so_far here front x more e = elim (last_or rs front r x more e) [ inl p ↦ subst (IsSoundBehind l body) (sym p) here | inr p ↦ so_far front x p.0 p.1 ]
 
@@ -119,7 +119,7 @@ pub begins_same : (start log : ViewState) (old now : DiskView) (rs : List Record
 begins_same start log old now rs number body reads behind =
     subst (λ (l : Laid). Begins l rs) (laid_same start log old now number body (same_image old now reads)) behind.begins
 
--- what is put of a log's records, where their playing came to this
+-- what is put of a log's records, if their playing came to this
 pub record Puts {T : Type 0} (shows : Type 0) (o : Options) (l : Laid) (body : Body) (r : Result T PlayFault) (before shown : List Item) : Type 0 where
   pub put : List Item
   pub put_is : shows → shown ≡ before ++ put

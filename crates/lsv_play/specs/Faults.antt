@@ -4,7 +4,7 @@ use Rattle.lsv_iolog.specs.declared.fault.LogFault.TheVariants as logs
 use Rattle.lsv_play.specs.declared.fault.PlayFault.{PlayFault}
 use Rattle.lsv_play.specs.declared.fault.PlayFault.TheVariants.{Absent, Damaged, Disk, NoMem}
 
--- the same fault; those that never come of reading count as want of memory
+-- the same fault; those that no reading answers are out of memory
 abbrev pub of_log : LogFault → PlayFault
 of_log logs.Absent = Absent
 of_log (logs.Damaged part) = Damaged part

@@ -1,4 +1,4 @@
--- What may be put of a log that is played, by how its playing ended.
+-- What may be shown of a log that is played, by how its playing ended.
 use Rattle.std.specs.Prelude.{◌≡◌, ◌⊎◌, ℕ, List, [], length, take, None, Result, Ok, Err, ◌∷◌, ◌++◌}
 use Rattle.lsv_disk.specs.declared.file.Part.{Part}
 use Rattle.lsv_disk.specs.declared.file.Part.TheVariants.{Head as HeadPart}
@@ -28,11 +28,11 @@ use Rattle.lsv_play.specs.declared.fault.PlayFault.TheVariants.{Absent, Damaged,
 abbrev pub text_at : ℕ → Body → Image → Part → List ℕ
 text_at n body image part = take (length_of body part) (bytes_of (image (file_of (owner_of n) part)))
 
--- and the timing and the streams of them
+-- the timing and the streams of these bytes
 abbrev pub laid_at : ℕ → Body → Image → Laid
 laid_at n body image = laid_in (text_at n body image)
 
--- these are all records: the bytes are their layout, and they are as many and of as much time as the entry says
+-- these are all records: the bytes are their layout, and their count and time are those of the entry
 pub record AreAll (l : Laid) (body : Body) (records : List Record) : Type 0 where
   pub begins : Begins l records
   pub layout : IsLayout l records
@@ -54,11 +54,11 @@ pub record AreBeforeFault (l : Laid) (body : Body) (part : Part) (records : List
   pub sound : IsSoundSoFar l body records
   pub fault : IsFaultBehind l body records part
 
--- a first part is put of the schedule of records that are given
+-- a first part of the schedule of records that are given is shown
 abbrev pub PlaysSome : Options → Laid → Body → List Item → Type 0
 PlaysSome o l body put = (records : List Record) × AreGiven l body records × IsPart put (play o records)
 
--- what is put of a log with this entry and these bytes: all at the end, all before a fault, and else a first part
+-- what is shown of a log with this entry and these bytes: all at the end, all before a fault, and else a first part
 abbrev pub PlaysRecords : {T : Type 0} → Options → Laid → Body → Result T PlayFault → List Item → Type 0
 PlaysRecords o l body (Ok end) put = (records : List Record) × AreAll l body records × (put ≡ play o records)
 PlaysRecords o l body (Err (Damaged part)) put = (records : List Record) × AreBeforeFault l body part records × (put ≡ play o records)
@@ -76,7 +76,7 @@ IsNotOpened n image (Err Disk) = Unit {0}
 IsNotOpened n image (Err Screen) = ⊥
 IsNotOpened n image (Err NoMem) = Unit {0}
 
--- the log has this last entry, each of its data files is there and has as many bytes as this says, and the text of its head is this head
+-- the log has this last entry, each data file exists with the bytes that the entry states, and the text of its head is this head
 pub record IsOpened (n : ℕ) (body : Body) (head : Head) (image : Image) : Type 0 where
   pub entry : HasEntry (owner_of n) body image
   pub there : AreThere (owner_of n) body image
@@ -89,6 +89,6 @@ pub record PlaysLog {T : Type 0} (o : Options) (n : ℕ) (image : Image) (r : Re
   pub opened : IsOpened n body head image
   pub records : PlaysRecords o (laid_at n body image) body r put
 
--- what is put of the log of this number, as an image of the disk has it: nothing where it isn't opened
+-- what is shown of the log of this number, as an image of the disk has it: nothing if it isn't opened
 abbrev pub Plays : {T : Type 0} → Options → ℕ → Image → Result T PlayFault → List Item → Type 0
 Plays o n image r put = (IsNotOpened n image r × (put ≡ [])) ⊎ PlaysLog o n image r put

@@ -1,4 +1,4 @@
--- What is shown of a log's records: before each its wait, and then its bytes, where they are asked for.
+-- What is shown of a log's records: before each its wait, and then its bytes, if they are asked for.
 use Rattle.std.specs.Prelude.{ℕ, ◌*◌, ◌/◌, ◌-◌, ◌^◌, min, get_or, Bool, false, not, ◌&&◌, if◌then◌else◌, List, [], ◌∷◌, Option, Some, None, codes}
 use Rattle.std.specs.List.{flat_map}
 use Rattle.std.specs.Str.{bytes_eq}
@@ -16,7 +16,7 @@ resumes (Io delay stream bytes) = false
 resumes (Winsize delay rows cols) = false
 resumes (Suspend delay signal) = bytes_eq signal (codes "CONT")
 
--- no more than the longest wait, where there is one
+-- no more than the longest wait, if there is one
 abbrev pub at_most : Option ℕ → ℕ → ℕ
 at_most None nanos = nanos
 at_most (Some longest) nanos = min nanos longest
@@ -33,7 +33,7 @@ wait_of o delay resumes = if resumes && not o.suspended then 0 else scaled o del
 abbrev pub is_selected : Options → Stream → Bool
 is_selected o stream = get_or o.streams (event_of stream) false
 
--- bytes are put where there are some
+-- bytes are put if there are any
 abbrev pub put_of : List ℕ → List Item
 put_of [] = []
 put_of (byte ∷ bytes) = Put (byte ∷ bytes) ∷ []

@@ -36,7 +36,7 @@ impl From<LogFault> for PlayFault {
             LogFault::Damaged(part) => PlayFault::Damaged(part),
             LogFault::Disk => PlayFault::Disk,
             LogFault::NoMem => PlayFault::NoMem,
-            // Who only reads a log is never answered these.
+            // No call that only reads a log answers these.
             LogFault::Complete
             | LogFault::NoPoint(_)
             | LogFault::Broken

@@ -12,8 +12,8 @@ ghost use Rattle.lsv_play.specs.Playing.{Plays};
 ghost use Rattle.lsv_play.specs.declared.fault.PlayFault.{PlayFault};
 ghost use Rattle.lsv_play.specs.declared.fault.PlayFault.TheVariants as faults;
 
-/// Of a log that the disk holds, what is put is a first part of the schedule of its records, and at the end all of it;
-/// and such a log is never said to be absent or damaged.
+/// If the disk holds a log, a first part of the schedule of its records is shown, and at Ok all of it. Such a log is
+/// never reported absent or damaged.
 pub fn a_stored_log_is_played()
     ensures part { (o : Options) (n : ℕ) (image : Image) (r : Result (Unit {0}) PlayFault) (put : List Item) (log : Stored) → Replays image n (Some log) → Plays o n image r put → IsPart put (play o log.records) }
     ensures whole { (o : Options) (n : ℕ) (image : Image) (end : Unit {0}) (put : List Item) (log : Stored) → Replays image n (Some log) → Plays o n image (Ok end) put → put ≡ play o log.records }

@@ -51,7 +51,7 @@ impl MemScreen {
         self.script.refused
     }
 
-    /// Keeps one item more, or counts that memory was refused.
+    /// Adds an item. If memory is refused, that is counted.
     fn keep(&mut self, item: Item) -> Result<(), SinkFault>
         ensures ok { OnOk result ((self.new.shown ≡ self.old.shown ++ item ∷ []) × (self.new.script ≡ self.old.script)) }
         ensures err { OnErr result ((self.new.shown ≡ self.old.shown)

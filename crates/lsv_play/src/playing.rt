@@ -15,7 +15,9 @@ use lsv_disk::Disk;
 use lsv_iolog::LogView;
 use std::alloc::Global;
 
-/// Plays the log of this number, as its files read: what is put before it stops is a first part of its records.
+/// Plays the log of this number, as its files read. What is shown at a fault is a first part of the schedule of its
+/// records. `Absent` comes if its journal has no entry, `Damaged` at the first part at fault, `Disk` if a device call on
+/// its files failed, `Screen` if the screen failed, `NoMem` if memory ran out.
 pub fn play_log<D: Disk, S: Screen>(
     alloc: Global,
     disk: &mut D,
@@ -32,7 +34,7 @@ pub fn play_log<D: Disk, S: Screen>(
     play_records(disk, &mut log, o, screen)
 }
 
-/// Plays the records of a log of which none was given yet.
+/// Plays all records of a log that was just opened.
 fn play_records<D: Disk, S: Screen>(
     disk: &mut D,
     log: &mut LogView,

@@ -5,7 +5,7 @@ ghost use Rattle.lsv_play.specs.Items.{IsPart};
 
 use lsv_base::{Bytes, SinkFault};
 
-/// What a screen is told.
+/// What is shown on a screen.
 #[derive(Debug, Drop)]
 pub enum Item {
     /// This many nanoseconds are waited.
@@ -14,9 +14,9 @@ pub enum Item {
     Put(Bytes),
 }
 
-/// Where a session is shown, as a terminal.
+/// What a session is shown on, such as a terminal.
 pub trait Screen {
-    /// Whether this type tells its content: what was shown is promised where it does.
+    /// This type tells its content. What was shown is promised only if it does.
     ghost tells: { Type 0 };
 
     /// What was waited and put, in order.

@@ -23,8 +23,8 @@ pub fn play<S: Screen>(o: &Options, records: &[Record], screen: &mut S) -> Resul
     Ok(())
 }
 
-/// Shows a record: its wait, and then its bytes, where their stream is asked for and there are some. At a fault a first
-/// part of that is shown.
+/// Shows a record: its wait, and then its bytes, if there are any and their stream is asked for. At a fault a first part
+/// of that is shown.
 pub fn play_record<S: Screen>(o: &Options, r: &Record, screen: &mut S) -> Result<(), SinkFault>
     ensures shown { S.tells → OnOk result (S.shown screen.new ≡ S.shown screen.old ++ items_of o.now r.now) }
     ensures part { OnErr result ((part : List Item) × IsPart part (items_of o.now r.now) × (S.tells → S.shown screen.new ≡ S.shown screen.old ++ part)) }

@@ -3,12 +3,11 @@ ghost use Rattle.lsv_play.specs.Schedule.{wait_of};
 
 use crate::Options;
 
-/// The longest wait that there is, in nanoseconds.
+/// The longest wait in nanoseconds.
 const LONGEST: u128 = (1 << 63) - 1;
 
-/// How many nanoseconds are waited for a delay: the delay at the options' speed, rounded down, and then at most the
-/// longest wait, and at most 2^63 - 1. Where the record resumes a suspended command nothing is waited, unless that is
-/// asked for.
+/// The nanoseconds that are waited for a delay: the delay at the options' speed, rounded down, and then at most the
+/// longest wait, and at most 2^63 - 1. It is 0 if the record resumes a suspended command, unless that time is asked for.
 pub fn wait_of(o: &Options, delay: u64, resumes: bool) -> u64
     ensures { result ≡ wait_of o.now delay resumes }
 {

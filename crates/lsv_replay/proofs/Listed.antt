@@ -151,7 +151,7 @@ module _ (tells shows : Type 0) (e : List Step) (n number : ℕ) (first : Option
 
 -- ---- all of it
 
--- nothing is put where the numbers aren't read
+-- nothing is put if the numbers aren't read
 pub none_listed : {T : Type 0} (searched : Option Expression) (image : Image) (e : ListFault) (r : Result T ListFault) → r ≡ Err e → IsNumbersFault e → ((e ≡ faults.Disk → ⊥) → last_number image ≡ None) → Lists searched image r []
 none_listed {T} searched image e r same fault none = subst (λ (x : Result T ListFault). Lists searched image x []) (sym same) (at e fault none) where
   at : (e : ListFault) → IsNumbersFault e → ((e ≡ faults.Disk → ⊥) → last_number image ≡ None) → Lists {T = T} searched image (Err e) []

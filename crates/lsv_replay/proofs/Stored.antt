@@ -22,7 +22,7 @@ use Rattle.lsv_replay.specs.declared.status.ReplayStatus.{ReplayStatus}
 use Rattle.lsv_replay.specs.declared.status.ReplayStatus.TheVariants.{Shown, Damaged, Absent, NoMem}
 use Rattle.lsv_replay.proofs.Replayed.{not_both, one_asked}
 
--- what is put of a log is put by its playing, where the run didn't end before
+-- what is put of a log is put by its playing, if the run didn't end before
 record IsPlayed (n : ℕ) (manner : Manner) (image : Image) (status : ReplayStatus) (put : List Item) : Type 0 where
   o : Options
   manner_is : manner_in o ≡ manner

@@ -22,7 +22,7 @@ IsNumbersFault Disk = Unit {0}
 IsNumbersFault Screen = ⊥
 IsNumbersFault NoMem = ⊥
 
--- what a log that isn't opened is to a listing: a damaged one has its part; those faults that never come of reading count as want of memory
+-- what a log that isn't opened is to a listing: a damaged one has its part; faults that no reading answers are out of memory
 abbrev pub of_log : LogFault → Result (Option Part) ListFault
 of_log logs.Absent = Ok None
 of_log (logs.Damaged part) = Ok (Some part)

@@ -1,4 +1,4 @@
--- The listing of logs that the disk holds, of which none is damaged.
+-- The listing of the logs that the disk holds, if none is damaged.
 use Rattle.std.specs.Prelude.{ℕ, suc, List, [], ◌∷◌, ◌++◌, length, Option, Some, None, Result, Ok, Err}
 use Rattle.lsv_disk.specs.View.{Image}
 use Rattle.lsv_info.specs.declared.fault.InfoFault.{InfoFault}
@@ -10,12 +10,12 @@ use Rattle.lsv_record.specs.Points.{Stored}
 use Rattle.lsv_search.specs.Grammar.{Expression}
 use Rattle.lsv_replay.specs.Listing.{There, line_if}
 
--- the disk holds these of the logs from 1 on, a log or none for each number, of which the last stands first
+-- the disk holds these logs from 1 on, a log or none for each number; the last stands first
 abbrev pub AreHeld : Image → List (Option Stored) → Type 0
 AreHeld image [] = Unit {0}
 AreHeld image (log ∷ before) = Replays image (suc (length before)) log × AreHeld image before
 
--- the line of a head that was read, where it is searched for
+-- the line of a head that was read, if it is searched for
 abbrev pub line_read : Option Expression → ℕ → Result Head InfoFault → List Item
 line_read searched n (Ok head) = line_if searched n (There head)
 line_read searched n (Err fault) = []

@@ -1,4 +1,4 @@
--- The listing of the logs that are searched for, and what may be put of it, by how it ended.
+-- The listing of the logs that are searched for, and what of it may be shown, by how it ended.
 use Rattle.std.specs.Prelude.{◌≡◌, ◌⊎◌, ◌≤◌, ℕ, suc, List, [], ◌∷◌, ◌++◌, length, Option, Some, None, Result, Ok, Err, if◌then◌else◌}
 use Rattle.std.specs.Option.{option_or}
 use Rattle.lsv_disk.specs.declared.file.Part.{Part}
@@ -20,28 +20,28 @@ use Rattle.lsv_replay.specs.Numbers.{last_number}
 use Rattle.lsv_replay.specs.declared.fault.ListFault.{ListFault}
 use Rattle.lsv_replay.specs.declared.fault.ListFault.TheVariants.{Damaged, Disk, Screen, NoMem}
 
--- what there is of a log: nothing, a log of which this part is at fault, or one with this head
+-- what exists of a log: nothing, a log with this part at fault, or one with this head
 pub data Found : Type 0 where
   Nowhere : Found
   Faulty : Part → Found
   There : Head → Found
 
--- an image of the disk holds that of the log of this number
+-- what an image of the disk holds of the log of this number
 abbrev pub IsFound : Image → ℕ → Found → Type 0
 IsFound image n Nowhere = Replays image n None
 IsFound image n (Faulty part) = IsViewDamage n part image
 IsFound image n (There head) = (body : Body) × IsOpened n body head image
 
--- it holds these of the logs from 1 on, of which the last stands first
+-- what it holds of the logs from 1 on; the last stands first
 abbrev pub AreFound : Image → List Found → Type 0
 AreFound image [] = Unit {0}
 AreFound image (found ∷ before) = IsFound image (suc (length before)) found × AreFound image before
 
--- the line of a log: that of the event by which it was accepted, which tells of no connection
+-- the line of a log: that of the event by which it was accepted, without a connection
 unfoldable pub line_of : ℕ → Head → List ℕ
 line_of n head = sudo_line (Accept head.submit (record { worker = 0; seq = 0 }) (Some n) head)
 
--- the line of a log that is there and searched for
+-- the line of a log that exists and is searched for
 abbrev pub line_if : Option Expression → ℕ → Found → List Item
 line_if searched n Nowhere = []
 line_if searched n (Faulty part) = []
@@ -58,7 +58,7 @@ damage_in Nowhere = None
 damage_in (Faulty part) = Some part
 damage_in (There head) = None
 
--- and of the first that is damaged
+-- the part at fault of the first damaged log
 abbrev pub first_damage : List Found → Option Part
 first_damage [] = None
 first_damage (found ∷ before) = option_or (first_damage before) (damage_in found)
@@ -84,7 +84,7 @@ pub record ListsNone (image : Image) (put : List Item) (part : Part) : Type 0 wh
   pub part_is : part ≡ Slots
   pub put_is : put ≡ []
 
--- what is put of the listing
+-- what is shown of the listing
 abbrev pub Lists : {T : Type 0} → Option Expression → Image → Result T ListFault → List Item → Type 0
 Lists searched image (Ok end) put = ListsAll searched image put None
 Lists searched image (Err (Damaged part)) put = ListsAll searched image put (Some part) ⊎ ListsNone image put part

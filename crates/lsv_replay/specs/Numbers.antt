@@ -7,21 +7,21 @@ use Rattle.lsv_iolog.specs.Recovered.{IsOfLog}
 use Rattle.lsv_seq.specs.declared.fault.SeqFault.{SeqFault}
 use Rattle.lsv_seq.specs.Drawn.{IsNumbersFile, entry_at, viewed}
 
--- what a number file says, 0 and 0 where it has no entry; none where it is damaged
+-- what a number file says: 0 and 0 if it has no entry, nothing if it is damaged
 abbrev pub drawn_in : Result (Option (ℕ × ℕ)) SeqFault → Option (ℕ × ℕ)
 drawn_in (Ok found) = Some (unwrap_or found (0, 0))
 drawn_in (Err fault) = None
 
--- the last number that a lane drew, and how many lanes there are
+-- the last number that a lane drew, and the count of lanes
 abbrev pub drawn : ℕ → Image → Option (ℕ × ℕ)
 drawn lane image = drawn_in (viewed lane (entry_at lane image))
 
--- the greatest number that the first this many lanes drew; none where a number file of theirs is damaged
+-- the greatest number that the first lanes drew; nothing if a number file of theirs is damaged
 abbrev pub greatest : ℕ → Image → Option ℕ
 greatest zero image = Some 0
 greatest (suc lanes) image = option_and_then (λ most. option_map (λ d. max most d.0) (drawn lanes image)) (greatest lanes image)
 
--- the greatest number that any lane drew, of as many lanes as lane 0's number file says
+-- the greatest number that any lane drew; lane 0's number file says how many lanes there are
 unfoldable pub last_number : Image → Option ℕ
 last_number image = option_and_then (λ d. greatest d.1 image) (drawn 0 image)
 

@@ -64,7 +64,7 @@ FollowsNumber manner None image status put = (status ≡ Absent) × (put ≡ [])
 FollowsNumber manner (Some n) image status put = (o : Options) × (manner_in o ≡ manner)
     × ((answer : Result (Unit {0}) FollowEnd) × (status ≡ of_following answer) × Follows o n image answer put)
 
--- nothing is put where the words are no search
+-- nothing is put, since the words are no search
 pub record PutsNone (words : List (List ℕ)) (status : ReplayStatus) (put : List Item) : Type 0 where
   pub at : ℕ
   pub first_bad : IsFirstBad words at
@@ -89,7 +89,7 @@ Does (Play dir manner id) image status put = PlaysNumber manner (log_no_in id) i
 Does (Follow dir manner id) image status put = FollowsNumber manner (log_no_in id) image status put
 Does (Search dir words) image status put = ListsWords words image status put
 
--- what a run puts: nothing where its words are no command, or out of memory, and else what it is asked for
+-- what a run puts: nothing if its words are no command or memory ran out, and else what it is asked for
 abbrev pub Answers : List (List ℕ) → Image → ReplayStatus → List Item → Type 0
 Answers words image status put =
     (IsUsage words × (status ≡ Usage) × (put ≡ []))

@@ -1,4 +1,4 @@
--- How a run ended, as the program tells it.
+-- How a run ended, as the program reports it.
 use Rattle.std.specs.Prelude.{ℕ, List, [], ◌++◌, codes, decimal, Result, Ok, Err}
 use Rattle.lsv_replay.specs.declared.fault.ListFault.{ListFault}
 use Rattle.lsv_replay.specs.declared.fault.ListFault.TheVariants as lists

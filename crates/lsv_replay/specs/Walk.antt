@@ -10,7 +10,7 @@ use Rattle.lsv_replay.specs.Listing.{Found, There, IsFound, AreFound, line_if, l
 use Rattle.lsv_replay.specs.declared.fault.ListFault.{ListFault}
 use Rattle.lsv_replay.specs.declared.fault.ListFault.TheVariants.{Damaged, Disk, Screen, NoMem}
 
--- the line of a log with this head is put where it is searched for, or at a fault a first part of it
+-- the line of a log with this head is put if it is searched for; at a fault a first part of it
 abbrev pub ListsHead : Option Expression → ℕ → Head → Result (Option Part) ListFault → List Item → Type 0
 ListsHead searched n head (Ok damage) put = (put ≡ line_if searched n (There head)) × (damage ≡ None)
 ListsHead searched n head (Err (Damaged part)) put = ⊥
@@ -22,7 +22,7 @@ ListsHead searched n head (Err NoMem) put = IsPart put (line_if searched n (Ther
 abbrev pub IsCut : Option Expression → Image → ℕ → List Item → Type 0
 IsCut searched image n put = (put ≡ []) ⊎ ((found : Found) × IsFound image n found × IsPart put (line_if searched n found))
 
--- a log's line is put where it is there and searched for, and its damage is answered
+-- a log's line is put if it exists and is searched for, and its damage is answered
 abbrev pub ListsOne : Option Expression → Image → ℕ → Result (Option Part) ListFault → List Item → Type 0
 ListsOne searched image n (Ok damage) put = (found : Found) × IsFound image n found × (put ≡ line_if searched n found) × (damage ≡ damage_in found)
 ListsOne searched image n (Err (Damaged part)) put = ⊥

@@ -21,8 +21,8 @@ ghost use Rattle.lsv_replay.specs.Replay.{Answers, AsksForLog, AsksToFollowLog};
 ghost use Rattle.lsv_replay.specs.declared.status.ReplayStatus.{ReplayStatus};
 ghost use Rattle.lsv_replay.specs.declared.status.ReplayStatus.TheVariants as statuses;
 
-/// Where the words ask for a log that the disk holds, what is put is nothing or a first part of the playback schedule of
-/// its records, and at `Shown` all of it; and such a log is never said to be absent or damaged.
+/// If the words ask for a log that the disk holds, nothing or a first part of the playback schedule of its records is
+/// shown, and at `Shown` all of it. Such a log is never reported absent or damaged.
 pub fn a_stored_log_is_shown()
     ensures part { (words : List (List ℕ)) (n : ℕ) (manner : Manner) (image : Image) (status : ReplayStatus) (put : List Item) (log : Stored) → AsksForLog words n manner → Replays image n (Some log) → Answers words image status put
         → (put ≡ []) ⊎ ((o : Options) × (manner_in o ≡ manner) × IsPart put (play o log.records)) }
@@ -33,9 +33,10 @@ pub fn a_stored_log_is_shown()
         → Answers words image (statuses.Damaged part) put → ⊥ }
 {}
 
-/// If the words ask to follow a log that the disk holds, what is put is nothing or a first part of the playback schedule
-/// of its records and 36,000 pauses of 100 ms. At `Shown` it is the schedule, and the log is complete; at `Quiet` it is
-/// the schedule and the pauses, and the log isn't complete. Such a log is never said to be absent, damaged or resumed.
+/// If the words ask to follow a log that the disk holds, nothing is shown, or a first part of the playback schedule of
+/// its records and 36,000 pauses of 100 ms. At `Shown` the schedule is shown, and the log is complete. At `Quiet` the
+/// schedule and the pauses are shown, and the log isn't complete. Such a log is never reported absent, damaged or
+/// resumed.
 pub fn a_followed_log_is_shown()
     ensures part { (words : List (List ℕ)) (n : ℕ) (manner : Manner) (image : Image) (status : ReplayStatus) (put : List Item) (log : Stored) → AsksToFollowLog words n manner → Replays image n (Some log) → Answers words image status put
         → (put ≡ []) ⊎ ((o : Options) × (manner_in o ≡ manner) × IsPart put (play o log.records ++ pauses most_quiet)) }
@@ -49,13 +50,13 @@ pub fn a_followed_log_is_shown()
     ensures uncut { (words : List (List ℕ)) (n : ℕ) (manner : Manner) (image : Image) (put : List Item) → AsksToFollowLog words n manner → Answers words image statuses.Resumed put → ⊥ }
 {}
 
-/// Of a log that the disk holds nothing but its own head is found, and of an absent one nothing.
+/// If the disk holds a log, exactly its head is found. If the log is absent, nothing is found.
 pub fn a_stored_log_is_found()
     ensures stored { (image : Image) (n : ℕ) (log : Stored) (found : Found) → Replays image n (Some log) → IsFound image n found → (head : Head) × (head_of log.head ≡ Ok head) × (found ≡ There head) }
     ensures absent { (image : Image) (n : ℕ) (found : Found) → Replays image n None → IsFound image n found → found ≡ Nowhere }
 {}
 
-/// Where no log is damaged, all that is put is the listing of the logs that the disk holds, or a first part of it.
+/// If no log is damaged, the listing of the logs that the disk holds is shown, or at a fault a first part of it.
 pub fn stored_logs_are_listed()
     ensures whole { (searched : Option Expression) (image : Image) (logs : List (Option Stored)) (put : List Item) (damage : Option Part) → AreHeld image logs → last_number image ≡ Some (length logs)
         → ListsAll searched image put damage → (put ≡ listing_held searched logs) × (damage ≡ None) }

@@ -26,11 +26,11 @@ use lsv_play::Screen;
 use lsv_search::{Expr, matches};
 use std::alloc::Global;
 
-/// No line tells of the connection by which a command came.
+/// A line says nothing of the connection by which a command came.
 const NOBODY: Peer = Peer { worker: 0, seq: 0 };
 
-/// Puts the line of each log that the expression is true of, by rising number, from 1 to the last one drawn. A damaged
-/// log is passed over, and told by the answer.
+/// Shows the line of each log that matches the expression, by rising number, from 1 to the last one drawn. A damaged log
+/// is passed over, and reported by the answer.
 pub fn list_logs<D: Disk, S: Screen>(
     alloc: Global,
     disk: &mut D,
@@ -67,7 +67,7 @@ fn list_to<D: Disk, S: Screen>(
     let mut first = None;
     for before in 0..last {
         let Some(number) = LogNo::new(before + 1) else {
-            // Never reached where the disk tells: no entry of a number file tells of a greater number.
+            // Never reached if the disk tells its content: no entry of a number file has a greater number.
             return Err(ListFault::Damaged(Part::Slots));
         };
         let damage = list_log(alloc, disk, e, number, screen)?;
@@ -76,7 +76,7 @@ fn list_to<D: Disk, S: Screen>(
     Ok(first)
 }
 
-/// Lists the log of this number, where there is one that is searched for. Answers the part at fault where it is damaged.
+/// Lists the log of this number, if it exists and is searched for. Answers the part at fault if it is damaged.
 fn list_log<D: Disk, S: Screen>(
     alloc: Global,
     disk: &mut D,
@@ -96,7 +96,7 @@ fn list_log<D: Disk, S: Screen>(
     }
 }
 
-/// What a log that isn't opened is to a listing: it is passed over where it is absent or damaged.
+/// What a listing does with a log that isn't opened: it is passed over if it is absent or damaged.
 fn damage_of(fault: LogFault) -> Result<Option<Part>, ListFault>
     requires { IsOpenFault fault }
     ensures { result ≡ of_log fault }
@@ -109,7 +109,7 @@ fn damage_of(fault: LogFault) -> Result<Option<Part>, ListFault>
     }
 }
 
-/// Puts the line of a log with this head, where it is searched for.
+/// Shows the line of a log with this head, if it is searched for.
 fn list_head<S: Screen>(
     alloc: Global,
     e: &Expr,

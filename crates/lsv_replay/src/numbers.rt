@@ -10,7 +10,8 @@ use crate::ListFault;
 use lsv_disk::Disk;
 use lsv_seq::last_drawn;
 
-/// The greatest number that any lane drew, of as many lanes as lane 0's number file says.
+/// The greatest number that any lane drew; lane 0's number file says how many lanes there are. `Damaged` comes if a
+/// number file is damaged, `Disk` if a device call on one failed.
 pub fn last_number<D: Disk>(disk: &mut D) -> Result<u32, ListFault>
     ensures last { D.tells → IfOk result (λ n. last_number (D.view disk.old).reads ≡ Some n) }
     ensures refused { D.tells → IfErr result (λ e. e ≢ faults.Disk → last_number (D.view disk.old).reads ≡ None) }
@@ -22,7 +23,7 @@ pub fn last_number<D: Disk>(disk: &mut D) -> Result<u32, ListFault>
     greatest(disk, lanes)
 }
 
-/// The greatest number that the first this many lanes drew.
+/// The greatest number that the first `lanes` lanes drew.
 fn greatest<D: Disk>(disk: &mut D, lanes: u32) -> Result<u32, ListFault>
     ensures last { D.tells → IfOk result (λ n. greatest lanes (D.view disk.old).reads ≡ Some n) }
     ensures refused { D.tells → IfErr result (λ e. e ≢ faults.Disk → greatest lanes (D.view disk.old).reads ≡ None) }
@@ -38,7 +39,7 @@ fn greatest<D: Disk>(disk: &mut D, lanes: u32) -> Result<u32, ListFault>
     Ok(most)
 }
 
-/// The last number that a lane drew, and how many lanes there are; 0 and 0 where its number file has no entry.
+/// The last number that a lane drew, and the count of lanes. Both are 0 if its number file has no entry.
 fn drawn<D: Disk>(disk: &mut D, lane: u32) -> Result<(u32, u32), ListFault>
     ensures found { D.tells → IfOk result (λ d. drawn lane (D.view disk.old).reads ≡ Some d) }
     ensures refused { D.tells → IfErr result (λ e. e ≢ faults.Disk → drawn lane (D.view disk.old).reads ≡ None) }

@@ -16,8 +16,8 @@ pub enum ReplayStatus {
     Shown,
     /// The words are no command.
     Usage,
-    /// The words after `-l` are no search: the place of the first that can't be taken, counted from 0, or their number
-    /// where one is missing.
+    /// The words after `-l` are no search. This is the place of the first that can't be read, counted from 0, or their
+    /// count if one is missing.
     BadExpression(u32),
     /// This part of a log is at fault, or a number file.
     Damaged(Part),

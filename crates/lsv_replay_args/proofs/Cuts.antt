@@ -67,7 +67,7 @@ same_left : (c : ℕ) (more : Option (Bor (List ℕ))) → pieces_behind c (opti
 same_left c None = refl
 same_left c (Some rest) = refl
 
--- the pieces, where the bytes are cut
+-- the pieces, if the bytes are cut
 pub left_cut : (c : ℕ) (bytes : List ℕ) (more : Option (Bor (List ℕ))) → option_map (λ rest. rest.now) more ≡ behind c bytes → pieces c bytes ≡ before c bytes ∷ pieces_left c more
 left_cut c bytes more e = pieces_cut c bytes ∙ ap (λ rest. before c bytes ∷ pieces_behind c rest) (sym e) ∙ ap (λ rest. before c bytes ∷ rest) (same_left c more)
 

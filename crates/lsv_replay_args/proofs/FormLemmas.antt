@@ -698,9 +698,9 @@ form_asked given form =
     ∙ ap (λ b. by_values (dir_in given) (list_in given) (longest_in given) (speed_in given) (has_suspended given) (has_listing given) b (values_in (row_in (codes "words") all))) following
     ∙ ap (by_values (dir_in given) (list_in given) (longest_in given) (speed_in given) (has_suspended given) (has_listing given) (has_following given)) further
 
--- ---- what is told, case by case
+-- ---- what is said, case by case
 
--- what is told in a manner
+-- what is said of a manner
 abbrev told_in : List Given → Bool → Bool → Manner → Option Asked
 told_in given listing following manner = cond listing (search_of following (dir_told given) (further_in given)) (play_of following (dir_told given) manner (further_in given))
 

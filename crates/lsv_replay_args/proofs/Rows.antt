@@ -144,7 +144,7 @@ pub row_appended : (id other : Text) (how : Reading) (values : List Text) (rows 
 row_appended id other how values [] e = skipped (bytes_eq id other) (given_row id how values) None e
 row_appended id other how values (r ∷ rows) e = row_grown id other values how (bytes_eq r.id id) r rows refl e (row_appended id other how values rows e)
 
--- the values of a row, where there is one
+-- the values of a row, if there is one
 abbrev pub values_in : Option Row → List Text
 values_in o = option_map_or (λ r. r.values) o []
 
@@ -185,7 +185,7 @@ no_default false rows = refl
 pub default_none : (a : Rule) (rows : List Row) → a.defaults ≡ [] → with_default rows a ≡ rows
 default_none a rows is = ap (λ (ds : List Text). cond (has_row a.id rows) rows (default_rows a.id (reading_by a) ds rows)) is ∙ no_default (has_row a.id rows) rows
 
--- the first value of a row, where there is one
+-- the first value of a row, if there is one
 abbrev pub value_in : Option Row → Option Text
 value_in o = option_and_then (λ r. slice_get r.values 0) o
 

@@ -43,7 +43,7 @@ module _ (waiting : Waiting) (b : ℕ) (bytes : Text) (h : Held) (e : (b == 45) 
 
 -- ---- where the walk stands between two options or words
 
--- what is held where no flag is read
+-- what is held if no flag is read
 abbrev pub held : List Row → Option (Text × List Text) → Held
 held rows pending = record { rows = rows; pending = pending; skip = 0 }
 
@@ -76,7 +76,7 @@ word_taken w next word rest all none to t = record {
 
 -- ---- options with a value
 
--- a name and a value, as the walk reads them where the option isn't given yet
+-- a name and a value, as the walk reads them if the option isn't given yet
 pub record Reads (a : Rule) (name v : Text) : Type 0 where
   pub named : (rows : List Row) (pending : Option (Text × List Text)) (w : Bool) → walked ruled.rules [] (at rows pending w) name ≡ behind (settled_rows ruled.rules pending rows) a.id
   pub named_fault : (rows : List Row) (pending : Option (Text × List Text)) (w : Bool) → turn_fault ruled [] (at rows pending w) name ≡ or_else (settle_fault ruled.rules false (held rows pending)) []
@@ -92,7 +92,7 @@ option_taken a name v reads rows after pending w rest all settle is t =
     word_taken (at rows pending w) (behind after a.id) name (v ∷ rest) all (reads.named_fault rows pending w ∙ ap (λ k. or_else k []) settle) (reads.named rows pending w ∙ ap (λ (rs : List Row). behind rs a.id) is)
     (word_taken (behind after a.id) (at after (Some (a.id, v ∷ [])) false) v rest all (reads.valued_fault after) (reads.valued after) t)
 
--- the walk over a value, where what it comes to is known
+-- the walk over a value, if what it comes to is known
 valued_as : (id : Text) (b : ℕ) (bytes : Text) → (b == 45) ≡ false
     → ((rows : List Row) → after_step ruled.rules (b ∷ bytes) (behind rows id) (plain_word ruled.rules (option id) (b ∷ bytes) (held rows (Some (id, [])))).0 (plain_word ruled.rules (option id) (b ∷ bytes) (held rows (Some (id, [])))).1 ≡ at rows (Some (id, (b ∷ bytes) ∷ [])) false)
     → (rows : List Row) → walked ruled.rules [] (behind rows id) (b ∷ bytes) ≡ at rows (Some (id, (b ∷ bytes) ∷ [])) false
@@ -221,7 +221,7 @@ reads_speed (b ∷ bytes) good = let e = not_true (b == 45) good in record {
 
 -- ---- options without a value
 
--- a name, as the walk reads it where the option isn't given yet
+-- a name, as the walk reads it if the option isn't given yet
 pub record Sets (a : Rule) (name : Text) : Type 0 where
   pub named : (rows : List Row) (pending : Option (Text × List Text)) (w : Bool) → walked ruled.rules [] (at rows pending w) name ≡ at (used a [] (settled_rows ruled.rules pending rows)) None false
   pub named_fault : (rows : List Row) (pending : Option (Text × List Text)) (w : Bool) → turn_fault ruled [] (at rows pending w) name
@@ -352,7 +352,7 @@ further_fault rows pending true b bytes e =
 further_fault rows pending false b bytes e =
     ap₂ or_else (refused_by idle b bytes (held rows pending) e) (ap (λ (m : Held × Step). step_fault ruled 1 m.0 m.1) (read_by idle b bytes (held rows pending) e))
 
--- the walk after a word, where this is held before it
+-- the walk after a word, if this is held before it
 abbrev at_word : Held → Text → Walk
 at_word h word = record { held = pushed (codes "words") word h; waiting = positional; position = 1; is_trailing = false; stopped = None }
 

@@ -1,4 +1,4 @@
--- Numbers of the command line: digits, and a point with one to nine digits where wanted.
+-- Numbers of the command line: digits, and optionally a point with one to nine digits.
 use Rattle.std.specs.Prelude.{ℕ, ◌+◌, ◌*◌, ◌-◌, ◌^◌, List, length, Option, Some, None, Bool, not, ◌&&◌, nat_le, nat_lt, if◌then◌else◌}
 use Rattle.std.specs.Option.{option_and_then}
 use Rattle.std.specs.Str.{all_ascii_digits}
@@ -17,7 +17,7 @@ digits_in digits = if is_digits digits && nat_lt (digits_value 10 digits) (2 ^ 6
 abbrev pub fraction_in : List ℕ → Option ℕ
 fraction_in digits = if is_digits digits && nat_le (length digits) 9 then Some (digits_value 10 digits * 10 ^ (9 - length digits)) else None
 
--- the billionths after a point, none where there is no point
+-- the billionths after a point, none if there is no point
 abbrev pub fraction_of : Option (List ℕ) → Option ℕ
 fraction_of None = Some 0
 fraction_of (Some digits) = fraction_in digits
@@ -26,7 +26,7 @@ fraction_of (Some digits) = fraction_in digits
 abbrev pub if_small : ℕ → Option ℕ
 if_small n = if nat_lt n (2 ^ 63) then Some n else None
 
--- a number in billionths, where it is one and is below 2 ^ 63 billionths
+-- a number in billionths, if it is one and is below 2 ^ 63 billionths
 abbrev pub billionths : List ℕ → Option ℕ
 billionths text =
     option_and_then (λ whole. option_and_then (λ fraction. if_small (whole * 1000000000 + fraction)) (fraction_of (behind 46 text))) (digits_in (before 46 text))

@@ -55,7 +55,7 @@ is_good (Speed v) = is_value v
 is_good (Further v) = is_value v
 is_good _ = true
 
--- the value of each option, where it is given
+-- the value of each option, if it is given
 abbrev pub dir_in : List Given → Option (List ℕ)
 dir_in [] = None
 dir_in (Dir v ∷ more) = Some v
@@ -124,7 +124,7 @@ is_once (g ∷ more) = is_other g more && is_once more
 abbrev pub IsForm : List Given → Type 0
 IsForm given = (list_all is_good given ≡ true) × (is_once given ≡ true) × (length (further_in given) < 2 ^ 64)
 
--- how a log is to be played, where each value is in its form
+-- how a log is to be played, if each value is in its form
 abbrev pub manner_told : List Given → Option Manner
 manner_told given =
     option_and_then (λ streams. option_and_then (λ longest. option_map (λ speed. record {

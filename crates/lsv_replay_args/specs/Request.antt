@@ -30,12 +30,12 @@ is_set_text rows id = option_map_or (λ text. bytes_eq text (codes "true")) (fir
 abbrev pub is_set : List Row → String → Bool
 is_set rows id = is_set_text rows (codes id)
 
--- the streams that are shown: standard output and error and the terminal's output, where the words don't list others
+-- the streams that are shown: standard output and error and the terminal's output, if the words don't list others
 abbrev pub streams_asked : Option (List ℕ) → Option (List Bool)
 streams_asked None = Some (false ∷ true ∷ true ∷ false ∷ true ∷ [])
 streams_asked (Some list) = streams_in list
 
--- the longest wait, where the words say one
+-- the longest wait, if the words say one
 abbrev pub longest_asked : Option (List ℕ) → Option (Option ℕ)
 longest_asked None = Some None
 longest_asked (Some text) = option_map (λ n. Some n) (billionths text)
@@ -44,12 +44,12 @@ longest_asked (Some text) = option_map (λ n. Some n) (billionths text)
 abbrev pub if_some_speed : ℕ → Option ℕ
 if_some_speed n = if n == 0 then None else Some n
 
--- the speed, as it was where the words don't say another
+-- the speed, as it was if the words don't say another
 abbrev pub speed_asked : Option (List ℕ) → Option ℕ
 speed_asked None = Some 1000000000
 speed_asked (Some text) = option_and_then if_some_speed (billionths text)
 
--- how a log is to be played, where each value is in its form
+-- how a log is to be played, if each value is in its form
 abbrev pub manner_of : List Row → Option Manner
 manner_of rows =
     option_and_then (λ streams. option_and_then (λ longest. option_map (λ speed. record {

@@ -14,7 +14,7 @@ index_in name =
     else if bytes_eq name (codes "ttyout") then Some 4
     else None
 
--- these streams and those of these names, where each name is a stream's
+-- these streams and those of these names, if each name is a stream's
 abbrev pub named : List Bool → List (List ℕ) → Option (List Bool)
 named streams [] = Some streams
 named streams (name ∷ names) = option_and_then (λ i. named (set streams i true) names) (index_in name)

@@ -1,12 +1,12 @@
 -- Parts of a text: what stands before, after and between separators.
 use Rattle.std.specs.Prelude.{ℕ, List, [], ◌∷◌, Option, Some, None, Bool, true, false, ◌==◌, if◌then◌else◌}
 
--- what stands before the first such byte: all, where there is none
+-- what stands before the first such byte: all, if there is none
 abbrev pub before : ℕ → List ℕ → List ℕ
 before c [] = []
 before c (b ∷ bytes) = if b == c then [] else b ∷ before c bytes
 
--- what stands after the first such byte, where there is one
+-- what stands after the first such byte, if there is one
 abbrev pub behind : ℕ → List ℕ → Option (List ℕ)
 behind c [] = None
 behind c (b ∷ bytes) = if b == c then Some bytes else behind c bytes

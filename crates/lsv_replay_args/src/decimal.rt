@@ -1,4 +1,4 @@
-//! Numbers of the command line: digits, and a point with one to nine digits where wanted.
+//! Numbers of the command line: digits, and optionally a point with one to nine digits.
 ghost use Rattle.std.specs.Prelude.{◌≡◌, ◌≤◌, ◌-◌, ◌^◌};
 ghost use Rattle.lsv_replay_args.specs.Decimal.{billionths, digits_in, fraction_in};
 
@@ -8,7 +8,7 @@ use std::str;
 /// A whole one, in billionths.
 const ONE: u64 = 1_000_000_000;
 
-/// A number in billionths. None where it isn't one, or is 2^63 billionths or more.
+/// A number in billionths. None if it isn't one, or is 2^63 billionths or more.
 pub fn billionths(text: &[u8]) -> Option<u64>
     ensures { result ≡ billionths text.now }
 {

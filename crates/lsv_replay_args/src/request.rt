@@ -19,7 +19,7 @@ use lsv_base::{Bytes, List, NoMem};
 use lsv_play::Options;
 use std::alloc::{AllocError, Global};
 
-/// Where the logs stand if the words don't say.
+/// The folder of the logs if the words don't say one.
 const DEFAULT_DIR: &str = "/var/log/sudo-io";
 
 /// The streams that are shown if the words don't say: standard output and error, and the terminal's output.
@@ -133,7 +133,7 @@ pub fn words_of(alloc: Global, found: &ArgMatches<'_>) -> Result<List<Bytes>, No
     }
 }
 
-/// How a log is to be played. None where a value is out of its form.
+/// How a log is to be played. None if a value is out of its form.
 fn options_of(found: &ArgMatches<'_>) -> Option<Options>
     ensures { option_map manner_in result ≡ manner_of (rows_of (found_of found.now)) }
 {

@@ -14,7 +14,7 @@ const TTYIN: &[u8] = b"ttyin";
 
 const TTYOUT: &[u8] = b"ttyout";
 
-/// The streams that names with commas between them list. None where one is no stream's name.
+/// The streams that names with commas between them list. None if one is no stream's name.
 pub fn streams_in(list: &[u8]) -> Option<[bool; 5]>
     ensures { result ≡ streams_in list.now }
 {

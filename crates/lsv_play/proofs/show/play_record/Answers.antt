@@ -1,4 +1,4 @@
--- Of a record whose bytes aren't all put a first part is shown: its wait, and the first of its bytes.
+-- If not all bytes of a record are put, a first part is shown: its wait, and the first of its bytes.
 use Rattle.std.proofs.Common.{◌≡◌, ◌∙◌, ◌++◌, ℕ, List, [], ◌∷◌, inl, refl, ap, append_assoc, rules}
 use Rattle.lsv_play.specs.declared.screen.Item.{Item}
 use Rattle.lsv_play.specs.declared.screen.Item.TheVariants.{Wait}

@@ -1,4 +1,4 @@
--- The words are a search where the logs are listed.
+-- The words are a search if the logs are listed.
 use Rattle.std.proofs.Common.{[], subst, sym}
 use Rattle.lsv_replay_args.specs.Request.{Search}
 use Rattle.lsv_replay.specs.Tasks.{IsOfTask}
