@@ -302,10 +302,11 @@ impl<W: Wait + Copy> Disk for FileDisk<W> {
     }
 
     fn write_at(&mut self, f: FileId, at: u64, bytes: &[u8]) -> Result<(), DiskFault> {
+        let (rt, program) = (self.reports.rt, self.reports.program);
         let answer = match &mut self.store {
             Some(store) => {
                 if let Some(entry) = cut_in(f, bytes) {
-                    report_resumed(&self.reports.rt, self.reports.program, store, f, entry);
+                    report_resumed(&rt, program, store, f, entry);
                 }
                 store.write(f, at, bytes)
             }

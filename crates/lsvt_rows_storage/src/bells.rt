@@ -39,7 +39,7 @@ impl Ringer {
 
 /// Makes the turns. Returns how many of them reported nothing.
 fn turn_all(port: &mut MioPort<HostRuntime>, ringer: &Ringer, rings: bool) -> u32 {
-    let mut woken = 0;
+    let mut woken = 0u32;
     for _ in 0..TURNS {
         if rings {
             ringer.bell.ring();
@@ -47,7 +47,7 @@ fn turn_all(port: &mut MioPort<HostRuntime>, ringer: &Ringer, rings: bool) -> u3
             ringer.begins.unpark();
         }
         if port.turn(&[]) == Ok(Ready::Woken) {
-            woken += 1;
+            woken = woken.saturating_add(1);
         }
     }
     ringer.is_over.store(true, Ordering::SeqCst);
