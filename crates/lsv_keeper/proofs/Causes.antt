@@ -28,7 +28,7 @@ use Rattle.lsv_session.specs.declared.connection.ConnState.TheVariants.{Running}
 use Rattle.lsv_machine.specs.Machine.{insert_once, log_of, note, same, without, without_conn}
 use Rattle.lsv_machine.proofs.Choices.{EqOr, EqOr.equal, EqOr.unequal, SameOr, SameOr.alike, SameOr.apart, eq_or, same_or, same_refl}
 use Rattle.lsv_keeper.specs.Accepting.{create_refusal, draw_refusal}
-use Rattle.lsv_keeper.specs.Causes.{AnyIsOf, Does, HasFailed, IsAmong, IsOfStore, IsSteady, IsSteadyBut, LetsGo, LinesDo, MayFail, StoreRose, TellsFault, Waits, is_of}
+use Rattle.lsv_keeper.specs.Causes.{AnyBringsLine, AnyIsOf, BringsLine, Does, HasFailed, IsAmong, IsOfStore, IsSteady, IsSteadyBut, LetsGo, LinesDo, MayAnswer, MayFail, StoreRose, TellsFault, Waits, is_of}
 use Rattle.lsv_keeper.specs.Leaving.{Departs}
 use Rattle.lsv_keeper.specs.Logs.{IsAppendFault, RefusesRecord, TakesRecord, log_refusal, open_logs, with_open}
 use Rattle.lsv_keeper.specs.Resuming.{restart_refusal}
@@ -45,6 +45,10 @@ module _ {A : Type 0} where
   pub all_as : (P Q : A → Type 0) (xs : List A) → ((x : A) → P x → Q x) → AllByRecursion P xs → AllByRecursion Q xs
   all_as P Q [] f all = tt
   all_as P Q (x ∷ xs) f all = (f x all.0, all_as P Q xs f all.1)
+
+  pub all_two : (P Q R : A → Type 0) (xs : List A) → ((x : A) → P x → Q x → R x) → AllByRecursion P xs → AllByRecursion Q xs → AllByRecursion R xs
+  all_two P Q R [] f all more = tt
+  all_two P Q R (x ∷ xs) f all more = (f x all.0 more.0, all_two P Q R xs f all.1 more.1)
 
   pub all_append : (P : A → Type 0) (xs ys : List A) → AllByRecursion P xs → AllByRecursion P ys → AllByRecursion P (xs ++ ys)
   all_append P [] ys all more = more
@@ -121,6 +125,27 @@ may_first v a b c (inr rose) more = inr (rose_first a b c rose more)
 pub may_second : (v w : KeeperView) (a b c : DiskView) → Later a b → Later b c → (HasFailed w → MayFail v a b) → MayFail w b c → MayFail v a c
 may_second v w a b c one two was (inl failed) = may_first v a b c (was failed) two
 may_second v w a b c one two was (inr rose) = inr (rose_second a b c one rose)
+
+pub answer_first : (n : Type 0) (v : KeeperView) (a b c : DiskView) → MayAnswer n v a b → Later b c → MayAnswer n v a c
+answer_first n v a b c (inl rose) more = inl (rose_first a b c rose more)
+answer_first n v a b c (inr its) more = inr its
+
+pub answer_second : (n : Type 0) (v w : KeeperView) (a b c : DiskView) → Later a b → Later b c → (HasFailed w → MayFail v a b) → MayAnswer n w b c → MayAnswer n v a c
+answer_second n v w a b c one two was (inl rose) = inl (rose_second a b c one rose)
+answer_second n v w a b c one two was (inr (failed, needs)) = go (was failed)
+  where
+    go : MayFail v a b → MayAnswer n v a c
+    go (inl before) = inr (before, needs)
+    go (inr rose) = inl (rose_first a b c rose two)
+
+-- a number file or an event log is needed, and may have failed before
+pub answer_needs : (n : Type 0) (v : KeeperView) (a b : DiskView) → n → MayFail v a b → MayAnswer n v a b
+answer_needs n v a b needs (inl failed) = inr (failed, needs)
+answer_needs n v a b needs (inr rose) = inl rose
+
+pub answer_as : (n o : Type 0) (v : KeeperView) (a b : DiskView) → (n → o) → MayAnswer n v a b → MayAnswer o v a b
+answer_as n o v a b more (inl rose) = inl rose
+answer_as n o v a b more (inr (failed, needs)) = inr (failed, more needs)
 
 -- a call that failed only with a count of its own files
 pub own_rose : (Own : FileId → Type 0) (failed : Type 0) (old new : DiskView) → ((file : FileId) → Own file → IsOfStore file) → HasOwnCause Own failed old new → failed → StoreRose old new
@@ -316,8 +341,8 @@ whole_open n one a b are whole all i its is = go (eq_or i n)
 -- ---- What calls do, one after another
 
 module _ {ks : List ConnId} where
-  pub does_then : {f : Type 0} {g : Type 0} {h : Type 0} {u : KeeperView} {v : KeeperView} {w : KeeperView} {a : DiskView} {b : DiskView} {c : DiskView} → (h → f ⊎ g) → Does ks f u v a b → Does ks g v w b c → Does ks h u w a c
-  does_then {f} {g} {h} {u} {v} {w} {a} {b} {c} which one two = record {
+  pub does_then : {n : Type 0} {f : Type 0} {g : Type 0} {h : Type 0} {u : KeeperView} {v : KeeperView} {w : KeeperView} {a : DiskView} {b : DiskView} {c : DiskView} → (h → f ⊎ g) → Does ks n f u v a b → Does ks n g v w b c → Does ks n h u w a c
+  does_then {n} {f} {g} {h} {u} {v} {w} {a} {b} {c} which one two = record {
     monotone = later_on a b c one.monotone two.monotone;
     failed = λ failed. may_second u v a b c one.monotone two.monotone one.failed (two.failed failed);
     whole = λ all. two.whole (one.whole all);
@@ -325,21 +350,33 @@ module _ {ks : List ConnId} where
     cause = λ all is. of all (which is);
   }
     where
-      of : AreWhole u.logs → f ⊎ g → MayFail u a c
-      of all (inl is) = may_first u a b c (one.cause all is) two.monotone
-      of all (inr is) = may_second u v a b c one.monotone two.monotone one.failed (two.cause (one.whole all) is)
+      of : AreWhole u.logs → f ⊎ g → MayAnswer n u a c
+      of all (inl is) = answer_first n u a b c (one.cause all is) two.monotone
+      of all (inr is) = answer_second n u v a b c one.monotone two.monotone one.failed (two.cause (one.whole all) is)
 
-  pub does_as : {f : Type 0} {g : Type 0} {v : KeeperView} {w : KeeperView} {a : DiskView} {b : DiskView} → (g → f) → Does ks f v w a b → Does ks g v w a b
-  does_as {f} {g} {v} {w} {a} {b} less d = record { monotone = d.monotone; failed = d.failed; whole = d.whole; steady = d.steady; cause = λ all is. d.cause all (less is) }
+  pub does_as : {n : Type 0} {f : Type 0} {g : Type 0} {v : KeeperView} {w : KeeperView} {a : DiskView} {b : DiskView} → (g → f) → Does ks n f v w a b → Does ks n g v w a b
+  does_as {n} {f} {g} {v} {w} {a} {b} less d = record { monotone = d.monotone; failed = d.failed; whole = d.whole; steady = d.steady; cause = λ all is. d.cause all (less is) }
+
+  -- it needs no more than this
+  pub does_needs : {n : Type 0} {o : Type 0} {f : Type 0} {v : KeeperView} {w : KeeperView} {a : DiskView} {b : DiskView} → (n → o) → Does ks n f v w a b → Does ks o f v w a b
+  does_needs {n} {o} {f} {v} {w} {a} {b} more d = record { monotone = d.monotone; failed = d.failed; whole = d.whole; steady = d.steady; cause = λ all is. answer_as n o v a b more (d.cause all is) }
+
+  -- it tells of no fault
+  pub does_unfaulted : {n : Type 0} {o : Type 0} {f : Type 0} {v : KeeperView} {w : KeeperView} {a : DiskView} {b : DiskView} → Does ks n f v w a b → Does ks o ⊥ v w a b
+  does_unfaulted {n} {o} {f} {v} {w} {a} {b} d = record { monotone = d.monotone; failed = d.failed; whole = d.whole; steady = d.steady; cause = λ all is. absurd is }
+
+  -- it needs nothing
+  pub does_free : {n : Type 0} {f : Type 0} {v : KeeperView} {w : KeeperView} {a : DiskView} {b : DiskView} → Does ks ⊥ f v w a b → Does ks n f v w a b
+  does_free {n} d = does_needs (λ none. absurd none) d
 
   -- nothing is done
-  pub does_none : {f : Type 0} {v : KeeperView} {a : DiskView} → (f → ⊥) → Does ks f v v a a
-  does_none {f} {v} {a} not = record { monotone = λ file. omega arith; failed = λ failed. inl failed; whole = λ all. all; steady = λ p mine s. s; cause = λ all is. absurd (not is) }
+  pub does_none : {n : Type 0} {f : Type 0} {v : KeeperView} {a : DiskView} → (f → ⊥) → Does ks n f v v a a
+  does_none {n} {f} {v} {a} not = record { monotone = λ file. omega arith; failed = λ failed. inl failed; whole = λ all. all; steady = λ p mine s. s; cause = λ all is. absurd (not is) }
 
   -- nothing that matters is otherwise
-  pub does_same : {f : Type 0} {v : KeeperView} {w : KeeperView} {a : DiskView} {b : DiskView} → (f → ⊥) → Later a b → w.numbers ≡ v.numbers → w.events ≡ v.events → sessions_of w ≡ sessions_of v → ((n : ℕ) → log_in w n ≡ log_in v n)
-      → w.waiting ≡ v.waiting → w.noting ≡ v.noting → Does ks f v w a b
-  does_same {f} {v} {w} {a} {b} not later numbers events sessions logs waiting noting = record {
+  pub does_same : {n : Type 0} {f : Type 0} {v : KeeperView} {w : KeeperView} {a : DiskView} {b : DiskView} → (f → ⊥) → Later a b → w.numbers ≡ v.numbers → w.events ≡ v.events → sessions_of w ≡ sessions_of v → ((n : ℕ) → log_in w n ≡ log_in v n)
+      → w.waiting ≡ v.waiting → w.noting ≡ v.noting → Does ks n f v w a b
+  does_same {n} {f} {v} {w} {a} {b} not later numbers events sessions logs waiting noting = record {
     monotone = later;
     failed = λ failed. inl (failed_same v w numbers events failed);
     whole = whole_same v.logs w.logs logs;
@@ -347,30 +384,34 @@ module _ {ks : List ConnId} where
     cause = λ all is. absurd (not is);
   }
 
-  pub does_reserved : {f : Type 0} {v : KeeperView} {w : KeeperView} {a : DiskView} {b : DiskView} → (f → ⊥) → Later a b → IsReserved v w → Does ks f v w a b
-  does_reserved {f} {v} {w} {a} {b} not later r = does_same not later (ap (λ (x : KeeperView). x.numbers) r.others) (ap (λ (x : KeeperView). x.events) r.others) r.sessions_are (λ n. ap (λ (l : ℕ → Option OpenLog). l n) r.logs_are)
+  pub does_reserved : {n : Type 0} {f : Type 0} {v : KeeperView} {w : KeeperView} {a : DiskView} {b : DiskView} → (f → ⊥) → Later a b → IsReserved v w → Does ks n f v w a b
+  does_reserved {n} {f} {v} {w} {a} {b} not later r = does_same not later (ap (λ (x : KeeperView). x.numbers) r.others) (ap (λ (x : KeeperView). x.events) r.others) r.sessions_are (λ n. ap (λ (l : ℕ → Option OpenLog). l n) r.logs_are)
       (ap (λ (x : KeeperView). x.waiting) r.others) (ap (λ (x : KeeperView). x.noting) r.others)
 
   -- the second call does what none of the first calls do
-  pub does_any : {f : Type 0} {v : KeeperView} {w : KeeperView} {a : DiskView} {b : DiskView} → Does [] f v w a b → Does ks f v w a b
-  does_any {f} {v} {w} {a} {b} d = record { monotone = d.monotone; failed = d.failed; whole = d.whole; steady = λ p mine s. d.steady p tt s; cause = d.cause }
+  pub does_all : {n : Type 0} {f : Type 0} {v : KeeperView} {w : KeeperView} {a : DiskView} {b : DiskView} → Does [] n f v w a b → Does ks n f v w a b
+  does_all {n} {f} {v} {w} {a} {b} d = record { monotone = d.monotone; failed = d.failed; whole = d.whole; steady = λ p mine s. d.steady p tt s; cause = d.cause }
+
+  -- the same of a call that needs neither numbers nor an event log
+  pub does_any : {n : Type 0} {f : Type 0} {v : KeeperView} {w : KeeperView} {a : DiskView} {b : DiskView} → Does [] ⊥ f v w a b → Does ks n f v w a b
+  does_any {n} {f} {v} {w} {a} {b} d = does_free (does_all d)
 
   -- and then nothing that may fail
-  pub then_quiet : {f : Type 0} {g : Type 0} {u : KeeperView} {v : KeeperView} {w : KeeperView} {a : DiskView} {b : DiskView} {c : DiskView} → (f → g) → Does ks g u v a b → Does [] ⊥ v w b c → Does ks f u w a c
-  then_quiet {f} {g} {u} {v} {w} {a} {b} {c} less one two = does_then (λ is. inl (less is)) one (does_any two)
+  pub then_quiet : {n : Type 0} {f : Type 0} {g : Type 0} {u : KeeperView} {v : KeeperView} {w : KeeperView} {a : DiskView} {b : DiskView} {c : DiskView} → (f → g) → Does ks n g u v a b → Does [] ⊥ ⊥ v w b c → Does ks n f u w a c
+  then_quiet {n} {f} {g} {u} {v} {w} {a} {b} {c} less one two = does_then (λ is. inl (less is)) one (does_any two)
 
   -- at first nothing that may fail
-  pub quiet_then : {f : Type 0} {g : Type 0} {u : KeeperView} {v : KeeperView} {w : KeeperView} {a : DiskView} {b : DiskView} {c : DiskView} → (f → g) → Does [] ⊥ u v a b → Does ks g v w b c → Does ks f u w a c
-  quiet_then {f} {g} {u} {v} {w} {a} {b} {c} less one two = does_then (λ is. inr (less is)) (does_any one) two
+  pub quiet_then : {n : Type 0} {f : Type 0} {g : Type 0} {u : KeeperView} {v : KeeperView} {w : KeeperView} {a : DiskView} {b : DiskView} {c : DiskView} → (f → g) → Does [] ⊥ ⊥ u v a b → Does ks n g v w b c → Does ks n f u w a c
+  quiet_then {n} {f} {g} {u} {v} {w} {a} {b} {c} less one two = does_then (λ is. inr (less is)) (does_any one) two
 
   -- it fails with a cause of its own
-  pub does_caused : {f : Type 0} {g : Type 0} {v : KeeperView} {w : KeeperView} {a : DiskView} {b : DiskView} → (AreWhole v.logs → f → MayFail v a b) → Does ks g v w a b → Does ks f v w a b
-  does_caused {f} {g} {v} {w} {a} {b} cause d = record { monotone = d.monotone; failed = d.failed; whole = d.whole; steady = d.steady; cause = cause }
+  pub does_caused : {n : Type 0} {f : Type 0} {g : Type 0} {v : KeeperView} {w : KeeperView} {a : DiskView} {b : DiskView} → (AreWhole v.logs → f → MayAnswer n v a b) → Does ks n g v w a b → Does ks n f v w a b
+  does_caused {n} {f} {g} {v} {w} {a} {b} cause d = record { monotone = d.monotone; failed = d.failed; whole = d.whole; steady = d.steady; cause = cause }
 
   -- the log that was taken out is let go
-  pub taken_then : {f : Type 0} (n : ℕ) {v : KeeperView} {w : KeeperView} (left : OpenLogs) {a : DiskView} {b : DiskView} → (AreWhole v.logs → f → MayFail v a b) → ((i : ℕ) → open_logs left i ≡ (if i == n then None else open_logs v.logs i)) → LetsGo n (record v { logs = left }) w a b
-      → Does ks f v w a b
-  taken_then {f} n {v} {w} left {a} {b} cause rest goes = record {
+  pub taken_then : {o : Type 0} {f : Type 0} (n : ℕ) {v : KeeperView} {w : KeeperView} (left : OpenLogs) {a : DiskView} {b : DiskView} → (AreWhole v.logs → f → MayAnswer o v a b) → ((i : ℕ) → open_logs left i ≡ (if i == n then None else open_logs v.logs i)) → LetsGo n (record v { logs = left }) w a b
+      → Does ks o f v w a b
+  taken_then {o} {f} n {v} {w} left {a} {b} cause rest goes = record {
     monotone = goes.monotone;
     failed = goes.failed;
     whole = λ all. goes.whole (whole_taken n v.logs left rest all);
@@ -379,8 +420,8 @@ module _ {ks : List ConnId} where
   }
 
   -- no log was there to be taken
-  pub none_taken : {f : Type 0} (n : ℕ) {v : KeeperView} {w : KeeperView} (left : OpenLogs) {a : DiskView} {b : DiskView} → open_logs v.logs n ≡ None → open_logs left ≡ with_open n None (open_logs v.logs) → Does ks f (record v { logs = left }) w a b → Does ks f v w a b
-  none_taken {f} n {v} {w} left {a} {b} none rest d = record {
+  pub none_taken : {o : Type 0} {f : Type 0} (n : ℕ) {v : KeeperView} {w : KeeperView} (left : OpenLogs) {a : DiskView} {b : DiskView} → open_logs v.logs n ≡ None → open_logs left ≡ with_open n None (open_logs v.logs) → Does ks o f (record v { logs = left }) w a b → Does ks o f v w a b
+  none_taken {o} {f} n {v} {w} left {a} {b} none rest d = record {
     monotone = d.monotone;
     failed = d.failed;
     whole = λ all. d.whole (whole_same v.logs left same_logs all);
@@ -396,8 +437,8 @@ module _ {ks : List ConnId} where
       same_logs i = go i (eq_or i n)
 
   -- a connection comes into a state in which it writes no log, and wrote none
-  pub does_set : (k : ConnId) (state : ConnState) {v : KeeperView} {w : KeeperView} {a : DiskView} {b : DiskView} → log_of state ≡ None → Departs None k state v w → w.logs ≡ v.logs → Later a b → Does ks ⊥ v w a b
-  does_set k state {v} {w} {a} {b} none d logs later = record {
+  pub does_set : {n : Type 0} (k : ConnId) (state : ConnState) {v : KeeperView} {w : KeeperView} {a : DiskView} {b : DiskView} → log_of state ≡ None → Departs None k state v w → w.logs ≡ v.logs → Later a b → Does ks n ⊥ v w a b
+  does_set {n} k state {v} {w} {a} {b} none d logs later = record {
     monotone = later;
     failed = λ failed. inl (failed_same v w d.beside.numbers d.beside.events failed);
     whole = λ all. subst AreWhole (sym logs) all;
@@ -406,8 +447,8 @@ module _ {ks : List ConnId} where
   }
 
   -- the connections that had event lines are fewer
-  pub forgotten_then : {f : Type 0} (k : ConnId) (notes : List ConnId) {v : KeeperView} {w : KeeperView} {a : DiskView} {b : DiskView} → notes ≡ without_conn k v.noting → Does ks f (record v { noting = notes }) w a b → Does ks f v w a b
-  forgotten_then {f} k notes {v} {w} {a} {b} less d = record {
+  pub forgotten_then : {n : Type 0} {f : Type 0} (k : ConnId) (notes : List ConnId) {v : KeeperView} {w : KeeperView} {a : DiskView} {b : DiskView} → notes ≡ without_conn k v.noting → Does ks n f (record v { noting = notes }) w a b → Does ks n f v w a b
+  forgotten_then {n} {f} k notes {v} {w} {a} {b} less d = record {
     monotone = d.monotone;
     failed = d.failed;
     whole = d.whole;
@@ -416,8 +457,8 @@ module _ {ks : List ConnId} where
   }
 
   -- it does what tells of no fault
-  pub quiet_told : {f : Type 0} {v w : KeeperView} {a b : DiskView} → (f → ⊥) → Does [] ⊥ v w a b → Does ks f v w a b
-  quiet_told not d = does_as not (does_any d)
+  pub quiet_told : {n : Type 0} {f : Type 0} {v w : KeeperView} {a b : DiskView} → (f → ⊥) → Does [] ⊥ ⊥ v w a b → Does ks n f v w a b
+  quiet_told {n} not d = does_as not (does_any d)
 
 -- what a connection that lets its log go keeps
 pub departs_goes : (n : ℕ) (k : ConnId) (state : ConnState) (v w : KeeperView) (a b : DiskView) → log_of state ≡ None → Departs (Some n) k state v w → w.logs ≡ v.logs → (AreLinked (sessions_of v) → (sessions_of v).owner n ≡ Some k) → Later a b
@@ -430,7 +471,7 @@ departs_goes n k state v w a b none d logs owned later = record {
 }
 
 -- a line is added for a connection, or isn't
-pub line_does : {k : ConnId} {f g : Type 0} {v w : KeeperView} {a b : DiskView} → (f → g) → SameSessions v w → LinesDo g v.events w.events a b → (w.noting ≡ v.noting) ⊎ (w.noting ≡ note k v.noting) → Does (k ∷ []) f v w a b
+pub line_does : {k : ConnId} {f g : Type 0} {v w : KeeperView} {a b : DiskView} → (f → g) → SameSessions v w → LinesDo g v.events w.events a b → (w.noting ≡ v.noting) ⊎ (w.noting ≡ note k v.noting) → Does (k ∷ []) (Unit {0}) f v w a b
 line_does {k} {f} {g} {v} {w} {a} {b} less s lines noting = record {
   monotone = lines.monotone;
   failed = λ failed. of failed;
@@ -440,7 +481,7 @@ line_does {k} {f} {g} {v} {w} {a} {b} less s lines noting = record {
     waits = subst (AllByRecursion (Waits p w)) (sym s.waiting) (all_as (Waits p v) (Waits p w) v.waiting (λ n. waits_as p v w n (owner_as v w same_sessions n) (λ none. ap (λ (l : OpenLogs). open_logs l n) (sym s.logs) ∙ none)) old.waits);
     notes = its_notes p mine.0 old.notes noting;
   };
-  cause = λ all is. from (lines.cause (less is));
+  cause = λ all is. answer_needs (Unit {0}) v a b tt (from (lines.cause (less is)));
 }
   where
     same_sessions : sessions_of w ≡ sessions_of v
@@ -459,23 +500,23 @@ line_does {k} {f} {g} {v} {w} {a} {b} less s lines noting = record {
     its_notes p mine all (inr more) = subst (AllByRecursion (IsAmong p)) (sym more) (all_note (IsAmong p) k v.noting mine all)
 
 -- a connection comes to write a whole log
-pub owns_does : {k : ConnId} {n : ℕ} {its : OpenLog} {v w : KeeperView} {a b : DiskView} → (sessions_of v).owner n ≡ None → its.log.is_broken ≡ false → Owns k n its v w → Later a b → Does (k ∷ []) ⊥ v w a b
-owns_does {k} {n} {its} {v} {w} {a} {b} free whole o later = record {
+pub owns_does : {o : Type 0} {k : ConnId} {n : ℕ} {its : OpenLog} {v w : KeeperView} {a b : DiskView} → (sessions_of v).owner n ≡ None → its.log.is_broken ≡ false → Owns k n its v w → Later a b → Does (k ∷ []) o ⊥ v w a b
+owns_does {o} {k} {n} {its} {v} {w} {a} {b} free whole owns later = record {
   monotone = later;
-  failed = λ failed. inl (failed_same v w o.numbers o.events failed);
-  whole = whole_open n its v.logs w.logs (λ i. ap (λ (l : ℕ → Option OpenLog). l i) o.logs_are) whole;
-  steady = λ p mine s. steady_owns p k n its v w free o mine.0 s;
+  failed = λ failed. inl (failed_same v w owns.numbers owns.events failed);
+  whole = whole_open n its v.logs w.logs (λ i. ap (λ (l : ℕ → Option OpenLog). l i) owns.logs_are) whole;
+  steady = λ p mine s. steady_owns p k n its v w free owns mine.0 s;
   cause = λ all is. absurd is;
 }
 
 -- a number is drawn, or isn't
-pub draw_does : (f : Type 0) (v : KeeperView) (new : Numbers) (a b : DiskView) → Later a b → (pending_of new ≢ None → (pending_of v.numbers ≢ None) ⊎ StoreRose a b) → (f → (pending_of v.numbers ≢ None) ⊎ StoreRose a b) → Does [] f v (record v { numbers = new }) a b
+pub draw_does : (f : Type 0) (v : KeeperView) (new : Numbers) (a b : DiskView) → Later a b → (pending_of new ≢ None → (pending_of v.numbers ≢ None) ⊎ StoreRose a b) → (f → (pending_of v.numbers ≢ None) ⊎ StoreRose a b) → Does [] (Unit {0}) f v (record v { numbers = new }) a b
 draw_does f v new a b later failed cause = record {
   monotone = later;
   failed = λ is. of is;
   whole = λ all. all;
   steady = λ p mine s. record { linked = s.linked; waits = s.waits; notes = s.notes };
-  cause = λ all is. from (cause is);
+  cause = λ all is. answer_needs (Unit {0}) v a b tt (from (cause is));
 }
   where
     from : (pending_of v.numbers ≢ None) ⊎ StoreRose a b → MayFail v a b
@@ -543,7 +584,7 @@ draw_cause was new rose (draws.Changed kept now) disk spent changed = ((λ pendi
 
 -- a record was staged
 pub staged_does : (f : Type 0) (k : ConnId) (n : ℕ) (texts : List (List ℕ)) (r : Record) (its after : OpenLog) (v : KeeperView) (logs : OpenLogs) (waiting : List ℕ) (a : DiskView) → (f → ⊥) → log_of ((sessions_of v).states k) ≡ Some n
-    → open_logs v.logs n ≡ Some its → TakesRecord texts its r after → open_logs logs ≡ with_open n (Some after) (open_logs v.logs) → waiting ≡ insert_once n v.waiting → Does (k ∷ []) f v (record v { logs = logs; waiting = waiting }) a a
+    → open_logs v.logs n ≡ Some its → TakesRecord texts its r after → open_logs logs ≡ with_open n (Some after) (open_logs v.logs) → waiting ≡ insert_once n v.waiting → Does (k ∷ []) ⊥ f v (record v { logs = logs; waiting = waiting }) a a
 staged_does f k n texts r its after v logs waiting a not writes here took are waits = record {
   monotone = still a;
   failed = λ failed. inl failed;
@@ -554,7 +595,7 @@ staged_does f k n texts r its after v logs waiting a not writes here took are wa
 
 -- a record was refused, and the log's mask moved on
 pub unstaged_does : (ks : List ConnId) (n : ℕ) (texts : List (List ℕ)) (r : Record) (fault : LogFault) (its left : OpenLog) (v : KeeperView) (logs : OpenLogs) (a : DiskView)
-    → open_logs v.logs n ≡ Some its → RefusesRecord texts its r fault left → open_logs logs ≡ with_open n (Some left) (open_logs v.logs) → Does ks (log_refusal fault ≡ DeviceFault) v (record v { logs = logs }) a a
+    → open_logs v.logs n ≡ Some its → RefusesRecord texts its r fault left → open_logs logs ≡ with_open n (Some left) (open_logs v.logs) → Does ks ⊥ (log_refusal fault ≡ DeviceFault) v (record v { logs = logs }) a a
 unstaged_does ks n texts r fault its left v logs a here no_room are = record {
   monotone = still a;
   failed = λ failed. inl failed;
@@ -566,8 +607,8 @@ unstaged_does ks n texts r fault its left v logs a here no_room are = record {
 -- ---- The end of a turn
 
 -- no log waits any more
-pub unwaiting_then : (f : Type 0) (v v0 w : KeeperView) (a b : DiskView) → v0 ≡ record v { waiting = [] } → Does [] f v0 w a b → Does [] f v w a b
-unwaiting_then f v v0 w a b is d = let e : Does [] f (record v { waiting = [] }) w a b = subst (λ (x : KeeperView). Does [] f x w a b) is d in record {
+pub unwaiting_then : (f : Type 0) (v v0 w : KeeperView) (a b : DiskView) → v0 ≡ record v { waiting = [] } → Does [] ⊥ f v0 w a b → Does [] ⊥ f v w a b
+unwaiting_then f v v0 w a b is d = let e : Does [] ⊥ f (record v { waiting = [] }) w a b = subst (λ (x : KeeperView). Does [] ⊥ f x w a b) is d in record {
   monotone = e.monotone;
   failed = e.failed;
   whole = e.whole;
@@ -576,7 +617,7 @@ unwaiting_then f v v0 w a b is d = let e : Does [] f (record v { waiting = [] })
 }
 
 -- event lines were flushed, or that failed; nobody is noted any more
-pub flushed_does : (v : KeeperView) (events : EventLogView) (notes : List ConnId) (a b : DiskView) → Later a b → (is_broken events ≡ true → (is_broken v.events ≡ true) ⊎ StoreRose a b) → notes ≡ [] → Does [] ⊥ v (record v { events = events; noting = notes }) a b
+pub flushed_does : (v : KeeperView) (events : EventLogView) (notes : List ConnId) (a b : DiskView) → Later a b → (is_broken events ≡ true → (is_broken v.events ≡ true) ⊎ StoreRose a b) → notes ≡ [] → Does [] ⊥ ⊥ v (record v { events = events; noting = notes }) a b
 flushed_does v events notes a b later failed none = record {
   monotone = later;
   failed = λ is. of is;
@@ -594,7 +635,7 @@ flushed_does v events notes a b later failed none = record {
     of (inr broken) = from (failed broken)
 
 -- an open log was flushed
-pub one_flushed : (n : ℕ) (its : OpenLog) (v : KeeperView) (logs : OpenLogs) (a b : DiskView) → Later a b → its.log.is_broken ≡ false → ((i : ℕ) → open_logs logs i ≡ (if i == n then Some its else open_logs v.logs i)) → Does [] ⊥ v (record v { logs = logs }) a b
+pub one_flushed : (n : ℕ) (its : OpenLog) (v : KeeperView) (logs : OpenLogs) (a b : DiskView) → Later a b → its.log.is_broken ≡ false → ((i : ℕ) → open_logs logs i ≡ (if i == n then Some its else open_logs v.logs i)) → Does [] ⊥ ⊥ v (record v { logs = logs }) a b
 one_flushed n its v logs a b later whole are = record {
   monotone = later;
   failed = λ failed. inl failed;
@@ -627,7 +668,7 @@ all_back : (p : ConnId → Type 0) (xs ys : List ConnId) → AllByRecursion p (x
 all_back p [] ys all = all
 all_back p (x ∷ xs) ys all = all_back p xs ys all.1
 
-pub does_last : (jobs : List Job) (job : Job) (u v w : KeeperView) (a b c : DiskView) → Does (map (λ (x : Job). x.conn) jobs) ⊥ u v a b → Does (job.conn ∷ []) ⊥ v w b c → Does (map (λ (x : Job). x.conn) (jobs ++ job ∷ [])) ⊥ u w a c
+pub does_last : (jobs : List Job) (job : Job) (u v w : KeeperView) (a b c : DiskView) → Does (map (λ (x : Job). x.conn) jobs) ⊥ ⊥ u v a b → Does (job.conn ∷ []) ⊥ ⊥ v w b c → Does (map (λ (x : Job). x.conn) (jobs ++ job ∷ [])) ⊥ ⊥ u w a c
 does_last jobs job u v w a b c one two = record {
   monotone = later_on a b c one.monotone two.monotone;
   failed = λ failed. may_second u v a b c one.monotone two.monotone one.failed (two.failed failed);
@@ -646,6 +687,16 @@ any_before (x ∷ jobs) job k (inr any) = inr (any_before jobs job k any)
 pub any_last : (jobs : List Job) (job : Job) (k : ConnId) → k ≡ job.conn → AnyIsOf (jobs ++ job ∷ []) k
 any_last [] job k is = inl (sym is)
 any_last (x ∷ jobs) job k is = inr (any_last jobs job k is)
+
+-- a job that brings an event with a line, among more jobs
+pub brings_before : (log_exit : Bool) (jobs : List Job) (job : Job) (k : ConnId) → AnyBringsLine log_exit jobs k → AnyBringsLine log_exit (jobs ++ job ∷ []) k
+brings_before log_exit [] job k any = absurd any
+brings_before log_exit (x ∷ jobs) job k (inl is) = inl is
+brings_before log_exit (x ∷ jobs) job k (inr any) = inr (brings_before log_exit jobs job k any)
+
+pub brings_last : (log_exit : Bool) (jobs : List Job) (job : Job) (k : ConnId) → job.conn ≡ k → BringsLine log_exit job.body → AnyBringsLine log_exit (jobs ++ job ∷ []) k
+brings_last log_exit [] job k is brings = inl (is, brings)
+brings_last log_exit (x ∷ jobs) job k is brings = inr (brings_last log_exit jobs job k is brings)
 
 is_or : (a b : Bool) → b ≡ true → (a || b) ≡ true
 is_or true b e = refl

@@ -48,3 +48,5 @@ pub mod Turning
 pub mod Syncing
 pub mod Causes
 pub mod Saying
+pub mod DamagedLemmas
+pub mod SparingLemmas

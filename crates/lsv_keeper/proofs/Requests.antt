@@ -1,5 +1,5 @@
 -- What is known of a request that its judgement lets through.
-use Rattle.std.proofs.Common.{◌≡◌, ◌∙◌, ℕ, ap, pos, refl, subst, Option, Some, None}
+use Rattle.std.proofs.Common.{◌≡◌, ◌∙◌, ℕ, ap, pos, refl, subst, sym, Option, Some, None}
 use Rattle.std.specs.Prelude.{Bool, true, false, if◌then◌else◌, Result, Ok, Err, IsSome, is_some}
 use Rattle.lsv_base.specs.LogNo.{log_no_in}
 use Rattle.lsv_base.specs.Time.{nanos_of}
@@ -24,9 +24,11 @@ use Rattle.lsv_session.specs.declared.connection.ConnState.TheVariants.{Fresh, G
 use Rattle.lsv_session.specs.declared.job.Body.{Body}
 use Rattle.lsv_session.specs.declared.job.Body.TheVariants as body
 use Rattle.lsv_machine.specs.Failures.{AsksFor}
-use Rattle.lsv_machine.specs.Machine.{is_dead}
+use Rattle.lsv_machine.specs.Machine.{Settings, is_dead}
+use Rattle.lsv_machine.specs.Work.{has_line}
 use Rattle.lsv_machine.specs.Judgement.{judged}
 use Rattle.lsv_machine.proofs.JudgedLemmas.{judged_ok}
+use Rattle.lsv_keeper.specs.Causes.{BringsLine}
 use Rattle.lsv_keeper.specs.Logs.{IsWindowFit}
 use Rattle.lsv_keeper.specs.Syncs.{IsRestartOf}
 
@@ -129,6 +131,36 @@ asked_log (client.Suspend m) restart e = no_restart (suspend_of m) (λ r. reques
 -- a restart is of the log that its message names
 pub restart_named : (s : ConnState) (m : ClientMessage) (restart : Restart) → judged s m ≡ Ok (request.Restart restart) → IsRestartOf m restart.log
 restart_named s m restart e = asked_log m restart (judged_ok s m (request.Restart restart) e).0
+
+-- ---- Events with lines
+
+module _ (set : Settings) (what : Request) (has : has_line set what ≡ true) where
+  no_line : {A : Type 0} (w : Result A Refusal) (f : A → Request) → ((a : A) → has_line set (f a) ≡ false) → and_then w (λ a. done (f a)) ≡ Ok what → ⊥
+  no_line (Ok a) f none e = let same : f a ≡ what = cc in let x : false ≡ true = sym (none a) ∙ (ap (has_line set) same ∙ has) in cc
+  no_line (Err why) f none e = cc
+
+  exit_line : (w : Result Exit Refusal) → and_then w (λ a. done (request.Exit a)) ≡ Ok what → set.log_exit ≡ true
+  exit_line (Ok a) e = let same : request.Exit a ≡ what = cc in ap (has_line set) same ∙ has
+  exit_line (Err why) e = absurd (cc)
+
+  brought : (m : ClientMessage) → request_of m ≡ Ok what → BringsLine set.log_exit (body.Msg m)
+  brought (client.Hello m) e = let same : request.Hello ≡ what = cc in let x : false ≡ true = ap (has_line set) same ∙ has in cc
+  brought (client.Accept m) e = tt
+  brought (client.Reject m) e = tt
+  brought (client.Alert m) e = tt
+  brought (client.Restart m) e = no_line (restart_of m) (λ a. request.Restart a) (λ a. refl) e
+  brought (client.Exit m) e = exit_line (exit_of m) e
+  brought (client.Ttyin m) e = no_line (data_of stream.Ttyin m) (λ r. request.Record r) (λ a. refl) e
+  brought (client.Ttyout m) e = no_line (data_of stream.Ttyout m) (λ r. request.Record r) (λ a. refl) e
+  brought (client.Stdin m) e = no_line (data_of stream.Stdin m) (λ r. request.Record r) (λ a. refl) e
+  brought (client.Stdout m) e = no_line (data_of stream.Stdout m) (λ r. request.Record r) (λ a. refl) e
+  brought (client.Stderr m) e = no_line (data_of stream.Stderr m) (λ r. request.Record r) (λ a. refl) e
+  brought (client.Winsize m) e = no_line (window_of m) (λ r. request.Record r) (λ a. refl) e
+  brought (client.Suspend m) e = no_line (suspend_of m) (λ r. request.Record r) (λ a. refl) e
+
+-- a request with a line comes of a message that is an event
+pub event_brought : (set : Settings) (s : ConnState) (m : ClientMessage) (what : Request) → judged s m ≡ Ok what → has_line set what ≡ true → BringsLine set.log_exit (body.Msg m)
+event_brought set s m what e has = brought set what has m (judged_ok s m what e).0
 
 -- ---- A connection that asks for something isn't dead
 

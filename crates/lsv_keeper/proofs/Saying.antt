@@ -17,31 +17,31 @@ use Rattle.lsv_keeper.specs.Causes.{IsDeviceFault, Says, TellsFault}
 use Rattle.lsv_keeper.specs.Rows.{Tells}
 use Rattle.lsv_keeper.specs.declared.told.Told.{Told}
 use Rattle.lsv_keeper.specs.declared.told.Told.TheVariants as told
-use Rattle.lsv_keeper.proofs.Causes.{all_append, all_as}
+use Rattle.lsv_keeper.proofs.Causes.{all_append, all_as, all_two}
 
 -- ---- One after another
 
-pub says_none : (p : ConnId → Type 0) (why : Type 0) (said : List Reply) → Says p why said said
+pub says_none : (p why : ConnId → Type 0) (said : List Reply) → Says p why said said
 says_none p why said = record { replies = []; behind = nil said; asked = tt; cause = tt }
   where
     nil : (xs : List Reply) → xs ≡ xs ++ []
     nil [] = refl
     nil (x ∷ xs) = ap (λ (l : List Reply). x ∷ l) (nil xs)
 
-pub says_as : (p q : ConnId → Type 0) (a b : Type 0) (x y : List Reply) → ((k : ConnId) → p k → q k) → (a → b) → Says p a x y → Says q b x y
+pub says_as : (p q a b : ConnId → Type 0) (x y : List Reply) → ((k : ConnId) → p k → q k) → ((k : ConnId) → p k → a k → b k) → Says p a x y → Says q b x y
 says_as p q a b x y more why s = record {
   replies = s.replies;
   behind = s.behind;
   asked = all_as (λ r. p r.conn) (λ r. q r.conn) s.replies (λ r is. more r.conn is) s.asked;
-  cause = all_as (λ r. IsDeviceFault r → a) (λ r. IsDeviceFault r → b) s.replies (λ r is fault. why (is fault)) s.cause;
+  cause = all_two (λ r. p r.conn) (λ r. IsDeviceFault r → a r.conn) (λ r. IsDeviceFault r → b r.conn) s.replies (λ r its is fault. why r.conn its (is fault)) s.asked s.cause;
 }
 
-pub says_then : (p : ConnId → Type 0) (why : Type 0) (x y z : List Reply) → Says p why x y → Says p why y z → Says p why x z
+pub says_then : (p why : ConnId → Type 0) (x y z : List Reply) → Says p why x y → Says p why y z → Says p why x z
 says_then p why x y z s t = record {
   replies = s.replies ++ t.replies;
   behind = t.behind ∙ ap (λ (l : List Reply). l ++ t.replies) s.behind ∙ append_assoc x s.replies t.replies;
   asked = all_append (λ r. p r.conn) s.replies t.replies s.asked t.asked;
-  cause = all_append (λ r. IsDeviceFault r → why) s.replies t.replies s.cause t.cause;
+  cause = all_append (λ r. IsDeviceFault r → why r.conn) s.replies t.replies s.cause t.cause;
 }
 
 -- ---- The text of a device fault
@@ -96,9 +96,9 @@ tells_its k told.Shut answers e = subst (AreIts k (TellsFault told.Shut)) (sym e
 tells_its k told.Farewell answers e = subst (AreIts k (TellsFault told.Farewell)) (sym e) ((refl, tt), ((λ f. absurd (cc f)), tt))
 
 -- the replies of what a job is told are its own, and one says that a device failed only where that is told
-pub says_told : (k : ConnId) (t : Told) (answers : List Answer) (said said' : List Reply) → Tells k t answers → said' ≡ said ++ map reply_of answers → Says (λ j. j ≡ k) (TellsFault t) said said'
+pub says_told : (k : ConnId) (t : Told) (answers : List Answer) (said said' : List Reply) → Tells k t answers → said' ≡ said ++ map reply_of answers → Says (λ j. j ≡ k) (λ j. TellsFault t) said said'
 says_told k t answers said said' tells behind = let its = tells_its k t answers tells in record { replies = map reply_of answers; behind = behind; asked = its.0; cause = its.1 }
 
 -- a commit point is to its connection
-pub says_point : (k : ConnId) (point : ℕ) (said said' : List Reply) → said' ≡ said ++ map reply_of (say k (CommitPoint point) ∷ []) → Says (λ j. j ≡ k) ⊥ said said'
+pub says_point : (k : ConnId) (point : ℕ) (said said' : List Reply) → said' ≡ said ++ map reply_of (say k (CommitPoint point) ∷ []) → Says (λ j. j ≡ k) (λ j. ⊥) said said'
 says_point k point said said' behind = record { replies = map reply_of (say k (CommitPoint point) ∷ []); behind = behind; asked = (refl, tt); cause = ((λ f. absurd (cc f)), tt) }

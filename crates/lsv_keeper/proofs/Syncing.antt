@@ -1,4 +1,4 @@
--- How often calls sync the files of logs: counts of calls, of jobs one after another, and of a turn.
+-- How often calls write and sync the files of logs: counts of calls, of jobs one after another, and of a turn.
 use Rattle.std.proofs.Common.{◌≡◌, ◌≢◌, ◌≤◌, ◌<◌, ◌+◌, ℕ, List, [], ◌∷◌, ◌++◌, length, take, drop, slice_index_or, refl, sym, ◌∙◌, ap, subst, inl, inr, arith, Option, Some, None, ◌⊎◌}
 use Rattle.std.proofs.lemmas.Grind.{common_steps}
 use Rattle.std.proofs.lemmas.List.{take-append-drop}
@@ -16,7 +16,7 @@ use Rattle.lsv_iolog.specs.Moments.{CallsOfLog}
 use Rattle.lsv_iolog.specs.Recovered.{IsOfLog, owner_of}
 use Rattle.lsv_iolog.specs.Represents as logs
 use Rattle.lsv_iolog.specs.Value.{LogValue}
-use Rattle.lsv_seq.specs.Drawn.{IsNumbersFile}
+use Rattle.lsv_seq.specs.Drawn.{IsNumbersFile, numbers_file}
 use Rattle.lsv_seq.specs.declared.numbers.Numbers.{Numbers}
 use Rattle.lsv_seq.specs.Value.{IsSameLane, lane_of, lanes_of, last_of}
 use Rattle.lsv_seq.proofs.Laws.{numbers_owner}
@@ -34,7 +34,7 @@ use Rattle.lsv_keeper.specs.declared.logs.OpenLog.{OpenLog}
 use Rattle.lsv_keeper.specs.Leaving.{Departs, TakenOut}
 use Rattle.lsv_keeper.specs.Logs.{Flushes}
 use Rattle.lsv_keeper.specs.Represents.{AllOwned, Held, LogIs, Represents, Rising}
-use Rattle.lsv_keeper.specs.Syncing.{IsPast, NoLog, NoLogSynced, Syncs, SyncsIfLeft, SyncsOne, SyncsThese, Unsynced}
+use Rattle.lsv_keeper.specs.Syncing.{IsPast, NoLog, NoLogUsed, Syncs, SyncsIfLeft, SyncsOne, SyncsThese, Unused}
 use Rattle.lsv_keeper.specs.Syncs.{AnyRestarts, Restarts, SyncedOnce}
 use Rattle.lsv_keeper.specs.Tails.{IsOneOf, none_waits}
 use Rattle.lsv_keeper.specs.Value.{IsReserved, KeeperView, Owns, SameSessions, log_in, sessions_of, settings_of}
@@ -44,25 +44,29 @@ use Rattle.lsv_keeper.proofs.TailLoops.{Flushing, drop_next, one_of_last, one_of
 
 -- ---- Counts of one log
 
-pub unsynced_on : (n : ℕ) (one two three : DiskView) → Unsynced n one two → Unsynced n two three → Unsynced n one three
-unsynced_on n one two three u w file own = w file own ∙ u file own
+pub unused_on : (n : ℕ) (one two three : DiskView) → Unused n one two → Unused n two three → Unused n one three
+unused_on n one two three u w = record { writes = λ file own. w.writes file own ∙ u.writes file own; syncs = λ file own. w.syncs file own ∙ u.syncs file own }
 
-pub unsynced_once : (n : ℕ) (old new : DiskView) → Unsynced n old new → SyncedOnce n old new
-unsynced_once n old new u = record {
-  files = λ file own not_journal. let e = u file own in omega arith;
-  journal = let e = u (journal_of (owner_of n)) refl in omega arith;
+-- a disk as it is
+pub unused : (n : ℕ) (disk : DiskView) → Unused n disk disk
+unused n disk = record { writes = λ file own. refl; syncs = λ file own. refl }
+
+pub unused_once : (n : ℕ) (old new : DiskView) → Unused n old new → SyncedOnce n old new
+unused_once n old new u = record {
+  files = λ file own not_journal. let e = u.syncs file own in omega arith;
+  journal = let e = u.syncs (journal_of (owner_of n)) refl in omega arith;
 }
 
-pub once_on : (n : ℕ) (one two three : DiskView) → SyncedOnce n one two → Unsynced n two three → SyncedOnce n one three
+pub once_on : (n : ℕ) (one two three : DiskView) → SyncedOnce n one two → Unused n two three → SyncedOnce n one three
 once_on n one two three s u = record {
-  files = λ file own not_journal. let e = u file own in let x = s.files file own not_journal in omega arith;
-  journal = let e = u (journal_of (owner_of n)) refl in let x = s.journal in omega arith;
+  files = λ file own not_journal. let e = u.syncs file own in let x = s.files file own not_journal in omega arith;
+  journal = let e = u.syncs (journal_of (owner_of n)) refl in let x = s.journal in omega arith;
 }
 
-pub then_once : (n : ℕ) (one two three : DiskView) → Unsynced n one two → SyncedOnce n two three → SyncedOnce n one three
+pub then_once : (n : ℕ) (one two three : DiskView) → Unused n one two → SyncedOnce n two three → SyncedOnce n one three
 then_once n one two three u s = record {
-  files = λ file own not_journal. let e = u file own in let x = s.files file own not_journal in omega arith;
-  journal = let e = u (journal_of (owner_of n)) refl in let x = s.journal in omega arith;
+  files = λ file own not_journal. let e = u.syncs file own in let x = s.files file own not_journal in omega arith;
+  journal = let e = u.syncs (journal_of (owner_of n)) refl in let x = s.journal in omega arith;
 }
 
 -- ---- Calls
@@ -77,31 +81,54 @@ not_its n i file other own its = other (same_log n i (sym own ∙ its))
 pub flush_once : (n : ℕ) (old new : DiskView) → CallsOfLog n 1 2 old new → SyncedOnce n old new
 flush_once n old new c = record { files = c.syncs.files; journal = c.syncs.journal }
 
-pub others_calls : (n i d j : ℕ) (old new : DiskView) → CallsOfLog i d j old new → n ≢ i → Unsynced n old new
-others_calls n i d j old new c other file own = c.syncs.others file (not_its n i file other own)
+pub others_calls : (n i d j : ℕ) (old new : DiskView) → CallsOfLog i d j old new → n ≢ i → Unused n old new
+others_calls n i d j old new c other = record { writes = λ file own. c.writes.others file (not_its n i file other own); syncs = λ file own. c.syncs.others file (not_its n i file other own) }
 
-pub reads_none : (old new : DiskView) → OnlyReads old new → NoLogSynced old new
-reads_none old new r n file own = r.counts.syncs file
+pub reads_none : (old new : DiskView) → OnlyReads old new → NoLogUsed old new
+reads_none old new r n = record { writes = λ file own. r.counts.writes file; syncs = λ file own. r.counts.syncs file }
 
-pub opened_others : (n i a b : ℕ) (f : FileId) (old new : DiskView) → WritesOneOf f a b (IsOfLog i) old new → n ≢ i → Unsynced n old new
-opened_others n i a b f old new c other file own = c.syncs.others file (not_its n i file other own)
+pub opened_others : (n i a b : ℕ) (old new : DiskView) → WritesOneOf (journal_of (owner_of i)) a b (IsOfLog i) old new → n ≢ i → Unused n old new
+opened_others n i a b old new c other = record {
+  writes = λ file own. c.writes.others file (λ is. not_its n i file other own (ap (λ (g : FileId). g.owner) is));
+  syncs = λ file own. c.syncs.others file (not_its n i file other own);
+}
 
-pub cut_others : (n i a b : ℕ) (old new : DiskView) → CallsAtMost a b (λ file. file ≡ journal_of (owner_of i)) old new → n ≢ i → Unsynced n old new
-cut_others n i a b old new c other file own = c.syncs.others file (λ is. other (same_log n i (sym own ∙ ap (λ (g : FileId). g.owner) is)))
-
-pub lines_opened : (lane a b : ℕ) (f : FileId) (old new : DiskView) → WritesOneOf f a b (IsOfEventLog lane) old new → NoLogSynced old new
-lines_opened lane a b f old new c n file own = c.syncs.others file (λ its. let e : owners.Log n ≡ owners.Events lane = sym own ∙ of_lane lane file its in absurd (cc))
-
-pub lines_flushed : (lane : ℕ) (bundle : BundleView) (old new : DiskView) → bundle.owner ≡ owners.Events lane → CallsOfFlush bundle old new → NoLogSynced old new
-lines_flushed lane bundle old new is c n file own = c.syncs.others file
-    (λ staged. let (part, has, some, named) = staged in apart (ap (λ (g : FileId). g.owner) named))
-    (λ named. apart (ap (λ (g : FileId). g.owner) named))
+pub cut_others : (n i a b : ℕ) (old new : DiskView) → CallsAtMost a b (λ file. file ≡ journal_of (owner_of i)) old new → n ≢ i → Unused n old new
+cut_others n i a b old new c other = record { writes = λ file own. c.writes.others file (apart file own); syncs = λ file own. c.syncs.others file (apart file own) }
   where
-    apart : file.owner ≡ bundle.owner → ⊥
-    apart e = let f : owners.Log n ≡ owners.Events lane = sym own ∙ e ∙ is in cc
+    apart : (file : FileId) → IsOfLog n file → file ≡ journal_of (owner_of i) → ⊥
+    apart file own is = other (same_log n i (sym own ∙ ap (λ (g : FileId). g.owner) is))
 
-pub draw_unsynced : (lane a b : ℕ) (f : FileId) (old new : DiskView) → WritesOneOf f a b (IsNumbersFile lane) old new → NoLogSynced old new
-draw_unsynced lane a b f old new c n file own = c.syncs.others file (λ its. let e : owners.Log n ≡ owners.Numbers lane = sym own ∙ numbers_owner lane file its in absurd (cc))
+pub lines_opened : (lane a b : ℕ) (old new : DiskView) → WritesOneOf (journal_of (owners.Events lane)) a b (IsOfEventLog lane) old new → NoLogUsed old new
+lines_opened lane a b old new c n = record {
+  writes = λ file own. c.writes.others file (λ is. apart file own (ap (λ (g : FileId). g.owner) is));
+  syncs = λ file own. c.syncs.others file (λ its. apart file own (of_lane lane file its));
+}
+  where
+    apart : (file : FileId) → IsOfLog n file → file.owner ≡ owners.Events lane → ⊥
+    apart file own is = let e : owners.Log n ≡ owners.Events lane = sym own ∙ is in cc
+
+pub lines_flushed : (lane : ℕ) (bundle : BundleView) (old new : DiskView) → bundle.owner ≡ owners.Events lane → CallsOfFlush bundle old new → NoLogUsed old new
+lines_flushed lane bundle old new is c n = record {
+  writes = λ file own. c.writes.others file
+      (λ staged. let (part, has, some, named) = staged in apart file own (ap (λ (g : FileId). g.owner) named))
+      (λ named. apart file own (ap (λ (g : FileId). g.owner) named));
+  syncs = λ file own. c.syncs.others file
+      (λ staged. let (part, has, some, named) = staged in apart file own (ap (λ (g : FileId). g.owner) named))
+      (λ named. apart file own (ap (λ (g : FileId). g.owner) named));
+}
+  where
+    apart : (file : FileId) → IsOfLog n file → file.owner ≡ bundle.owner → ⊥
+    apart file own e = let f : owners.Log n ≡ owners.Events lane = sym own ∙ e ∙ is in cc
+
+pub draw_unused : (lane a b : ℕ) (old new : DiskView) → WritesOneOf (numbers_file lane) a b (IsNumbersFile lane) old new → NoLogUsed old new
+draw_unused lane a b old new c n = record {
+  writes = λ file own. c.writes.others file (λ is. apart file own (ap (λ (g : FileId). g.owner) is));
+  syncs = λ file own. c.syncs.others file (λ its. apart file own (numbers_owner lane file its));
+}
+  where
+    apart : (file : FileId) → IsOfLog n file → file.owner ≡ owners.Numbers lane → ⊥
+    apart file own is = let e : owners.Log n ≡ owners.Numbers lane = sym own ∙ is in cc
 
 -- ---- Numbers that were drawn
 
@@ -133,11 +160,11 @@ owned_past v disk m n k at own lane = elim (le_or n m.last) [
 -- ---- What calls sync, one after another
 
 -- no log was synced, and each has the writer that it had
-pub quiet : (But : ℕ → Type 0) (v v' : KeeperView) (old new : DiskView) → v'.numbers ≡ v.numbers → ((n : ℕ) → (sessions_of v').owner n ≡ (sessions_of v).owner n) → NoLogSynced old new → Syncs But v v' old new
+pub quiet : (But : ℕ → Type 0) (v v' : KeeperView) (old new : DiskView) → v'.numbers ≡ v.numbers → ((n : ℕ) → (sessions_of v').owner n ≡ (sessions_of v).owner n) → NoLogUsed old new → Syncs But v v' old new
 quiet But v v' old new numbers owner none = record { past = λ n p. subst (λ (x : Numbers). IsPast x n) (sym numbers) p; each = λ n p b. inl (owner n, none n) }
 
 pub nothing : (But : ℕ → Type 0) (v v' : KeeperView) (disk : DiskView) → v'.numbers ≡ v.numbers → v'.table ≡ v.table → Syncs But v v' disk disk
-nothing But v v' disk numbers table = quiet But v v' disk disk numbers (λ n. ap (λ (t : Table). (sessions t).owner n) table) (λ n file own. refl)
+nothing But v v' disk numbers table = quiet But v v' disk disk numbers (λ n. ap (λ (t : Table). (sessions t).owner n) table) (λ n. unused n disk)
 
 -- calls on the files of a log that are none of those that are asked for
 pub wider : (A B : ℕ → Type 0) (v v' : KeeperView) (old new : DiskView) → ((n : ℕ) → A n → B n) → Syncs A v v' old new → Syncs B v v' old new
@@ -147,7 +174,7 @@ pub of_none : (B : ℕ → Type 0) (v v' : KeeperView) (old new : DiskView) → 
 of_none B v v' old new s = wider NoLog B v v' old new (λ n none. absurd none) s
 
 pub joined : (n : ℕ) (a b c : KeeperView) (one two three : DiskView) → SyncsIfLeft n a b one two → SyncsIfLeft n b c two three → SyncsIfLeft n a c one three
-joined n a b c one two three (inl (same, u)) (inl (same', w)) = inl (same' ∙ same, unsynced_on n one two three u w)
+joined n a b c one two three (inl (same, u)) (inl (same', w)) = inl (same' ∙ same, unused_on n one two three u w)
 joined n a b c one two three (inl (same, u)) (inr ((k, own), none, once)) = inr ((k, sym same ∙ own), none, then_once n one two three u once)
 joined n a b c one two three (inr (own, none, once)) (inl (same, u)) = inr (own, same ∙ none, once_on n one two three once u)
 joined n a b c one two three (inr (own, none, once)) (inr ((k, own'), none', once')) = absurd (let e : None ≡ Some k = sym none ∙ own' in cc)
@@ -161,7 +188,7 @@ followed But a b c one two three s t = record {
 -- ---- A connection that leaves
 
 pub stays_out : (But : ℕ → Type 0) (v v' : KeeperView) (k : ConnId) (s : ConnState) (disk : DiskView) → Departs None k s v v' → Syncs But v v' disk disk
-stays_out But v v' k s disk d = quiet But v v' disk disk d.beside.numbers d.owner (λ n file own. refl)
+stays_out But v v' k s disk d = quiet But v v' disk disk d.beside.numbers d.owner (λ n. unused n disk)
 
 -- the open log of a number is that log
 pub its_number : (v : KeeperView) (disk : DiskView) (m : Machine) (n : ℕ) (k : ConnId) (its : OpenLog) → Represents v disk m → m.owner n ≡ Some k → log_in v n ≡ Some its → its.log.number ≡ n
@@ -198,23 +225,23 @@ let_go_once i its a b c old new m k s at state out d calls =
 -- ---- A log that is opened
 
 pub reserved_quiet : (But : ℕ → Type 0) (v v' : KeeperView) (disk : DiskView) → IsReserved v v' → Syncs But v v' disk disk
-reserved_quiet But v v' disk r = quiet But v v' disk disk (ap (λ (x : KeeperView). x.numbers) r.others) (λ n. ap (λ (s : Sessions). s.owner n) r.sessions_are) (λ n file own. refl)
+reserved_quiet But v v' disk r = quiet But v v' disk disk (ap (λ (x : KeeperView). x.numbers) r.others) (λ n. ap (λ (s : Sessions). s.owner n) r.sessions_are) (λ n. unused n disk)
 
-pub drawn_quiet : (But : ℕ → Type 0) (v v' : KeeperView) (old new : DiskView) → v' ≡ record v { numbers = v'.numbers } → ((n : ℕ) → IsPast v.numbers n → IsPast v'.numbers n) → NoLogSynced old new → Syncs But v v' old new
+pub drawn_quiet : (But : ℕ → Type 0) (v v' : KeeperView) (old new : DiskView) → v' ≡ record v { numbers = v'.numbers } → ((n : ℕ) → IsPast v.numbers n → IsPast v'.numbers n) → NoLogUsed old new → Syncs But v v' old new
 drawn_quiet But v v' old new same past none = record { past = past; each = λ n p but. inl (ap (λ (x : KeeperView). (sessions_of x).owner n) same, none n) }
 
-pub line_quiet : (But : ℕ → Type 0) (v v' : KeeperView) (old new : DiskView) → SameSessions v v' → NoLogSynced old new → Syncs But v v' old new
+pub line_quiet : (But : ℕ → Type 0) (v v' : KeeperView) (old new : DiskView) → SameSessions v v' → NoLogUsed old new → Syncs But v v' old new
 line_quiet But v v' old new same none = quiet But v v' old new same.numbers (λ n. ap (λ (t : Table). (sessions t).owner n) same.table) none
 
 -- calls on this log alone
-pub on_one : (i : ℕ) (v v' : KeeperView) (old new : DiskView) → v'.numbers ≡ v.numbers → ((n : ℕ) → (sessions_of v').owner n ≡ (sessions_of v).owner n) → ((n : ℕ) → n ≢ i → Unsynced n old new) → Syncs (λ n. n ≡ i) v v' old new
+pub on_one : (i : ℕ) (v v' : KeeperView) (old new : DiskView) → v'.numbers ≡ v.numbers → ((n : ℕ) → (sessions_of v').owner n ≡ (sessions_of v).owner n) → ((n : ℕ) → n ≢ i → Unused n old new) → Syncs (λ n. n ≡ i) v v' old new
 on_one i v v' old new numbers owner others = record { past = λ n p. subst (λ (x : Numbers). IsPast x n) (sym numbers) p; each = λ n p but. inl (owner n, others n but) }
 
 -- a connection comes to write this log
 pub owns_one : (i : ℕ) (k : ConnId) (its : OpenLog) (v v' : KeeperView) (disk : DiskView) → Owns k i its v v' → Syncs (λ n. n ≡ i) v v' disk disk
 owns_one i k its v v' disk o = record {
   past = λ n p. subst (λ (x : Numbers). IsPast x n) (sym o.numbers) p;
-  each = λ n p but. inl (ap (λ (s : Sessions). s.owner n) o.sessions_are ∙ elim (eq_or n i) [ equal e t ↦ absurd (but e) | unequal e t ↦ rw t refl ], λ file own. refl);
+  each = λ n p but. inl (ap (λ (s : Sessions). s.owner n) o.sessions_are ∙ elim (eq_or n i) [ equal e t ↦ absurd (but e) | unequal e t ↦ rw t refl ], unused n disk);
 }
 
 -- a log that wasn't drawn before needs no exception
@@ -222,7 +249,7 @@ pub fresh_one : (i : ℕ) (v v' : KeeperView) (old new : DiskView) → (IsPast v
 fresh_one i v v' old new fresh s = record { past = s.past; each = λ n p but. s.each n p (λ e. fresh (subst (IsPast v.numbers) e p)) }
 
 -- how far an accept came that opens a log: room was made, a number drawn, and its files made
-pub making : (i : ℕ) (v v1 v2 : KeeperView) (old mid new : DiskView) → IsReserved v v1 → v2 ≡ record v1 { numbers = v2.numbers } → ((n : ℕ) → IsPast v1.numbers n → IsPast v2.numbers n) → NoLogSynced old mid
+pub making : (i : ℕ) (v v1 v2 : KeeperView) (old mid new : DiskView) → IsReserved v v1 → v2 ≡ record v1 { numbers = v2.numbers } → ((n : ℕ) → IsPast v1.numbers n → IsPast v2.numbers n) → NoLogUsed old mid
     → CallsOfLog i 3 4 mid new → Syncs (λ n. n ≡ i) v v2 old new
 making i v v1 v2 old mid new reserved same past none calls =
     followed (λ n. n ≡ i) v v2 v2 old mid new
@@ -233,7 +260,7 @@ pub reserved_fresh : (i : ℕ) (v v1 : KeeperView) → IsReserved v v1 → (IsPa
 reserved_fresh i v v1 reserved fresh past = fresh (subst (λ (x : Numbers). IsPast x i) (sym (ap (λ (x : KeeperView). x.numbers) reserved.others)) past)
 
 -- a restart: room was made, and the log was opened and cut
-pub resumed_one : (i : ℕ) (v v1 : KeeperView) (old new : DiskView) → IsReserved v v1 → ((n : ℕ) → n ≢ i → Unsynced n old new) → Syncs (λ n. n ≡ i) v v1 old new
+pub resumed_one : (i : ℕ) (v v1 : KeeperView) (old new : DiskView) → IsReserved v v1 → ((n : ℕ) → n ≢ i → Unused n old new) → Syncs (λ n. n ≡ i) v v1 old new
 resumed_one i v v1 old new r others = on_one i v v1 old new (ap (λ (x : KeeperView). x.numbers) r.others) (λ n. ap (λ (s : Sessions). s.owner n) r.sessions_are) others
 
 -- ---- Other views of the same sessions
@@ -271,10 +298,10 @@ flushes_one i its old new is calls =
 pub these_on : (done : List ℕ) (i : ℕ) (rest : List ℕ) (one two three : DiskView) → Rising (done ++ i ∷ rest) → SyncsThese done one two → SyncsOne i two three → SyncsThese (done ++ i ∷ []) one three
 these_on done i rest one two three up these its n = go (these n)
   where
-    go : Unsynced n one two ⊎ (IsOneOf n done × SyncedOnce n one two) → Unsynced n one three ⊎ (IsOneOf n (done ++ i ∷ []) × SyncedOnce n one three)
+    go : Unused n one two ⊎ (IsOneOf n done × SyncedOnce n one two) → Unused n one three ⊎ (IsOneOf n (done ++ i ∷ []) × SyncedOnce n one three)
     go (inl u) = elim (eq_or n i) [
       | equal e t ↦ inr (subst (λ (x : ℕ). IsOneOf x (done ++ i ∷ [])) (sym e) (one_of_last done i), then_once n one two three u (subst (λ (x : ℕ). SyncedOnce x two three) (sym e) its.its))
-      | unequal e t ↦ inl (unsynced_on n one two three u (its.others n e))
+      | unequal e t ↦ inl (unused_on n one two three u (its.others n e))
     ]
     go (inr (is, once)) = inr (one_of_left n done (i ∷ []) is, once_on n one two three once (its.others n (λ e. let low = rising_before done i rest up n is in omega arith)))
 
@@ -306,7 +333,7 @@ waiting_ends items v m old new i end waiting at these =
 
 -- ---- A turn
 
-owned_one : (owner : ℕ → Option ConnId) (n : ℕ) (ns : List ℕ) → AllOwned owner ns → IsOneOf n ns → (k : ConnId) × (owner n ≡ Some k)
+pub owned_one : (owner : ℕ → Option ConnId) (n : ℕ) (ns : List ℕ) → AllOwned owner ns → IsOneOf n ns → (k : ConnId) × (owner n ≡ Some k)
 owned_one owner n [] all is = absurd is
 owned_one owner n (i ∷ ns) all (inl e) = (all.0.0, ap owner e ∙ all.0.1)
 owned_one owner n (i ∷ ns) all (inr is) = owned_one owner n ns all.1 is
@@ -317,8 +344,8 @@ pub turn_once : (jobs : List Job) (n : ℕ) (k : ConnId) (a b c : KeeperView) (o
 turn_once jobs n k a b c one two three four m last at own none s t at' these =
     go ((followed (AnyRestarts jobs) a b c one two three s (of_none (AnyRestarts jobs) b c two three t)).each n (owned_past a one m n k at own) none) (these n)
   where
-    go : SyncsIfLeft n a c one three → Unsynced n three four ⊎ (IsOneOf n last.waiting × SyncedOnce n three four) → SyncedOnce n one four
-    go (inl (same, u)) (inl w) = unsynced_once n one four (unsynced_on n one three four u w)
+    go : SyncsIfLeft n a c one three → Unused n three four ⊎ (IsOneOf n last.waiting × SyncedOnce n three four) → SyncedOnce n one four
+    go (inl (same, u)) (inl w) = unused_once n one four (unused_on n one three four u w)
     go (inl (same, u)) (inr (is, once)) = then_once n one three four u once
     go (inr (was, gone, once)) (inl w) = once_on n one three four once w
     go (inr (was, gone, once)) (inr (is, again)) =

@@ -10,6 +10,9 @@ use Rattle.lsv_request.specs.declared.refusal.Refusal.TheVariants.{DeviceFault}
 use Rattle.lsv_seq.specs.Value.{pending_of}
 use Rattle.lsv_session.specs.Connections.{refusal_message, same}
 use Rattle.lsv_session.specs.declared.connection.ConnId.{ConnId}
+use Rattle.lsv_msg.specs.declared.messages.ClientMessage.TheVariants as client
+use Rattle.lsv_session.specs.declared.job.Body.{Body}
+use Rattle.lsv_session.specs.declared.job.Body.TheVariants as jobs
 use Rattle.lsv_session.specs.declared.job.Job.{Job}
 use Rattle.lsv_session.specs.declared.reply.Reply.{Reply}
 use Rattle.lsv_session.specs.declared.reply.ReplyBody.TheVariants as body
@@ -24,17 +27,44 @@ use Rattle.lsv_keeper.specs.Value.{AreLinked, AreWhole, KeeperView, log_in, sess
 abbrev pub IsOfStore : FileId → Type 0
 IsOfStore file = ((n : ℕ) × (file.owner ≡ owners.Log n)) ⊎ ((lane : ℕ) × (file.owner ≡ owners.Numbers lane)) ⊎ ((lane : ℕ) × (file.owner ≡ owners.Events lane))
 
+-- the count of such a file has risen, by the counts before and after
+abbrev pub CountRose : (old new : FileId → ℕ) → Type 0
+CountRose old new = (file : FileId) × IsOfStore file × HasRisen (old file) (new file)
+
 -- the count of such a file has risen
 abbrev pub StoreRose : DiskView → DiskView → Type 0
-StoreRose old new = (file : FileId) × IsOfStore file × HasRisen (old.faults file) (new.faults file)
+StoreRose old new = CountRose old.faults new.faults
 
 -- a draw of a number or a flush of event lines failed, and the file wasn't opened again since
 abbrev pub HasFailed : KeeperView → Type 0
 HasFailed v = (pending_of v.numbers ≢ None) ⊎ (is_broken v.events ≡ true)
 
--- why a device fault may be answered: a count rose, or a number file or an event log had failed before, which is opened again if it is needed
+-- why a number file or an event log may have failed: it had failed before, or a count rose
 abbrev pub MayFail : KeeperView → DiskView → DiskView → Type 0
 MayFail v old new = HasFailed v ⊎ StoreRose old new
+
+-- why a device fault may be answered: a count rose, or a number file or an event log had failed before, and this needs it
+abbrev pub MayAnswer : (needs : Type 0) → KeeperView → DiskView → DiskView → Type 0
+MayAnswer needs v old new = StoreRose old new ⊎ (HasFailed v × needs)
+
+-- ---- What needs a number file or an event log
+
+-- a connection brings an event with a line: an accept, a reject, an alert, or an exit if exits have lines. Its line goes to the event log, and an accept may draw a number
+abbrev pub BringsLine : (log_exit : Bool) → Body → Type 0
+BringsLine log_exit (jobs.Msg (client.Accept m)) = Unit {0}
+BringsLine log_exit (jobs.Msg (client.Reject m)) = Unit {0}
+BringsLine log_exit (jobs.Msg (client.Alert m)) = Unit {0}
+BringsLine log_exit (jobs.Msg (client.Exit m)) = log_exit ≡ true
+BringsLine log_exit b = ⊥
+
+-- one of these jobs is of the connection, and brings such an event
+abbrev pub AnyBringsLine : (log_exit : Bool) → List Job → ConnId → Type 0
+AnyBringsLine log_exit [] k = ⊥
+AnyBringsLine log_exit (job ∷ rest) k = ((job.conn ≡ k) × BringsLine log_exit job.body) ⊎ AnyBringsLine log_exit rest k
+
+-- why a turn of these jobs may answer the connection that a device failed
+abbrev pub MayAnswerTo : KeeperView → List Job → DiskView → DiskView → ConnId → Type 0
+MayAnswerTo v these old new k = MayAnswer (AnyBringsLine v.log_exit these k) v old new
 
 -- ---- Replies of a turn
 
@@ -52,12 +82,12 @@ abbrev pub AnyIsOf : List Job → ConnId → Type 0
 AnyIsOf [] k = ⊥
 AnyIsOf (job ∷ jobs) k = (job.conn ≡ k) ⊎ AnyIsOf jobs k
 
--- what was said stays in front; each reply after it goes to one of these connections, and says that a device failed only for this cause
-pub record Says (p : ConnId → Type 0) (why : Type 0) (said said' : List Reply) : Type 0 where
+-- what was said stays in front. Each reply after it goes to one of these connections. It says that a device failed only for the cause that its connection may have
+pub record Says (p why : ConnId → Type 0) (said said' : List Reply) : Type 0 where
   pub replies : List Reply
   pub behind : said' ≡ said ++ replies
   pub asked : AllByRecursion (λ r. p r.conn) replies
-  pub cause : AllByRecursion (λ r. IsDeviceFault r → why) replies
+  pub cause : AllByRecursion (λ r. IsDeviceFault r → why r.conn) replies
 
 -- ---- What each call of a turn keeps
 
@@ -81,13 +111,13 @@ pub record IsSteadyBut (n : ℕ) (p : ConnId → Bool) (v : KeeperView) : Type 0
   pub waits : AllByRecursion (λ i. i ≢ n → Waits p v i) v.waiting
   pub notes : AllByRecursion (IsAmong p) v.noting
 
--- what a call for these connections does: no count falls, and open logs stay whole. Numbers and event log fail only with a cause, and so does the call
-pub record Does (ks : List ConnId) (faulted : Type 0) (v v' : KeeperView) (old new : DiskView) : Type 0 where
+-- what a call for these connections does: no count falls, and open logs stay whole. Numbers and event log fail only with a cause, and so does the call. If they had failed before, that is its cause only if it needs them
+pub record Does (ks : List ConnId) (needs faulted : Type 0) (v v' : KeeperView) (old new : DiskView) : Type 0 where
   pub monotone : (file : FileId) → old.faults file ≤ new.faults file
   pub failed : HasFailed v' → MayFail v old new
   pub whole : AreWhole v.logs → AreWhole v'.logs
   pub steady : (p : ConnId → Bool) → AllByRecursion (IsAmong p) ks → IsSteady p v → IsSteady p v'
-  pub cause : AreWhole v.logs → faulted → MayFail v old new
+  pub cause : AreWhole v.logs → faulted → MayAnswer needs v old new
 
 -- a job is told that a device failed
 abbrev pub TellsFault : Told → Type 0

@@ -1,4 +1,4 @@
--- How often calls of a turn sync the files of logs.
+-- How often calls of a turn write and sync the files of logs.
 use Rattle.std.specs.Prelude.{◌≡◌, ◌≢◌, ◌≤◌, ◌⊎◌, ℕ, List, Some, None}
 use Rattle.lsv_disk.specs.View.{DiskView}
 use Rattle.lsv_disk.specs.declared.file.FileId.{FileId}
@@ -14,13 +14,14 @@ use Rattle.lsv_keeper.specs.Syncs.{SyncedOnce}
 use Rattle.lsv_keeper.specs.Tails.{IsOneOf}
 use Rattle.lsv_keeper.specs.Value.{KeeperView, sessions_of}
 
--- none of the log's files was synced
-abbrev pub Unsynced : ℕ → DiskView → DiskView → Type 0
-Unsynced n old new = (file : FileId) → IsOfLog n file → new.syncs file ≡ old.syncs file
+-- none of the log's files was written or synced
+pub record Unused (n : ℕ) (old new : DiskView) : Type 0 where
+  pub writes : (file : FileId) → IsOfLog n file → new.writes file ≡ old.writes file
+  pub syncs : (file : FileId) → IsOfLog n file → new.syncs file ≡ old.syncs file
 
--- no file of a log was synced
-abbrev pub NoLogSynced : DiskView → DiskView → Type 0
-NoLogSynced old new = (n : ℕ) → Unsynced n old new
+-- no file of a log was written or synced
+abbrev pub NoLogUsed : DiskView → DiskView → Type 0
+NoLogUsed old new = (n : ℕ) → Unused n old new
 
 -- ---- What a job syncs
 
@@ -36,24 +37,24 @@ GoesOnWith what n = (restart : Restart) × (what ≡ request.Restart restart) ×
 abbrev pub IsPast : Numbers → ℕ → Type 0
 IsPast numbers n = IsOfLane (lane_of numbers) (lanes_of numbers) n → n ≤ last_of numbers
 
--- the log has the writer that it had, or none as before, and none of its files was synced; or its writer let it go, and it was flushed once
+-- the log has the writer that it had, or none as before, and none of its files was written or synced; or its writer let it go, and it was flushed once
 abbrev pub SyncsIfLeft : ℕ → KeeperView → KeeperView → DiskView → DiskView → Type 0
 SyncsIfLeft n v v' old new =
-    (((sessions_of v').owner n ≡ (sessions_of v).owner n) × Unsynced n old new)
+    (((sessions_of v').owner n ≡ (sessions_of v).owner n) × Unused n old new)
     ⊎ (((k : ConnId) × ((sessions_of v).owner n ≡ Some k)) × ((sessions_of v').owner n ≡ None) × SyncedOnce n old new)
 
--- of the logs that were drawn, but for these, each is synced only where its writer lets it go; and what was drawn stays drawn
+-- of the logs that were drawn, but for these, each is written and synced only if its writer lets it go; and what was drawn stays drawn
 pub record Syncs (But : ℕ → Type 0) (v v' : KeeperView) (old new : DiskView) : Type 0 where
   pub past : (n : ℕ) → IsPast v.numbers n → IsPast v'.numbers n
   pub each : (n : ℕ) → IsPast v.numbers n → (But n → ⊥) → SyncsIfLeft n v v' old new
 
 -- ---- What the end of a turn syncs
 
--- log i was flushed once, and no file of another log was synced
+-- log i was flushed once, and no file of another log was written or synced
 pub record SyncsOne (i : ℕ) (old new : DiskView) : Type 0 where
   pub its : SyncedOnce i old new
-  pub others : (n : ℕ) → n ≢ i → Unsynced n old new
+  pub others : (n : ℕ) → n ≢ i → Unused n old new
 
--- each of these logs was flushed once, and no file of another log was synced
+-- each of these logs was flushed once, and no file of another log was written or synced
 abbrev pub SyncsThese : List ℕ → DiskView → DiskView → Type 0
-SyncsThese numbers old new = (n : ℕ) → Unsynced n old new ⊎ (IsOneOf n numbers × SyncedOnce n old new)
+SyncsThese numbers old new = (n : ℕ) → Unused n old new ⊎ (IsOneOf n numbers × SyncedOnce n old new)

@@ -18,7 +18,7 @@ ghost use Rattle.lsv_keeper.specs.Represents.{Represents};
 ghost use Rattle.lsv_keeper.specs.Rows.{Beside, IsTold, RowGives};
 ghost use Rattle.lsv_keeper.specs.Value.{IsReserved, Keeps, room, sessions_of, settings_of};
 ghost use Rattle.lsv_keeper.specs.Views.{view_of};
-ghost use Rattle.lsv_keeper.specs.Syncing.{IsPast, NoLog, NoLogSynced, Syncs};
+ghost use Rattle.lsv_keeper.specs.Syncing.{IsPast, NoLog, NoLogUsed, Syncs};
 ghost use Rattle.lsv_keeper.specs.Causes.{Does, TellsFault};
 
 use crate::Keeper;
@@ -105,7 +105,7 @@ impl<F: LineWriter, H: Search> Keeper<F, H> {
         ensures row { D.tells → (m : Machine) (job : Job) → Represents (view_of self.old) (D.view disk.old) m → job.conn ≡ conn → AsksFor (m.states conn) job.body (requests.Accept accept)
             → RowGives (view_of self.old) now job result m (view_of self.new) (D.view disk.old) (D.view disk.new) }
         ensures syncs { D.tells → (m : Machine) → Represents (view_of self.old) (D.view disk.old) m → Syncs NoLog (view_of self.old) (view_of self.new) (D.view disk.old) (D.view disk.new) }
-        ensures does { Does (conn ∷ []) (TellsFault result) (view_of self.old) (view_of self.new) (D.view disk.old) (D.view disk.new) }
+        ensures does { Does (conn ∷ []) (Unit {0}) (TellsFault result) (view_of self.old) (view_of self.new) (D.view disk.old) (D.view disk.new) }
     {
         let Accept {
             head,
@@ -138,7 +138,7 @@ impl<F: LineWriter, H: Search> Keeper<F, H> {
         ensures row { D.tells → (m : Machine) (job : Job) → Represents (view_of self.old) (D.view disk.old) m → job.conn ≡ conn → AsksFor (m.states conn) job.body (requests.Accept (accept_of head))
             → RowGives (view_of self.old) now job result m (view_of self.new) (D.view disk.old) (D.view disk.new) }
         ensures syncs { D.tells → (m : Machine) → Represents (view_of self.old) (D.view disk.old) m → Syncs NoLog (view_of self.old) (view_of self.new) (D.view disk.old) (D.view disk.new) }
-        ensures does { Does (conn ∷ []) (TellsFault result) (view_of self.old) (view_of self.new) (D.view disk.old) (D.view disk.new) }
+        ensures does { Does (conn ∷ []) (Unit {0}) (TellsFault result) (view_of self.old) (view_of self.new) (D.view disk.old) (D.view disk.new) }
     {
         match self.open_log(disk, now, conn, head) {
             Ok(opened) => Told::Log(opened.number, opened.id),
@@ -171,7 +171,7 @@ impl<F: LineWriter, H: Search> Keeper<F, H> {
         ensures stopped { D.tells → IfErr result (λ why. (m : Machine) → Represents (view_of self.old) (D.view disk.old) m
             → Stopped (view_of self.old) now conn (m.states conn) head m why (view_of self.new) (D.view disk.old) (D.view disk.new)) }
         ensures syncs { D.tells → (m : Machine) → Represents (view_of self.old) (D.view disk.old) m → Syncs NoLog (view_of self.old) (view_of self.new) (D.view disk.old) (D.view disk.new) }
-        ensures does { Does (conn ∷ []) (IsErrOf result Refusal.DeviceFault) (view_of self.old) (view_of self.new) (D.view disk.old) (D.view disk.new) }
+        ensures does { Does (conn ∷ []) (Unit {0}) (IsErrOf result Refusal.DeviceFault) (view_of self.old) (view_of self.new) (D.view disk.old) (D.view disk.new) }
     {
         let Ok(prepared) = self.prepare() else {
             return Err(Refusal::OutOfMemory);
@@ -224,10 +224,10 @@ impl<F: LineWriter, H: Search> Keeper<F, H> {
         ensures none { D.tells → IfErr result (λ why. (m : Machine) → Represents (view_of self.old) (D.view disk.old) m
             → DrawsNone (view_of self.old) m why (view_of self.new) (D.view disk.old) (D.view disk.new)) }
         ensures beside { D.tells → (m : Machine) → Represents (view_of self.old) (D.view disk.old) m → Beside (view_of self.old).lane (view_of self.old).lanes None (D.view disk.old) (D.view disk.new) }
-        ensures syncs { D.tells → NoLogSynced (D.view disk.old) (D.view disk.new) }
+        ensures syncs { D.tells → NoLogUsed (D.view disk.old) (D.view disk.new) }
         ensures past { (n : ℕ) → IsPast (view_of self.old).numbers n → IsPast (view_of self.new).numbers n }
         ensures fresh { D.tells → IfOk result (λ n. (m : Machine) → Represents (view_of self.old) (D.view disk.old) m → IsPast (view_of self.old).numbers n → ⊥) }
-        ensures does { Does [] (IsErrOf result Refusal.DeviceFault) (view_of self.old) (view_of self.new) (D.view disk.old) (D.view disk.new) }
+        ensures does { Does [] (Unit {0}) (IsErrOf result Refusal.DeviceFault) (view_of self.old) (view_of self.new) (D.view disk.old) (D.view disk.new) }
     {
         match self.numbers.draw(disk) {
             Ok(number) => Ok(number),

@@ -11,7 +11,7 @@ ghost use Rattle.lsv_keeper.specs.Views.{view_of};
 ghost use Rattle.lsv_keeper.specs.Rows.{Beside, LineFault};
 ghost use Rattle.lsv_keeper.specs.Accepting.{failed_before, line_refusal};
 ghost use Rattle.lsv_keeper.specs.Value.{Keeps, KeeperView, SameSessions};
-ghost use Rattle.lsv_keeper.specs.Syncing.{NoLogSynced};
+ghost use Rattle.lsv_keeper.specs.Syncing.{NoLogUsed};
 ghost use Rattle.lsv_keeper.specs.Causes.{Does, LinesDo};
 
 use crate::Keeper;
@@ -44,8 +44,8 @@ impl<F: LineWriter, H: Search> Keeper<F, H> {
         ensures refused { D.tells → IfErr result (λ why. (m : Machine) → Represents (view_of self.old) (D.view disk.old) m →
             LineFault (view_of self.old).lane (line_of (view_of self.old).kind event.now) m why (D.view disk.old) (D.view disk.new) × Represents (view_of self.new) (D.view disk.new) m) }
         ensures beside { D.tells → (m : Machine) → Represents (view_of self.old) (D.view disk.old) m → Beside (view_of self.old).lane (view_of self.old).lanes None (D.view disk.old) (D.view disk.new) }
-        ensures syncs { D.tells → NoLogSynced (D.view disk.old) (D.view disk.new) }
-        ensures does { Does (conn ∷ []) (IsErrOf result Refusal.DeviceFault) (view_of self.old) (view_of self.new) (D.view disk.old) (D.view disk.new) }
+        ensures syncs { D.tells → NoLogUsed (D.view disk.old) (D.view disk.new) }
+        ensures does { Does (conn ∷ []) (Unit {0}) (IsErrOf result Refusal.DeviceFault) (view_of self.old) (view_of self.new) (D.view disk.old) (D.view disk.new) }
     {
         let Ok(line) = self.formatter.write(self.alloc, event) else {
             return Err(Refusal::OutOfMemory);
@@ -97,7 +97,7 @@ fn stage_line<D: Disk>(
     ensures refused { D.tells → IfErr result (λ why. (v : KeeperView) (m : Machine) → v.lane ≡ lane → v.events ≡ events.old → Represents v (D.view disk.old) m →
         LineFault lane line.now m why (D.view disk.old) (D.view disk.new) × Represents (record v { events = events.new }) (D.view disk.new) m) }
     ensures beside { D.tells → (v : KeeperView) (m : Machine) → v.lane ≡ lane → v.events ≡ events.old → Represents v (D.view disk.old) m → Beside lane v.lanes None (D.view disk.old) (D.view disk.new) }
-    ensures syncs { D.tells → NoLogSynced (D.view disk.old) (D.view disk.new) }
+    ensures syncs { D.tells → NoLogUsed (D.view disk.old) (D.view disk.new) }
     ensures does { LinesDo (IsErrOf result Refusal.DeviceFault) events.old events.new (D.view disk.old) (D.view disk.new) }
 {
     let Err(fault) = events.add(line) else {

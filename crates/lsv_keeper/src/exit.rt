@@ -1,6 +1,6 @@
 //! Exits.
 
-ghost use Rattle.std.specs.Prelude.{◌≡◌, ◌≤◌, ℕ, None, Some, Ok, IfErr, IsSome, OnOk, Option, [], ◌∷◌, IsErrOf};
+ghost use Rattle.std.specs.Prelude.{◌≡◌, ◌≤◌, ℕ, true, None, Some, Ok, IfErr, IsSome, OnOk, Option, [], ◌∷◌, IsErrOf};
 ghost use Rattle.lsv_base.specs.Time.{nanos_of};
 ghost use Rattle.lsv_msg.specs.declared.messages.ClientMessage.{ClientMessage};
 ghost use Rattle.lsv_request.specs.declared.request.Request.TheVariants as request;
@@ -13,7 +13,7 @@ ghost use Rattle.lsv_keeper.specs.Represents.{Represents};
 ghost use Rattle.lsv_keeper.specs.Rows.{Beside, IsTold, RowGives};
 ghost use Rattle.lsv_keeper.specs.Value.{Keeps, SameSessions, event_line, room, sessions_of};
 ghost use Rattle.lsv_keeper.specs.Views.{view_of};
-ghost use Rattle.lsv_keeper.specs.Syncing.{NoLog, NoLogSynced, Syncs};
+ghost use Rattle.lsv_keeper.specs.Syncing.{NoLog, NoLogUsed, Syncs};
 ghost use Rattle.lsv_keeper.specs.Causes.{Does, TellsFault};
 
 use crate::Keeper;
@@ -51,7 +51,7 @@ impl<F: LineWriter, H: Search> Keeper<F, H> {
         ensures row { D.tells → (m : Machine) (job : Job) → Represents (view_of self.old) (D.view disk.old) m → job.conn ≡ conn → AsksFor (m.states conn) job.body (request.Exit exit)
             → RowGives (view_of self.old) now job result m (view_of self.new) (D.view disk.old) (D.view disk.new) }
         ensures syncs { D.tells → (m : Machine) → Represents (view_of self.old) (D.view disk.old) m → Syncs NoLog (view_of self.old) (view_of self.new) (D.view disk.old) (D.view disk.new) }
-        ensures does { Does (conn ∷ []) (TellsFault result) (view_of self.old) (view_of self.new) (D.view disk.old) (D.view disk.new) }
+        ensures does { Does (conn ∷ []) ((view_of self.old).log_exit ≡ true) (TellsFault result) (view_of self.old) (view_of self.new) (D.view disk.old) (D.view disk.new) }
     {
         match log_of(state) {
             Some(log) => self.end_log(disk, now, conn, log, exit),
@@ -76,7 +76,7 @@ impl<F: LineWriter, H: Search> Keeper<F, H> {
         ensures row { D.tells → (m : Machine) (job : Job) → Represents (view_of self.old) (D.view disk.old) m → job.conn ≡ conn → log_of (m.states conn) ≡ None → AsksFor (m.states conn) job.body (request.Exit exit)
             → RowGives (view_of self.old) now job result m (view_of self.new) (D.view disk.old) (D.view disk.new) }
         ensures syncs { D.tells → (m : Machine) → Represents (view_of self.old) (D.view disk.old) m → Syncs NoLog (view_of self.old) (view_of self.new) (D.view disk.old) (D.view disk.new) }
-        ensures does { Does (conn ∷ []) (TellsFault result) (view_of self.old) (view_of self.new) (D.view disk.old) (D.view disk.new) }
+        ensures does { Does (conn ∷ []) ((view_of self.old).log_exit ≡ true) (TellsFault result) (view_of self.old) (view_of self.new) (D.view disk.old) (D.view disk.new) }
     {
         self.leave(disk, conn, ConnState::Dead);
         match self.exit_line(disk, now, conn, None, exit) {
@@ -103,7 +103,7 @@ impl<F: LineWriter, H: Search> Keeper<F, H> {
         ensures row { D.tells → (m : Machine) (job : Job) → Represents (view_of self.old) (D.view disk.old) m → job.conn ≡ conn → log_of (m.states conn) ≡ Some log → AsksFor (m.states conn) job.body (request.Exit exit)
             → RowGives (view_of self.old) now job result m (view_of self.new) (D.view disk.old) (D.view disk.new) }
         ensures syncs { D.tells → (m : Machine) → Represents (view_of self.old) (D.view disk.old) m → log_of (m.states conn) ≡ Some log → Syncs NoLog (view_of self.old) (view_of self.new) (D.view disk.old) (D.view disk.new) }
-        ensures does { log_of ((sessions_of (view_of self.old)).states conn) ≡ Some log → Does (conn ∷ []) (TellsFault result) (view_of self.old) (view_of self.new) (D.view disk.old) (D.view disk.new) }
+        ensures does { log_of ((sessions_of (view_of self.old)).states conn) ≡ Some log → Does (conn ∷ []) ((view_of self.old).log_exit ≡ true) (TellsFault result) (view_of self.old) (view_of self.new) (D.view disk.old) (D.view disk.new) }
     {
         let Some(mut its) = self.logs.take(log) else {
             return Told::Nothing;
@@ -151,8 +151,8 @@ impl<F: LineWriter, H: Search> Keeper<F, H> {
         ensures refused { D.tells → IfErr result (λ why. (m : Machine) → Represents (view_of self.old) (D.view disk.old) m
             → LineRefused (event_line (view_of self.old).kind now conn (request.Exit exit) log) why m (view_of self.old) (view_of self.new) (D.view disk.old) (D.view disk.new)) }
         ensures beside { D.tells → (m : Machine) → Represents (view_of self.old) (D.view disk.old) m → Beside (view_of self.old).lane (view_of self.old).lanes None (D.view disk.old) (D.view disk.new) }
-        ensures syncs { D.tells → NoLogSynced (D.view disk.old) (D.view disk.new) }
-        ensures does { Does (conn ∷ []) (IsErrOf result Refusal.DeviceFault) (view_of self.old) (view_of self.new) (D.view disk.old) (D.view disk.new) }
+        ensures syncs { D.tells → NoLogUsed (D.view disk.old) (D.view disk.new) }
+        ensures does { Does (conn ∷ []) ((view_of self.old).log_exit ≡ true) (IsErrOf result Refusal.DeviceFault) (view_of self.old) (view_of self.new) (D.view disk.old) (D.view disk.new) }
     {
         if !self.log_exit {
             return Ok(());

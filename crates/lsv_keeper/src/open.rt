@@ -14,6 +14,7 @@ ghost use Rattle.lsv_keeper.specs.Causes.{HasFailed};
 ghost use Rattle.lsv_keeper.specs.Opening.{IsEventsFault, IsNumbersFault, IsSetTo, IsStoreFault, KeepsEntry, OpensAs, OpensEvents, OpensNumbers, events_fault, number_fault};
 ghost use Rattle.lsv_keeper.specs.Reading.{reading_of};
 ghost use Rattle.lsv_keeper.specs.Rows.{IsOfJob};
+ghost use Rattle.lsv_keeper.specs.Syncing.{NoLogUsed};
 ghost use Rattle.lsv_keeper.specs.Value.{IsResting};
 ghost use Rattle.lsv_keeper.specs.Views.{view_of};
 
@@ -38,6 +39,7 @@ fn open_numbers<D: Disk>(disk: &mut D, lane: u32, lanes: u32) -> Result<Numbers,
     ensures store { D.tells → OpensStore (reading_of lane lanes) lane lanes (D.view disk.old) (D.view disk.new) }
     ensures run { D.tells → Throughout (λ g. g ≡ numbers_file lane) (λ _. Unit {0}) (D.view disk.old) (D.view disk.new) }
     ensures kept { D.tells → entry_at lane (D.view disk.old).reads ≢ None → KeepsEntry lane (D.view disk.old) (D.view disk.new) }
+    ensures unused { D.tells → NoLogUsed (D.view disk.old) (D.view disk.new) }
     ensures sound { IfOk result (λ n. pending_of n ≡ None) }
     ensures cause { (o : Owner) → HasOwnCause (λ f. f.owner ≡ o) (IsErrOf result (StoreFault.Device o)) (D.view disk.old) (D.view disk.new) }
 {
@@ -64,6 +66,7 @@ fn open_events<D: Disk>(alloc: Global, disk: &mut D, lane: u32) -> Result<EventL
     ensures fault { D.tells → IfErr result (IsEventsFault lane (D.view disk.old).reads) }
     ensures store { D.tells → (lanes : ℕ) → OpensStore (reading_of lane lanes) lane lanes (D.view disk.old) (D.view disk.new) }
     ensures run { D.tells → Throughout (IsOfEventLog lane) (λ _. Unit {0}) (D.view disk.old) (D.view disk.new) }
+    ensures unused { D.tells → NoLogUsed (D.view disk.old) (D.view disk.new) }
     ensures sound { IfOk result (λ l. is_broken l ≡ false) }
     ensures cause { (o : Owner) → HasOwnCause (λ f. f.owner ≡ o) (IsErrOf result (StoreFault.Device o)) (D.view disk.old) (D.view disk.new) }
 {
@@ -112,6 +115,7 @@ impl<F: LineWriter + Drop, H: Search + Drop> Keeper<F, H> {
         ensures fault { D.tells → IfErr result (IsStoreFault lane lanes (D.view disk.old).reads) }
         ensures store { D.tells → OpensStore (reading_of lane lanes) lane lanes (D.view disk.old) (D.view disk.new) }
         ensures touched { D.tells → Throughout (IsOfJob lane None) (λ _. Unit {0}) (D.view disk.old) (D.view disk.new) }
+        ensures unused { D.tells → NoLogUsed (D.view disk.old) (D.view disk.new) }
         ensures kept { D.tells → entry_at lane (D.view disk.old).reads ≢ None → KeepsEntry lane (D.view disk.old) (D.view disk.new) }
         ensures opened { D.tells → NumbersFit (reading_of lane lanes) lane lanes (IsCrashImage (D.view disk.old)) → IfOk result (λ k. OpensAs lane lanes texts (D.view disk.old) (D.view disk.new) (view_of k)) }
         ensures cause { (o : Owner) → HasOwnCause (λ f. f.owner ≡ o) (IsErrOf result (StoreFault.Device o)) (D.view disk.old) (D.view disk.new) }

@@ -70,7 +70,7 @@ impl<F: LineWriter, H: Search> Keeper<F, H> {
         ensures row { D.tells → (m : Machine) (job : Job) (now : TimeSpec) → Represents (view_of self.old) (D.view disk.old) m → job.conn ≡ conn → AsksFor (m.states conn) job.body requests.Hello
             → RowGives (view_of self.old) now job result m (view_of self.new) (D.view disk.old) (D.view disk.new) }
         ensures syncs { D.tells → (m : Machine) → Represents (view_of self.old) (D.view disk.old) m → Syncs NoLog (view_of self.old) (view_of self.new) (D.view disk.old) (D.view disk.new) }
-        ensures does { Does (conn ∷ []) (TellsFault result) (view_of self.old) (view_of self.new) (D.view disk.old) (D.view disk.new) }
+        ensures does { Does (conn ∷ []) ⊥ (TellsFault result) (view_of self.old) (view_of self.new) (D.view disk.old) (D.view disk.new) }
     {
         self.leave(disk, conn, ConnState::Greeted);
         Told::Nothing
@@ -95,7 +95,7 @@ impl<F: LineWriter, H: Search> Keeper<F, H> {
         ensures row { D.tells → (m : Machine) (job : Job) → Represents (view_of self.old) (D.view disk.old) m → job.conn ≡ conn → AsksFor (m.states conn) job.body (requests.Reject report)
             → RowGives (view_of self.old) now job result m (view_of self.new) (D.view disk.old) (D.view disk.new) }
         ensures syncs { D.tells → (m : Machine) → Represents (view_of self.old) (D.view disk.old) m → Syncs NoLog (view_of self.old) (view_of self.new) (D.view disk.old) (D.view disk.new) }
-        ensures does { Does (conn ∷ []) (TellsFault result) (view_of self.old) (view_of self.new) (D.view disk.old) (D.view disk.new) }
+        ensures does { Does (conn ∷ []) (Unit {0}) (TellsFault result) (view_of self.old) (view_of self.new) (D.view disk.old) (D.view disk.new) }
     {
         let event = Event::Reject {
             at: now,
@@ -128,7 +128,7 @@ impl<F: LineWriter, H: Search> Keeper<F, H> {
         ensures row { D.tells → (m : Machine) (job : Job) → Represents (view_of self.old) (D.view disk.old) m → job.conn ≡ conn → AsksFor (m.states conn) job.body (requests.Alert report)
             → RowGives (view_of self.old) now job result m (view_of self.new) (D.view disk.old) (D.view disk.new) }
         ensures syncs { D.tells → (m : Machine) → Represents (view_of self.old) (D.view disk.old) m → Syncs NoLog (view_of self.old) (view_of self.new) (D.view disk.old) (D.view disk.new) }
-        ensures does { Does (conn ∷ []) (TellsFault result) (view_of self.old) (view_of self.new) (D.view disk.old) (D.view disk.new) }
+        ensures does { Does (conn ∷ []) (Unit {0}) (TellsFault result) (view_of self.old) (view_of self.new) (D.view disk.old) (D.view disk.new) }
     {
         let event = Event::Alert {
             at: now,
@@ -165,7 +165,7 @@ impl<F: LineWriter, H: Search> Keeper<F, H> {
             → IsEventOf (settings_of (view_of self.old)) now conn (m.states conn) asked (line_of (view_of self.old).kind event.now) next m
             → RowGives (view_of self.old) now job result m (view_of self.new) (D.view disk.old) (D.view disk.new) }
         ensures syncs { D.tells → (m : Machine) → Represents (view_of self.old) (D.view disk.old) m → Syncs NoLog (view_of self.old) (view_of self.new) (D.view disk.old) (D.view disk.new) }
-        ensures does { Does (conn ∷ []) (TellsFault result) (view_of self.old) (view_of self.new) (D.view disk.old) (D.view disk.new) }
+        ensures does { Does (conn ∷ []) (Unit {0}) (TellsFault result) (view_of self.old) (view_of self.new) (D.view disk.old) (D.view disk.new) }
     {
         if let Err(why) = self.add_line(disk, conn, event) {
             self.leave(disk, conn, ConnState::Dead);

@@ -14,7 +14,8 @@ ghost use Rattle.lsv_keeper.specs.Resuming.{IsResumed, IsResumeFault, restart_re
 ghost use Rattle.lsv_keeper.specs.Rows.{IsTold, RowGives};
 ghost use Rattle.lsv_keeper.specs.Value.{IsReserved, Keeps, room};
 ghost use Rattle.lsv_keeper.specs.Views.{view_of};
-ghost use Rattle.lsv_keeper.specs.Syncing.{Syncs, Unsynced};
+ghost use Rattle.lsv_keeper.specs.Syncing.{Syncs, Unused};
+ghost use Rattle.lsv_keeper.specs.Syncs.{SparesDamaged};
 ghost use Rattle.lsv_keeper.specs.Causes.{Does, StoreRose, TellsFault};
 
 use crate::Keeper;
@@ -40,7 +41,8 @@ impl<F: LineWriter, H: Search> Keeper<F, H> {
         ensures row { D.tells → (m : Machine) (job : Job) (now : TimeSpec) → Represents (view_of self.old) (D.view disk.old) m → job.conn ≡ conn → AsksFor (m.states conn) job.body (request.Restart restart)
             → RowGives (view_of self.old) now job result m (view_of self.new) (D.view disk.old) (D.view disk.new) }
         ensures syncs { D.tells → (m : Machine) → Represents (view_of self.old) (D.view disk.old) m → Syncs (λ n. n ≡ restart.log) (view_of self.old) (view_of self.new) (D.view disk.old) (D.view disk.new) }
-        ensures does { Does (conn ∷ []) (TellsFault result) (view_of self.old) (view_of self.new) (D.view disk.old) (D.view disk.new) }
+        ensures spared { D.tells → (m : Machine) → Represents (view_of self.old) (D.view disk.old) m → SparesDamaged m (D.view disk.old) (D.view disk.new) }
+        ensures does { Does (conn ∷ []) ⊥ (TellsFault result) (view_of self.old) (view_of self.new) (D.view disk.old) (D.view disk.new) }
     {
         if self.table.owner(restart.log).is_some() {
             return self.refuse(disk, conn, Refusal::LogInUse);
@@ -69,7 +71,7 @@ impl<F: LineWriter, H: Search> Keeper<F, H> {
         ensures resumed { D.tells → IfOk result (λ its. IsResumed number point (view_of self.old).texts its (D.view disk.old) (D.view disk.new)) }
         ensures fault { D.tells → IfErr result (λ e. IsResumeFault number point e (D.view disk.old) (D.view disk.new)) }
         ensures monotone { (file : FileId) → (D.view disk.old).faults file ≤ (D.view disk.new).faults file }
-        ensures syncs { D.tells → (n : ℕ) → n ≢ number → Unsynced n (D.view disk.old) (D.view disk.new) }
+        ensures syncs { D.tells → (n : ℕ) → n ≢ number → Unused n (D.view disk.old) (D.view disk.new) }
         ensures cause { IfErr result (λ e. restart_refusal e ≡ Refusal.DeviceFault → StoreRose (D.view disk.old) (D.view disk.new)) }
         ensures whole { IfOk result (λ its. its.log.is_broken ≡ false) }
     {

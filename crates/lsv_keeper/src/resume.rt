@@ -13,7 +13,7 @@ ghost use Rattle.lsv_mask.specs.Masking.{seen};
 ghost use Rattle.lsv_record.specs.Points.{Stored, cut, first};
 ghost use Rattle.lsv_keeper.specs.Represents.{Masks};
 ghost use Rattle.lsv_keeper.specs.Resuming.{IsResumed, IsResumeFault, IsViewOf, restart_refusal};
-ghost use Rattle.lsv_keeper.specs.Syncing.{Unsynced};
+ghost use Rattle.lsv_keeper.specs.Syncing.{Unused};
 ghost use Rattle.lsv_keeper.specs.Causes.{StoreRose};
 
 use crate::logs::OpenLog;
@@ -114,7 +114,7 @@ pub(crate) fn resume_log<D: Disk, H: Search>(
     ensures resumed { D.tells → IfOk result (λ its. IsResumed number point texts.now its (D.view disk.old) (D.view disk.new)) }
     ensures fault { D.tells → IfErr result (λ e. IsResumeFault number point e (D.view disk.old) (D.view disk.new)) }
     ensures monotone { (file : FileId) → (D.view disk.old).faults file ≤ (D.view disk.new).faults file }
-    ensures syncs { D.tells → (n : ℕ) → n ≢ number → Unsynced n (D.view disk.old) (D.view disk.new) }
+    ensures syncs { D.tells → (n : ℕ) → n ≢ number → Unused n (D.view disk.old) (D.view disk.new) }
     ensures cause { IfErr result (λ e. restart_refusal e ≡ Refusal.DeviceFault → StoreRose (D.view disk.old) (D.view disk.new)) }
     ensures whole { IfOk result (λ its. its.log.is_broken ≡ false) }
 {

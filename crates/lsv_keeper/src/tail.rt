@@ -38,8 +38,8 @@ impl<F: LineWriter, H: Search> Keeper<F, H> {
         ensures lines { D.tells → (m : Machine) → Represents (view_of self.old) (D.view disk.old) m
             → LinesGive (view_of self.old) m out.old.items out.new.items (view_of self.new) (D.view disk.old) (D.view disk.new) }
         ensures syncs { D.tells → (m : Machine) → Represents (view_of self.old) (D.view disk.old) m → Syncs NoLog (view_of self.old) (view_of self.new) (D.view disk.old) (D.view disk.new) }
-        ensures does { Does [] ⊥ (view_of self.old) (view_of self.new) (D.view disk.old) (D.view disk.new) }
-        ensures says { (p : ConnId → Bool) → IsSteady p (view_of self.old) → Says (IsAmong p) (StoreRose (D.view disk.old) (D.view disk.new)) out.old.items out.new.items }
+        ensures does { Does [] ⊥ ⊥ (view_of self.old) (view_of self.new) (D.view disk.old) (D.view disk.new) }
+        ensures says { (p : ConnId → Bool) → IsSteady p (view_of self.old) → Says (IsAmong p) (λ k. StoreRose (D.view disk.old) (D.view disk.new)) out.old.items out.new.items }
     {
         let Err(fault) = self.events.flush(disk) else {
             self.noting.clear();
@@ -64,8 +64,8 @@ impl<F: LineWriter, H: Search> Keeper<F, H> {
         ensures refused { D.tells → (m : Machine) → Represents (un_noted (view_of self.old)) (D.view disk.old) m
             → RefusedGive (view_of self.old).noting (view_of self.old) m out.old.items out.new.items (view_of self.new) (D.view disk.old) (D.view disk.new) }
         ensures syncs { D.tells → (m : Machine) → Represents (un_noted (view_of self.old)) (D.view disk.old) m → Syncs NoLog (view_of self.old) (view_of self.new) (D.view disk.old) (D.view disk.new) }
-        ensures does { Does [] ⊥ (un_noted (view_of self.old)) (view_of self.new) (D.view disk.old) (D.view disk.new) }
-        ensures says { (p : ConnId → Bool) → AllByRecursion (IsAmong p) (view_of self.old).noting → Says (IsAmong p) (Unit {0}) out.old.items out.new.items }
+        ensures does { Does [] ⊥ ⊥ (un_noted (view_of self.old)) (view_of self.new) (D.view disk.old) (D.view disk.new) }
+        ensures says { (p : ConnId → Bool) → AllByRecursion (IsAmong p) (view_of self.old).noting → Says (IsAmong p) (λ k. Unit {0}) out.old.items out.new.items }
     {
         let noting = mem::replace(&mut self.noting, Vec::new(self.alloc));
         for conn in noting.iter() {
@@ -86,8 +86,8 @@ impl<F: LineWriter, H: Search> Keeper<F, H> {
         ensures refused { D.tells → (m : Machine) → Represents (view_of self.old) (D.view disk.old) m
             → RefusedGive (conn ∷ []) (view_of self.old) m out.old.items out.new.items (view_of self.new) (D.view disk.old) (D.view disk.new) }
         ensures syncs { D.tells → (m : Machine) → Represents (view_of self.old) (D.view disk.old) m → Syncs NoLog (view_of self.old) (view_of self.new) (D.view disk.old) (D.view disk.new) }
-        ensures does { Does [] ⊥ (view_of self.old) (view_of self.new) (D.view disk.old) (D.view disk.new) }
-        ensures says { Says (λ k. k ≡ conn) (Unit {0}) out.old.items out.new.items }
+        ensures does { Does [] ⊥ ⊥ (view_of self.old) (view_of self.new) (D.view disk.old) (D.view disk.new) }
+        ensures says { Says (λ k. k ≡ conn) (λ k. Unit {0}) out.old.items out.new.items }
     {
         if let ConnState::Dead = self.table.state(conn) {
             return;
@@ -107,8 +107,8 @@ impl<F: LineWriter, H: Search> Keeper<F, H> {
         ensures logs { D.tells → (m : Machine) → Represents (view_of self.old) (D.view disk.old) m
             → LogsGive m.waiting (view_of self.old) m out.old.items out.new.items (view_of self.new) (D.view disk.old) (D.view disk.new) }
         ensures syncs { D.tells → (m : Machine) → Represents (view_of self.old) (D.view disk.old) m → SyncsThese m.waiting (D.view disk.old) (D.view disk.new) }
-        ensures does { Does [] ⊥ (view_of self.old) (view_of self.new) (D.view disk.old) (D.view disk.new) }
-        ensures says { (p : ConnId → Bool) → IsSteady p (view_of self.old) → AreWhole (view_of self.old).logs → Says (IsAmong p) (StoreRose (D.view disk.old) (D.view disk.new)) out.old.items out.new.items }
+        ensures does { Does [] ⊥ ⊥ (view_of self.old) (view_of self.new) (D.view disk.old) (D.view disk.new) }
+        ensures says { (p : ConnId → Bool) → IsSteady p (view_of self.old) → AreWhole (view_of self.old).logs → Says (IsAmong p) (λ k. StoreRose (D.view disk.old) (D.view disk.new)) out.old.items out.new.items }
     {
         let waiting = mem::replace(&mut self.waiting, Vec::new(self.alloc));
         for number in waiting.iter() {
@@ -130,9 +130,9 @@ impl<F: LineWriter, H: Search> Keeper<F, H> {
         ensures log { D.tells → (m : Machine) (k : ConnId) → Represents (view_of self.old) (D.view disk.old) (none_waits m) → m.owner number ≡ Some k
             → LogGives number (view_of self.old) m out.old.items out.new.items (view_of self.new) (D.view disk.old) (D.view disk.new) }
         ensures syncs { D.tells → (m : Machine) (k : ConnId) → Represents (view_of self.old) (D.view disk.old) (none_waits m) → m.owner number ≡ Some k → SyncsOne number (D.view disk.old) (D.view disk.new) }
-        ensures does { Does [] ⊥ (view_of self.old) (view_of self.new) (D.view disk.old) (D.view disk.new) }
+        ensures does { Does [] ⊥ ⊥ (view_of self.old) (view_of self.new) (D.view disk.old) (D.view disk.new) }
         ensures waits { (p : ConnId → Bool) (n : ℕ) → Waits p (view_of self.old) n → Waits p (view_of self.new) n }
-        ensures says { (p : ConnId → Bool) → Waits p (view_of self.old) number → AreWhole (view_of self.old).logs → Says (IsAmong p) (StoreRose (D.view disk.old) (D.view disk.new)) out.old.items out.new.items }
+        ensures says { (p : ConnId → Bool) → Waits p (view_of self.old) number → AreWhole (view_of self.old).logs → Says (IsAmong p) (λ k. StoreRose (D.view disk.old) (D.view disk.new)) out.old.items out.new.items }
     {
         let Some(conn) = self.table.owner(number) else {
             return;

@@ -11,8 +11,8 @@ ghost use Rattle.lsv_keeper.specs.Tails.{JobsGive, TurnGives};
 ghost use Rattle.lsv_keeper.specs.Value.{IsResting, SameSet, owed, room, AreWhole};
 ghost use Rattle.lsv_keeper.specs.Views.{view_of};
 ghost use Rattle.lsv_keeper.specs.Syncing.{Syncs};
-ghost use Rattle.lsv_keeper.specs.Syncs.{AnyRestarts, SyncedOnce};
-ghost use Rattle.lsv_keeper.specs.Causes.{AnyIsOf, Does, HasFailed, MayFail, Says};
+ghost use Rattle.lsv_keeper.specs.Syncs.{AnyRestarts, SparesDamaged, SyncedOnce};
+ghost use Rattle.lsv_keeper.specs.Causes.{AnyIsOf, Does, HasFailed, MayAnswerTo, MayFail, Says};
 ghost use Rattle.lsv_disk.specs.declared.file.FileId.{FileId};
 
 use crate::Keeper;
@@ -59,7 +59,8 @@ impl<F: LineWriter, H: Search> Keeper<F, H> {
         ensures turned { D.tells → (m : Machine) → Represents (view_of self.old) (D.view disk.old) m
             → TurnGives (view_of self.old) now jobs.items m out.old.items out.new.items (view_of self.new) (D.view disk.old) (D.view disk.new) }
         ensures syncs { D.tells → (m : Machine) (n : ℕ) (k : ConnId) → Represents (view_of self.old) (D.view disk.old) m → m.owner n ≡ Some k → (AnyRestarts jobs.items n → ⊥) → SyncedOnce n (D.view disk.old) (D.view disk.new) }
-        ensures says { Says (AnyIsOf jobs.items) (MayFail (view_of self.old) (D.view disk.old) (D.view disk.new)) out.old.items out.new.items }
+        ensures spared { D.tells → (m : Machine) → Represents (view_of self.old) (D.view disk.old) m → SparesDamaged m (D.view disk.old) (D.view disk.new) }
+        ensures says { Says (AnyIsOf jobs.items) (MayAnswerTo (view_of self.old) jobs.items (D.view disk.old) (D.view disk.new)) out.old.items out.new.items }
         ensures failed { HasFailed (view_of self.new) → MayFail (view_of self.old) (D.view disk.old) (D.view disk.new) }
         ensures monotone { (file : FileId) → (D.view disk.old).faults file ≤ (D.view disk.new).faults file }
     {
@@ -87,8 +88,9 @@ impl<F: LineWriter, H: Search> Keeper<F, H> {
         ensures answered { D.tells → (m : Machine) → Represents (view_of self.old) (D.view disk.old) m
             → JobsGive (view_of self.old) now jobs.items m out.old.items out.new.items (view_of self.new) (D.view disk.old) (D.view disk.new) }
         ensures syncs { D.tells → (m : Machine) → Represents (view_of self.old) (D.view disk.old) m → Syncs (AnyRestarts jobs.items) (view_of self.old) (view_of self.new) (D.view disk.old) (D.view disk.new) }
-        ensures does { Does (map (λ job. job.conn) jobs.items) ⊥ (view_of self.old) (view_of self.new) (D.view disk.old) (D.view disk.new) }
-        ensures says { AreWhole (view_of self.old).logs → Says (AnyIsOf jobs.items) (MayFail (view_of self.old) (D.view disk.old) (D.view disk.new)) out.old.items out.new.items }
+        ensures spared { D.tells → (m : Machine) → Represents (view_of self.old) (D.view disk.old) m → SparesDamaged m (D.view disk.old) (D.view disk.new) }
+        ensures does { Does (map (λ job. job.conn) jobs.items) ⊥ ⊥ (view_of self.old) (view_of self.new) (D.view disk.old) (D.view disk.new) }
+        ensures says { AreWhole (view_of self.old).logs → Says (AnyIsOf jobs.items) (MayAnswerTo (view_of self.old) jobs.items (D.view disk.old) (D.view disk.new)) out.old.items out.new.items }
     {
         for job in jobs {
             self.answer_job(disk, now, job, out);

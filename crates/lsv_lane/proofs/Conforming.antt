@@ -14,6 +14,7 @@ use Rattle.lsv_machine.proofs.Recovering.{only_opened}
 use Rattle.lsv_machine.proofs.RunLaws.{one_writer}
 use Rattle.lsv_keeper.specs.Reading.{reading_of}
 use Rattle.lsv_keeper.specs.Represents.{Free, LogIs}
+use Rattle.lsv_keeper.specs.Syncing.{NoLogUsed}
 use Rattle.lsv_keeper.specs.Value.{KeeperView}
 use Rattle.lsv_turn.specs.Turns.{LaneTurn}
 use Rattle.lsv_lane.specs.InnerLane.{Standing}
@@ -39,15 +40,17 @@ keeps opened set texts found now v turns s = record {
   are = s.same;
   conforms = λ up. conforms set texts found now v turns s;
   recovers = s.so_far.recovers;
+  spared = s.spared;
 }
 
 -- and where the store wasn't opened
-pub keeps_none : (set : Settings) (texts : List (List ℕ)) (found now : DiskView) → OpensStore (reading_of set.lane set.lanes) set.lane set.lanes found now → KeepsStore ⊥ set texts (record { found = found; left = now }) []
-keeps_none set texts found now opens = record {
+pub keeps_none : (set : Settings) (texts : List (List ℕ)) (found now : DiskView) → OpensStore (reading_of set.lane set.lanes) set.lane set.lanes found now → NoLogUsed found now → KeepsStore ⊥ set texts (record { found = found; left = now }) []
+keeps_none set texts found now opens unused = record {
   story = record { opened = now.moment; turns = [] };
   are = tt;
   conforms = λ up. absurd up;
   recovers = only_opened (reading_of set.lane set.lanes) set.lane set.lanes texts found now opens;
+  spared = λ n nothing file own other. (unused n).writes file own;
 }
 
 -- the numbers fit at the end of a run

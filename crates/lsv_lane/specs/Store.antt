@@ -1,5 +1,5 @@
 -- What a run does with the store of its lane, turn by turn: also where device calls fail, and wherever the machine stops.
-use Rattle.std.specs.Prelude.{◌≡◌, ◌≤◌, ◌++◌, ℕ, Bool, List, [], ◌∷◌, length, map, IsSome, None, Ok}
+use Rattle.std.specs.Prelude.{◌≡◌, ◌≤◌, ◌++◌, ◌⊎◌, ℕ, Bool, List, [], ◌∷◌, length, map, IsSome, None, Ok}
 use Rattle.std.specs.List.{AllByRecursion, flat_map}
 use Rattle.lsv_base.specs.Time.{nanos_of}
 use Rattle.lsv_defs.specs.Causes.{HasRisen}
@@ -8,8 +8,10 @@ use Rattle.lsv_disk.specs.declared.file.FileId.{FileId}
 use Rattle.lsv_disk.specs.declared.file.Owner.{Owner}
 use Rattle.lsv_event.specs.declared.event.Kind.{Kind}
 use Rattle.lsv_eventlog.specs.Recovered.{HoldsLines}
-use Rattle.lsv_iolog.specs.Recovered.{Replays}
+use Rattle.lsv_iolog.specs.Recovered.{Replays, ReplaysNothing}
 use Rattle.lsv_seq.specs.Drawn.{entry_at, judged}
+use Rattle.lsv_session.specs.declared.connection.ConnId.{ConnId}
+use Rattle.lsv_session.specs.declared.job.Job.{Job}
 use Rattle.lsv_machine.specs.Answers.{reply_of}
 use Rattle.lsv_machine.specs.Disks.{NumbersFit}
 use Rattle.lsv_machine.specs.History.{writers}
@@ -17,8 +19,9 @@ use Rattle.lsv_machine.specs.Machine.{Machine, Settings}
 use Rattle.lsv_machine.specs.Recovery.{Outside, Ran, Recovers, Story, Turn, all_turns}
 use Rattle.lsv_machine.specs.Starts.{ReadsAs}
 use Rattle.lsv_machine.specs.Turns.{Happened, Happened.Begins}
-use Rattle.lsv_keeper.specs.Causes.{AnyIsOf, IsDeviceFault}
+use Rattle.lsv_keeper.specs.Causes.{AnyBringsLine, AnyIsOf, CountRose, IsDeviceFault}
 use Rattle.lsv_keeper.specs.Reading.{reading_of}
+use Rattle.lsv_keeper.specs.Syncs.{Spares}
 use Rattle.lsv_keeper.specs.Value.{event_line}
 use Rattle.lsv_turn.specs.Turns.{LaneTurn}
 
@@ -57,14 +60,27 @@ AreTimed turns = AllByRecursion (λ t. IsSome (nanos_of t.now)) turns
 
 -- ---- Replies, over every disk
 
--- each reply of the turn is to the connection of one of its jobs, and says that a device failed only for this cause
-pub record IsAnswered (why : Type 0) (t : LaneTurn) : Type 0 where
+-- each reply of the turn is to the connection of one of its jobs, and says that a device failed only for the cause that its connection may have
+pub record IsAnswered (why : ConnId → Type 0) (t : LaneTurn) : Type 0 where
   pub asked : AllByRecursion (λ r. AnyIsOf t.jobs r.conn) t.replies
-  pub cause : AllByRecursion (λ r. IsDeviceFault r → why) t.replies
+  pub cause : AllByRecursion (λ r. IsDeviceFault r → why r.conn) t.replies
 
--- so are these turns
-abbrev pub AreAnswered : (why : Type 0) → List LaneTurn → Type 0
-AreAnswered why turns = AllByRecursion (IsAnswered why) turns
+-- no count falls
+abbrev pub NoneFell : (old new : FileId → ℕ) → Type 0
+NoneFell old new = (file : FileId) → old file ≤ new file
+
+-- why a turn of these jobs may answer a connection that a device failed: a count of a file of the store rose in it. Or one rose earlier, after these counts, and a job of the connection needs a number file or an event log
+abbrev pub HasAnswerCause : (log_exit : Bool) (first old new : FileId → ℕ) → List Job → ConnId → Type 0
+HasAnswerCause log_exit first old new jobs k = CountRose old new ⊎ (CountRose first old × AnyBringsLine log_exit jobs k)
+
+-- these turns are so answered, one after another: each begins with the counts with which the one before ended
+abbrev pub AnsweredFrom : (log_exit : Bool) (first old : FileId → ℕ) → List LaneTurn → (new : FileId → ℕ) → Type 0
+AnsweredFrom log_exit first old [] new = (file : FileId) → new file ≡ old file
+AnsweredFrom log_exit first old (t ∷ turns) new = (mid : FileId → ℕ) × NoneFell old mid × IsAnswered (HasAnswerCause log_exit first old mid t.jobs) t × AnsweredFrom log_exit first mid turns new
+
+-- so are the turns of a run with these counts at its begin and its end. The first turn begins with those at which the store was open
+abbrev pub AreAnswered : (log_exit : Bool) (found left : FileId → ℕ) → List LaneTurn → Type 0
+AreAnswered log_exit found left turns = (opened : FileId → ℕ) × NoneFell found opened × AnsweredFrom log_exit opened opened turns left
 
 -- ---- What the machine did
 
@@ -88,3 +104,5 @@ pub record KeepsStore (opened : Type 0) (set : Settings) (texts : List (List ℕ
   pub are : AreTurns turns story.turns
   pub conforms : opened → Conforms set texts o story
   pub recovers : Recovers (reading_of set.lane set.lanes) set.lane set.lanes texts o story
+  -- of a log that is damaged when the run begins no file is written, but perhaps its journal
+  pub spared : (n : ℕ) → ReplaysNothing o.found.reads n → Spares n o.found o.left

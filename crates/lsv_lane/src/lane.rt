@@ -2,7 +2,6 @@
 
 ghost use Rattle.std.specs.Prelude.{◌≡◌, ◌≢◌, ◌<◌, ◌≤◌, ◌++◌, [], List, None, IfOk, IfErr};
 ghost use Rattle.lsv_disk.specs.declared.file.Owner.{Owner};
-ghost use Rattle.lsv_keeper.specs.Causes.{StoreRose};
 ghost use Rattle.lsv_keeper.specs.Opening.{IsStoreFault, KeepsEntry};
 ghost use Rattle.lsv_keeper.specs.Views.{view_of};
 ghost use Rattle.lsv_seq.specs.Drawn.{entry_at};
@@ -114,7 +113,7 @@ impl<D: Disk, C: Clock, G: Tape, F: LineWriter + Drop, H: Search + Drop> StoreLa
         ensures places { D.tells → (start : Begun D G) (turns : List LaneTurn) → ⟦<StoreLane<D, C, G, F, H> as Lane>⟧.made_by start self turns → (D.view result.disk).places ≡ (D.view start.disk).places }
         ensures fresh { D.tells → (start : Begun D G) (turns : List LaneTurn) → ⟦<StoreLane<D, C, G, F, H> as Lane>⟧.made_by start self turns → IsFresh start.set.lane start.set.lanes (D.view result.disk) }
         ensures taped { G.tells → (start : Begun D G) (turns : List LaneTurn) → ⟦<StoreLane<D, C, G, F, H> as Lane>⟧.made_by start self turns → G.turns result.tape ≡ G.turns start.tape ++ all_taped turns }
-        ensures answered { (start : Begun D G) (turns : List LaneTurn) → ⟦<StoreLane<D, C, G, F, H> as Lane>⟧.made_by start self turns → AreAnswered (StoreRose (D.view start.disk) (D.view result.disk)) turns }
+        ensures answered { (start : Begun D G) (turns : List LaneTurn) → ⟦<StoreLane<D, C, G, F, H> as Lane>⟧.made_by start self turns → AreAnswered start.set.log_exit (D.view start.disk).faults (D.view result.disk).faults turns }
         ensures timed { (start : Begun D G) (turns : List LaneTurn) → ⟦<StoreLane<D, C, G, F, H> as Lane>⟧.made_by start self turns → AreTimed turns }
     {
         self.bay

@@ -161,13 +161,13 @@ returns-in-Err-add-clause-beside g c told v m lane here at =
     (c.open.ensures.any_moment told) (c.open.ensures.reads told) (c.open.ensures.reads_back told) c.open.ensures.cause.monotone
 
 pub returns-in-Err-open-clause-syncs : goal.returns-in-Err-open-clause-syncs
-returns-in-Err-open-clause-syncs g c told = lines_opened c.args.lane 6 9 _ (g.D.Disk.view c.args.disk.now) (g.D.Disk.view c.open.new.disk) (c.open.ensures.calls told)
+returns-in-Err-open-clause-syncs g c told = lines_opened c.args.lane 6 9 (g.D.Disk.view c.args.disk.now) (g.D.Disk.view c.open.new.disk) (c.open.ensures.calls told)
 
 pub returns-in-Ok-add-clause-syncs : goal.returns-in-Ok-add-clause-syncs
-returns-in-Ok-add-clause-syncs g c told = lines_opened c.args.lane 6 9 _ (g.D.Disk.view c.args.disk.now) (g.D.Disk.view c.open.new.disk) (c.open.ensures.calls told)
+returns-in-Ok-add-clause-syncs g c told = lines_opened c.args.lane 6 9 (g.D.Disk.view c.args.disk.now) (g.D.Disk.view c.open.new.disk) (c.open.ensures.calls told)
 
 pub returns-in-Err-add-clause-syncs : goal.returns-in-Err-add-clause-syncs
-returns-in-Err-add-clause-syncs g c told = lines_opened c.args.lane 6 9 _ (g.D.Disk.view c.args.disk.now) (g.D.Disk.view c.open.new.disk) (c.open.ensures.calls told)
+returns-in-Err-add-clause-syncs g c told = lines_opened c.args.lane 6 9 (g.D.Disk.view c.args.disk.now) (g.D.Disk.view c.open.new.disk) (c.open.ensures.calls told)
 
 -- ---- Over every disk
 

@@ -1,5 +1,6 @@
 use Rattle.lsv_bundle.specs.declared.fault.BundleFault.TheVariants as bundle_faults
 use Rattle.lsv_keeper.specs.declared.fault.StoreFault.TheVariants.{Device}
+use Rattle.lsv_keeper.proofs.Syncing.{lines_opened}
 use Rattle.lsv_keeper.proofs.Opening.{err_is, events_cause, events_faults, events_store, in_err, some_run}
 use Rattle.lsv_keeper.proofs.open.open_events.Goals as goal
 
@@ -52,3 +53,9 @@ returns-in-Err-clause-cause g c o = record {
 
 pub returns-in-Ok-clause-sound : goal.returns-in-Ok-clause-sound
 returns-in-Ok-clause-sound g c = c.in-Ok.ensures.value.whole
+
+pub returns-in-Ok-clause-unused : goal.returns-in-Ok-clause-unused
+returns-in-Ok-clause-unused g c told = lines_opened c.args.lane 6 9 (g.D.Disk.view c.args.disk.now) (g.D.Disk.view c.open.new.disk) (c.open.ensures.calls told)
+
+pub returns-in-Err-clause-unused : goal.returns-in-Err-clause-unused
+returns-in-Err-clause-unused g c told = lines_opened c.args.lane 6 9 (g.D.Disk.view c.args.disk.now) (g.D.Disk.view c.open.new.disk) (c.open.ensures.calls told)

@@ -1,5 +1,6 @@
 use Rattle.lsv_seq.specs.declared.fault.SeqFault.TheVariants as seq_faults
 use Rattle.lsv_keeper.specs.declared.fault.StoreFault.TheVariants.{Device}
+use Rattle.lsv_keeper.proofs.Syncing.{draw_unused}
 use Rattle.lsv_keeper.proofs.Opening.{err_is, in_err, number_moments, numbers_cause, numbers_entry, numbers_faults, numbers_store, some_run}
 use Rattle.lsv_keeper.proofs.open.open_numbers.Goals as goal
 
@@ -58,3 +59,9 @@ returns-in-Err-clause-cause g c o = record {
 
 pub returns-in-Ok-clause-sound : goal.returns-in-Ok-clause-sound
 returns-in-Ok-clause-sound g c = c.in-Ok.ensures.whole
+
+pub returns-in-Ok-clause-unused : goal.returns-in-Ok-clause-unused
+returns-in-Ok-clause-unused g c told = draw_unused c.args.lane 6 9 (g.D.Disk.view c.args.disk.now) (g.D.Disk.view c.open.new.disk) (c.open.ensures.calls told)
+
+pub returns-in-Err-clause-unused : goal.returns-in-Err-clause-unused
+returns-in-Err-clause-unused g c told = draw_unused c.args.lane 6 9 (g.D.Disk.view c.args.disk.now) (g.D.Disk.view c.open.new.disk) (c.open.ensures.calls told)

@@ -15,7 +15,7 @@ use Rattle.lsv_mask.specs.Masking.{Seen}
 use Rattle.lsv_keeper.specs.Resuming.{IsResumeFault, LogRose, restart_refusal}
 use Rattle.lsv_keeper.proofs.Frames.{Laws}
 use Rattle.lsv_keeper.proofs.Looking.{complete_exit, cut_fault, cut_into, err_as, found_read, open_holds, open_read, opened_fault, read_fault, rose_in_second}
-use Rattle.lsv_keeper.proofs.Syncing.{cut_others, opened_others, reads_none, unsynced_on}
+use Rattle.lsv_keeper.proofs.Syncing.{cut_others, opened_others, reads_none, unused_on}
 use Rattle.lsv_keeper.proofs.Causes.{resume_cause, later_on, log_rose, rose_second}
 use Rattle.lsv_keeper.specs.Causes.{StoreRose}
 use Rattle.lsv_iolog.specs.Faults.{IsOpenFault}
@@ -125,17 +125,17 @@ returns-in_ok-cut_at-in-Ok-clause-resumed g c told =
     }
 
 pub returns-in_err-log-clause-syncs : goal.returns-in_err-log-clause-syncs
-returns-in_err-log-clause-syncs g c told n other = opened_others n c.args.number 3 5 _ (g.D.Disk.view c.args.disk.now) (g.D.Disk.view c.open.new.disk) (c.open.ensures.calls told) other
+returns-in_err-log-clause-syncs g c told n other = opened_others n c.args.number 3 5 (g.D.Disk.view c.args.disk.now) (g.D.Disk.view c.open.new.disk) (c.open.ensures.calls told) other
 
 pub returns-then-is_complete-clause-syncs : goal.returns-then-is_complete-clause-syncs
-returns-then-is_complete-clause-syncs g c told n other = opened_others n c.args.number 3 5 _ (g.D.Disk.view c.args.disk.now) (g.D.Disk.view c.open.new.disk) (c.open.ensures.calls told) other
+returns-then-is_complete-clause-syncs g c told n other = opened_others n c.args.number 3 5 (g.D.Disk.view c.args.disk.now) (g.D.Disk.view c.open.new.disk) (c.open.ensures.calls told) other
 
 pub returns-in-Err-clause-syncs : goal.returns-in-Err-clause-syncs
 returns-in-Err-clause-syncs g c told n other =
     let old = g.D.Disk.view c.args.disk.now in
     let one = g.D.Disk.view c.open.new.disk in
     let two = g.D.Disk.view c.mask_behind.new.disk in
-    let read = unsynced_on n old one two (opened_others n c.args.number 3 5 _ old one (c.open.ensures.calls told) other) (reads_none one two (c.mask_behind.ensures.reads told) n) in
+    let read = unused_on n old one two (opened_others n c.args.number 3 5 old one (c.open.ensures.calls told) other) (reads_none one two (c.mask_behind.ensures.reads told) n) in
     read
 
 pub returns-in_err-cut_at-in-Ok-clause-syncs : goal.returns-in_err-cut_at-in-Ok-clause-syncs
@@ -143,18 +143,18 @@ returns-in_err-cut_at-in-Ok-clause-syncs g c told n other =
     let old = g.D.Disk.view c.args.disk.now in
     let one = g.D.Disk.view c.open.new.disk in
     let two = g.D.Disk.view c.mask_behind.new.disk in
-    let read = unsynced_on n old one two (opened_others n c.args.number 3 5 _ old one (c.open.ensures.calls told) other) (reads_none one two (c.mask_behind.ensures.reads told) n) in
+    let read = unused_on n old one two (opened_others n c.args.number 3 5 old one (c.open.ensures.calls told) other) (reads_none one two (c.mask_behind.ensures.reads told) n) in
     let three = g.D.Disk.view c.cut_at.new.disk in
-    unsynced_on n old two three read (cut_others n c.args.number 2 2 two three (subst (λ (i : ℕ). CallsAtMost 2 2 (λ file. file ≡ journal_of (owner_of i)) two three) c.in_ok-log.ensures.number (c.cut_at.ensures.calls told)) other)
+    unused_on n old two three read (cut_others n c.args.number 2 2 two three (subst (λ (i : ℕ). CallsAtMost 2 2 (λ file. file ≡ journal_of (owner_of i)) two three) c.in_ok-log.ensures.number (c.cut_at.ensures.calls told)) other)
 
 pub returns-in_ok-cut_at-in-Ok-clause-syncs : goal.returns-in_ok-cut_at-in-Ok-clause-syncs
 returns-in_ok-cut_at-in-Ok-clause-syncs g c told n other =
     let old = g.D.Disk.view c.args.disk.now in
     let one = g.D.Disk.view c.open.new.disk in
     let two = g.D.Disk.view c.mask_behind.new.disk in
-    let read = unsynced_on n old one two (opened_others n c.args.number 3 5 _ old one (c.open.ensures.calls told) other) (reads_none one two (c.mask_behind.ensures.reads told) n) in
+    let read = unused_on n old one two (opened_others n c.args.number 3 5 old one (c.open.ensures.calls told) other) (reads_none one two (c.mask_behind.ensures.reads told) n) in
     let three = g.D.Disk.view c.cut_at.new.disk in
-    unsynced_on n old two three read (cut_others n c.args.number 2 2 two three (subst (λ (i : ℕ). CallsAtMost 2 2 (λ file. file ≡ journal_of (owner_of i)) two three) c.in_ok-log.ensures.number (c.cut_at.ensures.calls told)) other)
+    unused_on n old two three read (cut_others n c.args.number 2 2 two three (subst (λ (i : ℕ). CallsAtMost 2 2 (λ file. file ≡ journal_of (owner_of i)) two three) c.in_ok-log.ensures.number (c.cut_at.ensures.calls told)) other)
 
 -- ---- Over every disk
 

@@ -1,9 +1,9 @@
 use Rattle.std.proofs.Common.{refl, ◌≡◌}
 use Rattle.lsv_keeper.specs.Views.{view_of}
 use Rattle.lsv_keeper.proofs.Turning.{job_given}
-use Rattle.lsv_keeper.proofs.Causes.{does_as}
+use Rattle.lsv_keeper.proofs.Causes.{does_unfaulted}
 use Rattle.lsv_keeper.proofs.Saying.{says_as, says_told}
-use Rattle.lsv_keeper.specs.Causes.{MayFail, TellsFault}
+use Rattle.lsv_keeper.specs.Causes.{BringsLine, MayAnswer, TellsFault}
 use Rattle.lsv_keeper.proofs.keeper.Keeper.answer_job.Goals as goal
 
 pub returns-clause-answered : goal.returns-clause-answered
@@ -14,10 +14,10 @@ returns-clause-answered g c told m at =
 -- ---- Over every disk
 
 pub returns-clause-does : goal.returns-clause-does
-returns-clause-does g c = does_as (λ none. absurd none) c.answer-told.ensures.does
+returns-clause-does g c = does_unfaulted c.answer-told.ensures.does
 
 pub returns-clause-says : goal.returns-clause-says
 returns-clause-says g c all =
     let t = c.put_replies.ensures.told in
-    says_as (λ j. j ≡ c.args.job.conn) (λ j. j ≡ c.args.job.conn) (TellsFault c.answer-told.result) (MayFail (view_of c.args.self.now) (g.D.Disk.view c.args.disk.now) (g.D.Disk.view c.answer-told.new.disk)) c.args.out.now.items c.put_replies.new.out.items (λ j is. is)
-    (c.answer-told.ensures.does.cause all) (says_told c.args.job.conn c.answer-told.result t.0 c.args.out.now.items c.put_replies.new.out.items t.1 t.2)
+    says_as (λ j. j ≡ c.args.job.conn) (λ j. j ≡ c.args.job.conn) (λ j. TellsFault c.answer-told.result) (λ j. MayAnswer (BringsLine c.args.self.now.log_exit c.args.job.body) (view_of c.args.self.now) (g.D.Disk.view c.args.disk.now) (g.D.Disk.view c.answer-told.new.disk)) c.args.out.now.items c.put_replies.new.out.items (λ j is. is)
+    (λ j is e. c.answer-told.ensures.does.cause all e) (says_told c.args.job.conn c.answer-told.result t.0 c.args.out.now.items c.put_replies.new.out.items t.1 t.2)

@@ -12,7 +12,7 @@ use Rattle.lsv_keeper.specs.Views.{view_of}
 use Rattle.lsv_keeper.proofs.Counting.{owner_rose}
 use Rattle.lsv_keeper.proofs.Drawing.{draw_beside, last_rises, number_drawn}
 use Rattle.lsv_keeper.proofs.Making.{draw_err, draws_none}
-use Rattle.lsv_keeper.proofs.Syncing.{draw_unsynced, drawn_fresh, past_on}
+use Rattle.lsv_keeper.proofs.Syncing.{draw_unused, drawn_fresh, past_on}
 use Rattle.lsv_keeper.proofs.Causes.{draw_cause, draw_does, own_rose}
 use Rattle.lsv_keeper.specs.Causes.{StoreRose}
 use Rattle.lsv_request.specs.declared.refusal.Refusal.TheVariants.{DeviceFault}
@@ -59,7 +59,7 @@ returns-in-Err-clause-beside g c told m at =
     at c.draw.ensures.lane (last_rises c.args.self.now.numbers c.draw.new.self c.in-Err.ensures.kept) (c.draw.ensures.any_moment told) c.draw.ensures.cause.monotone
 
 pub returns-in-Ok-clause-syncs : goal.returns-in-Ok-clause-syncs
-returns-in-Ok-clause-syncs g c told = draw_unsynced (lane_of c.args.self.now.numbers) 5 7 _ (g.D.Disk.view c.args.disk.now) (g.D.Disk.view c.draw.new.disk) (c.draw.ensures.calls told)
+returns-in-Ok-clause-syncs g c told = draw_unused (lane_of c.args.self.now.numbers) 5 7 (g.D.Disk.view c.args.disk.now) (g.D.Disk.view c.draw.new.disk) (c.draw.ensures.calls told)
 
 pub returns-in-Ok-clause-past : goal.returns-in-Ok-clause-past
 returns-in-Ok-clause-past g c = past_on c.args.self.now.numbers c.draw.new.self c.draw.ensures.lane (let above : last_of c.args.self.now.numbers < c.in-Ok.number = c.in-Ok.ensures.above in let is = c.in-Ok.ensures.drawn.0 in omega arith)
@@ -71,7 +71,7 @@ returns-in-Ok-clause-fresh g c told m at =
     drawn_fresh (view_of c.args.self.now) (g.D.Disk.view c.args.disk.now) m c.in-Ok.number at d.0 c.in-Ok.ensures.above
 
 pub returns-in-Err-clause-syncs : goal.returns-in-Err-clause-syncs
-returns-in-Err-clause-syncs g c told = draw_unsynced (lane_of c.args.self.now.numbers) 5 7 _ (g.D.Disk.view c.args.disk.now) (g.D.Disk.view c.draw.new.disk) (c.draw.ensures.calls told)
+returns-in-Err-clause-syncs g c told = draw_unused (lane_of c.args.self.now.numbers) 5 7 (g.D.Disk.view c.args.disk.now) (g.D.Disk.view c.draw.new.disk) (c.draw.ensures.calls told)
 
 pub returns-in-Err-clause-past : goal.returns-in-Err-clause-past
 returns-in-Err-clause-past g c = past_on c.args.self.now.numbers c.draw.new.self c.draw.ensures.lane (last_rises c.args.self.now.numbers c.draw.new.self c.in-Err.ensures.kept)

@@ -68,8 +68,8 @@ returns-clause-does g c =
     let old : DiskView = (g.D.Disk.view c.args.disk.now) in
     let v : KeeperView = (view_of c.args.self.now) in
     elim c.match-body.branch [
-      | in-Gone w ↦ subst (λ s. Does [] ⊥ v (view_of s) old (g.D.Disk.view c.match-body.disk)) (sym w.self-is)
-          (subst (λ d. Does [] ⊥ v (view_of w.leave.new.self) old (g.D.Disk.view d)) (sym w.disk-is) (forgotten_then c.args.conn w.forget.new.conns.items w.forget.ensures w.leave.ensures.does))
-      | in_default w ↦ subst (λ s. Does [] ⊥ v (view_of s) old (g.D.Disk.view c.match-body.disk)) (sym w.self-is)
-          (subst (λ d. Does [] ⊥ v v old (g.D.Disk.view d)) (sym w.disk-is) (does_none (λ none. none)))
+      | in-Gone w ↦ subst (λ s. Does [] ⊥ ⊥ v (view_of s) old (g.D.Disk.view c.match-body.disk)) (sym w.self-is)
+          (subst (λ d. Does [] ⊥ ⊥ v (view_of w.leave.new.self) old (g.D.Disk.view d)) (sym w.disk-is) (forgotten_then c.args.conn w.forget.new.conns.items w.forget.ensures w.leave.ensures.does))
+      | in_default w ↦ subst (λ s. Does [] ⊥ ⊥ v (view_of s) old (g.D.Disk.view c.match-body.disk)) (sym w.self-is)
+          (subst (λ d. Does [] ⊥ ⊥ v v old (g.D.Disk.view d)) (sym w.disk-is) (does_none (λ none. none)))
     ]

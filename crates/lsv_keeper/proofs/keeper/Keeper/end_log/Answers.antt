@@ -26,7 +26,7 @@ use Rattle.lsv_keeper.proofs.Frames.{Laws}
 use Rattle.lsv_keeper.proofs.Opens.{one_open}
 use Rattle.lsv_keeper.proofs.Refusing.{written_open}
 use Rattle.lsv_keeper.proofs.Syncing.{ended_once, followed, line_quiet}
-use Rattle.lsv_keeper.proofs.Causes.{at_each, departs_goes, does_none, none_taken, own_rose, quiet_then, refused_is, still, taken_then, finish_cause}
+use Rattle.lsv_keeper.proofs.Causes.{at_each, departs_goes, does_needs, does_none, finish_cause, none_taken, own_rose, quiet_then, refused_is, still, taken_then}
 use Rattle.lsv_keeper.specs.Logs.{open_logs, with_open}
 use Rattle.lsv_keeper.specs.Causes.{LetsGo}
 use Rattle.lsv_keeper.proofs.keeper.Keeper.end_log.Goals as goal
@@ -258,17 +258,17 @@ returns-in-Ok-exit_line-clause-does g c is =
     quiet_then (λ e. absurd (cc))
     (taken_then c.args.log c.take.new.self (λ all none. absurd none) (at_each (open_logs c.take.new.self) (with_open c.args.log None (open_logs c.args.self.now.logs)) c.take.ensures.rest)
     (departs_goes c.args.log c.args.conn Dead (record (view_of c.args.self.now) { logs = c.take.new.self }) (view_of c.release-in-Ok.new.self) (g.D.Disk.view c.args.disk.now) (g.D.Disk.view c.finish.new.disk) refl c.release-in-Ok.ensures.departs c.release-in-Ok.ensures.logs (λ linked. linked c.args.conn c.args.log is) c.finish.ensures.cause.monotone))
-    c.in-Ok-exit_line.ensures.does
+    (does_needs (λ e. sym c.release-in-Ok.ensures.departs.beside.log_exit ∙ e) c.in-Ok-exit_line.ensures.does)
 
 pub returns-in-Ok-clause-does : goal.returns-in-Ok-clause-does
 returns-in-Ok-clause-does g c is =
     quiet_then (λ e. ap (λ (w : Refusal). err w) (refused_is c.in-Err-exit_line.why e))
     (taken_then c.args.log c.take.new.self (λ all none. absurd none) (at_each (open_logs c.take.new.self) (with_open c.args.log None (open_logs c.args.self.now.logs)) c.take.ensures.rest)
     (departs_goes c.args.log c.args.conn Dead (record (view_of c.args.self.now) { logs = c.take.new.self }) (view_of c.release-in-Ok.new.self) (g.D.Disk.view c.args.disk.now) (g.D.Disk.view c.finish.new.disk) refl c.release-in-Ok.ensures.departs c.release-in-Ok.ensures.logs (λ linked. linked c.args.conn c.args.log is) c.finish.ensures.cause.monotone))
-    c.in-Err-exit_line.ensures.does
+    (does_needs (λ e. sym c.release-in-Ok.ensures.departs.beside.log_exit ∙ e) c.in-Err-exit_line.ensures.does)
 
 pub returns-in-Disk-clause-does : goal.returns-in-Disk-clause-does
 returns-in-Disk-clause-does g c is =
     let failed : c.finish.result ≡ Err faults.Disk = c.in-Err.is ∙ ap (λ (f : LogFault). Err f) c.in-Disk.is in
-    taken_then c.args.log c.take.new.self (λ all e. inr (own_rose (IsOfLog c.in-Some.its.log.number) _ (g.D.Disk.view c.args.disk.now) (g.D.Disk.view c.finish.new.disk) (λ file own. inl (c.in-Some.its.log.number, own)) c.finish.ensures.cause failed)) (at_each (open_logs c.take.new.self) (with_open c.args.log None (open_logs c.args.self.now.logs)) c.take.ensures.rest)
+    taken_then c.args.log c.take.new.self (λ all e. inl (own_rose (IsOfLog c.in-Some.its.log.number) _ (g.D.Disk.view c.args.disk.now) (g.D.Disk.view c.finish.new.disk) (λ file own. inl (c.in-Some.its.log.number, own)) c.finish.ensures.cause failed)) (at_each (open_logs c.take.new.self) (with_open c.args.log None (open_logs c.args.self.now.logs)) c.take.ensures.rest)
     (departs_goes c.args.log c.args.conn Dead (record (view_of c.args.self.now) { logs = c.take.new.self }) (view_of c.release-in-Disk.new.self) (g.D.Disk.view c.args.disk.now) (g.D.Disk.view c.finish.new.disk) refl c.release-in-Disk.ensures.departs c.release-in-Disk.ensures.logs (λ linked. linked c.args.conn c.args.log is) c.finish.ensures.cause.monotone)

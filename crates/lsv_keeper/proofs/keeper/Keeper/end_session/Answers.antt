@@ -1,4 +1,4 @@
-use Rattle.std.proofs.Common.{◌≡◌, arith, refl, subst, sym, ap}
+use Rattle.std.proofs.Common.{◌≡◌, ◌∙◌, arith, refl, subst, sym, ap}
 use Rattle.std.specs.Prelude.{false, Result, Err}
 use Rattle.lsv_disk.specs.View.{DiskView}
 use Rattle.lsv_request.specs.declared.request.Request.TheVariants as request
@@ -15,7 +15,7 @@ use Rattle.lsv_keeper.proofs.ExitEnds.{keeps_line, session_refused, session_stan
 use Rattle.lsv_keeper.proofs.Frames.{Laws}
 use Rattle.lsv_keeper.proofs.Requests.{asks_alive}
 use Rattle.lsv_keeper.proofs.Syncing.{followed, line_quiet}
-use Rattle.lsv_keeper.proofs.Causes.{quiet_then, refused_is}
+use Rattle.lsv_keeper.proofs.Causes.{does_needs, quiet_then, refused_is}
 use Rattle.lsv_request.specs.declared.refusal.Refusal.{Refusal}
 use Rattle.lsv_keeper.proofs.keeper.Keeper.end_session.Goals as goal
 
@@ -86,7 +86,7 @@ abbrev err : {T : Type 0} → Refusal → Result T Refusal
 err why = Err why
 
 pub returns-in-Ok-clause-does : goal.returns-in-Ok-clause-does
-returns-in-Ok-clause-does g c = quiet_then (λ e. absurd (cc)) c.leave.ensures.does c.in-Ok.ensures.does
+returns-in-Ok-clause-does g c = quiet_then (λ e. absurd (cc)) c.leave.ensures.does (does_needs (λ e. sym c.leave.ensures.keeps.log_exit ∙ e) c.in-Ok.ensures.does)
 
 pub returns-in-Err-clause-does : goal.returns-in-Err-clause-does
-returns-in-Err-clause-does g c = quiet_then (λ e. ap (λ (w : Refusal). err w) (refused_is c.in-Err.why e)) c.leave.ensures.does c.in-Err.ensures.does
+returns-in-Err-clause-does g c = quiet_then (λ e. ap (λ (w : Refusal). err w) (refused_is c.in-Err.why e)) c.leave.ensures.does (does_needs (λ e. sym c.leave.ensures.keeps.log_exit ∙ e) c.in-Err.ensures.does)

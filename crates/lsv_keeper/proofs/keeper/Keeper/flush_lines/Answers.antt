@@ -75,7 +75,7 @@ returns-in_default-fault g c = record {
       let mid = g.D.Disk.view c.flush.new.disk in
       let disk_it : c.in-Err.fault ≡ faults.Disk = elim c.in-Err.ensures.fault [ inl is ↦ is | inr is ↦ absurd (c.in_default-fault.not-Broken is) ] in
       let rose : StoreRose old mid = own_rose (IsOfEventLog c.args.self.now.events.lane) _ old mid (λ file own. inr (inr (c.args.self.now.events.lane, of_lane c.args.self.now.events.lane file own))) c.flush.ensures.cause (c.in-Err.is ∙ ap Err disk_it) in
-      says_as (IsAmong p) (IsAmong p) (Unit {0}) (StoreRose old (g.D.Disk.view c.lose_lines.new.disk)) c.args.out.now.items c.lose_lines.new.out.items (λ k is. is) (λ t. rose_first old mid (g.D.Disk.view c.lose_lines.new.disk) rose c.lose_lines.ensures.does.monotone) (c.lose_lines.ensures.says p s.notes);
+      says_as (IsAmong p) (IsAmong p) (λ k. Unit {0}) (λ k. StoreRose old (g.D.Disk.view c.lose_lines.new.disk)) c.args.out.now.items c.lose_lines.new.out.items (λ k is. is) (λ k is t. rose_first old mid (g.D.Disk.view c.lose_lines.new.disk) rose c.lose_lines.ensures.does.monotone) (c.lose_lines.ensures.says p s.notes);
   syncs = λ told m at.
       let v = view_of c.args.self.now in
       let old = g.D.Disk.view c.args.disk.now in

@@ -71,7 +71,7 @@ returns-in-Some-flush-clause-waits g c p n it =
 pub returns-in-Some-flush-clause-says : goal.returns-in-Some-flush-clause-says
 returns-in-Some-flush-clause-says g c p it whole =
     let mine = it c.in-Some.conn (sym c.in-Some.ensures) in
-    says_as (λ j. j ≡ c.in-Some.conn) (IsAmong p) ⊥ _ c.args.out.now.items c.put_point.new.out.items (λ j is. subst (IsAmong p) (sym is) mine.0) (λ none. absurd none) (says_point c.in-Some.conn c.in-Some-flush.point c.args.out.now.items c.put_point.new.out.items c.put_point.ensures.told)
+    says_as (λ j. j ≡ c.in-Some.conn) (IsAmong p) (λ j. ⊥) _ c.args.out.now.items c.put_point.new.out.items (λ j is. subst (IsAmong p) (sym is) mine.0) (λ j is none. absurd none) (says_point c.in-Some.conn c.in-Some-flush.point c.args.out.now.items c.put_point.new.out.items c.put_point.ensures.told)
 
 pub returns-in-None-clause-does : goal.returns-in-None-clause-does
 returns-in-None-clause-does g c =
@@ -91,4 +91,4 @@ returns-in-None-clause-says g c p it whole =
       | nothing none ↦ absurd (mine.1 none)
       | just its here ↦ c.in-None.ensures.keeps.flushed.1 its here (whole c.args.number its here)
     ] in
-    says_as (λ j. j ≡ c.in-Some.conn) (IsAmong p) _ _ c.args.out.now.items c.put_replies.new.out.items (λ j is. subst (IsAmong p) (sym is) mine.0) (λ e. rose) (says_told c.in-Some.conn (told.Refused DeviceFault) t.0 c.args.out.now.items c.put_replies.new.out.items t.1 t.2)
+    says_as (λ j. j ≡ c.in-Some.conn) (IsAmong p) _ _ c.args.out.now.items c.put_replies.new.out.items (λ j is. subst (IsAmong p) (sym is) mine.0) (λ j is e. rose) (says_told c.in-Some.conn (told.Refused DeviceFault) t.0 c.args.out.now.items c.put_replies.new.out.items t.1 t.2)

@@ -5,7 +5,7 @@ use Rattle.lsv_keeper.specs.Replies.{room_in}
 use Rattle.lsv_keeper.specs.Tails.{none_waits}
 use Rattle.lsv_keeper.specs.Views.{view_of}
 use Rattle.lsv_keeper.proofs.TailLoops.{flushing_ends, flushing_on, flushing_start}
-use Rattle.lsv_keeper.proofs.Syncing.{waiting_ends, waiting_on}
+use Rattle.lsv_keeper.proofs.Syncing.{unused, waiting_ends, waiting_on}
 use Rattle.lsv_keeper.proofs.Causes.{all_at, does_none, does_then, rose_first, rose_second, unwaiting_then}
 use Rattle.lsv_keeper.proofs.Saying.{says_as, says_none, says_then}
 use Rattle.lsv_keeper.specs.Causes.{Does, IsAmong, StoreRose, Waits}
@@ -19,8 +19,8 @@ loop-number-init g c = record {
       (λ told. record { reads_itself = g.met.D.Disk.reads_itself told c.args.disk.now; is_now = g.met.D.Disk.is_now told c.args.disk.now; only_now = g.met.D.Disk.only_now told c.args.disk.now })
       (ap (λ (w : List ℕ). record (view_of c.args.self.now) { waiting = w }) (ap (λ (x : Vec LogNo). x.items) c.replace-waiting.ensures.after ∙ c.new.ensures.items))
       (ap (λ (x : Vec LogNo). x.items) (sym c.replace-waiting.ensures.value) ∙ sym c.deref-number-items.ensures.value);
-  synced = λ told m at n. inl (λ file own. refl);
-  kept = subst (λ (x : KeeperView). Does [] ⊥ (record (view_of c.args.self.now) { waiting = [] }) x (g.D.Disk.view c.args.disk.now) (g.D.Disk.view c.args.disk.now)) (sym (ap (λ (w : List ℕ). record (view_of c.args.self.now) { waiting = w }) (ap (λ (x : Vec LogNo). x.items) c.replace-waiting.ensures.after ∙ c.new.ensures.items))) (does_none (λ none. none));
+  synced = λ told m at n. inl (unused n (g.D.Disk.view c.args.disk.now));
+  kept = subst (λ (x : KeeperView). Does [] ⊥ ⊥ (record (view_of c.args.self.now) { waiting = [] }) x (g.D.Disk.view c.args.disk.now) (g.D.Disk.view c.args.disk.now)) (sym (ap (λ (w : List ℕ). record (view_of c.args.self.now) { waiting = w }) (ap (λ (x : Vec LogNo). x.items) c.replace-waiting.ensures.after ∙ c.new.ensures.items))) (does_none (λ none. none));
   waits = λ p n it. it;
   says = λ p all whole. says_none (IsAmong p) _ c.args.out.now.items;
 }
@@ -55,9 +55,9 @@ loop-number-preserved g c = record {
   waits = λ p n it. c.flush_log.ensures.waits p n (c.loop-number.invariant.waits p n it);
   says = λ p all whole.
       let its = all_at (Waits p (view_of c.args.self.now)) c.deref-number-items.result.now c.loop-number.number-index c.number-item.result c.loop-number-test.true c.number-item.is all in
-      says_then (IsAmong p) (StoreRose (g.D.Disk.view c.args.disk.now) (g.D.Disk.view c.flush_log.new.disk)) c.args.out.now.items c.loop-number.out.items c.flush_log.new.out.items
-      (says_as (IsAmong p) (IsAmong p) (StoreRose (g.D.Disk.view c.args.disk.now) (g.D.Disk.view c.loop-number.disk)) (StoreRose (g.D.Disk.view c.args.disk.now) (g.D.Disk.view c.flush_log.new.disk)) c.args.out.now.items c.loop-number.out.items (λ k is. is) (λ rose. rose_first (g.D.Disk.view c.args.disk.now) (g.D.Disk.view c.loop-number.disk) (g.D.Disk.view c.flush_log.new.disk) rose c.flush_log.ensures.does.monotone) (c.loop-number.invariant.says p all whole))
-      (says_as (IsAmong p) (IsAmong p) (StoreRose (g.D.Disk.view c.loop-number.disk) (g.D.Disk.view c.flush_log.new.disk)) (StoreRose (g.D.Disk.view c.args.disk.now) (g.D.Disk.view c.flush_log.new.disk)) c.loop-number.out.items c.flush_log.new.out.items (λ k is. is) (λ rose. rose_second (g.D.Disk.view c.args.disk.now) (g.D.Disk.view c.loop-number.disk) (g.D.Disk.view c.flush_log.new.disk) c.loop-number.invariant.kept.monotone rose)
+      says_then (IsAmong p) (λ j. StoreRose (g.D.Disk.view c.args.disk.now) (g.D.Disk.view c.flush_log.new.disk)) c.args.out.now.items c.loop-number.out.items c.flush_log.new.out.items
+      (says_as (IsAmong p) (IsAmong p) (λ j. StoreRose (g.D.Disk.view c.args.disk.now) (g.D.Disk.view c.loop-number.disk)) (λ j. StoreRose (g.D.Disk.view c.args.disk.now) (g.D.Disk.view c.flush_log.new.disk)) c.args.out.now.items c.loop-number.out.items (λ k is. is) (λ k is rose. rose_first (g.D.Disk.view c.args.disk.now) (g.D.Disk.view c.loop-number.disk) (g.D.Disk.view c.flush_log.new.disk) rose c.flush_log.ensures.does.monotone) (c.loop-number.invariant.says p all whole))
+      (says_as (IsAmong p) (IsAmong p) (λ j. StoreRose (g.D.Disk.view c.loop-number.disk) (g.D.Disk.view c.flush_log.new.disk)) (λ j. StoreRose (g.D.Disk.view c.args.disk.now) (g.D.Disk.view c.flush_log.new.disk)) c.loop-number.out.items c.flush_log.new.out.items (λ k is. is) (λ k is rose. rose_second (g.D.Disk.view c.args.disk.now) (g.D.Disk.view c.loop-number.disk) (g.D.Disk.view c.flush_log.new.disk) c.loop-number.invariant.kept.monotone rose)
       (c.flush_log.ensures.says p (c.loop-number.invariant.waits p c.number-item.result its) (c.loop-number.invariant.kept.whole whole)));
 }
 

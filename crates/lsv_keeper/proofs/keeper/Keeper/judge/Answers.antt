@@ -11,10 +11,11 @@ use Rattle.lsv_keeper.specs.Views.{view_of}
 use Rattle.lsv_keeper.specs.Syncing.{GoesOnWith}
 use Rattle.lsv_keeper.specs.Syncs.{IsRestartOf, Restarts}
 use Rattle.lsv_keeper.proofs.Judging.{judged_fair, message_refused}
-use Rattle.lsv_keeper.proofs.Requests.{restart_named}
+use Rattle.lsv_keeper.proofs.Requests.{event_brought, restart_named}
 use Rattle.lsv_keeper.proofs.Syncing.{of_none, wider}
-use Rattle.lsv_keeper.proofs.Causes.{quiet_told, refused_is}
+use Rattle.lsv_keeper.proofs.Causes.{does_needs, quiet_told, refused_is}
 use Rattle.lsv_machine.proofs.Shapes.{Innocent, judged_innocent}
+use Rattle.lsv_keeper.proofs.SparingLemmas.{spares_none}
 use Rattle.lsv_keeper.proofs.keeper.Keeper.judge.Goals as goal
 
 pub returns-in-Err-clause-row : goal.returns-in-Err-clause-row
@@ -42,3 +43,12 @@ returns-in-Err-clause-syncs g c told m at = of_none (Restarts (bodies.Msg c.args
 pub returns-in-Err-clause-does : goal.returns-in-Err-clause-does
 returns-in-Err-clause-does g c =
     quiet_told (λ e. subst Innocent (sym c.in-Err.ensures) (judged_innocent c.copied.result c.args.message) (refused_is c.in-Err.why (sym c.refuse.ensures.told ∙ e))) c.refuse.ensures.does
+
+pub returns-in-Ok-clause-does : goal.returns-in-Ok-clause-does
+returns-in-Ok-clause-does g c =
+    does_needs (event_brought (settings_of (view_of c.args.self.now)) c.copied.result c.args.message c.in-Ok.request (sym c.in-Ok.ensures)) c.work.ensures.does
+
+-- ---- Damaged logs
+
+pub returns-in-Err-clause-spared : goal.returns-in-Err-clause-spared
+returns-in-Err-clause-spared g c told m at = spares_none (view_of c.args.self.now) (view_of c.refuse.new.self) (g.D.Disk.view c.args.disk.now) (g.D.Disk.view c.refuse.new.disk) m at (c.refuse.ensures.syncs told m at)

@@ -40,7 +40,7 @@ pub returns-in-Dead-clause-does : goal.returns-in-Dead-clause-does
 returns-in-Dead-clause-does g c = does_none (λ none. none)
 
 pub returns-in-Dead-clause-says : goal.returns-in-Dead-clause-says
-returns-in-Dead-clause-says g c = says_none _ _ c.args.out.now.items
+returns-in-Dead-clause-says g c = says_none _ (λ k. Unit {0}) c.args.out.now.items
 
 pub returns-clause-does : goal.returns-clause-does
 returns-clause-does g c = c.leave.ensures.does
@@ -48,4 +48,4 @@ returns-clause-does g c = c.leave.ensures.does
 pub returns-clause-says : goal.returns-clause-says
 returns-clause-says g c =
     let t = c.put_replies.ensures.told in
-    says_as (λ j. j ≡ c.args.conn) (λ j. j ≡ c.args.conn) _ (Unit {0}) c.args.out.now.items c.put_replies.new.out.items (λ j is. is) (λ e. tt) (says_told c.args.conn (told.Refused DeviceFault) t.0 c.args.out.now.items c.put_replies.new.out.items t.1 t.2)
+    says_as (λ j. j ≡ c.args.conn) (λ j. j ≡ c.args.conn) _ (λ k. Unit {0}) c.args.out.now.items c.put_replies.new.out.items (λ j is. is) (λ j is e. tt) (says_told c.args.conn (told.Refused DeviceFault) t.0 c.args.out.now.items c.put_replies.new.out.items t.1 t.2)

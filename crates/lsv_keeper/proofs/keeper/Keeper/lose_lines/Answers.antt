@@ -20,9 +20,9 @@ loop-conn-init g c = record {
       (λ told. record { reads_itself = g.met.D.Disk.reads_itself told c.args.disk.now; is_now = g.met.D.Disk.is_now told c.args.disk.now; only_now = g.met.D.Disk.only_now told c.args.disk.now })
       (ap (λ (w : List ConnId). record (view_of c.args.self.now) { noting = w }) (ap (λ (x : Vec ConnId). x.items) c.replace-noting.ensures.after ∙ c.new.ensures.items));
   synced = λ told m at. nothing NoLog (view_of c.args.self.now) _ (g.D.Disk.view c.args.disk.now) refl refl;
-  kept = subst (λ (x : KeeperView). Does [] ⊥ (un_noted (view_of c.args.self.now)) x (g.D.Disk.view c.args.disk.now) (g.D.Disk.view c.args.disk.now))
+  kept = subst (λ (x : KeeperView). Does [] ⊥ ⊥ (un_noted (view_of c.args.self.now)) x (g.D.Disk.view c.args.disk.now) (g.D.Disk.view c.args.disk.now))
       (sym (ap (λ (w : List ConnId). record (view_of c.args.self.now) { noting = w }) (ap (λ (x : Vec ConnId). x.items) c.replace-noting.ensures.after ∙ c.new.ensures.items))) (does_none (λ none. none));
-  says = λ p all. says_none (IsAmong p) (Unit {0}) c.args.out.now.items;
+  says = λ p all. says_none (IsAmong p) (λ k. Unit {0}) c.args.out.now.items;
 }
 
 pub lose_line-requires-clause-stands : goal.lose_line-requires-clause-stands
@@ -51,8 +51,8 @@ loop-conn-preserved g c = record {
       (c.loop-conn.invariant.synced told m at) (c.lose_line.ensures.syncs told d.after d.represents);
   kept = does_then (λ none. absurd none) c.loop-conn.invariant.kept c.lose_line.ensures.does;
   says = λ p all.
-      says_then (IsAmong p) (Unit {0}) c.args.out.now.items c.loop-conn.out.items c.lose_line.new.out.items (c.loop-conn.invariant.says p all)
-      (says_as (λ j. j ≡ _) (IsAmong p) (Unit {0}) (Unit {0}) c.loop-conn.out.items c.lose_line.new.out.items (λ j is. subst (IsAmong p) (sym is) (all_at (IsAmong p) c.deref-conn-items.result.now c.loop-conn.conn-index _ c.loop-conn-test.true (get_or_default _ _ _ _ c.loop-conn-test.true) all)) (λ t. t) c.lose_line.ensures.says);
+      says_then (IsAmong p) (λ k. Unit {0}) c.args.out.now.items c.loop-conn.out.items c.lose_line.new.out.items (c.loop-conn.invariant.says p all)
+      (says_as (λ j. j ≡ _) (IsAmong p) (λ k. Unit {0}) (λ k. Unit {0}) c.loop-conn.out.items c.lose_line.new.out.items (λ j is. subst (IsAmong p) (sym is) (all_at (IsAmong p) c.deref-conn-items.result.now c.loop-conn.conn-index _ c.loop-conn-test.true (get_or_default _ _ _ _ c.loop-conn-test.true) all)) (λ k is t. t) c.lose_line.ensures.says);
 }
 
 pub returns-clause-set : goal.returns-clause-set

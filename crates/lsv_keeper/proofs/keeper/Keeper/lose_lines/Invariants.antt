@@ -16,6 +16,6 @@ abbrev pub invariant-loop-conn : goal.invariant-loop-conn
 invariant-loop-conn g l = record {
   refusing : Refusing g.D.Disk.tells l.conn-index l.conn-items (view_of l.fn.self) (view_of l.self) (room_in l.fn.out) (room_in l.out) l.fn.out.items l.out.items (g.D.Disk.view l.fn.disk) (g.D.Disk.view l.disk);
   synced : g.D.Disk.tells → (m : Machine) → Represents (un_noted (view_of l.fn.self)) (g.D.Disk.view l.fn.disk) m → Syncs NoLog (view_of l.fn.self) (view_of l.self) (g.D.Disk.view l.fn.disk) (g.D.Disk.view l.disk);
-  kept : Does [] ⊥ (un_noted (view_of l.fn.self)) (view_of l.self) (g.D.Disk.view l.fn.disk) (g.D.Disk.view l.disk);
-  says : (p : ConnId → Bool) → AllByRecursion (IsAmong p) l.conn-items → Says (IsAmong p) (Unit {0}) l.fn.out.items l.out.items;
+  kept : Does [] ⊥ ⊥ (un_noted (view_of l.fn.self)) (view_of l.self) (g.D.Disk.view l.fn.disk) (g.D.Disk.view l.disk);
+  says : (p : ConnId → Bool) → AllByRecursion (IsAmong p) l.conn-items → Says (IsAmong p) (λ k. Unit {0}) l.fn.out.items l.out.items;
 }

@@ -5,6 +5,7 @@ use Rattle.lsv_keeper.specs.Opening.{IsStoreFault}
 use Rattle.lsv_keeper.specs.Value.{AreLinked}
 use Rattle.lsv_keeper.specs.declared.fault.StoreFault.TheVariants.{Device}
 use Rattle.lsv_keeper.specs.declared.logs.OpenLog.{OpenLog}
+use Rattle.lsv_keeper.proofs.Syncing.{unused_on}
 use Rattle.lsv_keeper.proofs.Opening.{both_run, cause_after, entry_on, events_alike, fault_alike, in_err, lines_alike, numbers_run, opens_as, passed, same_error, store_on}
 use Rattle.lsv_keeper.proofs.keeper.Keeper.open.Goals as goal
 
@@ -112,3 +113,13 @@ returns-clause-sound g c failed = elim failed [
   | inl pending ↦ pending c.in_ok-numbers.ensures.sound
   | inr broken ↦ (let q : true ≡ false = sym broken ∙ c.in_ok-events.ensures.sound in cc)
 ]
+
+-- ---- Logs
+
+pub returns-clause-unused : goal.returns-clause-unused
+returns-clause-unused g c told n =
+    unused_on n (g.D.Disk.view c.args.disk.now) (g.D.Disk.view c.open_numbers.new.disk) (g.D.Disk.view c.open_events.new.disk) (c.open_numbers.ensures.unused told n) (c.open_events.ensures.unused told n)
+
+pub returns-in_err-events-clause-unused : goal.returns-in_err-events-clause-unused
+returns-in_err-events-clause-unused g c told n =
+    unused_on n (g.D.Disk.view c.args.disk.now) (g.D.Disk.view c.open_numbers.new.disk) (g.D.Disk.view c.open_events.new.disk) (c.open_numbers.ensures.unused told n) (c.open_events.ensures.unused told n)

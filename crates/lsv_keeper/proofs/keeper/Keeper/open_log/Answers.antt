@@ -29,7 +29,7 @@ use Rattle.lsv_keeper.proofs.Making.{begun_keeps, create_err, drawn_keeps, lined
 use Rattle.lsv_keeper.proofs.Reporting.{if_err_as}
 use Rattle.lsv_keeper.proofs.Stopping.{MadeIt, begins, line_stops, made_it, none_drawn, not_made, nothing_done}
 use Rattle.lsv_keeper.proofs.Syncing.{drawn_quiet, followed, fresh_one, line_quiet, making, owns_one, reserved_fresh, reserved_quiet}
-use Rattle.lsv_keeper.proofs.Causes.{create_cause, does_any, does_as, does_caused, does_reserved, does_same, does_then, none_of_some, own_rose, owns_does, quiet_then, same_err, still}
+use Rattle.lsv_keeper.proofs.Causes.{create_cause, does_all, does_any, does_as, does_caused, does_reserved, does_same, does_then, does_unfaulted, none_of_some, own_rose, owns_does, quiet_then, same_err, still}
 use Rattle.lsv_keeper.specs.Causes.{StoreRose}
 use Rattle.lsv_request.specs.declared.refusal.Refusal.TheVariants.{DeviceFault}
 use Rattle.lsv_keeper.proofs.keeper.Keeper.open_log.Goals as goal
@@ -288,10 +288,10 @@ returns-in_default-clause-does g c = does_reserved (λ e. cc) (still (g.D.Disk.v
 
 pub returns-in_err-number-clause-does : goal.returns-in_err-number-clause-does
 returns-in_err-number-clause-does g c =
-    quiet_then (λ e. same_err c.from_residual.result c.in_err-number.field-0.0 DeviceFault c.from_residual.ensures.1 e) (does_reserved (λ none. none) (still (g.D.Disk.view c.args.disk.now)) c.prepare.ensures.same) (does_any c.in_err-number.ensures.does)
+    quiet_then (λ e. same_err c.from_residual.result c.in_err-number.field-0.0 DeviceFault c.from_residual.ensures.1 e) (does_reserved (λ none. none) (still (g.D.Disk.view c.args.disk.now)) c.prepare.ensures.same) (does_all c.in_err-number.ensures.does)
 
 pub returns-then-is_some-clause-does : goal.returns-then-is_some-clause-does
-returns-then-is_some-clause-does g c = quiet_then (λ e. absurd (cc)) (does_reserved (λ none. none) (still (g.D.Disk.view c.args.disk.now)) c.prepare.ensures.same) (does_any c.in_ok-number.ensures.does)
+returns-then-is_some-clause-does g c = quiet_then (λ e. absurd (cc)) (does_reserved (λ none. none) (still (g.D.Disk.view c.args.disk.now)) c.prepare.ensures.same) (does_all c.in_ok-number.ensures.does)
 
 pub returns-in-Err-clause-does : goal.returns-in-Err-clause-does
 returns-in-Err-clause-does g c =
@@ -299,14 +299,14 @@ returns-in-Err-clause-does g c =
     let mid = (g.D.Disk.view c.draw.new.disk) in
     let new = (g.D.Disk.view c.create.new.disk) in
     let why : c.in-Err.fault ≡ faults.Disk → StoreRose mid new = λ is. own_rose (IsOfLog n) _ mid new (λ file own. inl (n, own)) c.in-Err.ensures.cause (create_err c.in-Err.fault faults.Disk is) in
-    quiet_then (λ e. e) (does_then (λ none. absurd none) (does_reserved (λ none. none) (still (g.D.Disk.view c.args.disk.now)) c.prepare.ensures.same) (does_any (does_as (λ none. absurd none) c.in_ok-number.ensures.does)))
-    (does_caused (λ all e. inr (create_cause (StoreRose mid new) c.in-Err.fault why c.in-Err.ensures.fault (sym c.create_refusal.ensures ∙ (let f : c.create_refusal.result ≡ DeviceFault = cc in f))))
+    quiet_then (λ e. e) (does_then (λ none. absurd none) (does_reserved (λ none. none) (still (g.D.Disk.view c.args.disk.now)) c.prepare.ensures.same) (does_any (does_unfaulted c.in_ok-number.ensures.does)))
+    (does_caused (λ all e. inl (create_cause (StoreRose mid new) c.in-Err.fault why c.in-Err.ensures.fault (sym c.create_refusal.ensures ∙ (let f : c.create_refusal.result ≡ DeviceFault = cc in f))))
     (does_same (λ none. none) c.create.ensures.cause.monotone refl refl refl (λ i. refl) refl refl))
 
 pub returns-in_err-add_line-clause-does : goal.returns-in_err-add_line-clause-does
 returns-in_err-add_line-clause-does g c =
     quiet_then (λ e. same_err c.from_residual-in_err-add_line.result c.in_err-add_line.field-0.0 DeviceFault c.from_residual-in_err-add_line.ensures.1 e)
-    (does_then (λ none. absurd none) (does_then (λ none. absurd none) (does_reserved (λ none. none) (still (g.D.Disk.view c.args.disk.now)) c.prepare.ensures.same) (does_any (does_as (λ none. absurd none) c.in_ok-number.ensures.does)))
+    (does_then (λ none. absurd none) (does_then (λ none. absurd none) (does_reserved (λ none. none) (still (g.D.Disk.view c.args.disk.now)) c.prepare.ensures.same) (does_any (does_unfaulted c.in_ok-number.ensures.does)))
     (does_same (λ none. none) c.create.ensures.cause.monotone refl refl refl (λ i. refl) refl refl))
     c.in_err-add_line.ensures.does
 
@@ -319,7 +319,7 @@ returns-clause-does g c =
     let at2 : (sessions_of v2).owner n ≡ None = sym c.owner.ensures ∙ none_of_some c.owner.result (sym c.is_some.ensures ∙ c.if-is_some.false) in
     let free : (sessions_of v3).owner n ≡ None = ap (λ (t : Table). (sessions t).owner n) c.add_line.ensures.same.table ∙ at2 in
     does_then (λ e. absurd (cc))
-    (does_then (λ none. inr none) (does_then (λ none. absurd none) (does_then (λ none. absurd none) (does_reserved (λ none. none) (still (g.D.Disk.view c.args.disk.now)) c.prepare.ensures.same) (does_any (does_as (λ none. absurd none) c.in_ok-number.ensures.does)))
+    (does_then (λ none. inr none) (does_then (λ none. absurd none) (does_then (λ none. absurd none) (does_reserved (λ none. none) (still (g.D.Disk.view c.args.disk.now)) c.prepare.ensures.same) (does_any (does_unfaulted c.in_ok-number.ensures.does)))
     (does_same (λ none. none) c.create.ensures.cause.monotone refl refl refl (λ i. refl) refl refl))
     c.in_ok-add_line.ensures.does)
     (owns_does free c.in-Ok-create.ensures.whole (c.own.ensures.owns free) (still (g.D.Disk.view c.add_line.new.disk)))

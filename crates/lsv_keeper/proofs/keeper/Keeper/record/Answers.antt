@@ -63,11 +63,11 @@ returns-in_default-clause-does g c = does_none (λ e. cc)
 pub returns-then-is_err-clause-does : goal.returns-then-is_err-clause-does
 returns-then-is_err-clause-does g c =
     let same = same_waiting (view_of c.args.self.now) c.reserve.new.self.items c.reserve.ensures.items in
-    subst (λ (w : KeeperView). Does (c.args.conn ∷ []) (TellsFault c.want_memory.result) w (view_of c.want_memory.new.self) (g.D.Disk.view c.args.disk.now) (g.D.Disk.view c.want_memory.new.disk)) same
+    subst (λ (w : KeeperView). Does (c.args.conn ∷ []) ⊥ (TellsFault c.want_memory.result) w (view_of c.want_memory.new.self) (g.D.Disk.view c.args.disk.now) (g.D.Disk.view c.want_memory.new.disk)) same
     (quiet_told (λ e. let f : told.Refused OutOfMemory ≡ told.Refused DeviceFault = sym c.want_memory.ensures.is ∙ e in cc) c.want_memory.ensures.does)
 
 pub returns-clause-does : goal.returns-clause-does
 returns-clause-does g c =
     let same = same_waiting (view_of c.args.self.now) c.reserve.new.self.items c.reserve.ensures.items in
-    subst (λ (w : KeeperView). Does (c.args.conn ∷ []) (TellsFault c.told_of.result) w (view_of c.take_record.new.self) (g.D.Disk.view c.args.disk.now) (g.D.Disk.view c.take_record.new.disk)) same
+    subst (λ (w : KeeperView). Does (c.args.conn ∷ []) ⊥ (TellsFault c.told_of.result) w (view_of c.take_record.new.self) (g.D.Disk.view c.args.disk.now) (g.D.Disk.view c.take_record.new.disk)) same
     (does_as (λ e. told_some c.take_record.result (sym c.told_of.ensures.is ∙ e)) (c.take_record.ensures.does (ap log_of (sym c.requires.state) ∙ sym c.log_of.ensures ∙ c.in-Some.is)))

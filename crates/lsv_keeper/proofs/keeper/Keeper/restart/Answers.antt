@@ -1,5 +1,5 @@
 -- A restart that is refused at once, accepted, or refused by what is found.
-use Rattle.std.proofs.Common.{◌≡◌, List, true, false, refl, sym, ◌∙◌, ap, subst, inr, None}
+use Rattle.std.proofs.Common.{◌≡◌, List, true, false, refl, sym, ◌∙◌, ap, subst, inl, None}
 use Rattle.std.specs.Prelude.{is_some}
 use Rattle.lsv_request.specs.declared.request.Request.TheVariants as request
 use Rattle.lsv_session.specs.Table.{Sessions}
@@ -19,6 +19,7 @@ use Rattle.lsv_keeper.proofs.Restarting.{asks_restart}
 use Rattle.lsv_keeper.proofs.Syncing.{followed, of_none, owns_one, resumed_one}
 use Rattle.lsv_keeper.proofs.Causes.{does_caused, does_reserved, owns_does, quiet_then, quiet_told, refused_is, still, then_quiet}
 use Rattle.lsv_request.specs.declared.refusal.Refusal.TheVariants.{DeviceFault, LogInUse}
+use Rattle.lsv_keeper.proofs.SparingLemmas.{spares_none, spares_refused, spares_resumed}
 use Rattle.lsv_keeper.proofs.keeper.Keeper.restart.Goals as goal
 
 pub returns-then-is_some-clause-row : goal.returns-then-is_some-clause-row
@@ -106,4 +107,29 @@ returns-in-Ok-clause-does g c =
 pub returns-in-Err-clause-does : goal.returns-in-Err-clause-does
 returns-in-Err-clause-does g c =
     then_quiet (λ e. sym c.restart_refusal.ensures ∙ refused_is c.restart_refusal.result e)
-    (does_caused (λ all is. inr (c.in-Err.ensures.cause is)) (does_reserved (λ none. none) c.resume.ensures.monotone c.resume.ensures.same)) c.leave.ensures.does
+    (does_caused (λ all is. inl (c.in-Err.ensures.cause is)) (does_reserved (λ none. none) c.resume.ensures.monotone c.resume.ensures.same)) c.leave.ensures.does
+
+-- ---- Damaged logs
+
+pub returns-then-is_some-clause-spared : goal.returns-then-is_some-clause-spared
+returns-then-is_some-clause-spared g c told m at = spares_none (view_of c.args.self.now) (view_of c.refuse.new.self) (g.D.Disk.view c.args.disk.now) (g.D.Disk.view c.refuse.new.disk) m at (c.refuse.ensures.syncs told m at)
+
+pub returns-in-Ok-clause-spared : goal.returns-in-Ok-clause-spared
+returns-in-Ok-clause-spared g c told m at =
+    spares_resumed c.args.restart.log c.args.restart.point (view_of c.args.self.now) (view_of c.resume.new.self) (g.D.Disk.view c.args.disk.now) (g.D.Disk.view c.resume.new.disk) m at (c.resume.ensures.syncs told)
+    (view_of c.args.self.now).texts c.in-Ok.its (c.in-Ok.ensures.resumed told)
+
+pub returns-in-Err-clause-spared : goal.returns-in-Err-clause-spared
+returns-in-Err-clause-spared g c told m at =
+    let v = view_of c.args.self.now in
+    let v1 = view_of c.resume.new.self in
+    let n = c.args.restart.log in
+    let old = g.D.Disk.view c.args.disk.now in
+    let one = g.D.Disk.view c.resume.new.disk in
+    let free = at.owner n ∙ (sym c.owner.ensures ∙ none_of c.owner.result (sym c.is_some.ensures ∙ c.if-is_some.false)) in
+    let stands = fault_stands v v1 old one m n c.args.restart.point
+    (record { reads_itself = g.met.D.Disk.reads_itself told c.args.disk.now; is_now = g.met.D.Disk.is_now told c.args.disk.now; only_now = g.met.D.Disk.only_now told c.args.disk.now })
+    (record { reads_itself = g.met.D.Disk.reads_itself told c.resume.new.disk; is_now = g.met.D.Disk.is_now told c.resume.new.disk; only_now = g.met.D.Disk.only_now told c.resume.new.disk })
+    at c.resume.ensures.same free c.in-Err.fault (c.in-Err.ensures.fault told) in
+    spares_refused n c.args.restart.point v v1 old one m at (c.resume.ensures.syncs told) (view_of c.leave.new.self) (g.D.Disk.view c.leave.new.disk) c.in-Err.fault c.resume.ensures.same (c.in-Err.ensures.fault told)
+    (c.leave.ensures.syncs told stands.0 stands.1)

@@ -3,6 +3,7 @@ use Rattle.std.proofs.Common.{ℕ, List, ap, subst, IfOk, refl}
 use Rattle.lsv_keeper.specs.Resuming.{IsResumed}
 use Rattle.lsv_keeper.specs.Value.{KeeperView}
 use Rattle.lsv_keeper.proofs.Looking.{looked_none}
+use Rattle.lsv_keeper.proofs.Syncing.{unused}
 use Rattle.lsv_keeper.proofs.keeper.Keeper.resume.Goals as goal
 
 pub returns-then-is_err-clause-fault : goal.returns-then-is_err-clause-fault
@@ -14,7 +15,7 @@ returns-clause-resumed g c told =
     (ap (λ (u : KeeperView). u.texts) c.reserve_log.ensures.same.others) (c.resume_log.ensures.resumed told)
 
 pub returns-then-is_err-clause-syncs : goal.returns-then-is_err-clause-syncs
-returns-then-is_err-clause-syncs g c told n other file own = refl
+returns-then-is_err-clause-syncs g c told n other = unused n (g.D.Disk.view c.args.disk.now)
 
 -- ---- Over every disk
 

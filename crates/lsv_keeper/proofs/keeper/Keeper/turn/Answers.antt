@@ -2,10 +2,14 @@ use Rattle.lsv_keeper.specs.Views.{view_of}
 use Rattle.lsv_keeper.proofs.Turning.{turn_given}
 use Rattle.lsv_keeper.proofs.Syncing.{turn_once}
 use Rattle.lsv_keeper.specs.Value.{AreWhole}
-use Rattle.lsv_keeper.proofs.Causes.{Later, all_own, any_is, does_any, does_then, later_on, may_first, rests_steady, rose_first, rose_second, still}
+use Rattle.lsv_keeper.proofs.Causes.{Later, all_own, answer_first, any_is, does_any, does_then, later_on, rests_steady, rose_first, rose_second, still}
 use Rattle.lsv_keeper.proofs.Saying.{says_as, says_then}
-use Rattle.lsv_keeper.specs.Causes.{AnyIsOf, Does, IsAmong, IsSteady, MayFail, StoreRose, is_of}
-use Rattle.std.proofs.Common.{inr, map, ◌∙◌}
+use Rattle.lsv_keeper.specs.Causes.{AnyBringsLine, AnyIsOf, Does, IsAmong, IsSteady, MayAnswerTo, StoreRose, is_of}
+use Rattle.lsv_session.specs.declared.connection.ConnId.{ConnId}
+use Rattle.lsv_keeper.proofs.SparingLemmas.{spares_none, spares_on, spares_these}
+use Rattle.lsv_keeper.specs.Value.{settings_of}
+use Rattle.lsv_keeper.proofs.DamagedLemmas.{acts_damaged, lines_damaged}
+use Rattle.std.proofs.Common.{inl, map, ◌∙◌}
 use Rattle.lsv_disk.specs.View.{DiskView}
 use Rattle.lsv_keeper.proofs.keeper.Keeper.turn.Goals as goal
 
@@ -34,6 +38,21 @@ returns-clause-syncs g c told m n k at own none =
     let l = c.flush_lines.ensures.lines told j.after j.represents in
     turn_once c.args.jobs.items n k (view_of c.args.self.now) (view_of c.answer_jobs.new.self) (view_of c.flush_lines.new.self) (g.D.Disk.view c.args.disk.now) (g.D.Disk.view c.answer_jobs.new.disk) (g.D.Disk.view c.flush_lines.new.disk) (g.D.Disk.view c.flush_logs.new.disk) m l.after
     at own none (c.answer_jobs.ensures.syncs told m at) (c.flush_lines.ensures.syncs told j.after j.represents) l.represents (c.flush_logs.ensures.syncs told l.after l.represents)
+
+pub returns-clause-spared : goal.returns-clause-spared
+returns-clause-spared g c told m at n damaged =
+    let old = g.D.Disk.view c.args.disk.now in
+    let one = g.D.Disk.view c.answer_jobs.new.disk in
+    let two = g.D.Disk.view c.flush_lines.new.disk in
+    let new = g.D.Disk.view c.flush_logs.new.disk in
+    let j = c.answer_jobs.ensures.answered told m at in
+    let l = c.flush_lines.ensures.lines told j.after j.represents in
+    let after_jobs = acts_damaged n (settings_of (view_of c.args.self.now)) j.going.acts m j.after at.sound j.going.run damaged in
+    let after_lines = lines_damaged n (settings_of (view_of c.answer_jobs.new.self)) l.tail.failed l.tail.answers j.after l.after l.ended.ended.ends after_jobs in
+    spares_on n old two new
+    (spares_on n old one two (c.answer_jobs.ensures.spared told m at n damaged)
+    (spares_none (view_of c.answer_jobs.new.self) (view_of c.flush_lines.new.self) one two j.after j.represents (c.flush_lines.ensures.syncs told j.after j.represents) n after_jobs))
+    (spares_these (view_of c.flush_lines.new.self) two new l.after l.represents (c.flush_logs.ensures.syncs told l.after l.represents) n after_lines)
 
 -- ---- Over every disk
 
@@ -66,24 +85,24 @@ returns-clause-says g c =
     let steady : IsSteady p (view_of c.answer_jobs.new.self) = c.answer_jobs.ensures.does.steady p (all_own jobs) (rests_steady p v c.requires.rests) in
     let steady' : IsSteady p (view_of c.flush_lines.new.self) = c.flush_lines.ensures.does.steady p tt steady in
     let whole : AreWhole (view_of c.answer_jobs.new.self).logs = c.answer_jobs.ensures.does.whole c.requires.rests.whole in
-    let rest : (a b : DiskView) → Later old a → Later b new → StoreRose a b → MayFail v old new = (λ a b early late rose. inr (rose_first old b new (rose_second old a b early rose) late)) in
-    says_then (AnyIsOf jobs) (MayFail v old new) said second last
-    (says_then (AnyIsOf jobs) (MayFail v old new) said first second
-    (says_as (AnyIsOf jobs) (AnyIsOf jobs) (MayFail v old one) (MayFail v old new) said first (λ k is. is)
-    (λ may. may_first v old one new may (later_on one two new c.flush_lines.ensures.does.monotone c.flush_logs.ensures.does.monotone)) (c.answer_jobs.ensures.says c.requires.rests.whole))
-    (says_as (IsAmong p) (AnyIsOf jobs) (StoreRose one two) (MayFail v old new) first second (any_is jobs)
+    let rest : (a b : DiskView) → Later old a → Later b new → (k : ConnId) → IsAmong p k → StoreRose a b → MayAnswerTo v jobs old new k = (λ a b early late k is rose. inl (rose_first old b new (rose_second old a b early rose) late)) in
+    says_then (AnyIsOf jobs) (MayAnswerTo v jobs old new) said second last
+    (says_then (AnyIsOf jobs) (MayAnswerTo v jobs old new) said first second
+    (says_as (AnyIsOf jobs) (AnyIsOf jobs) (MayAnswerTo v jobs old one) (MayAnswerTo v jobs old new) said first (λ k is. is)
+    (λ k is may. answer_first (AnyBringsLine v.log_exit jobs k) v old one new may (later_on one two new c.flush_lines.ensures.does.monotone c.flush_logs.ensures.does.monotone)) (c.answer_jobs.ensures.says c.requires.rests.whole))
+    (says_as (IsAmong p) (AnyIsOf jobs) (λ k. StoreRose one two) (MayAnswerTo v jobs old new) first second (any_is jobs)
     (rest one two c.answer_jobs.ensures.does.monotone c.flush_logs.ensures.does.monotone) (c.flush_lines.ensures.says p steady)))
-    (says_as (IsAmong p) (AnyIsOf jobs) (StoreRose two new) (MayFail v old new) second last (any_is jobs)
+    (says_as (IsAmong p) (AnyIsOf jobs) (λ k. StoreRose two new) (MayAnswerTo v jobs old new) second last (any_is jobs)
     (rest two new (later_on old one two c.answer_jobs.ensures.does.monotone c.flush_lines.ensures.does.monotone) (still new)) (c.flush_logs.ensures.says p steady' (c.flush_lines.ensures.does.whole whole)))
 
 pub returns-clause-failed : goal.returns-clause-failed
 returns-clause-failed g c =
-    let d : Does (map (λ job. job.conn) c.args.jobs.items) ⊥ (view_of c.args.self.now) (view_of c.flush_logs.new.self) (g.D.Disk.view c.args.disk.now) (g.D.Disk.view c.flush_logs.new.disk) =
+    let d : Does (map (λ job. job.conn) c.args.jobs.items) ⊥ ⊥ (view_of c.args.self.now) (view_of c.flush_logs.new.self) (g.D.Disk.view c.args.disk.now) (g.D.Disk.view c.flush_logs.new.disk) =
     does_then (λ none. absurd none) (does_then (λ none. absurd none) c.answer_jobs.ensures.does (does_any c.flush_lines.ensures.does)) (does_any c.flush_logs.ensures.does) in
     d.failed
 
 pub returns-clause-monotone : goal.returns-clause-monotone
 returns-clause-monotone g c =
-    let d : Does (map (λ job. job.conn) c.args.jobs.items) ⊥ (view_of c.args.self.now) (view_of c.flush_logs.new.self) (g.D.Disk.view c.args.disk.now) (g.D.Disk.view c.flush_logs.new.disk) =
+    let d : Does (map (λ job. job.conn) c.args.jobs.items) ⊥ ⊥ (view_of c.args.self.now) (view_of c.flush_logs.new.self) (g.D.Disk.view c.args.disk.now) (g.D.Disk.view c.flush_logs.new.disk) =
     does_then (λ none. absurd none) (does_then (λ none. absurd none) c.answer_jobs.ensures.does (does_any c.flush_lines.ensures.does)) (does_any c.flush_logs.ensures.does) in
     d.monotone

@@ -9,14 +9,14 @@ use Rattle.lsv_lane.proofs.lane.StoreLane.open.Goals as goal
 pub returns-in-Ok-clause-made : goal.returns-in-Ok-clause-made
 returns-in-Ok-clause-made g c =
     made_open g.D.Disk.tells g.G.Tape.tells c.args.lane c.args.lanes c.args.formatter.kind c.args.log_exit c.args.texts (g.D.Disk.view c.args.bay.disk) (g.D.Disk.view c.open.new.disk) (view_of c.in-Ok.keeper)
-    (g.G.Tape.turns c.args.bay.tape) c.in-Ok.ensures.set c.in-Ok.ensures.rests (λ told. c.requires.fresh told _ (c.in-Ok.ensures.read told)) c.in-Ok.ensures.opened c.in-Ok.ensures.sound (c.in-Ok.ensures.cause (Events 0)).monotone
+    (g.G.Tape.turns c.args.bay.tape) c.in-Ok.ensures.set c.in-Ok.ensures.rests (λ told. c.requires.fresh told _ (c.in-Ok.ensures.read told)) c.in-Ok.ensures.opened c.in-Ok.ensures.sound (c.in-Ok.ensures.cause (Events 0)).monotone c.open.ensures.unused
 
 pub returns-in-Err-clause-cause : goal.returns-in-Err-clause-cause
 returns-in-Err-clause-cause g c = λ o e. (c.in-Err.ensures.cause o).risen (ap Err e)
 
 pub returns-in-Err-clause-store : goal.returns-in-Err-clause-store
 returns-in-Err-clause-store g c = λ told.
-    keeps_none (lane_settings c.args.lane c.args.lanes c.args.formatter.kind c.args.log_exit) c.args.texts (g.D.Disk.view c.args.bay.disk) (g.D.Disk.view c.open.new.disk) (c.in-Err.ensures.store told)
+    keeps_none (lane_settings c.args.lane c.args.lanes c.args.formatter.kind c.args.log_exit) c.args.texts (g.D.Disk.view c.args.bay.disk) (g.D.Disk.view c.open.new.disk) (c.in-Err.ensures.store told) (c.open.ensures.unused told)
 
 pub returns-in-Err-clause-fresh : goal.returns-in-Err-clause-fresh
 returns-in-Err-clause-fresh g c = λ told.

@@ -1,6 +1,6 @@
 use Rattle.std.proofs.Common.{List, ◌∙◌, subst}
 use Rattle.lsv_session.specs.declared.reply.Reply.{Reply}
-use Rattle.lsv_keeper.specs.Causes.{AnyIsOf, MayFail, Says}
+use Rattle.lsv_keeper.specs.Causes.{AnyIsOf, MayAnswerTo, Says}
 use Rattle.lsv_keeper.specs.Views.{view_of}
 use Rattle.lsv_turn.specs.Turns.{LaneTurn}
 use Rattle.lsv_lane.specs.InnerLane.{IsMade}
@@ -30,8 +30,8 @@ returns-clause-made g c = λ start turns made.
     (made_roomier g.D.Disk.tells g.G.Tape.tells start.set start.texts (g.D.Disk.view start.disk) (g.G.Tape.turns start.tape) _ _ _ _ turns c.ready.ensures.same made) in
     made_turn g.D.Disk.tells g.G.Tape.tells start.set start.texts (g.D.Disk.view start.disk) (g.G.Tape.turns start.tape) (g.D.Disk.view c.args.self.now.bay.disk) (g.D.Disk.view c.turn.new.disk) (view_of c.ready.new.self) (view_of c.turn.new.self)
     (g.G.Tape.turns c.room.new.self) (g.G.Tape.turns c.keep.new.self) turns t c.now-now.ensures (λ told. rw c.deref-2.ensures.value at (c.keep.ensures.kept told)) c.turn.ensures.rests c.turn.ensures.set
-    (λ told m is. gives_first _ _ _ m _ _ _ _ _ (c.ready.ensures.replies ∙ c.clear.ensures.items) (c.turn.ensures.turned told m is))
-    (subst (λ (s : List Reply). Says (AnyIsOf c.args.jobs.items) (MayFail (view_of c.ready.new.self) (g.D.Disk.view c.args.self.now.bay.disk) (g.D.Disk.view c.turn.new.disk)) s c.turn.new.out.items) (c.ready.ensures.replies ∙ c.clear.ensures.items) c.turn.ensures.says) c.turn.ensures.failed c.turn.ensures.monotone base
+    (λ told m is. gives_first _ _ _ m _ _ _ _ _ (c.ready.ensures.replies ∙ c.clear.ensures.items) (c.turn.ensures.turned told m is)) c.turn.ensures.spared
+    (subst (λ (s : List Reply). Says (AnyIsOf c.args.jobs.items) (MayAnswerTo (view_of c.ready.new.self) c.args.jobs.items (g.D.Disk.view c.args.self.now.bay.disk) (g.D.Disk.view c.turn.new.disk)) s c.turn.new.out.items) (c.ready.ensures.replies ∙ c.clear.ensures.items) c.turn.ensures.says) c.turn.ensures.failed c.turn.ensures.monotone base
 
 pub returns-clause-asked : goal.returns-clause-asked
 returns-clause-asked g c = λ told start turns made.
@@ -41,6 +41,6 @@ returns-clause-asked g c = λ told start turns made.
     (made_roomier g.D.Disk.tells g.G.Tape.tells start.set start.texts (g.D.Disk.view start.disk) (g.G.Tape.turns start.tape) _ _ _ _ turns c.ready.ensures.same made) in
     let new = made_turn g.D.Disk.tells g.G.Tape.tells start.set start.texts (g.D.Disk.view start.disk) (g.G.Tape.turns start.tape) (g.D.Disk.view c.args.self.now.bay.disk) (g.D.Disk.view c.turn.new.disk) (view_of c.ready.new.self) (view_of c.turn.new.self)
     (g.G.Tape.turns c.room.new.self) (g.G.Tape.turns c.keep.new.self) turns t c.now-now.ensures (λ told. rw c.deref-2.ensures.value at (c.keep.ensures.kept told)) c.turn.ensures.rests c.turn.ensures.set
-    (λ told m is. gives_first _ _ _ m _ _ _ _ _ (c.ready.ensures.replies ∙ c.clear.ensures.items) (c.turn.ensures.turned told m is))
-    (subst (λ (s : List Reply). Says (AnyIsOf c.args.jobs.items) (MayFail (view_of c.ready.new.self) (g.D.Disk.view c.args.self.now.bay.disk) (g.D.Disk.view c.turn.new.disk)) s c.turn.new.out.items) (c.ready.ensures.replies ∙ c.clear.ensures.items) c.turn.ensures.says) c.turn.ensures.failed c.turn.ensures.monotone base in
+    (λ told m is. gives_first _ _ _ m _ _ _ _ _ (c.ready.ensures.replies ∙ c.clear.ensures.items) (c.turn.ensures.turned told m is)) c.turn.ensures.spared
+    (subst (λ (s : List Reply). Says (AnyIsOf c.args.jobs.items) (MayAnswerTo (view_of c.ready.new.self) c.args.jobs.items (g.D.Disk.view c.args.self.now.bay.disk) (g.D.Disk.view c.turn.new.disk)) s c.turn.new.out.items) (c.ready.ensures.replies ∙ c.clear.ensures.items) c.turn.ensures.says) c.turn.ensures.failed c.turn.ensures.monotone base in
     are_asked start.set start.texts (g.D.Disk.view start.disk) (g.D.Disk.view c.turn.new.disk) (view_of c.turn.new.self) _ (new.standing told)
