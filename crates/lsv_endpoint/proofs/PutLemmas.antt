@@ -2,6 +2,7 @@
 use Rattle.std.proofs.Common.{◌≡◌, ℕ, ◌<◌, zero, suc, false, Option, Some, None, List, [], ◌∷◌, ◌++◌, refl, sym, ap, subst, ◌∙◌, append_assoc, append-nil}
 use Rattle.std.specs.List.{All, Contains}
 use Rattle.lsv_defs.specs.Pieces.{IsPrefix}
+use Rattle.lsv_port.specs.Ledger.{GoesOn}
 use Rattle.lsv_port.specs.Port.{PortState}
 use Rattle.lsv_session.specs.Transcript.{AreJobs, answers, bodies_of, frames_of, said_to}
 use Rattle.lsv_session.specs.declared.connection.ConnId.{ConnId}
@@ -38,7 +39,7 @@ stands_gave set links port gave waits added replies none put h =
     (λ lane. ap (λ (l : List Job). one_lane lane l) (sym (ap (λ (w : List Job). gave ++ w) none ∙ append-nil gave)) ∙ put lane) h
 
 module _ (always : (bytes : List ℕ) → All (λ b. b < 256) bytes → (jobs : List Body) × AreJobs bytes jobs) (set : Setting) (links : List Link) (start now : PortView) (jobs : List Job) (kept rest took : List Reply) (h : Stands set links now.state (λ lane. one_lane lane jobs) kept)
-    (unopened : start.state.opened ≡ []) (is : took ≡ kept ++ rest) where
+    (unopened : start.state.opened ≡ []) (on : GoesOn start.ledger now.ledger) (is : took ≡ kept ++ rest) where
   brought : (k : ℕ) → IsMade set k → BringsSome (now.state.link (h.last k).number).input (bodies_of (conn_of set.number k) jobs)
   brought k m =
       let at = h.each k m in
@@ -72,4 +73,5 @@ module _ (always : (bytes : List ℕ) → All (λ b. b < 256) bytes → (jobs : 
     closed = closed;
     put = λ l has. put_at l (seat_of (λ k. (h.last k).number) l set.next) has;
     known = known_in set links now.state jobs kept h;
+    goes_on = on;
   }

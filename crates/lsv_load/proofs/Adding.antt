@@ -17,7 +17,7 @@ use Rattle.lsv_iolog.specs.Reading.{IsBehind, IsFaultBehind, IsSoundBehind, IsWh
 use Rattle.lsv_iolog.proofs.Scans.{reads_nothing}
 use Rattle.lsv_play.specs.declared.options.Options.{Options}
 use Rattle.lsv_play.specs.Schedule.{play}
-use Rattle.lsv_play.specs.Playing.{IsOpened, IsSoundSoFar, laid_at}
+use Rattle.lsv_play.specs.Playing.{AreBeforeFault, IsOpened, IsSoundSoFar, laid_at}
 use Rattle.lsv_play.proofs.Played.{begins_same}
 use Rattle.lsv_play.proofs.Undamaged.{stored_undamaged}
 use Rattle.lsv_record.specs.declared.laid.Laid.{Laid}
@@ -25,6 +25,7 @@ use Rattle.lsv_record.specs.declared.records.Record.{Record}
 use Rattle.lsv_record.specs.Layout.{IsLayout}
 use Rattle.lsv_record.specs.Points.{Stored}
 use Rattle.lsv_record.specs.Records.{elapsed}
+use Rattle.lsv_load.specs.Faults.{IsFitting}
 use Rattle.lsv_load.specs.InnerSums.{AddsAll, IsAdding, IsUnread}
 
 -- a disk that was only read reads as before
@@ -111,37 +112,36 @@ module _ (tells : Type 0) (start log : ViewState) (old now : DiskView) (before s
   laid_is : committed_laid log.number log.body now ≡ laid_at start.number start.body old.reads
   laid_is = laid_same start log old now is.number is.body (same_image old now (is.reads told))
 
-  -- there is no log where a part is at fault after the records so far
-  no_log : (part : Part) → IsOpened start.number start.body start.head old.reads → IsFaultBehind (committed_laid log.number log.body now) log.body so_far.0 part → IsUnread old.reads start.number (logs.Damaged part)
-  no_log part opened fault stored holds =
-      stored_undamaged (Unit {0}) any_way start.number old.reads (play any_way so_far.0) stored part holds (inr (record {
-        body = start.body;
-        head = start.head;
-        opened = opened;
-        records = (
-          so_far.0,
-          record {
-            begins = begins_same start log old now so_far.0 is.number is.body (is.reads told) so_far.1;
-            sound = so_far.3;
-            fault = subst (λ (b : Body). IsFaultBehind (laid_at start.number start.body old.reads) b so_far.0 part) is.body
-                (subst (λ (l : Laid). IsFaultBehind l log.body so_far.0 part) laid_is fault);
-          },
-          refl,
-        );
-      }))
+  -- where a part is at fault after the records so far, they are those before the first fault
+  before_fault : (part : Part) → IsFaultBehind (committed_laid log.number log.body now) log.body so_far.0 part → AreBeforeFault (laid_at start.number start.body old.reads) start.body part so_far.0
+  before_fault part fault = record {
+    begins = begins_same start log old now so_far.0 is.number is.body (is.reads told) so_far.1;
+    sound = so_far.3;
+    fault = subst (λ (b : Body). IsFaultBehind (laid_at start.number start.body old.reads) b so_far.0 part) is.body
+        (subst (λ (l : Laid). IsFaultBehind l log.body so_far.0 part) laid_is fault);
+  }
+
+  -- and there is no log
+  no_log : (part : Part) → IsFitting start.body → IsOpened start.number start.body start.head old.reads → IsFaultBehind (committed_laid log.number log.body now) log.body so_far.0 part → IsUnread old.reads start.number (logs.Damaged part)
+  no_log part fits opened fault = record {
+    none = λ stored holds.
+        stored_undamaged (Unit {0}) any_way start.number old.reads (play any_way so_far.0) stored part holds
+        (inr (record { body = start.body; head = start.head; opened = opened; records = (so_far.0, before_fault part fault, refl) }));
+    fault = inr (inr (record { body = start.body; head = start.head; opened = opened; fault = inr (fits, (so_far.0, before_fault part fault)) }));
+  }
 
   -- the log gives no further record for this fault
   pub next_fails : (e : LogFault) → IsNextFault e → ((part : Part) → e ≡ logs.Damaged part → (rs : List Record) → IsBehind log rs now → IsFaultBehind (committed_laid log.number log.body now) log.body rs part)
-      → IsOpened start.number start.body start.head old.reads → IsUnread old.reads start.number e
-  next_fails logs.Absent is_fault fault opened = absurd is_fault
-  next_fails (logs.Damaged part) is_fault fault opened = no_log part opened (fault part refl so_far.0 so_far.1)
-  next_fails logs.Disk is_fault fault opened = tt
-  next_fails logs.NoMem is_fault fault opened = tt
-  next_fails logs.Complete is_fault fault opened = absurd is_fault
-  next_fails (logs.NoPoint point) is_fault fault opened = absurd is_fault
-  next_fails logs.Broken is_fault fault opened = absurd is_fault
-  next_fails (logs.Full part) is_fault fault opened = absurd is_fault
-  next_fails (logs.TooLong point) is_fault fault opened = absurd is_fault
+      → IsFitting start.body → IsOpened start.number start.body start.head old.reads → IsUnread old.reads start.number e
+  next_fails logs.Absent is_fault fault fits opened = absurd is_fault
+  next_fails (logs.Damaged part) is_fault fault fits opened = no_log part fits opened (fault part refl so_far.0 so_far.1)
+  next_fails logs.Disk is_fault fault fits opened = tt
+  next_fails logs.NoMem is_fault fault fits opened = tt
+  next_fails logs.Complete is_fault fault fits opened = absurd is_fault
+  next_fails (logs.NoPoint point) is_fault fault fits opened = absurd is_fault
+  next_fails logs.Broken is_fault fault fits opened = absurd is_fault
+  next_fails (logs.Full part) is_fault fault fits opened = absurd is_fault
+  next_fails (logs.TooLong point) is_fault fault fits opened = absurd is_fault
 
   -- the log has no further record
   pub next_ends : ((rs : List Record) → IsBehind log rs now → IsWhole log rs now) → AddsAll start.number start.body old.reads before sums

@@ -22,7 +22,7 @@ use Rattle.lsv_play.proofs.Stored.{same_body}
 use Rattle.lsv_record.specs.declared.records.Record.{Record}
 use Rattle.lsv_record.specs.Points.{Stored}
 use Rattle.lsv_record.proofs.Layouts.{layout_is_texts}
-use Rattle.lsv_load.specs.InnerSums.{IsFitting}
+use Rattle.lsv_load.specs.Faults.{IsFitting}
 
 -- ---- The exit
 

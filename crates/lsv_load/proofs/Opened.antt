@@ -1,11 +1,13 @@
 -- A log that is opened to be read, and one that isn't.
-use Rattle.std.proofs.Common.{◌≡◌, ◌∙◌, ℕ, [], None, Some, Ok, refl, sym, ap, subst}
+use Rattle.std.proofs.Common.{◌≡◌, ◌∙◌, inl, inr, ℕ, [], None, Some, Ok, refl, sym, ap, subst, arith}
 use Rattle.lsv_disk.specs.declared.file.Part.{Part}
 use Rattle.lsv_disk.specs.declared.file.Part.TheVariants.{Head as HeadPart}
 use Rattle.lsv_disk.specs.Throughout.{OnlyReads}
 use Rattle.lsv_disk.specs.View.{DiskView, Image}
 use Rattle.lsv_bundle.specs.Committed.{HasEntry}
+use Rattle.lsv_bundle.specs.declared.body.Body.{Body}
 use Rattle.lsv_info.specs.Reading.{head_of}
+use Rattle.lsv_info.specs.declared.times.Head.{Head}
 use Rattle.lsv_iolog.specs.declared.fault.LogFault.{LogFault}
 use Rattle.lsv_iolog.specs.declared.fault.LogFault.TheVariants as logs
 use Rattle.lsv_iolog.specs.Damage.{IsViewDamage}
@@ -16,8 +18,8 @@ use Rattle.lsv_iolog.proofs.Replaying.{one_replay}
 use Rattle.lsv_play.specs.Playing.{IsOpened}
 use Rattle.lsv_play.proofs.Undamaged.{no_view_damage}
 use Rattle.lsv_record.specs.Points.{Stored}
-use Rattle.lsv_load.specs.InnerSums.{IsDamage, IsUnread}
-use Rattle.lsv_load.specs.Replayed.{HasNoLog}
+use Rattle.lsv_load.specs.Faults.{IsFitting, IsMisfit}
+use Rattle.lsv_load.specs.InnerSums.{IsMisfitFault, IsUnread}
 use Rattle.lsv_load.proofs.Adding.{same_image}
 
 -- a log that is opened is one of its head
@@ -33,8 +35,8 @@ none_some log e = cc
 
 -- what is so of a log that isn't opened for this fault
 pub open_fails : (n : ℕ) (image : Image) (e : LogFault) → IsOpenFault e → (e ≡ logs.Absent → Replays image n None) → ((part : Part) → e ≡ logs.Damaged part → IsViewDamage n part image) → IsUnread image n e
-open_fails n image logs.Absent is absent damaged = λ log holds. none_some log (one_replay image n None (Some log) (absent refl) holds)
-open_fails n image (logs.Damaged part) is absent damaged = λ log holds. no_view_damage n image log holds part (damaged part refl)
+open_fails n image logs.Absent is absent damaged = record { none = λ log holds. none_some log (one_replay image n None (Some log) (absent refl) holds); fault = inl (refl, absent refl) }
+open_fails n image (logs.Damaged part) is absent damaged = record { none = λ log holds. no_view_damage n image log holds part (damaged part refl); fault = inr (inl (damaged part refl)) }
 open_fails n image logs.Disk is absent damaged = tt
 open_fails n image logs.NoMem is absent damaged = tt
 open_fails n image logs.Complete is absent damaged = absurd is
@@ -43,17 +45,23 @@ open_fails n image logs.Broken is absent damaged = absurd is
 open_fails n image (logs.Full part) is absent damaged = absurd is
 open_fails n image (logs.TooLong point) is absent damaged = absurd is
 
--- and of one of which a part is damaged
-pub damage_unread : (n : ℕ) (image : Image) (e : LogFault) → IsDamage e → HasNoLog image n → IsUnread image n e
-damage_unread n image logs.Absent is none = absurd is
-damage_unread n image (logs.Damaged part) is none = none
-damage_unread n image logs.Disk is none = absurd is
-damage_unread n image logs.NoMem is none = absurd is
-damage_unread n image logs.Complete is none = absurd is
-damage_unread n image (logs.NoPoint point) is none = absurd is
-damage_unread n image logs.Broken is none = absurd is
-damage_unread n image (logs.Full part) is none = absurd is
-damage_unread n image (logs.TooLong point) is none = absurd is
+-- an entry that a log has doesn't misfit
+misfit_not : (body : Body) (part : Part) → IsMisfit body part → IsFitting body → ⊥
+misfit_not body part (inl (is, inl (three, none))) fits = let some = fits.some three in omega (arith, some, none)
+misfit_not body part (inl (is, inr (other, some))) fits = let none = fits.none other in omega (arith, some, none)
+misfit_not body part (inr (is, right, more)) fits = let small = fits.small in omega (arith, more, small)
+
+-- and of one that is opened, whose last entry isn't one that a log has
+pub misfit_unread : (n : ℕ) (body : Body) (head : Head) (image : Image) (e : LogFault) → IsOpened n body head image → ((log : Stored) → Replays image n (Some log) → IsFitting body) → IsMisfitFault body e → IsUnread image n e
+misfit_unread n body head image logs.Absent opened fits is = absurd is
+misfit_unread n body head image (logs.Damaged part) opened fits is = record { none = λ log holds. misfit_not body part is (fits log holds); fault = inr (inr (record { body = body; head = head; opened = opened; fault = inl is })) }
+misfit_unread n body head image logs.Disk opened fits is = absurd is
+misfit_unread n body head image logs.NoMem opened fits is = absurd is
+misfit_unread n body head image logs.Complete opened fits is = absurd is
+misfit_unread n body head image (logs.NoPoint point) opened fits is = absurd is
+misfit_unread n body head image logs.Broken opened fits is = absurd is
+misfit_unread n body head image (logs.Full part) opened fits is = absurd is
+misfit_unread n body head image (logs.TooLong point) opened fits is = absurd is
 
 -- it is the same log on a disk that was only read
 pub unread_before : (n k : ℕ) (old new : DiskView) (e : LogFault) → k ≡ n → OnlyReads old new → IsUnread new.reads k e → IsUnread old.reads n e

@@ -87,7 +87,7 @@ first_there (x ∷ xs) d e = refl
 
 -- what holds where the store was opened, holds for less
 pub keeps_less : (up less : Type 0) (set : Settings) (texts : List (List ℕ)) (o : Outside) (turns : List LaneTurn) → (less → up) → KeepsStore up set texts o turns → KeepsStore less set texts o turns
-keeps_less up less set texts o turns f k = record { story = k.story; are = k.are; conforms = λ x. k.conforms (f x); recovers = k.recovers }
+keeps_less up less set texts o turns f k = record { story = k.story; are = k.are; conforms = λ x. k.conforms (f x); recovers = k.recovers; spared = k.spared }
 
 -- what follows of an answer, where there is one
 pub ok_all : {A E : Type 0} (r : Result A E) (P Q : A → Type 0) → IfOk r P → ((a : A) → P a → Q a) → IfOk r Q
@@ -131,7 +131,7 @@ runs_unopened tells taping view set texts count found left tape tape' fault end 
     some = no_turns fault;
     sized = tt;
     timed = tt;
-    answered = tt;
+    answered = λ some. absurd (some refl);
     entry = λ other by told some. entry told some;
     taped = λ told. same ∙ sym (append-nil tape);
     keeps = λ told. keeps_less ⊥ (IsUp (unopened fault) []) set texts (record { found = view found; left = view left }) [] (not_up fault) (keeps told);

@@ -3,6 +3,7 @@ use Rattle.std.proofs.Common.{◌≡◌, ◌++◌, ◌≤◌, ℕ, List, [], ◌
 use Rattle.std.specs.List.{Contains}
 use Rattle.lsv_defs.specs.Causes.{HasRisen}
 use Rattle.lsv_disk.specs.declared.file.FileId.{FileId}
+use Rattle.lsv_disk.specs.declared.file.Part.TheVariants.{Slots}
 use Rattle.lsv_disk.specs.Throughout.{OnlyReads}
 use Rattle.lsv_disk.specs.View.{DiskView, Image}
 use Rattle.lsv_disk.proofs.Composition.{OnlyNow, reads_trans}
@@ -14,9 +15,9 @@ use Rattle.lsv_iolog.specs.Faults.{IsOpenFault}
 use Rattle.lsv_iolog.specs.Recovered.{IsOfLog, Replays}
 use Rattle.lsv_iolog.proofs.Scans.{reads_nothing}
 use Rattle.lsv_record.specs.Points.{Stored}
-use Rattle.lsv_load.specs.Faults.{HasReplayCause, fault_of}
+use Rattle.lsv_load.specs.Faults.{HasReplayCause, IsUnreadable, fault_of}
 use Rattle.lsv_load.specs.InnerSums.{IsSumming, IsUnread}
-use Rattle.lsv_load.specs.Replayed.{AreReplayed, HasNoLog}
+use Rattle.lsv_load.specs.Replayed.{AreReplayed}
 use Rattle.lsv_load.proofs.Adding.{same_image}
 
 -- with one log more
@@ -54,9 +55,9 @@ ok_holds (Err e) P none is = absurd (none e refl)
 pub replay_fails : (tells : Type 0) (numbers : List ℕ) (n : ℕ) (old now later : DiskView) (e : LogFault) → Contains numbers n → IsOpenFault e → ((f : FileId) → old.faults f ≤ now.faults f) → (tells → OnlyReads now later) → (tells → IsUnread now.reads n e)
     → (e ≡ logs.Disk → (f : FileId) × IsOfLog n f × HasRisen (now.faults f) (later.faults f)) → HasReplayCause tells numbers old later (fault_of n e)
 replay_fails tells numbers n old now later logs.Absent one_of is mono reads unread risen =
-    (n, one_of, refl, λ told. subst (λ (image : Image). HasNoLog image n) (sym (same_image now later (reads told))) (unread told))
+    (n, one_of, refl, λ told. subst (λ (image : Image). IsUnreadable n Slots image) (sym (same_image now later (reads told))) (unread told))
 replay_fails tells numbers n old now later (logs.Damaged part) one_of is mono reads unread risen =
-    (n, one_of, refl, λ told. subst (λ (image : Image). HasNoLog image n) (sym (same_image now later (reads told))) (unread told))
+    (n, one_of, refl, λ told. subst (λ (image : Image). IsUnreadable n part image) (sym (same_image now later (reads told))) (unread told))
 replay_fails tells numbers n old now later logs.Disk one_of is mono reads unread risen =
     let one = risen refl in (n, one_of, refl, (one.0, one.1, λ small. let m = mono one.0 in let r = one.2 small in omega (arith, m, r)))
 replay_fails tells numbers n old now later logs.NoMem one_of is mono reads unread risen = tt

@@ -1,11 +1,10 @@
 -- For proofs of the sums of a load: one log of it, and what was summed up so far.
-use Rattle.std.specs.Prelude.{◌≡◌, ◌≢◌, ◌<◌, ◌≤◌, ◌^◌, ℕ, List, []}
+use Rattle.std.specs.Prelude.{◌≡◌, ◌≤◌, ℕ, List, []}
 use Rattle.lsv_bundle.specs.declared.body.Body.{Body}
-use Rattle.lsv_bundle.specs.Body.{length_of}
 use Rattle.lsv_disk.specs.Throughout.{OnlyReads}
 use Rattle.lsv_disk.specs.View.{DiskView, Image}
 use Rattle.lsv_disk.specs.declared.file.FileId.{FileId}
-use Rattle.lsv_disk.specs.declared.file.Part.TheVariants.{Exit, Timing}
+use Rattle.lsv_disk.specs.declared.file.Part.TheVariants.{Slots}
 use Rattle.lsv_gen.specs.Summary.{totals_of, totals_with}
 use Rattle.lsv_gen.specs.declared.totals.Totals.{Totals}
 use Rattle.lsv_iolog.specs.Reading.{IsBehind, ViewState}
@@ -14,30 +13,25 @@ use Rattle.lsv_iolog.specs.declared.fault.LogFault.TheVariants as logs
 use Rattle.lsv_play.specs.Playing.{AreAll, IsSoundSoFar, laid_at}
 use Rattle.lsv_record.specs.Points.{Stored}
 use Rattle.lsv_record.specs.declared.records.Record.{Record}
-use Rattle.lsv_load.specs.Replayed.{AreReplayed, HasNoLog}
+use Rattle.lsv_load.specs.Faults.{IsMisfit, IsUnreadable}
+use Rattle.lsv_load.specs.Replayed.{AreReplayed}
 
--- an entry of a log tells of the bytes of an exit exactly where the log is complete, and of no more timing than a log has
-pub record IsFitting (body : Body) : Type 0 where
-  pub some : body.kind ≡ 3 → 0 < length_of body Exit
-  pub none : body.kind ≢ 3 → length_of body Exit ≡ 0
-  pub small : length_of body Timing ≤ 2 ^ 40
-
--- a part is damaged
-abbrev pub IsDamage : LogFault → Type 0
-IsDamage (logs.Damaged part) = Unit {0}
-IsDamage logs.Absent = ⊥
-IsDamage logs.Disk = ⊥
-IsDamage logs.NoMem = ⊥
-IsDamage logs.Complete = ⊥
-IsDamage (logs.NoPoint point) = ⊥
-IsDamage logs.Broken = ⊥
-IsDamage (logs.Full part) = ⊥
-IsDamage (logs.TooLong point) = ⊥
+-- an entry isn't one that a log has, by this part
+abbrev pub IsMisfitFault : Body → LogFault → Type 0
+IsMisfitFault body (logs.Damaged part) = IsMisfit body part
+IsMisfitFault body logs.Absent = ⊥
+IsMisfitFault body logs.Disk = ⊥
+IsMisfitFault body logs.NoMem = ⊥
+IsMisfitFault body logs.Complete = ⊥
+IsMisfitFault body (logs.NoPoint point) = ⊥
+IsMisfitFault body logs.Broken = ⊥
+IsMisfitFault body (logs.Full part) = ⊥
+IsMisfitFault body (logs.TooLong point) = ⊥
 
 -- what is so of a log that isn't replayed for this fault
 abbrev pub IsUnread : Image → ℕ → LogFault → Type 0
-IsUnread image n logs.Absent = HasNoLog image n
-IsUnread image n (logs.Damaged part) = HasNoLog image n
+IsUnread image n logs.Absent = IsUnreadable n Slots image
+IsUnread image n (logs.Damaged part) = IsUnreadable n part image
 IsUnread image n logs.Disk = Unit {0}
 IsUnread image n logs.NoMem = Unit {0}
 IsUnread image n logs.Complete = ⊥

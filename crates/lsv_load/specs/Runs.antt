@@ -31,13 +31,16 @@ use Rattle.lsv_load.specs.declared.run.LoadEnd.TheVariants.{NoMem, Served, Store
 abbrev pub view_of : PortValue → PortView
 view_of port = record { state = port_state port; ledger = port_ledger port }
 
--- a port to which nothing has come yet, which hasn't failed and wasn't asked to listen, of a load of this many conversations
+-- the port of a load of this many conversations, to which nothing has come yet: it made no turn, didn't fail, and wasn't asked to listen
 pub record IsNew (count : ℕ) (port : PortValue) : Type 0 where
   pub script : port.script ≡ load_script count
   pub opened : (port_state port).opened ≡ []
   pub going : (port_state port).stopped ≡ false
   pub well : (port_state port).failed ≡ false
-  pub deaf : (port_ledger port).listens ≡ []
+  pub unasked : (port_ledger port).listens ≡ []
+  pub unturned : (port_ledger port).turned ≡ false
+  pub hears : (port_ledger port).deaf ≡ 0
+  pub sound : (port_ledger port).turns ≡ 0
   pub unrefused : port.refused ≡ 0
 
 -- all links of a port were served by these turns, by worker 0, whose jobs all are, and it told Stop

@@ -9,7 +9,8 @@ ghost use Rattle.lsv_iolog.specs.Reading.{IsBehind};
 ghost use Rattle.lsv_iolog.specs.Recovered.{IsOfLog, Replays};
 ghost use Rattle.lsv_play.specs.Playing.{IsOpened};
 ghost use Rattle.lsv_record.specs.Points.{Stored};
-ghost use Rattle.lsv_load.specs.InnerSums.{AddsAll, IsDamage, IsFitting, IsUnread};
+ghost use Rattle.lsv_load.specs.Faults.{IsFitting};
+ghost use Rattle.lsv_load.specs.InnerSums.{AddsAll, IsMisfitFault, IsUnread};
 
 use lsv_base::LogNo;
 use lsv_bundle::Body;
@@ -27,7 +28,7 @@ const MOST_TIMING: u64 = 1 << 40;
 /// The entry tells of the bytes of an exit exactly where the log is complete, and of no more timing than a log has.
 fn check_entry(body: &Body) -> Result<(), LogFault>
     ensures ok { OnOk result (IsFitting body.now) }
-    ensures fault { IfErr result (λ e. IsDamage e × (IsFitting body.now → ⊥)) }
+    ensures fault { IfErr result (IsMisfitFault body.now) }
 {
     let [_, exit, timing, _, _, _, _, _] = body.lens;
     if (body.kind == COMPLETE) != (exit > 0) {
@@ -47,7 +48,7 @@ fn add_records<D: Disk>(
 ) -> Result<(), LogFault>
     ensures added { D.tells → IsBehind log.old [] (D.view disk.old) → OnOk result (AddsAll log.old.number log.old.body (D.view disk.old).reads totals.old totals.new) }
     ensures body { log.new.body ≡ log.old.body }
-    ensures unread { D.tells → IsBehind log.old [] (D.view disk.old) → IsOpened log.old.number log.old.body log.old.head (D.view disk.old).reads → IfErr result (IsUnread (D.view disk.old).reads log.old.number) }
+    ensures unread { D.tells → IsFitting log.old.body → IsBehind log.old [] (D.view disk.old) → IsOpened log.old.number log.old.body log.old.head (D.view disk.old).reads → IfErr result (IsUnread (D.view disk.old).reads log.old.number) }
     ensures fault { IfErr result IsNextFault }
     ensures reads { D.tells → OnlyReads (D.view disk.old) (D.view disk.new) }
     ensures cause { HasOwnCause (IsOfLog log.old.number) (IsErrOf result LogFault.Disk) (D.view disk.old) (D.view disk.new) }

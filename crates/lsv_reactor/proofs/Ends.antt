@@ -215,6 +215,7 @@ puts_own w all took old new p = record {
   closed = p.closed;
   put = λ l is. put_own w l (p.seats.seat l) all took new.state (p.put l is);
   known = λ m job has e. p.known m job (contains_own_lane w m all job has e) e;
+  goes_on = p.goes_on;
 }
 
 front_none : (xs ys : List Body) → xs ++ ys ≡ [] → xs ≡ []
@@ -257,4 +258,5 @@ puts_turns w turns waiting old new p = record {
   closed = p.closed;
   put = λ l is. put_in w l (p.seats.seat l) turns waiting new.state (p.put l is);
   known = λ m job has e. p.known m job (contains_turned m turns waiting job has) e;
+  goes_on = p.goes_on;
 }

@@ -1,8 +1,9 @@
 -- A run of `load`.
-use Rattle.std.proofs.Common.{◌≡◌, inl, inr, [], List, ℕ, Option, None, refl, sym, subst, arith}
+use Rattle.std.proofs.Common.{◌≡◌, inl, inr, [], List, ℕ, Bool, Option, None, refl, sym, subst, arith}
 use Rattle.lsv_conf.specs.Lines.{first_refused}
 use Rattle.lsv_disk.specs.Throughout.{OnlyReads}
-use Rattle.lsv_disk.specs.View.{DiskView, Image, IsCrashImage}
+use Rattle.lsv_disk.specs.View.{DiskView, Image, IsCrashImage, IsLeftAlone}
+use Rattle.lsv_event.specs.declared.event.Kind.{Kind}
 use Rattle.lsv_iolog.proofs.Scans.{reads_nothing}
 use Rattle.lsv_machine.specs.Disks.{NumbersFit}
 use Rattle.lsv_machine.specs.Durable.{Reading}
@@ -19,9 +20,9 @@ use Rattle.lsv_load.specs.declared.run.LoadEnd.{LoadEnd}
 use Rattle.lsv_load.specs.declared.run.LoadEnd.TheVariants as ends
 use Rattle.lsv_serve.specs.declared.status.Status.{Status}
 use Rattle.lsv_serve.specs.declared.status.Status.TheVariants.{NoUpstream, Pending, Served, Usage, Conf, Store, ReadFault, WriteFault, PortFault, NoMem}
-use Rattle.lsv_serve.specs.Causes.{HasPlaces, HasPlacesAt}
-use Rattle.lsv_serve.specs.InnerServe.{LoadsBy, TellsLoad}
-use Rattle.lsv_serve.specs.Load.{CompletesLoad, HasLoadCause, LoadsAs, LoadsTo, OfSummary, while_up}
+use Rattle.lsv_serve.specs.Causes.{HasPlaces, HasPlacesAt, MayServeAgain}
+use Rattle.lsv_serve.specs.Load.{CompletesLoad, HasLoadCause, LoadsAs, LoadsBy, LoadsTo, OfSummary, TellsLoad, while_up}
+use Rattle.lsv_serve.specs.Once.{once_settings}
 use Rattle.lsv_serve.specs.Program.{lines_in, machine_of, prompts_of, set_by}
 use Rattle.lsv_serve.specs.World.{World}
 use Rattle.lsv_serve.proofs.ProgramLemmas.{Unread}
@@ -42,11 +43,11 @@ fit_read r lane lanes old new o is_now fit = record {
 
 -- ---- By its status
 
-complete_load : {D : Type 0} (tells taping : Type 0) (view : D → DiskView) (set : Settings) (texts : List (List ℕ)) (count : ℕ) (found left : D) (tape new_tape : List TapeTurn) → CompletesLoad tells taping view set texts count found left tape new_tape
+pub complete_load : {D : Type 0} (tells taping : Type 0) (view : D → DiskView) (set : Settings) (texts : List (List ℕ)) (count : ℕ) (found left : D) (tape new_tape : List TapeTurn) → CompletesLoad tells taping view set texts count found left tape new_tape
 complete_load tells taping view set texts count found left tape new_tape text run told up =
     completes tells told set texts (view found) (view run.served) run.turns (while_up up (run.store.keeps told)) 0 (view_of run.ends.load.old) (view_of run.ends.load.new) run.ends.load.served.served
 
-of_summary : (so : Type 0) (status : Status) → so → OfSummary status so
+pub of_summary : (so : Type 0) (status : Status) → so → OfSummary status so
 of_summary so Served x = x
 of_summary so WriteFault x = x
 of_summary so (Store fault) x = tt
@@ -78,26 +79,30 @@ module _ {D : Type 0} (taping : Type 0) (view : D → DiskView) (count : ℕ) (o
   places_to logs events status (ends.Store fault) (e, put) p = subst (HasPlacesAt logs events (view found) (view left)) (sym e) p
   places_to logs events status ends.NoMem (e, put) p = subst (HasPlacesAt logs events (view found) (view left)) (sym e) (inl p)
 
+-- the next run may begin with the disk
+pub loads_again : {D : Type 0} (taping : Type 0) (view : D → DiskView) (kind : Kind) (log_exit : Bool) (texts : List (List ℕ)) (count : ℕ) (tells : Type 0) (found placed left : D) (tape new_tape : List TapeTurn) (end : LoadEnd) → tells
+    → ((d : D) → (image : Image) → IsCrashImage (view d) image → (view d).crash_images_at (view d).moment image) → IsFresh 0 1 (view left) → IsLeftAlone tells (view found) (view placed)
+    → RunsLoad tells taping view (once_settings kind log_exit) texts count placed left tape new_tape end → MayServeAgain (view found) (view left)
+loads_again taping view kind log_exit texts count tells found placed left tape new_tape end told is_now fresh alone run = record {
+  fresh = λ was. fresh;
+  fits = λ fit.
+      fit_read (reading_of 0 1) 0 1 (view run.served) (view left) (run.read told) (is_now left)
+      (fit_kept (IsUp run.up run.turns) (once_settings kind log_exit) texts (view placed) (view run.served) run.turns (run.store.keeps told) (is_now run.served) (fits_after (view found) (view placed) (alone.untouched told) (reading_of 0 1) 0 1 fit));
+}
+
 -- a run whose settings were read
-pub loads_read : {D : Type 0} (taping : Type 0) (view : D → DiskView) (count : ℕ) (old new : World) (found left : D) (tape new_tape : List TapeTurn) (set : Option (List ℕ)) (faults faults' : ℕ) (status : Status)
-    → ((d : D) → old.disk_tells → (image : Image) → IsCrashImage (view d) image → (view d).crash_images_at (view d).moment image) → first_refused (lines_in set) ≡ None
-    → LoadsBy taping view (machine_of (set_by set)) (prompts_of (set_by set)) count old new found left tape new_tape status → (old.disk_tells → HasPlaces (set_by set).iolog_dir (set_by set).path (view left)) → (old.disk_tells → IsFresh 0 1 (view left))
-    → ((placed : D) → SumsUpAll old.disk_tells taping view (machine_of (set_by set)) (prompts_of (set_by set)) count placed left tape new_tape) → LoadsAs taping view set faults faults' count old new found left tape new_tape status
-loads_read taping view count old new found left tape new_tape set faults faults' status is_now none b places fresh whole = record {
+pub loads_read : {D : Type 0} (taping : Type 0) (view : D → DiskView) (count : ℕ) (old new : World) (found left : D) (tape new_tape : List TapeTurn) (set : Option (List ℕ)) (faults faults' : ℕ) (status : Status) → first_refused (lines_in set) ≡ None
+    → LoadsBy taping view (machine_of (set_by set)) (prompts_of (set_by set)) count old new found left tape new_tape status → (old.disk_tells → HasPlaces (set_by set).iolog_dir (set_by set).path (view left)) → (old.disk_tells → MayServeAgain (view found) (view left))
+    → LoadsAs taping view set faults faults' count old new found left tape new_tape status
+loads_read taping view count old new found left tape new_tape set faults faults' status none b places again = record {
   placed = b.placed;
   alone = b.alone;
   runs = runs_to taping view count old new b.placed left tape new_tape (machine_of (set_by set)) (prompts_of (set_by set)) status b.end b.run b.told;
   cause = cause_to taping view count old new b.placed left tape new_tape set faults faults' status b.end none b.told;
-  complete = complete_load old.disk_tells taping view (machine_of (set_by set)) (prompts_of (set_by set)) count b.placed left tape new_tape;
-  whole = of_summary _ status (whole b.placed);
+  complete = b.complete;
+  whole = b.whole;
   places = λ told. places_to taping view count old new found left tape new_tape (set_by set).iolog_dir (set_by set).path status b.end b.told (places told);
-  again = λ told. record {
-    fresh = λ was. fresh told;
-    fits = λ fit.
-        fit_read (reading_of 0 1) 0 1 (view b.run.served) (view left) (b.run.read told) (is_now left told)
-        (fit_kept (IsUp b.run.up b.run.turns) (machine_of (set_by set)) (prompts_of (set_by set)) (view b.placed) (view b.run.served) b.run.turns (b.run.store.keeps told) (is_now b.run.served told)
-        (fits_after (view found) (view b.placed) (b.alone.untouched told) (reading_of 0 1) 0 1 fit));
-  };
+  again = again;
 }
 
 -- a run whose settings weren't read

@@ -5,7 +5,6 @@ use Rattle.lsv_disk.specs.View.{Image, IsCrashImage}
 use Rattle.lsv_session.specs.Transcript.{said_to}
 use Rattle.lsv_machine.specs.Machine.{Settings}
 use Rattle.lsv_machine.specs.Recovery.{Outside}
-use Rattle.lsv_keeper.specs.Causes.{StoreRose}
 use Rattle.lsv_turn.specs.Turns.{LaneTurn, all_taped}
 use Rattle.lsv_lane.specs.Store.{AreAnswered, KeepsStore}
 use Rattle.lsv_service.proofs.RunLemmas.{keeps_less}
@@ -52,14 +51,14 @@ silent_leaving set texts o tape (inr (t, is, gone)) k =
 
 -- a connection was served by a lane, which kept the turns on its tape and in its store
 pub runs_served : (set : Settings) (texts : List (List ℕ)) (Made : List LaneTurn → Type 0) (old new : World) (status : Status) (s : Serves Made old.wires new.wires status)
-    → (old.tape_tells → new.tape ≡ old.tape ++ all_taped (map turn_of (turns_in s.tape))) → AreAnswered (StoreRose old.disk new.disk) (map turn_of (turns_in s.tape))
+    → (old.tape_tells → new.tape ≡ old.tape ++ all_taped (map turn_of (turns_in s.tape))) → AreAnswered set.log_exit old.disk.faults new.disk.faults (map turn_of (turns_in s.tape))
     → (old.disk_tells → new.disk.places ≡ old.disk.places) → (old.disk_tells → KeepsStore (Unit {0}) set texts (record { found = old.disk; left = new.disk }) (map turn_of (turns_in s.tape))) → RunsOnce set texts old new status
 runs_served set texts Made old new status s taped answered places keeps = record {
   tape = s.tape;
   reads = s.reads;
   puts = s.puts;
   taped = taped;
-  answered = answered;
+  answered = λ some. answered;
   entry = λ fault e told some. absurd (subst (HasReadsCause old.wires new.wires) e s.cause);
   keeps = λ told.
       let k = keeps_placed (Unit {0}) set texts old.disk new.disk (map turn_of (turns_in s.tape)) (places told) (keeps told) in

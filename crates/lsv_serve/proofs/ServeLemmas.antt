@@ -1,14 +1,14 @@
 -- A run of `serve`: its ports as posts, its links, its end, and a run that did nothing.
-use Rattle.std.proofs.Common.{◌≡◌, ◌<◌, inl, inr, [], List, ℕ, zero, suc, Option, Some, None, map, length, true, refl, sym, ap, subst, ◌∙◌, append-nil, arith}
+use Rattle.std.proofs.Common.{◌≡◌, ◌<◌, inl, inr, [], List, ℕ, Bool, zero, suc, Option, Some, None, map, length, true, refl, sym, ap, subst, ◌∙◌, append-nil, arith}
 use Rattle.std.specs.List.{Contains}
 use Rattle.std.specs.Prelude.{option_map, slice_get}
 use Rattle.std.proofs.lemmas.List.{length-map}
 use Rattle.std.proofs.lemmas.Option.{get_or_from_slice_get, slice_get-get_or, slice_get-map, slice_get_within}
 use Rattle.lsv_conf.specs.Lines.{Placed, first_refused}
+use Rattle.lsv_event.specs.declared.event.Kind.{Kind}
 use Rattle.lsv_disk.specs.View.{DiskView, Image, IsCrashImage, IsLeftAlone}
 use Rattle.lsv_machine.specs.Machine.{Settings}
 use Rattle.lsv_turn.specs.Turns.{LaneTurn, TapeTurn, jobs_in, replies_in}
-use Rattle.lsv_keeper.specs.Causes.{StoreRose}
 use Rattle.lsv_keeper.specs.declared.fault.StoreFault.{StoreFault}
 use Rattle.lsv_lane.specs.Store.{IsFresh, KeepsStore}
 use Rattle.lsv_session.specs.declared.job.Job.{Job}
@@ -26,14 +26,15 @@ use Rattle.lsv_service.specs.Runs as posts_leave
 use Rattle.lsv_service.specs.declared.run.End.{End}
 use Rattle.lsv_service.specs.declared.run.End.TheVariants as ends
 use Rattle.lsv_serve.specs.declared.status.Status.{Status}
-use Rattle.lsv_serve.specs.Causes.{HasPlaces, HasPlacesAt}
-use Rattle.lsv_serve.specs.InnerServe.{RunsAs, nothing, port_at, told}
+use Rattle.lsv_serve.specs.Causes.{HasPlaces, HasPlacesAt, MayServeAgain}
+use Rattle.lsv_serve.specs.InnerServe.{nothing, port_at}
+use Rattle.lsv_serve.specs.Once.{once_settings}
 use Rattle.lsv_serve.specs.Program.{lines_in, listening_by, machine_of, prompts_of, set_by}
 use Rattle.lsv_service.proofs.CompleteLemmas.{completes}
-use Rattle.lsv_serve.specs.Serve.{ArePortsEnded, CompletesLinks, HasServeCause, EndsPorts, RunsServe, RunsTo, ServerWorld, ServesAs}
+use Rattle.lsv_serve.specs.Serve.{ArePortsEnded, CompletesLinks, HasServeCause, EndsPorts, RunsAs, RunsServe, RunsTo, ServerWorld, ServesAs, told}
 use Rattle.lsv_serve.specs.World.{placed}
 use Rattle.lsv_serve.proofs.ProgramLemmas.{Unread}
-use Rattle.lsv_serve.proofs.StartLemmas.{answered_as, entry_before, keeps_nothing, keeps_placed, may_serve_again, may_serve_still, rose_before, store_before, store_cause_before}
+use Rattle.lsv_serve.proofs.StartLemmas.{answered_unplaced, entry_before, keeps_nothing, keeps_placed, may_serve_again, may_serve_still, store_before, store_cause_before}
 
 -- ---- The links
 
@@ -133,7 +134,7 @@ idle_store tells taping set texts disk tape only_now = record {
   some = tt;
   sized = tt;
   timed = tt;
-  answered = tt;
+  answered = λ some. absurd (some refl);
   entry = λ fault e. absurd (cc);
   taped = λ told. sym (append-nil tape);
   keeps = λ told. idle_keeps disk (only_now told) (IsUp ends.NoMem []) set texts (λ up. up refl);
@@ -159,7 +160,7 @@ store_unplaced tells taping set texts found after left tape tape' end turns alon
   some = r.some;
   sized = r.sized;
   timed = r.timed;
-  answered = answered_as (StoreRose after left) (StoreRose found left) turns (rose_before tells found after alone left) r.answered;
+  answered = λ some. answered_unplaced tells found after alone left.faults set.log_exit turns (r.answered some);
   entry = λ fault e told some.
       let k = entry_before found after (alone.untouched told) left (λ there. let x = r.entry fault e told there in record { moments = x.moments; reads = x.reads }) some in
       record { moments = k.moments; reads = k.reads };
@@ -215,24 +216,25 @@ places_told logs events before after (ends.Over Failed) p = p
 places_told logs events before after (ends.Store fault) p = p
 places_told logs events before after ends.NoMem p = inl p
 
-complete_links : (set : Settings) (texts : List (List ℕ)) (asked : Listening) (old new : ServerWorld) → CompletesLinks set texts asked old new
+pub complete_links : (set : Settings) (texts : List (List ℕ)) (asked : Listening) (old new : ServerWorld) → CompletesLinks set texts asked old new
 complete_links set texts asked old new ports run told ports_told worker before after was is =
     completes old.disk_tells told set texts (placed old.disk new.disk) new.disk run.turns (run.store.keeps told) worker before after ((run.links.served ports_told).each worker before after was is)
 
+-- the next run may begin with the disk
+pub serves_again : (kind : Kind) (log_exit : Bool) (texts : List (List ℕ)) (asked : Listening) (old new : ServerWorld) (end : End) → old.disk_tells → ((image : Image) → IsCrashImage new.disk image → new.disk.crash_images_at new.disk.moment image) → IsFresh 0 1 new.disk
+    → RunsTo (once_settings kind log_exit) texts asked old new end → MayServeAgain old.disk new.disk
+serves_again kind log_exit texts asked old new end tells is_now fresh run = may_serve_again (IsUp end run.turns) kind log_exit texts old.disk new.disk run.turns (run.store.keeps tells) is_now fresh
+
 -- a run whose settings were read
-pub serves_read : (stop_after : Option ℕ) (found : Option (List ℕ)) (faults faults' : ℕ) (old new : ServerWorld) (status : Status) → (old.disk_tells → (image : Image) → IsCrashImage new.disk image → new.disk.crash_images_at new.disk.moment image) → first_refused (lines_in found) ≡ None
-    → RunsAs (machine_of (set_by found)) (prompts_of (set_by found)) (listening_by (set_by found) stop_after) old new status → (old.disk_tells → HasPlaces (set_by found).iolog_dir (set_by found).path new.disk) → (old.disk_tells → IsFresh 0 1 new.disk)
-    → ServesAs stop_after found faults faults' old new status
-serves_read stop_after found faults faults' old new status is_now none r places fresh =
-    let set : Settings = machine_of (set_by found) in
-    let asked : Listening = listening_by (set_by found) stop_after in
+pub serves_read : (stop_after : Option ℕ) (found : Option (List ℕ)) (faults faults' : ℕ) (old new : ServerWorld) (status : Status) → first_refused (lines_in found) ≡ None → RunsAs (machine_of (set_by found)) (prompts_of (set_by found)) (listening_by (set_by found) stop_after) old new status
+    → (old.disk_tells → HasPlaces (set_by found).iolog_dir (set_by found).path new.disk) → (old.disk_tells → MayServeAgain old.disk new.disk) → ServesAs stop_after found faults faults' old new status
+serves_read stop_after found faults faults' old new status none r places again =
     subst (ServesAs stop_after found faults faults' old new) (sym r.is) (record {
-      runs = runs_told set (prompts_of (set_by found)) asked old new r.end r.run;
+      runs = runs_told (machine_of (set_by found)) (prompts_of (set_by found)) (listening_by (set_by found) stop_after) old new r.end r.run;
       cause = cause_told (lines_in found) faults faults' old new r.end none r.cause;
-      complete = complete_links set (prompts_of (set_by found)) asked old new;
+      complete = r.complete;
       places = λ tells. places_told (set_by found).iolog_dir (set_by found).path old.disk new.disk r.end (places tells);
-      again = λ tells.
-          may_serve_again (IsUp r.end r.run.turns) (set_by found).format (set_by found).log_exit (prompts_of (set_by found)) old.disk new.disk r.run.turns (r.run.store.keeps tells) (is_now tells) (fresh tells);
+      again = again;
     })
 
 -- a run whose settings weren't read

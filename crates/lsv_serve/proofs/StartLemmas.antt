@@ -6,25 +6,25 @@ use Rattle.lsv_disk.specs.View.{DiskView, Image, IsCrashImage, IsLeftAlone, IsUn
 use Rattle.lsv_disk.specs.declared.file.FileId.{FileId}
 use Rattle.lsv_disk.specs.declared.file.Owner.{Owner}
 use Rattle.lsv_machine.specs.Counts.{Counts}
-use Rattle.lsv_machine.specs.Disks.{AsBefore, IsOfLaneStore, LinesAs, LinesAsBefore, NumbersFit, Past, SameLines, SameLog}
+use Rattle.lsv_machine.specs.Disks.{AsBefore, AsksInRun, IsOfLaneStore, LinesAs, LinesAsBefore, NumbersFit, Past, SameLines, SameLog}
 use Rattle.lsv_machine.specs.Durable.{Good, Reading}
 use Rattle.lsv_machine.specs.Keeping.{OpensStore}
 use Rattle.lsv_machine.specs.Machine.{Machine, Settings}
-use Rattle.lsv_machine.specs.Recovery.{AnyTurnAsks, Kept, LinesAfter, LinesOfTurns, Ran, Recovers, RecoversLines, Story, Turn}
+use Rattle.lsv_machine.specs.Recovery.{AnyTurnAsks, Kept, LinesAfter, LinesOfTurns, Ran, Recovers, RecoversLines, Story, Turn, all_turns}
 use Rattle.lsv_machine.specs.Starts.{ReadsAs}
 use Rattle.lsv_machine.specs.Turns.{Happened}
 use Rattle.lsv_machine.proofs.Folds.{touches_none}
 use Rattle.lsv_seq.specs.Drawn.{entry_at, judged}
 use Rattle.lsv_event.specs.declared.event.Kind.{Kind}
-use Rattle.lsv_keeper.specs.Causes.{IsDeviceFault, StoreRose}
 use Rattle.lsv_keeper.specs.Opening.{IsStoreFault, KeepsEntry}
 use Rattle.lsv_keeper.specs.Reading.{reading_of}
-use Rattle.lsv_keeper.proofs.Causes.{all_as}
 use Rattle.lsv_keeper.specs.declared.fault.StoreFault.{StoreFault}
 use Rattle.lsv_keeper.specs.declared.fault.StoreFault.TheVariants as faults
 use Rattle.lsv_turn.specs.Turns.{LaneTurn, TapeTurn}
-use Rattle.lsv_lane.specs.Store.{AreAnswered, IsAnswered, IsFresh, KeepsStore, OwnerFailed}
+use Rattle.lsv_iolog.specs.Recovered.{ReplaysNothing}
+use Rattle.lsv_lane.specs.Store.{AreAnswered, IsFresh, KeepsStore, OwnerFailed}
 use Rattle.lsv_lane.proofs.Conforming.{keeps_none}
+use Rattle.lsv_lane.proofs.Standing.{answered_before}
 use Rattle.lsv_service.specs.Runs.{HasStoreCause}
 use Rattle.lsv_service.proofs.RunLemmas.{keeps_less}
 use Rattle.lsv_serve.specs.declared.status.Status.{Status}
@@ -35,11 +35,6 @@ use Rattle.lsv_serve.specs.Once.{IsOpened, RunsOnce, once_settings}
 use Rattle.lsv_serve.specs.Tape.{EndsFor, PutsFor, Tape, turn_of, turns_in}
 use Rattle.lsv_serve.specs.World.{World, placed}
 use Rattle.lsv_serve.proofs.ReadLemmas.{hello}
-
--- turns that were answered for a cause are so for a wider one
-pub answered_as : (a b : Type 0) (turns : List LaneTurn) → (a → b) → AreAnswered a turns → AreAnswered b turns
-answered_as a b turns wider all = all_as (IsAnswered a) (IsAnswered b) turns
-    (λ t is. record { asked = is.asked; cause = all_as (λ r. IsDeviceFault r → a) (λ r. IsDeviceFault r → b) t.replies (λ r told fault. wider (told fault)) is.cause }) all
 
 -- ---- A disk that was left alone
 
@@ -139,9 +134,9 @@ module _ (before after : DiskView) (u : IsUntouched before after) where
         let d : Counts h (record after { faults = before.faults }) left = subst (λ (f : FileId → ℕ). Counts h (record after { faults = f }) left) (λ i file. same_faults file i) c in
         record { monotone = d.monotone; failed = d.failed; marked = d.marked }
 
-    ran_before : (set : Settings) (texts : List (List ℕ)) (left : DiskView) (end : Machine) (s : Story) → Ran (reading_of set.lane set.lanes) set texts (record { found = after; left = left }) end s
+    ran_before : (set : Settings) (texts : List (List ℕ)) (left : DiskView) (end : Machine) (s : Story) → left.places ≡ before.places → Ran (reading_of set.lane set.lanes) set texts (record { found = after; left = left }) end s
         → Ran (reading_of set.lane set.lanes) set texts (record { found = before; left = left }) end s
-    ran_before set texts left end s ran =
+    ran_before set texts left end s same ran =
         let r : Reading = reading_of set.lane set.lanes in
         record {
           start = ran.start;
@@ -153,6 +148,7 @@ module _ (before after : DiskView) (u : IsUntouched before after) where
           ended_lines = ran.ended_lines;
           moments = ran.moments;
           counts = counts_before _ left ran.counts;
+          files = files_before (IsOfLaneStore set.lane set.lanes (AsksInRun set ran.start (all_turns s.turns))) left same ran.files;
         }
 
     keeps_before : (opened : Type 0) (set : Settings) (texts : List (List ℕ)) (left : DiskView) (turns : List LaneTurn) → left.places ≡ before.places → KeepsStore opened set texts (record { found = after; left = left }) turns
@@ -160,8 +156,9 @@ module _ (before after : DiskView) (u : IsUntouched before after) where
     keeps_before opened set texts left turns same k = record {
       story = k.story;
       are = k.are;
-      conforms = λ up. let c = k.conforms up in record { end = c.end; ran = ran_before set texts left c.end k.story c.ran; one_writer = c.one_writer; logs = c.logs; lines = c.lines };
+      conforms = λ up. let c = k.conforms up in record { end = c.end; ran = ran_before set texts left c.end k.story same c.ran; one_writer = c.one_writer; logs = c.logs; lines = c.lines };
       recovers = recovers_before (reading_of set.lane set.lanes) set.lane set.lanes texts left k.story same k.recovers;
+      spared = λ n nothing file own other. k.spared n (subst (λ (reads : Image). ReplaysNothing reads n) (sym reads_same) nothing) file own other ∙ u.counts.writes file;
     }
 
 -- a disk that was left alone, with the places of a later one
@@ -190,8 +187,9 @@ module _ (tells : Type 0) (found after : DiskView) (alone : IsLeftAlone tells fo
   fault_before : (fault : StoreFault) → (tells → IsStoreFault 0 1 after.reads fault) → tells → IsStoreFault 0 1 found.reads fault
   fault_before fault f told = subst (λ (reads : Image). IsStoreFault 0 1 reads fault) (reads_same found after (alone.untouched told)) (f told)
 
-  pub rose_before : (new : DiskView) → StoreRose after new → StoreRose found new
-  rose_before new (file, own, risen) = (file, own, subst (λ (n : ℕ). HasRisen n (new.faults file)) (alone.faults file) risen)
+  -- how turns were answered from the disk with its places, they were from the disk before
+  pub answered_unplaced : (left : FileId → ℕ) (log_exit : Bool) (turns : List LaneTurn) → AreAnswered log_exit after.faults left turns → AreAnswered log_exit found.faults left turns
+  answered_unplaced left log_exit turns are = answered_before log_exit found.faults after.faults left turns (λ file. let e = alone.faults file in omega arith) are
 
   -- what a run did with the store from the disk with its places, it did from the disk before, with the same places
   pub store_before : (opened : Type 0) (set : Settings) (texts : List (List ℕ)) (left : DiskView) (turns : List LaneTurn) → tells → KeepsStore opened set texts (record { found = placed after left; left = left }) turns
@@ -224,7 +222,7 @@ module _ (old : World) (after : DiskView) (alone : IsLeftAlone old.disk_tells ol
     reads = r.reads;
     puts = r.puts;
     taped = r.taped;
-    answered = answered_as (StoreRose after new.disk) (StoreRose old.disk new.disk) (map turn_of (turns_in r.tape)) (rose_before old.disk_tells old.disk after alone new.disk) r.answered;
+    answered = λ some. answered_unplaced old.disk_tells old.disk after alone new.disk.faults set.log_exit (map turn_of (turns_in r.tape)) (r.answered some);
     entry = λ fault e told some. entry_before old.disk after (alone.untouched told) new.disk (r.entry fault e told) some;
     keeps = λ told.
         let k = r.keeps told in
@@ -268,7 +266,7 @@ module _ (disk : DiskView) (only_now : (image : Image) → disk.crash_images_at 
 
 -- a store that wasn't opened, since nothing was done
 pub keeps_nothing : (disk : DiskView) → ((image : Image) → disk.crash_images_at disk.moment image → IsCrashImage disk image) → (set : Settings) (texts : List (List ℕ)) → KeepsStore ⊥ set texts (record { found = disk; left = disk }) []
-keeps_nothing disk only_now set texts = keeps_none set texts disk disk (opens_nothing disk only_now (reading_of set.lane set.lanes) set.lane set.lanes)
+keeps_nothing disk only_now set texts = keeps_none set texts disk disk (opens_nothing disk only_now (reading_of set.lane set.lanes) set.lane set.lanes) (λ n. record { writes = λ file own. refl; syncs = λ file own. refl })
 
 -- its number file's last entry stays
 pub entry_stays : (disk : DiskView) → ((image : Image) → disk.crash_images_at disk.moment image → IsCrashImage disk image) → KeepsEntry 0 disk disk
@@ -308,7 +306,7 @@ runs_nothing set texts old disk tape status n same places entry keeps = record {
   };
   puts = λ told. ([], sym (append-nil old.wires.put), puts n);
   taped = λ told. same ∙ sym (append-nil old.tape);
-  answered = tt;
+  answered = λ some. absurd (some refl);
   entry = λ fault e told some. entry told some;
   keeps = λ told. record {
     store = keeps_less ⊥ (IsOpened status none) set texts (record { found = placed old.disk disk; left = disk }) [] (unopened n) (keeps_placed ⊥ set texts old.disk disk [] (places told) (keeps told));

@@ -1,5 +1,5 @@
 -- A run of the command `load`: the generated conversations are served, and the summary of their logs is put.
-use Rattle.std.specs.Prelude.{◌≡◌, ◌++◌, ℕ, List, [], Option, None}
+use Rattle.std.specs.Prelude.{◌≡◌, ◌⊎◌, ◌++◌, ℕ, List, [], Option, None}
 use Rattle.lsv_defs.specs.Causes.{HasRisen}
 use Rattle.lsv_defs.specs.Pieces.{IsPrefix}
 use Rattle.lsv_conf.specs.Lines.{Placed, first_refused}
@@ -12,6 +12,7 @@ use Rattle.lsv_service.specs.Complete.{Completes}
 use Rattle.lsv_service.specs.Runs.{IsUp}
 use Rattle.lsv_load.specs.Runs.{RunsLoad, view_of}
 use Rattle.lsv_load.specs.Whole.{SumsUpAll}
+use Rattle.lsv_load.specs.declared.run.LoadEnd.{LoadEnd}
 use Rattle.lsv_load.specs.declared.run.LoadEnd.TheVariants as ends
 use Rattle.lsv_serve.specs.declared.status.Status.{Status}
 use Rattle.lsv_serve.specs.declared.status.Status.TheVariants.{NoUpstream, Pending, Served, Usage, Conf, Store, ReadFault, WriteFault, PortFault, NoMem}
@@ -64,7 +65,7 @@ HasLoadCause lines faults faults' (Pending left) = ⊥
 
 -- what was kept of the store where it was opened
 abbrev pub while_up : {opened : Type 0} {set : Settings} {texts : List (List ℕ)} {o : Outside} {turns : List LaneTurn} → opened → KeepsStore opened set texts o turns → KeepsStore (Unit {0}) set texts o turns
-while_up up k = record { story = k.story; are = k.are; conforms = λ x. k.conforms up; recovers = k.recovers }
+while_up up k = record { story = k.story; are = k.are; conforms = λ x. k.conforms up; recovers = k.recovers; spared = k.spared }
 
 -- each legal conversation that came over a link of the load's port is served, where nothing was in its way
 abbrev pub CompletesLoad : {D : Type 0} (disk_tells tape_tells : Type 0) (view : D → DiskView) → Settings → List (List ℕ) → (count : ℕ) (found left : D) (tape new_tape : List TapeTurn) → Type 0
@@ -84,6 +85,25 @@ OfSummary ReadFault so = Unit {0}
 OfSummary PortFault so = Unit {0}
 OfSummary NoUpstream so = Unit {0}
 OfSummary (Pending left) so = Unit {0}
+
+-- how a load's end is told: its summary is put, or a write of it fails
+abbrev pub TellsLoad : (sink_tells : Type 0) (put new_put : List ℕ) (faults new_faults : ℕ) → LoadEnd → Status → Type 0
+TellsLoad sink_tells put new_put faults new_faults (ends.Served text) status =
+    ((status ≡ Served) × (sink_tells → new_put ≡ put ++ text)) ⊎ ((status ≡ WriteFault) × HasRisen faults new_faults × (sink_tells → (front : List ℕ) × IsPrefix front text × (new_put ≡ put ++ front)))
+TellsLoad sink_tells put new_put faults new_faults (ends.Store fault) status = (status ≡ Store fault) × (sink_tells → new_put ≡ put)
+TellsLoad sink_tells put new_put faults new_faults ends.NoMem status = (status ≡ NoMem) × (sink_tells → new_put ≡ put)
+
+-- A load whose settings were read ended in some way, and is told as this. Where nothing is in its way, each legal conversation is
+-- served; and where nothing is in the way of any, what is summed up are the logs of all.
+pub record LoadsBy {D : Type 0} (tape_tells : Type 0) (view : D → DiskView) (set : Settings) (texts : List (List ℕ)) (count : ℕ) (old new : World) (found left : D) (tape new_tape : List TapeTurn) (status : Status) : Type 0 where
+  -- the disk after `root`: no file, moment or count of it is otherwise
+  pub placed : D
+  pub alone : IsLeftAlone old.disk_tells (view found) (view placed)
+  pub end : LoadEnd
+  pub run : RunsLoad old.disk_tells tape_tells view set texts count placed left tape new_tape end
+  pub told : TellsLoad old.wires.sink_tells old.wires.put new.wires.put old.wires.write_faults new.wires.write_faults end status
+  pub complete : CompletesLoad old.disk_tells tape_tells view set texts count placed left tape new_tape
+  pub whole : OfSummary status (SumsUpAll old.disk_tells tape_tells view set texts count placed left tape new_tape)
 
 -- a run of `load` with the settings file as it was found
 pub record LoadsAs {D : Type 0} (tape_tells : Type 0) (view : D → DiskView) (set : Option (List ℕ)) (faults faults' : ℕ) (count : ℕ) (old new : World) (found left : D) (tape new_tape : List TapeTurn) (status : Status) : Type 0 where

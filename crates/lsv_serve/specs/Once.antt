@@ -7,7 +7,6 @@ use Rattle.lsv_session.specs.Transcript.{said_to}
 use Rattle.lsv_machine.specs.Machine.{Settings}
 use Rattle.lsv_machine.specs.Recovery.{Outside}
 use Rattle.lsv_seq.specs.Drawn.{entry_at}
-use Rattle.lsv_keeper.specs.Causes.{StoreRose}
 use Rattle.lsv_keeper.specs.Opening.{KeepsEntry}
 use Rattle.lsv_keeper.specs.declared.fault.StoreFault.{StoreFault}
 use Rattle.lsv_turn.specs.Turns.{all_taped}
@@ -72,8 +71,8 @@ pub record RunsOnce (set : Settings) (texts : List (List ℕ)) (old new : World)
   pub reads : Reads old.wires new.wires status tape
   pub puts : old.wires.sink_tells → (bytes : List ℕ) × (new.wires.put ≡ old.wires.put ++ bytes) × PutsFor status tape.reads bytes
   pub taped : old.tape_tells → new.tape ≡ old.tape ++ all_taped (map turn_of (turns_in tape))
-  -- over every disk: each reply is to the connection of one of its turn's jobs, and says that a device failed only if a count of the store's files rose
-  pub answered : AreAnswered (StoreRose old.disk new.disk) (map turn_of (turns_in tape))
+  -- over every disk: each reply is to the connection of one of its turn's jobs, and says that a device failed only for a cause
+  pub answered : map turn_of (turns_in tape) ≢ [] → AreAnswered set.log_exit old.disk.faults new.disk.faults (map turn_of (turns_in tape))
   -- at each moment of an opening that was refused the number file's last entry stayed as it was
   pub entry : (fault : StoreFault) → status ≡ Store fault → old.disk_tells → entry_at 0 old.disk.reads ≢ None → KeepsEntry 0 old.disk new.disk
   pub keeps : old.disk_tells → KeepsOnce set texts (record { found = placed old.disk new.disk; left = new.disk }) status tape

@@ -18,7 +18,7 @@ use Rattle.lsv_reactor.specs.declared.rounds.PortsEnd.{PortsEnd}
 use Rattle.lsv_reactor.specs.declared.rounds.PortsEnd.TheVariants.{Stopped, Failed}
 use Rattle.lsv_endpoint.specs.Ports.{view_by}
 use Rattle.lsv_service.specs.Complete.{Completes}
-use Rattle.lsv_service.specs.Runs.{HasStoreCause, ListenAt, RunsStore}
+use Rattle.lsv_service.specs.Runs.{HasEndCause, HasStoreCause, ListenAt, RunsStore}
 use Rattle.lsv_service.specs.declared.run.End.{End}
 use Rattle.lsv_service.specs.declared.run.End.TheVariants as ends
 use Rattle.lsv_serve.specs.declared.status.Status.{Status}
@@ -57,7 +57,8 @@ abbrev pub ArePortsEnded : (tells : Type 0) (old new : List PortView) → PortsE
 ArePortsEnded tells old new Stopped = tells → (i : ℕ) (port : PortView) → slice_get new i ≡ Some port → port.state.stopped ≡ true
 ArePortsEnded tells old new Failed = (i : ℕ) × ((before after : PortView) × (slice_get old i ≡ Some before) × (slice_get new i ≡ Some after) × PortFailed before after)
 
--- each port was asked to listen on this, once, before it made a turn; or it couldn't listen, and noted nothing
+-- Each port was asked to listen on this, once, when it had made no turn that it hadn't made before. Or it couldn't listen, and
+-- noted nothing.
 abbrev pub PortsListen : Listening → (old new : ServerWorld) → Type 0
 PortsListen asked old new = old.ports_tell → ListenAt (λ port. port) asked old.ports new.ports
 
@@ -134,6 +135,22 @@ abbrev pub CompletesLinks : Settings → List (List ℕ) → Listening → (old 
 CompletesLinks set texts asked old new =
     (ports : PortsEnd) (run : RunsTo set texts asked old new (ends.Over ports)) (told : old.disk_tells) (ports_told : old.ports_tell) (worker : ℕ) (before after : PortView) (was : slice_get old.ports worker ≡ Some before) (is : slice_get new.ports worker ≡ Some after)
     → Completes set texts (placed old.disk new.disk) new.disk run.turns (run.store.keeps told) worker before after ((run.links.served ports_told).each worker before after was is)
+
+-- how the program tells the end of a run
+abbrev pub told : End → Status
+told (ends.Over Stopped) = Served
+told (ends.Over Failed) = PortFault
+told (ends.Store fault) = Store fault
+told ends.NoMem = NoMem
+
+-- A run whose settings were read ended in some way, for a cause, and is told as this. Where nothing is in its way, each legal
+-- conversation is served.
+pub record RunsAs (set : Settings) (texts : List (List ℕ)) (asked : Listening) (old new : ServerWorld) (status : Status) : Type 0 where
+  pub end : End
+  pub is : status ≡ told end
+  pub run : RunsTo set texts asked old new end
+  pub cause : HasEndCause old.disk_tells old.disk new.disk end
+  pub complete : CompletesLinks set texts asked old new
 
 -- a run of `serve` with the settings file as it was found, and with the number of --stop-after if the words have one
 pub record ServesAs (stop_after : Option ℕ) (found : Option (List ℕ)) (faults faults' : ℕ) (old new : ServerWorld) (status : Status) : Type 0 where

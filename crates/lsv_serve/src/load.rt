@@ -3,8 +3,8 @@
 ghost use Rattle.std.specs.Prelude.{◌≡◌, ◌≤◌, ℕ};
 ghost use Rattle.lsv_event.specs.declared.event.Kind.TheVariants as kinds;
 ghost use Rattle.lsv_lane.specs.Store.{IsFresh};
-ghost use Rattle.lsv_serve.specs.Causes.{HasPlaces};
-ghost use Rattle.lsv_serve.specs.InnerServe.{LoadsBy, TellsLoad};
+ghost use Rattle.lsv_serve.specs.Causes.{HasPlaces, MayServeAgain};
+ghost use Rattle.lsv_serve.specs.Load.{LoadsBy, TellsLoad};
 ghost use Rattle.lsv_serve.specs.Once.{once_settings};
 ghost use Rattle.lsv_serve.specs.World.{world_of};
 
@@ -17,7 +17,7 @@ use lsv_disk::Disk;
 use lsv_event::Kind;
 use lsv_hook::{Formatter, LineWriter};
 use lsv_lane::Bay;
-use lsv_load::{LoadEnd, run_load};
+use lsv_load::{LoadEnd, a_load_sums_up_all_its_conversations, run_load};
 use lsv_mask::{Prompt, Search};
 use lsv_service::Plan;
 use lsv_turn::Tape;
@@ -66,9 +66,10 @@ fn load_by<
         (world_of ⟦<S as Source>⟧ ⟦<K as Sink>⟧ ⟦<D as Disk>⟧ ⟦<G as Tape>⟧ result.0.source result.0.sink result.0.disk result.0.tape)
         out.disk result.0.disk (G.turns out.tape) (G.turns result.0.tape) result.1 }
     ensures places { D.tells → HasPlaces options.logs options.events (D.view result.0.disk) }
-    ensures fresh_again { D.tells → IsFresh 0 1 (D.view result.0.disk) }
+    ensures again { D.tells → MayServeAgain (D.view out.disk) (D.view result.0.disk) }
     ensures beside { (result.0.source ≡ out.source) × (result.0.ports ≡ out.ports) × (result.0.texts ≡ out.texts) × (result.0.link ≡ out.link) }
 {
+    a_load_sums_up_all_its_conversations::<D, G>();
     let Outside {
         source,
         mut sink,
@@ -141,7 +142,7 @@ pub fn serve_load<
         (world_of ⟦<S as Source>⟧ ⟦<K as Sink>⟧ ⟦<D as Disk>⟧ ⟦<G as Tape>⟧ result.0.source result.0.sink result.0.disk result.0.tape)
         out.disk result.0.disk (G.turns out.tape) (G.turns result.0.tape) result.1 }
     ensures places { D.tells → HasPlaces options.logs options.events (D.view result.0.disk) }
-    ensures fresh_again { D.tells → IsFresh 0 1 (D.view result.0.disk) }
+    ensures again { D.tells → MayServeAgain (D.view out.disk) (D.view result.0.disk) }
     ensures beside { (result.0.source ≡ out.source) × (result.0.ports ≡ out.ports) × (result.0.texts ≡ out.texts) × (result.0.link ≡ out.link) }
 {
     match options.form {

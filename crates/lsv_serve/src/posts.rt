@@ -4,8 +4,8 @@ ghost use Rattle.std.specs.Prelude.{◌≡◌, ◌≤◌, ◌<◌, ◌+◌, ◌+
 ghost use Rattle.lsv_endpoint.specs.Ports.{IsUnopened, view_by};
 ghost use Rattle.lsv_serve.specs.InnerServe.{ArePosts, IsSeated};
 
-use lsv_port::Port;
 use lsv_endpoint::WorkerPost;
+use lsv_port::Port;
 use lsv_reactor::Post;
 use std::alloc::Global;
 

@@ -31,7 +31,6 @@ use lsv_disk::Disk;
 use lsv_forward::RelayNotices;
 use lsv_hook::LineWriter;
 use lsv_link::Link;
-use lsv_load::a_load_sums_up_all_its_conversations;
 use lsv_mask::Search;
 use lsv_port::Port;
 use lsv_service::Notices;
@@ -243,7 +242,6 @@ fn load<
     ensures not_usage { result.1 ≡ Status.Usage → ⊥ }
     ensures beside { (result.0.source ≡ out.source) × (result.0.ports ≡ out.ports) × (result.0.link ≡ out.link) }
 {
-    a_load_sums_up_all_its_conversations::<D, G>();
     let mut out = out;
     let found = match found_file(alloc, &mut out.texts, opts) {
         Ok(found) => found,

@@ -5,10 +5,9 @@ ghost use Rattle.lsv_event.specs.declared.event.Kind.TheVariants as kinds;
 ghost use Rattle.lsv_lane.specs.Store.{IsFresh};
 ghost use Rattle.lsv_endpoint.specs.Ports.{IsUnopened};
 ghost use Rattle.lsv_service.specs.Runs.{HasEndCause};
-ghost use Rattle.lsv_serve.specs.Causes.{HasPlaces};
-ghost use Rattle.lsv_serve.specs.InnerServe.{RunsAs, told};
+ghost use Rattle.lsv_serve.specs.Causes.{HasPlaces, MayServeAgain};
 ghost use Rattle.lsv_serve.specs.Once.{once_settings};
-ghost use Rattle.lsv_serve.specs.Serve.{RunsTo, server_of};
+ghost use Rattle.lsv_serve.specs.Serve.{RunsAs, RunsTo, server_of, told};
 
 use crate::once::give_places;
 use crate::outside::{Kept, Options, Outside};
@@ -163,7 +162,7 @@ fn serve_by<
         (server_of ⟦<P as Port>⟧ ⟦<D as Disk>⟧ ⟦<G as Tape>⟧ out.ports.items out.disk out.tape)
         (server_of ⟦<P as Port>⟧ ⟦<D as Disk>⟧ ⟦<G as Tape>⟧ result.0.ports.items result.0.disk result.0.tape) result.1 }
     ensures places { D.tells → HasPlaces options.logs options.events (D.view result.0.disk) }
-    ensures fresh_again { D.tells → IsFresh 0 1 (D.view result.0.disk) }
+    ensures again { D.tells → MayServeAgain (D.view out.disk) (D.view result.0.disk) }
     ensures beside { (result.0.source ≡ out.source) × (result.0.sink ≡ out.sink) × (result.0.texts ≡ out.texts) × (result.0.link ≡ out.link) }
 {
     let mut out = out;
@@ -223,7 +222,7 @@ pub fn run_serve<
         (server_of ⟦<P as Port>⟧ ⟦<D as Disk>⟧ ⟦<G as Tape>⟧ out.ports.items out.disk out.tape)
         (server_of ⟦<P as Port>⟧ ⟦<D as Disk>⟧ ⟦<G as Tape>⟧ result.0.ports.items result.0.disk result.0.tape) result.1 }
     ensures places { D.tells → HasPlaces options.logs options.events (D.view result.0.disk) }
-    ensures fresh_again { D.tells → IsFresh 0 1 (D.view result.0.disk) }
+    ensures again { D.tells → MayServeAgain (D.view out.disk) (D.view result.0.disk) }
     ensures beside { (result.0.source ≡ out.source) × (result.0.sink ≡ out.sink) × (result.0.texts ≡ out.texts) × (result.0.link ≡ out.link) }
 {
     match options.form {

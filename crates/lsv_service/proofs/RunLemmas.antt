@@ -26,7 +26,7 @@ use Rattle.lsv_service.specs.declared.run.End.TheVariants.{Over, Store, NoMem}
 
 -- what holds where the store was opened, holds for less
 pub keeps_less : (up less : Type 0) (set : Settings) (texts : List (List ℕ)) (o : Outside) (turns : List LaneTurn) → (less → up) → KeepsStore up set texts o turns → KeepsStore less set texts o turns
-keeps_less up less set texts o turns f k = record { story = k.story; are = k.are; conforms = λ x. k.conforms (f x); recovers = k.recovers }
+keeps_less up less set texts o turns f k = record { story = k.story; are = k.are; conforms = λ x. k.conforms (f x); recovers = k.recovers; spared = k.spared }
 
 no_turns : (fault : StoreFault) → HasTurns (unopened fault) []
 no_turns faults.NoMem = tt
@@ -59,7 +59,7 @@ runs_unopened tells taping set texts found left tape tape' fault same keeps entr
   some = no_turns fault;
   sized = tt;
   timed = tt;
-  answered = tt;
+  answered = λ some. absurd (some refl);
   entry = λ other is told some. entry told some;
   taped = λ told. same ∙ sym (append-nil tape);
   keeps = λ told. keeps_less ⊥ (IsUp (unopened fault) []) set texts (record { found = found; left = left }) [] (not_up fault) (keeps told);

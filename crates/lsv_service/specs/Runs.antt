@@ -5,7 +5,6 @@ use Rattle.lsv_disk.specs.View.{DiskView}
 use Rattle.lsv_disk.specs.declared.file.Owner.{Owner}
 use Rattle.lsv_machine.specs.Machine.{Settings}
 use Rattle.lsv_seq.specs.Drawn.{entry_at}
-use Rattle.lsv_keeper.specs.Causes.{StoreRose}
 use Rattle.lsv_keeper.specs.Opening.{IsStoreFault, KeepsEntry}
 use Rattle.lsv_keeper.specs.declared.fault.StoreFault.{StoreFault}
 use Rattle.lsv_keeper.specs.declared.fault.StoreFault.TheVariants as faults
@@ -31,13 +30,13 @@ HasTurns (Store fault) turns = turns ≡ []
 HasTurns NoMem turns = Unit {0}
 
 -- These turns were made, and kept, and this is what they did with the store, by how the run ended. Over every disk each reply was
--- to the connection of a job of its turn, and told of a device fault only where a count of the store's files rose. At each moment of an
--- opening that was refused the number file's last entry stayed as it was.
+-- to the connection of a job of its turn, and told of a device fault only for a cause (`AreAnswered`). At each moment of an opening
+-- that was refused the number file's last entry stayed as it was.
 pub record RunsStore (disk_tells tape_tells : Type 0) (set : Settings) (texts : List (List ℕ)) (found left : DiskView) (tape tape' : List TapeTurn) (end : End) (turns : List LaneTurn) : Type 0 where
   pub some : HasTurns end turns
   pub sized : AreSized turns
   pub timed : AreTimed turns
-  pub answered : AreAnswered (StoreRose found left) turns
+  pub answered : turns ≢ [] → AreAnswered set.log_exit found.faults left.faults turns
   pub entry : (fault : StoreFault) → end ≡ Store fault → disk_tells → entry_at 0 found.reads ≢ None → KeepsEntry 0 found left
   pub taped : tape_tells → tape' ≡ tape ++ all_taped turns
   pub keeps : disk_tells → KeepsStore (IsUp end turns) set texts (record { found = found; left = left }) turns
@@ -65,7 +64,8 @@ unopened (faults.LanesDiffer kept asked) = Store (faults.LanesDiffer kept asked)
 abbrev pub ListenFailed : PortView → PortView → Type 0
 ListenFailed old new = HasRisen old.ledger.deaf new.ledger.deaf
 
--- The port of each of these posts was asked to listen on this, once, before it made a turn. Or it couldn't listen, and noted nothing.
+-- The port of each of these posts was asked to listen on this, once, when it had made no turn that it hadn't made before. Or it
+-- couldn't listen, and noted nothing.
 abbrev pub ListenAt : {T : Type 0} (view : T → PortView) (asked : Listening) (olds news : List T) → Type 0
 ListenAt {T} view asked olds news = (i : ℕ) (old new : T) → slice_get olds i ≡ Some old → slice_get news i ≡ Some new → WasAsked asked (ListenFailed (view old) (view new)) (view old).ledger (view new).ledger
 

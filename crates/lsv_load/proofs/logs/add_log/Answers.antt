@@ -9,10 +9,11 @@ use Rattle.lsv_iolog.proofs.Viewing.{err_of}
 use Rattle.lsv_play.specs.Playing.{text_at}
 use Rattle.lsv_disk.specs.declared.file.Part.TheVariants.{Exit}
 use Rattle.lsv_record.specs.Points.{Stored}
-use Rattle.lsv_load.specs.InnerSums.{IsFitting, IsUnread}
+use Rattle.lsv_load.specs.Faults.{IsFitting}
+use Rattle.lsv_load.specs.InnerSums.{IsMisfitFault, IsUnread}
 use Rattle.lsv_load.proofs.Adding.{err_holds, same_image}
 use Rattle.lsv_load.proofs.Holding.{entry_fits, exit_some, log_of, replays_log}
-use Rattle.lsv_load.proofs.Opened.{damage_unread, open_fails, opened_now, unread_before}
+use Rattle.lsv_load.proofs.Opened.{misfit_unread, open_fails, opened_now, unread_before}
 use Rattle.lsv_load.proofs.logs.add_log.Goals as goal
 
 pub returns-in_err-log-clause-unread : goal.returns-in_err-log-clause-unread
@@ -29,8 +30,8 @@ returns-in_err-check_entry-clause-unread g c told =
     let opened = opened_now c.args.number v old mid c.in_ok-log.ensures.number (c.open.ensures.reads told) (c.in_ok-log.ensures.entry told) (c.in_ok-log.ensures.head told) (c.in_ok-log.ensures.behind told) in
     err_holds c.from_residual-in_err-check_entry.result c.in_err-check_entry.field-0.0 (IsUnread old.reads c.args.number) c.from_residual-in_err-check_entry.ensures.1
     (unread_before c.args.number v.number old mid c.in_err-check_entry.field-0.0 c.in_ok-log.ensures.number (c.open.ensures.reads told)
-    (damage_unread v.number mid.reads c.in_err-check_entry.field-0.0 c.in_err-check_entry.ensures.fault.0
-    (λ log holds. c.in_err-check_entry.ensures.fault.1 (subst IsFitting (sym c.body-body.ensures) (entry_fits v.number v.body v.head mid.reads opened log holds)))))
+    (misfit_unread v.number v.body v.head mid.reads c.in_err-check_entry.field-0.0 opened (λ log holds. entry_fits v.number v.body v.head mid.reads opened log holds)
+    (subst (λ (b : Body). IsMisfitFault b c.in_err-check_entry.field-0.0) c.body-body.ensures c.in_err-check_entry.ensures.fault)))
 
 pub returns-in_err-add_records-clause-unread : goal.returns-in_err-add_records-clause-unread
 returns-in_err-add_records-clause-unread g c told =
@@ -39,7 +40,7 @@ returns-in_err-add_records-clause-unread g c told =
     let v = c.in_ok-log.log in
     let opened = opened_now c.args.number v old mid c.in_ok-log.ensures.number (c.open.ensures.reads told) (c.in_ok-log.ensures.entry told) (c.in_ok-log.ensures.head told) (c.in_ok-log.ensures.behind told) in
     err_holds c.from_residual-in_err-add_records.result c.in_err-add_records.field-0.0 (IsUnread old.reads c.args.number) c.from_residual-in_err-add_records.ensures.1
-    (unread_before c.args.number v.number old mid c.in_err-add_records.field-0.0 c.in_ok-log.ensures.number (c.open.ensures.reads told) (c.in_err-add_records.ensures.unread told (c.in_ok-log.ensures.behind told) opened))
+    (unread_before c.args.number v.number old mid c.in_err-add_records.field-0.0 c.in_ok-log.ensures.number (c.open.ensures.reads told) (c.in_err-add_records.ensures.unread told (subst IsFitting c.body-body.ensures c.in_ok-check_entry.ensures.ok) (c.in_ok-log.ensures.behind told) opened))
 
 pub returns-in_err-add_records-clause-reads : goal.returns-in_err-add_records-clause-reads
 returns-in_err-add_records-clause-reads g c told =

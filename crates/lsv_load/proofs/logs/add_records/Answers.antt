@@ -22,10 +22,10 @@ records-preserved g c =
     c.in-Some.is (c.in_ok-record.ensures.given told)) (λ told. c.in_ok-record.ensures.sound told) c.add_record.ensures
 
 pub returns-in_err-record-clause-unread : goal.returns-in_err-record-clause-unread
-returns-in_err-record-clause-unread g c told fresh opened =
+returns-in_err-record-clause-unread g c told fits fresh opened =
     err_holds c.from_residual.result c.in_err-record.field-0.0 (IsUnread (g.D.Disk.view c.args.disk.now).reads c.args.log.now.number) c.from_residual.ensures.1
     (next_fails g.D.Disk.tells c.args.log.now c.records.log (g.D.Disk.view c.args.disk.now) (g.D.Disk.view c.records.disk) c.args.totals.now c.records.totals c.records.invariant told fresh c.in_err-record.field-0.0 c.in_err-record.ensures.fault
-    (λ part at. c.in_err-record.ensures.damaged told part (err_of {T = Option Record} c.in_err-record.field-0.0 (logs.Damaged part) at)) opened)
+    (λ part at. c.in_err-record.ensures.damaged told part (err_of {T = Option Record} c.in_err-record.field-0.0 (logs.Damaged part) at)) fits opened)
 
 pub returns-in_err-record-clause-reads : goal.returns-in_err-record-clause-reads
 returns-in_err-record-clause-reads g c told =

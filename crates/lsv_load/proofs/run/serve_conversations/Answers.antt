@@ -15,7 +15,7 @@ returns-clause-ok g c start made =
     let new = c.into_port-port.result in
     let one : ServesOne g.L.Lane.tells ran.0 (view_of c.new-port.result) (view_of new) = subst (ServesOne g.L.Lane.tells ran.0 (view_of c.new-port.result)) (sym c.into_port-port.ensures) (ran.3 tt) in
     let steps : c.new-port.result.script ≡ load_script c.args.count = c.new-port.ensures.script ∙ c.in_ok-load_script.ensures in
-    let begun : IsNew c.args.count c.new-port.result = record { script = steps; opened = c.new-port.ensures.opened; going = c.new-port.ensures.stopped; well = c.new-port.ensures.failed; deaf = c.new-port.ensures.listens; unrefused = c.new-port.ensures.refused } in
+    let begun : IsNew c.args.count c.new-port.result = record { script = steps; opened = c.new-port.ensures.opened; going = c.new-port.ensures.stopped; well = c.new-port.ensures.failed; unasked = c.new-port.ensures.listens; unturned = c.new-port.ensures.turned; hears = c.new-port.ensures.deaf; sound = c.new-port.ensures.turns; unrefused = c.new-port.ensures.refused } in
     let script : TellsScript (load_script c.args.count) (port_state new) = subst (λ (xs : List Step). TellsScript xs (port_state new)) (one.served.goes_on.script ∙ steps) c.tells_its_script.ensures in (
       ran.0,
       ran.1,
@@ -39,7 +39,7 @@ returns-then-refused-gt0-clause-err g c start made =
     let new = c.into_port-port.result in
     let one : ServesOne g.L.Lane.tells ran.0 (view_of c.new-port.result) (view_of new) = subst (ServesOne g.L.Lane.tells ran.0 (view_of c.new-port.result)) (sym c.into_port-port.ensures) (ran.3 tt) in
     let steps : c.new-port.result.script ≡ load_script c.args.count = c.new-port.ensures.script ∙ c.in_ok-load_script.ensures in
-    let begun : IsNew c.args.count c.new-port.result = record { script = steps; opened = c.new-port.ensures.opened; going = c.new-port.ensures.stopped; well = c.new-port.ensures.failed; deaf = c.new-port.ensures.listens; unrefused = c.new-port.ensures.refused } in
+    let begun : IsNew c.args.count c.new-port.result = record { script = steps; opened = c.new-port.ensures.opened; going = c.new-port.ensures.stopped; well = c.new-port.ensures.failed; unasked = c.new-port.ensures.listens; unturned = c.new-port.ensures.turned; hears = c.new-port.ensures.deaf; sound = c.new-port.ensures.turns; unrefused = c.new-port.ensures.refused } in
     let script : TellsScript (load_script c.args.count) (port_state new) = subst (λ (xs : List Step). TellsScript xs (port_state new)) (one.served.goes_on.script ∙ steps) c.tells_its_script.ensures in
     (ran.0, ran.1, ran.2, breaks_off g.L.Lane.tells c.args.count c.new-port.result new ran.0 begun script one)
 
@@ -49,7 +49,7 @@ returns-then-not-are_greeted-clause-err g c start made =
     let new = c.into_port-port.result in
     let one : ServesOne g.L.Lane.tells ran.0 (view_of c.new-port.result) (view_of new) = subst (ServesOne g.L.Lane.tells ran.0 (view_of c.new-port.result)) (sym c.into_port-port.ensures) (ran.3 tt) in
     let steps : c.new-port.result.script ≡ load_script c.args.count = c.new-port.ensures.script ∙ c.in_ok-load_script.ensures in
-    let begun : IsNew c.args.count c.new-port.result = record { script = steps; opened = c.new-port.ensures.opened; going = c.new-port.ensures.stopped; well = c.new-port.ensures.failed; deaf = c.new-port.ensures.listens; unrefused = c.new-port.ensures.refused } in
+    let begun : IsNew c.args.count c.new-port.result = record { script = steps; opened = c.new-port.ensures.opened; going = c.new-port.ensures.stopped; well = c.new-port.ensures.failed; unasked = c.new-port.ensures.listens; unturned = c.new-port.ensures.turned; hears = c.new-port.ensures.deaf; sound = c.new-port.ensures.turns; unrefused = c.new-port.ensures.refused } in
     let script : TellsScript (load_script c.args.count) (port_state new) = subst (λ (xs : List Step). TellsScript xs (port_state new)) (one.served.goes_on.script ∙ steps) c.tells_its_script.ensures in
     (ran.0, ran.1, ran.2, breaks_off g.L.Lane.tells c.args.count c.new-port.result new ran.0 begun script one)
 
@@ -59,7 +59,7 @@ returns-in_err-are_read-clause-err g c = err_any c.from_residual-in_err-are_read
     let new = c.into_port-port.result in
     let one : ServesOne g.L.Lane.tells ran.0 (view_of c.new-port.result) (view_of new) = subst (ServesOne g.L.Lane.tells ran.0 (view_of c.new-port.result)) (sym c.into_port-port.ensures) (ran.3 tt) in
     let steps : c.new-port.result.script ≡ load_script c.args.count = c.new-port.ensures.script ∙ c.in_ok-load_script.ensures in
-    let begun : IsNew c.args.count c.new-port.result = record { script = steps; opened = c.new-port.ensures.opened; going = c.new-port.ensures.stopped; well = c.new-port.ensures.failed; deaf = c.new-port.ensures.listens; unrefused = c.new-port.ensures.refused } in
+    let begun : IsNew c.args.count c.new-port.result = record { script = steps; opened = c.new-port.ensures.opened; going = c.new-port.ensures.stopped; well = c.new-port.ensures.failed; unasked = c.new-port.ensures.listens; unturned = c.new-port.ensures.turned; hears = c.new-port.ensures.deaf; sound = c.new-port.ensures.turns; unrefused = c.new-port.ensures.refused } in
     let script : TellsScript (load_script c.args.count) (port_state new) = subst (λ (xs : List Step). TellsScript xs (port_state new)) (one.served.goes_on.script ∙ steps) c.tells_its_script.ensures in
     (ran.0, ran.1, ran.2, breaks_off g.L.Lane.tells c.args.count c.new-port.result new ran.0 begun script one))
 
@@ -69,6 +69,6 @@ returns-then-not-branch-clause-err g c start made =
     let new = c.into_port-port.result in
     let one : ServesOne g.L.Lane.tells ran.0 (view_of c.new-port.result) (view_of new) = subst (ServesOne g.L.Lane.tells ran.0 (view_of c.new-port.result)) (sym c.into_port-port.ensures) (ran.3 tt) in
     let steps : c.new-port.result.script ≡ load_script c.args.count = c.new-port.ensures.script ∙ c.in_ok-load_script.ensures in
-    let begun : IsNew c.args.count c.new-port.result = record { script = steps; opened = c.new-port.ensures.opened; going = c.new-port.ensures.stopped; well = c.new-port.ensures.failed; deaf = c.new-port.ensures.listens; unrefused = c.new-port.ensures.refused } in
+    let begun : IsNew c.args.count c.new-port.result = record { script = steps; opened = c.new-port.ensures.opened; going = c.new-port.ensures.stopped; well = c.new-port.ensures.failed; unasked = c.new-port.ensures.listens; unturned = c.new-port.ensures.turned; hears = c.new-port.ensures.deaf; sound = c.new-port.ensures.turns; unrefused = c.new-port.ensures.refused } in
     let script : TellsScript (load_script c.args.count) (port_state new) = subst (λ (xs : List Step). TellsScript xs (port_state new)) (one.served.goes_on.script ∙ steps) c.tells_its_script.ensures in
     (ran.0, ran.1, ran.2, breaks_off g.L.Lane.tells c.args.count c.new-port.result new ran.0 begun script one)

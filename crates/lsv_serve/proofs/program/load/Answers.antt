@@ -1,7 +1,7 @@
 use Rattle.std.proofs.Common.{◌≡◌, ◌∙◌, refl, ap, subst, List, ℕ, Option}
 use Rattle.lsv_conf.specs.Settings as conf
 use Rattle.lsv_serve.specs.Causes.{HasPlaces}
-use Rattle.lsv_serve.specs.Program.{lines_in, machine_of, prompts_of, set_by}
+use Rattle.lsv_serve.specs.Program.{lines_in, prompts_of, set_by}
 use Rattle.lsv_serve.specs.World.{World, world_of}
 use Rattle.lsv_serve.proofs.LoadLemmas.{loads_read, loads_unread}
 use Rattle.lsv_serve.proofs.ProgramLemmas.{unread_file, unread_line}
@@ -43,9 +43,8 @@ returns-in-Ok-conf_in-clause-loads g c =
     let events : c.options_of.result.events ≡ (set_by found).path = c.options_of.ensures.events ∙ ap (λ (s : conf.Settings). s.path) set in (
       found,
       λ told. c.in-Ok.ensures.ok told,
-      loads_read g.G.Tape.tells g.D.Disk.view c.args.count old new c.args.out.disk out.disk (g.G.Tape.turns c.args.out.tape) (g.G.Tape.turns out.tape) found (g.T.Texts.faults c.args.out.texts) _ c.serve_load.result.1 (λ d told image is. g.met.D.Disk.is_now told d image is) c.in-Ok-conf_in.ensures.none_refused
+      loads_read g.G.Tape.tells g.D.Disk.view c.args.count old new c.args.out.disk out.disk (g.G.Tape.turns c.args.out.tape) (g.G.Tape.turns out.tape) found (g.T.Texts.faults c.args.out.texts) _ c.serve_load.result.1 c.in-Ok-conf_in.ensures.none_refused
           (rw (form, log_exit, prompts) at c.serve_load.ensures.runs)
           (λ told. subst (λ (e : List ℕ). HasPlaces (set_by found).iolog_dir e new.disk) events (subst (λ (l : List ℕ). HasPlaces l c.options_of.result.events new.disk) logs (c.serve_load.ensures.places told)))
-          c.serve_load.ensures.fresh_again
-          (λ placed. c.a_load_sums_up_all_its_conversations.ensures (machine_of (set_by found)) (prompts_of (set_by found)) c.args.count placed out.disk (g.G.Tape.turns c.args.out.tape) (g.G.Tape.turns out.tape) c.requires.last),
+          c.serve_load.ensures.again,
     )

@@ -38,8 +38,8 @@ returns-in-Ok-conf_in-clause-serves g c =
     let events : c.options_of.result.events ≡ (set_by found).path = c.options_of.ensures.events ∙ ap (λ (s : conf.Settings). s.path) set in (
       found,
       λ told. c.in-Ok.ensures.ok told,
-      serves_read c.args.opts.now.stop_after found (g.T.Texts.faults c.args.out.texts) _ old new c.run_serve.result.1 (λ told image is. g.met.D.Disk.is_now told out.disk image is) c.in-Ok-conf_in.ensures.none_refused
+      serves_read c.args.opts.now.stop_after found (g.T.Texts.faults c.args.out.texts) _ old new c.run_serve.result.1 c.in-Ok-conf_in.ensures.none_refused
           (rw (form, log_exit, prompts, listen) at c.run_serve.ensures.runs)
           (λ told. subst (λ (e : List ℕ). HasPlaces (set_by found).iolog_dir e new.disk) events (subst (λ (l : List ℕ). HasPlaces l c.options_of.result.events new.disk) logs (c.run_serve.ensures.places told)))
-          c.run_serve.ensures.fresh_again,
+          c.run_serve.ensures.again,
     )
