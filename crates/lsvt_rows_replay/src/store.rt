@@ -63,7 +63,7 @@ pub fn put(alloc: Global, disk: &mut MemDisk, words: &str) -> Result<()> {
     make(disk, f, &bytes).map_err(|_| anyhow!("the file is there"))
 }
 
-/// Makes the files of a log as those of log 1, where they aren't there.
+/// Makes the files of a log as those of log 1, if they don't exist.
 fn copy_one(alloc: Global, disk: &mut MemDisk, number: u32) -> Result<()> {
     for (_, part) in PARTS {
         let Some(bytes) = disk.bytes(FileId::new(Owner::Log(1), part)) else {
