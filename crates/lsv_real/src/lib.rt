@@ -1,15 +1,15 @@
 //! The trusted edge beside the disk: the port of sockets, text files, the clock, the command line, standard input and standard output. They tell no content, and count their faults.
 #![tactic(auto)]
 
-mod arguments;
 mod clock;
+mod command_line;
 mod port;
 mod standard;
 mod streams;
 mod texts;
 
-pub use arguments::{ArgumentFault, arguments};
 pub use clock::WallClock;
+pub use command_line::{ArgumentFault, arguments};
 pub use port::{MioBell, MioPort};
 pub use standard::open_standard;
 pub use streams::{StdScreen, StdSink, StdSource};
