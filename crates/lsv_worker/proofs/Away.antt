@@ -1,4 +1,4 @@
--- Links that are no connection, and which links were open beside which.
+-- Links that are no connection, and the links that were open when a link was opened.
 use Rattle.std.proofs.Common.{◌≡◌, ◌≢◌, ◌⊎◌, ℕ, zero, suc, ◌<◌, ◌≤◌, Bool, true, false, List, [], ◌∷◌, ◌++◌, length, get_or, refl, sym, ap, subst, ◌∙◌, inl, inr, ⊎_elim, arith}
 use Rattle.std.specs.List.{Contains}
 use Rattle.std.proofs.lemmas.List.Elements.{Contains-append_cases, Contains-append_left}
@@ -23,7 +23,7 @@ opened_before opened l m ne has = ⊎_elim (λ was. was) (λ now. absurd (ne (on
 
 -- ---- which links were open beside which
 
--- what was open beside a link that was opened was opened
+-- a link that was open beside another one was opened
 abbrev pub AreBeside : PortState → Type 0
 AreBeside port = (m l : ℕ) → Contains port.opened m → (port.link m).beside l ≡ true → Contains port.opened l
 
@@ -48,7 +48,7 @@ beside_opens n s t opens known h m l has e =
 
 -- ---- links that were turned away
 
--- it is so still, where nothing of it changed, and each link was opened beside the same
+-- it is still so if the link and the notes of open links didn't change
 pub away_on : (set : Setting) (s t : PortState) (l : ℕ) → t.link l ≡ s.link l → t.opened ≡ s.opened → ((m : ℕ) → (t.link m).beside ≡ (s.link m).beside) → IsTurnedAway set s l → IsTurnedAway set t l
 away_on set s t l same opened beside a = record {
   input = ap (λ (x : LinkState). x.input) same ∙ a.input;
@@ -57,14 +57,14 @@ away_on set s t l same opened beside a = record {
   closed = ap (λ (x : LinkState). x.is_open) same ∙ a.closed;
   at_once = λ m has. ap (λ (b : ℕ → Bool). b l) (beside m) ∙ a.at_once m (subst (λ (o : List ℕ). Contains o m) opened has);
   early = ap (λ (x : LinkState). x.late) same ∙ a.early;
-  why = subst (λ (x : LinkState). IsCrowded x.beside ⊎ (1 ≤ set.wanting)) (sym same) a.why;
+  why = subst (λ (x : LinkState). IsCrowded x.beside ⊎ (1 ≤ set.turned_away)) (sym same) a.why;
 }
 
 pub away_alone : (set : Setting) (n l : ℕ) (s t : PortState) → Alone n s t → l ≢ n → IsTurnedAway set s l → IsTurnedAway set t l
 away_alone set n l s t alone ne a = away_on set s t l (alone.others l ne) alone.opened (beside_alone n s t alone) a
 
--- by a worker that counted no fewer since
-pub away_set : (a b : Setting) (port : PortState) (l : ℕ) → a.wanting ≤ b.wanting → IsTurnedAway a port l → IsTurnedAway b port l
+-- it is still so if the worker's count didn't fall
+pub away_set : (a b : Setting) (port : PortState) (l : ℕ) → a.turned_away ≤ b.turned_away → IsTurnedAway a port l → IsTurnedAway b port l
 away_set a b port l le h = record {
   input = h.input;
   reads = h.reads;
@@ -89,7 +89,7 @@ away_opens set n l s t opens ne a =
           (λ other. ap (λ (x : LinkState). x.beside l) (opens.others m other) ∙ a.at_once m (opened_before s.opened n m other (subst (λ (o : List ℕ). Contains o m) opens.opened has)))
           (same_or_not m n);
       early = ap (λ (x : LinkState). x.late) same ∙ a.early;
-      why = subst (λ (x : LinkState). IsCrowded x.beside ⊎ (1 ≤ set.wanting)) (sym same) a.why;
+      why = subst (λ (x : LinkState). IsCrowded x.beside ⊎ (1 ≤ set.turned_away)) (sym same) a.why;
     }
 
 false_or : (b : Bool) → (b ≡ true → ⊥) → b ≡ false
@@ -98,7 +98,7 @@ false_or false not_so = refl
 
 -- a link that was opened, and closed at once
 pub away_now : (set : Setting) (l : ℕ) (s mid t : PortState) → Opens l s mid → Changes l (closed (is_over mid) (mid.link l)) mid t → ((m : ℕ) → IsOpen s m → Contains s.opened m) → AreBeside s
-    → is_over mid ≡ false → IsCrowded (mid.link l).beside ⊎ (1 ≤ set.wanting) → IsTurnedAway set t l
+    → is_over mid ≡ false → IsCrowded (mid.link l).beside ⊎ (1 ≤ set.turned_away) → IsTurnedAway set t l
 away_now set l s mid t opens close known beside early why =
     let is : t.link l ≡ closed (is_over mid) (fresh_link (mid.link l).beside) = close.this ∙ ap (closed (is_over mid)) opens.this in
     let opened : t.opened ≡ s.opened ++ l ∷ [] = close.opened ∙ opens.opened in
@@ -115,10 +115,10 @@ away_now set l s mid t opens close known beside early why =
           ap (λ (x : LinkState). x.beside l) same ∙ false_or ((s.link m).beside l) (λ here. opens.fresh (beside m l (opened_before s.opened l m ne (subst (λ (o : List ℕ). Contains o m) opened has)) here)))
           (same_or_not m l);
       early = ap (λ (x : LinkState). x.late) is ∙ early;
-      why = subst (λ (b : ℕ → Bool). IsCrowded b ⊎ (1 ≤ set.wanting)) (sym (ap (λ (x : LinkState). x.beside) is)) why;
+      why = subst (λ (b : ℕ → Bool). IsCrowded b ⊎ (1 ≤ set.turned_away)) (sym (ap (λ (x : LinkState). x.beside) is)) why;
     }
 
--- and another one, meanwhile
+-- and another link, meanwhile
 pub away_still : (set : Setting) (n l : ℕ) (s mid t : PortState) → Opens n s mid → Changes n (closed (is_over mid) (mid.link n)) mid t → l ≢ n → IsTurnedAway set s l → IsTurnedAway set t l
 away_still set n l s mid t opens close ne a = away_alone set n l mid t (alone_change n (closed (is_over mid) (mid.link n)) mid t refl close) ne (away_opens set n l s mid opens ne a)
 

@@ -1,15 +1,15 @@
 -- A worker that has made no connections.
-use Rattle.std.proofs.Common.{◌≡◌, ℕ, ◌<◌, ◌≤◌, false, None, List, [], refl, sym, subst, ◌∙◌, arith}
+use Rattle.std.proofs.Common.{◌≡◌, ℕ, ◌<◌, ◌≤◌, false, None, List, [], refl, sym, subst, arith}
 use Rattle.std.specs.List.{Contains}
 use Rattle.lsv_port.specs.Port.{IsOpen, PortState}
-use Rattle.lsv_worker.specs.Links.{IsTold}
+use Rattle.lsv_worker.specs.Links.{KnowsPort}
 use Rattle.lsv_worker.specs.Worker.{AreLast, IsMade, Represents, conn_at, setting}
-use Rattle.lsv_worker.specs.declared.incoming.Stage.TheVariants.{Hearing}
+use Rattle.lsv_worker.specs.declared.incoming.Stage.TheVariants.{Open}
 use Rattle.lsv_worker.specs.declared.link.Link.{Link}
-use Rattle.lsv_worker.specs.declared.link.Pause.TheVariants.{Calm}
+use Rattle.lsv_worker.specs.declared.link.Blocked.TheVariants as blocks
 use Rattle.lsv_worker.specs.declared.link.Phase.{Phase}
 use Rattle.lsv_worker.specs.declared.link.Phase.TheVariants.{Going}
-use Rattle.lsv_worker.specs.declared.outgoing.Voice.TheVariants.{Speaking}
+use Rattle.lsv_worker.specs.declared.outgoing.Sending.TheVariants as sendings
 use Rattle.lsv_worker.specs.declared.worker.Worker.{Worker}
 
 -- some link: no connection is one
@@ -17,12 +17,12 @@ abbrev nobody : Worker → Link
 nobody w = record {
   number = 0;
   conn = conn_at (setting w) 0;
-  incoming = record { rest = []; first = None; waiting = None; route = record { lanes = 1; home = 0; lane = None }; stage = Hearing };
-  outgoing = record { alloc = w.alloc; unsent = []; voice = Speaking };
+  incoming = record { rest = []; first = None; waiting = None; route = record { lanes = 1; home = 0; lane = None }; stage = Open };
+  outgoing = record { alloc = w.alloc; unsent = []; sending = sendings.Open };
   live = false;
   owed = false;
   shut = false;
-  pause = Calm;
+  blocked = blocks.No;
 }
 
 none_made : (w : Worker) (k : ℕ) → w.next ≡ 1 → IsMade (setting w) k → ⊥
@@ -49,5 +49,5 @@ new_stands w port next links going going_on opened none = record {
   unasked = λ k not. tt;
   away = λ l has not. absurd (not_in_none l port.opened opened has);
   beside = λ m l has e. absurd (not_in_none m port.opened opened has);
-  told = subst (λ (p : Phase). IsTold p port) (sym going) going_on;
+  told = subst (λ (p : Phase). KnowsPort p port) (sym going) going_on;
 }

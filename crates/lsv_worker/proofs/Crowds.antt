@@ -1,4 +1,4 @@
--- How many links are open when one more is opened.
+-- The number of links that are open when one more is opened.
 use Rattle.std.proofs.Common.{◌≡◌, ◌≢◌, ◌⊎◌, ℕ, suc, ◌<◌, ◌≤◌, Bool, true, false, List, [], ◌∷◌, length, map, refl, sym, ap, subst, ◌∙◌, inl, inr, ⊎_elim, arith}
 use Rattle.std.specs.Prelude.{if◌then◌else◌, ◌&&◌, not}
 use Rattle.std.specs.List.{AllByRecursion}
@@ -7,17 +7,15 @@ use Rattle.lsv_links.specs.Views.{AreDifferent, IsCrowded, IsNoneOf}
 use Rattle.lsv_session.specs.declared.job.Job.{Job}
 use Rattle.lsv_session.specs.declared.reply.Reply.{Reply}
 use Rattle.lsv_worker.specs.Incoming.{has_left}
-use Rattle.lsv_worker.specs.Links.{is_done}
 use Rattle.lsv_worker.specs.Outgoing.{kept_up}
 use Rattle.lsv_worker.specs.Worker.{AreLast, IsApart, IsIn, IsMade, Setting, Stands, open_in}
 use Rattle.lsv_worker.specs.declared.link.Link.{Link}
-use Rattle.lsv_worker.proofs.Tables.{Fits}
 
 -- the numbers of the open links of a table
 abbrev numbers_in : List Link → List ℕ
 numbers_in links = map (λ (l : Link). l.number) (open_in links)
 
--- those with one more, if it is open
+-- the same with one link more, if it is open
 abbrev more_if : Bool → ℕ → List ℕ → List ℕ
 more_if b n ns = if b then n ∷ ns else ns
 
@@ -65,7 +63,7 @@ all_open last s port P (x ∷ links) live so t =
     let here : (port.link x.number).is_open ≡ x.live = subst (λ (l : Link). (port.link l.number).is_open ≡ l.live) t.1 (live x.conn.seq t.0) in
     subst (AllByRecursion P) (sym (in_more x.live x (open_in links))) (open_if x.live P x.number (numbers_in links) (λ e. so x.number (here ∙ e)) (all_open last s port P links live so t.3))
 
--- a link that is opened when this many are open
+-- a link is opened when many are open
 pub crowds : (s : Setting) (links : List Link) (l : ℕ) (before mid : PortState) (jobs : ℕ → List Job) (replies : List Reply) → 128 ≤ length (open_in links) → Opens l before mid → Stands s links before jobs replies → IsCrowded (mid.link l).beside
 crowds s links l before mid jobs replies many opens h = record {
   those = numbers_in links;
@@ -76,7 +74,7 @@ crowds s links l before mid jobs replies many opens h = record {
 
 -- ---- no more are open than the table has
 
--- this number is one of these
+-- a number is one of these
 abbrev IsAmong : ℕ → List ℕ → Type 0
 IsAmong n [] = ⊥
 IsAmong n (m ∷ ms) = (m ≡ n) ⊎ IsAmong n ms
@@ -93,7 +91,7 @@ others_among : (n : ℕ) (ns ms rest : List ℕ) → ((k : ℕ) → k ≢ n → 
 others_among n [] ms rest keeps none all = tt
 others_among n (x ∷ ns) ms rest keeps none all = (keeps x none.0 all.0, others_among n ns ms rest keeps none.1 all.1)
 
--- different numbers, each one of these, are no more than these
+-- different numbers that are all among these are at most as many
 no_more : (ns ms : List ℕ) → AreDifferent ns → AllByRecursion (λ n. IsAmong n ms) ns → length ns ≤ length ms
 no_more [] ms differ all = omega arith
 no_more (n ∷ ns) ms differ all =
@@ -130,13 +128,13 @@ open_among s links port jobs replies h n now =
     let at = h.linked n now in
     let link : Link = h.last at.0 in
     let live : link.live ≡ true = sym (h.each at.0 at.1).live ∙ subst (IsOpen port) (sym at.2) now in
-    in_numbers h.last s at.0 n links live at.2 h.table (h.complete at.0 at.1 (live_undone link.live link.shut (has_left link.incoming.stage) (kept_up link.outgoing.voice) live))
+    in_numbers h.last s at.0 n links live at.2 h.table (h.complete at.0 at.1 (live_undone link.live link.shut (has_left link.incoming.stage) (kept_up link.outgoing.sending) live))
 
 all_among : (P Q : ℕ → Type 0) (ns : List ℕ) → ((n : ℕ) → P n → Q n) → AllByRecursion P ns → AllByRecursion Q ns
 all_among P Q [] goes all = tt
 all_among P Q (n ∷ ns) goes all = (goes n all.0, all_among P Q ns goes all.1)
 
--- a link that is opened when fewer are open
+-- a link is opened when few are open
 pub uncrowded : (s : Setting) (links : List Link) (l : ℕ) (before mid : PortState) (jobs : ℕ → List Job) (replies : List Reply) → length (open_in links) < 128 → Opens l before mid → Stands s links before jobs replies → IsCrowded (mid.link l).beside → ⊥
 uncrowded s links l before mid jobs replies few opens h crowd =
     let all : AllByRecursion (λ n. IsAmong n (numbers_in links)) crowd.those =

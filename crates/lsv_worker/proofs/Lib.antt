@@ -3,6 +3,7 @@ pub mod Cutting
 pub mod Putting
 pub mod Wanting
 pub mod Ports
+pub mod FrameLemmas
 pub mod Speaking
 pub mod Linking
 pub mod Ruling

@@ -19,19 +19,19 @@ use Rattle.lsv_session.specs.declared.job.Body.{Body}
 use Rattle.lsv_session.specs.declared.job.Job.{Job}
 use Rattle.lsv_session.specs.declared.reply.Reply.{Reply}
 use Rattle.lsv_worker.specs.Lanes.{job_of}
-use Rattle.lsv_worker.specs.Incoming.{Hears, KeepsWant, Marks, Puts, SameWay, TellsWant, has_left, hears}
-use Rattle.lsv_worker.specs.Outgoing.{Alone, HasEarlyShut, HasShut, Speaks, TalksOn, Writes}
-use Rattle.lsv_worker.specs.Links.{Closes, Fails, HasOwnCause, IsAtHome, IsTold, LetsEnd, LinkStands, LinkStep, MayEnd, Takes, WasRead, WasReadAtMost, reads_in, repeated}
+use Rattle.lsv_worker.specs.Incoming.{Receives, IncomingKeeps, Marks, Puts, SameWay, ReportsNoMemory, has_left, may_receive}
+use Rattle.lsv_worker.specs.Outgoing.{Alone, HasEarlyShut, HasShut, Sends, RepliesAfterShut, Writes}
+use Rattle.lsv_worker.specs.Links.{Closes, Fails, HasOwnCause, IsAtHome, KnowsPort, LetsEnd, LinkStands, LinkStep, MayEnd, Takes, WasRead, WasReadAtMost, reads_in, repeated}
 use Rattle.lsv_worker.specs.declared.incoming.Incoming.{Incoming}
 use Rattle.lsv_worker.specs.declared.outgoing.Outgoing.{Outgoing}
-use Rattle.lsv_worker.specs.declared.outgoing.Voice.TheVariants as voices
+use Rattle.lsv_worker.specs.declared.outgoing.Sending.TheVariants as sendings
 use Rattle.lsv_worker.specs.declared.link.Link.{Link}
 use Rattle.lsv_worker.specs.declared.link.Phase.{Phase}
 use Rattle.lsv_worker.specs.declared.link.Phase.TheVariants.{Going, Stopping, Failed, Stopped}
 use Rattle.lsv_worker.proofs.Putting.{hears_ext, same_self}
 use Rattle.lsv_worker.proofs.Ports.{alone_change, alone_here, alone_then, going_or, told_alone}
 
--- the same of what was put, told otherwise
+-- the same for equal lists of what was put
 pub stands_ext : (n : ℕ) (phase : Phase) (link : Link) (s : LinkState) (p q : ℕ → List Body) (replies : List Reply) → ((lane : ℕ) → p lane ≡ q lane) → LinkStands n phase link s q replies → LinkStands n phase link s p replies
 stands_ext n phase link s p q replies same h = record {
   marks = h.marks;
@@ -73,7 +73,7 @@ link_then phase a b c s t u p q r x y = record {
 
 -- a step that puts nothing
 pub link_quiet : (phase : Phase) (old new : Link) (s t : PortState) (jobs : ℕ → List Job) → new.number ≡ old.number → new.conn ≡ old.conn → Alone old.number s t
-    → ((n : ℕ) (past : ℕ → List Body) (replies : List Reply) → IsTold phase s → LinkStands n phase old (s.link old.number) past replies → LinkStands n phase new (t.link old.number) past replies) → LinkStep phase old new s t jobs jobs
+    → ((n : ℕ) (past : ℕ → List Body) (replies : List Reply) → KnowsPort phase s → LinkStands n phase old (s.link old.number) past replies → LinkStands n phase new (t.link old.number) past replies) → LinkStep phase old new s t jobs jobs
 link_quiet phase old new s t jobs number conn alone goes = record {
   number = number;
   conn = conn;
@@ -83,12 +83,12 @@ link_quiet phase old new s t jobs number conn alone goes = record {
   goes = λ n past replies told h. stands_ext n phase new (t.link old.number) (λ m. past m ++ []) past replies (λ m. append-nil (past m)) (goes n past replies told h);
 }
 
--- a connection that was shut, by a keeper or since it left
-left_on : (old new : Incoming) (marks : Marks) → KeepsWant old new → (marks.shut ≡ true) ⊎ (has_left old.stage ≡ true) → (marks.shut ≡ true) ⊎ (has_left new.stage ≡ true)
+-- a connection that was shut, by a keeper or because it ended
+left_on : (old new : Incoming) (marks : Marks) → IncomingKeeps old new → (marks.shut ≡ true) ⊎ (has_left old.stage ≡ true) → (marks.shut ≡ true) ⊎ (has_left new.stage ≡ true)
 left_on old new marks keeps h = ⊎_elim (λ m. inl m) (λ l. inr (keeps.left l)) h
 
 -- jobs are put
-pub link_puts : (phase : Phase) (old : Link) (inc : Incoming) (port : PortState) (p q : ℕ → List Job) → Puts old.conn old.incoming inc p q → KeepsWant old.incoming inc → LinkStep phase old (record old { incoming = inc }) port port p q
+pub link_puts : (phase : Phase) (old : Link) (inc : Incoming) (port : PortState) (p q : ℕ → List Job) → Puts old.conn old.incoming inc p q → IncomingKeeps old.incoming inc → LinkStep phase old (record old { incoming = inc }) port port p q
 link_puts phase old inc port p q puts keeps = record {
   number = refl;
   conn = refl;
@@ -119,11 +119,11 @@ link_puts phase old inc port p q puts keeps = record {
   };
 }
 
--- its home lane is known whatever else is marked
+-- its home lane stays known whatever else is marked
 home_on : (n : ℕ) (c : ConnId) (old new : Marks) → new.lanes ≡ old.lanes → new.home ≡ old.home → IsAtHome n c old → IsAtHome n c new
 home_on n c old new lanes home h = record { lanes = lanes ∙ h.lanes; home = home ∙ h.home }
 
--- a connection that hasn't left, and whose link was closed before Stop, was shut by a keeper or failed
+-- if its Gone wasn't put and its link was closed before Stop, a keeper shut it or it failed
 gone_on : (n : ℕ) (phase : Phase) (old : Link) (s : LinkState) (past : ℕ → List Body) (replies : List Reply) (h : LinkStands n phase old s past replies) → has_left old.incoming.stage ≡ false → HasOwnCause phase s (h.marks.shut ≡ true)
 gone_on n phase old s past replies h stays dead early =
     ⊎_elim (λ f. inr (inl f))
@@ -131,7 +131,7 @@ gone_on n phase old s past replies h stays dead early =
 
 -- no more bytes come of a connection
 ends_at : (b : Bool) (n : ℕ) (phase : Phase) (old : Link) (inc : Incoming) (s : LinkState) (past : ℕ → List Body) (replies : List Reply) → has_left old.incoming.stage ≡ b → LetsEnd phase s
-    → ((read : List ℕ) (put : ℕ → List Body) (marks : Marks) → Hears old.incoming read put marks → Hears inc read put (record marks { over = true })) → (has_left old.incoming.stage ≡ true → inc ≡ old.incoming) → KeepsWant old.incoming inc
+    → ((read : List ℕ) (put : ℕ → List Body) (marks : Marks) → Receives old.incoming read put marks → Receives inc read put (record marks { over = true })) → (has_left old.incoming.stage ≡ true → inc ≡ old.incoming) → IncomingKeeps old.incoming inc
     → LinkStands n phase old s past replies → LinkStands n phase (record old { incoming = inc }) s past replies
 ends_at true n phase old inc s past replies left lets goes same keeps h = subst (λ (i : Incoming). LinkStands n phase (record old { incoming = i }) s past replies) (sym (same left)) h
 ends_at false n phase old inc s past replies stays lets goes same keeps h = record {
@@ -157,15 +157,15 @@ ends_at false n phase old inc s past replies stays lets goes same keeps h = reco
   wants = λ e. keeps.told (h.wants e);
 }
 
--- no more bytes come, where its phase lets it end
+-- no more bytes come, if its phase allows it to end
 pub link_ends : (phase : Phase) (old : Link) (inc : Incoming) (port : PortState) (jobs : ℕ → List Job) → ((s : LinkState) → s.owed ≡ old.owed → LetsEnd phase s)
-    → ((read : List ℕ) (put : ℕ → List Body) (marks : Marks) → Hears old.incoming read put marks → Hears inc read put (record marks { over = true })) → (has_left old.incoming.stage ≡ true → inc ≡ old.incoming) → KeepsWant old.incoming inc → LinkStep phase old (record old { incoming = inc }) port port jobs jobs
+    → ((read : List ℕ) (put : ℕ → List Body) (marks : Marks) → Receives old.incoming read put marks → Receives inc read put (record marks { over = true })) → (has_left old.incoming.stage ≡ true → inc ≡ old.incoming) → IncomingKeeps old.incoming inc → LinkStep phase old (record old { incoming = inc }) port port jobs jobs
 link_ends phase old inc port jobs lets goes same keeps =
     link_quiet phase old (record old { incoming = inc }) port port jobs refl refl (alone_here old.number port)
     (λ n past replies told h. ends_at (has_left old.incoming.stage) n phase old inc (port.link old.number) past replies refl (lets (port.link old.number) h.owed) goes same keeps h)
 
--- why the reading stopped changes nothing else
-pub link_paused : (phase : Phase) (old new after : Link) (s t : PortState) (p q : ℕ → List Job) → after ≡ record new { pause = after.pause } → LinkStep phase old new s t p q → LinkStep phase old after s t p q
+-- a note of what keeps a link from being read changes nothing else
+pub link_paused : (phase : Phase) (old new after : Link) (s t : PortState) (p q : ℕ → List Job) → after ≡ record new { blocked = after.blocked } → LinkStep phase old new s t p q → LinkStep phase old after s t p q
 link_paused phase old new after s t p q is step =
     subst (λ (l : Link). LinkStep phase old l s t p q) (sym is) (record {
       number = step.number;
@@ -222,19 +222,19 @@ reads_lets Stopped s reads h = absurd cc
 may_same : (phase : Phase) (s t : LinkState) → t.ended ≡ s.ended → t.failed ≡ s.failed → (LetsEnd phase s → LetsEnd phase t) → MayEnd phase s → MayEnd phase t
 may_same phase s t ended failed lets h = ⊎_elim (λ e. inl (ended ∙ e)) (λ k. inr (⊎_elim (λ f. inl (failed ∙ f)) (λ l. inr (lets l)) k)) h
 
--- the same cause of a link that ended or failed no less
+-- the cause stays if the link still ended or failed
 pub cause_same : (phase : Phase) (s t : LinkState) (shut : Type 0) → t.ended ≡ s.ended → t.failed ≡ s.failed → (s.ended ≡ true) ⊎ ((s.failed ≡ true) ⊎ (shut ⊎ (phase ≡ Stopped))) → (t.ended ≡ true) ⊎ ((t.failed ≡ true) ⊎ (shut ⊎ (phase ≡ Stopped)))
 cause_same phase s t shut ended failed h = ⊎_elim (λ e. inl (ended ∙ e)) (λ k. inr (⊎_elim (λ f. inl (failed ∙ f)) (λ r. inr r) k)) h
 
--- a worker that goes on lets a link end for its own cause alone
+-- while a worker goes on, a link ends only for its own cause
 cause_going : (phase : Phase) (s t : LinkState) (shut : Type 0) → t.ended ≡ s.ended → t.failed ≡ s.failed → phase ≡ Going → MayEnd phase s → (t.ended ≡ true) ⊎ ((t.failed ≡ true) ⊎ (shut ⊎ (phase ≡ Stopped)))
 cause_going phase s t shut ended failed going h =
     ⊎_elim (λ e. inl (ended ∙ e)) (λ k. inr (⊎_elim (λ f. inl (failed ∙ f)) (λ l. absurd (subst (λ (p : Phase). LetsEnd p s) going l)) k)) h
 
--- bytes came on a link that hears
+-- bytes were read from a link that may receive
 pub stands_heard : (n : ℕ) (phase : Phase) (old : Link) (inc : Incoming) (s : LinkState) (count : ℕ) (buf : List ℕ) (past : ℕ → List Body) (replies : List Reply)
-    → ((read : List ℕ) (put : ℕ → List Body) (marks : Marks) → Hears old.incoming read put marks → Hears inc (read ++ take count buf) put marks)
-    → All (λ b. b < 256) buf → KeepsWant old.incoming inc → LinkStands n phase old s past replies → LinkStands n phase (record old { incoming = inc }) (after_read (took.Bytes count) buf s) past replies
+    → ((read : List ℕ) (put : ℕ → List Body) (marks : Marks) → Receives old.incoming read put marks → Receives inc (read ++ take count buf) put marks)
+    → All (λ b. b < 256) buf → IncomingKeeps old.incoming inc → LinkStands n phase old s past replies → LinkStands n phase (record old { incoming = inc }) (after_read (took.Bytes count) buf s) past replies
 stands_heard n phase old inc s count buf past replies goes small keeps h = record {
   marks = h.marks;
   home = h.home;
@@ -258,8 +258,8 @@ stands_heard n phase old inc s count buf past replies goes small keeps h = recor
   wants = λ e. keeps.told (h.wants e);
 }
 
--- no bytes come on a link that doesn't hear
-pub deaf : (n : ℕ) (phase : Phase) (old : Link) (s : LinkState) (past : ℕ → List Body) (replies : List Reply) → reads_in phase ≡ true → old.live ≡ true → old.owed ≡ true → hears old.incoming.stage ≡ false → s.ended ≡ false → LinkStands n phase old s past replies → ⊥
+-- no bytes are read from a link that may not receive
+pub deaf : (n : ℕ) (phase : Phase) (old : Link) (s : LinkState) (past : ℕ → List Body) (replies : List Reply) → reads_in phase ≡ true → old.live ≡ true → old.owed ≡ true → may_receive old.incoming.stage ≡ false → s.ended ≡ false → LinkStands n phase old s past replies → ⊥
 deaf n phase old s past replies reads live owed mute going h =
     ⊎_elim (λ e. let a : false ≡ true = sym going ∙ e in cc)
     (λ k. ⊎_elim (λ f. let a : true ≡ false = sym live ∙ h.broken f in cc) (λ l. let a : true ≡ false = sym owed ∙ sym h.owed ∙ reads_lets phase s reads l in cc) k)
@@ -290,8 +290,8 @@ stands_unowed n phase old s buf past replies h = record {
 }
 
 pub stands_ended : (n : ℕ) (phase : Phase) (old : Link) (inc : Incoming) (s : LinkState) (buf : List ℕ) (past : ℕ → List Body) (replies : List Reply)
-    → ((read : List ℕ) (put : ℕ → List Body) (marks : Marks) → Hears old.incoming read put marks → Hears inc read put (record marks { over = true }))
-    → KeepsWant old.incoming inc → LinkStands n phase old s past replies → LinkStands n phase (record old { owed = false; incoming = inc }) (after_read took.End buf s) past replies
+    → ((read : List ℕ) (put : ℕ → List Body) (marks : Marks) → Receives old.incoming read put marks → Receives inc read put (record marks { over = true }))
+    → IncomingKeeps old.incoming inc → LinkStands n phase old s past replies → LinkStands n phase (record old { owed = false; incoming = inc }) (after_read took.End buf s) past replies
 stands_ended n phase old inc s buf past replies goes keeps h = record {
   marks = record h.marks { over = true };
   home = home_on n old.conn h.marks (record h.marks { over = true }) refl refl h.home;
@@ -317,15 +317,15 @@ stands_ended n phase old inc s buf past replies goes keeps h = record {
 
 -- a link that failed is closed
 pub stands_failed : (n : ℕ) (phase : Phase) (old mid new : Link) (s t : LinkState) (past : ℕ → List Body) (replies : List Reply) → mid.conn ≡ old.conn → mid.shut ≡ old.shut → mid.incoming ≡ old.incoming
-    → ((answers : List ℕ) → Speaks old.outgoing s.output answers → Speaks mid.outgoing t.output answers) → (mid.outgoing.voice ≡ voices.Over → old.outgoing.voice ≡ voices.Over) → (mid.outgoing.voice ≡ voices.Starved → old.outgoing.voice ≡ voices.Starved) → Fails mid new
+    → ((answers : List ℕ) → Sends old.outgoing s.output answers → Sends mid.outgoing t.output answers) → (mid.outgoing.sending ≡ sendings.Over → old.outgoing.sending ≡ sendings.Over) → (mid.outgoing.sending ≡ sendings.OutOfMemory → old.outgoing.sending ≡ sendings.OutOfMemory) → Fails mid new
     → t.input ≡ s.input → t.is_open ≡ false → t.failed ≡ true → t.owed ≡ mid.owed → (t.ended ≡ true → t.owed ≡ false) → LinkStands n phase old s past replies → LinkStands n phase new t past replies
-stands_failed n phase old mid new s t past replies conn shut incoming speaks over starved fails input shutdown failed owed paid h =
+stands_failed n phase old mid new s t past replies conn shut incoming speaks over out_of_memory fails input shutdown failed owed paid h =
     let c : new.conn ≡ old.conn = fails.conn ∙ conn in
     record {
       marks = record h.marks { over = true };
       home = subst (λ (k : ConnId). IsAtHome n k (record h.marks { over = true })) (sym c) (home_on n old.conn h.marks (record h.marks { over = true }) refl refl h.home);
-      inward = subst (λ (r : List ℕ). Hears new.incoming r past (record h.marks { over = true })) (sym input) (fails.incoming s.input past h.marks (subst (λ (i : Incoming). Hears i s.input past h.marks) (sym incoming) h.inward));
-      outward = fails.outgoing t.output (answers new.conn replies) (subst (λ (k : ConnId). Speaks mid.outgoing t.output (answers k replies)) (sym c) (speaks (answers old.conn replies) h.outward));
+      inward = subst (λ (r : List ℕ). Receives new.incoming r past (record h.marks { over = true })) (sym input) (fails.incoming s.input past h.marks (subst (λ (i : Incoming). Receives i s.input past h.marks) (sym incoming) h.inward));
+      outward = fails.outgoing t.output (answers new.conn replies) (subst (λ (k : ConnId). Sends mid.outgoing t.output (answers k replies)) (sym c) (speaks (answers old.conn replies) h.outward));
       small = subst (All (λ b. b < 256)) (sym input) h.small;
       live = shutdown ∙ sym fails.live;
       owed = owed ∙ sym fails.owed;
@@ -341,21 +341,21 @@ stands_failed n phase old mid new s t past replies conn shut incoming speaks ove
       closed = λ e. inl failed;
       sent = λ e full. fails.unsent;
       kept = λ going e. fails.unsent;
-      wants = λ e. fails.keeps.told (subst TellsWant (sym incoming) (h.wants (starved (fails.starved e))));
+      wants = λ e. fails.keeps.told (subst ReportsNoMemory (sym incoming) (h.wants (out_of_memory (fails.out_of_memory e))));
     }
 
 -- ---- writing
 
 pub stands_wrote : (n : ℕ) (phase : Phase) (old : Link) (out : Outgoing) (live : Bool) (s t : LinkState) (past : ℕ → List Body) (replies : List Reply)
     → t.input ≡ s.input → t.ended ≡ s.ended → t.owed ≡ s.owed → t.failed ≡ s.failed → t.is_open ≡ live
-    → ((answers : List ℕ) → Speaks old.outgoing s.output answers → Speaks out t.output answers) → (out.voice ≡ voices.Failed → old.outgoing.voice ≡ voices.Failed) → (out.voice ≡ voices.Over → (old.outgoing.voice ≡ voices.Over) ⊎ (phase ≡ Stopped)) → (out.voice ≡ voices.Starved → old.outgoing.voice ≡ voices.Starved)
+    → ((answers : List ℕ) → Sends old.outgoing s.output answers → Sends out t.output answers) → (out.sending ≡ sendings.Failed → old.outgoing.sending ≡ sendings.Failed) → (out.sending ≡ sendings.Over → (old.outgoing.sending ≡ sendings.Over) ⊎ (phase ≡ Stopped)) → (out.sending ≡ sendings.OutOfMemory → old.outgoing.sending ≡ sendings.OutOfMemory)
     → (old.live ≡ false → live ≡ false) → (live ≡ false → (t.failed ≡ true) ⊎ ((old.shut ≡ true) ⊎ (phase ≡ Stopped))) → (live ≡ false → t.full ≡ false → out.unsent ≡ []) → (phase ≡ Going → live ≡ false → out.unsent ≡ [])
     → (live ≡ false → t.late ≡ false → ((old.live ≡ false) × (s.late ≡ false)) ⊎ ((phase ≡ Going) ⊎ (phase ≡ Stopped)))
     → LinkStands n phase old s past replies → LinkStands n phase (record old { outgoing = out; live = live }) t past replies
-stands_wrote n phase old out live s t past replies input ended owed failed here speaks silent over starved still closed sent kept late h = record {
+stands_wrote n phase old out live s t past replies input ended owed failed here speaks silent over out_of_memory still closed sent kept late h = record {
   marks = h.marks;
   home = h.home;
-  inward = subst (λ (r : List ℕ). Hears old.incoming r past h.marks) (sym input) h.inward;
+  inward = subst (λ (r : List ℕ). Receives old.incoming r past h.marks) (sym input) h.inward;
   outward = speaks (answers old.conn replies) h.outward;
   small = subst (All (λ b. b < 256)) (sym input) h.small;
   live = here;
@@ -374,7 +374,7 @@ stands_wrote n phase old out live s t past replies input ended owed failed here 
   closed = closed;
   sent = sent;
   kept = kept;
-  wants = λ e. h.wants (starved e);
+  wants = λ e. h.wants (out_of_memory e);
 }
 
 -- ---- counts of reads
@@ -410,9 +410,9 @@ most_up m n s t le a = record { times = a.times; few = omega (arith, a.few); wer
 
 -- ---- one call of the port
 
--- one call changes this link, and puts nothing
+-- a call changes only this link, and puts nothing
 pub link_change : (phase : Phase) (old new : Link) (now : LinkState) (s t : PortState) (jobs : ℕ → List Job) → new.number ≡ old.number → new.conn ≡ old.conn → now.beside ≡ (s.link old.number).beside → Changes old.number now s t
-    → ((n : ℕ) (past : ℕ → List Body) (replies : List Reply) → IsTold phase s → LinkStands n phase old (s.link old.number) past replies → LinkStands n phase new now past replies) → LinkStep phase old new s t jobs jobs
+    → ((n : ℕ) (past : ℕ → List Body) (replies : List Reply) → KnowsPort phase s → LinkStands n phase old (s.link old.number) past replies → LinkStands n phase new now past replies) → LinkStep phase old new s t jobs jobs
 link_change phase old new now s t jobs number conn beside change goes =
     link_quiet phase old new s t jobs number conn (alone_change old.number now s t beside change) (λ n past replies told h. subst (λ (x : LinkState). LinkStands n phase new x past replies) (sym change.this) (goes n past replies told h))
 
@@ -423,37 +423,37 @@ link_read_failed phase old new buf s t u jobs first second fails =
     let is : u.link old.number ≡ closed (is_over t) (after_read took.Failed buf (s.link old.number)) = second.this ∙ ap (closed (is_over t)) first.this in
     link_quiet phase old new s u jobs fails.number fails.conn (alone_then old.number s t u (alone_change old.number (after_read took.Failed buf (s.link old.number)) s t refl first) (alone_change old.number (closed (is_over t) (t.link old.number)) t u refl second))
     (λ n past replies told h. stands_failed n phase old (record old { owed = false }) new (s.link old.number) (u.link old.number) past replies refl refl refl
-    (λ a speaks. subst (λ (x : LinkState). Speaks old.outgoing x.output a) (sym is) speaks) (λ e. e) (λ e. e) fails
+    (λ a speaks. subst (λ (x : LinkState). Sends old.outgoing x.output a) (sym is) speaks) (λ e. e) (λ e. e) fails
     (ap (λ (x : LinkState). x.input) is) (ap (λ (x : LinkState). x.is_open) is) (ap (λ (x : LinkState). x.failed) is) (ap (λ (x : LinkState). x.owed) is) (λ e. ap (λ (x : LinkState). x.owed) is) h)
 
 -- a write failed, and the link was closed
-pub link_write_failed : (phase : Phase) (old new : Link) (out : Outgoing) (s t u : PortState) (jobs : ℕ → List Job) → Writes old.number old.outgoing out s t → (t.link old.number).failed ≡ true → (out.voice ≡ voices.Over → old.outgoing.voice ≡ voices.Over) → (out.voice ≡ voices.Starved → old.outgoing.voice ≡ voices.Starved)
+pub link_write_failed : (phase : Phase) (old new : Link) (out : Outgoing) (s t u : PortState) (jobs : ℕ → List Job) → Writes old.number old.outgoing out s t → (t.link old.number).failed ≡ true → (out.sending ≡ sendings.Over → old.outgoing.sending ≡ sendings.Over) → (out.sending ≡ sendings.OutOfMemory → old.outgoing.sending ≡ sendings.OutOfMemory)
     → Changes old.number (closed (is_over t) (t.link old.number)) t u → Fails (record old { outgoing = out }) new → LinkStep phase old new s u jobs jobs
-link_write_failed phase old new out s t u jobs writes failed over starved change fails =
+link_write_failed phase old new out s t u jobs writes failed over out_of_memory change fails =
     let is : u.link old.number ≡ closed (is_over t) (t.link old.number) = change.this in
     link_quiet phase old new s u jobs fails.number fails.conn (alone_then old.number s t u writes.alone (alone_change old.number (closed (is_over t) (t.link old.number)) t u refl change))
     (λ n past replies told h. stands_failed n phase old (record old { outgoing = out }) new (s.link old.number) (u.link old.number) past replies refl refl refl
-    (λ a speaks. subst (λ (x : LinkState). Speaks out x.output a) (sym is) (writes.goes a speaks)) over starved fails
+    (λ a speaks. subst (λ (x : LinkState). Sends out x.output a) (sym is) (writes.goes a speaks)) over out_of_memory fails
     (ap (λ (x : LinkState). x.input) is ∙ writes.input.input) (ap (λ (x : LinkState). x.is_open) is) (ap (λ (x : LinkState). x.failed) is ∙ failed) (ap (λ (x : LinkState). x.owed) is ∙ writes.input.owed ∙ h.owed)
     (λ e. ap (λ (x : LinkState). x.owed) is ∙ writes.input.owed ∙ h.paid (sym (ap (λ (x : LinkState). x.ended) is ∙ writes.input.ended) ∙ e)) h)
 
--- what is unsent was written, as far as the link took it
-pub link_wrote : (phase : Phase) (old : Link) (out : Outgoing) (s t : PortState) (jobs : ℕ → List Job) → old.live ≡ true → Writes old.number old.outgoing out s t → (t.link old.number).failed ≡ (s.link old.number).failed → out.voice ≡ old.outgoing.voice
+-- unsent bytes were written, as many as the link took
+pub link_wrote : (phase : Phase) (old : Link) (out : Outgoing) (s t : PortState) (jobs : ℕ → List Job) → old.live ≡ true → Writes old.number old.outgoing out s t → (t.link old.number).failed ≡ (s.link old.number).failed → out.sending ≡ old.outgoing.sending
     → LinkStep phase old (record old { outgoing = out }) s t jobs jobs
-link_wrote phase old out s t jobs live writes failed voice =
+link_wrote phase old out s t jobs live writes failed sending =
     link_quiet phase old (record old { outgoing = out }) s t jobs refl refl writes.alone
     (λ n past replies told h. stands_wrote n phase old out old.live (s.link old.number) (t.link old.number) past replies writes.input.input writes.input.ended writes.input.owed failed (writes.input.is_open ∙ h.live) writes.goes
-    (λ e. sym voice ∙ e) (λ e. inl (sym voice ∙ e)) (λ e. sym voice ∙ e) (λ e. e) (λ e. let no : true ≡ false = sym live ∙ e in absurd cc) (λ e. let no : true ≡ false = sym live ∙ e in absurd cc) (λ going e. let no : true ≡ false = sym live ∙ e in absurd cc) (λ e early. let no : true ≡ false = sym live ∙ e in absurd cc) h)
+    (λ e. sym sending ∙ e) (λ e. inl (sym sending ∙ e)) (λ e. sym sending ∙ e) (λ e. e) (λ e. let no : true ≡ false = sym live ∙ e in absurd cc) (λ e. let no : true ≡ false = sym live ∙ e in absurd cc) (λ going e. let no : true ≡ false = sym live ∙ e in absurd cc) (λ e early. let no : true ≡ false = sym live ∙ e in absurd cc) h)
 
--- the same of a link that was shut, which is closed
-pub link_wrote_last : (phase : Phase) (old : Link) (out : Outgoing) (s t u : PortState) (jobs : ℕ → List Job) → old.shut ≡ true → Writes old.number old.outgoing out s t → (t.link old.number).failed ≡ (s.link old.number).failed → out.voice ≡ old.outgoing.voice
+-- the same, and the link was shut and is closed
+pub link_wrote_last : (phase : Phase) (old : Link) (out : Outgoing) (s t u : PortState) (jobs : ℕ → List Job) → old.shut ≡ true → Writes old.number old.outgoing out s t → (t.link old.number).failed ≡ (s.link old.number).failed → out.sending ≡ old.outgoing.sending
     → ((t.link old.number).full ≡ false → out.unsent ≡ []) → (phase ≡ Going → out.unsent ≡ []) → Changes old.number (closed (is_over t) (t.link old.number)) t u → LinkStep phase old (record old { outgoing = out; live = false }) s u jobs jobs
-link_wrote_last phase old out s t u jobs shut writes failed voice done idle change =
+link_wrote_last phase old out s t u jobs shut writes failed sending done idle change =
     let is : u.link old.number ≡ closed (is_over t) (t.link old.number) = change.this in
     link_quiet phase old (record old { outgoing = out; live = false }) s u jobs refl refl (alone_then old.number s t u writes.alone (alone_change old.number (closed (is_over t) (t.link old.number)) t u refl change))
     (λ n past replies told h. stands_wrote n phase old out false (s.link old.number) (u.link old.number) past replies (ap (λ (x : LinkState). x.input) is ∙ writes.input.input) (ap (λ (x : LinkState). x.ended) is ∙ writes.input.ended) (ap (λ (x : LinkState). x.owed) is ∙ writes.input.owed)
-    (ap (λ (x : LinkState). x.failed) is ∙ failed) (ap (λ (x : LinkState). x.is_open) is) (λ a speaks. subst (λ (x : LinkState). Speaks out x.output a) (sym is) (writes.goes a speaks))
-    (λ e. sym voice ∙ e) (λ e. inl (sym voice ∙ e)) (λ e. sym voice ∙ e) (λ e. refl) (λ e. inr (inl shut)) (λ e full. done (sym (ap (λ (x : LinkState). x.full) is) ∙ full)) (λ going e. idle going)
+    (ap (λ (x : LinkState). x.failed) is ∙ failed) (ap (λ (x : LinkState). x.is_open) is) (λ a speaks. subst (λ (x : LinkState). Sends out x.output a) (sym is) (writes.goes a speaks))
+    (λ e. sym sending ∙ e) (λ e. inl (sym sending ∙ e)) (λ e. sym sending ∙ e) (λ e. refl) (λ e. inr (inl shut)) (λ e full. done (sym (ap (λ (x : LinkState). x.full) is) ∙ full)) (λ going e. idle going)
     (λ e early. inr (going_or phase t (told_alone phase old.number s t writes.alone told) (sym (ap (λ (x : LinkState). x.late) is) ∙ early))) h)
 
 -- nothing is done
@@ -497,7 +497,7 @@ pub early_last : (c : ConnId) (replies : List Reply) (reply : Reply) → reply.c
 early_last c [] reply conn body last = inl (record { shut = record { conn = same_said reply.conn c conn; shut = body }; early = last })
 early_last c (r ∷ replies) reply conn body last = inr (early_last c replies reply conn body last)
 
-pub talks_more : (c : ConnId) (replies more : List Reply) → TalksOn c replies → TalksOn c (replies ++ more)
+pub talks_more : (c : ConnId) (replies more : List Reply) → RepliesAfterShut c replies → RepliesAfterShut c (replies ++ more)
 talks_more c replies more h = record {
   before = h.before;
   reply = h.reply;
@@ -507,19 +507,19 @@ talks_more c replies more h = record {
   more = h.more;
 }
 
-pub talks_now : (c : ConnId) (replies : List Reply) (reply : Reply) → reply.conn ≡ c → HasShut c replies → TalksOn c (replies ++ reply ∷ [])
+pub talks_now : (c : ConnId) (replies : List Reply) (reply : Reply) → reply.conn ≡ c → HasShut c replies → RepliesAfterShut c (replies ++ reply ∷ [])
 talks_now c replies reply conn shut = record { before = replies; reply = reply; after = []; whole = refl; shut = shut; more = same_said reply.conn c conn }
 
--- a reply was taken that says something
+-- a reply with a message was taken
 pub stands_said : (n : ℕ) (phase : Phase) (old : Link) (inc : Incoming) (out : Outgoing) (s : LinkState) (past : ℕ → List Body) (replies : List Reply) (reply : Reply) (m : ServerMessage) → reply.conn ≡ old.conn → reply.body ≡ said.Say m → SameWay old.incoming inc
-    → (Speaks old.outgoing s.output (answers old.conn replies) → Speaks out s.output (answers old.conn replies ++ frame_of (server_bytes m)))
-    → (out.voice ≡ voices.Failed → old.outgoing.voice ≡ voices.Failed) → (out.voice ≡ voices.Over → (old.outgoing.voice ≡ voices.Over) ⊎ ((old.shut ≡ true) ⊎ (old.live ≡ false))) → (old.live ≡ false → out.unsent ≡ []) → ((old.outgoing.voice ≡ voices.Starved → TellsWant old.incoming) → out.voice ≡ voices.Starved → TellsWant inc) → (has_left old.incoming.stage ≡ true → has_left inc.stage ≡ true)
+    → (Sends old.outgoing s.output (answers old.conn replies) → Sends out s.output (answers old.conn replies ++ frame_of (server_bytes m)))
+    → (out.sending ≡ sendings.Failed → old.outgoing.sending ≡ sendings.Failed) → (out.sending ≡ sendings.Over → (old.outgoing.sending ≡ sendings.Over) ⊎ ((old.shut ≡ true) ⊎ (old.live ≡ false))) → (old.live ≡ false → out.unsent ≡ []) → ((old.outgoing.sending ≡ sendings.OutOfMemory → ReportsNoMemory old.incoming) → out.sending ≡ sendings.OutOfMemory → ReportsNoMemory inc) → (has_left old.incoming.stage ≡ true → has_left inc.stage ≡ true)
     → LinkStands n phase old s past replies → LinkStands n phase (record old { incoming = inc; outgoing = out }) s past (replies ++ reply ∷ [])
 stands_said n phase old inc out s past replies reply m conn body way speaks silent over sent wants left h = record {
   marks = h.marks;
   home = h.home;
   inward = way s.input past h.marks h.inward;
-  outward = subst (Speaks out s.output) (sym (answers_said old.conn replies reply m conn body)) (speaks h.outward);
+  outward = subst (Sends out s.output) (sym (answers_said old.conn replies reply m conn body)) (speaks h.outward);
   small = h.small;
   live = h.live;
   owed = h.owed;
@@ -540,7 +540,7 @@ stands_said n phase old inc out s past replies reply m conn body way speaks sile
   wants = wants h.wants;
 }
 
--- what a Shut marks of a connection: that a keeper shut it by itself, unless its end asked for it, which was put then
+-- what a Shut marks of a connection: a keeper shut it early, or its Gone was put before
 pub record IsMarking (marks : Marks → Marks) (inc : Incoming) (last : Bool) : Type 0 where
   pub lanes : (m : Marks) → (marks m).lanes ≡ m.lanes
   pub home : (m : Marks) → (marks m).home ≡ m.home
@@ -551,13 +551,13 @@ pub record IsMarking (marks : Marks → Marks) (inc : Incoming) (last : Bool) : 
 
 -- a Shut was taken
 pub stands_shut : (n : ℕ) (phase : Phase) (old : Link) (inc : Incoming) (marks : Marks → Marks) (s : LinkState) (past : ℕ → List Body) (replies : List Reply) (reply : Reply) → reply.conn ≡ old.conn → reply.body ≡ said.Shut
-    → ((read : List ℕ) (put : ℕ → List Body) (m : Marks) → Hears old.incoming read put m → Hears inc read put (marks m)) → IsMarking marks inc reply.last → KeepsWant old.incoming inc
+    → ((read : List ℕ) (put : ℕ → List Body) (m : Marks) → Receives old.incoming read put m → Receives inc read put (marks m)) → IsMarking marks inc reply.last → IncomingKeeps old.incoming inc
     → LinkStands n phase old s past replies → LinkStands n phase (record old { incoming = inc; shut = true }) s past (replies ++ reply ∷ [])
 stands_shut n phase old inc marks s past replies reply conn body way marking keeps h = record {
   marks = marks h.marks;
   home = home_on n old.conn h.marks (marks h.marks) (marking.lanes h.marks) (marking.home h.marks) h.home;
   inward = way s.input past h.marks h.inward;
-  outward = subst (Speaks old.outgoing s.output) (sym (answers_shut old.conn replies reply conn body)) h.outward;
+  outward = subst (Sends old.outgoing s.output) (sym (answers_shut old.conn replies reply conn body)) h.outward;
   small = h.small;
   live = h.live;
   owed = h.owed;
@@ -583,7 +583,7 @@ stands_ignored n phase old s past replies reply conn body h = record {
   marks = h.marks;
   home = h.home;
   inward = h.inward;
-  outward = subst (Speaks old.outgoing s.output) (sym (answers_shut old.conn replies reply conn body)) h.outward;
+  outward = subst (Sends old.outgoing s.output) (sym (answers_shut old.conn replies reply conn body)) h.outward;
   small = h.small;
   live = h.live;
   owed = h.owed;
@@ -603,8 +603,8 @@ stands_ignored n phase old s past replies reply conn body h = record {
 }
 
 pub takes_said : (old : Link) (inc : Incoming) (out : Outgoing) (port : PortState) (reply : Reply) (m : ServerMessage) → reply.conn ≡ old.conn → reply.body ≡ said.Say m → inc.route.lanes ≡ old.incoming.route.lanes → SameWay old.incoming inc
-    → ((output answers : List ℕ) → Speaks old.outgoing output answers → Speaks out output (answers ++ frame_of (server_bytes m)))
-    → (out.voice ≡ voices.Failed → old.outgoing.voice ≡ voices.Failed) → (out.voice ≡ voices.Over → (old.outgoing.voice ≡ voices.Over) ⊎ ((old.shut ≡ true) ⊎ (old.live ≡ false))) → (old.live ≡ false → out.unsent ≡ []) → ((old.outgoing.voice ≡ voices.Starved → TellsWant old.incoming) → out.voice ≡ voices.Starved → TellsWant inc) → (has_left old.incoming.stage ≡ true → has_left inc.stage ≡ true)
+    → ((output answers : List ℕ) → Sends old.outgoing output answers → Sends out output (answers ++ frame_of (server_bytes m)))
+    → (out.sending ≡ sendings.Failed → old.outgoing.sending ≡ sendings.Failed) → (out.sending ≡ sendings.Over → (old.outgoing.sending ≡ sendings.Over) ⊎ ((old.shut ≡ true) ⊎ (old.live ≡ false))) → (old.live ≡ false → out.unsent ≡ []) → ((old.outgoing.sending ≡ sendings.OutOfMemory → ReportsNoMemory old.incoming) → out.sending ≡ sendings.OutOfMemory → ReportsNoMemory inc) → (has_left old.incoming.stage ≡ true → has_left inc.stage ≡ true)
     → Takes reply old (record old { incoming = inc; outgoing = out }) port port
 takes_said old inc out port reply m conn body lanes way speaks silent over sent wants left = record {
   number = refl;
@@ -617,7 +617,7 @@ takes_said old inc out port reply m conn body lanes way speaks silent over sent 
 }
 
 pub takes_shut : (old : Link) (inc : Incoming) (marks : Marks → Marks) (port : PortState) (reply : Reply) → reply.conn ≡ old.conn → reply.body ≡ said.Shut → inc.route.lanes ≡ old.incoming.route.lanes
-    → ((read : List ℕ) (put : ℕ → List Body) (m : Marks) → Hears old.incoming read put m → Hears inc read put (marks m)) → IsMarking marks inc reply.last → KeepsWant old.incoming inc
+    → ((read : List ℕ) (put : ℕ → List Body) (m : Marks) → Receives old.incoming read put m → Receives inc read put (marks m)) → IsMarking marks inc reply.last → IncomingKeeps old.incoming inc
     → Takes reply old (record old { incoming = inc; shut = true }) port port
 takes_shut old inc marks port reply conn body lanes way marking keeps = record {
   number = refl;
@@ -667,20 +667,20 @@ closes_now old s t shut empty change =
       open_before = λ e. let no : (t.link old.number).is_open ≡ false = ap (λ (x : LinkState). x.is_open) is in absurd cc;
       owed = ap (λ (x : LinkState). x.owed) is;
       goes = λ n phase past replies told h. stands_wrote n phase old old.outgoing false (s.link old.number) (t.link old.number) past replies (ap (λ (x : LinkState). x.input) is) (ap (λ (x : LinkState). x.ended) is) (ap (λ (x : LinkState). x.owed) is)
-          (ap (λ (x : LinkState). x.failed) is) (ap (λ (x : LinkState). x.is_open) is) (λ a speaks. subst (λ (x : LinkState). Speaks old.outgoing x.output a) (sym is) speaks) (λ e. e) (λ e. inl e) (λ e. e) (λ e. refl) (λ e. inr (inl shut)) (λ e full. empty) (λ going e. empty) (λ e early. inr (going_or phase s told (sym (ap (λ (x : LinkState). x.late) is) ∙ early))) h;
+          (ap (λ (x : LinkState). x.failed) is) (ap (λ (x : LinkState). x.is_open) is) (λ a speaks. subst (λ (x : LinkState). Sends old.outgoing x.output a) (sym is) speaks) (λ e. e) (λ e. inl e) (λ e. e) (λ e. refl) (λ e. inr (inl shut)) (λ e full. empty) (λ going e. empty) (λ e early. inr (going_or phase s told (sym (ap (λ (x : LinkState). x.late) is) ∙ early))) h;
     }
 
--- the worker was stopped: a link is closed, and nothing more is put on it
-pub stopped_open : (old : Link) (out : Outgoing) (s t : PortState) (jobs : ℕ → List Job) → Changes old.number (closed (is_over s) (s.link old.number)) s t → ((output answers : List ℕ) → Speaks old.outgoing output answers → Speaks out output answers)
-    → (out.voice ≡ voices.Failed → old.outgoing.voice ≡ voices.Failed) → (out.voice ≡ voices.Starved → old.outgoing.voice ≡ voices.Starved) → out.unsent ≡ [] → LinkStep Stopped old (record old { outgoing = out; live = false }) s t jobs jobs
-stopped_open old out s t jobs change speaks silent starved empty =
+-- the worker was stopped: a link is closed, and nothing more is sent to it
+pub stopped_open : (old : Link) (out : Outgoing) (s t : PortState) (jobs : ℕ → List Job) → Changes old.number (closed (is_over s) (s.link old.number)) s t → ((output answers : List ℕ) → Sends old.outgoing output answers → Sends out output answers)
+    → (out.sending ≡ sendings.Failed → old.outgoing.sending ≡ sendings.Failed) → (out.sending ≡ sendings.OutOfMemory → old.outgoing.sending ≡ sendings.OutOfMemory) → out.unsent ≡ [] → LinkStep Stopped old (record old { outgoing = out; live = false }) s t jobs jobs
+stopped_open old out s t jobs change speaks silent out_of_memory empty =
     let is : t.link old.number ≡ closed (is_over s) (s.link old.number) = change.this in
     link_quiet Stopped old (record old { outgoing = out; live = false }) s t jobs refl refl (alone_change old.number (closed (is_over s) (s.link old.number)) s t refl change)
     (λ n past replies told h. stands_wrote n Stopped old out false (s.link old.number) (t.link old.number) past replies (ap (λ (x : LinkState). x.input) is) (ap (λ (x : LinkState). x.ended) is) (ap (λ (x : LinkState). x.owed) is)
-    (ap (λ (x : LinkState). x.failed) is) (ap (λ (x : LinkState). x.is_open) is) (λ a h. subst (λ (x : LinkState). Speaks out x.output a) (sym is) (speaks (s.link old.number).output a h)) silent (λ e. inr refl) starved (λ e. refl) (λ e. inr (inr refl)) (λ e full. empty) (λ going e. empty) (λ e early. inr (inr refl)) h)
+    (ap (λ (x : LinkState). x.failed) is) (ap (λ (x : LinkState). x.is_open) is) (λ a h. subst (λ (x : LinkState). Sends out x.output a) (sym is) (speaks (s.link old.number).output a h)) silent (λ e. inr refl) out_of_memory (λ e. refl) (λ e. inr (inr refl)) (λ e full. empty) (λ going e. empty) (λ e early. inr (inr refl)) h)
 
-pub stopped_closed : (old : Link) (out : Outgoing) (s : PortState) (jobs : ℕ → List Job) → old.live ≡ false → ((output answers : List ℕ) → Speaks old.outgoing output answers → Speaks out output answers)
-    → (out.voice ≡ voices.Failed → old.outgoing.voice ≡ voices.Failed) → (out.voice ≡ voices.Starved → old.outgoing.voice ≡ voices.Starved) → out.unsent ≡ [] → LinkStep Stopped old (record old { outgoing = out }) s s jobs jobs
-stopped_closed old out s jobs dead speaks silent starved empty =
+pub stopped_closed : (old : Link) (out : Outgoing) (s : PortState) (jobs : ℕ → List Job) → old.live ≡ false → ((output answers : List ℕ) → Sends old.outgoing output answers → Sends out output answers)
+    → (out.sending ≡ sendings.Failed → old.outgoing.sending ≡ sendings.Failed) → (out.sending ≡ sendings.OutOfMemory → old.outgoing.sending ≡ sendings.OutOfMemory) → out.unsent ≡ [] → LinkStep Stopped old (record old { outgoing = out }) s s jobs jobs
+stopped_closed old out s jobs dead speaks silent out_of_memory empty =
     link_quiet Stopped old (record old { outgoing = out }) s s jobs refl refl (alone_here old.number s)
-    (λ n past replies told h. stands_wrote n Stopped old out old.live (s.link old.number) (s.link old.number) past replies refl refl refl refl h.live (λ a k. speaks (s.link old.number).output a k) silent (λ e. inr refl) starved (λ e. e) (λ e. inr (inr refl)) (λ e full. empty) (λ going e. empty) (λ e early. inl (dead, early)) h)
+    (λ n past replies told h. stands_wrote n Stopped old out old.live (s.link old.number) (s.link old.number) past replies refl refl refl refl h.live (λ a k. speaks (s.link old.number).output a k) silent (λ e. inr refl) out_of_memory (λ e. e) (λ e. inr (inr refl)) (λ e full. empty) (λ going e. empty) (λ e early. inl (dead, early)) h)

@@ -35,7 +35,7 @@ own_put : (worker : ℕ) (jobs : List Job) (job : Job) → AllByRecursion (λ j.
 own_put worker [] job h is = (is, tt)
 own_put worker (x ∷ jobs) job h is = (h.0, own_put worker jobs job h.1 is)
 
--- no job is after the first where none waited
+-- if none waited, no job is after the first
 behind_first : (jobs : List Job) (job : Job) → length jobs ≡ 0 → bytes_behind_first (jobs ++ job ∷ []) ≡ bytes_behind_first jobs
 behind_first [] job none = refl
 behind_first (x ∷ jobs) job none = absurd (omega arith)
@@ -44,7 +44,7 @@ behind_put : (jobs : List Job) (job : Job) → 0 < length jobs → bytes_behind_
 behind_put [] job some = absurd (omega arith)
 behind_put (x ∷ jobs) job some = sum_by_push job_bytes jobs job
 
--- a size that is counted short has as much room as the size itself
+-- a size that has room is counted in full
 uncapped : (a b size : ℕ) → size ≡ counted b → a + size ≤ 67108864 → size ≡ b
 uncapped a b size e light = omega arith
 

@@ -1,10 +1,10 @@
--- What a port tells, noted in the table.
-use Rattle.std.proofs.Common.{◌≡◌, ◌≢◌, ◌⊎◌, ℕ, zero, suc, ◌+◌, ◌<◌, ◌≤◌, ◌%◌, ◌==◌, Bool, true, false, List, [], ◌∷◌, ◌++◌, length, map, get_or, refl, sym, ap, subst, ◌∙◌, inl, inr, ⊎_elim, arith}
+-- The port's reports, noted in the table.
+use Rattle.std.proofs.Common.{◌≡◌, ◌≢◌, ◌⊎◌, ℕ, suc, ◌+◌, ◌<◌, ◌≤◌, ◌%◌, ◌==◌, Bool, true, false, List, [], ◌∷◌, ◌++◌, length, map, get_or, refl, sym, ap, subst, ◌∙◌, inl, inr, ⊎_elim, arith}
 use Rattle.std.specs.Prelude.{if◌then◌else◌}
 use Rattle.std.specs.List.{Contains}
 use Rattle.std.proofs.lemmas.Bool.Decides.{nat_tests}
 use Rattle.std.proofs.lemmas.List.{append-nil}
-use Rattle.std.proofs.lemmas.List.Elements.{Contains-append_cases, Contains-append_left, Contains-append_right}
+use Rattle.std.proofs.lemmas.List.Elements.{Contains-append_left, Contains-append_right}
 use Rattle.lsv_port.specs.Port.{Changes, IsOpen, IsSame, LinkState, Opens, PortState, TellsFault, TellsReadable, TellsStop, TellsWritable, closed, fresh_link, is_over}
 use Rattle.lsv_links.specs.Views.{IsCrowded}
 use Rattle.lsv_msg.specs.Messages.{server_bytes}
@@ -16,13 +16,13 @@ use Rattle.lsv_session.specs.declared.connection.ConnId.{ConnId}
 use Rattle.lsv_session.specs.declared.job.Body.{Body}
 use Rattle.lsv_session.specs.declared.job.Job.{Job}
 use Rattle.lsv_session.specs.declared.reply.Reply.{Reply}
-use Rattle.lsv_worker.specs.Outgoing.{Alone, Speaks}
-use Rattle.lsv_worker.specs.Links.{HasOwnCause, IsTold, LetsEnd, LinkStands, MayEnd, is_done}
+use Rattle.lsv_worker.specs.Outgoing.{Alone, Sends}
+use Rattle.lsv_worker.specs.Links.{HasOwnCause, KnowsPort, LetsEnd, LinkStands, MayEnd, is_done}
 use Rattle.lsv_worker.specs.Worker.{AreLast, AreOfLanes, IsApart, IsFresh, IsIn, IsMade, IsTurnedAway, IsUnasked, Setting, Stands, conn_at, marked, owed_if}
 use Rattle.lsv_worker.specs.declared.link.Link.{Link}
 use Rattle.lsv_worker.specs.declared.link.Phase.{Phase}
 use Rattle.lsv_worker.specs.declared.link.Phase.TheVariants.{Going, Stopping, Failed, Stopped}
-use Rattle.lsv_worker.specs.declared.outgoing.Voice.TheVariants as voices
+use Rattle.lsv_worker.specs.declared.outgoing.Sending.TheVariants as sendings
 use Rattle.lsv_worker.proofs.Putting.{hears_ext, same_or_not}
 use Rattle.lsv_worker.proofs.Ports.{alone_change, told_on}
 use Rattle.lsv_worker.proofs.Away.{away_alone, away_now, away_on, away_opens, away_set, away_still, beside_alone, beside_links, beside_on, beside_opens, beside_still, opened_before}
@@ -44,7 +44,7 @@ table_phase s q last [] t = tt
 table_phase s q last (x ∷ links) t = (record { first = t.0.first; below = t.0.below }, t.1, t.2, table_phase s q last links t.3)
 
 pub stands_phase : (s : Setting) (q : Phase) (links : List Link) (before after : PortState) (jobs : ℕ → List Job) (replies : List Reply) → ((link : Link) → Fits s link before jobs replies → Fits (record s { phase = q }) link after jobs replies)
-    → after.opened ≡ before.opened → ((l : ℕ) → IsOpen after l → IsOpen before l) → ((l : ℕ) → IsTurnedAway s before l → IsTurnedAway s after l) → ((m : ℕ) → (after.link m).beside ≡ (before.link m).beside) → IsTold q after → Stands s links before jobs replies → Stands (record s { phase = q }) links after jobs replies
+    → after.opened ≡ before.opened → ((l : ℕ) → IsOpen after l → IsOpen before l) → ((l : ℕ) → IsTurnedAway s before l → IsTurnedAway s after l) → ((m : ℕ) → (after.link m).beside ≡ (before.link m).beside) → KnowsPort q after → Stands s links before jobs replies → Stands (record s { phase = q }) links after jobs replies
 stands_phase s q links before after jobs replies fits opened still touched beside told h = record {
   last = h.last;
   table = table_phase s q h.last links h.table;
@@ -69,7 +69,7 @@ own_on : (p q : Phase) (s : LinkState) (shut : Type 0) → p ≡ Going → HasOw
 own_on p q s shut going h gone early =
     ⊎_elim (λ e. inl e) (λ k. inr (⊎_elim (λ f. inl f) (λ m. inr (⊎_elim (λ u. inl u) (λ no. let a : Going ≡ Stopped = sym going ∙ no in absurd cc) m)) k)) (h gone early)
 
--- a worker that goes on comes to another phase
+-- a worker that goes on gets another phase
 pub phase_on : (n : ℕ) (p q : Phase) (link : Link) (s : LinkState) (past : ℕ → List Body) (replies : List Reply) → p ≡ Going → LinkStands n p link s past replies → LinkStands n q link s past replies
 phase_on n p q link s past replies going h = record {
   marks = h.marks;
@@ -94,7 +94,7 @@ phase_on n p q link s past replies going h = record {
   wants = h.wants;
 }
 
--- a worker is stopped, in whatever phase
+-- a worker is stopped, in any phase
 pub phase_stopped : (n : ℕ) (p : Phase) (link : Link) (s : LinkState) (past : ℕ → List Body) (replies : List Reply) → LinkStands n p link s past replies → LinkStands n Stopped link s past replies
 phase_stopped n p link s past replies h = record {
   marks = h.marks;
@@ -138,7 +138,7 @@ stopped_stands s links port jobs replies h =
     stands_phase s Stopped links port port jobs replies (λ link fits. phase_stopped s.lanes s.phase link (port.link link.number) (λ lane. bodies_of link.conn (jobs lane)) replies fits) refl (λ l now. now) (λ l u. u) (λ m. refl) tt h
 
 -- what a worker in this phase knows of a port that failed as a whole
-told_fault : (phase : Phase) (s t : PortState) → TellsFault s t → IsTold phase s → IsTold phase t
+told_fault : (phase : Phase) (s t : PortState) → TellsFault s t → KnowsPort phase s → KnowsPort phase t
 told_fault Going s t tells h = tells.stopped ∙ h
 told_fault Stopping s t tells h = tells.stopped ∙ h
 told_fault Failed s t tells h = tells.failed
@@ -245,7 +245,7 @@ own_number k = grind (arith, nat_tests)
 other_number : (k m : ℕ) → k ≢ m → (k == m) ≡ false
 other_number k m ne = grind (arith, nat_tests)
 
--- an open link whose input goes on, of a worker that goes on, doesn't end
+-- an open link doesn't end while its input and its worker go on
 not_ended : (n : ℕ) (phase : Phase) (link : Link) (s : LinkState) (past : ℕ → List Body) (replies : List Reply) → phase ≡ Going → s.is_open ≡ true → s.ended ≡ false → LinkStands n phase link s past replies → MayEnd phase s → ⊥
 not_ended n phase link s past replies going here on h may =
     ⊎_elim (λ e. let no : false ≡ true = sym on ∙ e in cc)
@@ -325,7 +325,7 @@ fresh_fits s link beside put replies l fresh quiet unasked = record {
   marks = record { lanes = s.lanes; home = s.next % s.lanes; shut = false; over = false };
   home = record { lanes = refl; home = ap (λ (c : ConnId). c.seq % s.lanes) (sym fresh.conn) };
   inward = hears_ext link.incoming [] put (λ lane. []) (record { lanes = s.lanes; home = s.next % s.lanes; shut = false; over = false }) quiet fresh.incoming;
-  outward = subst (Speaks link.outgoing []) (sym (unasked_answers link.conn replies unasked)) fresh.outgoing;
+  outward = subst (Sends link.outgoing []) (sym (unasked_answers link.conn replies unasked)) fresh.outgoing;
   small = λ i d low. absurd (omega arith);
   live = sym fresh.live;
   owed = sym fresh.owed;
@@ -336,12 +336,12 @@ fresh_fits s link beside put replies l fresh quiet unasked = record {
   shut_by = λ e. let no : false ≡ true = sym fresh.shut ∙ e in absurd cc;
   told = λ e. absurd cc;
   shut = λ e. let no : false ≡ true = sym fresh.shut ∙ e in absurd cc;
-  silent = λ e. let no : voices.Speaking ≡ voices.Failed = sym fresh.voice ∙ e in absurd cc;
-  over = λ e. let no : voices.Speaking ≡ voices.Over = sym fresh.voice ∙ e in absurd cc;
+  silent = λ e. let no : sendings.Open ≡ sendings.Failed = sym fresh.sending ∙ e in absurd cc;
+  over = λ e. let no : sendings.Open ≡ sendings.Over = sym fresh.sending ∙ e in absurd cc;
   closed = λ e. let no : true ≡ false = sym fresh.live ∙ e in absurd cc;
   sent = λ e full. let no : true ≡ false = sym fresh.live ∙ e in absurd cc;
   kept = λ going e. let no : true ≡ false = sym fresh.live ∙ e in absurd cc;
-  wants = λ e. let no : voices.Speaking ≡ voices.Starved = sym fresh.voice ∙ e in absurd cc;
+  wants = λ e. let no : sendings.Open ≡ sendings.OutOfMemory = sym fresh.sending ∙ e in absurd cc;
 }
 
 abbrev one_more : Setting → Setting
@@ -433,9 +433,9 @@ opens_kept s links l link before after jobs replies first fresh uncrowded opens 
       told = told_on s.phase before after opens.stopped opens.failed h.told;
     }
 
--- a worker that counted this many links that it turned away
+-- a worker with another count of links that it turned away
 abbrev counting : ℕ → Setting → Setting
-counting w s = record s { wanting = w }
+counting w s = record s { turned_away = w }
 
 made_on : (s : Setting) (w k : ℕ) → IsMade s k → IsMade (counting w s) k
 made_on s w k made = record { first = made.first; below = made.below }
@@ -448,7 +448,7 @@ table_counting s w last [] t = tt
 table_counting s w last (x ∷ links) t = (made_on s w x.conn.seq t.0, t.1, t.2, table_counting s w last links t.3)
 
 -- a link that was opened is turned away
-pub opens_closed : (s : Setting) (w : ℕ) (links : List Link) (l : ℕ) (before mid after : PortState) (jobs : ℕ → List Job) (replies : List Reply) → s.wanting ≤ w → is_over mid ≡ false → IsCrowded (mid.link l).beside ⊎ (1 ≤ w) → Opens l before mid → Changes l (closed (is_over mid) (mid.link l)) mid after
+pub opens_closed : (s : Setting) (w : ℕ) (links : List Link) (l : ℕ) (before mid after : PortState) (jobs : ℕ → List Job) (replies : List Reply) → s.turned_away ≤ w → is_over mid ≡ false → IsCrowded (mid.link l).beside ⊎ (1 ≤ w) → Opens l before mid → Changes l (closed (is_over mid) (mid.link l)) mid after
     → Stands s links before jobs replies → Stands (counting w s) links after jobs replies
 opens_closed s w links l before mid after jobs replies le early why opens close h =
     let opened : after.opened ≡ before.opened ++ l ∷ [] = close.opened ∙ opens.opened in
@@ -480,10 +480,10 @@ pub admitted_stands : (s t : Setting) (links now : List Link) (l : ℕ) (link : 
 admitted_stands s t links now l link before after jobs replies set is first fresh uncrowded opens h =
     subst (λ (x : Setting). Stands x now after jobs replies) (sym set) (subst (λ (x : List Link). Stands (one_more s) x after jobs replies) (sym is) (opens_kept s links l link before after jobs replies first fresh uncrowded opens h))
 
-pub refused_stands : (s t : Setting) (links now : List Link) (l : ℕ) (before mid after : PortState) (jobs : ℕ → List Job) (replies : List Reply) → t ≡ counting t.wanting s → now ≡ links → s.wanting ≤ t.wanting → is_over mid ≡ false → IsCrowded (mid.link l).beside ⊎ (1 ≤ t.wanting)
+pub refused_stands : (s t : Setting) (links now : List Link) (l : ℕ) (before mid after : PortState) (jobs : ℕ → List Job) (replies : List Reply) → t ≡ counting t.turned_away s → now ≡ links → s.turned_away ≤ t.turned_away → is_over mid ≡ false → IsCrowded (mid.link l).beside ⊎ (1 ≤ t.turned_away)
     → Opens l before mid → Changes l (closed (is_over mid) (mid.link l)) mid after → Stands s links before jobs replies → Stands t now after jobs replies
 refused_stands s t links now l before mid after jobs replies set is le early why opens close h =
-    subst (λ (x : Setting). Stands x now after jobs replies) (sym set) (subst (λ (x : List Link). Stands (counting t.wanting s) x after jobs replies) (sym is) (opens_closed s t.wanting links l before mid after jobs replies le early why opens close h))
+    subst (λ (x : Setting). Stands x now after jobs replies) (sym set) (subst (λ (x : List Link). Stands (counting t.turned_away s) x after jobs replies) (sym is) (opens_closed s t.turned_away links l before mid after jobs replies le early why opens close h))
 
 pub map_at : (f : Link → Link) (xs ys : List Link) → length ys ≡ length xs → ((i : ℕ) (d : Link) → i < length xs → get_or ys i d ≡ f (get_or xs i d)) → ys ≡ map f xs
 map_at f [] [] size h = refl

@@ -1,4 +1,4 @@
--- What is said of each connection of a table over a call.
+-- What holds of each connection of a table in a call.
 use Rattle.std.proofs.Common.{◌≡◌, ◌≢◌, ◌⊎◌, ℕ, zero, suc, ◌+◌, ◌<◌, ◌≤◌, ◌==◌, Bool, true, false, List, [], ◌∷◌, ◌++◌, length, map, get_or, set, get_or-set_same, get_or-set_other, refl, sym, ap, subst, ◌∙◌, inl, inr, ⊎_elim, arith}
 use Rattle.std.specs.Prelude.{if◌then◌else◌, not}
 use Rattle.std.specs.List.{Contains}
@@ -10,12 +10,12 @@ use Rattle.lsv_session.specs.declared.reply.Reply.{Reply}
 use Rattle.lsv_worker.specs.Incoming.{has_left}
 use Rattle.lsv_worker.specs.Outgoing.{Alone}
 use Rattle.lsv_worker.specs.Links.{IsPassed, IsSent, KeepsRules, ReadsNone, Remains, WritesNone, is_done}
-use Rattle.lsv_worker.specs.Worker.{AllRemain, AreClosed, AreLast, ArePassed, HasLater, IsHeldFor, IsIn, IsMade, IsNoted, IsPaused, IsThere, IsWritten, KeepRules, Setting, Stands, marked, open_in, owed_if, undone}
+use Rattle.lsv_worker.specs.Worker.{AllRemain, AreClosed, AreLast, AreOfLanes, ArePassed, HasLater, IsHeldFor, IsIn, IsMade, IsNoted, IsBlocked, IsThere, IsWritten, KeepRules, Setting, Stands, marked, open_in, owed_if, undone}
 use Rattle.lsv_worker.specs.declared.link.Link.{Link}
-use Rattle.lsv_worker.specs.declared.link.Pause.{Pause}
-use Rattle.lsv_worker.specs.declared.link.Pause.TheVariants.{Calm, Full, Laden, Tired, Starved}
+use Rattle.lsv_worker.specs.declared.link.Blocked.{Blocked}
+use Rattle.lsv_worker.specs.declared.link.Blocked.TheVariants as blocks
 use Rattle.lsv_worker.specs.declared.link.Phase.{Phase}
-use Rattle.lsv_worker.specs.declared.outgoing.Voice.TheVariants.{Speaking}
+use Rattle.lsv_worker.specs.declared.outgoing.Sending.TheVariants.{Open}
 use Rattle.lsv_worker.specs.declared.worker.Worker.{Worker}
 use Rattle.lsv_worker.proofs.Putting.{same_or_not}
 use Rattle.lsv_worker.proofs.Reading.{Rest, numbers_apart}
@@ -71,18 +71,18 @@ one_at : (l m i : ℕ) → i < length (l ∷ []) → get_or (l ∷ []) i m ≡ m
 one_at l m zero within e = e
 one_at l m (suc i) within e = absurd (omega arith)
 
-pub paused_more : (links : List Link) (held : List ℕ) (i : ℕ) (link : Link) → i < length links → link ≡ get_or links i link → link.pause ≢ Calm → ((m : ℕ) → Contains held m → IsPaused links m) → (m : ℕ) → Contains (held ++ link.number ∷ []) m → IsPaused links m
-paused_more links held i link within is paused all m has =
+pub paused_more : (links : List Link) (held : List ℕ) (i : ℕ) (link : Link) → i < length links → link ≡ get_or links i link → link.blocked ≢ blocks.No → ((m : ℕ) → Contains held m → IsBlocked links m) → (m : ℕ) → Contains (held ++ link.number ∷ []) m → IsBlocked links m
+paused_more links held i link within is blocked_by all m has =
     ⊎_elim (λ was. all m was)
-    (λ now. record { link = link; is = (i, within, sym is); number = one_at link.number m now.0 now.1 now.2; paused = paused })
+    (λ now. record { link = link; is = (i, within, sym is); number = one_at link.number m now.0 now.1 now.2; blocked_by = blocked_by })
     (Contains-append_cases held (link.number ∷ []) m has)
 
-calm_or_not : (p : Pause) → (p ≡ Calm) ⊎ (p ≢ Calm)
-calm_or_not Calm = inl refl
-calm_or_not Full = inr (λ (no : Full ≡ Calm). cc)
-calm_or_not Laden = inr (λ (no : Laden ≡ Calm). cc)
-calm_or_not Tired = inr (λ (no : Tired ≡ Calm). cc)
-calm_or_not Starved = inr (λ (no : Starved ≡ Calm). cc)
+calm_or_not : (p : Blocked) → (p ≡ blocks.No) ⊎ (p ≢ blocks.No)
+calm_or_not blocks.No = inl refl
+calm_or_not blocks.InboxFull = inr (λ (no : blocks.InboxFull ≡ blocks.No). cc)
+calm_or_not blocks.OutputFull = inr (λ (no : blocks.OutputFull ≡ blocks.No). cc)
+calm_or_not blocks.ReadBudget = inr (λ (no : blocks.ReadBudget ≡ blocks.No). cc)
+calm_or_not blocks.OutOfMemory = inr (λ (no : blocks.OutOfMemory ≡ blocks.No). cc)
 
 held_more : (held : List ℕ) (n m : ℕ) → Contains held m → Contains (held ++ n ∷ []) m
 held_more held n m has = Contains-append_left held (n ∷ []) m has
@@ -90,34 +90,34 @@ held_more held n m has = Contains-append_left held (n ∷ []) m has
 held_last : (held : List ℕ) (n : ℕ) → Contains (held ++ n ∷ []) n
 held_last held n = Contains-append_right held (n ∷ []) n (0, omega arith, refl)
 
--- the links below this one whose reading stopped are held
+-- the links before this one that something keeps from being read are held
 abbrev pub HeldBelow : List Link → List ℕ → ℕ → Type 0
-HeldBelow links held i = (j : ℕ) (d : Link) → j < i → (get_or links j d).pause ≢ Calm → Contains held (get_or links j d).number
+HeldBelow links held i = (j : ℕ) (d : Link) → j < i → (get_or links j d).blocked ≢ blocks.No → Contains held (get_or links j d).number
 
-held_here : (links : List Link) (after : List ℕ) (i : ℕ) (link : Link) → i < length links → link ≡ get_or links i link → ((m : ℕ) → m ≡ link.number → link.pause ≢ Calm → Contains after m) → (j : ℕ) (d : Link) → j ≡ i → (get_or links j d).pause ≢ Calm → Contains after (get_or links j d).number
-held_here links after i link within is now j d at paused =
+held_here : (links : List Link) (after : List ℕ) (i : ℕ) (link : Link) → i < length links → link ≡ get_or links i link → ((m : ℕ) → m ≡ link.number → link.blocked ≢ blocks.No → Contains after m) → (j : ℕ) (d : Link) → j ≡ i → (get_or links j d).blocked ≢ blocks.No → Contains after (get_or links j d).number
+held_here links after i link within is now j d at blocked_by =
     let same : get_or links j d ≡ link = ap (λ (k : ℕ). get_or links k d) at ∙ same_default links i d link within ∙ sym is in
-    now (get_or links j d).number (ap (λ (l : Link). l.number) same) (λ e. paused (ap (λ (l : Link). l.pause) same ∙ e))
+    now (get_or links j d).number (ap (λ (l : Link). l.number) same) (λ e. blocked_by (ap (λ (l : Link). l.blocked) same ∙ e))
 
-pub held_on : (links : List Link) (before after : List ℕ) (i : ℕ) (link : Link) → i < length links → link ≡ get_or links i link → (link.pause ≡ Calm → after ≡ before) → (link.pause ≢ Calm → after ≡ before ++ link.number ∷ []) → HeldBelow links before i → HeldBelow links after (i + 1)
-held_on links before after i link within is calm held below j d under paused =
+pub held_on : (links : List Link) (before after : List ℕ) (i : ℕ) (link : Link) → i < length links → link ≡ get_or links i link → (link.blocked ≡ blocks.No → after ≡ before) → (link.blocked ≢ blocks.No → after ≡ before ++ link.number ∷ []) → HeldBelow links before i → HeldBelow links after (i + 1)
+held_on links before after i link within is unblocked held below j d under blocked_by =
     ⊎_elim
-    (λ at. held_here links after i link within is (λ m e stopped. subst (λ (h : List ℕ). Contains h m) (sym (held stopped)) (subst (λ (n : ℕ). Contains (before ++ link.number ∷ []) n) (sym e) (held_last before link.number))) j d at paused)
+    (λ at. held_here links after i link within is (λ m e stopped. subst (λ (h : List ℕ). Contains h m) (sym (held stopped)) (subst (λ (n : ℕ). Contains (before ++ link.number ∷ []) n) (sym e) (held_last before link.number))) j d at blocked_by)
     (λ ne.
     let low : j < i = omega arith in
-    let was : Contains before (get_or links j d).number = below j d low paused in
-    ⊎_elim (λ e. subst (λ (h : List ℕ). Contains h (get_or links j d).number) (sym (calm e)) was)
-    (λ stopped. subst (λ (h : List ℕ). Contains h (get_or links j d).number) (sym (held stopped)) (held_more before link.number (get_or links j d).number was)) (calm_or_not link.pause))
+    let was : Contains before (get_or links j d).number = below j d low blocked_by in
+    ⊎_elim (λ e. subst (λ (h : List ℕ). Contains h (get_or links j d).number) (sym (unblocked e)) was)
+    (λ stopped. subst (λ (h : List ℕ). Contains h (get_or links j d).number) (sym (held stopped)) (held_more before link.number (get_or links j d).number was)) (calm_or_not link.blocked))
     (same_or_not j i)
 
-pub paused_on : (links : List Link) (before after : List ℕ) (i : ℕ) (link : Link) → i < length links → link ≡ get_or links i link → (link.pause ≡ Calm → after ≡ before) → (link.pause ≢ Calm → after ≡ before ++ link.number ∷ []) → ((m : ℕ) → Contains before m → IsPaused links m) → (m : ℕ) → Contains after m → IsPaused links m
-paused_on links before after i link within is calm held all m has =
-    ⊎_elim (λ e. all m (subst (λ (h : List ℕ). Contains h m) (calm e) has))
-    (λ stopped. paused_more links before i link within is stopped all m (subst (λ (h : List ℕ). Contains h m) (held stopped) has)) (calm_or_not link.pause)
+pub paused_on : (links : List Link) (before after : List ℕ) (i : ℕ) (link : Link) → i < length links → link ≡ get_or links i link → (link.blocked ≡ blocks.No → after ≡ before) → (link.blocked ≢ blocks.No → after ≡ before ++ link.number ∷ []) → ((m : ℕ) → Contains before m → IsBlocked links m) → (m : ℕ) → Contains after m → IsBlocked links m
+paused_on links before after i link within is unblocked held all m has =
+    ⊎_elim (λ e. all m (subst (λ (h : List ℕ). Contains h m) (unblocked e) has))
+    (λ stopped. paused_more links before i link within is stopped all m (subst (λ (h : List ℕ). Contains h m) (held stopped) has)) (calm_or_not link.blocked)
 
 -- ---- nothing more is put on the link of a connection that is silent
 
-pub quiet_in : (s : Setting) (links : List Link) (port : PortState) (jobs : ℕ → List Job) (replies : List Reply) (i : ℕ) (old : Link) → i < length links → old ≡ get_or links i old → Stands s links port jobs replies → old.outgoing.voice ≢ Speaking → old.outgoing.unsent ≡ []
+pub quiet_in : (s : Setting) (links : List Link) (port : PortState) (jobs : ℕ → List Job) (replies : List Reply) (i : ℕ) (old : Link) → i < length links → old ≡ get_or links i old → Stands s links port jobs replies → old.outgoing.sending ≢ Open → old.outgoing.unsent ≡ []
 quiet_in s links port jobs replies i old within is h ne =
     let at : IsMade s old.conn.seq × (h.last old.conn.seq ≡ old) = table_at h.last s links i old within is h.table in
     let fits : Fits s old port jobs replies = subst (λ (l : Link). Fits s l port jobs replies) at.1 (h.each old.conn.seq at.0) in
@@ -125,7 +125,7 @@ quiet_in s links port jobs replies i old within is h ne =
 
 -- ---- a pass over a table
 
--- what the pass did for the connections below this one
+-- what the pass did for the connections before this one
 abbrev pub PassedBelow : Phase → List Link → List Link → ℕ → PortState → PortState → (ℕ → ℕ) → (ℕ → ℕ) → Type 0
 PassedBelow phase firsts links i s t p q = (j : ℕ) (d : Link) → j < i → IsPassed phase (get_or firsts j d) (get_or links j d) (s.link (get_or firsts j d).number) (t.link (get_or firsts j d).number) p q
 
@@ -190,32 +190,32 @@ all_rules phase olds links s t p q h link has =
       rules = subst (λ (l : Link). KeepsRules phase l (get_or links has.0 link) (s.link l.number) (t.link l.number)) has.2 one.rules;
     }
 
-pub all_held : (phase : Phase) (w : Worker) (olds links : List Link) (s t : PortState) (p q : ℕ → ℕ) (l : ℕ) → w.links.items ≡ undone links → ArePassed phase olds links s t p q → IsPaused (undone links) l → IsHeldFor w l s t p q
-all_held phase w olds links s t p q l is h paused =
-    let at : Contains links paused.link = contains_swept paused.link links paused.is in
+pub all_held : (phase : Phase) (w : Worker) (olds links : List Link) (s t : PortState) (p q : ℕ → ℕ) (l : ℕ) → w.links.items ≡ undone links → ArePassed phase olds links s t p q → IsBlocked (undone links) l → IsHeldFor w l s t p q
+all_held phase w olds links s t p q l is h blocked_by =
+    let at : Contains links blocked_by.link = contains_swept blocked_by.link links blocked_by.is in
     let within : at.0 < length olds = let size = h.size in let low : at.0 < length links = at.1 in omega arith in
-    let one = h.each at.0 paused.link within in
-    let number : (get_or olds at.0 paused.link).number ≡ l = sym (ap (λ (x : Link). x.number) (sym at.2) ∙ one.rules.remains.number) ∙ paused.number in
-    let same : IsPassed phase (get_or olds at.0 paused.link) paused.link (s.link l) (t.link l) p q =
-    subst (λ (n : ℕ). IsPassed phase (get_or olds at.0 paused.link) paused.link (s.link n) (t.link n) p q) number
-    (subst (λ (x : Link). IsPassed phase (get_or olds at.0 paused.link) x (s.link (get_or olds at.0 paused.link).number) (t.link (get_or olds at.0 paused.link).number) p q) at.2 one) in
+    let one = h.each at.0 blocked_by.link within in
+    let number : (get_or olds at.0 blocked_by.link).number ≡ l = sym (ap (λ (x : Link). x.number) (sym at.2) ∙ one.rules.remains.number) ∙ blocked_by.number in
+    let same : IsPassed phase (get_or olds at.0 blocked_by.link) blocked_by.link (s.link l) (t.link l) p q =
+    subst (λ (n : ℕ). IsPassed phase (get_or olds at.0 blocked_by.link) blocked_by.link (s.link n) (t.link n) p q) number
+    (subst (λ (x : Link). IsPassed phase (get_or olds at.0 blocked_by.link) x (s.link (get_or olds at.0 blocked_by.link).number) (t.link (get_or olds at.0 blocked_by.link).number) p q) at.2 one) in
     record {
-      link = paused.link;
-      is = subst (λ (x : List Link). Contains x paused.link) (sym is) paused.is;
-      number = paused.number;
-      paused = paused.paused;
+      link = blocked_by.link;
+      is = subst (λ (x : List Link). Contains x blocked_by.link) (sym is) blocked_by.is;
+      number = blocked_by.number;
+      blocked_by = blocked_by.blocked_by;
       reason = same.reason;
     }
 
 -- ---- calls before a pass, and without one
 
 pub held_late : (w : Worker) (l : ℕ) (s t u : PortState) (p q : ℕ → ℕ) → ReadsNone s t → IsHeldFor w l t u p q → IsHeldFor w l s u p q
-held_late w l s t u p q none h = record { link = h.link; is = h.is; number = h.number; paused = h.paused; reason = reason_late h.link.pause h.link (s.link l) (t.link l) (u.link l) p q (none l) h.reason }
+held_late w l s t u p q none h = record { link = h.link; is = h.is; number = h.number; blocked_by = h.blocked_by; reason = reason_late h.link.blocked h.link (s.link l) (t.link l) (u.link l) p q (none l) h.reason }
 
 noted_rules : (phase : Phase) (link new : Link) (b : Bool) (s t u : LinkState) → t.reads ≡ s.reads → t.output ≡ s.output → KeepsRules phase (record link { owed = b }) new t u → KeepsRules phase link new s u
 noted_rules phase link new b s t u reads output h = record {
-  remains = record { number = h.remains.number; conn = h.remains.conn; live = h.remains.live; starved = h.remains.starved; mute = h.remains.mute };
-  starved = λ e. h.starved e ∙ reads;
+  remains = record { number = h.remains.number; conn = h.remains.conn; lanes = h.remains.lanes; live = h.remains.live; out_of_memory = h.remains.out_of_memory; mute = h.remains.mute };
+  out_of_memory = λ e. h.out_of_memory e ∙ reads;
   mute = λ ne. h.mute ne ∙ output;
   waiting = λ going le. h.waiting going (let same : length t.output ≡ length s.output = ap length output in omega (arith, same, le)) ∙ reads;
 }
@@ -254,6 +254,16 @@ remain_set olds links i old new here is one all = record {
       (same_or_not j i);
 }
 
+-- each connection of a table still goes to one of `n` lanes
+pub lanes_remain : (n : ℕ) (olds links : List Link) → AllRemain olds links → AreOfLanes n olds → AreOfLanes n links
+lanes_remain n [] [] all h = tt
+lanes_remain n [] (x ∷ links) all h = absurd (let size = all.size in omega arith)
+lanes_remain n (y ∷ olds) [] all h = tt
+lanes_remain n (y ∷ olds) (x ∷ links) all h = (
+  (all.each 0 x (omega arith)).lanes ∙ h.0,
+  lanes_remain n olds links (record { size = (let size = all.size in omega (arith, size)); each = λ i d within. all.each (suc i) d (omega arith) }) h.1,
+)
+
 -- ---- what the port told
 
 pub noted_same : (link : Link) (links : List Link) → Contains links link → IsNoted link links
@@ -280,7 +290,7 @@ in_closed last s k [] t closed within = absurd within
 in_closed last s k (x ∷ links) t closed within =
     ⊎_elim (λ e. ap (λ (l : Link). l.live) (ap last (sym e) ∙ t.1) ∙ closed 0 x (omega arith)) (λ r. in_closed last s k links t.3 (λ i d low. closed (suc i) d (omega arith)) r) within
 
--- where each connection of the table is closed, no link is open
+-- if each connection of the table is closed, no link is open
 pub none_open : (s : Setting) (links : List Link) (port : PortState) (jobs : ℕ → List Job) (replies : List Reply) → Stands s links port jobs replies → AreClosed links → (l : ℕ) → IsOpen port l → ⊥
 none_open s links port jobs replies h closed l here =
     let k : (n : ℕ) × IsMade s n × ((h.last n).number ≡ l) = h.linked l here in

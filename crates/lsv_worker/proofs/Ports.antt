@@ -1,10 +1,10 @@
--- What calls of a port say one after another.
+-- Calls of a port, one after another.
 use Rattle.std.proofs.Common.{◌≡◌, ◌≢◌, ◌⊎◌, ℕ, ◌<◌, ◌≤◌, ◌-◌, ◌^◌, ◌||◌, Bool, true, false, refl, sym, ap, subst, ◌∙◌, inl, inr, ⊎_elim, arith}
 use Rattle.lsv_defs.specs.Causes.{HasRisen}
 use Rattle.lsv_port.specs.Ledger.{Continues, HasLinkCause, PortLedger}
 use Rattle.lsv_port.specs.Port.{Changes, IsOwed, LinkState, PortState, closed, is_over}
 use Rattle.lsv_worker.specs.Outgoing.{Alone, SameInput}
-use Rattle.lsv_worker.specs.Links.{HasBlame, IsTold}
+use Rattle.lsv_worker.specs.Links.{HasBlame, KnowsPort}
 use Rattle.lsv_worker.specs.declared.link.Phase.{Phase}
 use Rattle.lsv_worker.specs.declared.link.Phase.TheVariants.{Going, Stopping, Failed, Stopped}
 use Rattle.lsv_worker.proofs.Putting.{same_or_not}
@@ -66,13 +66,13 @@ alone_then l s t u x y = record {
 }
 
 -- what a worker in this phase knows of its port
-pub told_on : (phase : Phase) (s t : PortState) → t.stopped ≡ s.stopped → t.failed ≡ s.failed → IsTold phase s → IsTold phase t
+pub told_on : (phase : Phase) (s t : PortState) → t.stopped ≡ s.stopped → t.failed ≡ s.failed → KnowsPort phase s → KnowsPort phase t
 told_on Going s t stopped failed h = stopped ∙ h
 told_on Stopping s t stopped failed h = stopped ∙ h
 told_on Failed s t stopped failed h = failed ∙ h
 told_on Stopped s t stopped failed h = tt
 
-pub told_alone : (phase : Phase) (l : ℕ) (s t : PortState) → Alone l s t → IsTold phase s → IsTold phase t
+pub told_alone : (phase : Phase) (l : ℕ) (s t : PortState) → Alone l s t → KnowsPort phase s → KnowsPort phase t
 told_alone phase l s t alone h = told_on phase s t alone.stopped alone.failed h
 
 or_left : (a b : Bool) → (a || b) ≡ false → a ≡ false
@@ -87,7 +87,7 @@ pub not_over : (s : PortState) → s.stopped ≡ false → s.failed ≡ false �
 not_over s stopped failed = rw (stopped, failed) refl
 
 -- a worker whose port goes on goes on too, or was stopped
-pub going_or : (phase : Phase) (s : PortState) → IsTold phase s → is_over s ≡ false → (phase ≡ Going) ⊎ (phase ≡ Stopped)
+pub going_or : (phase : Phase) (s : PortState) → KnowsPort phase s → is_over s ≡ false → (phase ≡ Going) ⊎ (phase ≡ Stopped)
 going_or Going s h e = inl refl
 going_or Stopping s h e = absurd (let no : true ≡ false = sym h ∙ or_left s.stopped s.failed e in cc)
 going_or Failed s h e = absurd (let no : true ≡ false = sym h ∙ or_right s.stopped s.failed e in cc)
@@ -107,11 +107,11 @@ blame_kept l now s t a b change same = blame_one l s t a b change.others (λ e. 
 pub blame_failed : (l : ℕ) (s u : PortState) (a b c : PortLedger) → Alone l s u → HasRisen (a.links l) (b.links l) → Continues b c → HasBlame s a u c
 blame_failed l s u a b c alone rose on = blame_one l s u a c alone.others (λ e. inr (risen_on (a.links l) (b.links l) (c.links l) rose (on.links l))) alone.failed
 
--- a call after which the link failed no more than before, as far as it alone changed
+-- the same, if only this link changed
 pub blame_alone : (l : ℕ) (s t : PortState) (a b : PortLedger) → Alone l s t → (t.link l).failed ≡ (s.link l).failed → HasBlame s a t b
 blame_alone l s t a b alone same = blame_one l s t a b alone.others (λ e. inl (sym same ∙ e)) alone.failed
 
--- a link that is closed is owed nothing, and the others stay
+-- a closed link is owed nothing, and the others stay
 pub closed_owes : (l : ℕ) (s t : PortState) → Changes l (closed (is_over s) (s.link l)) s t → (m : ℕ) → IsOwed t m → IsOwed s m
 closed_owes l s t change m owed =
     ⊎_elim

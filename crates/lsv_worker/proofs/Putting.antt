@@ -13,12 +13,12 @@ use Rattle.lsv_session.specs.declared.job.Fault.TheVariants.{NoMem}
 use Rattle.lsv_session.specs.declared.job.Job.{Job}
 use Rattle.lsv_links.specs.Lanes.{lane_of, share}
 use Rattle.lsv_worker.specs.Lanes.{Routed, Routing, job_of, lane_or_home}
-use Rattle.lsv_worker.specs.Incoming.{AreBodies, Hears, IsHomed, Marks, Puts, SameWay, has_left, hears, kept, pending, ready, tail, was_shut}
+use Rattle.lsv_worker.specs.Incoming.{AreBodies, Receives, IsHomed, Marks, Puts, SameWay, has_left, may_receive, kept, pending, ready, tail, was_shut}
 use Rattle.lsv_worker.specs.declared.incoming.Incoming.{Incoming}
 use Rattle.lsv_worker.specs.declared.incoming.Stage.{Stage}
-use Rattle.lsv_worker.specs.declared.incoming.Stage.TheVariants.{Starving, Leaving, Left}
+use Rattle.lsv_worker.specs.declared.incoming.Stage.TheVariants.{OutOfMemory, Closing, Closed}
 use Rattle.lsv_worker.specs.declared.incoming.Why.{Why}
-use Rattle.lsv_worker.specs.declared.incoming.Why.TheVariants.{Starved}
+use Rattle.lsv_worker.specs.declared.incoming.Why.TheVariants.{NoMemory}
 use Rattle.lsv_worker.proofs.Routes.{routed_decided, share_add}
 
 pub same_or_not : (j i : ℕ) → (j ≡ i) ⊎ (j ≢ i)
@@ -33,7 +33,7 @@ other k m ne = grind (arith, nat_tests)
 pub same_self : (c : ConnId) → same c c ≡ true
 same_self c = ap (λ (b : Bool). b && (c.seq == c.seq)) (own c.worker) ∙ own c.seq
 
-pub hears_ext : (link : Incoming) (read : List ℕ) (p q : ℕ → List Body) (marks : Marks) → ((lane : ℕ) → p lane ≡ q lane) → Hears link read q marks → Hears link read p marks
+pub hears_ext : (link : Incoming) (read : List ℕ) (p q : ℕ → List Body) (marks : Marks) → ((lane : ℕ) → p lane ≡ q lane) → Receives link read q marks → Receives link read p marks
 hears_ext link read p q marks same h = record {
   said = h.said;
   homed = h.homed;
@@ -52,11 +52,11 @@ put_routed route past said coming x n e h = record {
   lane = h.lane ∙ ap (lane_of route.lanes route.home) (sym (append_assoc said (x ∷ []) coming));
 }
 
--- the first of the jobs that are to come is put
+-- the first of the pending jobs is put
 pub put_one : (old new : Incoming) (x : Body) (n : ℕ) → pending old ≡ x ∷ pending new → new.route ≡ old.route
     → ((read : List ℕ) (b : List Body) → AreBodies old.stage read old.rest b → AreBodies new.stage read new.rest b)
-    → ((has_left old.stage ≡ true → ready old ≡ []) → has_left new.stage ≡ true → ready new ≡ []) → (was_shut new.stage ≡ true → was_shut old.stage ≡ true) → (hears new.stage ≡ false → hears old.stage ≡ false)
-    → (read : List ℕ) (past : ℕ → List Body) (marks : Marks) → old.route.lane ≡ Some n → Hears old read past marks → Hears new read (λ m. past m ++ share (Some n) m (x ∷ [])) marks
+    → ((has_left old.stage ≡ true → ready old ≡ []) → has_left new.stage ≡ true → ready new ≡ []) → (was_shut new.stage ≡ true → was_shut old.stage ≡ true) → (may_receive new.stage ≡ false → may_receive old.stage ≡ false)
+    → (read : List ℕ) (past : ℕ → List Body) (marks : Marks) → old.route.lane ≡ Some n → Receives old read past marks → Receives new read (λ m. past m ++ share (Some n) m (x ∷ [])) marks
 put_one old new x n known route bodies left shut over read past marks e h = record {
   said = h.said ++ x ∷ [];
   homed = subst (λ (r : Routing). IsHomed r marks) (sym route) h.homed;
@@ -86,7 +86,7 @@ lane_put c n m x before after (inr ne) this others =
     others m ne ∙ sym (append-nil (before m)) ∙ sym (ap (λ (b : Bool). before m ++ map (job_of c) (if b then x ∷ [] else [])) (other m n ne))
 
 pub puts_one : (c : ConnId) (old new : Incoming) (n : ℕ) (x : Body) (before after : ℕ → List Job) → after n ≡ before n ++ job_of c x ∷ [] → ((m : ℕ) → m ≢ n → after m ≡ before m)
-    → ((read : List ℕ) (past : ℕ → List Body) (marks : Marks) → Hears old read past marks → Hears new read (λ m. past m ++ share (Some n) m (x ∷ [])) marks) → Puts c old new before after
+    → ((read : List ℕ) (past : ℕ → List Body) (marks : Marks) → Receives old read past marks → Receives new read (λ m. past m ++ share (Some n) m (x ∷ [])) marks) → Puts c old new before after
 puts_one c old new n x before after this others goes = record {
   added = λ m. share (Some n) m (x ∷ []);
   put = λ m. lane_put c n m x before after (same_or_not m n) this others;
@@ -133,19 +133,19 @@ job_waits : (link : Incoming) (x : Body) → link.first ≡ None → link.waitin
 job_waits link x first e none =
     let some : x ∷ [] ≡ [] = sym (ap (λ (f : Option Body). kept f ++ kept link.waiting) first ∙ ap kept e) ∙ none in cc
 
--- the job that waits is one of a decided lane
+-- if a job waits, its lane is decided
 quiet_lane : (l : Option ℕ) (w : Option Body) (x : Body) → w ≡ Some x → (l ≡ None → w ≡ None) → (n : ℕ) × (l ≡ Some n)
 quiet_lane None w x e quiet = absurd (let none : w ≡ None = quiet refl in cc)
 quiet_lane (Some n) w x e quiet = (n, refl)
 
-pub offers_first : (link : Incoming) (x : Body) → link.first ≡ Some x → link.route.lane ≢ None → (read : List ℕ) (past : ℕ → List Body) (marks : Marks) → Hears link read past marks
-    → Hears (record link { first = None }) read (λ m. past m ++ share (Some (lane_or_home link.route)) m (x ∷ [])) marks
+pub offers_first : (link : Incoming) (x : Body) → link.first ≡ Some x → link.route.lane ≢ None → (read : List ℕ) (past : ℕ → List Body) (marks : Marks) → Receives link read past marks
+    → Receives (record link { first = None }) read (λ m. past m ++ share (Some (lane_or_home link.route)) m (x ∷ [])) marks
 offers_first link x e decided read past marks h =
     let lane : (n : ℕ) × (link.route.lane ≡ Some n) = some_lane link.route.lane decided in
     put_one link (record link { first = None }) x (lane_or_home link.route) (first_head link x e) refl (λ read b a. a) (λ was l. absurd (first_waits link x e (was l))) (λ s. s) (λ o. o) read past marks (lane_is link.route lane.0 lane.1) h
 
-pub offers : (link : Incoming) (x : Body) → link.waiting ≡ Some x → ((n : ℕ) → link.route.lane ≡ Some n → link.first ≡ None) → (read : List ℕ) (past : ℕ → List Body) (marks : Marks) → Hears link read past marks
-    → Hears (record link { waiting = None }) read (λ m. past m ++ share (Some (lane_or_home link.route)) m (x ∷ [])) marks
+pub offers : (link : Incoming) (x : Body) → link.waiting ≡ Some x → ((n : ℕ) → link.route.lane ≡ Some n → link.first ≡ None) → (read : List ℕ) (past : ℕ → List Body) (marks : Marks) → Receives link read past marks
+    → Receives (record link { waiting = None }) read (λ m. past m ++ share (Some (lane_or_home link.route)) m (x ∷ [])) marks
 offers link x e first read past marks h =
     let lane : (n : ℕ) × (link.route.lane ≡ Some n) = quiet_lane link.route.lane link.waiting x e h.quiet in
     put_one link (record link { waiting = None }) x (lane_or_home link.route) (waiting_head link x (first lane.0 lane.1) e) refl (λ read b a. a) (λ was l. absurd (job_waits link x (first lane.0 lane.1) e (was l))) (λ s. s) (λ o. o) read past marks (lane_is link.route lane.0 lane.1) h
@@ -155,29 +155,29 @@ tail_head link stage x none empty e =
     let quiet : ready link ≡ [] = ready_none link none empty in
     ap (λ (r : List Body). r ++ tail link.stage) quiet ∙ e ∙ sym (ap (λ (r : List Body). x ∷ (r ++ tail stage)) quiet)
 
-starved_bodies : (old : Stage) (read rest : List ℕ) (b : List Body) → old ≡ Starving → AreBodies old read rest b → AreBodies (Leaving Starved) read rest b
+starved_bodies : (old : Stage) (read rest : List ℕ) (b : List Body) → old ≡ OutOfMemory → AreBodies old read rest b → AreBodies (Closing NoMemory) read rest b
 starved_bodies old read rest b e h = subst (λ (s : Stage). AreBodies s read rest b) e h
 
-left_bodies : (old : Stage) (why : Why) (read rest : List ℕ) (b : List Body) → old ≡ Leaving why → AreBodies old read rest b → AreBodies (Left why) read rest b
-left_bodies old why read rest b e h = let l : AreBodies (Leaving why) read rest b = subst (λ (s : Stage). AreBodies s read rest b) e h in l
+left_bodies : (old : Stage) (why : Why) (read rest : List ℕ) (b : List Body) → old ≡ Closing why → AreBodies old read rest b → AreBodies (Closed why) read rest b
+left_bodies old why read rest b e h = let l : AreBodies (Closing why) read rest b = subst (λ (s : Stage). AreBodies s read rest b) e h in l
 
-pub tells_starved : (link : Incoming) → link.stage ≡ Starving → link.waiting ≡ None → ((n : ℕ) → link.route.lane ≡ Some n → link.first ≡ None) → (read : List ℕ) (past : ℕ → List Body) (marks : Marks) → Hears link read past marks
-    → Hears (record link { stage = Leaving Starved }) read (λ m. past m ++ share (Some (lane_or_home link.route)) m (Bad NoMem ∷ [])) marks
+pub tells_starved : (link : Incoming) → link.stage ≡ OutOfMemory → link.waiting ≡ None → ((n : ℕ) → link.route.lane ≡ Some n → link.first ≡ None) → (read : List ℕ) (past : ℕ → List Body) (marks : Marks) → Receives link read past marks
+    → Receives (record link { stage = Closing NoMemory }) read (λ m. past m ++ share (Some (lane_or_home link.route)) m (Bad NoMem ∷ [])) marks
 tells_starved link stage empty first read past marks h =
     let lane : (n : ℕ) × (link.route.lane ≡ Some n) = routed_decided link.route past h.said (ready link) (Bad NoMem) (Gone ∷ []) refl (subst (λ (s : Stage). Routed link.route past h.said (ready link ++ tail s)) stage h.routed) in
-    put_one link (record link { stage = Leaving Starved }) (Bad NoMem) (lane_or_home link.route) (tail_head link (Leaving Starved) (Bad NoMem) (first lane.0 lane.1) empty (ap tail stage)) refl
+    put_one link (record link { stage = Closing NoMemory }) (Bad NoMem) (lane_or_home link.route) (tail_head link (Closing NoMemory) (Bad NoMem) (first lane.0 lane.1) empty (ap tail stage)) refl
     (λ read b a. starved_bodies link.stage read link.rest b stage a) (λ was l. absurd cc) (λ s. absurd cc) (λ o. absurd cc) read past marks (lane_is link.route lane.0 lane.1) h
 
-pub leaves_now : (link : Incoming) (why : Why) → link.stage ≡ Leaving why → link.waiting ≡ None → ((n : ℕ) → link.route.lane ≡ Some n → link.first ≡ None) → (read : List ℕ) (past : ℕ → List Body) (marks : Marks) → Hears link read past marks
-    → Hears (record link { stage = Left why }) read (λ m. past m ++ share (Some (lane_or_home link.route)) m (Gone ∷ [])) marks
+pub leaves_now : (link : Incoming) (why : Why) → link.stage ≡ Closing why → link.waiting ≡ None → ((n : ℕ) → link.route.lane ≡ Some n → link.first ≡ None) → (read : List ℕ) (past : ℕ → List Body) (marks : Marks) → Receives link read past marks
+    → Receives (record link { stage = Closed why }) read (λ m. past m ++ share (Some (lane_or_home link.route)) m (Gone ∷ [])) marks
 leaves_now link why stage empty first read past marks h =
     let lane : (n : ℕ) × (link.route.lane ≡ Some n) = routed_decided link.route past h.said (ready link) Gone [] refl (subst (λ (s : Stage). Routed link.route past h.said (ready link ++ tail s)) stage h.routed) in
-    put_one link (record link { stage = Left why }) Gone (lane_or_home link.route) (tail_head link (Left why) Gone (first lane.0 lane.1) empty (ap tail stage)) refl
-    (λ read b a. left_bodies link.stage why read link.rest b stage a) (λ was l. ready_none link (first lane.0 lane.1) empty) (λ s. ap was_shut stage ∙ s) (λ o. ap hears stage ∙ o) read past marks (lane_is link.route lane.0 lane.1) h
+    put_one link (record link { stage = Closed why }) Gone (lane_or_home link.route) (tail_head link (Closed why) Gone (first lane.0 lane.1) empty (ap tail stage)) refl
+    (λ read b a. left_bodies link.stage why read link.rest b stage a) (λ was l. ready_none link (first lane.0 lane.1) empty) (λ s. ap was_shut stage ∙ s) (λ o. ap may_receive stage ∙ o) read past marks (lane_is link.route lane.0 lane.1) h
 
--- a job that was given back waits again
+-- a job that was returned waits again
 pub first_back : (link : Incoming) (f : Option Body) → f ≡ link.first → SameWay link (record link { first = f })
-first_back link f e read put marks h = subst (λ (v : Option Body). Hears (record link { first = v }) read put marks) (sym e) h
+first_back link f e read put marks h = subst (λ (v : Option Body). Receives (record link { first = v }) read put marks) (sym e) h
 
 pub waiting_back : (link : Incoming) (w : Option Body) → w ≡ link.waiting → SameWay link (record link { waiting = w })
-waiting_back link w e read put marks h = subst (λ (v : Option Body). Hears (record link { waiting = v }) read put marks) (sym e) h
+waiting_back link w e read put marks h = subst (λ (v : Option Body). Receives (record link { waiting = v }) read put marks) (sym e) h

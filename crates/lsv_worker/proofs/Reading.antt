@@ -5,7 +5,7 @@ use Rattle.lsv_port.specs.Port.{Changes, LinkState, PortState, closed, is_over}
 use Rattle.lsv_session.specs.declared.job.Job.{Job}
 use Rattle.lsv_session.specs.declared.reply.Reply.{Reply}
 use Rattle.lsv_worker.specs.Outgoing.{Alone}
-use Rattle.lsv_worker.specs.Links.{IsSpared, ReadsNone, WasReadAtMost, WritesNone, is_done, repeated}
+use Rattle.lsv_worker.specs.Links.{TouchesNone, IsSpared, ReadsNone, WasReadAtMost, WritesNone, is_done, repeated}
 use Rattle.lsv_worker.specs.Worker.{AreLast, AreSpared, IsMade, Setting, Stands, undone}
 use Rattle.lsv_worker.specs.declared.link.Link.{Link}
 use Rattle.lsv_worker.proofs.Putting.{same_or_not}
@@ -42,6 +42,17 @@ unwritten_closed n s t change l =
 pub most_late : (n : ℕ) (s t u : LinkState) → t.reads ≡ s.reads → WasReadAtMost n t u → WasReadAtMost n s u
 most_late n s t u e a = record { times = a.times; few = a.few; were = a.were ∙ ap (λ (l : List ℕ). l ++ repeated a.times 65536) e }
 
+-- ---- no link was read or written
+
+pub quiet_here : (s : PortState) → TouchesNone s s
+quiet_here s = record { unread = unread_here s; unwritten = unwritten_here s }
+
+pub quiet_then : (s t u : PortState) → TouchesNone s t → TouchesNone t u → TouchesNone s u
+quiet_then s t u x y = record { unread = unread_then s t u x.unread y.unread; unwritten = unwritten_then s t u x.unwritten y.unwritten }
+
+pub quiet_closed : (n : ℕ) (s t : PortState) → Changes n (closed (is_over s) (s.link n)) s t → TouchesNone s t
+quiet_closed n s t change = record { unread = unread_closed n s t change; unwritten = unwritten_closed n s t change }
+
 -- ---- each connection of a table has a link of its own
 
 seqs_apart : (last : ℕ → Link) (s : Setting) (links : List Link) (i j : ℕ) (d e : Link) → i < length links → j < length links → i ≢ j → AreLast last s links → (get_or links i d).conn.seq ≢ (get_or links j e).conn.seq
@@ -66,7 +77,7 @@ numbers_apart s links port jobs replies i j d e wi wj ne h =
 abbrev pub Rest : List Link → ℕ → PortState → PortState → Type 0
 Rest links i s t = (j : ℕ) (d : Link) → i ≤ j → j < length links → t.link (get_or links j d).number ≡ s.link (get_or links j d).number
 
--- the links of the connections below this one were spared where they had to be
+-- the links of the connections before this one were not read if too much is unsent
 abbrev pub Below : List Link → ℕ → PortState → PortState → Type 0
 Below links i s t = (j : ℕ) (d : Link) → j < i → IsSpared (get_or links j d) (s.link (get_or links j d).number) (t.link (get_or links j d).number)
 
@@ -97,10 +108,10 @@ pub below_on : (s : Setting) (links : List Link) (i : ℕ) (d new : Link) (a b c
     → new.number ≡ (get_or links i d).number → IsSpared new (b.link (get_or links i d).number) (c.link (get_or links i d).number) → Rest links i a b → Below links i a b → Below (set links i new) (i + 1) a c
 below_on s links i d new a b c jobs replies here h alone number spared rest below =
     below_set (λ l. IsSpared l (a.link l.number) (c.link l.number)) links i new here
-    (λ laden. subst (λ (k : ℕ). (c.link k).reads ≡ (a.link k).reads) (sym number) (spared laden ∙ ap (λ (x : LinkState). x.reads) (rest i d (omega arith) here)))
-    (λ j e under laden.
+    (λ output_full. subst (λ (k : ℕ). (c.link k).reads ≡ (a.link k).reads) (sym number) (spared output_full ∙ ap (λ (x : LinkState). x.reads) (rest i d (omega arith) here)))
+    (λ j e under output_full.
     let ne : j ≢ i = λ is. absurd (omega (arith, under, is)) in
-    ap (λ (x : LinkState). x.reads) (alone.others (get_or links j e).number (numbers_apart s links b jobs replies j i e d (omega arith) here ne h)) ∙ below j e under laden)
+    ap (λ (x : LinkState). x.reads) (alone.others (get_or links j e).number (numbers_apart s links b jobs replies j i e d (omega arith) here ne h)) ∙ below j e under output_full)
 
 pub unread_on : (n : ℕ) (a b c : PortState) → Alone n b c → ReadsNone a b → (c.link n).reads ≡ (b.link n).reads → ReadsNone a c
 unread_on n a b c alone first one = unread_then a b c first (unread_one n b c alone.others one)
@@ -121,4 +132,4 @@ spared_swept (x ∷ links) s t h = spared_if (not (is_done x)) x (undone links) 
 
 pub spared_late : (links : List Link) (s t u : PortState) → ReadsNone s t → AreSpared links t u → AreSpared links s u
 spared_late [] s t u none h = tt
-spared_late (x ∷ links) s t u none h = (λ laden. h.0 laden ∙ none x.number, spared_late links s t u none h.1)
+spared_late (x ∷ links) s t u none h = (λ output_full. h.0 output_full ∙ none x.number, spared_late links s t u none h.1)

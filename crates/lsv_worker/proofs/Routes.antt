@@ -48,7 +48,7 @@ settle_list lanes home (f ∷ []) next more e not by =
     sym (ap (λ (b : Bool). Some (if b then lane_by lanes home next else lane_by lanes home f)) hello ∙ ap (λ (n : ℕ). Some n) by)
 settle_list lanes home (f ∷ g ∷ xs) next more e not by = absurd cc
 
--- a job that is no hello decides the lane, where it isn't decided yet
+-- a job that is no hello decides the lane, if it isn't decided yet
 lane_ends : (lanes home : ℕ) (xs : List Body) (next : Body) (more : List Body) → is_hello next ≡ false → (n : ℕ) × (lane_of lanes home (xs ++ next ∷ more) ≡ Some n)
 lane_ends lanes home [] next [] not = (lane_by lanes home next, ap (λ (b : Bool). if b then None else Some (lane_by lanes home next)) not)
 lane_ends lanes home [] next (m ∷ more) not = (_, refl)
@@ -67,7 +67,7 @@ routed_more route put said coming more n e h = record {
   lane = e ∙ sym (ap (lane_of route.lanes route.home) (sym (append_assoc said coming more)) ∙ lane_more route.lanes route.home n (said ++ coming) more (sym h.lane ∙ e));
 }
 
--- the lane is decided now, by what was said nowhere yet
+-- the lane is decided now, and nothing was put before
 decides : (route : Routing) (put : ℕ → List Body) (said coming : List Body) (n : ℕ) (new : List Body) → route.lane ≡ None → Routed route put said coming → Some n ≡ lane_of route.lanes route.home (said ++ new) → Routed (record route { lane = Some n }) put said new
 decides route put said coming n new e h is =
     let quiet : said ≡ [] = h.undecided e in
@@ -97,7 +97,7 @@ swap lanes home [] = refl
 swap lanes home (f ∷ []) = refl
 swap lanes home (f ∷ g ∷ xs) = refl
 
--- where memory runs out instead of an end, the lane is the same
+-- if memory runs out instead of an end, the lane is the same
 pub routed_swap : (route : Routing) (put : ℕ → List Body) (said coming : List Body) → Routed route put said (coming ++ Gone ∷ []) → Routed route put said (coming ++ Bad NoMem ∷ Gone ∷ [])
 routed_swap route put said coming h = record {
   to_lane = h.to_lane;
@@ -111,11 +111,11 @@ homed_at : (l : Option ℕ) (old new : Routing) (marks : Marks) → old.lane ≡
 homed_at None old new marks e none some h = record { lanes = ap (λ (r : Routing). r.lanes) (none e) ∙ h.lanes; home = ap (λ (r : Routing). r.home) (none e) ∙ h.home }
 homed_at (Some n) old new marks e none some h = subst (λ (r : Routing). IsHomed r marks) (sym (some n e)) h
 
--- it stays where a lane is settled
+-- it stays if a lane is settled
 pub homed_settle : (old new : Routing) (marks : Marks) → (old.lane ≡ None → new ≡ record old { lane = Some old.home }) → ((n : ℕ) → old.lane ≡ Some n → new ≡ old) → IsHomed old marks → IsHomed new marks
 homed_settle old new marks none some h = homed_at old.lane old new marks refl none some h
 
--- and where its lanes and its home lane stay
+-- it stays if its number of lanes and its home lane stay
 pub homed_on : (old new : Routing) (marks : Marks) → new.lanes ≡ old.lanes → new.home ≡ old.home → IsHomed old marks → IsHomed new marks
 homed_on old new marks lanes home h = record { lanes = lanes ∙ h.lanes; home = home ∙ h.home }
 

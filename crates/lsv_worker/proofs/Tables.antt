@@ -16,10 +16,10 @@ use Rattle.lsv_session.specs.declared.reply.Reply.{Reply}
 use Rattle.lsv_session.proofs.Replies.{bodies_of-append}
 use Rattle.lsv_worker.specs.Lanes.{job_of}
 use Rattle.lsv_worker.specs.Outgoing.{Alone, kept_up}
-use Rattle.lsv_worker.specs.Links.{IsTold, LinkStands, LinkStep, is_done}
-use Rattle.lsv_worker.specs.Worker.{AreCalmed, AreHeld, AreLast, AreOfLanes, IsApart, IsCalmed, IsIn, IsMade, Setting, Stands, Steps, conn_at, undone}
+use Rattle.lsv_worker.specs.Links.{KnowsPort, LinkStands, LinkStep, is_done}
+use Rattle.lsv_worker.specs.Worker.{AreReadOut, AreHeld, AreLast, AreOfLanes, IsApart, IsReadOut, IsIn, IsMade, Setting, Stands, Steps, conn_at, undone}
 use Rattle.lsv_worker.specs.Incoming.{has_left}
-use Rattle.lsv_worker.specs.declared.link.Pause.TheVariants.{Calm}
+use Rattle.lsv_worker.specs.declared.link.Blocked.TheVariants as blocks
 use Rattle.lsv_worker.specs.declared.link.Link.{Link}
 use Rattle.lsv_worker.proofs.Away.{away_alone, beside_alone, beside_on}
 use Rattle.lsv_worker.proofs.Linking.{stands_ext}
@@ -49,7 +49,7 @@ bodies_other c d (x ∷ said) ne = ap (λ (b : Bool). if b then x ∷ bodies_of 
 
 -- ---- one connection is otherwise
 
--- the connections as they were last, but this one
+-- the connections as they were last, except this one
 abbrev pub with_link : ℕ → Link → (ℕ → Link) → ℕ → Link
 with_link k new last m = if m == k then new else last m
 
@@ -59,7 +59,7 @@ with_same k new last = ap (λ (b : Bool). if b then new else last k) (own k)
 pub with_other : (k m : ℕ) (new : Link) (last : ℕ → Link) → m ≢ k → with_link k new last m ≡ last m
 with_other k m new last ne = ap (λ (b : Bool). if b then new else last m) (other m k ne)
 
--- what is said of the new one, and of all others, is said of each
+-- what holds of the new one and of all others holds of each
 pub with_each : (P : Link → Type 0) (k m : ℕ) (new : Link) (last : ℕ → Link) → (m ≡ k → P new) → (m ≢ k → P (last m)) → P (with_link k new last m)
 with_each P k m new last this others =
     ⊎_elim (λ e. subst P (sym (ap (λ (x : ℕ). with_link k new last x) e ∙ with_same k new last)) (this e)) (λ ne. subst P (sym (with_other k m new last ne)) (others ne)) (same_or_not m k)
@@ -116,11 +116,11 @@ in_at k [] i d within e = absurd (omega arith)
 in_at k (x ∷ links) zero d within e = inl e
 in_at k (x ∷ links) (suc i) d within e = inr (in_at k links i d (omega arith) e)
 
--- what a worker says of one connection
+-- what holds of one connection
 abbrev pub Fits : Setting → Link → PortState → (ℕ → List Job) → List Reply → Type 0
 Fits s link port jobs replies = LinkStands s.lanes s.phase link (port.link link.number) (λ lane. bodies_of link.conn (jobs lane)) replies
 
--- the same jobs, told otherwise
+-- the same for equal lists of jobs
 pub fits_ext : (s : Setting) (link : Link) (port : PortState) (jobs others : ℕ → List Job) (replies : List Reply) → ((lane : ℕ) → others lane ≡ jobs lane) → Fits s link port jobs replies → Fits s link port others replies
 fits_ext s link port jobs others replies e h = stands_ext s.lanes s.phase link (port.link link.number) (λ lane. bodies_of link.conn (others lane)) (λ lane. bodies_of link.conn (jobs lane)) replies (λ lane. ap (bodies_of link.conn) (e lane)) h
 
@@ -143,7 +143,7 @@ stands_jobs s links port jobs others replies e h = record {
 }
 
 -- the connection itself goes on
-fits_own : (s : Setting) (old new : Link) (before after : PortState) (p q jobs : ℕ → List Job) (replies : List Reply) (step : LinkStep s.phase old new before after p q) → IsTold s.phase before → Fits s old before jobs replies
+fits_own : (s : Setting) (old new : Link) (before after : PortState) (p q jobs : ℕ → List Job) (replies : List Reply) (step : LinkStep s.phase old new before after p q) → KnowsPort s.phase before → Fits s old before jobs replies
     → Fits s new after (λ lane. jobs lane ++ map (job_of old.conn) (step.added lane)) replies
 fits_own s old new before after p q jobs replies step told h =
     let to : ℕ → List Job = λ lane. jobs lane ++ map (job_of old.conn) (step.added lane) in
@@ -285,11 +285,11 @@ pub lanes_swept : (n : ℕ) (links : List Link) → AreOfLanes n links → AreOf
 lanes_swept n [] h = tt
 lanes_swept n (x ∷ links) h = lanes_if (not (is_done x)) n x (undone links) h.0 (lanes_swept n links h.1)
 
-calm_if : (b : Bool) (x : Link) (links : List Link) → IsCalmed x → AreCalmed links → AreCalmed (keep_if b x links)
+calm_if : (b : Bool) (x : Link) (links : List Link) → IsReadOut x → AreReadOut links → AreReadOut (keep_if b x links)
 calm_if true x links e h = (e, h)
 calm_if false x links e h = h
 
-pub calm_swept : (links : List Link) → AreCalmed links → AreCalmed (undone links)
+pub calm_swept : (links : List Link) → AreReadOut links → AreReadOut (undone links)
 calm_swept [] h = tt
 calm_swept (x ∷ links) h = calm_if (not (is_done x)) x (undone links) h.0 (calm_swept links h.1)
 
@@ -305,7 +305,7 @@ lanes_at n [] i old within is h = absurd (omega arith)
 lanes_at n (x ∷ links) zero old within is h = ap (λ (l : Link). l.incoming.route.lanes) is ∙ h.0
 lanes_at n (x ∷ links) (suc i) old within is h = lanes_at n links i old (omega arith) is h.1
 
-pub calm_all : (links : List Link) → ((i : ℕ) (d : Link) → i < length links → IsCalmed (get_or links i d)) → AreCalmed links
+pub calm_all : (links : List Link) → ((i : ℕ) (d : Link) → i < length links → IsReadOut (get_or links i d)) → AreReadOut links
 calm_all [] h = tt
 calm_all (x ∷ links) h = (h 0 x (omega arith), calm_all links (λ i d within. h (suc i) d (omega arith)))
 
@@ -320,28 +320,28 @@ below_set P links i new here at under j d within =
 -- ---- links that are held
 
 pub live_undone : (l : Link) → l.live ≡ true → is_done l ≡ false
-live_undone l live = ap (λ (b : Bool). (not b && (l.shut && has_left l.incoming.stage)) && kept_up l.outgoing.voice) live
+live_undone l live = ap (λ (b : Bool). (not b && (l.shut && has_left l.incoming.stage)) && kept_up l.outgoing.sending) live
 
-calm_held : (last : ℕ → Link) (s : Setting) (k : ℕ) (links : List Link) (held : List ℕ) → AreLast last s links → AreCalmed links → AreHeld held links → IsIn k links → (last k).live ≡ true → (last k).owed ≡ true → Contains held (last k).number
-calm_held last s k [] held t calm h within live owed = absurd within
-calm_held last s k (x ∷ links) held t calm h within live owed =
+calm_held : (last : ℕ → Link) (s : Setting) (k : ℕ) (links : List Link) (held : List ℕ) → AreLast last s links → AreReadOut links → AreHeld held links → IsIn k links → (last k).live ≡ true → (last k).owed ≡ true → Contains held (last k).number
+calm_held last s k [] held t unblocked h within live owed = absurd within
+calm_held last s k (x ∷ links) held t unblocked h within live owed =
     ⊎_elim
     (λ e.
     let is : last k ≡ x = ap last (sym e) ∙ t.1 in
     subst (λ (l : Link). Contains held l.number) (sym is)
-    (h.0 (λ paused. let no : x.owed ≡ false = calm.0 paused (ap (λ (l : Link). l.live) (sym is) ∙ live) in let yes : x.owed ≡ true = ap (λ (l : Link). l.owed) (sym is) ∙ owed in cc)))
-    (λ r. calm_held last s k links held t.3 calm.1 h.1 r live owed) within
+    (h.0 (λ blocked_by. let no : x.owed ≡ false = unblocked.0 blocked_by (ap (λ (l : Link). l.live) (sym is) ∙ live) in let yes : x.owed ≡ true = ap (λ (l : Link). l.owed) (sym is) ∙ owed in cc)))
+    (λ r. calm_held last s k links held t.3 unblocked.1 h.1 r live owed) within
 
 -- each link that is open and owed is held
-pub holds_owed : (s : Setting) (links : List Link) (port : PortState) (jobs : ℕ → List Job) (replies : List Reply) (held : List ℕ) → Stands s links port jobs replies → AreCalmed links → AreHeld held links → (l : ℕ) → IsOwed port l → Contains held l
-holds_owed s links port jobs replies held h calm are l owed =
+pub holds_owed : (s : Setting) (links : List Link) (port : PortState) (jobs : ℕ → List Job) (replies : List Reply) (held : List ℕ) → Stands s links port jobs replies → AreReadOut links → AreHeld held links → (l : ℕ) → IsOwed port l → Contains held l
+holds_owed s links port jobs replies held h unblocked are l owed =
     let k : (n : ℕ) × IsMade s n × ((h.last n).number ≡ l) = h.linked l owed.is_open in
     let fits : Fits s (h.last k.0) port jobs replies = h.each k.0 k.1 in
     let live : (h.last k.0).live ≡ true = sym fits.live ∙ subst (λ (n : ℕ). (port.link n).is_open ≡ true) (sym k.2) owed.is_open in
     let due : (h.last k.0).owed ≡ true = sym fits.owed ∙ subst (λ (n : ℕ). (port.link n).owed ≡ true) (sym k.2) owed.owed in
-    subst (Contains held) k.2 (calm_held h.last s k.0 links held h.table calm are (h.complete k.0 k.1 (live_undone (h.last k.0) live)) live due)
+    subst (Contains held) k.2 (calm_held h.last s k.0 links held h.table unblocked are (h.complete k.0 k.1 (live_undone (h.last k.0) live)) live due)
 
-pub held_all : (links : List Link) (held : List ℕ) → ((i : ℕ) (d : Link) → i < length links → (get_or links i d).pause ≢ Calm → Contains held (get_or links i d).number) → AreHeld held links
+pub held_all : (links : List Link) (held : List ℕ) → ((i : ℕ) (d : Link) → i < length links → (get_or links i d).blocked ≢ blocks.No → Contains held (get_or links i d).number) → AreHeld held links
 held_all [] held h = tt
 held_all (x ∷ links) held h = (h 0 x (omega arith), held_all links held (λ i d within. h (suc i) d (omega arith)))
 
@@ -349,6 +349,10 @@ held_all (x ∷ links) held h = (h 0 x (omega arith), held_all links held (λ i 
 pub lent : {A : Type 0} (n : ℕ) (xs ys : List A) → n ≡ length ys → length xs ≡ length ys → take n (xs ++ drop (length xs) ys) ≡ xs
 lent {A} n xs ys en el =
     ap (λ (l : List A). take n (xs ++ l)) (drop_of_length-le ys (omega arith)) ∙ ap (take n) (append-nil xs) ∙ take_all n xs (omega arith)
+
+-- the same, with the lent slice
+pub given_back : {A : Type 0} (n : ℕ) (xs ys was : List A) → was ≡ ys → length was ≡ n → length xs ≡ length was → take n (xs ++ drop (length xs) ys) ≡ xs
+given_back n xs ys was value len size = lent n xs ys (sym len ∙ ap length value) (size ∙ ap length value)
 
 pub same_default : {A : Type 0} (l : List A) (i : ℕ) (d e : A) → i < length l → get_or l i d ≡ get_or l i e
 same_default [] i d e h = absurd (omega arith)

@@ -13,11 +13,11 @@ use Rattle.lsv_session.specs.declared.job.Job.{Job}
 use Rattle.lsv_session.specs.declared.reply.Reply.{Reply}
 use Rattle.lsv_session.proofs.Replies.{answers-append}
 use Rattle.lsv_worker.specs.Incoming.{has_left}
-use Rattle.lsv_worker.specs.Outgoing.{Speaks, kept_up}
+use Rattle.lsv_worker.specs.Outgoing.{Sends, kept_up}
 use Rattle.lsv_worker.specs.Links.{LinkStands, Takes, is_done}
 use Rattle.lsv_worker.specs.Worker.{AreLast, IsIn, IsMade, IsUnasked, Setting, Stands, conn_at}
 use Rattle.lsv_worker.specs.declared.link.Link.{Link}
-use Rattle.lsv_worker.specs.declared.outgoing.Voice.TheVariants as voices
+use Rattle.lsv_worker.specs.declared.outgoing.Sending.TheVariants as sendings
 use Rattle.lsv_worker.proofs.Away.{away_alone, beside_alone, beside_on}
 use Rattle.lsv_worker.proofs.Ports.{told_alone}
 use Rattle.lsv_worker.proofs.Linking.{early_more, shut_more, talks_more, talks_now}
@@ -35,7 +35,7 @@ other_reply s link port jobs replies reply differs h = record {
   marks = h.marks;
   home = h.home;
   inward = h.inward;
-  outward = subst (Speaks link.outgoing (port.link link.number).output) (sym (other_answers link.conn replies reply differs)) h.outward;
+  outward = subst (Sends link.outgoing (port.link link.number).output) (sym (other_answers link.conn replies reply differs)) h.outward;
   small = h.small;
   live = h.live;
   owed = h.owed;
@@ -114,11 +114,11 @@ still_done true kept e = refl
 still_done false kept e = absurd cc
 
 abbrev mute : Link → Link
-mute link = record link { outgoing = record link.outgoing { unsent = []; voice = voices.Over } }
+mute link = record link { outgoing = record link.outgoing { unsent = []; sending = sendings.Over } }
 
 mute_fits : (s : Setting) (link : Link) (port : PortState) (jobs : ℕ → List Job) (replies : List Reply) (reply : Reply) → reply.conn ≡ link.conn → is_done link ≡ true → Fits s link port jobs replies → Fits s (mute link) port jobs (replies ++ reply ∷ [])
 mute_fits s link port jobs replies reply to done h =
-    let is = done_live link.live link.shut (has_left link.incoming.stage) (kept_up link.outgoing.voice) done in
+    let is = done_live link.live link.shut (has_left link.incoming.stage) (kept_up link.outgoing.sending) done in
     record {
       marks = h.marks;
       home = h.home;
@@ -163,7 +163,7 @@ stands_dropped s links port jobs replies reply to made none h =
       last = with_link k0 (mute (h.last k0)) h.last;
       table = not_in_other k0 (mute (h.last k0)) h.last s links none h.table;
       complete = λ k m. with_each (λ l. is_done l ≡ false → IsIn k links) k0 k (mute (h.last k0)) h.last
-          (λ e undone. absurd (let no : true ≡ false = sym (still_done (not (h.last k0).live && ((h.last k0).shut && has_left (h.last k0).incoming.stage)) (kept_up (h.last k0).outgoing.voice) done) ∙ undone in cc)) (λ ne undone. h.complete k m undone);
+          (λ e undone. absurd (let no : true ≡ false = sym (still_done (not (h.last k0).live && ((h.last k0).shut && has_left (h.last k0).incoming.stage)) (kept_up (h.last k0).outgoing.sending) done) ∙ undone in cc)) (λ ne undone. h.complete k m undone);
       conn = λ k m. conns k ∙ h.conn k m;
       each = λ k m. with_each (λ l. Fits s l port jobs (replies ++ reply ∷ [])) k0 k (mute (h.last k0)) h.last (λ e. own)
           (λ ne. other_reply s (h.last k) port jobs replies reply (not_same reply.conn (h.last k).conn (λ e. ne (sym (e ∙ ap (λ (c : ConnId). c.seq) (h.conn k m))))) (h.each k m));

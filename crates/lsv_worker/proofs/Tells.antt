@@ -1,4 +1,4 @@
--- What comes of a connection that has ended.
+-- How a connection that has ended stands.
 use Rattle.std.proofs.Common.{◌≡◌, ◌⊎◌, ℕ, suc, ◌<◌, Bool, true, false, Option, Some, List, [], ◌∷◌, ◌++◌, length, get_or, refl, sym, ap, subst, ◌∙◌, append_assoc, ⊎_elim, inl, inr, arith}
 use Rattle.std.specs.Prelude.{◌&&◌, ◌%◌, not}
 use Rattle.std.proofs.lemmas.List.{append-nil}
@@ -9,36 +9,36 @@ use Rattle.lsv_session.specs.declared.job.Body.{Body}
 use Rattle.lsv_session.specs.declared.job.Body.TheVariants.{Gone}
 use Rattle.lsv_session.specs.declared.job.Job.{Job}
 use Rattle.lsv_session.specs.declared.reply.Reply.{Reply}
-use Rattle.lsv_worker.specs.Incoming.{AreBodies, IsHomed, IsWhole, Marks, has_left, hears, last_words, pending, tail, was_shut}
+use Rattle.lsv_worker.specs.Incoming.{AreBodies, IsHomed, IsWhole, Marks, has_left, may_receive, last_words, pending, tail, was_shut}
 use Rattle.lsv_links.specs.Lanes.{lane_of, share}
 use Rattle.lsv_worker.specs.Lanes.{Routed, Routing, lane_on}
 use Rattle.lsv_worker.specs.Links.{IsAtHome, LinkStands, is_done}
 use Rattle.lsv_worker.specs.Outgoing.{HasEarlyShut, kept_up}
-use Rattle.lsv_worker.specs.Tells.{Ends, IsCauseOf, IsHeardOut}
+use Rattle.lsv_worker.specs.Tells.{Ends, IsCauseOf, HasNoInput}
 use Rattle.lsv_worker.specs.Worker.{AreLast, HaveLeft, IsIn, IsMade, Setting, Stands, conn_at}
 use Rattle.lsv_worker.specs.declared.incoming.Stage.{Stage}
-use Rattle.lsv_worker.specs.declared.incoming.Stage.TheVariants.{Hearing, Ending, Starving, Leaving, Left}
+use Rattle.lsv_worker.specs.declared.incoming.Stage.TheVariants.{Open, Draining, OutOfMemory, Closing, Closed}
 use Rattle.lsv_worker.specs.declared.incoming.Why.{Why}
-use Rattle.lsv_worker.specs.declared.incoming.Why.TheVariants.{Ended, Refused, Shut, Starved}
+use Rattle.lsv_worker.specs.declared.incoming.Why.TheVariants.{Ended, Refused, Shut, NoMemory}
 use Rattle.lsv_worker.specs.declared.link.Link.{Link}
 use Rattle.lsv_worker.specs.declared.link.Phase.{Phase}
 use Rattle.lsv_worker.proofs.Routes.{routed_decided}
 use Rattle.lsv_worker.proofs.Speaking.{speaks_prefix}
 
-why_of : (stage : Stage) → has_left stage ≡ true → (why : Why) × (stage ≡ Left why)
-why_of Hearing e = absurd cc
-why_of Ending e = absurd cc
-why_of Starving e = absurd cc
-why_of (Leaving why) e = absurd cc
-why_of (Left why) e = (why, refl)
+why_of : (stage : Stage) → has_left stage ≡ true → (why : Why) × (stage ≡ Closed why)
+why_of Open e = absurd cc
+why_of Draining e = absurd cc
+why_of OutOfMemory e = absurd cc
+why_of (Closing why) e = absurd cc
+why_of (Closed why) e = (why, refl)
 
-cause_of : (why : Why) (phase : Phase) (c : ConnId) (s : LinkState) (replies : List Reply) → (hears (Left why) ≡ false → IsHeardOut phase c s replies) → (was_shut (Left why) ≡ true → HasEarlyShut c replies) → IsCauseOf why phase c s replies
+cause_of : (why : Why) (phase : Phase) (c : ConnId) (s : LinkState) (replies : List Reply) → (may_receive (Closed why) ≡ false → HasNoInput phase c s replies) → (was_shut (Closed why) ≡ true → HasEarlyShut c replies) → IsCauseOf why phase c s replies
 cause_of Ended phase c s replies over shut = over refl
 cause_of Refused phase c s replies over shut = tt
 cause_of Shut phase c s replies over shut = shut refl
-cause_of Starved phase c s replies over shut = tt
+cause_of NoMemory phase c s replies over shut = tt
 
--- a list with a Gone at its end decides the lane
+-- a list that ends with a Gone decides the lane
 whole_routed : (link : Link) (put : ℕ → List Body) (said heard last : List Body) → said ≡ heard ++ (last ++ Gone ∷ []) → Routed link.incoming.route put said [] → (n : ℕ) × (link.incoming.route.lane ≡ Some n)
 whole_routed link put said heard last whole h =
     routed_decided link.incoming.route (λ m. share link.incoming.route.lane m []) [] (heard ++ last) Gone [] refl
@@ -54,7 +54,7 @@ decided_lane route marks n c said homed home =
     ap (λ (l : ℕ). lane_of l route.home said) (homed.lanes ∙ home.lanes) ∙ ap (λ (x : ℕ). lane_of n x said) (homed.home ∙ home.home)
 
 -- no more bytes of a link come
-heard_out : (n : ℕ) (phase : Phase) (link : Link) (s : LinkState) (put : ℕ → List Body) (replies : List Reply) → (h : LinkStands n phase link s put replies) → h.marks.over ≡ true → IsHeardOut phase link.conn s replies
+heard_out : (n : ℕ) (phase : Phase) (link : Link) (s : LinkState) (put : ℕ → List Body) (replies : List Reply) → (h : LinkStands n phase link s put replies) → h.marks.over ≡ true → HasNoInput phase link.conn s replies
 heard_out n phase link s put replies h over = record {
   may_end = h.may_end over;
   own_cause = λ dead early. ⊎_elim (λ e. inl e) (λ k. inr (⊎_elim (λ f. inl f) (λ r. inr (⊎_elim (λ m. inl (h.told m)) (λ p. inr p) r)) k)) (h.own_cause over dead early);
@@ -62,7 +62,7 @@ heard_out n phase link s put replies h over = record {
 
 pub link_ends : (n : ℕ) (phase : Phase) (link : Link) (s : LinkState) (jobs : ℕ → List Job) (replies : List Reply) → link.shut ≡ true → has_left link.incoming.stage ≡ true → LinkStands n phase link s (λ m. bodies_of link.conn (jobs m)) replies → Ends n phase link.conn s jobs replies
 link_ends n phase link s jobs replies shut left h =
-    let why : (w : Why) × (link.incoming.stage ≡ Left w) = why_of link.incoming.stage left in
+    let why : (w : Why) × (link.incoming.stage ≡ Closed w) = why_of link.incoming.stage left in
     let none : pending link.incoming ≡ [] = ap (λ (r : List Body). r ++ tail link.incoming.stage) (h.inward.left left) ∙ ap tail why.1 in
     let all : IsWhole why.0 s.input h.inward.said = subst (IsWhole why.0 s.input) (ap (λ (p : List Body). h.inward.said ++ p) none ∙ append-nil h.inward.said)
     (subst (λ (g : Stage). AreBodies g s.input link.incoming.rest (h.inward.said ++ pending link.incoming)) why.1 h.inward.bodies) in
@@ -72,7 +72,7 @@ link_ends n phase link s jobs replies shut left h =
       why = why.0;
       said = h.inward.said;
       whole = all;
-      cause = cause_of why.0 phase link.conn s replies (λ e. heard_out n phase link s (λ m. bodies_of link.conn (jobs m)) replies h (h.inward.over (ap hears why.1 ∙ e))) (λ e. h.told (h.inward.shut (ap was_shut why.1 ∙ e)));
+      cause = cause_of why.0 phase link.conn s replies (λ e. heard_out n phase link s (λ m. bodies_of link.conn (jobs m)) replies h (h.inward.over (ap may_receive why.1 ∙ e))) (λ e. h.told (h.inward.shut (ap was_shut why.1 ∙ e)));
       lane = lane.0;
       decided = sym (decided_lane link.incoming.route h.marks n link.conn h.inward.said h.inward.homed h.home) ∙ sym (ap (λ (l : List Body). lane_on link.incoming.route l) (append-nil h.inward.said)) ∙ sym routed.lane ∙ lane.1;
       put = λ m. h.inward.routed.to_lane m ∙ ap (λ (l : Option ℕ). share l m h.inward.said) lane.1;
@@ -99,5 +99,5 @@ done_or_not false = inr refl
 pub each_ends : (s : Setting) (links : List Link) (port : PortState) (jobs : ℕ → List Job) (replies : List Reply) → HaveLeft links → (h : Stands s links port jobs replies) → (k : ℕ) → IsMade s k → Ends s.lanes s.phase (conn_at s k) (port.link (h.last k).number) jobs replies
 each_ends s links port jobs replies left h k made =
     let is : ((h.last k).shut ≡ true) × (has_left (h.last k).incoming.stage ≡ true) =
-    ⊎_elim (λ done. done_left (h.last k).live (h.last k).shut (has_left (h.last k).incoming.stage) (kept_up (h.last k).outgoing.voice) done) (λ undone. table_left h.last s k links h.table left (h.complete k made undone)) (done_or_not (is_done (h.last k))) in
+    ⊎_elim (λ done. done_left (h.last k).live (h.last k).shut (has_left (h.last k).incoming.stage) (kept_up (h.last k).outgoing.sending) done) (λ undone. table_left h.last s k links h.table left (h.complete k made undone)) (done_or_not (is_done (h.last k))) in
     subst (λ (c : ConnId). Ends s.lanes s.phase c (port.link (h.last k).number) jobs replies) (h.conn k made) (link_ends s.lanes s.phase (h.last k) (port.link (h.last k).number) jobs replies is.0 is.1 (h.each k made))

@@ -2,6 +2,7 @@ pub mod Lanes
 pub mod Incoming
 pub mod Outgoing
 pub mod Links
+pub mod Frames
 pub mod Worker
 pub mod Tells
 pub mod Sizes

@@ -10,29 +10,29 @@ use Rattle.lsv_worker.specs.declared.memory.MemInbox.{MemInbox}
 abbrev pub waiting : MemInbox → List Job
 waiting inbox = inbox.jobs.items
 
--- how many bytes the jobs after the first are taken to hold
+-- the estimated bytes of the jobs after the first
 abbrev pub bytes_behind_first : List Job → ℕ
 bytes_behind_first [] = 0
 bytes_behind_first (first ∷ jobs) = sum_by job_bytes jobs
 
--- each job that waits is of the inbox's worker, there are at most 256, and those after the first hold what is counted, at most 64 MiB
+-- all waiting jobs are of the inbox's worker, at most 256 wait, and those after the first hold the counted bytes, at most 64 MiB
 pub record IsOrderly (inbox : MemInbox) : Type 0 where
   pub own : AllByRecursion (λ job. job.conn.worker ≡ inbox.worker) (waiting inbox)
   pub few : length (waiting inbox) ≤ 256
   pub counted : inbox.bytes ≡ bytes_behind_first (waiting inbox)
   pub light : bytes_behind_first (waiting inbox) ≤ 67108864
 
--- there is room for one more of this size: fewer than 256 wait, and it is the first, or those after the first hold at most 64 MiB with it
+-- there is room for one more job of this size: fewer than 256 wait, and either none waits or those after the first hold at most 64 MiB with it
 pub record HasRoom (inbox : MemInbox) (size : ℕ) : Type 0 where
   pub few : length (waiting inbox) < 256
   pub light : 0 < length (waiting inbox) → inbox.bytes + size ≤ 67108864
 
--- a job that the inbox is for: it is of its worker, and there is room for it
+-- the inbox takes this job: it is of its worker, and there is room for it
 pub record Admits (inbox : MemInbox) (job : Job) : Type 0 where
   pub own : job.conn.worker ≡ inbox.worker
   pub room : HasRoom inbox (job_bytes job)
 
--- it is the inbox of the same worker, and in order where it was
+-- it is the inbox of the same worker, and if it was orderly, it still is
 pub record KeepsOrder (old new : MemInbox) : Type 0 where
   pub worker : new.worker ≡ old.worker
   pub orderly : IsOrderly old → IsOrderly new
@@ -43,7 +43,7 @@ order_here i = record { worker = refl; orderly = λ o. o }
 pub order_through : (i j k : MemInbox) → KeepsOrder i j → KeepsOrder j k → KeepsOrder i k
 order_through i j k a b = record { worker = b.worker ∙ a.worker; orderly = λ o. b.orderly (a.orderly o) }
 
--- the count of a lane, where this is that of the one lane
+-- the count of each lane, given that of the one lane
 abbrev pub count_in : ℕ → ℕ → ℕ
 count_in zero count = count
 count_in (suc lane) count = 0

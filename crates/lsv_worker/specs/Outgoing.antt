@@ -7,25 +7,25 @@ use Rattle.lsv_session.specs.declared.connection.ConnId.{ConnId}
 use Rattle.lsv_session.specs.declared.reply.Reply.{Reply}
 use Rattle.lsv_session.specs.declared.reply.ReplyBody.TheVariants as replies
 use Rattle.lsv_worker.specs.declared.outgoing.Outgoing.{Outgoing}
-use Rattle.lsv_worker.specs.declared.outgoing.Voice.{Voice}
-use Rattle.lsv_worker.specs.declared.outgoing.Voice.TheVariants.{Speaking, Failed, Starved, Over}
+use Rattle.lsv_worker.specs.declared.outgoing.Sending.{Sending}
+use Rattle.lsv_worker.specs.declared.outgoing.Sending.TheVariants.{Open, Failed, OutOfMemory, Over}
 
--- what is put on a link is a prefix of its answers, and with what is unsent all of them while it speaks
-abbrev pub PutOf : Voice → List ℕ → List ℕ → List ℕ → Type 0
-PutOf Speaking unsent output answers = output ++ unsent ≡ answers
+-- what was written is a prefix of the answers; if replies are still sent, it makes all of them with what is unsent
+abbrev pub PutOf : Sending → List ℕ → List ℕ → List ℕ → Type 0
+PutOf Open unsent output answers = output ++ unsent ≡ answers
 PutOf Failed unsent output answers = (unsent ≡ []) × IsPrefix output answers
-PutOf Starved unsent output answers = (unsent ≡ []) × IsPrefix output answers
+PutOf OutOfMemory unsent output answers = (unsent ≡ []) × IsPrefix output answers
 PutOf Over unsent output answers = (unsent ≡ []) × IsPrefix output answers
 
 -- the same of the way out of a link
-abbrev pub Speaks : Outgoing → List ℕ → List ℕ → Type 0
-Speaks link output answers = PutOf link.voice link.unsent output answers
+abbrev pub Sends : Outgoing → List ℕ → List ℕ → Type 0
+Sends link output answers = PutOf link.sending link.unsent output answers
 
--- no reply was lost since memory ran out
-abbrev pub kept_up : Voice → Bool
-kept_up Speaking = true
+-- no reply was lost because memory ran out
+abbrev pub kept_up : Sending → Bool
+kept_up Open = true
 kept_up Failed = true
-kept_up Starved = false
+kept_up OutOfMemory = false
 kept_up Over = true
 
 -- a reply that shuts this connection
@@ -33,23 +33,23 @@ pub record IsShutOf (c : ConnId) (reply : Reply) : Type 0 where
   pub conn : same reply.conn c ≡ true
   pub shut : reply.body ≡ replies.Shut
 
--- one that does so by itself, and not since the connection ended
+-- a reply that shuts this connection early, not because it ended
 pub record IsEarlyShutOf (c : ConnId) (reply : Reply) : Type 0 where
   pub shut : IsShutOf c reply
   pub early : reply.last ≡ false
 
--- among these replies one shuts the connection
+-- one of these replies shuts the connection
 abbrev pub HasShut : ConnId → List Reply → Type 0
 HasShut c [] = ⊥
 HasShut c (reply ∷ replies) = IsShutOf c reply ⊎ HasShut c replies
 
--- among these replies one shuts the connection by itself
+-- one of these replies shuts the connection early
 abbrev pub HasEarlyShut : ConnId → List Reply → Type 0
 HasEarlyShut c [] = ⊥
 HasEarlyShut c (reply ∷ replies) = IsEarlyShutOf c reply ⊎ HasEarlyShut c replies
 
--- after a reply that shuts the connection stands one more to it
-pub record TalksOn (c : ConnId) (replies : List Reply) : Type 0 where
+-- after a reply that shuts the connection there is one more reply to it
+pub record RepliesAfterShut (c : ConnId) (replies : List Reply) : Type 0 where
   pub before : List Reply
   pub reply : Reply
   pub after : List Reply
@@ -57,7 +57,7 @@ pub record TalksOn (c : ConnId) (replies : List Reply) : Type 0 where
   pub shut : HasShut c before
   pub more : same reply.conn c ≡ true
 
--- nothing changed of a link of a port on the way in
+-- the way in of a port's link didn't change
 pub record SameInput (old new : LinkState) : Type 0 where
   pub is_open : new.is_open ≡ old.is_open
   pub input : new.input ≡ old.input
@@ -65,7 +65,7 @@ pub record SameInput (old new : LinkState) : Type 0 where
   pub owed : new.owed ≡ old.owed
   pub reads : new.reads ≡ old.reads
 
--- no link of a port changed but this one, which was opened beside the same
+-- only this link of a port changed, and the links that were open when it was opened stay the same
 pub record Alone (l : ℕ) (old new : PortState) : Type 0 where
   pub others : (m : ℕ) → m ≢ l → new.link m ≡ old.link m
   pub beside : (new.link l).beside ≡ (old.link l).beside
@@ -77,4 +77,4 @@ pub record Alone (l : ℕ) (old new : PortState) : Type 0 where
 pub record Writes (l : ℕ) (old new : Outgoing) (before after : PortState) : Type 0 where
   pub alone : Alone l before after
   pub input : SameInput (before.link l) (after.link l)
-  pub goes : (answers : List ℕ) → Speaks old (before.link l).output answers → Speaks new (after.link l).output answers
+  pub goes : (answers : List ℕ) → Sends old (before.link l).output answers → Sends new (after.link l).output answers

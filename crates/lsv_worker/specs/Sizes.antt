@@ -1,4 +1,4 @@
--- How much memory a job is taken to hold, in bytes.
+-- An estimate of the memory that a job holds, in bytes.
 use Rattle.std.specs.Prelude.{ℕ, ◌+◌, ◌-◌, ◌*◌, ◌^◌, List, length, min, sum_by}
 use Rattle.lsv_info.specs.declared.info.Entry.{Entry}
 use Rattle.lsv_info.specs.declared.info.Info.{Info}
@@ -25,7 +25,7 @@ value_bytes (Nums numbers) = 8 * length numbers
 abbrev pub entry_bytes : Entry → ℕ
 entry_bytes entry = 72 + length entry.key + value_bytes entry.value
 
--- what is told of a command takes its entries
+-- a list of entries takes its entries
 abbrev pub info_bytes : Info → ℕ
 info_bytes info = sum_by entry_bytes info.entries
 
@@ -54,6 +54,6 @@ body_bytes Gone = 0
 abbrev pub job_bytes : Job → ℕ
 job_bytes job = body_bytes job.body
 
--- a size as it is counted: it stands still at the greatest number of 64 bits
+-- a size as it is counted: at most the greatest number of 64 bits
 abbrev pub counted : ℕ → ℕ
 counted n = min n (2 ^ 64 - 1)

@@ -1,4 +1,4 @@
--- What comes of a connection that has ended, in the words of its bytes, jobs and replies.
+-- How a connection that has ended stands, by its bytes, jobs and replies.
 use Rattle.std.specs.Prelude.{◌≡◌, ◌%◌, ℕ, Some, List}
 use Rattle.std.specs.List.{Contains}
 use Rattle.lsv_defs.specs.Pieces.{IsPrefix}
@@ -14,24 +14,24 @@ use Rattle.lsv_worker.specs.Links.{HasOwnCause, MayEnd}
 use Rattle.lsv_worker.specs.Outgoing.{HasEarlyShut, HasShut}
 use Rattle.lsv_worker.specs.Worker.{IsMade, conn_at, setting}
 use Rattle.lsv_worker.specs.declared.incoming.Why.{Why}
-use Rattle.lsv_worker.specs.declared.incoming.Why.TheVariants.{Ended, Refused, Shut, Starved}
+use Rattle.lsv_worker.specs.declared.incoming.Why.TheVariants.{Ended, Refused, Shut, NoMemory}
 use Rattle.lsv_worker.specs.declared.link.Phase.{Phase}
 use Rattle.lsv_worker.specs.declared.worker.Worker.{Worker}
 
--- no more bytes of a link come, for a cause that holds now; and for one of its own, if it was closed before Stop and before a failure of its port
-pub record IsHeardOut (phase : Phase) (c : ConnId) (s : LinkState) (replies : List Reply) : Type 0 where
+-- no more bytes of a link come, for a cause that holds now; if it was closed before Stop and before a port failure, for its own
+pub record HasNoInput (phase : Phase) (c : ConnId) (s : LinkState) (replies : List Reply) : Type 0 where
   pub may_end : MayEnd phase s
   pub own_cause : HasOwnCause phase s (HasEarlyShut c replies)
 
--- what has caused the end: no more bytes come, or a keeper shut the connection by itself; a job that tells of a fault stands before it else
+-- what caused the end: no more bytes come, or a keeper shut the connection early; otherwise a job that reports a fault comes before it
 abbrev pub IsCauseOf : Why → Phase → ConnId → LinkState → List Reply → Type 0
-IsCauseOf Ended phase c s replies = IsHeardOut phase c s replies
+IsCauseOf Ended phase c s replies = HasNoInput phase c s replies
 IsCauseOf Refused phase c s replies = Unit {0}
 IsCauseOf Shut phase c s replies = HasEarlyShut c replies
-IsCauseOf Starved phase c s replies = Unit {0}
+IsCauseOf NoMemory phase c s replies = Unit {0}
 
--- All that was put for a connection that has left, each job to the one lane that its jobs decide, by what was read of its
--- link; and what is put on its link is a prefix of its answers. lanes: how many lanes there are
+-- All jobs of a connection whose Gone was put, by what was read of its link. Each went to the one lane that they decide. What was
+-- written to its link is a prefix of its answers. lanes: the number of lanes
 pub record Ends (lanes : ℕ) (phase : Phase) (c : ConnId) (s : LinkState) (jobs : ℕ → List Job) (replies : List Reply) : Type 0 where
   pub why : Why
   pub said : List Body
@@ -43,6 +43,6 @@ pub record Ends (lanes : ℕ) (phase : Phase) (c : ConnId) (s : LinkState) (jobs
   pub output : IsPrefix s.output (answers c replies)
   pub shut : HasShut c replies
 
--- each connection that a worker made is one of a link that was opened, and has ended so
+-- each connection that a worker made is that of a link that was opened, and has ended so
 abbrev pub EachEnds : Worker → PortState → (ℕ → List Job) → List Reply → Type 0
 EachEnds w port jobs replies = (k : ℕ) → IsMade (setting w) k → (l : ℕ) × Contains port.opened l × Ends w.lanes w.phase (conn_at (setting w) k) (port.link l) jobs replies

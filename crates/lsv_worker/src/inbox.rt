@@ -1,8 +1,9 @@
 //! Where a worker puts jobs.
 
-ghost use Rattle.std.specs.Prelude.{◌≡◌, ◌≢◌, ℕ, ◌<◌, ◌≤◌, List, ◌++◌, ◌∷◌, [], OnOk, OnErr, IfErr};
+ghost use Rattle.std.specs.Prelude.{◌≡◌, ◌≢◌, ℕ, ◌<◌, List, ◌++◌, ◌∷◌, [], OnOk, OnErr, IfErr};
 ghost use Rattle.lsv_defs.specs.Causes.{HasRisen};
 ghost use Rattle.lsv_session.specs.declared.job.Job.{Job};
+ghost use Rattle.lsv_worker.specs.Frames.{InboxKeeps};
 
 use lsv_session::{Full, Job};
 
@@ -11,26 +12,24 @@ pub trait Inbox {
     /// How many lanes it has.
     ghost lanes: { Self → ℕ };
 
-    /// The jobs that were put to a lane and are told, in order: a put adds one at the end.
+    /// The jobs that were put to a lane, in order: a put adds one at the end.
     ghost jobs: { Self → ℕ → List Job };
 
-    /// How many puts to a lane were refused. At its type's end the count stands still.
+    /// How many puts to a lane were refused. The count may stop at its type's maximum.
     ghost refused: { Self → ℕ → ℕ };
 
-    /// What a put leaves the same, as which queue a borrowed pass belongs to.
+    /// Two inboxes that are the same one, before and after puts: what a put leaves unchanged.
     ghost is_same: { Self → Self → Type 0 };
 
-    /// Puts a job to a lane, or gives it back where the lane is full.
+    /// Puts a job to a lane, or returns it if the lane is full.
     fn put(&mut self, lane: u32, job: Job) -> Result<(), (Job, Full)>
         requires lane { lane < lanes self.old }
         ensures ok { OnOk result (jobs self.new lane ≡ jobs self.old lane ++ job ∷ []) }
         ensures others { (m : ℕ) → m ≢ lane → jobs self.new m ≡ jobs self.old m }
         ensures back { IfErr result (λ e. e.0 ≡ job) }
         ensures unchanged { OnErr result (jobs self.new lane ≡ jobs self.old lane) }
-        ensures counts { (m : ℕ) → refused self.old m ≤ refused self.new m }
         ensures cause { OnErr result (HasRisen (refused self.old lane) (refused self.new lane)) }
-        ensures lanes { lanes self.new ≡ lanes self.old }
-        ensures same { is_same self.old self.new };
+        ensures keeps { InboxKeeps lanes refused is_same self.old self.new };
 
     ghost same_here: { (i : Self) → is_same i i };
 

@@ -6,9 +6,10 @@ ghost use Rattle.lsv_session.specs.Transcript.{AreAllJobs};
 ghost use Rattle.lsv_session.specs.declared.job.Body.{Body};
 ghost use Rattle.lsv_session.specs.declared.job.Body.TheVariants as bodies;
 ghost use Rattle.lsv_cut.specs.Cuts.{unread};
-ghost use Rattle.lsv_worker.specs.Incoming.{Hears, KeepsWant, Marks, Puts, PutsAny, SameWay, TellsWant, WasFull, cuts, drops, has_left, hears, is_starving, kept, starves, weight, with_piece};
+ghost use Rattle.lsv_worker.specs.Incoming.{Receives, IncomingKeeps, Marks, Puts, PutsAny, SameWay, ReportsNoMemory, WasFull, cuts, drops, has_left, may_receive, ended_out_of_memory, kept, stage_out_of_memory, weight, with_piece};
 ghost use Rattle.lsv_links.specs.Lanes.{lane_by};
-ghost use Rattle.lsv_worker.specs.Lanes.{Routed};
+ghost use Rattle.lsv_worker.specs.Frames.{InboxKeeps};
+ghost use Rattle.lsv_worker.specs.Lanes.{KeepsHome, Routed};
 
 use crate::Inbox;
 use crate::route::{Route, is_hello};
@@ -22,25 +23,25 @@ pub enum Why {
     Ended,
     Refused,
     Shut,
-    Starved,
+    NoMemory,
 }
 
 /// How far a connection is.
 #[derive(Clone, Copy, Debug, PartialEq, Eq)]
 pub enum Stage {
     /// Bytes may come.
-    Hearing,
-    /// None come any more.
-    Ending,
-    /// Memory ran out: a job says so, and then its end.
-    Starving,
+    Open,
+    /// No more bytes come. What was read is still cut.
+    Draining,
+    /// Memory ran out. A job reports it, and then comes its end.
+    OutOfMemory,
     /// Its end is the next job.
-    Leaving(Why),
+    Closing(Why),
     /// Its end was put.
-    Left(Why),
+    Closed(Why),
 }
 
-/// What a try to put jobs came to: there may be more, the lane is full, or there is nothing to put now.
+/// The result of a try to put a job: there may be more, the lane is full, or there is nothing to put now.
 #[derive(Clone, Copy, Debug, PartialEq, Eq)]
 pub(crate) enum Tried {
     More,
@@ -48,8 +49,8 @@ pub(crate) enum Tried {
     Idle,
 }
 
-/// The way from the bytes of a link to its jobs: the bytes that are no job yet, a first hello that waits until the lane is
-/// decided, and a job that waits for room.
+/// The way from the bytes of a link to its jobs. It holds the bytes that are no job yet, a first hello until the lane
+/// is decided, and a job that waits for room.
 #[derive(Debug, Drop)]
 pub struct Incoming {
     pub(crate) rest: PieceReader,
@@ -66,18 +67,18 @@ fn is_dropping(why: Why) -> bool
         Why::Ended => false,
         Why::Refused => true,
         Why::Shut => true,
-        Why::Starved => true,
+        Why::NoMemory => true,
     }
 }
 
-fn is_starving(why: Why) -> bool
-    ensures { result ≡ is_starving why }
+fn ended_out_of_memory(why: Why) -> bool
+    ensures { result ≡ ended_out_of_memory why }
 {
     match why {
         Why::Ended => false,
         Why::Refused => false,
         Why::Shut => false,
-        Why::Starved => true,
+        Why::NoMemory => true,
     }
 }
 
@@ -87,37 +88,37 @@ impl Stage {
         ensures { result ≡ cuts self }
     {
         match self {
-            Stage::Hearing => true,
-            Stage::Ending => true,
-            Stage::Starving => false,
-            Stage::Leaving(_) => false,
-            Stage::Left(_) => false,
+            Stage::Open => true,
+            Stage::Draining => true,
+            Stage::OutOfMemory => false,
+            Stage::Closing(_) => false,
+            Stage::Closed(_) => false,
         }
     }
 
     /// Whether more bytes may come.
-    pub(crate) fn is_hearing(self) -> bool
-        ensures { result ≡ hears self }
+    pub(crate) fn may_receive(self) -> bool
+        ensures { result ≡ may_receive self }
     {
         match self {
-            Stage::Hearing => true,
-            Stage::Ending => false,
-            Stage::Starving => true,
-            Stage::Leaving(why) => is_dropping(why),
-            Stage::Left(why) => is_dropping(why),
+            Stage::Open => true,
+            Stage::Draining => false,
+            Stage::OutOfMemory => true,
+            Stage::Closing(why) => is_dropping(why),
+            Stage::Closed(why) => is_dropping(why),
         }
     }
 
     /// Whether memory ran out for it.
-    pub(crate) fn is_starved(self) -> bool
-        ensures { result ≡ starves self }
+    pub(crate) fn is_out_of_memory(self) -> bool
+        ensures { result ≡ stage_out_of_memory self }
     {
         match self {
-            Stage::Hearing => false,
-            Stage::Ending => false,
-            Stage::Starving => true,
-            Stage::Leaving(why) => is_starving(why),
-            Stage::Left(why) => is_starving(why),
+            Stage::Open => false,
+            Stage::Draining => false,
+            Stage::OutOfMemory => true,
+            Stage::Closing(why) => ended_out_of_memory(why),
+            Stage::Closed(why) => ended_out_of_memory(why),
         }
     }
 
@@ -126,11 +127,11 @@ impl Stage {
         ensures { result ≡ has_left self }
     {
         match self {
-            Stage::Hearing => false,
-            Stage::Ending => false,
-            Stage::Starving => false,
-            Stage::Leaving(_) => false,
-            Stage::Left(_) => true,
+            Stage::Open => false,
+            Stage::Draining => false,
+            Stage::OutOfMemory => false,
+            Stage::Closing(_) => false,
+            Stage::Closed(_) => true,
         }
     }
 }
@@ -138,8 +139,8 @@ impl Stage {
 impl Incoming {
     pub(crate) fn new(alloc: Global, lanes: u32, seq: u64) -> Self
         requires { 0 < lanes }
-        ensures hears { Hears result [] (λ lane. []) (record { lanes = lanes; home = seq % lanes; shut = false; over = false }) }
-        ensures stage { result.stage ≡ Stage.Hearing }
+        ensures receives { Receives result [] (λ lane. []) (record { lanes = lanes; home = seq % lanes; shut = false; over = false }) }
+        ensures stage { result.stage ≡ Stage.Open }
         ensures lanes { result.route.lanes ≡ lanes }
     {
         Incoming {
@@ -147,33 +148,32 @@ impl Incoming {
             first: None,
             waiting: None,
             route: Route::new(lanes, seq),
-            stage: Stage::Hearing,
+            stage: Stage::Open,
         }
     }
 
-    /// Memory ran out while messages are cut.
-    fn starve(&mut self)
+    /// Memory ran out while messages are cut. No more are cut.
+    fn stop_cutting(&mut self)
         requires { cuts self.old.stage ≡ true }
         ensures goes { (rest : List ℕ) → SameWay (record self.old { rest = rest }) self.new }
-        ensures stage { self.new.stage ≡ Stage.Starving }
+        ensures stage { self.new.stage ≡ Stage.OutOfMemory }
         ensures rest { self.new.rest ≡ self.old.rest }
         ensures lanes { self.new.route.lanes ≡ self.old.route.lanes }
     {
         self.route.settle();
-        self.stage = Stage::Starving;
+        self.stage = Stage::OutOfMemory;
     }
 
-    /// The next job was cut: a first hello is held back, and any other waits for room, and decides the lane where none is
+    /// The next job was cut. A first hello is held back. Any other job waits for room, and decides the lane if none is
     /// decided yet.
-    fn receive(&mut self, body: Body)
+    fn keep_job(&mut self, body: Body)
         requires empty { self.old.waiting ≡ None }
         ensures rest { self.new.rest ≡ self.old.rest }
         ensures stage { self.new.stage ≡ self.old.stage }
         ensures ready { kept self.new.first ++ kept self.new.waiting ≡ kept self.old.first ++ body ∷ [] }
         ensures quiet { self.new.route.lane ≡ None → self.new.waiting ≡ None }
         ensures routed { (put : ℕ → List Body) (said : List Body) → Routed self.old.route put said (kept self.old.first) → Routed self.new.route put said (kept self.old.first ++ body ∷ []) }
-        ensures lanes { self.new.route.lanes ≡ self.old.route.lanes }
-        ensures home { self.new.route.home ≡ self.old.route.home }
+        ensures home { KeepsHome self.old.route self.new.route }
     {
         if self.route.is_decided() {
             self.waiting = Some(body);
@@ -199,73 +199,68 @@ impl Incoming {
         self.waiting = Some(body);
     }
 
-    /// A message was refused: that is its last job before its end.
+    /// A message was refused. The job that reports it is the last one before the end.
     fn refuse(&mut self, fault: Fault)
         requires empty { self.old.waiting ≡ None }
         requires cutting { cuts self.old.stage ≡ true }
         ensures rest { self.new.rest ≡ self.old.rest }
-        ensures stage { self.new.stage ≡ Stage.Leaving Why.Refused }
-        ensures goes { (rest read : List ℕ) (put : ℕ → List Body) (marks : Marks) (h : Hears (record self.old { rest = rest }) read put marks)
-            → AreAllJobs read ((h.said ++ kept self.old.first) ++ bodies.Bad fault ∷ []) → Hears self.new read put marks }
+        ensures stage { self.new.stage ≡ Stage.Closing Why.Refused }
+        ensures goes { (rest read : List ℕ) (put : ℕ → List Body) (marks : Marks) (h : Receives (record self.old { rest = rest }) read put marks)
+            → AreAllJobs read ((h.said ++ kept self.old.first) ++ bodies.Bad fault ∷ []) → Receives self.new read put marks }
         ensures lanes { self.new.route.lanes ≡ self.old.route.lanes }
     {
-        self.receive(Body::Bad(fault));
-        self.stage = Stage::Leaving(Why::Refused);
+        self.keep_job(Body::Bad(fault));
+        self.stage = Stage::Closing(Why::Refused);
     }
 
-    /// Memory ran out for this connection elsewhere: a job says so before its end, unless that or the end was put.
-    pub(crate) fn want(&mut self)
+    /// Memory ran out for this connection elsewhere. A job reports it before the end, unless that job or the end was put.
+    pub(crate) fn run_out_of_memory(&mut self)
         ensures goes { SameWay self.old self.new }
-        ensures tells { TellsWant self.new }
-        ensures keeps { KeepsWant self.old self.new }
-        ensures lanes { self.new.route.lanes ≡ self.old.route.lanes }
+        ensures tells { ReportsNoMemory self.new }
+        ensures keeps { IncomingKeeps self.old self.new }
     {
         match self.stage {
-            Stage::Hearing | Stage::Ending => self.starve(),
-            Stage::Leaving(Why::Ended) => self.stage = Stage::Starving,
-            Stage::Leaving(Why::Shut) => self.stage = Stage::Starving,
-            Stage::Leaving(Why::Refused) => {
+            Stage::Open | Stage::Draining => self.stop_cutting(),
+            Stage::Closing(Why::Ended) => self.stage = Stage::OutOfMemory,
+            Stage::Closing(Why::Shut) => self.stage = Stage::OutOfMemory,
+            Stage::Closing(Why::Refused) => {
                 if self.waiting.is_some() {
-                    self.stage = Stage::Starving;
+                    self.stage = Stage::OutOfMemory;
                 }
             }
-            Stage::Starving | Stage::Leaving(Why::Starved) | Stage::Left(_) => {}
+            Stage::OutOfMemory | Stage::Closing(Why::NoMemory) | Stage::Closed(_) => {}
         }
     }
 
-    /// A Shut was taken that isn't the last: nothing more is cut, and its end comes after what waits.
+    /// A Shut was taken that isn't the last. Nothing more is cut, and the end comes after the job that waits.
     pub(crate) fn shut(&mut self)
-        ensures goes { (read : List ℕ) (put : ℕ → List Body) (marks : Marks) → Hears self.old read put marks → Hears self.new read put (record marks { shut = true }) }
-        ensures keeps { KeepsWant self.old self.new }
-        ensures lanes { self.new.route.lanes ≡ self.old.route.lanes }
+        ensures goes { (read : List ℕ) (put : ℕ → List Body) (marks : Marks) → Receives self.old read put marks → Receives self.new read put (record marks { shut = true }) }
+        ensures keeps { IncomingKeeps self.old self.new }
     {
         if self.stage.is_cutting() {
             self.route.settle();
-            self.stage = Stage::Leaving(Why::Shut);
+            self.stage = Stage::Closing(Why::Shut);
         }
     }
 
-    /// No more bytes come. That changes nothing of a connection that has left.
+    /// No more bytes come. A connection whose end was put doesn't change.
     pub(crate) fn end(&mut self)
-        ensures goes { (read : List ℕ) (put : ℕ → List Body) (marks : Marks) → Hears self.old read put marks → Hears self.new read put (record marks { over = true }) }
+        ensures goes { (read : List ℕ) (put : ℕ → List Body) (marks : Marks) → Receives self.old read put marks → Receives self.new read put (record marks { over = true }) }
         ensures left { has_left self.old.stage ≡ true → self.new ≡ self.old }
-        ensures keeps { KeepsWant self.old self.new }
-        ensures lanes { self.new.route.lanes ≡ self.old.route.lanes }
+        ensures keeps { IncomingKeeps self.old self.new }
     {
-        if let Stage::Hearing = self.stage {
-            self.stage = Stage::Ending;
+        if let Stage::Open = self.stage {
+            self.stage = Stage::Draining;
         }
     }
 
-    /// These bytes came: puts their jobs as far as the lane has room, and keeps what is left. Nothing of them counts if no
-    /// message is cut any more.
-    pub(crate) fn hear<I: Inbox>(&mut self, piece: &[u8], conn: ConnId, inbox: &mut I)
+    /// Takes bytes that were read: puts their jobs while the lane has room, and keeps the rest. If no message is cut any more,
+    /// the bytes are ignored.
+    pub(crate) fn receive<I: Inbox>(&mut self, piece: &[u8], conn: ConnId, inbox: &mut I)
         requires lanes { I.lanes inbox.old ≡ self.old.route.lanes }
         ensures puts { Puts conn (with_piece self.old piece.now 0) self.new (I.jobs inbox.old) (I.jobs inbox.new) }
-        ensures keeps { KeepsWant self.old self.new }
-        ensures counts { (m : ℕ) → I.refused inbox.old m ≤ I.refused inbox.new m }
-        ensures lanes { I.lanes inbox.new ≡ self.new.route.lanes }
-        ensures same { I.is_same inbox.old inbox.new }
+        ensures keeps { IncomingKeeps self.old self.new }
+        ensures inbox { InboxKeeps I.lanes I.refused I.is_same inbox.old inbox.new }
     {
         let mut at = 0;
         if self.stage.is_cutting() {
@@ -274,11 +269,10 @@ impl Incoming {
         }
     }
 
-    /// Keeps bytes that came, if messages are still cut.
+    /// Keeps bytes that were read, if messages are still cut.
     fn keep(&mut self, piece: &[u8])
         ensures goes { SameWay (with_piece self.old piece.now 0) self.new }
-        ensures keeps { KeepsWant self.old self.new }
-        ensures lanes { self.new.route.lanes ≡ self.old.route.lanes }
+        ensures keeps { IncomingKeeps self.old self.new }
     {
         if self.stage.is_cutting() {
             match self.rest.keep(piece) {
@@ -286,7 +280,7 @@ impl Incoming {
                     return;
                 }
                 Err(_) => {
-                    self.starve();
+                    self.stop_cutting();
                     return;
                 }
             }
@@ -297,13 +291,9 @@ impl Incoming {
     fn offer_first<I: Inbox>(&mut self, conn: ConnId, inbox: &mut I) -> Tried
         requires lanes { I.lanes inbox.old ≡ self.old.route.lanes }
         ensures puts { PutsAny conn self.old self.new (I.jobs inbox.old) (I.jobs inbox.new) }
-        ensures stage { self.new.stage ≡ self.old.stage }
-        ensures rest { self.new.rest ≡ self.old.rest }
-        ensures waiting { self.new.waiting ≡ self.old.waiting }
+        ensures only { self.new ≡ record self.old { first = self.new.first } }
         ensures emptied { result ≢ Tried.Full → (n : ℕ) → self.new.route.lane ≡ Some n → self.new.first ≡ None }
-        ensures counts { (m : ℕ) → I.refused inbox.old m ≤ I.refused inbox.new m }
-        ensures lanes { I.lanes inbox.new ≡ self.new.route.lanes }
-        ensures same { I.is_same inbox.old inbox.new }
+        ensures inbox { InboxKeeps I.lanes I.refused I.is_same inbox.old inbox.new }
         ensures full { result ≡ Tried.Full → WasFull self.new.route (I.refused inbox.old) (I.refused inbox.new) }
     {
         if self.route.is_decided() {
@@ -312,19 +302,15 @@ impl Incoming {
         Tried::More
     }
 
-    /// Puts the first hello, where the lane is decided.
+    /// Puts the first hello. The lane is decided.
     #[tactic(auto, using(crate::proofs::Putting::puts_none, crate::proofs::Putting::first_back))]
     fn put_first<I: Inbox>(&mut self, conn: ConnId, inbox: &mut I) -> Tried
         requires lanes { I.lanes inbox.old ≡ self.old.route.lanes }
         requires decided { self.old.route.lane ≢ None }
         ensures puts { PutsAny conn self.old self.new (I.jobs inbox.old) (I.jobs inbox.new) }
-        ensures stage { self.new.stage ≡ self.old.stage }
-        ensures rest { self.new.rest ≡ self.old.rest }
-        ensures waiting { self.new.waiting ≡ self.old.waiting }
+        ensures only { self.new ≡ record self.old { first = self.new.first } }
         ensures emptied { result ≢ Tried.Full → self.new.first ≡ None }
-        ensures counts { (m : ℕ) → I.refused inbox.old m ≤ I.refused inbox.new m }
-        ensures lanes { I.lanes inbox.new ≡ self.new.route.lanes }
-        ensures same { I.is_same inbox.old inbox.new }
+        ensures inbox { InboxKeeps I.lanes I.refused I.is_same inbox.old inbox.new }
         ensures full { result ≡ Tried.Full → WasFull self.new.route (I.refused inbox.old) (I.refused inbox.new) }
     {
         let Some(body) = self.first.take() else {
@@ -345,15 +331,10 @@ impl Incoming {
         requires lanes { I.lanes inbox.old ≡ self.old.route.lanes }
         requires first { (n : ℕ) → self.old.route.lane ≡ Some n → self.old.first ≡ None }
         ensures puts { PutsAny conn self.old self.new (I.jobs inbox.old) (I.jobs inbox.new) }
-        ensures stage { self.new.stage ≡ self.old.stage }
-        ensures rest { self.new.rest ≡ self.old.rest }
-        ensures first { self.new.first ≡ self.old.first }
-        ensures route { self.new.route ≡ self.old.route }
+        ensures only { self.new ≡ record self.old { waiting = self.new.waiting } }
         ensures emptied { result ≢ Tried.Full → self.new.waiting ≡ None }
         ensures empty { self.old.waiting ≡ None → self.new.waiting ≡ None }
-        ensures counts { (m : ℕ) → I.refused inbox.old m ≤ I.refused inbox.new m }
-        ensures lanes { I.lanes inbox.new ≡ self.new.route.lanes }
-        ensures same { I.is_same inbox.old inbox.new }
+        ensures inbox { InboxKeeps I.lanes I.refused I.is_same inbox.old inbox.new }
         ensures full { result ≡ Tried.Full → WasFull self.new.route (I.refused inbox.old) (I.refused inbox.new) }
     {
         let Some(body) = self.waiting.take() else {
@@ -368,7 +349,7 @@ impl Incoming {
         }
     }
 
-    /// Cuts the next job of what is kept and then of a piece from a place on, if none waits.
+    /// Cuts the next job from the kept bytes followed by a piece, from `at` on. No job waits.
     fn cut(&mut self, piece: &[u8], at: &mut usize) -> Tried
         requires empty { self.old.waiting ≡ None }
         requires cutting { cuts self.old.stage ≡ true }
@@ -382,7 +363,7 @@ impl Incoming {
         match self.rest.next(piece, at) {
             Ok(Cut::Nothing) => self.cut_nothing(),
             Ok(Cut::Message(message, _)) => {
-                self.receive(Body::Msg(message));
+                self.keep_job(Body::Msg(message));
                 Tried::More
             }
             Ok(Cut::NoMessage(fault)) => {
@@ -390,13 +371,13 @@ impl Incoming {
                 Tried::More
             }
             Err(_) => {
-                self.starve();
+                self.stop_cutting();
                 Tried::More
             }
         }
     }
 
-    /// Less than a frame is left: where no more bytes come, its end is next.
+    /// Less than a frame is left. If no more bytes come, its end is next.
     fn cut_nothing(&mut self) -> Tried
         requires cutting { cuts self.old.stage ≡ true }
         requires partial { IsPartial self.old.rest }
@@ -406,34 +387,32 @@ impl Incoming {
         ensures full { result ≢ Tried.Full }
         ensures lanes { self.new.route.lanes ≡ self.old.route.lanes }
     {
-        if let Stage::Ending = self.stage {
+        if let Stage::Draining = self.stage {
             self.route.settle();
-            self.stage = Stage::Leaving(Why::Ended);
+            self.stage = Stage::Closing(Why::Ended);
             return Tried::More;
         }
         Tried::Idle
     }
 
-    /// Says that memory ran out, where nothing waits.
+    /// Reports that memory ran out. Nothing waits.
     #[tactic(auto, using(crate::proofs::Putting::puts_none))]
-    fn tell_starved<I: Inbox>(&mut self, conn: ConnId, inbox: &mut I) -> Tried
+    fn report_out_of_memory<I: Inbox>(&mut self, conn: ConnId, inbox: &mut I) -> Tried
         requires lanes { I.lanes inbox.old ≡ self.old.route.lanes }
         requires first { (n : ℕ) → self.old.route.lane ≡ Some n → self.old.first ≡ None }
         requires empty { self.old.waiting ≡ None }
-        requires stage { self.old.stage ≡ Stage.Starving }
+        requires stage { self.old.stage ≡ Stage.OutOfMemory }
         ensures puts { PutsAny conn self.old self.new (I.jobs inbox.old) (I.jobs inbox.new) }
         ensures rest { self.new.rest ≡ self.old.rest }
-        ensures stage { result ≡ Tried.More → self.new.stage ≡ Stage.Leaving Why.Starved }
-        ensures keeps { KeepsWant self.old self.new }
-        ensures counts { (m : ℕ) → I.refused inbox.old m ≤ I.refused inbox.new m }
-        ensures lanes { I.lanes inbox.new ≡ self.new.route.lanes }
-        ensures same { I.is_same inbox.old inbox.new }
+        ensures stage { result ≡ Tried.More → self.new.stage ≡ Stage.Closing Why.NoMemory }
+        ensures keeps { IncomingKeeps self.old self.new }
+        ensures inbox { InboxKeeps I.lanes I.refused I.is_same inbox.old inbox.new }
         ensures full { result ≡ Tried.Full → WasFull self.new.route (I.refused inbox.old) (I.refused inbox.new) }
     {
         let body = Body::Bad(Fault::NoMem);
         match inbox.put(self.route.lane(), Job { conn, body }) {
             Ok(()) => {
-                self.stage = Stage::Leaving(Why::Starved);
+                self.stage = Stage::Closing(Why::NoMemory);
                 return Tried::More;
             }
             Err(_) => {
@@ -442,26 +421,24 @@ impl Incoming {
         }
     }
 
-    /// Puts its end, where nothing waits.
+    /// Puts its end. Nothing waits.
     #[tactic(auto, using(crate::proofs::Putting::puts_none))]
     fn leave<I: Inbox>(&mut self, why: Why, conn: ConnId, inbox: &mut I) -> Tried
         requires lanes { I.lanes inbox.old ≡ self.old.route.lanes }
         requires first { (n : ℕ) → self.old.route.lane ≡ Some n → self.old.first ≡ None }
         requires empty { self.old.waiting ≡ None }
-        requires stage { self.old.stage ≡ Stage.Leaving why }
+        requires stage { self.old.stage ≡ Stage.Closing why }
         ensures puts { PutsAny conn self.old self.new (I.jobs inbox.old) (I.jobs inbox.new) }
         ensures rest { self.new.rest ≡ self.old.rest }
-        ensures stage { result ≡ Tried.More → self.new.stage ≡ Stage.Left why }
-        ensures keeps { KeepsWant self.old self.new }
-        ensures counts { (m : ℕ) → I.refused inbox.old m ≤ I.refused inbox.new m }
-        ensures lanes { I.lanes inbox.new ≡ self.new.route.lanes }
-        ensures same { I.is_same inbox.old inbox.new }
+        ensures stage { result ≡ Tried.More → self.new.stage ≡ Stage.Closed why }
+        ensures keeps { IncomingKeeps self.old self.new }
+        ensures inbox { InboxKeeps I.lanes I.refused I.is_same inbox.old inbox.new }
         ensures full { result ≡ Tried.Full → WasFull self.new.route (I.refused inbox.old) (I.refused inbox.new) }
     {
         let body = Body::Gone;
         match inbox.put(self.route.lane(), Job { conn, body }) {
             Ok(()) => {
-                self.stage = Stage::Left(why);
+                self.stage = Stage::Closed(why);
                 return Tried::More;
             }
             Err(_) => {
@@ -470,8 +447,8 @@ impl Incoming {
         }
     }
 
-    /// Puts or cuts the next job, where what was cut before is put.
-    fn go_on<I: Inbox>(
+    /// Cuts the next job, or puts the end. All that was cut before is put.
+    fn cut_or_end<I: Inbox>(
         &mut self,
         piece: &[u8],
         at: &mut usize,
@@ -483,33 +460,35 @@ impl Incoming {
         requires empty { self.old.waiting ≡ None }
         requires within { at.old ≤ length piece.now }
         ensures puts { Puts conn (with_piece self.old piece.now at.old) (with_piece self.new piece.now at.new) (I.jobs inbox.old) (I.jobs inbox.new) }
-        ensures keeps { KeepsWant self.old self.new }
+        ensures keeps { IncomingKeeps self.old self.new }
         ensures less { result ≡ Tried.More → length (unread self.new.rest piece.now at.new) + weight self.new.stage < length (unread self.old.rest piece.now at.old) + weight self.old.stage }
         ensures within { at.new ≤ length piece.now }
-        ensures counts { (m : ℕ) → I.refused inbox.old m ≤ I.refused inbox.new m }
-        ensures lanes { I.lanes inbox.new ≡ self.new.route.lanes }
-        ensures same { I.is_same inbox.old inbox.new }
+        ensures inbox { InboxKeeps I.lanes I.refused I.is_same inbox.old inbox.new }
         ensures full { result ≡ Tried.Full → WasFull self.new.route (I.refused inbox.old) (I.refused inbox.new) }
     {
         match self.stage {
-            Stage::Hearing | Stage::Ending => self.cut(piece, at),
-            Stage::Starving => self.tell_starved(conn, inbox),
-            Stage::Leaving(why) => self.leave(why, conn, inbox),
-            Stage::Left(_) => Tried::Idle,
+            Stage::Open | Stage::Draining => self.cut(piece, at),
+            Stage::OutOfMemory => self.report_out_of_memory(conn, inbox),
+            Stage::Closing(why) => self.leave(why, conn, inbox),
+            Stage::Closed(_) => Tried::Idle,
         }
     }
 
-    /// One try to put the next job.
-    fn step<I: Inbox>(&mut self, piece: &[u8], at: &mut usize, conn: ConnId, inbox: &mut I) -> Tried
+    /// Tries once to put the next job.
+    fn next_job<I: Inbox>(
+        &mut self,
+        piece: &[u8],
+        at: &mut usize,
+        conn: ConnId,
+        inbox: &mut I,
+    ) -> Tried
         requires lanes { I.lanes inbox.old ≡ self.old.route.lanes }
         requires within { at.old ≤ length piece.now }
         ensures puts { Puts conn (with_piece self.old piece.now at.old) (with_piece self.new piece.now at.new) (I.jobs inbox.old) (I.jobs inbox.new) }
-        ensures keeps { KeepsWant self.old self.new }
+        ensures keeps { IncomingKeeps self.old self.new }
         ensures less { result ≡ Tried.More → length (unread self.new.rest piece.now at.new) + weight self.new.stage < length (unread self.old.rest piece.now at.old) + weight self.old.stage }
         ensures within { at.new ≤ length piece.now }
-        ensures counts { (m : ℕ) → I.refused inbox.old m ≤ I.refused inbox.new m }
-        ensures lanes { I.lanes inbox.new ≡ self.new.route.lanes }
-        ensures same { I.is_same inbox.old inbox.new }
+        ensures inbox { InboxKeeps I.lanes I.refused I.is_same inbox.old inbox.new }
         ensures full { result ≡ Tried.Full → WasFull self.new.route (I.refused inbox.old) (I.refused inbox.new) }
     {
         if let Tried::Full = self.offer_first(conn, inbox) {
@@ -518,10 +497,10 @@ impl Incoming {
         if let Tried::Full = self.offer(conn, inbox) {
             return Tried::Full;
         }
-        self.go_on(piece, at, conn, inbox)
+        self.cut_or_end(piece, at, conn, inbox)
     }
 
-    /// Puts the jobs of what is kept and then of a piece from a place on, as far as the lane has room. True where it was full.
+    /// Puts the jobs of the kept bytes followed by a piece, from `at` on, while the lane has room. True if it was full.
     fn put_all<I: Inbox>(
         &mut self,
         piece: &[u8],
@@ -532,15 +511,13 @@ impl Incoming {
         requires lanes { I.lanes inbox.old ≡ self.old.route.lanes }
         requires within { at.old ≤ length piece.now }
         ensures puts { Puts conn (with_piece self.old piece.now at.old) (with_piece self.new piece.now at.new) (I.jobs inbox.old) (I.jobs inbox.new) }
-        ensures keeps { KeepsWant self.old self.new }
+        ensures keeps { IncomingKeeps self.old self.new }
         ensures within { at.new ≤ length piece.now }
-        ensures counts { (m : ℕ) → I.refused inbox.old m ≤ I.refused inbox.new m }
-        ensures lanes { I.lanes inbox.new ≡ self.new.route.lanes }
-        ensures same { I.is_same inbox.old inbox.new }
+        ensures inbox { InboxKeeps I.lanes I.refused I.is_same inbox.old inbox.new }
         ensures full { IsTrue result → WasFull self.new.route (I.refused inbox.old) (I.refused inbox.new) }
     {
         'tries: loop {
-            match self.step(piece, at, conn, inbox) {
+            match self.next_job(piece, at, conn, inbox) {
                 Tried::More => {}
                 Tried::Full => {
                     return true;
@@ -552,14 +529,12 @@ impl Incoming {
         }
     }
 
-    /// Puts the jobs of what came, as far as the lane has room. True where it was full.
+    /// Puts the jobs of the kept bytes while the lane has room. True if it was full.
     pub(crate) fn advance<I: Inbox>(&mut self, conn: ConnId, inbox: &mut I) -> bool
         requires lanes { I.lanes inbox.old ≡ self.old.route.lanes }
         ensures puts { Puts conn self.old self.new (I.jobs inbox.old) (I.jobs inbox.new) }
-        ensures keeps { KeepsWant self.old self.new }
-        ensures counts { (m : ℕ) → I.refused inbox.old m ≤ I.refused inbox.new m }
-        ensures lanes { I.lanes inbox.new ≡ self.new.route.lanes }
-        ensures same { I.is_same inbox.old inbox.new }
+        ensures keeps { IncomingKeeps self.old self.new }
+        ensures inbox { InboxKeeps I.lanes I.refused I.is_same inbox.old inbox.new }
         ensures full { IsTrue result → WasFull self.new.route (I.refused inbox.old) (I.refused inbox.new) }
     {
         let mut at = 0;

@@ -1,5 +1,5 @@
-//! A worker: the links of one port, as connections. What their bytes say goes into an inbox as jobs, and what the keepers
-//! reply goes out on them as bytes.
+//! A worker: the links of one port, as connections. It puts the messages that are read into an inbox, as jobs, and writes
+//! the keepers' replies.
 #![tactic(auto)]
 
 mod inbox;
@@ -15,8 +15,8 @@ mod worker;
 pub use inbox::Inbox;
 pub use incoming::{Incoming, Stage, Why};
 pub use laws::{a_new_worker_stands, connections_end};
-pub use link::{Link, Pause, Phase};
+pub use link::{Blocked, Link, Phase};
 pub use memory::MemInbox;
-pub use outgoing::{Outgoing, Voice};
+pub use outgoing::{Outgoing, Sending};
 pub use route::Route;
 pub use worker::Worker;

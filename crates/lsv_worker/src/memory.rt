@@ -16,11 +16,11 @@ use std::mem;
 /// The most jobs that wait.
 const MOST_JOBS: usize = 256;
 
-/// The most bytes of decoded messages that wait, above the first job.
+/// The most bytes that the waiting jobs after the first may hold.
 const MOST_BYTES: u64 = 67_108_864;
 
-/// An inbox in memory, of one lane and of one worker: a job of another is refused. It is full where 256 jobs wait, or where
-/// those after the first would hold more than 64 MiB, as `job_size` has it.
+/// An inbox in memory, of one lane and one worker. It refuses the jobs of another worker. It is full if 256 jobs wait, or if
+/// those after the first would hold more than 64 MiB by `job_size`.
 #[derive(Debug, Drop)]
 pub struct MemInbox {
     pub(crate) worker: u32,
@@ -51,7 +51,7 @@ impl MemInbox {
         self.jobs.is_empty()
     }
 
-    /// Hands out the jobs that wait, in order, and keeps the empty vector in their place.
+    /// Hands out the jobs that wait, in order, and keeps the empty vector for the next ones.
     #[tactic(auto, using(crate::proofs::Memories::order_none))]
     pub fn take(&mut self, jobs: &mut Vec<Job>)
         requires { jobs.old.items ≡ [] }
@@ -65,8 +65,7 @@ impl MemInbox {
         self.bytes = 0;
     }
 
-    /// Puts a job at the end, or gives it back: where it is another worker's, where it has no room, and where memory runs out
-    /// for it.
+    /// Puts a job at the end. Returns it if it is another worker's, if there is no room, or if memory runs out.
     #[tactic(auto, using(crate::proofs::Memories::order_same, crate::proofs::Memories::order_first, crate::proofs::Memories::order_behind, crate::proofs::Memories::admits, crate::proofs::Memories::admitted))]
     pub fn offer(&mut self, job: Job) -> Result<(), (Job, Full)>
         ensures ok { OnOk result (waiting self.new ≡ waiting self.old ++ job ∷ []) }
@@ -99,7 +98,7 @@ impl MemInbox {
         Ok(())
     }
 
-    /// Whether one more of this size has room.
+    /// Whether there is room for one more job of this size.
     fn has_room(&self, size: u64) -> bool
         ensures { IsTrue result ↔ HasRoom self.now size }
     {

@@ -9,7 +9,7 @@ use lsv_msg::ClientMessage;
 use lsv_session::Body;
 use std::marker::Model;
 
-/// The lane of a connection, once it is decided. Contracts see it with the lanes that there are and the home lane.
+/// The lane of a connection, once it is decided. It knows the number of lanes and the home lane.
 #[derive(Debug, Drop)]
 pub struct Route {
     lanes: u32,
@@ -59,7 +59,7 @@ impl Route {
         self.lane.is_some()
     }
 
-    /// The lane where it is decided, and else the home lane.
+    /// The lane if it is decided, else the home lane.
     pub(crate) fn lane(&self) -> u32
         ensures is { result ≡ lane_or_home self.now }
         ensures within { result < self.now.lanes }
@@ -70,7 +70,7 @@ impl Route {
         }
     }
 
-    /// A job decides the lane: a restart that names a log goes to that log's lane, and any other job to the home lane.
+    /// A job decides the lane. A restart that names a log goes to that log's lane, any other job to the home lane.
     pub(crate) fn decide(&mut self, body: &Body)
         ensures { self.new ≡ record self.old { lane = Some (lane_by self.old.lanes self.old.home body.now) } }
     {
@@ -92,7 +92,7 @@ impl Route {
         }
     }
 
-    /// Where no lane is decided yet it is the home lane, by an end or a fault.
+    /// If no lane is decided yet, an end or a fault decides for the home lane.
     pub(crate) fn settle(&mut self)
         ensures none { self.old.lane ≡ None → self.new ≡ record self.old { lane = Some self.old.home } }
         ensures some { (n : ℕ) → self.old.lane ≡ Some n → self.new ≡ self.old }

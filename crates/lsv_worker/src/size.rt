@@ -1,4 +1,4 @@
-//! How much memory a job is taken to hold, in bytes. What is more than the greatest `u64` is counted as that.
+//! An estimate of the memory that a job holds, in bytes. A larger number than the greatest `u64` is counted as that.
 
 ghost use Rattle.std.specs.Prelude.{◌≡◌, length};
 ghost use Rattle.lsv_worker.specs.Sizes.{counted, entry_bytes, info_bytes, job_bytes, message_bytes, texts_bytes, value_bytes};
@@ -8,13 +8,13 @@ use lsv_info::{Entry, Info, Value};
 use lsv_msg::ClientMessage;
 use lsv_session::{Body, Job};
 
-/// What an entry takes beside its texts: the structs of its key and value.
+/// The bytes that an entry takes besides its texts: the structs of its key and value.
 const ENTRY: u64 = 72;
 
-/// What a text of a list takes beside its bytes.
+/// The bytes that a text of a list takes besides its own.
 const TEXT: u64 = 32;
 
-/// What a number of a list takes.
+/// The bytes that a number of a list takes.
 const NUMBER: u64 = 8;
 
 fn text_size(text: &Bytes) -> u64
@@ -90,7 +90,7 @@ fn message_size(message: &ClientMessage) -> u64
     }
 }
 
-/// How much memory a job is taken to hold beyond its own struct.
+/// An estimate of the memory that a job holds besides its own struct, in bytes.
 pub(crate) fn job_size(job: &Job) -> u64
     ensures { result ≡ counted (job_bytes job.now) }
 {

@@ -1,4 +1,4 @@
-//! A worker over its port.
+//! A worker, which serves the links of its port.
 
 ghost use Rattle.std.specs.Prelude.{◌+◌, ◌-◌, ◌^◌, ◌≡◌, ◌≢◌, ◌⊎◌, ℕ, ◌<◌, ◌≤◌, ◌==◌, ◌++◌, ◌∷◌, List, [], length, IfOk, Some, None, true, false, slice_index_or, vec_capacity, vec_len, drop, take};
 ghost use Rattle.std.specs.List.{Contains};
@@ -8,10 +8,11 @@ ghost use Rattle.lsv_session.specs.declared.job.Job.{Job};
 ghost use Rattle.lsv_session.specs.declared.reply.Reply.{Reply};
 ghost use Rattle.lsv_session.specs.declared.reply.ReplyBody.TheVariants as said;
 ghost use Rattle.lsv_worker.specs.Incoming.{has_left};
-ghost use Rattle.lsv_worker.specs.Links.{HasBlame, OwesNoMore, ReadsNone, WasReadAtMost, WritesNone, reads_in};
-ghost use Rattle.lsv_worker.specs.Worker.{Admits, AllRemain, AreCalmed, AreClosed, AreOfLanes, ArePassed, AreSpared, Goes, HaveLeft, HoldsOwed, IsAt, IsFit, IsFresh, IsHeldFor, IsMade, IsNoted, IsPaused, IsSameWorker, IsTable, IsThere, IsWritten, KeepRules, Represents, Setting, Stands, Steps, conn_at, held_by, marked, open_in, owed_if, phase_after, setting, undone};
+ghost use Rattle.lsv_worker.specs.Frames.{BothKeep, PortKeeps};
+ghost use Rattle.lsv_worker.specs.Links.{OwesNoMore, TouchesNone, reads_in};
+ghost use Rattle.lsv_worker.specs.Worker.{Admits, AllRemain, AreReadOut, AreClosed, AreOfLanes, ArePassed, AreReadWithin, Goes, HaveLeft, HoldsOwed, IsAt, IsFit, IsFresh, IsMade, IsNoted, IsBlocked, IsSameWorker, IsTable, IsThere, KeepRules, OnlyLinksChange, Represents, ServicesLinks, Setting, Stands, Steps, conn_at, held_by, marked, open_in, phase_after, setting, undone};
 
-use crate::link::{Link, PIECE, Pause, Phase};
+use crate::link::{Blocked, Link, PIECE, Phase};
 use crate::{Inbox, Incoming, Outgoing};
 use lsv_base::NoMem;
 use lsv_port::{Port, Ready};
@@ -21,8 +22,8 @@ use std::alloc::Global;
 /// How many links may be open at once.
 const MOST_LINKS: usize = 128;
 
-/// The connections of one port. It reads their links, cuts the bytes into jobs and puts these into an inbox; and it takes
-/// the keepers' replies and writes them. Connections are numbered from 1 on, in the order in which their links were opened.
+/// The connections of one port. It reads their links, cuts the bytes into jobs and puts these into an inbox. It takes the
+/// keepers' replies and writes them. Connections are numbered from 1, in the order in which their links were opened.
 #[derive(Debug, Drop)]
 pub struct Worker {
     alloc: Global,
@@ -30,7 +31,7 @@ pub struct Worker {
     lanes: u32,
     next: u64,
     /// How many links it turned away though fewer than 128 were open.
-    wanting: u64,
+    turned_away: u64,
     phase: Phase,
     links: Vec<Link>,
     held: Vec<u32>,
@@ -49,7 +50,7 @@ fn count_open(links: &[Link]) -> usize
     count
 }
 
-/// Where the connection of this number stands in the table, if it does.
+/// The place of the connection of this number in the table. None if it isn't there.
 fn place_of(links: &[Link], seq: u64) -> Option<usize>
     ensures found { (i : ℕ) → result ≡ Some i → i < length links.now }
     ensures is { (i : ℕ) (d : Link) → result ≡ Some i → (slice_index_or links.now i d).conn.seq ≡ seq }
@@ -63,7 +64,7 @@ fn place_of(links: &[Link], seq: u64) -> Option<usize>
     None
 }
 
-/// Whether each connection has left and was shut.
+/// Whether each connection's end was put and each was shut.
 fn have_left(links: &[Link]) -> bool
     ensures yes { result ≡ true → HaveLeft links.now }
     ensures no { result ≡ false → HaveLeft links.now → ⊥ }
@@ -79,11 +80,11 @@ fn have_left(links: &[Link]) -> bool
     true
 }
 
-/// The links whose reading stopped, though more may come.
+/// Collects the numbers of the links that something keeps from being read.
 fn collect(links: &[Link], held: &mut Vec<u32>)
     requires room { length links.now ≤ vec_capacity held.old }
-    ensures held { (i : ℕ) (d : Link) → i < length links.now → (slice_index_or links.now i d).pause ≢ Pause.Calm → Contains held.new.items (slice_index_or links.now i d).number }
-    ensures paused { (l : ℕ) → Contains held.new.items l → IsPaused links.now l }
+    ensures held { (i : ℕ) (d : Link) → i < length links.now → (slice_index_or links.now i d).blocked ≢ Blocked.No → Contains held.new.items (slice_index_or links.now i d).number }
+    ensures blocked_by { (l : ℕ) → Contains held.new.items l → IsBlocked links.now l }
     ensures room { vec_capacity held.old ≤ vec_capacity held.new }
 {
     held.clear();
@@ -92,33 +93,33 @@ fn collect(links: &[Link], held: &mut Vec<u32>)
     }
 }
 
-/// The number of a link whose reading stopped is added.
+/// Adds the number of a link that something keeps from being read.
 fn hold(link: &Link, held: &mut Vec<u32>)
     requires room { vec_len held.old < vec_capacity held.old }
-    ensures calm { link.now.pause ≡ Pause.Calm → held.new.items ≡ held.old.items }
-    ensures paused { link.now.pause ≢ Pause.Calm → held.new.items ≡ held.old.items ++ link.now.number ∷ [] }
+    ensures unblocked { link.now.blocked ≡ Blocked.No → held.new.items ≡ held.old.items }
+    ensures blocked_by { link.now.blocked ≢ Blocked.No → held.new.items ≡ held.old.items ++ link.now.number ∷ [] }
     ensures few { vec_len held.new ≤ vec_len held.old + 1 }
     ensures room { vec_capacity held.old ≤ vec_capacity held.new }
 {
-    if link.pause != Pause::Calm {
+    if link.blocked != Blocked::No {
         let _ = held.push(link.number);
     }
 }
 
-/// The first link from this place on that waits for room in its lane.
+/// The first link, from this place on, that waits for room in its lane.
 fn full_from(links: &[Link], from: usize) -> Option<usize>
     ensures { (i : ℕ) → result ≡ Some i → i < length links.now }
 {
     for place in from..links.len() {
-        if links[place].pause == Pause::Full {
+        if links[place].blocked == Blocked::InboxFull {
             return Some(place);
         }
     }
     None
 }
 
-/// How many links go to the end of the table before the next pass. Where two wait for room, the first of them comes first of
-/// all; if it did so in the last pass, it had all the room, and the second comes first.
+/// How many links go to the end of the table before the next pass. If two wait for room, the first of them comes first. If it
+/// came first in the last pass too, it had all the room, and the second one comes first.
 fn count_served(links: &[Link]) -> usize
     ensures { result ≤ length links.now }
 {
@@ -134,7 +135,7 @@ fn count_served(links: &[Link]) -> usize
     second
 }
 
-/// The first links of a table, this many, go to its end.
+/// Moves the first `count` links of a table to its end.
 fn rotate(links: &mut Vec<Link>, count: usize)
     requires within { count ≤ length links.old.items }
     ensures items { links.new.items ≡ drop count links.old.items ++ take count links.old.items }
@@ -143,7 +144,7 @@ fn rotate(links: &mut Vec<Link>, count: usize)
     links.rotate_left(count);
 }
 
-/// The connections of which nothing more comes are forgotten.
+/// Forgets the connections that are over.
 fn sweep(links: &mut Vec<Link>)
     ensures items { links.new.items ≡ undone links.old.items }
     ensures fewer { vec_len links.new ≤ vec_len links.old }
@@ -151,7 +152,7 @@ fn sweep(links: &mut Vec<Link>)
     links.retain(|link| !link.is_done());
 }
 
-/// Each link is written, read and heard as far as it may be.
+/// Services each link, in order.
 fn pass_all<P: Port, I: Inbox>(
     links: &mut [Link],
     port: &mut P,
@@ -164,50 +165,14 @@ fn pass_all<P: Port, I: Inbox>(
     ensures steps { P.tells → (set : Setting) → set.phase ≡ phase → Steps set links.old links.new (P.state port.old) (P.state port.new) (I.jobs inbox.old) (I.jobs inbox.new) }
     ensures passed { P.tells → ArePassed phase links.old links.new (P.state port.old) (P.state port.new) (I.refused inbox.old) (I.refused inbox.new) }
     ensures remains { AllRemain links.old links.new }
-    ensures calm { reads_in phase ≡ true → AreCalmed links.new }
-    ensures reads { P.tells → (l : ℕ) → WasReadAtMost 16 ((P.state port.old).link l) ((P.state port.new).link l) }
-    ensures laden { P.tells → phase ≡ Phase.Going → AreSpared links.new (P.state port.old) (P.state port.new) }
-    ensures unread { P.tells → reads_in phase ≡ false → ReadsNone (P.state port.old) (P.state port.new) }
+    ensures unblocked { reads_in phase ≡ true → AreReadOut links.new }
+    ensures limits { P.tells → AreReadWithin phase links.new (P.state port.old) (P.state port.new) }
     ensures stopped { phase ≡ Phase.Stopped → (m : ℕ) → I.jobs inbox.new m ≡ I.jobs inbox.old m }
-    ensures lanes { AreOfLanes (I.lanes inbox.old) links.new }
-    ensures inbox { I.lanes inbox.new ≡ I.lanes inbox.old }
-    ensures blame { P.tells → HasBlame (P.state port.old) (P.ledger port.old) (P.state port.new) (P.ledger port.new) }
-    ensures continues { Continues (P.ledger port.old) (P.ledger port.new) }
-    ensures counts { (m : ℕ) → I.refused inbox.old m ≤ I.refused inbox.new m }
-    ensures same { I.is_same inbox.old inbox.new }
+    ensures keeps { BothKeep P.tells P.state P.ledger port.old port.new I.lanes I.refused I.is_same inbox.old inbox.new }
 {
     for link in links.iter_mut() {
-        link.pass(port, inbox, buffer, phase);
+        link.service(port, inbox, buffer, phase);
     }
-}
-
-/// The same of a table.
-fn pass_table<P: Port, I: Inbox>(
-    links: &mut Vec<Link>,
-    port: &mut P,
-    inbox: &mut I,
-    buffer: &mut [u8; PIECE],
-    phase: Phase,
-)
-    requires lanes { AreOfLanes (I.lanes inbox.old) links.old.items }
-    requires at { P.tells → IsTable phase links.old.items (P.state port.old) }
-    ensures steps { P.tells → (set : Setting) → set.phase ≡ phase → Steps set links.old.items links.new.items (P.state port.old) (P.state port.new) (I.jobs inbox.old) (I.jobs inbox.new) }
-    ensures passed { P.tells → ArePassed phase links.old.items links.new.items (P.state port.old) (P.state port.new) (I.refused inbox.old) (I.refused inbox.new) }
-    ensures remains { AllRemain links.old.items links.new.items }
-    ensures calm { reads_in phase ≡ true → AreCalmed links.new.items }
-    ensures reads { P.tells → (l : ℕ) → WasReadAtMost 16 ((P.state port.old).link l) ((P.state port.new).link l) }
-    ensures laden { P.tells → phase ≡ Phase.Going → AreSpared links.new.items (P.state port.old) (P.state port.new) }
-    ensures unread { P.tells → reads_in phase ≡ false → ReadsNone (P.state port.old) (P.state port.new) }
-    ensures stopped { phase ≡ Phase.Stopped → (m : ℕ) → I.jobs inbox.new m ≡ I.jobs inbox.old m }
-    ensures lanes { AreOfLanes (I.lanes inbox.old) links.new.items }
-    ensures size { vec_len links.new ≡ vec_len links.old }
-    ensures inbox { I.lanes inbox.new ≡ I.lanes inbox.old }
-    ensures blame { P.tells → HasBlame (P.state port.old) (P.ledger port.old) (P.state port.new) (P.ledger port.new) }
-    ensures continues { Continues (P.ledger port.old) (P.ledger port.new) }
-    ensures counts { (m : ℕ) → I.refused inbox.old m ≤ I.refused inbox.new m }
-    ensures same { I.is_same inbox.old inbox.new }
-{
-    pass_all(links, port, inbox, buffer, phase);
 }
 
 /// The connection at this place takes a reply.
@@ -217,76 +182,35 @@ fn take_at<P: Port>(links: &mut [Link], place: usize, reply: &Reply, port: &mut 
     requires at { P.tells → (phase : Phase) × IsTable phase links.old (P.state port.old) }
     ensures took { P.tells → (set : Setting) (jobs : ℕ → List Job) (replies : List Reply) → reply.now.conn ≡ conn_at set reply.now.conn.seq → Stands set links.old (P.state port.old) jobs replies → Stands set links.new (P.state port.new) jobs (replies ++ reply.now ∷ []) }
     ensures remains { AllRemain links.old links.new }
-    ensures unwritten { P.tells → WritesNone (P.state port.old) (P.state port.new) }
+    ensures quiet { P.tells → TouchesNone (P.state port.old) (P.state port.new) }
     ensures ignored { reply.now.body ≡ said.Shut → reply.now.last ≡ true → ((d : Link) → has_left (slice_index_or links.old place d).incoming.stage ≡ false) → (links.new ≡ links.old) × (port.new ≡ port.old) }
-    ensures lanes { (n : ℕ) → AreOfLanes n links.old → AreOfLanes n links.new }
     ensures owes { P.tells → OwesNoMore (P.state port.old) (P.state port.new) }
-    ensures unread { P.tells → ReadsNone (P.state port.old) (P.state port.new) }
-    ensures blame { P.tells → HasBlame (P.state port.old) (P.ledger port.old) (P.state port.new) (P.ledger port.new) }
-    ensures continues { Continues (P.ledger port.old) (P.ledger port.new) }
+    ensures port { PortKeeps P.tells P.state P.ledger port.old port.new }
 {
     let link = &mut links[place];
     link.take(reply, port);
 }
 
-/// The same in a table.
-fn take_in_table<P: Port>(links: &mut Vec<Link>, place: usize, reply: &Reply, port: &mut P)
-    requires within { place < length links.old.items }
-    requires seq { (d : Link) → (slice_index_or links.old.items place d).conn.seq ≡ reply.now.conn.seq }
-    requires at { P.tells → (phase : Phase) × IsTable phase links.old.items (P.state port.old) }
-    ensures took { P.tells → (set : Setting) (jobs : ℕ → List Job) (replies : List Reply) → reply.now.conn ≡ conn_at set reply.now.conn.seq → Stands set links.old.items (P.state port.old) jobs replies → Stands set links.new.items (P.state port.new) jobs (replies ++ reply.now ∷ []) }
-    ensures remains { AllRemain links.old.items links.new.items }
-    ensures unwritten { P.tells → WritesNone (P.state port.old) (P.state port.new) }
-    ensures ignored { reply.now.body ≡ said.Shut → reply.now.last ≡ true → ((d : Link) → has_left (slice_index_or links.old.items place d).incoming.stage ≡ false) → (links.new.items ≡ links.old.items) × (port.new ≡ port.old) }
-    ensures lanes { (n : ℕ) → AreOfLanes n links.old.items → AreOfLanes n links.new.items }
-    ensures size { vec_len links.new ≡ vec_len links.old }
-    ensures owes { P.tells → OwesNoMore (P.state port.old) (P.state port.new) }
-    ensures unread { P.tells → ReadsNone (P.state port.old) (P.state port.new) }
-    ensures blame { P.tells → HasBlame (P.state port.old) (P.ledger port.old) (P.state port.new) (P.ledger port.new) }
-    ensures continues { Continues (P.ledger port.old) (P.ledger port.new) }
-{
-    take_at(links, place, reply, port);
-}
-
-/// Each link is closed, and nothing more is put on it.
+/// Closes each link. Nothing more is sent.
 fn close_all<P: Port>(links: &mut [Link], port: &mut P)
     requires at { P.tells → IsTable Phase.Stopped links.old (P.state port.old) }
     ensures steps { P.tells → (set : Setting) (jobs : ℕ → List Job) → set.phase ≡ Phase.Stopped → Steps set links.old links.new (P.state port.old) (P.state port.new) jobs jobs }
     ensures closed { AreClosed links.new }
     ensures remains { AllRemain links.old links.new }
-    ensures unwritten { P.tells → WritesNone (P.state port.old) (P.state port.new) }
-    ensures unread { P.tells → ReadsNone (P.state port.old) (P.state port.new) }
-    ensures lanes { (n : ℕ) → AreOfLanes n links.old → AreOfLanes n links.new }
-    ensures blame { P.tells → HasBlame (P.state port.old) (P.ledger port.old) (P.state port.new) (P.ledger port.new) }
-    ensures continues { Continues (P.ledger port.old) (P.ledger port.new) }
+    ensures quiet { P.tells → TouchesNone (P.state port.old) (P.state port.new) }
+    ensures port { PortKeeps P.tells P.state P.ledger port.old port.new }
 {
     for link in links.iter_mut() {
         link.stop(port);
     }
 }
 
-/// The same of a table.
-fn close_table<P: Port>(links: &mut Vec<Link>, port: &mut P)
-    requires at { P.tells → IsTable Phase.Stopped links.old.items (P.state port.old) }
-    ensures steps { P.tells → (set : Setting) (jobs : ℕ → List Job) → set.phase ≡ Phase.Stopped → Steps set links.old.items links.new.items (P.state port.old) (P.state port.new) jobs jobs }
-    ensures closed { AreClosed links.new.items }
-    ensures remains { AllRemain links.old.items links.new.items }
-    ensures unwritten { P.tells → WritesNone (P.state port.old) (P.state port.new) }
-    ensures unread { P.tells → ReadsNone (P.state port.old) (P.state port.new) }
-    ensures lanes { (n : ℕ) → AreOfLanes n links.old.items → AreOfLanes n links.new.items }
-    ensures size { vec_len links.new ≡ vec_len links.old }
-    ensures blame { P.tells → HasBlame (P.state port.old) (P.ledger port.old) (P.state port.new) (P.ledger port.new) }
-    ensures continues { Continues (P.ledger port.old) (P.ledger port.new) }
-{
-    close_all(links, port);
-}
-
 impl Worker {
-    /// A worker with no connections: its number, and how many lanes there are.
+    /// A worker with no connections, of this number and number of lanes. `NoMem` if memory runs out.
     pub fn new(alloc: Global, number: u32, lanes: u32) -> Result<Self, NoMem>
         requires lanes { (1 ≤ lanes) × (lanes ≤ 8) }
         ensures fit { IfOk result IsFit }
-        ensures set { IfOk result (λ w. setting w ≡ record { number = number; lanes = lanes; next = 1; wanting = 0; phase = Phase.Going }) }
+        ensures set { IfOk result (λ w. setting w ≡ record { number = number; lanes = lanes; next = 1; turned_away = 0; phase = Phase.Going }) }
         ensures links { IfOk result (λ w. w.links.items ≡ []) }
         ensures held { IfOk result (λ w. held_by w ≡ []) }
     {
@@ -295,26 +219,26 @@ impl Worker {
             number,
             lanes,
             next: 1,
-            wanting: 0,
+            turned_away: 0,
             phase: Phase::Going,
             links: Vec::new(alloc),
             held: Vec::with_capacity(alloc, MOST_LINKS)?,
         })
     }
 
-    /// The links that it stopped reading in the last `on` or `push_out`: the next turn of its port is handed these.
+    /// The links that something kept from being read in the last `on` or `push_out`. Its port's next turn takes these numbers.
     pub fn held(&self) -> &[u32]
         ensures { result.now ≡ held_by self.now }
     {
         &self.held
     }
 
-    /// How many links it turned away though fewer than 128 others were open: memory ran out for them, or the numbers of
-    /// connections were spent. At its type's end the count stands still.
-    pub fn wanting(&self) -> u64
-        ensures { result ≡ (setting self.now).wanting }
+    /// How many links it turned away though fewer than 128 others were open. Memory ran out for them, or the numbers of
+    /// connections were used up. The count stops at its type's maximum.
+    pub fn turned_away(&self) -> u64
+        ensures { result ≡ (setting self.now).turned_away }
     {
-        self.wanting
+        self.turned_away
     }
 
     /// Whether it has made a connection of this number.
@@ -325,7 +249,7 @@ impl Worker {
         1 <= seq && seq < self.next
     }
 
-    /// Does what the port told, and tries each link again: it writes what is unsent, reads what is owed, and puts the jobs.
+    /// Does what the port reported, and services each link: it writes what is unsent, reads what is owed, and puts the jobs.
     pub fn on<P: Port, I: Inbox>(&mut self, port: &mut P, ready: Ready, inbox: &mut I)
         requires fit { IsFit self.old }
         requires going { self.old.phase ≡ Phase.Going }
@@ -336,23 +260,14 @@ impl Worker {
         ensures worker { IsSameWorker self.old self.new }
         ensures phase { self.new.phase ≡ phase_after ready }
         ensures goes { P.tells → (before : PortState) → Told ready before (P.state port.old) → Goes self.old self.new before (P.state port.new) (I.jobs inbox.old) (I.jobs inbox.new) }
-        ensures owed { P.tells → HoldsOwed self.new (P.state port.new) }
-        ensures reads { P.tells → (l : ℕ) → WasReadAtMost 16 ((P.state port.old).link l) ((P.state port.new).link l) }
-        ensures laden { P.tells → self.new.phase ≡ Phase.Going → AreSpared self.new.links.items (P.state port.old) (P.state port.new) }
-        ensures written { P.tells → IsWritten self.new.links.items (P.state port.new) }
-        ensures held { P.tells → (l : ℕ) → Contains (held_by self.new) l → IsHeldFor self.new l (P.state port.old) (P.state port.new) (I.refused inbox.old) (I.refused inbox.new) }
-        ensures rules { P.tells → KeepRules self.new.phase self.old.links.items self.new.links.items (P.state port.old) (P.state port.new) }
-        ensures blame { P.tells → HasBlame (P.state port.old) (P.ledger port.old) (P.state port.new) (P.ledger port.new) }
-        ensures continues { Continues (P.ledger port.old) (P.ledger port.new) }
-        ensures counts { (m : ℕ) → I.refused inbox.old m ≤ I.refused inbox.new m }
-        ensures lanes { I.lanes inbox.new ≡ I.lanes inbox.old }
-        ensures same { I.is_same inbox.old inbox.new }
+        ensures served { P.tells → ServicesLinks self.old self.new (P.state port.old) (P.state port.new) (I.refused inbox.old) (I.refused inbox.new) }
+        ensures keeps { BothKeep P.tells P.state P.ledger port.old port.new I.lanes I.refused I.is_same inbox.old inbox.new }
     {
         self.note(port, ready);
         self.pass(port, inbox);
     }
 
-    /// Tries each link again, as `on` does.
+    /// Services each link, as `on` does.
     pub fn push_out<P: Port, I: Inbox>(&mut self, port: &mut P, inbox: &mut I)
         requires fit { IsFit self.old }
         requires lanes { I.lanes inbox.old ≡ self.old.lanes }
@@ -361,24 +276,14 @@ impl Worker {
         ensures worker { IsSameWorker self.old self.new }
         ensures phase { self.new.phase ≡ self.old.phase }
         ensures goes { P.tells → Goes self.old self.new (P.state port.old) (P.state port.new) (I.jobs inbox.old) (I.jobs inbox.new) }
-        ensures owed { P.tells → reads_in self.old.phase ≡ true → HoldsOwed self.new (P.state port.new) }
-        ensures reads { P.tells → (l : ℕ) → WasReadAtMost 16 ((P.state port.old).link l) ((P.state port.new).link l) }
-        ensures laden { P.tells → self.new.phase ≡ Phase.Going → AreSpared self.new.links.items (P.state port.old) (P.state port.new) }
-        ensures unread { P.tells → reads_in self.old.phase ≡ false → ReadsNone (P.state port.old) (P.state port.new) }
-        ensures written { P.tells → IsWritten self.new.links.items (P.state port.new) }
-        ensures held { P.tells → (l : ℕ) → Contains (held_by self.new) l → IsHeldFor self.new l (P.state port.old) (P.state port.new) (I.refused inbox.old) (I.refused inbox.new) }
-        ensures rules { P.tells → KeepRules self.new.phase self.old.links.items self.new.links.items (P.state port.old) (P.state port.new) }
+        ensures served { P.tells → ServicesLinks self.old self.new (P.state port.old) (P.state port.new) (I.refused inbox.old) (I.refused inbox.new) }
         ensures stopped { self.old.phase ≡ Phase.Stopped → (m : ℕ) → I.jobs inbox.new m ≡ I.jobs inbox.old m }
-        ensures blame { P.tells → HasBlame (P.state port.old) (P.ledger port.old) (P.state port.new) (P.ledger port.new) }
-        ensures continues { Continues (P.ledger port.old) (P.ledger port.new) }
-        ensures counts { (m : ℕ) → I.refused inbox.old m ≤ I.refused inbox.new m }
-        ensures lanes { I.lanes inbox.new ≡ I.lanes inbox.old }
-        ensures same { I.is_same inbox.old inbox.new }
+        ensures keeps { BothKeep P.tells P.state P.ledger port.old port.new I.lanes I.refused I.is_same inbox.old inbox.new }
     {
         self.pass(port, inbox);
     }
 
-    /// The port failed as a whole: no link is read any more, and each connection ends after the jobs of what it sent.
+    /// The port failed as a whole. No link is read any more, and each connection ends after the jobs of what was read.
     pub fn turn_failed<P: Port, I: Inbox>(&mut self, port: &mut P, inbox: &mut I)
         requires fit { IsFit self.old }
         requires going { self.old.phase ≡ Phase.Going }
@@ -389,54 +294,45 @@ impl Worker {
         ensures worker { IsSameWorker self.old self.new }
         ensures phase { self.new.phase ≡ Phase.Failed }
         ensures goes { P.tells → Goes self.old self.new (P.state port.old) (P.state port.new) (I.jobs inbox.old) (I.jobs inbox.new) }
-        ensures unread { P.tells → ReadsNone (P.state port.old) (P.state port.new) }
-        ensures written { P.tells → IsWritten self.new.links.items (P.state port.new) }
-        ensures held { P.tells → (l : ℕ) → Contains (held_by self.new) l → IsHeldFor self.new l (P.state port.old) (P.state port.new) (I.refused inbox.old) (I.refused inbox.new) }
-        ensures rules { P.tells → KeepRules self.new.phase self.old.links.items self.new.links.items (P.state port.old) (P.state port.new) }
-        ensures blame { P.tells → HasBlame (P.state port.old) (P.ledger port.old) (P.state port.new) (P.ledger port.new) }
-        ensures continues { Continues (P.ledger port.old) (P.ledger port.new) }
-        ensures counts { (m : ℕ) → I.refused inbox.old m ≤ I.refused inbox.new m }
-        ensures lanes { I.lanes inbox.new ≡ I.lanes inbox.old }
-        ensures same { I.is_same inbox.old inbox.new }
+        ensures served { P.tells → ServicesLinks self.old self.new (P.state port.old) (P.state port.new) (I.refused inbox.old) (I.refused inbox.new) }
+        ensures keeps { BothKeep P.tells P.state P.ledger port.old port.new I.lanes I.refused I.is_same inbox.old inbox.new }
     {
         self.phase = Phase::Failed;
         self.pass(port, inbox);
     }
 
-    /// Takes a reply to a connection that it made. What is said is sent by the next `on` or `push_out`. A connection that is
-    /// shut is closed once nothing is unsent.
+    /// Takes a reply to a connection that it made. The next `on` or `push_out` writes it. If the reply is a Shut, the link is
+    /// closed once nothing is unsent.
     pub fn take<P: Port>(&mut self, reply: Reply, port: &mut P)
         requires fit { IsFit self.old }
         requires worker { reply.conn.worker ≡ self.old.number }
         requires made { IsMade (setting self.old) reply.conn.seq }
         requires at { P.tells → IsAt self.old (P.state port.old) }
         ensures fit { IsFit self.new }
-        ensures set { setting self.new ≡ setting self.old }
-        ensures held { held_by self.new ≡ held_by self.old }
+        ensures only { OnlyLinksChange self.old self.new }
         ensures takes { P.tells → (jobs : ℕ → List Job) (replies : List Reply) → Represents self.old (P.state port.old) jobs replies → Represents self.new (P.state port.new) jobs (replies ++ reply ∷ []) }
         ensures owed { P.tells → HoldsOwed self.old (P.state port.old) → HoldsOwed self.new (P.state port.new) }
-        ensures unread { P.tells → ReadsNone (P.state port.old) (P.state port.new) }
-        ensures unwritten { P.tells → WritesNone (P.state port.old) (P.state port.new) }
+        ensures quiet { P.tells → TouchesNone (P.state port.old) (P.state port.new) }
         ensures rules { P.tells → KeepRules self.new.phase self.old.links.items self.new.links.items (P.state port.old) (P.state port.new) }
         ensures ignored { reply.body ≡ said.Shut → reply.last ≡ true → IsThere reply.conn.seq self.old.links.items → (self.new.links.items ≡ self.old.links.items) × (port.new ≡ port.old) }
-        ensures blame { P.tells → HasBlame (P.state port.old) (P.ledger port.old) (P.state port.new) (P.ledger port.new) }
-        ensures continues { Continues (P.ledger port.old) (P.ledger port.new) }
+        ensures port { PortKeeps P.tells P.state P.ledger port.old port.new }
     {
         let Some(place) = place_of(&self.links, reply.conn.seq) else {
             return;
         };
-        take_in_table(&mut self.links, place, &reply, port);
+        take_at(&mut self.links, place, &reply, port);
     }
 
-    /// Whether no connection is kept: each that it made has left, was shut and is closed, and lost no reply for want of memory.
+    /// Whether no connection is kept. Then each one's end was put, each was shut and is closed, and no reply was lost because
+    /// memory ran out.
     pub fn is_empty(&self) -> bool
         ensures { result ≡ true → self.now.links.items ≡ [] }
     {
         self.links.is_empty()
     }
 
-    /// Whether nothing more is to come: Stop or a fault of the port's turn came, each connection has left, and each was shut;
-    /// or it was stopped.
+    /// Whether nothing more is to come. Either Stop or a port fault came, and each connection's end was put and each was shut;
+    /// or the worker was stopped.
     pub fn ended(&self) -> bool
         ensures yes { result ≡ true → (self.now.phase ≡ Phase.Stopped) ⊎ ((self.now.phase ≢ Phase.Going) × HaveLeft self.now.links.items) }
         ensures no { result ≡ false → (self.now.phase ≡ Phase.Stopped) ⊎ ((self.now.phase ≢ Phase.Going) × HaveLeft self.now.links.items) → ⊥ }
@@ -456,18 +352,16 @@ impl Worker {
         ensures worker { IsSameWorker self.old self.new }
         ensures phase { self.new.phase ≡ Phase.Stopped }
         ensures goes { P.tells → (jobs : ℕ → List Job) → Goes self.old self.new (P.state port.old) (P.state port.new) jobs jobs }
-        ensures unread { P.tells → ReadsNone (P.state port.old) (P.state port.new) }
-        ensures unwritten { P.tells → WritesNone (P.state port.old) (P.state port.new) }
+        ensures quiet { P.tells → TouchesNone (P.state port.old) (P.state port.new) }
         ensures rules { P.tells → KeepRules self.new.phase self.old.links.items self.new.links.items (P.state port.old) (P.state port.new) }
         ensures closed { P.tells → (l : ℕ) → IsOpen (P.state port.new) l → ⊥ }
-        ensures blame { P.tells → HasBlame (P.state port.old) (P.ledger port.old) (P.state port.new) (P.ledger port.new) }
-        ensures continues { Continues (P.ledger port.old) (P.ledger port.new) }
+        ensures port { PortKeeps P.tells P.state P.ledger port.old port.new }
     {
         self.phase = Phase::Stopped;
-        close_table(&mut self.links, port);
+        close_all(&mut self.links, port);
     }
 
-    /// A connection for a link that was just opened, with the server's hello on the way; None where memory runs out.
+    /// A connection for a link that was just opened, with the server's hello unsent. None if memory runs out.
     fn fresh(&self, number: u32) -> Option<Link>
         requires { IsFit self.now }
         ensures { (link : Link) → result ≡ Some link → IsFresh (setting self.now) number link }
@@ -490,11 +384,11 @@ impl Worker {
             live: true,
             owed: true,
             shut: false,
-            pause: Pause::Calm,
+            blocked: Blocked::No,
         })
     }
 
-    /// Takes a connection into the table. False, and nothing changes, where memory runs out.
+    /// Takes a connection into the table. If memory runs out, nothing changes and the result is false.
     fn admit(&mut self, link: Link) -> bool
         requires fit { IsFit self.old }
         requires room { self.old.next < 2 ^ 64 - 1 }
@@ -526,15 +420,15 @@ impl Worker {
         count_open(&self.links) >= MOST_LINKS
     }
 
-    /// Whether the numbers of connections are spent.
+    /// Whether the numbers of connections are used up.
     fn is_spent(&self) -> bool
         ensures room { result ≡ false → self.now.next < 2 ^ 64 - 1 }
     {
         self.next == u64::MAX
     }
 
-    /// Makes a connection for a link that was just opened. False, and nothing changes, where the numbers are spent or memory
-    /// runs out.
+    /// Makes a connection for a link that was just opened. If the numbers are used up or memory runs out, nothing changes and
+    /// the result is false.
     fn accept(&mut self, number: u32) -> bool
         requires fit { IsFit self.old }
         requires few { length (open_in self.old.links.items) < 128 }
@@ -551,24 +445,24 @@ impl Worker {
         self.admit(link)
     }
 
-    /// A link that was just opened is closed, and is counted.
+    /// Closes a link that was just opened, and counts it as turned away.
     fn turn_away<P: Port>(&mut self, port: &mut P, number: u32)
         requires fit { IsFit self.old }
         requires is_open { P.tells → IsOpen (P.state port.old) number }
         ensures fit { IsFit self.new }
         ensures links { self.new.links.items ≡ self.old.links.items }
-        ensures set { setting self.new ≡ record (setting self.old) { wanting = (setting self.new).wanting } }
-        ensures counted { 1 ≤ (setting self.new).wanting }
-        ensures more { (setting self.old).wanting ≤ (setting self.new).wanting }
+        ensures set { setting self.new ≡ record (setting self.old) { turned_away = (setting self.new).turned_away } }
+        ensures counted { 1 ≤ (setting self.new).turned_away }
+        ensures more { (setting self.old).turned_away ≤ (setting self.new).turned_away }
         ensures change { P.tells → Changes number (closed (is_over (P.state port.old)) ((P.state port.old).link number)) (P.state port.old) (P.state port.new) }
         ensures continues { Continues (P.ledger port.old) (P.ledger port.new) }
     {
-        self.wanting = self.wanting.saturating_add(1);
+        self.turned_away = self.turned_away.saturating_add(1);
         port.close(number);
     }
 
-    /// A link was opened. It is closed at once, and is no connection, where 128 others are open, the numbers are spent, or
-    /// memory runs out.
+    /// A link was opened. If 128 others are open, the numbers are used up or memory runs out, it is closed at once and becomes
+    /// no connection.
     fn opened<P: Port>(&mut self, port: &mut P, number: u32)
         requires fit { IsFit self.old }
         requires going { self.old.phase ≡ Phase.Going }
@@ -579,10 +473,8 @@ impl Worker {
         ensures phase { self.new.phase ≡ self.old.phase }
         ensures opens { P.tells → (before : PortState) (jobs : ℕ → List Job) (replies : List Reply) → Opens number before (P.state port.old) → Represents self.old before jobs replies → Represents self.new (P.state port.new) jobs replies }
         ensures noted { (link : Link) → Contains self.old.links.items link → IsNoted link self.new.links.items }
-        ensures unwritten { P.tells → WritesNone (P.state port.old) (P.state port.new) }
-        ensures unread { P.tells → ReadsNone (P.state port.old) (P.state port.new) }
-        ensures blame { P.tells → HasBlame (P.state port.old) (P.ledger port.old) (P.state port.new) (P.ledger port.new) }
-        ensures continues { Continues (P.ledger port.old) (P.ledger port.new) }
+        ensures quiet { P.tells → TouchesNone (P.state port.old) (P.state port.new) }
+        ensures port { PortKeeps P.tells P.state P.ledger port.old port.new }
     {
         if self.is_crowded() {
             port.close(number);
@@ -594,7 +486,7 @@ impl Worker {
         self.turn_away(port, number);
     }
 
-    /// What the port told is noted.
+    /// Notes what the port reported.
     fn note<P: Port>(&mut self, port: &mut P, ready: Ready)
         requires fit { IsFit self.old }
         requires going { self.old.phase ≡ Phase.Going }
@@ -605,10 +497,8 @@ impl Worker {
         ensures phase { self.new.phase ≡ phase_after ready }
         ensures notes { P.tells → (before : PortState) (jobs : ℕ → List Job) (replies : List Reply) → Told ready before (P.state port.old) → Represents self.old before jobs replies → Represents self.new (P.state port.new) jobs replies }
         ensures noted { (link : Link) → Contains self.old.links.items link → IsNoted link self.new.links.items }
-        ensures unwritten { P.tells → WritesNone (P.state port.old) (P.state port.new) }
-        ensures unread { P.tells → ReadsNone (P.state port.old) (P.state port.new) }
-        ensures blame { P.tells → HasBlame (P.state port.old) (P.ledger port.old) (P.state port.new) (P.ledger port.new) }
-        ensures continues { Continues (P.ledger port.old) (P.ledger port.new) }
+        ensures quiet { P.tells → TouchesNone (P.state port.old) (P.state port.new) }
+        ensures port { PortKeeps P.tells P.state P.ledger port.old port.new }
     {
         match ready {
             Ready::Opened(number) => {
@@ -616,7 +506,7 @@ impl Worker {
                 return;
             }
             Ready::Readable(number) => {
-                mark_table(&mut self.links, number);
+                mark(&mut self.links, number);
                 return;
             }
             Ready::Writable(_) => {
@@ -632,8 +522,8 @@ impl Worker {
         }
     }
 
-    /// Each link is tried, and those of which nothing more comes are forgotten. A link that fills the inbox in each pass holds
-    /// up no other: those that found no room come before it in the next one.
+    /// Services each link, and forgets the connections that are over. A link that fills the inbox in each pass doesn't hold up
+    /// the others: those that found no room come before it in the next pass.
     fn pass<P: Port, I: Inbox>(&mut self, port: &mut P, inbox: &mut I)
         requires fit { IsFit self.old }
         requires lanes { I.lanes inbox.old ≡ self.old.lanes }
@@ -641,25 +531,15 @@ impl Worker {
         ensures fit { IsFit self.new }
         ensures set { setting self.new ≡ setting self.old }
         ensures goes { P.tells → Goes self.old self.new (P.state port.old) (P.state port.new) (I.jobs inbox.old) (I.jobs inbox.new) }
-        ensures owed { P.tells → reads_in self.old.phase ≡ true → HoldsOwed self.new (P.state port.new) }
-        ensures reads { P.tells → (l : ℕ) → WasReadAtMost 16 ((P.state port.old).link l) ((P.state port.new).link l) }
-        ensures laden { P.tells → self.new.phase ≡ Phase.Going → AreSpared self.new.links.items (P.state port.old) (P.state port.new) }
-        ensures unread { P.tells → reads_in self.old.phase ≡ false → ReadsNone (P.state port.old) (P.state port.new) }
-        ensures written { P.tells → IsWritten self.new.links.items (P.state port.new) }
-        ensures held { P.tells → (l : ℕ) → Contains (held_by self.new) l → IsHeldFor self.new l (P.state port.old) (P.state port.new) (I.refused inbox.old) (I.refused inbox.new) }
-        ensures rules { P.tells → KeepRules self.new.phase self.old.links.items self.new.links.items (P.state port.old) (P.state port.new) }
+        ensures served { P.tells → ServicesLinks self.old self.new (P.state port.old) (P.state port.new) (I.refused inbox.old) (I.refused inbox.new) }
         ensures stopped { self.old.phase ≡ Phase.Stopped → (m : ℕ) → I.jobs inbox.new m ≡ I.jobs inbox.old m }
-        ensures blame { P.tells → HasBlame (P.state port.old) (P.ledger port.old) (P.state port.new) (P.ledger port.new) }
-        ensures continues { Continues (P.ledger port.old) (P.ledger port.new) }
-        ensures counts { (m : ℕ) → I.refused inbox.old m ≤ I.refused inbox.new m }
-        ensures lanes { I.lanes inbox.new ≡ I.lanes inbox.old }
-        ensures same { I.is_same inbox.old inbox.new }
+        ensures keeps { BothKeep P.tells P.state P.ledger port.old port.new I.lanes I.refused I.is_same inbox.old inbox.new }
     {
         self.reorder();
         self.pass_in_order(port, inbox);
     }
 
-    /// The links that found no room in the last pass come first in the next one.
+    /// Moves the links that found no room in the last pass to the front.
     fn reorder(&mut self)
         requires fit { IsFit self.old }
         ensures fit { IsFit self.new }
@@ -671,7 +551,7 @@ impl Worker {
         rotate(&mut self.links, count);
     }
 
-    /// Each link is tried, in the order of the table, and those of which nothing more comes are forgotten.
+    /// Services each link, in the order of the table, and forgets the connections that are over.
     fn pass_in_order<P: Port, I: Inbox>(&mut self, port: &mut P, inbox: &mut I)
         requires fit { IsFit self.old }
         requires lanes { I.lanes inbox.old ≡ self.old.lanes }
@@ -679,42 +559,24 @@ impl Worker {
         ensures fit { IsFit self.new }
         ensures set { setting self.new ≡ setting self.old }
         ensures goes { P.tells → Goes self.old self.new (P.state port.old) (P.state port.new) (I.jobs inbox.old) (I.jobs inbox.new) }
-        ensures owed { P.tells → reads_in self.old.phase ≡ true → HoldsOwed self.new (P.state port.new) }
-        ensures reads { P.tells → (l : ℕ) → WasReadAtMost 16 ((P.state port.old).link l) ((P.state port.new).link l) }
-        ensures laden { P.tells → self.new.phase ≡ Phase.Going → AreSpared self.new.links.items (P.state port.old) (P.state port.new) }
-        ensures unread { P.tells → reads_in self.old.phase ≡ false → ReadsNone (P.state port.old) (P.state port.new) }
-        ensures written { P.tells → IsWritten self.new.links.items (P.state port.new) }
-        ensures held { P.tells → (l : ℕ) → Contains (held_by self.new) l → IsHeldFor self.new l (P.state port.old) (P.state port.new) (I.refused inbox.old) (I.refused inbox.new) }
-        ensures rules { P.tells → KeepRules self.new.phase self.old.links.items self.new.links.items (P.state port.old) (P.state port.new) }
+        ensures served { P.tells → ServicesLinks self.old self.new (P.state port.old) (P.state port.new) (I.refused inbox.old) (I.refused inbox.new) }
         ensures stopped { self.old.phase ≡ Phase.Stopped → (m : ℕ) → I.jobs inbox.new m ≡ I.jobs inbox.old m }
-        ensures blame { P.tells → HasBlame (P.state port.old) (P.ledger port.old) (P.state port.new) (P.ledger port.new) }
-        ensures continues { Continues (P.ledger port.old) (P.ledger port.new) }
-        ensures counts { (m : ℕ) → I.refused inbox.old m ≤ I.refused inbox.new m }
-        ensures lanes { I.lanes inbox.new ≡ I.lanes inbox.old }
-        ensures same { I.is_same inbox.old inbox.new }
+        ensures keeps { BothKeep P.tells P.state P.ledger port.old port.new I.lanes I.refused I.is_same inbox.old inbox.new }
     {
         let mut buffer = [0; PIECE];
-        pass_table(&mut self.links, port, inbox, &mut buffer, self.phase);
+        pass_all(&mut self.links, port, inbox, &mut buffer, self.phase);
         sweep(&mut self.links);
         collect(&self.links, &mut self.held);
     }
 }
 
-/// The link of this number is owed a read.
+/// Notes that the link of this number is owed a read.
 fn mark(links: &mut [Link], number: u32)
-    ensures { (i : ℕ) (d : Link) → i < length links.old → slice_index_or links.new i d ≡ owed_if ((slice_index_or links.old i d).number == number) (slice_index_or links.old i d) }
+    ensures { links.new ≡ marked number links.old }
 {
     for link in links.iter_mut() {
         if link.number == number {
             link.owed = true;
         }
     }
-}
-
-/// The same of a table.
-fn mark_table(links: &mut Vec<Link>, number: u32)
-    ensures marked { links.new.items ≡ marked number links.old.items }
-    ensures size { vec_len links.new ≡ vec_len links.old }
-{
-    mark(links, number);
 }

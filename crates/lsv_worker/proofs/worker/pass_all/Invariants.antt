@@ -1,7 +1,7 @@
-use Rattle.std.proofs.Common.{◌≡◌, ◌<◌, ◌≤◌, ℕ, true, false, get_or}
-use Rattle.lsv_port.specs.Ledger.{Continues}
-use Rattle.lsv_worker.specs.Links.{HasBlame, ReadsNone, WasReadAtMost, reads_in}
-use Rattle.lsv_worker.specs.Worker.{AllRemain, AreOfLanes, IsCalmed, Setting, Steps}
+use Rattle.std.proofs.Common.{◌≡◌, ◌<◌, ℕ, true, false, get_or}
+use Rattle.lsv_worker.specs.Frames.{BothKeep}
+use Rattle.lsv_worker.specs.Links.{ReadsNone, WasReadAtMost, reads_in}
+use Rattle.lsv_worker.specs.Worker.{AllRemain, IsReadOut, Setting, Steps}
 use Rattle.lsv_worker.specs.declared.link.Link.{Link}
 use Rattle.lsv_worker.specs.declared.link.Phase.TheVariants.{Going, Stopped}
 use Rattle.lsv_worker.proofs.Passing.{Later, PassedBelow}
@@ -15,15 +15,10 @@ invariant-loop-link g l = record {
   remains : AllRemain l.initial.links l.links;
   later : Later l.initial.links l.links l.link-index;
   stopped : l.phase ≡ Stopped → (m : ℕ) → g.I.Inbox.jobs l.inbox m ≡ g.I.Inbox.jobs l.initial.inbox m;
-  calm : reads_in l.phase ≡ true → (i : ℕ) (d : Link) → i < l.link-index → IsCalmed (get_or l.links i d);
-  lanes : AreOfLanes (g.I.Inbox.lanes l.initial.inbox) l.links;
-  inbox : g.I.Inbox.lanes l.inbox ≡ g.I.Inbox.lanes l.initial.inbox;
+  unblocked : reads_in l.phase ≡ true → (i : ℕ) (d : Link) → i < l.link-index → IsReadOut (get_or l.links i d);
   reads : g.P.Port.tells → (m : ℕ) → WasReadAtMost 16 ((g.P.Port.state l.initial.port).link m) ((g.P.Port.state l.port).link m);
   rest : g.P.Port.tells → Rest l.links l.link-index (g.P.Port.state l.initial.port) (g.P.Port.state l.port);
-  laden : g.P.Port.tells → l.phase ≡ Going → Below l.links l.link-index (g.P.Port.state l.initial.port) (g.P.Port.state l.port);
+  output_full : g.P.Port.tells → l.phase ≡ Going → Below l.links l.link-index (g.P.Port.state l.initial.port) (g.P.Port.state l.port);
   unread : g.P.Port.tells → reads_in l.phase ≡ false → ReadsNone (g.P.Port.state l.initial.port) (g.P.Port.state l.port);
-  blame : g.P.Port.tells → HasBlame (g.P.Port.state l.initial.port) (g.P.Port.ledger l.initial.port) (g.P.Port.state l.port) (g.P.Port.ledger l.port);
-  continues : Continues (g.P.Port.ledger l.initial.port) (g.P.Port.ledger l.port);
-  counts : (m : ℕ) → g.I.Inbox.refused l.initial.inbox m ≤ g.I.Inbox.refused l.inbox m;
-  same : g.I.Inbox.is_same l.initial.inbox l.inbox;
+  keeps : BothKeep g.P.Port.tells g.P.Port.state g.P.Port.ledger l.initial.port l.port g.I.Inbox.lanes g.I.Inbox.refused g.I.Inbox.is_same l.initial.inbox l.inbox;
 }

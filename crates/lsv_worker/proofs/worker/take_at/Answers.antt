@@ -1,7 +1,7 @@
 use Rattle.std.proofs.Common.{◌≡◌, get_or, set, sym, ap, ◌∙◌}
 use Rattle.lsv_worker.specs.Worker.{conn_at}
 use Rattle.lsv_worker.specs.declared.link.Link.{Link}
-use Rattle.lsv_worker.proofs.Tables.{lanes_at, lanes_set, open_at, same_default}
+use Rattle.lsv_worker.proofs.Tables.{open_at, same_default}
 use Rattle.lsv_worker.proofs.Taking.{own_conn, stands_took}
 use Rattle.lsv_worker.proofs.Passing.{remain_here, remain_set, set_same}
 use Rattle.lsv_worker.proofs.worker.take_at.Goals as goal
@@ -18,12 +18,6 @@ returns-clause-took g c = λ told set jobs replies to h.
     let is : old ≡ get_or c.args.links.now c.args.place old = same_default c.args.links.now c.args.place c.index-links-place.result old c.requires.within in
     let own : c.args.reply.now.conn ≡ old.conn = to ∙ ap (conn_at set) (sym (c.requires.seq c.index-links-place.result)) ∙ sym (own_conn set c.args.links.now c.args.place old (g.P.Port.state c.args.port.now) jobs replies c.requires.within is h) in
     stands_took set c.args.links.now c.args.place old c.take.new.self (g.P.Port.state c.args.port.now) (g.P.Port.state c.take.new.port) jobs replies c.args.reply.now c.requires.within is own (c.take.ensures.takes told own) h
-
-pub returns-clause-lanes : goal.returns-clause-lanes
-returns-clause-lanes g c = λ n h.
-    let old : Link = get_or c.args.links.now c.args.place c.index-links-place.result in
-    let is : old ≡ get_or c.args.links.now c.args.place old = same_default c.args.links.now c.args.place c.index-links-place.result old c.requires.within in
-    lanes_set n c.args.links.now c.args.place c.take.new.self (c.take.ensures.lanes ∙ lanes_at n c.args.links.now c.args.place old c.requires.within is h) h
 
 pub returns-clause-remains : goal.returns-clause-remains
 returns-clause-remains g c =

@@ -11,13 +11,13 @@ pub returns-in-Ok-Message-clause-goes : goal.returns-in-Ok-Message-clause-goes
 returns-in-Ok-Message-clause-goes c =
     let piece = c.args.piece.now in
     let old : Incoming = with_piece c.args.self.now piece c.args.at.now in
-    let new : Incoming = with_piece c.receive.new.self piece c.next.new.at in
+    let new : Incoming = with_piece c.keep_job.new.self piece c.next.new.at in
     let taken = c.in-Ok-Message.field-0-1 in
     let first : IsFirst c.in-Ok-Message.message taken old.rest = subst (λ (k : Cut). IsCut k old.rest) c.in-Ok-Message.field-0-is c.in-Ok-Message.ensures.cut in
     let left : unread c.next.new.self piece c.next.new.at ≡ drop taken old.rest = c.in-Ok-Message.ensures.left ∙ ap (λ (k : Cut). left_after k old.rest) c.in-Ok-Message.field-0-is in
-    let rest : new.rest ≡ drop taken old.rest = ap (λ (r : List ℕ). unread r piece c.next.new.at) c.receive.ensures.rest ∙ left in
-    cuts_message old new first.message (drop taken old.rest) c.in-Ok-Message.message c.requires.empty c.requires.cutting first.front first.reads rest c.receive.ensures.stage c.receive.ensures.ready c.receive.ensures.quiet
-    c.receive.ensures.routed c.receive.ensures.lanes c.receive.ensures.home
+    let rest : new.rest ≡ drop taken old.rest = ap (λ (r : List ℕ). unread r piece c.next.new.at) c.keep_job.ensures.rest ∙ left in
+    cuts_message old new first.message (drop taken old.rest) c.in-Ok-Message.message c.requires.empty c.requires.cutting first.front first.reads rest c.keep_job.ensures.stage c.keep_job.ensures.ready c.keep_job.ensures.quiet
+    c.keep_job.ensures.routed c.keep_job.ensures.home.lanes c.keep_job.ensures.home.home
 
 pub returns-in-Ok-NoMessage-clause-goes : goal.returns-in-Ok-NoMessage-clause-goes
 returns-in-Ok-NoMessage-clause-goes c =
@@ -34,4 +34,4 @@ returns-in-Err-clause-goes c =
     let piece = c.args.piece.now in
     let all = unread c.args.self.now.rest piece c.args.at.now in
     λ read put marks h.
-    rest_free c.starve.new.self (unread c.starve.new.self.rest piece c.next.new.at) (ap cuts c.starve.ensures.stage) read put marks (c.starve.ensures.goes all read put marks h)
+    rest_free c.stop_cutting.new.self (unread c.stop_cutting.new.self.rest piece c.next.new.at) (ap cuts c.stop_cutting.ensures.stage) read put marks (c.stop_cutting.ensures.goes all read put marks h)

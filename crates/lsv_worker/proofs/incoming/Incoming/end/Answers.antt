@@ -1,5 +1,5 @@
 use Rattle.lsv_worker.proofs.Cutting.{closes}
 use Rattle.lsv_worker.proofs.incoming.Incoming.end.Goals as goal
 
-pub returns-in-Hearing-clause-goes : goal.returns-in-Hearing-clause-goes
-returns-in-Hearing-clause-goes c = closes c.args.self.now c.in-Hearing.is
+pub returns-in-Open-clause-goes : goal.returns-in-Open-clause-goes
+returns-in-Open-clause-goes c = closes c.args.self.now c.in-Open.is

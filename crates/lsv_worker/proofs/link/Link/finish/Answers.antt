@@ -1,4 +1,4 @@
-use Rattle.std.proofs.Common.{refl}
+use Rattle.std.proofs.Common.{refl, sym, ◌∙◌}
 use Rattle.lsv_worker.specs.declared.link.Link.{Link}
 use Rattle.lsv_worker.proofs.Linking.{link_ends, link_then}
 use Rattle.lsv_worker.proofs.Ruling.{remains_so, remains_then}
@@ -14,3 +14,6 @@ pub returns-clause-remains : goal.returns-clause-remains
 returns-clause-remains g c =
     let mid : Link = record c.args.self.now { incoming = c.end.new.self } in
     remains_then c.args.self.now mid c.advance.new.self (remains_so c.args.self.now mid refl refl (λ e. e) c.end.ensures.keeps (λ ne. refl)) c.advance.ensures.remains
+
+pub advance-requires : goal.advance-requires
+advance-requires g c = record { lanes = c.requires.lanes ∙ sym c.end.ensures.keeps.lanes }

@@ -9,7 +9,7 @@ pub writes-init : goal.writes-init
 writes-init g c = record {
   writes = λ told. writes_none c.args.link c.args.self.now (g.P.Port.state c.args.port.now);
   here = c.requires.is_open;
-  voice = refl;
+  sending = refl;
   failed = λ told. refl;
   empty = λ told none. (none, refl);
   continues = continues_here (g.P.Port.ledger c.args.port.now);
@@ -21,9 +21,9 @@ writes-preserved g c =
     let le : c.in-Bytes.count ≤ length c.writes.self.unsent = search rules in
     record {
       writes = λ told. writes_more c.args.link c.in-Bytes.count c.args.self.now c.writes.self c.drop_front.new.self (g.P.Port.state c.args.port.now) (g.P.Port.state c.writes.port) (g.P.Port.state c.write.new.self)
-          (c.writes.invariant.writes told) (change told) le c.drop_front.ensures.unsent c.drop_front.ensures.voice;
+          (c.writes.invariant.writes told) (change told) le c.drop_front.ensures.unsent c.drop_front.ensures.sending;
       here = λ told. ap (λ (s : LinkState). s.is_open) (change told).this ∙ c.writes.invariant.here told;
-      voice = c.drop_front.ensures.voice ∙ c.writes.invariant.voice;
+      sending = c.drop_front.ensures.sending ∙ c.writes.invariant.sending;
       failed = λ told. ap (λ (s : LinkState). s.failed) (change told).this ∙ c.writes.invariant.failed told;
       empty = λ told none.
           let gone : c.writes.self.unsent ≡ [] = (c.writes.invariant.empty told none).0 in
@@ -45,4 +45,4 @@ returns-in-NotYet-clause-cause g c = record {
 
 pub returns-in-Failed-clause-writes : goal.returns-in-Failed-clause-writes
 returns-in-Failed-clause-writes g c = λ told.
-    writes_failed c.args.link c.args.self.now c.writes.self c.silence.new.self (g.P.Port.state c.args.port.now) (g.P.Port.state c.writes.port) (g.P.Port.state c.write.new.self) [] (c.writes.invariant.writes told) (c.in-Failed.ensures.change told) c.silence.ensures.goes
+    writes_failed c.args.link c.args.self.now c.writes.self c.stop_sending.new.self (g.P.Port.state c.args.port.now) (g.P.Port.state c.writes.port) (g.P.Port.state c.write.new.self) [] (c.writes.invariant.writes told) (c.in-Failed.ensures.change told) c.stop_sending.ensures.goes

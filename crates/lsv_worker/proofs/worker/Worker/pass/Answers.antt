@@ -1,5 +1,4 @@
 use Rattle.std.proofs.Common.{sym, ap, ◌∙◌}
-use Rattle.lsv_worker.specs.Links.{reads_in}
 use Rattle.lsv_worker.specs.Worker.{Setting}
 use Rattle.lsv_worker.proofs.Going.{at_after, goes_after}
 use Rattle.lsv_worker.proofs.worker.Worker.pass.Goals as goal
@@ -16,5 +15,7 @@ returns-clause-goes g c = λ told.
     goes_after c.args.self.now c.reorder.new.self c.pass_in_order.new.self (g.P.Port.state c.args.port.now) (g.P.Port.state c.args.port.now) (g.P.Port.state c.pass_in_order.new.port) (g.I.Inbox.jobs c.args.inbox.now) (g.I.Inbox.jobs c.pass_in_order.new.inbox)
     (λ jobs replies h. c.reorder.ensures.stands (g.P.Port.state c.args.port.now) jobs replies h) (c.pass_in_order.ensures.goes told)
 
-pub returns-clause-rules : goal.returns-clause-rules
-returns-clause-rules g c = λ told link has. c.pass_in_order.ensures.rules told link (c.reorder.ensures.has link has)
+pub returns-clause-served : goal.returns-clause-served
+returns-clause-served g c = λ told.
+    let served = c.pass_in_order.ensures.served told in
+    record { owed = served.owed; held = served.held; limits = served.limits; written = served.written; rules = λ link has. served.rules link (c.reorder.ensures.has link has) }

@@ -1,4 +1,4 @@
-use Rattle.std.proofs.Common.{◌≡◌, ◌≤◌, List, length, sym, subst, arith}
+use Rattle.std.proofs.Common.{◌≤◌, List, length, sym, subst, arith}
 use Rattle.std.specs.List.{Contains}
 use Rattle.lsv_worker.specs.Worker.{AreOfLanes, Stands, open_in, setting}
 use Rattle.lsv_worker.specs.declared.link.Link.{Link}

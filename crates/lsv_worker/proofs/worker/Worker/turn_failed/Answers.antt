@@ -1,4 +1,4 @@
-use Rattle.std.proofs.Common.{ap, refl}
+use Rattle.std.proofs.Common.{ap}
 use Rattle.lsv_worker.specs.Worker.{Setting, setting}
 use Rattle.lsv_worker.specs.declared.link.Phase.TheVariants.{Failed}
 use Rattle.lsv_worker.specs.declared.worker.Worker.{Worker}
@@ -30,5 +30,7 @@ returns-clause-worker g c =
 pub returns-clause-phase : goal.returns-clause-phase
 returns-clause-phase g c = ap (λ (s : Setting). s.phase) c.pass.ensures.set
 
-pub returns-clause-unread : goal.returns-clause-unread
-returns-clause-unread g c = λ told. c.pass.ensures.unread told refl
+pub returns-clause-served : goal.returns-clause-served
+returns-clause-served g c = λ told.
+    let served = c.pass.ensures.served told in
+    record { owed = served.owed; held = served.held; limits = served.limits; written = served.written; rules = served.rules }
