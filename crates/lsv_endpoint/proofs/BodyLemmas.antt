@@ -12,12 +12,12 @@ use Rattle.lsv_turn.specs.Turns.{EndsWithGone}
 use Rattle.lsv_links.specs.Lanes.{share}
 use Rattle.lsv_links.proofs.PrefixLemmas.{brings_first}
 use Rattle.lsv_links.specs.Links.{AtMostStarved, Brings, BringsSome, is_bad, was_bad}
-use Rattle.lsv_worker.specs.Incoming.{AreBodies, Heard, Hears, IsWhole, Marks, is_shut, last_words, pending}
+use Rattle.lsv_worker.specs.Incoming.{AreBodies, Heard, Receives, IsWhole, Marks, is_shut, last_words, pending}
 use Rattle.lsv_worker.specs.declared.incoming.Incoming.{Incoming}
 use Rattle.lsv_worker.specs.declared.incoming.Stage.{Stage}
-use Rattle.lsv_worker.specs.declared.incoming.Stage.TheVariants.{Hearing, Ending, Starving, Leaving, Left}
+use Rattle.lsv_worker.specs.declared.incoming.Stage.TheVariants.{Open, Draining, OutOfMemory, Closing, Closed}
 use Rattle.lsv_worker.specs.declared.incoming.Why.{Why}
-use Rattle.lsv_worker.specs.declared.incoming.Why.TheVariants.{Ended, Refused, Shut, Starved}
+use Rattle.lsv_worker.specs.declared.incoming.Why.TheVariants.{Ended, Refused, Shut, NoMemory}
 use Rattle.lsv_endpoint.proofs.BoolLemmas.{or_front, or_later, true_or}
 
 -- ---- The end is the last of a connection's jobs
@@ -45,7 +45,7 @@ no_gone_last : (why : Why) → HasNoGone (last_words why)
 no_gone_last Ended = tt
 no_gone_last Refused = tt
 no_gone_last Shut = tt
-no_gone_last Starved = ((λ e. absurd cc), tt)
+no_gone_last NoMemory = ((λ e. absurd cc), tt)
 
 ends_behind : (xs : List Body) → HasNoGone xs → EndsWithGone (xs ++ Gone ∷ [])
 ends_behind [] n = ((λ e. refl), tt)
@@ -131,13 +131,13 @@ heard_of : (why : Why) (read : List ℕ) (heard : List Body) → (jobs : List Bo
 heard_of Ended read heard some h = heard_all Ended read heard h
 heard_of Refused read heard some h = heard_all Refused read heard (subst (λ (b : List ℕ). AreJobs b heard) (append-nil read) (h []))
 heard_of Shut read heard some h = heard_first Shut read heard some.0 h some.1 (λ a b. cc)
-heard_of Starved read heard some h = heard_first Starved read heard some.0 h some.1 (λ a b. cc)
+heard_of NoMemory read heard some h = heard_first NoMemory read heard some.0 h some.1 (λ a b. cc)
 
 at_most : (why : Why) → AtMostStarved (last_words why)
 at_most Ended = inl refl
 at_most Refused = inl refl
 at_most Shut = inl refl
-at_most Starved = inr refl
+at_most NoMemory = inr refl
 
 -- what was put of a connection that ended so is what it brought; shut: it was shut
 pub brings : (why : Why) (read : List ℕ) (shut : Bool) (bodies : List Body) → (jobs : List Body) × AreJobs read jobs → IsWhole why read bodies → (is_shut why ≡ true → shut ≡ true) → Brings read shut bodies
@@ -158,7 +158,7 @@ brings why read shut bodies some h was =
     not_shut Ended shut was e = refl
     not_shut Refused shut was e = refl
     not_shut Shut shut was e = absurd (let yes = was refl in cc)
-    not_shut Starved shut was e = refl
+    not_shut NoMemory shut was e = refl
 
 -- so is what a connection brings that ends so
 whole_some : (why : Why) (read : List ℕ) (bodies : List Body) → (jobs : List Body) × AreJobs read jobs → IsWhole why read bodies → BringsSome read bodies
@@ -189,11 +189,11 @@ cut_some read rest bodies some h =
     }
 
 stage_some : (stage : Stage) (read rest : List ℕ) (bodies : List Body) → (jobs : List Body) × AreJobs read jobs → AreBodies stage read rest bodies → BringsSome read bodies
-stage_some Hearing read rest bodies some h = cut_some read rest bodies some h
-stage_some Ending read rest bodies some h = cut_some read rest bodies some h
-stage_some Starving read rest bodies some h = whole_some Starved read bodies some h
-stage_some (Leaving why) read rest bodies some h = whole_some why read bodies some h
-stage_some (Left why) read rest bodies some h = whole_some why read bodies some h
+stage_some Open read rest bodies some h = cut_some read rest bodies some h
+stage_some Draining read rest bodies some h = cut_some read rest bodies some h
+stage_some OutOfMemory read rest bodies some h = whole_some NoMemory read bodies some h
+stage_some (Closing why) read rest bodies some h = whole_some why read bodies some h
+stage_some (Closed why) read rest bodies some h = whole_some why read bodies some h
 
 first_if : (b : Bool) (said : List Body) → AreFirst (if b then said else []) said
 first_if true said = ([], sym (append-nil said))
@@ -204,7 +204,7 @@ share_first None lane said = (said, refl)
 share_first (Some n) lane said = first_if (lane == n) said
 
 -- what was put of a connection to a lane is the first of what it brings
-pub hears_some : (link : Incoming) (read : List ℕ) (put : ℕ → List Body) (marks : Marks) (lane : ℕ) → (jobs : List Body) × AreJobs read jobs → Hears link read put marks → BringsSome read (put lane)
+pub hears_some : (link : Incoming) (read : List ℕ) (put : ℕ → List Body) (marks : Marks) (lane : ℕ) → (jobs : List Body) × AreJobs read jobs → Receives link read put marks → BringsSome read (put lane)
 hears_some link read put marks lane some h =
     let part = share_first link.route.lane lane h.said in
     subst (BringsSome read) (sym (h.routed.to_lane lane))

@@ -1,5 +1,5 @@
 -- What replies say of one connection.
-use Rattle.std.proofs.Common.{◌≡◌, ◌&&◌, Bool, true, false, List, [], ◌∷◌, ◌++◌, refl, sym, ap, ◌∙◌, append_assoc, ⊎_elim}
+use Rattle.std.proofs.Common.{◌≡◌, ◌≢◌, ◌&&◌, ℕ, Bool, true, false, List, [], ◌∷◌, ◌++◌, refl, sym, ap, ◌∙◌, append_assoc, ⊎_elim}
 use Rattle.std.specs.Prelude.{not}
 use Rattle.lsv_session.specs.Connections.{same}
 use Rattle.lsv_session.specs.Transcript.{bodies_of}
@@ -7,8 +7,9 @@ use Rattle.lsv_session.specs.declared.connection.ConnId.{ConnId}
 use Rattle.lsv_session.specs.declared.job.Job.{Job}
 use Rattle.lsv_session.specs.declared.reply.Reply.{Reply}
 use Rattle.lsv_session.specs.declared.reply.ReplyBody.TheVariants.{Shut}
-use Rattle.lsv_turn.specs.Turns.{AreAsked, EndsWithGone, NoneFor, is_shut, shuts}
-use Rattle.lsv_worker.specs.Outgoing.{HasEarlyShut, HasShut, TalksOn}
+use Rattle.lsv_reactor.specs.Endpoints.{AreAskedBy}
+use Rattle.lsv_turn.specs.Turns.{EndsWithGone, NoneFor, is_shut, shuts}
+use Rattle.lsv_worker.specs.Outgoing.{HasEarlyShut, HasShut, RepliesAfterShut}
 use Rattle.lsv_endpoint.proofs.BoolLemmas.{or_here, or_later}
 
 shut_test : (a b c : Bool) → a ≡ true → b ≡ true → c ≡ false → ((a && b) && not c) ≡ true
@@ -46,11 +47,11 @@ none_at : (k : ConnId) (before after : List Reply) (r : Reply) → NoneFor k (be
 none_at k [] after r n = n.0
 none_at k (x ∷ before) after r n = none_at k before after r n.1
 
--- a lane that replies to those who asked says nothing after a shut
-pub not_on : (k : ConnId) (jobs : List Job) (replies : List Reply) → AreAsked jobs replies → EndsWithGone (bodies_of k jobs) → TalksOn k replies → ⊥
-not_on k jobs replies asked ends t =
+-- where replies are to those who asked, nothing is said after a shut
+pub not_on : (k : ConnId) (lane : ℕ) (jobs : ℕ → List Job) (replies : List Reply) → AreAskedBy jobs replies → ((m : ℕ) → m ≢ lane → bodies_of k (jobs m) ≡ []) → EndsWithGone (bodies_of k (jobs lane)) → RepliesAfterShut k replies → ⊥
+not_on k lane jobs replies asked others ends t =
     let s = shut_at k t.before t.shut in
     let whole : replies ≡ s.before ++ s.reply ∷ (s.after ++ t.reply ∷ t.after) = t.whole ∙ ap (λ (l : List Reply). l ++ t.reply ∷ t.after) s.are ∙ append_assoc s.before (s.reply ∷ s.after) (t.reply ∷ t.after) in
-    let none : same t.reply.conn k ≡ false = none_at k s.after t.after t.reply (asked.behind k s.before (s.after ++ t.reply ∷ t.after) s.reply ends whole s.conn s.shut) in
+    let none : same t.reply.conn k ≡ false = none_at k s.after t.after t.reply (asked.behind k lane s.before (s.after ++ t.reply ∷ t.after) s.reply others ends whole s.conn s.shut) in
     let no : true ≡ false = sym t.more ∙ none in
     cc

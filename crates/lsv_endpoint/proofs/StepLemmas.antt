@@ -1,9 +1,8 @@
--- What calls of a post do to what it stands for.
+-- What calls of an endpoint do to what it stands for.
 use Rattle.std.proofs.Common.{◌≡◌, ℕ, zero, suc, ◌<◌, ◌≤◌, ◌-◌, ◌^◌, Bool, true, false, List, [], ◌∷◌, ◌++◌, length, refl, sym, ap, subst, ◌∙◌, append_assoc, inl, inr, ⊎_elim, arith}
 use Rattle.std.proofs.Math.Path.{fun_ext}
 use Rattle.std.proofs.lemmas.Bool.{cases_eq}
 use Rattle.std.proofs.lemmas.List.{append-nil}
-use Rattle.std.specs.List.{AllByRecursion}
 use Rattle.std.specs.Prelude.{Result, Ok, Err, OnErr, OnOk, is_err}
 use Rattle.lsv_defs.specs.Causes.{HasRisen}
 use Rattle.lsv_port.specs.Ledger.{Continues, GoesOn, PortLedger}
@@ -15,15 +14,12 @@ use Rattle.lsv_links.specs.Views.{PortFailed, PortView}
 use Rattle.lsv_session.specs.declared.job.Job.{Job}
 use Rattle.lsv_session.specs.declared.reply.Reply.{Reply}
 use Rattle.lsv_worker.specs.Links.{AreBlamed, HasBlame}
-use Rattle.lsv_links.specs.Lanes.{one_lane}
-use Rattle.lsv_worker.specs.Memory.{IsOrderly, KeepsOrder, bytes_behind_first, waiting}
-use Rattle.lsv_worker.specs.Worker.{Goes, HoldsOwed, IsFit, IsSameWorker, Represents, phase_after, setting}
+use Rattle.lsv_worker.specs.Worker.{Goes, HoldsOwed, Represents, phase_after, setting}
 use Rattle.lsv_worker.specs.declared.link.Phase.{Phase}
 use Rattle.lsv_worker.specs.declared.link.Phase.TheVariants as phases
-use Rattle.lsv_worker.specs.declared.memory.MemInbox.{MemInbox}
 use Rattle.lsv_worker.specs.declared.worker.Worker.{Worker}
 use Rattle.lsv_worker.proofs.Notes.{fault_stands}
-use Rattle.lsv_endpoint.specs.InnerPost.{AreKept, AreOne, IsInMode, StandsFor, WentOn, after_ready}
+use Rattle.lsv_endpoint.specs.InnerEndpoint.{AreKept, IsInMode, StandsFor, WentOn, after_ready}
 use Rattle.lsv_endpoint.specs.declared.mode.Mode.{Mode}
 use Rattle.lsv_endpoint.specs.declared.mode.Mode.TheVariants.{Going, Failing, Stopping, Failed}
 
@@ -125,69 +121,32 @@ mode_turned ready.Stop p F e = e
 pub failed_mode : (mode : Mode) (p q : Phase) (F G : Type 0) → mode ≡ Failing → q ≡ phases.Failed → (F → G) → IsInMode mode p F → IsInMode Failed q G
 failed_mode mode p q F G failing e f on = let was : IsInMode Failing p F = subst (λ (c : Mode). IsInMode c p F) failing on in (inl e, f was.1)
 
--- the phase of a worker whose post goes on
+-- the phase of a worker whose endpoint goes on
 pub going_phase : (mode : Mode) (p : Phase) (F : Type 0) → mode ≡ Going → IsInMode mode p F → p ≡ phases.Going
 going_phase mode p F going on = subst (λ (c : Mode). IsInMode c p F) going on
 
 pub failing_phase : (mode : Mode) (p : Phase) (F : Type 0) → mode ≡ Failing → IsInMode mode p F → p ≡ phases.Going
 failing_phase mode p F failing on = let was : IsInMode Failing p F = subst (λ (c : Mode). IsInMode c p F) failing on in was.0
 
--- ---- The worker and its inbox
-
-pub one_then : (a b : Worker) (i j : MemInbox) → AreOne a i → IsFit b → IsSameWorker a b → KeepsOrder i j → AreOne b j
-one_then a b i j one fit same keeps = record {
-  fit = fit;
-  lanes = same.lanes ∙ one.lanes;
-  number = keeps.worker ∙ one.number ∙ sym same.number;
-  orderly = keeps.orderly one.orderly;
-}
-
-pub one_emptied : (a : Worker) (i j : MemInbox) → AreOne a i → IsOrderly j → j.worker ≡ i.worker → AreOne a j
-one_emptied a i j one orderly same = record {
-  fit = one.fit;
-  lanes = one.lanes;
-  number = same ∙ one.number;
-  orderly = orderly;
-}
-
--- each job that waits is of the worker, there are few, and those after the first are light
-pub own_waiting : (a : Worker) (i : MemInbox) (number : ℕ) (given : List Job) → AreOne a i → (setting a).number ≡ number → given ≡ waiting i → AllByRecursion (λ job. job.conn.worker ≡ number) given
-own_waiting a i number given one is e =
-    subst (λ (js : List Job). AllByRecursion (λ job. job.conn.worker ≡ number) js) (sym e)
-    (subst (λ (n : ℕ). AllByRecursion (λ job. job.conn.worker ≡ n) (waiting i)) (one.number ∙ is) one.orderly.own)
-
-pub few_waiting : (a : Worker) (i : MemInbox) (given : List Job) → AreOne a i → given ≡ waiting i → length given ≤ 256
-few_waiting a i given one e = subst (λ (js : List Job). length js ≤ 256) (sym e) one.orderly.few
-
-pub light_waiting : (a : Worker) (i : MemInbox) (given : List Job) → AreOne a i → given ≡ waiting i → bytes_behind_first given ≤ 67108864
-light_waiting a i given one e = subst (λ (js : List Job). bytes_behind_first js ≤ 67108864) (sym e) one.orderly.light
-
-lane_more : (lane : ℕ) (gave was is added : List Job) → one_lane lane is ≡ one_lane lane was ++ added → one_lane lane (gave ++ was) ++ added ≡ one_lane lane (gave ++ is)
-lane_more zero gave was is added e = append_assoc gave was added ∙ ap (λ (l : List Job). gave ++ l) (sym e)
-lane_more (suc lane) gave was is added e = sym e
+-- ---- The worker
 
 -- what a call of the worker put to its inbox is what it stands for then
-pub represents_then : (a b : Worker) (s t : PortState) (gave was is : List Job) (replies : List Reply) → Goes a b s t (λ lane. one_lane lane was) (λ lane. one_lane lane is) → Represents a s (λ lane. one_lane lane (gave ++ was)) replies → Represents b t (λ lane. one_lane lane (gave ++ is)) replies
-represents_then a b s t gave was is replies g h =
-    subst (λ (f : ℕ → List Job). Represents b t f replies) (fun_ext (λ lane. lane_more lane gave was is (g.added lane) (g.put lane))) (g.goes (λ lane. one_lane lane (gave ++ was)) replies h)
+represents_more : (a b : Worker) (s t : PortState) (was is gave : ℕ → List Job) (replies : List Reply) → Goes a b s t was is → Represents a s (λ lane. gave lane ++ was lane) replies → Represents b t (λ lane. gave lane ++ is lane) replies
+represents_more a b s t was is gave replies g h =
+    subst (λ (f : ℕ → List Job). Represents b t f replies) (fun_ext (λ lane. append_assoc (gave lane) (was lane) (g.added lane) ∙ ap (λ (l : List Job). gave lane ++ l) (sym (g.put lane)))) (g.goes (λ lane. gave lane ++ was lane) replies h)
 
-pub stands_then : (a b : Worker) (s t : PortState) (gave was is : List Job) (replies : List Reply) → Goes a b s t (λ lane. one_lane lane was) (λ lane. one_lane lane is) → ((setting b).phase ≡ phases.Going → HoldsOwed b t) → StandsFor a s (gave ++ was) replies → StandsFor b t (gave ++ is) replies
-stands_then a b s t gave was is replies g holds h = record { represents = represents_then a b s t gave was is replies g h.represents; holds = holds }
+pub stands_then : (a b : Worker) (s t : PortState) (gave was is : ℕ → List Job) (replies : List Reply) → Goes a b s t was is → ((setting b).phase ≡ phases.Going → HoldsOwed b t) → StandsFor a s (λ lane. gave lane ++ was lane) replies → StandsFor b t (λ lane. gave lane ++ is lane) replies
+stands_then a b s t gave was is replies g holds h = record { represents = represents_more a b s t was is gave replies g h.represents; holds = holds }
 
-pub stands_same : (a : Worker) (s t : PortState) (jobs : List Job) (replies : List Reply) → IsSame s t → StandsFor a s jobs replies → StandsFor a t jobs replies
+pub stands_same : (a : Worker) (s t : PortState) (jobs : ℕ → List Job) (replies : List Reply) → IsSame s t → StandsFor a s jobs replies → StandsFor a t jobs replies
 stands_same a s t jobs replies same h = subst (λ (p : PortState). StandsFor a p jobs replies) (sym (same_port s t same)) h
 
 -- the port failed as a whole
-pub stands_fault : (a : Worker) (s t : PortState) (jobs : List Job) (replies : List Reply) → TellsFault s t → StandsFor a s jobs replies → StandsFor a t jobs replies
+pub stands_fault : (a : Worker) (s t : PortState) (jobs : ℕ → List Job) (replies : List Reply) → TellsFault s t → StandsFor a s jobs replies → StandsFor a t jobs replies
 stands_fault a s t jobs replies tells h = record {
-  represents = fault_stands (setting a) a.links.items s t (λ lane. one_lane lane jobs) replies tells h.represents;
+  represents = fault_stands (setting a) a.links.items s t jobs replies tells h.represents;
   holds = λ going l owed. h.holds going l (record { is_open = subst (λ (x : LinkState). x.is_open ≡ true) (tells.links l) owed.is_open; owed = subst (λ (x : LinkState). x.owed ≡ true) (tells.links l) owed.owed });
 }
-
--- the jobs that waited were given
-pub stands_given : (a : Worker) (s : PortState) (gave was given left : List Job) (replies : List Reply) → given ≡ was → left ≡ [] → StandsFor a s (gave ++ was) replies → StandsFor a s ((gave ++ given) ++ left) replies
-stands_given a s gave was given left replies e none h =
-    subst (λ (l : List Job). StandsFor a s l replies) (ap (λ (l : List Job). gave ++ l) (sym e) ∙ sym (append-nil (gave ++ given)) ∙ ap (λ (l : List Job). (gave ++ given) ++ l) (sym none)) h
 
 -- ---- Replies
 

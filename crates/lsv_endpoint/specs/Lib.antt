@@ -1,2 +1,2 @@
 pub mod Ports
-pub mod InnerPost
+pub mod InnerEndpoint

@@ -1,4 +1,4 @@
--- The port of a post, as it is seen.
+-- The port of an endpoint, as it is seen.
 use Rattle.std.specs.Prelude.{◌≡◌, ℕ, false, []}
 use Rattle.lsv_port.specs.Ledger.{PortLedger}
 use Rattle.lsv_port.specs.Port.{PortState}

@@ -1,7 +1,7 @@
-//! A post over a worker and its port: what comes on the port's links becomes jobs, and the replies to them bytes.
+//! An endpoint over a worker and its port: what comes on the port's links becomes jobs, and the replies to them bytes.
 #![tactic(auto)]
 
+mod endpoint;
 mod mode;
-mod post;
 
-pub use post::WorkerPost;
+pub use endpoint::WorkerEndpoint;

@@ -1,12 +1,12 @@
-//! How far a post is.
+//! How far an endpoint is.
 
 ghost use Rattle.std.specs.Prelude.{◌≡◌};
-ghost use Rattle.lsv_endpoint.specs.InnerPost.{after_fault, after_ready, ended_by};
+ghost use Rattle.lsv_endpoint.specs.InnerEndpoint.{after_fault, after_ready, ended_by};
 
 use lsv_port::Ready;
-use lsv_reactor::PostEnd;
+use lsv_reactor::EndpointEnd;
 
-/// What a post does next.
+/// What an endpoint does next.
 #[derive(Clone, Copy, Debug, PartialEq, Eq)]
 pub(crate) enum Mode {
     /// It lets its port turn.
@@ -20,7 +20,7 @@ pub(crate) enum Mode {
 }
 
 impl Mode {
-    /// The mode of a post that goes on, after a turn that told this.
+    /// The mode of an endpoint that goes on, after a turn that told this.
     pub(crate) fn after(ready: Ready) -> Mode
         ensures { result ≡ after_ready ready }
     {
@@ -32,7 +32,7 @@ impl Mode {
         }
     }
 
-    /// The mode of a post whose port couldn't listen.
+    /// The mode of an endpoint whose port couldn't listen.
     pub(crate) fn deafened(self) -> Mode
         ensures { result ≡ after_fault self }
     {
@@ -42,14 +42,14 @@ impl Mode {
         }
     }
 
-    /// How a post ends in this mode, None where it goes on.
-    pub(crate) fn end(self) -> Option<PostEnd>
+    /// How an endpoint ends in this mode, None where it goes on.
+    pub(crate) fn end(self) -> Option<EndpointEnd>
         ensures { result ≡ ended_by self }
     {
         match self {
             Mode::Going | Mode::Failing => None,
-            Mode::Stopping => Some(PostEnd::Stopped),
-            Mode::Failed => Some(PostEnd::Failed),
+            Mode::Stopping => Some(EndpointEnd::Stopped),
+            Mode::Failed => Some(EndpointEnd::Failed),
         }
     }
 }

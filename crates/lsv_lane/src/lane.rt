@@ -17,6 +17,7 @@ use lsv_disk::Disk;
 use lsv_hook::{Formatter, LineWriter};
 use lsv_keeper::{Keeper, StoreFault};
 use lsv_mask::{Prompt, Search};
+use lsv_queue::Gap;
 use lsv_session::{Job, Reply};
 use lsv_turn::{Lane, Tape};
 use std::alloc::Global;
@@ -35,7 +36,12 @@ impl<D: Disk, C: Clock, G: Tape, F: LineWriter, H: Search> Lane for StoreLane<D,
 
     ghost made_by = { λ start lane turns. IsMade D.tells G.tells start.set start.texts (D.view start.disk) (D.view lane.bay.disk) (view_of lane.keeper) (G.turns start.tape) (G.turns lane.bay.tape) turns };
 
-    fn turn(&mut self, jobs: Vec<Job>, replies: &mut Vec<Reply>) -> Result<TimeSpec, NoMem> {
+    fn turn(
+        &mut self,
+        jobs: Vec<Job>,
+        gap: Option<Gap<Job>>,
+        replies: &mut Vec<Reply>,
+    ) -> Result<TimeSpec, NoMem> {
         replies.clear();
         let Ok(()) = self.keeper.ready(jobs.len(), replies) else {
             return Err(NoMem);
@@ -44,7 +50,7 @@ impl<D: Disk, C: Clock, G: Tape, F: LineWriter, H: Search> Lane for StoreLane<D,
             return Err(NoMem);
         };
         let now = self.bay.clock.now();
-        self.bay.tape.keep(&jobs, now);
+        self.bay.tape.keep(&jobs, now, gap);
         self.keeper.turn(&mut self.bay.disk, now, jobs, replies);
         Ok(now)
     }

@@ -7,6 +7,7 @@ ghost use Rattle.lsv_load.specs.Numbers.{number_told, numbers_told};
 
 use lsv_base::{LogNo, NoMem, TimeSpec};
 use lsv_msg::ServerMessage;
+use lsv_queue::Gap;
 use lsv_session::{Job, Reply, ReplyBody};
 use lsv_turn::Lane;
 use std::alloc::Global;
@@ -49,11 +50,16 @@ impl<L: Lane> Lane for Numbering<L> {
 
     ghost made_by = { λ start lane turns. IsNoting L.made_by start lane.lane lane.numbers.items lane.is_lacking turns };
 
-    fn turn(&mut self, jobs: Vec<Job>, replies: &mut Vec<Reply>) -> Result<TimeSpec, NoMem> {
+    fn turn(
+        &mut self,
+        jobs: Vec<Job>,
+        gap: Option<Gap<Job>>,
+        replies: &mut Vec<Reply>,
+    ) -> Result<TimeSpec, NoMem> {
         let Ok(()) = self.numbers.reserve(jobs.len()) else {
             return Err(NoMem);
         };
-        let Ok(now) = self.lane.turn(jobs, replies) else {
+        let Ok(now) = self.lane.turn(jobs, gap, replies) else {
             return Err(NoMem);
         };
         if note(&mut self.numbers, replies).is_err() {

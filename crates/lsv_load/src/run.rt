@@ -19,14 +19,14 @@ use crate::replay::sum_up;
 use crate::script::load_script;
 use lsv_base::{Bytes, Clock, LogNo, NoMem};
 use lsv_disk::Disk;
-use lsv_endpoint::WorkerPost;
+use lsv_endpoint::WorkerEndpoint;
 use lsv_gen::{conversation, summary};
 use lsv_hook::LineWriter;
 use lsv_keeper::StoreFault;
 use lsv_lane::{Bay, StoreLane};
 use lsv_mask::Search;
 use lsv_port::MemPort;
-use lsv_reactor::{PortsEnd, Post, serve};
+use lsv_reactor::{Endpoint, PortsEnd, serve};
 use lsv_service::Plan;
 use lsv_turn::{Lane, Tape};
 use std::alloc::Global;
@@ -88,14 +88,15 @@ fn are_read(alloc: Global, port: &MemPort, count: u32) -> Result<bool, NoMem>
 }
 
 /// Serves what comes at a post, whose port fails for want of memory alone, by turns of a lane that has made none.
-fn serve_one<T: Post, L: Lane>(alloc: Global, post: &mut T, lane: &mut L) -> Result<(), NoMem>
+fn serve_one<T: Endpoint, L: Lane>(alloc: Global, post: &mut T, lane: &mut L) -> Result<(), NoMem>
     requires fits { FitsInMemory T.row }
     requires number { T.number post.old ≡ 0 }
-    requires post { (begun : T.Start) × T.made_by begun post.old [] [] }
+    requires lanes { T.lanes post.old ≡ 1 }
+    requires post { (begun : T.Start) × T.made_by begun post.old (λ lane. []) [] }
     requires lane { (start : L.Start) × L.made_by start lane.old [] }
-    ensures ok { OnOk result ((begun : T.Start) (start : L.Start) → T.made_by begun post.old [] [] → L.made_by start lane.old [] →
+    ensures ok { OnOk result ((begun : T.Start) (start : L.Start) → T.made_by begun post.old (λ lane. []) [] → L.made_by start lane.old [] →
         (turns : List LaneTurn) × L.made_by start lane.new turns × AreSized turns × (T.tells → ServesOne L.tells turns (T.begun begun) (T.view post.new))) }
-    ensures err { OnErr result ((begun : T.Start) (start : L.Start) → T.made_by begun post.old [] [] → L.made_by start lane.old [] →
+    ensures err { OnErr result ((begun : T.Start) (start : L.Start) → T.made_by begun post.old (λ lane. []) [] → L.made_by start lane.old [] →
         (turns : List LaneTurn) × L.made_by start lane.new turns × AreSized turns × (T.tells → PutsOne turns (T.begun begun) (T.view post.new))) }
     ensures script { (T.view post.new).ledger.script ≡ (T.view post.old).ledger.script }
 {
@@ -115,7 +116,7 @@ fn serve_conversations<L: Lane>(alloc: Global, count: u32, lane: &mut L) -> Resu
     ensures err { OnErr result ((start : L.Start) → L.made_by start lane.old [] → (turns : List LaneTurn) × L.made_by start lane.new turns × AreSized turns × LeavesLoad count turns) }
 {
     let port = MemPort::new(alloc, load_script(alloc, count)?);
-    let Ok(mut post) = WorkerPost::new(alloc, 0, port) else {
+    let Ok(mut post) = WorkerEndpoint::new(alloc, 0, 1, port) else {
         return Err(NoMem);
     };
     let served = serve_one(alloc, &mut post, lane);

@@ -1,5 +1,7 @@
 pub mod Own
+pub mod OneLane
 pub mod Places
+pub mod Boxes
 pub mod TurnLemmas
 pub mod Ends
 pub mod Stops

@@ -1,7 +1,8 @@
 -- What of a list is one worker's own.
-use Rattle.std.proofs.Common.{◌≡◌, ◌≢◌, ◌++◌, ◌∷◌, [], List, ℕ, Bool, true, false, length, ◌≤◌, refl, sym, ap, subst, ◌∙◌, inl, inr, arith}
+use Rattle.std.proofs.Common.{◌≡◌, ◌≢◌, ◌++◌, ◌∷◌, [], List, ℕ, Bool, true, false, length, ◌≤◌, refl, sym, ap, subst, ◌∙◌, append-nil, inl, inr, arith}
 use Rattle.std.specs.Prelude.{◌==◌, ◌<◌, zero, suc, if◌then◌else◌, slice_index_or}
 use Rattle.std.specs.List.{AllByRecursion, Contains}
+use Rattle.std.proofs.lemmas.Grind.{flat_map-append}
 use Rattle.std.proofs.lemmas.List.Elements.{Contains-append_cases, Contains-append_right}
 use Rattle.std.proofs.lemmas.Bool.Decides.{nat_tests}
 use Rattle.lsv_session.specs.declared.job.Job.{Job}
@@ -65,6 +66,14 @@ own_call w (x ∷ jobs) own = elim (eq_or x.conn.worker w) [ equal e t ↦ rw t 
 pub other_call : (v w : ℕ) (jobs : List Job) → v ≢ w → AreOf v jobs → calls_of w (call_of jobs) ≡ []
 other_call v w [] ne own = refl
 other_call v w (x ∷ jobs) ne own = elim (eq_or x.conn.worker w) [ equal e t ↦ absurd (ne (sym own.0 ∙ e)) | unequal differs t ↦ rw t refl ]
+
+-- what one call more gave
+jobs_call : (jobs : List Job) → jobs_by (call_of jobs) ≡ jobs
+jobs_call [] = refl
+jobs_call (x ∷ jobs) = append-nil (x ∷ jobs)
+
+pub jobs_join : (gave : List (List Job)) (jobs : List Job) → jobs_by (gave ++ call_of jobs) ≡ jobs_by gave ++ jobs
+jobs_join gave jobs = flat_map-append (λ (l : List Job). l) gave (call_of jobs) ∙ ap (λ (l : List Job). jobs_by gave ++ l) (jobs_call jobs)
 
 -- what a worker's calls gave are its jobs
 jobs_more : (n w : ℕ) (jobs : List Job) (calls : List (List Job)) → IsCall n jobs → jobs_by (calls_of w calls) ≡ jobs_of w (jobs_by calls) → jobs_by (calls_of w (jobs ∷ calls)) ≡ jobs_of w (jobs ++ jobs_by calls)

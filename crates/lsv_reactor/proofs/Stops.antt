@@ -21,9 +21,10 @@ use Rattle.lsv_reactor.specs.Served.{PutsAll}
 use Rattle.lsv_reactor.proofs.Own.{EqOr.equal, EqOr.unequal, eq_or, jobs_by_own, jobs_by_turns, within_calls}
 use Rattle.lsv_reactor.proofs.Places.{set_here, set_there}
 use Rattle.lsv_reactor.proofs.Ends.{puts_own, puts_turns}
+use Rattle.lsv_reactor.proofs.OneLane.{puts_of_one}
 use Rattle.std.proofs.lemmas.Option.{slice_get_within}
 
-module _ {T S : Type 0} (tells : Type 0) (number : T → ℕ) (made_by : S → T → List (List Job) → List Reply → Type 0) (begun : S → PortView) (view : T → PortView) (starts : ℕ → S) (ledgers : ℕ → PortLedger) where
+module _ {T S : Type 0} (tells : Type 0) (number lanes : T → ℕ) (made_by : S → T → (ℕ → List Job) → List Reply → Type 0) (called : T → List (List Job) → Type 0) (begun : S → PortView) (view : T → PortView) (starts : ℕ → S) (ledgers : ℕ → PortLedger) where
   pub stopped_none : (posts : List T) (calls : List (List Job)) (took : List Reply) → AllByRecursion (IsCall (length posts)) calls → AreStopped tells begun view starts ledgers posts calls took 0
   stopped_none posts calls took placed = record { continues = λ i post less e. absurd (omega (arith, less)); put = λ told i post less e. absurd (omega (arith, less)); placed = placed }
 
@@ -41,16 +42,17 @@ module _ {T S : Type 0} (tells : Type 0) (number : T → ℕ) (made_by : S → T
 
   -- the post at the next place is stopped
   pub stopped_more : (olds posts : List T) (place : ℕ) (x y : T) (calls : List (List Job)) (took : List Reply) → place < length posts → slice_get olds place ≡ Some x → Continues (view x).ledger (view y).ledger
-      → (tells → (start : S) (gave : List (List Job)) (got : List Reply) → made_by start x gave got → PutsPrefixes (number x) (λ lane. one_lane lane (jobs_by gave)) (λ lane. one_lane lane got) (begun start) (view y))
-      → ArePosts number view made_by starts ledgers olds calls took → AreStopped tells begun view starts ledgers posts calls took place → AreStopped tells begun view starts ledgers (set posts place y) calls took (place + 1)
+      → (tells → (start : S) (gave : ℕ → List Job) (got : List Reply) → made_by start x gave got → PutsPrefixes (number x) gave (λ lane. got) (begun start) (view y))
+      → ArePosts number lanes view made_by called starts ledgers olds calls took → AreStopped tells begun view starts ledgers posts calls took place → AreStopped tells begun view starts ledgers (set posts place y) calls took (place + 1)
   stopped_more olds posts place x y calls took less at heard put are below =
-      let is : IsPost number view made_by (starts place) (ledgers place) place x calls took = are.each place x at in
+      let is : IsPost number lanes view made_by called (starts place) (ledgers place) place x calls took = are.each place x at in
       record {
         continues = below_set (λ i z. Continues (ledgers i) (view z).ledger) posts place y less (continues_then (ledgers place) (view x).ledger (view y).ledger is.continues heard) below.continues;
         put = λ told. below_set (λ i z. PutsPrefixes i (λ lane. one_lane lane (jobs_by calls)) (λ lane. one_lane lane took) (begun (starts i)) (view z)) posts place y less
             (puts_own place (jobs_by calls) took (begun (starts place)) (view y)
             (subst (λ (l : List Job). PutsPrefixes place (λ lane. one_lane lane l) (λ lane. one_lane lane (replies_to place took)) (begun (starts place)) (view y)) (jobs_by_own (length olds) place calls are.placed)
-            (subst (λ (n : ℕ). PutsPrefixes n (λ lane. one_lane lane (jobs_by (calls_of place calls))) (λ lane. one_lane lane (replies_to place took)) (begun (starts place)) (view y)) is.numbered (put told (starts place) (calls_of place calls) (replies_to place took) is.made))))
+            (puts_of_one place (jobs_by (calls_of place calls)) (replies_to place took) (begun (starts place)) (view y)
+            (subst (λ (n : ℕ). PutsPrefixes n (λ lane. one_lane lane (jobs_by (calls_of place calls))) (λ lane. replies_to place took) (begun (starts place)) (view y)) is.numbered (put told (starts place) (λ lane. one_lane lane (jobs_by (calls_of place calls))) (replies_to place took) is.made)))))
             (below.put told);
         placed = subst (λ (n : ℕ). AllByRecursion (IsCall n) calls) (sym (length-set posts place y)) below.placed;
       }

@@ -13,6 +13,7 @@ use Rattle.lsv_turn.specs.Turns.{AreAskedIn, LaneTurn, replies_in}
 use Rattle.lsv_reactor.specs.Calls.{call_of, calls_in}
 use Rattle.lsv_reactor.specs.InnerLoop.{ArePosts, IsLane}
 use Rattle.lsv_reactor.proofs.Own.{some_call}
+use Rattle.lsv_reactor.proofs.OneLane.{none_of_one}
 
 all_last : {A : Type 0} (P : A → Type 0) (xs : List A) (x : A) → AllByRecursion P xs → P x → AllByRecursion P (xs ++ x ∷ [])
 all_last P [] x all is = (is, tt)
@@ -37,24 +38,30 @@ module _ {L M : Type 0} (tells : Type 0) (made_by : M → L → List LaneTurn �
   pub lane_kept : (old new : L) (turns : List LaneTurn) → (made_by start old turns → made_by start new turns) → IsLane tells made_by start old turns → IsLane tells made_by start new turns
   lane_kept old new turns goes is = record { made = goes is.made; sized = is.sized; asked = is.asked }
 
-module _ {T S : Type 0} (number : T → ℕ) (view : T → PortView) (made_by : S → T → List (List Job) → List Reply → Type 0) where
+module _ {T S : Type 0} (number lanes : T → ℕ) (view : T → PortView) (made_by : S → T → (ℕ → List Job) → List Reply → Type 0) (called : T → List (List Job) → Type 0) where
   -- the posts, where the jobs that waited and the replies are those of one turn more
-  pub posts_turned : (starts : ℕ → S) (ledgers : ℕ → PortLedger) (posts : List T) (turns : List LaneTurn) (t : LaneTurn) → 1 ≤ length t.jobs → ArePosts number view made_by starts ledgers posts (calls_in turns ++ call_of t.jobs) (replies_in turns ++ t.replies)
-      → ArePosts number view made_by starts ledgers posts (calls_in (turns ++ t ∷ [])) (replies_in (turns ++ t ∷ []))
+  pub posts_turned : (starts : ℕ → S) (ledgers : ℕ → PortLedger) (posts : List T) (turns : List LaneTurn) (t : LaneTurn) → 1 ≤ length t.jobs → ArePosts number lanes view made_by called starts ledgers posts (calls_in turns ++ call_of t.jobs) (replies_in turns ++ t.replies)
+      → ArePosts number lanes view made_by called starts ledgers posts (calls_in (turns ++ t ∷ [])) (replies_in (turns ++ t ∷ []))
   posts_turned starts ledgers posts turns t some is =
-      subst (λ (l : List Reply). ArePosts number view made_by starts ledgers posts (calls_in (turns ++ t ∷ [])) l) (sym (replies_last turns t))
-      (subst (λ (l : List (List Job)). ArePosts number view made_by starts ledgers posts l (replies_in turns ++ t.replies)) (sym (calls_last turns t some)) is)
+      subst (λ (l : List Reply). ArePosts number lanes view made_by called starts ledgers posts (calls_in (turns ++ t ∷ [])) l) (sym (replies_last turns t))
+      (subst (λ (l : List (List Job)). ArePosts number lanes view made_by called starts ledgers posts l (replies_in turns ++ t.replies)) (sym (calls_last turns t some)) is)
 
   -- where no job waits
-  pub posts_none : (starts : ℕ → S) (ledgers : ℕ → PortLedger) (posts : List T) (calls : List (List Job)) (waiting : List Job) (replies : List Reply) → waiting ≡ [] → ArePosts number view made_by starts ledgers posts (calls ++ call_of waiting) replies
-      → ArePosts number view made_by starts ledgers posts calls replies
-  posts_none starts ledgers posts calls waiting replies none is = subst (λ (l : List (List Job)). ArePosts number view made_by starts ledgers posts l replies) (ap (λ (l : List Job). calls ++ call_of l) none ∙ append-nil calls) is
+  pub posts_none : (starts : ℕ → S) (ledgers : ℕ → PortLedger) (posts : List T) (calls : List (List Job)) (waiting : List Job) (replies : List Reply) → waiting ≡ [] → ArePosts number lanes view made_by called starts ledgers posts (calls ++ call_of waiting) replies
+      → ArePosts number lanes view made_by called starts ledgers posts calls replies
+  posts_none starts ledgers posts calls waiting replies none is = subst (λ (l : List (List Job)). ArePosts number lanes view made_by called starts ledgers posts l replies) (ap (λ (l : List Job). calls ++ call_of l) none ∙ append-nil calls) is
 
   -- posts that have done nothing
-  pub posts_begin : (starts : ℕ → S) (ledgers : ℕ → PortLedger) (posts : List T) → ((i : ℕ) (post : T) → slice_get posts i ≡ Some post → number post ≡ i) → ((i : ℕ) (post : T) → slice_get posts i ≡ Some post → Continues (ledgers i) (view post).ledger)
-      → ((i : ℕ) (post : T) → slice_get posts i ≡ Some post → made_by (starts i) post [] []) → ArePosts number view made_by starts ledgers posts [] []
-  posts_begin starts ledgers posts numbered heard made = record {
-    each = λ i post e. record { numbered = numbered i post e; continues = heard i post e; made = made i post e };
+  pub posts_begin : (starts : ℕ → S) (ledgers : ℕ → PortLedger) (posts : List T) → ((start : S) (e : T) → made_by start e (λ lane. []) [] → called e []) → ((i : ℕ) (post : T) → slice_get posts i ≡ Some post → number post ≡ i) → ((i : ℕ) (post : T) → slice_get posts i ≡ Some post → lanes post ≡ 1) → ((i : ℕ) (post : T) → slice_get posts i ≡ Some post → Continues (ledgers i) (view post).ledger)
+      → ((i : ℕ) (post : T) → slice_get posts i ≡ Some post → made_by (starts i) post (λ lane. []) []) → ArePosts number lanes view made_by called starts ledgers posts [] []
+  posts_begin starts ledgers posts none numbered laned heard made = record {
+    each = λ i post e. record {
+      numbered = numbered i post e;
+      laned = laned i post e;
+      continues = heard i post e;
+      made = subst (λ (f : ℕ → List Job). made_by (starts i) post f []) (sym none_of_one) (made i post e);
+      answered = none (starts i) post (made i post e);
+    };
     placed = tt;
   }
 

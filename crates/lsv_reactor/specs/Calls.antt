@@ -1,12 +1,8 @@
--- What the calls of posts gave, each all at once, and whose it was.
+-- What the calls of endpoints put, those of each call together, and whose it was.
 use Rattle.std.specs.Prelude.{◌<◌, ◌==◌, if◌then◌else◌, ℕ, Bool, false, List, [], ◌∷◌, flat_map, map}
 use Rattle.lsv_session.specs.declared.job.Job.{Job}
-use Rattle.lsv_session.specs.declared.reply.Reply.{Reply}
-use Rattle.lsv_links.specs.Lanes.{one_lane}
-use Rattle.lsv_links.specs.Links.{ServesPort}
 use Rattle.lsv_links.specs.Turns.{AreOf}
-use Rattle.lsv_links.specs.Views.{PortView}
-use Rattle.lsv_turn.specs.Turns.{AreAsked, LaneTurn}
+use Rattle.lsv_turn.specs.Turns.{LaneTurn}
 
 -- the call that gave these jobs, if it gave any
 abbrev pub call_of : List Job → List (List Job)
@@ -36,7 +32,3 @@ pub record IsCall (places : ℕ) (jobs : List Job) : Type 0 where
   pub worker : ℕ
   pub place : worker < places
   pub own : AreOf worker jobs
-
--- a post with this number served its port, by what its calls gave and the replies that it took
-abbrev pub Serves : (number : ℕ) (gave : List (List Job)) (took : List Reply) → PortView → PortView → Type 0
-Serves number gave took old new = ServesPort (λ lane. AreAsked (jobs_by gave) took) 1 number (λ lane. one_lane lane (jobs_by gave)) (λ lane. one_lane lane took) old new

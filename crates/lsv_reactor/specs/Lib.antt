@@ -1,3 +1,4 @@
 pub mod Calls
+pub mod Endpoints
 pub mod Served
 pub mod InnerLoop

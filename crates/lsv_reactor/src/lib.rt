@@ -3,9 +3,9 @@
 #![tactic(auto)]
 
 mod deliver;
-mod post;
+mod endpoint;
 mod rounds;
 mod visit;
 
-pub use post::{Post, PostEnd};
+pub use endpoint::{Endpoint, EndpointEnd};
 pub use rounds::{PortsEnd, serve};

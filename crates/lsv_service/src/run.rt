@@ -16,7 +16,7 @@ use lsv_hook::LineWriter;
 use lsv_keeper::StoreFault;
 use lsv_lane::{Bay, StoreLane};
 use lsv_mask::Search;
-use lsv_reactor::{PortsEnd, Post, serve};
+use lsv_reactor::{Endpoint, PortsEnd, serve};
 use lsv_turn::{Lane, Tape};
 use std::alloc::Global;
 
@@ -42,10 +42,11 @@ fn unopened(fault: StoreFault) -> End
 }
 
 /// Each post begins to take links. False where one can't.
-fn open_all<T: Post>(posts: &mut [T], site: &Site<'_>) -> bool
-    requires posts { (starts : ℕ → T.Start) × ((i : ℕ) (post : T) → slice_get posts.old i ≡ Some post → T.made_by (starts i) post [] []) }
+fn open_all<T: Endpoint>(posts: &mut [T], site: &Site<'_>) -> bool
+    requires posts { (starts : ℕ → T.Start) × ((i : ℕ) (post : T) → slice_get posts.old i ≡ Some post → T.made_by (starts i) post (λ lane. []) []) }
     ensures numbered { ((i : ℕ) (post : T) → slice_get posts.old i ≡ Some post → T.number post ≡ i) → (i : ℕ) (post : T) → slice_get posts.new i ≡ Some post → T.number post ≡ i }
-    ensures made { (starts : ℕ → T.Start) → ((i : ℕ) (post : T) → slice_get posts.old i ≡ Some post → T.made_by (starts i) post [] []) → (i : ℕ) (post : T) → slice_get posts.new i ≡ Some post → T.made_by (starts i) post [] [] }
+    ensures lanes { ((i : ℕ) (post : T) → slice_get posts.old i ≡ Some post → T.lanes post ≡ 1) → (i : ℕ) (post : T) → slice_get posts.new i ≡ Some post → T.lanes post ≡ 1 }
+    ensures made { (starts : ℕ → T.Start) → ((i : ℕ) (post : T) → slice_get posts.old i ≡ Some post → T.made_by (starts i) post (λ lane. []) []) → (i : ℕ) (post : T) → slice_get posts.new i ≡ Some post → T.made_by (starts i) post (λ lane. []) [] }
     ensures asked { T.tells → ListenAt T.view (record { address = site.now.address.now; stop_after = site.now.stop_after }) posts.old posts.new }
     ensures count { length posts.new ≡ length posts.old }
 {
@@ -59,17 +60,18 @@ fn open_all<T: Post>(posts: &mut [T], site: &Site<'_>) -> bool
 }
 
 /// Serves what comes at these posts by turns of an open lane, and gives back what the lane worked with.
-fn serve_lane<T: Post, D: Disk, C: Clock, G: Tape, F: LineWriter + Drop, H: Search + Drop>(
+fn serve_lane<T: Endpoint, D: Disk, C: Clock, G: Tape, F: LineWriter + Drop, H: Search + Drop>(
     alloc: Global,
     posts: &mut [T],
     lane: StoreLane<D, C, G, F, H>,
 ) -> (Bay<D, C, G>, End)
     requires numbered { (i : ℕ) (post : T) → slice_get posts.old i ≡ Some post → T.number post ≡ i }
-    requires posts { (starts : ℕ → T.Start) × ((i : ℕ) (post : T) → slice_get posts.old i ≡ Some post → T.made_by (starts i) post [] []) }
+    requires lanes { (i : ℕ) (post : T) → slice_get posts.old i ≡ Some post → T.lanes post ≡ 1 }
+    requires posts { (starts : ℕ → T.Start) × ((i : ℕ) (post : T) → slice_get posts.old i ≡ Some post → T.made_by (starts i) post (λ lane. []) []) }
     requires lane { (start : Begun D G) × ⟦<StoreLane<D, C, G, F, H> as Lane>⟧.made_by start lane [] }
-    ensures runs { (starts : ℕ → T.Start) (start : Begun D G) → ((i : ℕ) (post : T) → slice_get posts.old i ≡ Some post → T.made_by (starts i) post [] []) → ⟦<StoreLane<D, C, G, F, H> as Lane>⟧.made_by start lane [] →
+    ensures runs { (starts : ℕ → T.Start) (start : Begun D G) → ((i : ℕ) (post : T) → slice_get posts.old i ≡ Some post → T.made_by (starts i) post (λ lane. []) []) → ⟦<StoreLane<D, C, G, F, H> as Lane>⟧.made_by start lane [] →
         (turns : List LaneTurn) × RunsStore D.tells G.tells start.set start.texts (D.view start.disk) (D.view result.0.disk) (G.turns start.tape) (G.turns result.0.tape) result.1 turns
-        × ((end : PortsEnd) → result.1 ≡ End.Over end → ServesAll T.tells D.tells T.made_by T.begun T.view starts posts.new turns end) × (result.1 ≡ End.NoMem → PutsAll T.tells T.begun T.view starts posts.new turns) }
+        × ((end : PortsEnd) → result.1 ≡ End.Over end → ServesAll T.tells D.tells T.made_by T.called T.begun T.view starts posts.new turns end) × (result.1 ≡ End.NoMem → PutsAll T.tells T.begun T.view starts posts.new turns) }
     ensures ports { KeepPorts T.view posts.old posts.new }
     ensures opened { (fault : StoreFault) → result.1 ≡ End.Store fault → ⊥ }
     ensures places { D.tells → (start : Begun D G) → ⟦<StoreLane<D, C, G, F, H> as Lane>⟧.made_by start lane [] → (D.view result.0.disk).places ≡ (D.view start.disk).places }
@@ -88,7 +90,7 @@ fn serve_lane<T: Post, D: Disk, C: Clock, G: Tape, F: LineWriter + Drop, H: Sear
 /// memory the jobs of the turns are the first of what was read of the links, and nothing was put on a link but prefixes of the
 /// answers by the turns made.
 pub fn serve_store<
-    T: Post,
+    T: Endpoint,
     D: Disk,
     C: Clock,
     G: Tape,
@@ -105,10 +107,11 @@ pub fn serve_store<
 ) -> (Bay<D, C, G>, End)
     requires fresh { D.tells → IsFresh 0 1 (D.view bay.disk) }
     requires numbered { (i : ℕ) (post : T) → slice_get posts.old i ≡ Some post → T.number post ≡ i }
-    requires posts { (starts : ℕ → T.Start) × ((i : ℕ) (post : T) → slice_get posts.old i ≡ Some post → T.made_by (starts i) post [] []) }
-    ensures runs { (starts : ℕ → T.Start) → ((i : ℕ) (post : T) → slice_get posts.old i ≡ Some post → T.made_by (starts i) post [] []) →
+    requires lanes { (i : ℕ) (post : T) → slice_get posts.old i ≡ Some post → T.lanes post ≡ 1 }
+    requires posts { (starts : ℕ → T.Start) × ((i : ℕ) (post : T) → slice_get posts.old i ≡ Some post → T.made_by (starts i) post (λ lane. []) []) }
+    ensures runs { (starts : ℕ → T.Start) → ((i : ℕ) (post : T) → slice_get posts.old i ≡ Some post → T.made_by (starts i) post (λ lane. []) []) →
         (turns : List LaneTurn) × RunsStore D.tells G.tells (lane_settings 0 1 plan.formatter.kind plan.log_exit) plan.texts (D.view bay.disk) (D.view result.0.disk) (G.turns bay.tape) (G.turns result.0.tape) result.1 turns
-        × ((end : PortsEnd) → result.1 ≡ End.Over end → ServesAll T.tells D.tells T.made_by T.begun T.view starts posts.new turns end)
+        × ((end : PortsEnd) → result.1 ≡ End.Over end → ServesAll T.tells D.tells T.made_by T.called T.begun T.view starts posts.new turns end)
         × LeavesPorts T.tells T.begun T.view starts (record { address = site.now.address.now; stop_after = site.now.stop_after }) posts.old posts.new turns result.1 }
     ensures cause { HasEndCause D.tells (D.view bay.disk) (D.view result.0.disk) result.1 }
     ensures places { D.tells → (D.view result.0.disk).places ≡ (D.view bay.disk).places }

@@ -4,4 +4,4 @@ use Rattle.lsv_turn.specs.declared.mem.KeptTurn.{KeptTurn}
 
 -- a turn that was kept, as the tape tells it
 abbrev pub turn_of : KeptTurn → TapeTurn
-turn_of t = record { now = t.now; jobs = t.jobs }
+turn_of t = record { now = t.now; jobs = t.jobs; gap = t.gap }

@@ -1,5 +1,5 @@
 -- The turns of a lane: what came in each, at which moment, and what was replied.
-use Rattle.std.specs.Prelude.{◌≡◌, ◌&&◌, ◌++◌, Bool, true, false, not, List, [], ◌∷◌, map}
+use Rattle.std.specs.Prelude.{◌≡◌, ◌≤◌, ◌<◌, ◌+◌, ◌&&◌, ◌++◌, ℕ, Bool, true, false, not, List, [], ◌∷◌, Option, Some, length, map}
 use Rattle.std.specs.List.{flat_map, list_any}
 use Rattle.lsv_base.specs.declared.time.TimeSpec.{TimeSpec}
 use Rattle.lsv_session.specs.Connections.{same}
@@ -14,20 +14,22 @@ use Rattle.lsv_session.specs.declared.reply.ReplyBody.TheVariants.{Say, Shut}
 
 -- ---- A turn
 
--- what a tape tells of a turn: its moment, and its jobs in order
+-- what a tape tells of a turn: its moment, its jobs in order, and how many jobs its lane had taken at the empty pop that ended it, if one did
 pub record TapeTurn : Type 0 where
   pub now : TimeSpec
   pub jobs : List Job
+  pub gap : Option ℕ
 
--- a turn: its moment, its jobs, and the replies, in order
+-- a turn: its moment, its jobs, how many jobs its lane had taken at the empty pop that ended it, if one did, and the replies, in order
 pub record LaneTurn : Type 0 where
   pub now : TimeSpec
   pub jobs : List Job
+  pub gap : Option ℕ
   pub replies : List Reply
 
 -- what a tape tells of it
 abbrev pub taped : LaneTurn → TapeTurn
-taped t = record { now = t.now; jobs = t.jobs }
+taped t = record { now = t.now; jobs = t.jobs; gap = t.gap }
 
 -- what a tape tells of these turns
 abbrev pub all_taped : List LaneTurn → List TapeTurn
@@ -40,6 +42,20 @@ jobs_in turns = flat_map (λ t. t.jobs) turns
 -- their replies
 abbrev pub replies_in : List LaneTurn → List Reply
 replies_in turns = flat_map (λ t. t.replies) turns
+
+-- ---- How large turns are
+
+-- A turn has 1 to 256 jobs. One of fewer was ended by an empty pop, whose place is the number of jobs through its last.
+-- before: how many jobs the lane had taken before
+pub record IsTurn (before : ℕ) (t : LaneTurn) : Type 0 where
+  pub some : 1 ≤ length t.jobs
+  pub most : length t.jobs ≤ 256
+  pub gap : length t.jobs < 256 → t.gap ≡ Some (before + length t.jobs)
+
+-- each of these turns is so, in order
+abbrev pub AreTurns : ℕ → List LaneTurn → Type 0
+AreTurns before [] = Unit {0}
+AreTurns before (t ∷ turns) = IsTurn before t × AreTurns (before + length t.jobs) turns
 
 -- ---- Shut
 

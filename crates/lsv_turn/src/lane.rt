@@ -3,6 +3,7 @@ ghost use Rattle.lsv_base.specs.Time.{nanos_of};
 ghost use Rattle.lsv_turn.specs.Turns.{AreAskedIn, LaneTurn};
 
 use lsv_base::{NoMem, TimeSpec};
+use lsv_queue::Gap;
 use lsv_session::{Job, Reply};
 
 /// What does the turns of a lane. A turn has jobs of many connections, and gives replies.
@@ -19,14 +20,19 @@ pub trait Lane {
     /// These turns, from this start on, made the lane what it is.
     ghost made_by: { Start → Self → List LaneTurn → Type 0 };
 
-    /// Does a turn of these jobs, and gives its moment. The replies are this turn's alone. Where it is told, none is to a
-    /// connection that brought nothing, and none after the Shut of one that brings nothing after its end.
-    fn turn(&mut self, jobs: Vec<Job>, replies: &mut Vec<Reply>) -> Result<TimeSpec, NoMem>
+    /// Does a turn of these jobs, which this gap ended if one did, and gives its moment. The replies are this turn's alone. Where it
+    /// is told, none is to a connection that brought nothing, and none after the Shut of one that brings nothing after its end.
+    fn turn(
+        &mut self,
+        jobs: Vec<Job>,
+        gap: Option<Gap<Job>>,
+        replies: &mut Vec<Reply>,
+    ) -> Result<TimeSpec, NoMem>
         requires begun { (start : Start) × (turns : List LaneTurn) × made_by start self.old turns }
         ensures valid { IfOk result (λ now. IsSome (nanos_of now)) }
         ensures made { IfOk result (λ now. (start : Start) (turns : List LaneTurn) → made_by start self.old turns →
-            made_by start self.new (turns ++ record { now = now; jobs = jobs.items; replies = replies.new.items } ∷ [])) }
+            made_by start self.new (turns ++ record { now = now; jobs = jobs.items; gap = gap; replies = replies.new.items } ∷ [])) }
         ensures asked { tells → IfOk result (λ now. (start : Start) (turns : List LaneTurn) → made_by start self.old turns →
-            AreAskedIn (turns ++ record { now = now; jobs = jobs.items; replies = replies.new.items } ∷ [])) }
+            AreAskedIn (turns ++ record { now = now; jobs = jobs.items; gap = gap; replies = replies.new.items } ∷ [])) }
         ensures lost { OnErr result ((start : Start) (turns : List LaneTurn) → made_by start self.old turns → made_by start self.new turns) };
 }

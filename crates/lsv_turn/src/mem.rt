@@ -3,16 +3,18 @@ ghost use Rattle.lsv_turn.specs.Kept.{turn_of};
 
 use crate::Tape;
 use lsv_base::{List, NoMem, TimeSpec};
+use lsv_queue::Gap;
 use lsv_session::{Body, Job};
 use std::alloc::Global;
 use std::marker::Model;
 use std::mem;
 
-/// A turn that was kept.
+/// A turn that was kept. `gap` is how many jobs its lane had taken at the empty pop that ended it, if one did.
 #[derive(Debug, Drop)]
 pub struct KeptTurn {
     pub now: TimeSpec,
     pub jobs: List<Job>,
+    pub gap: Option<u64>,
 }
 
 /// A tape in memory, which tells its turns.
@@ -56,15 +58,26 @@ impl Tape for MemTape {
         Ok(())
     }
 
-    fn keep(&mut self, _jobs: &[Job], now: TimeSpec) {
+    fn keep(&mut self, _jobs: &[Job], now: TimeSpec, gap: Option<Gap<Job>>) {
         let jobs = mem::replace(&mut self.spare, Vec::new(self.alloc));
         let turn = KeptTurn {
             now,
             jobs: List::from_vec(jobs),
+            gap: place_of(gap),
         };
         let Ok(()) = self.turns.push(turn) else {
             unreachable!();
         };
+    }
+}
+
+/// The place of a gap.
+fn place_of(gap: Option<Gap<Job>>) -> Option<u64>
+    ensures { result ≡ gap }
+{
+    match gap {
+        Some(gap) => Some(gap.at()),
+        None => None,
     }
 }
 

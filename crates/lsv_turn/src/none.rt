@@ -2,6 +2,7 @@ ghost use Rattle.std.specs.Prelude.{[]};
 
 use crate::Tape;
 use lsv_base::{NoMem, TimeSpec};
+use lsv_queue::Gap;
 use lsv_session::Job;
 
 /// No tape: it keeps nothing, and tells nothing.
@@ -19,5 +20,5 @@ impl Tape for NoTape {
         Ok(())
     }
 
-    fn keep(&mut self, _jobs: &[Job], _now: TimeSpec) {}
+    fn keep(&mut self, _jobs: &[Job], _now: TimeSpec, _gap: Option<Gap<Job>>) {}
 }

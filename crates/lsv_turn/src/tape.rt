@@ -1,6 +1,7 @@
 ghost use Rattle.std.specs.Prelude.{◌≡◌, [], ◌∷◌, ◌++◌, OnOk};
 
 use lsv_base::{NoMem, TimeSpec};
+use lsv_queue::Gap;
 use lsv_session::Job;
 
 /// What the turns of a lane are kept on.
@@ -23,8 +24,8 @@ pub trait Tape {
         ensures same { tells → turns self.new ≡ turns self.old }
         ensures ok { OnOk result (has_room self.new jobs.now) };
 
-    /// Keeps a turn of these jobs, for which there is room, at this moment. It can't fail.
-    fn keep(&mut self, jobs: &[Job], now: TimeSpec)
+    /// Keeps a turn of these jobs, for which there is room, at this moment, which this gap ended if one did. It can't fail.
+    fn keep(&mut self, jobs: &[Job], now: TimeSpec, gap: Option<Gap<Job>>)
         requires room { has_room self.old jobs.now }
-        ensures kept { tells → turns self.new ≡ turns self.old ++ record { now = now; jobs = jobs.now } ∷ [] };
+        ensures kept { tells → turns self.new ≡ turns self.old ++ record { now = now; jobs = jobs.now; gap = gap } ∷ [] };
 }

@@ -2,6 +2,7 @@
 
 use lsv_base::{Bytes, NoMem, TimeSpec};
 use lsv_msg::{ClientMessage, ServerMessage};
+use lsv_queue::Gap;
 use lsv_session::{Body, ConnId, Job, Reply, ReplyBody};
 use lsv_turn::Lane;
 use std::alloc::Global;
@@ -81,7 +82,12 @@ impl Lane for Answering {
 
     ghost made_by = { λ _ _ _. Unit {0} };
 
-    fn turn(&mut self, jobs: Vec<Job>, replies: &mut Vec<Reply>) -> Result<TimeSpec, NoMem> {
+    fn turn(
+        &mut self,
+        jobs: Vec<Job>,
+        _gap: Option<Gap<Job>>,
+        replies: &mut Vec<Reply>,
+    ) -> Result<TimeSpec, NoMem> {
         for job in &jobs {
             self.judge(job, replies)?;
         }

@@ -9,10 +9,10 @@ use crate::ports::links;
 use crate::words::shown;
 use anyhow::{Result, anyhow};
 use lsv_base::NoMem;
-use lsv_endpoint::WorkerPost;
+use lsv_endpoint::WorkerEndpoint;
 use lsv_msg::ClientMessage;
 use lsv_port::{MemPort, Step};
-use lsv_reactor::{PortsEnd, Post, serve};
+use lsv_reactor::{Endpoint, PortsEnd, serve};
 use lsv_session::{Body, Job};
 use lsvt_doubles::Watched;
 use std::alloc::Global;
@@ -28,12 +28,13 @@ pub struct Played {
     end: PortsEnd,
 }
 
-/// A post over a port, of number 0.
-fn post_of(alloc: Global, port: Watched) -> Result<WorkerPost<Watched>, NoMem>
-    ensures made { IfOk result (λ post. ⟦<WorkerPost<Watched> as Post>⟧.made_by (view_by (λ p. port_state p.port) (λ p. port_ledger p.port) port) post [] []) }
-    ensures number { IfOk result (λ post. ⟦<WorkerPost<Watched> as Post>⟧.number post ≡ 0) }
+/// An endpoint over a port, of number 0, whose jobs go to one lane.
+fn post_of(alloc: Global, port: Watched) -> Result<WorkerEndpoint<Watched>, NoMem>
+    ensures made { IfOk result (λ post. ⟦<WorkerEndpoint<Watched> as Endpoint>⟧.made_by (view_by (λ p. port_state p.port) (λ p. port_ledger p.port) port) post (λ lane. []) []) }
+    ensures number { IfOk result (λ post. ⟦<WorkerEndpoint<Watched> as Endpoint>⟧.number post ≡ 0) }
+    ensures lanes { IfOk result (λ post. ⟦<WorkerEndpoint<Watched> as Endpoint>⟧.lanes post ≡ 1) }
 {
-    match WorkerPost::new(alloc, 0, port) {
+    match WorkerEndpoint::new(alloc, 0, 1, port) {
         Ok(post) => Ok(post),
         Err(_) => Err(NoMem),
     }

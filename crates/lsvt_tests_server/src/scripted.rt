@@ -1,11 +1,12 @@
-//! A post whose messages are fixed beforehand, and a clock that stands still.
+//! An endpoint whose messages are fixed beforehand, and a clock that stands still.
 
 ghost use Rattle.lsvt_tests_server.specs.Nothing.{no_port};
 
 use lsv_base::{Clock, TimeSpec};
-use lsv_reactor::{Post, PostEnd};
+use lsv_reactor::{Endpoint, EndpointEnd};
 use lsv_service::{Notices, Site};
 use lsv_session::{Body, ConnId, Job, Reply, ReplyBody};
+use lsv_worker::Inbox;
 
 /// A clock that stands still.
 #[derive(Drop)]
@@ -43,7 +44,7 @@ pub(crate) struct Scripted {
     pub is_shut: bool,
 }
 
-impl Post for Scripted {
+impl Endpoint for Scripted {
     ghost tells = { ⊥ };
 
     ghost Start = { Unit {0} };
@@ -54,23 +55,31 @@ impl Post for Scripted {
 
     ghost number = { λ p. p.number };
 
+    ghost lanes = { λ _. 1 };
+
     ghost made_by = { λ _ _ _ _. Unit {0} };
+
+    ghost called = { λ _ _. Unit {0} };
 
     fn open(&mut self, _address: &str, _stop_after: Option<u32>) -> bool {
         true
     }
 
-    fn wait(&mut self, jobs: &mut Vec<Job>) {
+    fn wait<I: Inbox>(&mut self, inbox: &mut I) {
         if let Some(body) = self.bodies.pop() {
             let conn = ConnId {
                 worker: self.number,
                 seq: 1,
             };
-            let _ = jobs.push(Job { conn, body });
+            let _ = inbox.put(0, Job { conn, body });
         }
     }
 
-    fn push(&mut self, _jobs: &mut Vec<Job>) {}
+    fn push<I: Inbox>(&mut self, _inbox: &mut I) {}
+
+    fn waits(&self) -> bool {
+        true
+    }
 
     fn take(&mut self, reply: Reply) {
         match reply.body {
@@ -79,9 +88,9 @@ impl Post for Scripted {
         }
     }
 
-    fn end(&self) -> Option<PostEnd> {
+    fn end(&self) -> Option<EndpointEnd> {
         if self.bodies.is_empty() && self.is_shut {
-            return Some(PostEnd::Stopped);
+            return Some(EndpointEnd::Stopped);
         }
         None
     }
@@ -89,4 +98,6 @@ impl Post for Scripted {
     fn stop(&mut self) {
         self.bodies.clear();
     }
+
+    ghost none_called = { λ _ _ _. tt };
 }

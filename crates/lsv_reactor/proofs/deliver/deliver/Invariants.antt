@@ -10,5 +10,5 @@ abbrev pub invariant-loop-reply : goal.invariant-loop-reply
 invariant-loop-reply g l = record {
   items : l.yielded ++ into_iter_items l.reply-iterator ≡ l.fn.replies.items;
   counted : into_iter_len l.reply-iterator ≡ length (into_iter_items l.reply-iterator);
-  took : (starts : ℕ → g.T.Post.Start) (ledgers : ℕ → PortLedger) (calls : List (List Job)) (took : List Reply) → ArePosts g.T.Post.number g.T.Post.view g.T.Post.made_by starts ledgers l.fn.posts calls took → ArePosts g.T.Post.number g.T.Post.view g.T.Post.made_by starts ledgers l.posts calls (took ++ l.yielded);
+  took : (starts : ℕ → g.T.Endpoint.Start) (ledgers : ℕ → PortLedger) (calls : List (List Job)) (took : List Reply) → ArePosts g.T.Endpoint.number g.T.Endpoint.lanes g.T.Endpoint.view g.T.Endpoint.made_by g.T.Endpoint.called starts ledgers l.fn.posts calls took → ArePosts g.T.Endpoint.number g.T.Endpoint.lanes g.T.Endpoint.view g.T.Endpoint.made_by g.T.Endpoint.called starts ledgers l.posts calls (took ++ l.yielded);
 }

@@ -17,7 +17,7 @@ returns-in-Ok-clause-runs g c = λ starts start made lane.
         taped = λ told. c.into_bay.ensures.taped told start r.0 r.1;
         keeps = λ told. c.into_bay.ensures.kept told start r.0 r.1;
       },
-      λ end over. subst (λ (e : PortsEnd). ServesAll g.T.Post.tells g.D.Disk.tells g.T.Post.made_by g.T.Post.begun g.T.Post.view starts c.serve.new.posts r.0 e) (same_end c.in-Ok.end end over) r.3,
+      λ end over. subst (λ (e : PortsEnd). ServesAll g.T.Endpoint.tells g.D.Disk.tells g.T.Endpoint.made_by g.T.Endpoint.called g.T.Endpoint.begun g.T.Endpoint.view starts c.serve.new.posts r.0 e) (same_end c.in-Ok.end end over) r.3,
       λ wants. absurd (cc),
     )
 

@@ -10,7 +10,7 @@ returns-in-Err-clause-runs g c = λ starts made. rw c.unopened-end.ensures (
   runs_unopened g.D.Disk.tells g.G.Tape.tells (lane_settings 0 1 c.args.plan.formatter.kind c.args.plan.log_exit) c.args.plan.texts (g.D.Disk.view c.args.bay.disk) (g.D.Disk.view c.in-Err.failed.bay.disk) (g.G.Tape.turns c.args.bay.tape) (g.G.Tape.turns c.in-Err.failed.bay.tape)
       c.in-Err.failed.fault (ap g.G.Tape.turns c.in-Err.ensures.tape) c.in-Err.ensures.store c.in-Err.ensures.entry,
   λ end over. absurd (not_over c.in-Err.failed.fault end over),
-  keeps_ports g.T.Post.tells g.T.Post.begun g.T.Post.view starts (record { address = c.args.site.now.address.now; stop_after = c.args.site.now.stop_after }) c.args.posts.now c.in-Err.failed.fault,
+  keeps_ports g.T.Endpoint.tells g.T.Endpoint.begun g.T.Endpoint.view starts (record { address = c.args.site.now.address.now; stop_after = c.args.site.now.stop_after }) c.args.posts.now c.in-Err.failed.fault,
 )
 
 pub returns-in-Err-clause-cause : goal.returns-in-Err-clause-cause
@@ -27,8 +27,8 @@ returns-after-open_all-clause-runs g c = λ starts made.
       r.0,
       r.1,
       r.2,
-      leaves_ports g.T.Post.tells g.T.Post.begun g.T.Post.view starts asked c.args.posts.now c.serve_lane.new.posts r.0 c.serve_lane.result.1 c.serve_lane.ensures.opened
-          (λ told. listen_on g.T.Post.view asked c.args.posts.now c.open_all.new.posts c.serve_lane.new.posts c.open_all.ensures.count (c.open_all.ensures.asked told) c.serve_lane.ensures.ports) r.3,
+      leaves_ports g.T.Endpoint.tells g.T.Endpoint.begun g.T.Endpoint.view starts asked c.args.posts.now c.serve_lane.new.posts r.0 c.serve_lane.result.1 c.serve_lane.ensures.opened
+          (λ told. listen_on g.T.Endpoint.view asked c.args.posts.now c.open_all.new.posts c.serve_lane.new.posts c.open_all.ensures.count (c.open_all.ensures.asked told) c.serve_lane.ensures.ports) r.3,
     )
 
 pub returns-after-open_all-clause-places : goal.returns-after-open_all-clause-places
@@ -38,3 +38,6 @@ returns-after-open_all-clause-places g c = λ told.
 pub returns-after-open_all-clause-fresh_again : goal.returns-after-open_all-clause-fresh_again
 returns-after-open_all-clause-fresh_again g c = λ told.
     c.serve_lane.ensures.fresh told (record { set = lane_settings 0 1 c.args.plan.formatter.kind c.args.plan.log_exit; texts = c.args.plan.texts; disk = c.args.bay.disk; tape = c.args.bay.tape }) c.in-Ok.ensures.made
+
+pub serve_lane-requires-clause-lanes : goal.serve_lane-requires-clause-lanes
+serve_lane-requires-clause-lanes g c = c.open_all.ensures.lanes c.requires.lanes

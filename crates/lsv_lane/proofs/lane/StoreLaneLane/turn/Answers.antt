@@ -24,7 +24,7 @@ turn-requires-clause-rests g c = roomier_rests _ _ c.ready.ensures.same c.requir
 
 pub returns-clause-made : goal.returns-clause-made
 returns-clause-made g c = λ start turns made.
-    let t : LaneTurn = record { now = c.now-now.result; jobs = c.args.jobs.items; replies = c.turn.new.out.items } in
+    let t : LaneTurn = record { now = c.now-now.result; jobs = c.args.jobs.items; gap = c.args.gap; replies = c.turn.new.out.items } in
     let base : IsMade g.D.Disk.tells g.G.Tape.tells start.set start.texts (g.D.Disk.view start.disk) (g.D.Disk.view c.args.self.now.bay.disk) (view_of c.ready.new.self) (g.G.Tape.turns start.tape) (g.G.Tape.turns c.room.new.self) turns =
     made_taped g.D.Disk.tells g.G.Tape.tells start.set start.texts (g.D.Disk.view start.disk) (g.G.Tape.turns start.tape) _ _ _ _ turns c.room.ensures.same
     (made_roomier g.D.Disk.tells g.G.Tape.tells start.set start.texts (g.D.Disk.view start.disk) (g.G.Tape.turns start.tape) _ _ _ _ turns c.ready.ensures.same made) in
@@ -35,7 +35,7 @@ returns-clause-made g c = λ start turns made.
 
 pub returns-clause-asked : goal.returns-clause-asked
 returns-clause-asked g c = λ told start turns made.
-    let t : LaneTurn = record { now = c.now-now.result; jobs = c.args.jobs.items; replies = c.turn.new.out.items } in
+    let t : LaneTurn = record { now = c.now-now.result; jobs = c.args.jobs.items; gap = c.args.gap; replies = c.turn.new.out.items } in
     let base : IsMade g.D.Disk.tells g.G.Tape.tells start.set start.texts (g.D.Disk.view start.disk) (g.D.Disk.view c.args.self.now.bay.disk) (view_of c.ready.new.self) (g.G.Tape.turns start.tape) (g.G.Tape.turns c.room.new.self) turns =
     made_taped g.D.Disk.tells g.G.Tape.tells start.set start.texts (g.D.Disk.view start.disk) (g.G.Tape.turns start.tape) _ _ _ _ turns c.room.ensures.same
     (made_roomier g.D.Disk.tells g.G.Tape.tells start.set start.texts (g.D.Disk.view start.disk) (g.G.Tape.turns start.tape) _ _ _ _ turns c.ready.ensures.same made) in

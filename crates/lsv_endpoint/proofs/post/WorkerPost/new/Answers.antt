@@ -1,6 +1,0 @@
-use Rattle.std.proofs.Common.{refl}
-use Rattle.lsv_endpoint.proofs.CallLemmas.{begins}
-use Rattle.lsv_endpoint.proofs.post.WorkerPost.new.Goals as goal
-
-pub returns-clause-made : goal.returns-clause-made
-returns-clause-made g c = begins g.P.Port.tells g.P.Port.state g.P.Port.ledger _ c.args.number c.in-Ok.ensures.fit c.in-Ok.ensures.set c.in-Ok.ensures.links c.in-Ok-new.ensures.empty c.in-Ok-new.ensures.worker c.in-Ok-new.ensures.orderly refl c.requires.idle
