@@ -15,16 +15,15 @@ use Rattle.lsv_service.specs.Runs.{IsUp}
 use Rattle.lsv_service.specs.declared.run.End.TheVariants as up
 use Rattle.lsv_service.proofs.CompleteLemmas.{completes}
 use Rattle.lsv_load.specs.Runs.{RunsLoad, view_of}
-use Rattle.lsv_load.specs.Whole.{SumsUpAll}
 use Rattle.lsv_load.specs.declared.run.LoadEnd.{LoadEnd}
 use Rattle.lsv_load.specs.declared.run.LoadEnd.TheVariants as ends
 use Rattle.lsv_serve.specs.declared.status.Status.{Status}
 use Rattle.lsv_serve.specs.declared.status.Status.TheVariants.{NoUpstream, Pending, Served, Usage, Conf, Store, ReadFault, WriteFault, PortFault, NoMem}
 use Rattle.lsv_serve.specs.Causes.{HasPlaces, HasPlacesAt, MayServeAgain}
 use Rattle.lsv_serve.specs.Load.{CompletesLoad, HasLoadCause, LoadsAs, LoadsBy, LoadsTo, OfSummary, TellsLoad, while_up}
-use Rattle.lsv_serve.specs.Once.{once_settings}
+use Rattle.lsv_once.specs.Once.{once_settings}
 use Rattle.lsv_serve.specs.Program.{lines_in, machine_of, prompts_of, set_by}
-use Rattle.lsv_serve.specs.World.{World}
+use Rattle.lsv_once.specs.World.{World}
 use Rattle.lsv_serve.proofs.ProgramLemmas.{Unread}
 use Rattle.lsv_serve.proofs.ServeLemmas.{idle_store}
 use Rattle.lsv_serve.proofs.StartLemmas.{alone_same, fit_kept, fits_after, keeps_nothing, may_serve_still}

@@ -1,96 +1,89 @@
--- A run of `once`: by a lane over its store, or with settings that weren't read.
-use Rattle.std.proofs.Common.{◌≡◌, ◌⊎◌, inl, inr, ◌++◌, ◌∷◌, [], List, map, ℕ, Bool, true, false, Option, ap, subst, ◌∙◌, append-nil}
-use Rattle.std.proofs.lemmas.List.{map-append}
-use Rattle.lsv_disk.specs.View.{Image, IsCrashImage}
-use Rattle.lsv_session.specs.Transcript.{said_to}
+-- A run of `once`: its cause and its places by its status, and one whose settings weren't read.
+use Rattle.std.proofs.Common.{◌≡◌, inl, inr, List, ℕ, Option, None, Some, refl, sym, ap, subst, ◌∙◌}
+use Rattle.std.specs.Option.{option_map}
+use Rattle.lsv_conf.specs.Lines.{Placed, first_refused}
+use Rattle.lsv_conf.specs.Settings.{told}
+use Rattle.lsv_defs.specs.Causes.{HasRisen}
+use Rattle.lsv_disk.specs.View.{DiskView, Image, IsCrashImage}
 use Rattle.lsv_machine.specs.Machine.{Settings}
-use Rattle.lsv_machine.specs.Recovery.{Outside}
-use Rattle.lsv_turn.specs.Turns.{LaneTurn, all_taped}
-use Rattle.lsv_lane.specs.Store.{AreAnswered, KeepsStore}
-use Rattle.lsv_service.proofs.RunLemmas.{keeps_less}
+use Rattle.lsv_once.specs.Causes.{HasOnceCause}
+use Rattle.lsv_once.specs.Once.{RunsOnce}
+use Rattle.lsv_once.specs.World.{World}
+use Rattle.lsv_once.specs.declared.once.OnceEnd.{OnceEnd}
+use Rattle.lsv_once.specs.declared.once.OnceEnd.TheVariants as ends
+use Rattle.lsv_once.proofs.CompleteLemmas.{completes}
+use Rattle.lsv_once.proofs.StoreLemmas.{runs_nothing}
 use Rattle.lsv_serve.specs.declared.status.Status.{Status}
-use Rattle.lsv_serve.specs.declared.status.Status.TheVariants.{NoUpstream, Pending, Served, Usage, Conf, Store, ReadFault, WriteFault, PortFault, NoMem}
-use Rattle.lsv_serve.specs.Causes.{HasStatusCause}
-use Rattle.lsv_serve.specs.Complete.{OnceAs}
-use Rattle.lsv_serve.specs.InnerRun.{HasReadsCause, Serves}
-use Rattle.lsv_serve.specs.Once.{IsOpened, RunsOnce}
+use Rattle.lsv_serve.specs.Causes.{HasConfCause, HasPlaces, HasPlacesAt, MayServeAgain}
+use Rattle.lsv_serve.specs.Once.{HasProgramCause, OnceAs, OnceBy, RunsFor, status_of}
 use Rattle.lsv_serve.specs.Program.{lines_in, machine_of, prompts_of, set_by}
-use Rattle.lsv_serve.specs.Tape.{EndsFor, IsGone, Leaves, Tape, TapeTurn, once_conn, replies_in, turn_of, turns_in, was_shut}
-use Rattle.lsv_serve.specs.World.{World, placed}
-use Rattle.lsv_serve.proofs.CompleteLemmas.{completes_set}
-use Rattle.lsv_serve.proofs.SilenceLemmas.{gone_silent}
-use Rattle.lsv_serve.proofs.StartLemmas.{keeps_placed, may_serve_still}
-use Rattle.lsv_serve.proofs.ProgramLemmas.{Unread, runs_idle, unread_cause, unread_nothing, unread_places, unread_used}
+use Rattle.lsv_serve.proofs.ProgramLemmas.{Unread}
+use Rattle.lsv_serve.proofs.StartLemmas.{entry_stays, keeps_nothing, may_serve_still}
 
--- ---- A run by a lane
+-- ---- Settings that were read
 
-leaves_either : (shut : Bool) (leaving : List TapeTurn) → Leaves shut leaving → (leaving ≡ []) ⊎ IsGone leaving
-leaves_either true leaving none = inl none
-leaves_either false leaving gone = inr gone
+runs_told : (set : Settings) (texts : List (List ℕ)) (old new : World) (end : OnceEnd) → RunsOnce set texts old new end → RunsFor set texts old new (status_of end)
+runs_told set texts old new ends.Served r = r
+runs_told set texts old new ends.ReadFault r = r
+runs_told set texts old new ends.WriteFault r = r
+runs_told set texts old new (ends.Store fault) r = r
+runs_told set texts old new ends.NoMem r = r
 
--- the connection made no further turn, or went in one
-leaving_is : (status : Status) (tape : Tape) → EndsFor status tape → IsOpened status tape → (tape.leaving ≡ []) ⊎ IsGone tape.leaving
-leaving_is Served tape ends opened = leaves_either (was_shut tape.reads) tape.leaving ends
-leaving_is ReadFault tape ends opened = inr ends.1
-leaving_is WriteFault tape ends opened = leaves_either (was_shut tape.reads) tape.leaving ends
-leaving_is NoMem tape ends opened = inl ends
-leaving_is PortFault tape ends opened = absurd opened
-leaving_is NoUpstream tape ends opened = absurd opened
-leaving_is (Pending left) tape ends opened = absurd opened
-leaving_is Usage tape ends opened = absurd opened
-leaving_is (Conf line) tape ends opened = absurd opened
-leaving_is (Store fault) tape ends opened = absurd opened
+cause_told : (lines : List Placed) (faults faults' : ℕ) (old new : World) (end : OnceEnd) → first_refused lines ≡ None → HasOnceCause old new end → HasProgramCause lines faults faults' old new (status_of end)
+cause_told lines faults faults' old new ends.Served none c = none
+cause_told lines faults faults' old new ends.ReadFault none c = (none, c)
+cause_told lines faults faults' old new ends.WriteFault none c = (none, c)
+cause_told lines faults faults' old new (ends.Store fault) none c = (none, c)
+cause_told lines faults faults' old new ends.NoMem none c = tt
 
--- a connection that goes is told nothing
-silent_leaving : (set : Settings) (texts : List (List ℕ)) (o : Outside) (tape : Tape) → (tape.leaving ≡ []) ⊎ IsGone tape.leaving → KeepsStore (Unit {0}) set texts o (map turn_of (turns_in tape)) → said_to once_conn (replies_in tape.leaving) ≡ []
-silent_leaving set texts o tape (inl none) k = ap (λ (l : List TapeTurn). said_to once_conn (replies_in l)) none
-silent_leaving set texts o tape (inr (t, is, gone)) k =
-    let turns : map turn_of (turns_in tape) ≡ map turn_of tape.reads ++ turn_of t ∷ [] = ap (λ (l : List TapeTurn). map turn_of (tape.reads ++ l)) is ∙ map-append turn_of tape.reads (t ∷ []) in
-    ap (λ (l : List TapeTurn). said_to once_conn (replies_in l)) is ∙ ap (said_to once_conn) (append-nil t.replies)
-    ∙ gone_silent set texts o (map turn_of tape.reads) t gone (subst (KeepsStore (Unit {0}) set texts o) turns k)
+places_told : (logs events : List ℕ) (before after : DiskView) (end : OnceEnd) → HasPlaces logs events after → HasPlacesAt logs events before after (status_of end)
+places_told logs events before after ends.Served p = p
+places_told logs events before after ends.ReadFault p = p
+places_told logs events before after ends.WriteFault p = p
+places_told logs events before after (ends.Store fault) p = p
+places_told logs events before after ends.NoMem p = inl p
 
--- a connection was served by a lane, which kept the turns on its tape and in its store
-pub runs_served : (set : Settings) (texts : List (List ℕ)) (Made : List LaneTurn → Type 0) (old new : World) (status : Status) (s : Serves Made old.wires new.wires status)
-    → (old.tape_tells → new.tape ≡ old.tape ++ all_taped (map turn_of (turns_in s.tape))) → AreAnswered set.log_exit old.disk.faults new.disk.faults (map turn_of (turns_in s.tape))
-    → (old.disk_tells → new.disk.places ≡ old.disk.places) → (old.disk_tells → KeepsStore (Unit {0}) set texts (record { found = old.disk; left = new.disk }) (map turn_of (turns_in s.tape))) → RunsOnce set texts old new status
-runs_served set texts Made old new status s taped answered places keeps = record {
-  tape = s.tape;
-  reads = s.reads;
-  puts = s.puts;
-  taped = taped;
-  answered = λ some. answered;
-  entry = λ fault e told some. absurd (subst (HasReadsCause old.wires new.wires) e s.cause);
-  keeps = λ told.
-      let k = keeps_placed (Unit {0}) set texts old.disk new.disk (map turn_of (turns_in s.tape)) (places told) (keeps told) in
-      record {
-        store = keeps_less (Unit {0}) (IsOpened status s.tape) set texts (record { found = placed old.disk new.disk; left = new.disk }) (map turn_of (turns_in s.tape)) (λ up. tt) k;
-        silent = λ opened. silent_leaving set texts (record { found = placed old.disk new.disk; left = new.disk }) s.tape (leaving_is status s.tape s.reads.ends opened) k;
-      };
-}
-
-pub cause_served : (old new : World) (status : Status) → HasReadsCause old.wires new.wires status → HasStatusCause old new status
-cause_served old new Served c = tt
-cause_served old new ReadFault c = c
-cause_served old new WriteFault c = c
-cause_served old new NoMem c = tt
-cause_served old new PortFault c = absurd c
-cause_served old new NoUpstream c = absurd c
-cause_served old new (Pending left) c = absurd c
-cause_served old new Usage c = absurd c
-cause_served old new (Conf line) c = absurd c
-cause_served old new (Store fault) c = absurd c
-
-pub served_used : (old new : World) (status : Status) → HasReadsCause old.wires new.wires status → status ≡ Usage → ⊥
-served_used old new status c is = subst (HasReadsCause old.wires new.wires) is c
+pub once_read : (found : Option (List ℕ)) (faults faults' : ℕ) (old new : World) (status : Status) → first_refused (lines_in found) ≡ None → OnceBy (set_by found).format (set_by found).log_exit (prompts_of (set_by found)) old new status
+    → (old.disk_tells → HasPlaces (set_by found).iolog_dir (set_by found).path new.disk) → (old.disk_tells → MayServeAgain old.disk new.disk) → OnceAs found faults faults' old new status
+once_read found faults faults' old new status none b places again = subst (OnceAs found faults faults' old new) (sym b.is) (record {
+  runs = runs_told (machine_of (set_by found)) (prompts_of (set_by found)) old new b.end b.run;
+  cause = cause_told (lines_in found) faults faults' old new b.end none b.cause;
+  complete = λ calm unrefused. record { end = b.end; is = refl; run = b.run; cause = b.cause; complete = b.complete };
+  places = λ told. places_told (set_by found).iolog_dir (set_by found).path old.disk new.disk b.end (places told);
+  again = again;
+})
 
 -- ---- Settings that weren't read
 
+-- the file was read, and no line of it is refused
+no_conf : (lines : List Placed) (faults faults' line : ℕ) → (HasRisen faults faults' → ⊥) → first_refused lines ≡ None → HasConfCause lines faults faults' line → ⊥
+no_conf lines faults faults' line calm none (inl (zero_is, risen)) = calm risen
+no_conf lines faults faults' line calm none (inr (some, told_is)) = let h : None ≡ Some line = sym (ap (option_map told) none) ∙ told_is in cc
+
+-- memory ran out before anything was done
+idle_run : (w : World) → (w.disk_tells → (image : Image) → w.disk.crash_images_at w.disk.moment image → IsCrashImage w.disk image) → (set : Settings) (texts : List (List ℕ)) → RunsOnce set texts w w ends.NoMem
+idle_run w only_now set texts =
+    runs_nothing set texts w w.disk w.tape ends.NoMem (inr refl) refl (λ told. refl) (λ told some. entry_stays w.disk (only_now told)) (λ told. keeps_nothing w.disk (only_now told) set texts)
+
 pub once_unread : (w : World) → (w.disk_tells → (image : Image) → w.disk.crash_images_at w.disk.moment image → IsCrashImage w.disk image) → (found : Option (List ℕ)) (faults faults' : ℕ) (status : Status) → Unread (lines_in found) faults faults' status
     → OnceAs found faults faults' w w status
-once_unread w only_now found faults faults' status u = record {
-  runs = runs_idle w only_now (machine_of (set_by found)) (prompts_of (set_by found)) status (unread_nothing (lines_in found) faults faults' status u);
-  cause = unread_cause (lines_in found) faults faults' w w status u;
-  complete = λ calm none. completes_set (lines_in found) faults faults' (set_by found).format (set_by found).log_exit (prompts_of (set_by found)) w w status (unread_used (lines_in found) faults faults' status u) calm (unread_cause (lines_in found) faults faults' w w status u) none;
-  places = λ told. unread_places (lines_in found) faults faults' (set_by found).iolog_dir (set_by found).path w.disk status u;
+once_unread w only_now found faults faults' status (inl e) = subst (OnceAs found faults faults' w w) (sym e) (record {
+  runs = idle_run w only_now (machine_of (set_by found)) (prompts_of (set_by found));
+  cause = tt;
+  complete = λ calm none. record {
+    end = ends.NoMem;
+    is = refl;
+    run = idle_run w only_now (machine_of (set_by found)) (prompts_of (set_by found));
+    cause = tt;
+    complete = completes (set_by found).format (set_by found).log_exit (prompts_of (set_by found)) w w ends.NoMem tt;
+  };
+  places = λ told. inr refl;
   again = λ told. may_serve_still w.disk;
-}
+})
+once_unread w only_now found faults faults' status (inr (line, e, c)) = subst (OnceAs found faults faults' w w) (sym e) (record {
+  runs = record { given = refl; rest = refl; put = refl; tape = refl; keeps = λ told. keeps_nothing w.disk (only_now told) (machine_of (set_by found)) (prompts_of (set_by found)) };
+  cause = c;
+  complete = λ calm none. absurd (no_conf (lines_in found) faults faults' line calm none c);
+  places = λ told. refl;
+  again = λ told. may_serve_still w.disk;
+})

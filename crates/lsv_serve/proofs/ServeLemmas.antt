@@ -28,13 +28,14 @@ use Rattle.lsv_service.specs.declared.run.End.TheVariants as ends
 use Rattle.lsv_serve.specs.declared.status.Status.{Status}
 use Rattle.lsv_serve.specs.Causes.{HasPlaces, HasPlacesAt, MayServeAgain}
 use Rattle.lsv_serve.specs.InnerServe.{nothing, port_at}
-use Rattle.lsv_serve.specs.Once.{once_settings}
+use Rattle.lsv_once.specs.Once.{once_settings}
 use Rattle.lsv_serve.specs.Program.{lines_in, listening_by, machine_of, prompts_of, set_by}
 use Rattle.lsv_service.proofs.CompleteLemmas.{completes}
 use Rattle.lsv_serve.specs.Serve.{ArePortsEnded, CompletesLinks, HasServeCause, EndsPorts, RunsAs, RunsServe, RunsTo, ServerWorld, ServesAs, told}
-use Rattle.lsv_serve.specs.World.{placed}
+use Rattle.lsv_once.specs.World.{placed}
 use Rattle.lsv_serve.proofs.ProgramLemmas.{Unread}
-use Rattle.lsv_serve.proofs.StartLemmas.{answered_unplaced, entry_before, keeps_nothing, keeps_placed, may_serve_again, may_serve_still, store_before, store_cause_before}
+use Rattle.lsv_once.proofs.StoreLemmas.{keeps_placed}
+use Rattle.lsv_serve.proofs.StartLemmas.{answered_unplaced, entry_before, keeps_nothing, may_serve_again, may_serve_still, store_before, store_cause_before}
 
 -- ---- The links
 
@@ -102,9 +103,9 @@ module _ {T : Type 0} (view : T → PortView) (old new : ServerWorld) (posts : L
       let less : i < length old.ports = subst (λ (n : ℕ). i < n) same (slice_get_within posts i post at) in
       (i, (port_at old.ports i, view post, slice_get-get_or old.ports i nothing less, subst (λ (ports : List PortView). slice_get ports i ≡ Some (view post)) is (mapped view posts i post at), failed))
 
-  served_ports : (made_by : PortView → T → List (List Job) → List Reply → Type 0) (end : PortsEnd) → ServesAll old.ports_tell old.disk_tells made_by (λ start. start) view (port_at old.ports) posts turns end
+  served_ports : (made_by : PortView → T → (ℕ → List Job) → List Reply → Type 0) (called : T → List (List Job) → Type 0) (end : PortsEnd) → ServesAll old.ports_tell old.disk_tells made_by called (λ start. start) view (port_at old.ports) posts turns end
       → old.ports_tell → ServesPorts (λ lane. old.disk_tells) 1 (λ lane. one_lane lane turns) old.ports new.ports
-  served_ports made_by end s told = record { count = counted; each = each_port Served (s.each told); known = of_lanes s.within }
+  served_ports made_by called end s told = record { count = counted; each = each_port Served (s.each told); known = of_lanes s.within }
 
   -- how they leave the ports. before: the posts as they were
   module _ (asked : Listening) (before : List T) (was : map view before ≡ old.ports) where
@@ -116,12 +117,12 @@ module _ {T : Type 0} (view : T → PortView) (old new : ServerWorld) (posts : L
     untouched : posts ≡ before → new.ports ≡ old.ports
     untouched e = sym is ∙ ap (map view) e ∙ was
 
-    pub leaves_ports : (made_by : PortView → T → List (List Job) → List Reply → Type 0) (end : End) → ((ports : PortsEnd) → end ≡ ends.Over ports → ServesAll old.ports_tell old.disk_tells made_by (λ start. start) view (port_at old.ports) posts turns ports)
+    pub leaves_ports : (made_by : PortView → T → (ℕ → List Job) → List Reply → Type 0) (called : T → List (List Job) → Type 0) (end : End) → ((ports : PortsEnd) → end ≡ ends.Over ports → ServesAll old.ports_tell old.disk_tells made_by called (λ start. start) view (port_at old.ports) posts turns ports)
         → posts_leave.LeavesPorts old.ports_tell (λ start. start) view (port_at old.ports) asked before posts turns end → ((fault : StoreFault) → end ≡ ends.Store fault → new.tape ≡ old.tape) → EndsPorts asked old new turns end
-    leaves_ports made_by (ends.Over ports) all left tape = record { listens = λ told. listened (left told); served = served_ports made_by ports (all ports refl); ended = ended_so ports (all ports refl).ended }
-    leaves_ports made_by (ends.Store fault) all left tape = (untouched left, tape fault refl)
-    leaves_ports made_by ends.NoMem all (inl (none, e)) tape = inl (record { none = none; ports = untouched e })
-    leaves_ports made_by ends.NoMem all (inr (at, put)) tape = inr (record { listens = λ told. listened (at told); served = λ told. record { count = counted; each = each_port Put (put.each told); known = of_ports put.within } })
+    leaves_ports made_by called (ends.Over ports) all left tape = record { listens = λ told. listened (left told); served = served_ports made_by called ports (all ports refl); ended = ended_so ports (all ports refl).ended }
+    leaves_ports made_by called (ends.Store fault) all left tape = (untouched left, tape fault refl)
+    leaves_ports made_by called ends.NoMem all (inl (none, e)) tape = inl (record { none = none; ports = untouched e })
+    leaves_ports made_by called ends.NoMem all (inr (at, put)) tape = inr (record { listens = λ told. listened (at told); served = λ told. record { count = counted; each = each_port Put (put.each told); known = of_ports put.within } })
 
 -- ---- A run that did nothing
 

@@ -1,8 +1,8 @@
--- The start of a run: the places that the disk is given, a store that isn't opened, and a run that did nothing.
-use Rattle.std.proofs.Common.{◌≡◌, ◌≢◌, ◌≤◌, ◌⊎◌, inl, inr, [], List, map, ℕ, Bool, Option, None, Ok, refl, sym, ap, subst, ◌∙◌, append-nil, arith}
+-- The start of a run: the places that the disk is given, and a store with which nothing was done.
+use Rattle.std.proofs.Common.{◌≡◌, ◌≢◌, ◌≤◌, inl, inr, [], List, map, ℕ, Bool, None, Ok, refl, sym, ap, subst, ◌∙◌, arith}
 use Rattle.lsv_defs.specs.Causes.{HasRisen}
 use Rattle.lsv_disk.specs.Throughout.{Jointly, Throughout}
-use Rattle.lsv_disk.specs.View.{DiskView, Image, IsCrashImage, IsLeftAlone, IsUntouched, Places}
+use Rattle.lsv_disk.specs.View.{DiskView, Image, IsCrashImage, IsLeftAlone, IsUntouched}
 use Rattle.lsv_disk.specs.declared.file.FileId.{FileId}
 use Rattle.lsv_disk.specs.declared.file.Owner.{Owner}
 use Rattle.lsv_machine.specs.Counts.{Counts}
@@ -19,22 +19,19 @@ use Rattle.lsv_event.specs.declared.event.Kind.{Kind}
 use Rattle.lsv_keeper.specs.Opening.{IsStoreFault, KeepsEntry}
 use Rattle.lsv_keeper.specs.Reading.{reading_of}
 use Rattle.lsv_keeper.specs.declared.fault.StoreFault.{StoreFault}
-use Rattle.lsv_keeper.specs.declared.fault.StoreFault.TheVariants as faults
-use Rattle.lsv_turn.specs.Turns.{LaneTurn, TapeTurn}
+use Rattle.lsv_turn.specs.Turns.{LaneTurn}
 use Rattle.lsv_iolog.specs.Recovered.{ReplaysNothing}
 use Rattle.lsv_lane.specs.Store.{AreAnswered, IsFresh, KeepsStore, OwnerFailed}
 use Rattle.lsv_lane.proofs.Conforming.{keeps_none}
 use Rattle.lsv_lane.proofs.Standing.{answered_before}
 use Rattle.lsv_service.specs.Runs.{HasStoreCause}
-use Rattle.lsv_service.proofs.RunLemmas.{keeps_less}
-use Rattle.lsv_serve.specs.declared.status.Status.{Status}
-use Rattle.lsv_serve.specs.declared.status.Status.TheVariants.{NoUpstream, Pending, Served, Usage, Conf, Store, ReadFault, WriteFault, PortFault, NoMem}
-use Rattle.lsv_serve.specs.Causes.{HasStatusCause, MayServeAgain}
-use Rattle.lsv_serve.specs.InnerRun.{store_status}
-use Rattle.lsv_serve.specs.Once.{IsOpened, RunsOnce, once_settings}
-use Rattle.lsv_serve.specs.Tape.{EndsFor, PutsFor, Tape, turn_of, turns_in}
-use Rattle.lsv_serve.specs.World.{World, placed}
-use Rattle.lsv_serve.proofs.ReadLemmas.{hello}
+use Rattle.lsv_once.specs.Causes.{HasOnceCause}
+use Rattle.lsv_once.specs.Course.{turn_of, turns_in}
+use Rattle.lsv_once.specs.Once.{IsOpened, RunsOnce, once_settings}
+use Rattle.lsv_once.specs.World.{World, placed}
+use Rattle.lsv_once.specs.declared.once.OnceEnd.{OnceEnd}
+use Rattle.lsv_once.specs.declared.once.OnceEnd.TheVariants.{Served, ReadFault, WriteFault, Store, NoMem}
+use Rattle.lsv_serve.specs.Causes.{MayServeAgain}
 
 -- ---- A disk that was left alone
 
@@ -171,14 +168,6 @@ placed_untouched old after new u = record {
   counts = record { writes = u.counts.writes; syncs = u.counts.syncs };
 }
 
--- a disk that has its places already
-placed_same : (disk left : DiskView) → left.places ≡ disk.places → disk ≡ placed disk left
-placed_same disk left e = ap (λ (p : Option Places). record disk { places = p }) (sym e)
-
-pub keeps_placed : (opened : Type 0) (set : Settings) (texts : List (List ℕ)) (disk left : DiskView) (turns : List LaneTurn) → left.places ≡ disk.places → KeepsStore opened set texts (record { found = disk; left = left }) turns
-    → KeepsStore opened set texts (record { found = placed disk left; left = left }) turns
-keeps_placed opened set texts disk left turns e k = subst (λ (d : DiskView). KeepsStore opened set texts (record { found = d; left = left }) turns) (placed_same disk left e) k
-
 -- what is said of a run from the disk with its places, is said of it from the disk before
 module _ (tells : Type 0) (found after : DiskView) (alone : IsLeftAlone tells found after) where
   failed_before : (new : DiskView) (o : Owner) → OwnerFailed o after new → OwnerFailed o found new
@@ -204,29 +193,24 @@ abbrev pub with_disk : World → DiskView → World
 with_disk w disk = record w { disk = disk }
 
 module _ (old : World) (after : DiskView) (alone : IsLeftAlone old.disk_tells old.disk after) where
-  pub cause_before : (new : World) (status : Status) → HasStatusCause (with_disk old after) new status → HasStatusCause old new status
+  pub cause_before : (new : World) (end : OnceEnd) → HasOnceCause (with_disk old after) new end → HasOnceCause old new end
   cause_before new Served c = c
-  cause_before new Usage c = c
-  cause_before new (Conf line) c = c
-  cause_before new (Store fault) c = store_cause_before old.disk_tells old.disk after alone new.disk fault c
   cause_before new ReadFault c = c
   cause_before new WriteFault c = c
-  cause_before new PortFault c = c
-  cause_before new NoUpstream c = c
-  cause_before new (Pending left) c = c
   cause_before new NoMem c = c
+  cause_before new (Store fault) c = record { memory = c.memory; is = fault_before old.disk_tells old.disk after alone fault c.is; failed = λ o e. failed_before old.disk_tells old.disk after alone new.disk o (c.failed o e) }
 
-  pub runs_before : (set : Settings) (texts : List (List ℕ)) (new : World) (status : Status) → RunsOnce set texts (with_disk old after) new status → RunsOnce set texts old new status
-  runs_before set texts new status r = record {
-    tape = r.tape;
+  pub runs_before : (set : Settings) (texts : List (List ℕ)) (new : World) (end : OnceEnd) → RunsOnce set texts (with_disk old after) new end → RunsOnce set texts old new end
+  runs_before set texts new end r = record {
+    course = r.course;
     reads = r.reads;
     puts = r.puts;
     taped = r.taped;
-    answered = λ some. answered_unplaced old.disk_tells old.disk after alone new.disk.faults set.log_exit (map turn_of (turns_in r.tape)) (r.answered some);
+    answered = λ some. answered_unplaced old.disk_tells old.disk after alone new.disk.faults set.log_exit (map turn_of (turns_in r.course)) (r.answered some);
     entry = λ fault e told some. entry_before old.disk after (alone.untouched told) new.disk (r.entry fault e told) some;
     keeps = λ told.
         let k = r.keeps told in
-        record { store = store_before old.disk_tells old.disk after alone (IsOpened status r.tape) set texts new.disk (map turn_of (turns_in r.tape)) told k.store; silent = k.silent };
+        record { store = store_before old.disk_tells old.disk after alone (IsOpened end r.course) set texts new.disk (map turn_of (turns_in r.course)) told k.store; silent = k.silent };
   }
 
 -- ---- Nothing was done
@@ -274,86 +258,6 @@ entry_stays disk only_now = record {
   moments = λ k image from to is. (image, only_now image (subst (λ (i : ℕ). disk.crash_images_at i image) (let e : k ≡ disk.moment = omega arith in e) is), refl);
   reads = refl;
 }
-
--- ---- A run of `once` without turns
-
--- a status at which nothing was read or put
-abbrev pub Nothing : Status → Type 0
-Nothing status = (status ≡ Usage) ⊎ ((fault : StoreFault) × (status ≡ Store fault)) ⊎ (status ≡ NoMem) ⊎ ((line : ℕ) × (status ≡ Conf line))
-
--- the world with its store as it was left
-abbrev pub with_store : World → DiskView → List TapeTurn → World
-with_store w disk tape = record w { disk = disk; tape = tape }
-
--- the store couldn't be opened, or nothing was done
-pub runs_nothing : (set : Settings) (texts : List (List ℕ)) (old : World) (disk : DiskView) (tape : List TapeTurn) (status : Status) → Nothing status → tape ≡ old.tape
-    → (old.disk_tells → disk.places ≡ old.disk.places) → (old.disk_tells → entry_at 0 old.disk.reads ≢ None → KeepsEntry 0 old.disk disk)
-    → (old.disk_tells → KeepsStore ⊥ set texts (record { found = old.disk; left = disk }) []) → RunsOnce set texts old (with_store old disk tape) status
-runs_nothing set texts old disk tape status n same places entry keeps = record {
-  tape = none;
-  reads = record {
-    pieces = [];
-    lost = [];
-    given = λ told. sym (append-nil old.wires.given);
-    read = λ told. refl;
-    small = tt;
-    turns = tt;
-    shut_last = tt;
-    ends = ends n;
-    moments = tt;
-    few_lost = inl refl;
-    ended = λ is. absurd (served n is);
-  };
-  puts = λ told. ([], sym (append-nil old.wires.put), puts n);
-  taped = λ told. same ∙ sym (append-nil old.tape);
-  answered = λ some. absurd (some refl);
-  entry = λ fault e told some. entry told some;
-  keeps = λ told. record {
-    store = keeps_less ⊥ (IsOpened status none) set texts (record { found = placed old.disk disk; left = disk }) [] (unopened n) (keeps_placed ⊥ set texts old.disk disk [] (places told) (keeps told));
-    silent = λ opened. absurd (unopened n opened);
-  };
-}
-  where
-    none : Tape
-    none = record { reads = []; leaving = [] }
-
-    ends : Nothing status → EndsFor status none
-    ends (inl e) = subst (λ (s : Status). EndsFor s none) (sym e) refl
-    ends (inr (inl (fault, e))) = subst (λ (s : Status). EndsFor s none) (sym e) refl
-    ends (inr (inr (inl e))) = subst (λ (s : Status). EndsFor s none) (sym e) refl
-    ends (inr (inr (inr (line, e)))) = subst (λ (s : Status). EndsFor s none) (sym e) refl
-
-    puts : Nothing status → PutsFor status [] []
-    puts (inl e) = subst (λ (s : Status). PutsFor s [] []) (sym e) refl
-    puts (inr (inl (fault, e))) = subst (λ (s : Status). PutsFor s [] []) (sym e) refl
-    puts (inr (inr (inl e))) = subst (λ (s : Status). PutsFor s [] []) (sym e) (inl (refl, (hello, refl)))
-    puts (inr (inr (inr (line, e)))) = subst (λ (s : Status). PutsFor s [] []) (sym e) refl
-
-    served : Nothing status → status ≡ Served → ⊥
-    served (inl e) is = cc
-    served (inr (inl (fault, e))) is = cc
-    served (inr (inr (inl e))) is = cc
-    served (inr (inr (inr (line, e)))) is = cc
-
-    unopened : Nothing status → IsOpened status none → ⊥
-    unopened (inl e) o = subst (λ (s : Status). IsOpened s none) e o
-    unopened (inr (inl (fault, e))) o = subst (λ (s : Status). IsOpened s none) e o
-    unopened (inr (inr (inl e))) o = subst (λ (s : Status). IsOpened s none) e o refl
-    unopened (inr (inr (inr (line, e)))) o = subst (λ (s : Status). IsOpened s none) e o
-
-pub store_nothing : (fault : StoreFault) → Nothing (store_status fault)
-store_nothing (faults.Device o) = inr (inl (faults.Device o, refl))
-store_nothing (faults.Damaged file) = inr (inl (faults.Damaged file, refl))
-store_nothing (faults.LanesDiffer kept asked) = inr (inl (faults.LanesDiffer kept asked, refl))
-store_nothing faults.NoMem = inr (inr (inl refl))
-
--- the cause of a store that isn't opened
-pub store_cause : (old : World) (disk : DiskView) (tape : List TapeTurn) (fault : StoreFault) → (old.disk_tells → IsStoreFault 0 1 old.disk.reads fault) → ((o : _) → fault ≡ faults.Device o → OwnerFailed o old.disk disk)
-    → HasStatusCause old (with_store old disk tape) (store_status fault)
-store_cause old disk tape (faults.Device o) is failed = record { memory = λ e. cc; is = is; failed = failed }
-store_cause old disk tape (faults.Damaged file) is failed = record { memory = λ e. cc; is = is; failed = failed }
-store_cause old disk tape (faults.LanesDiffer kept asked) is failed = record { memory = λ e. cc; is = is; failed = failed }
-store_cause old disk tape faults.NoMem is failed = tt
 
 -- ---- The next run
 

@@ -1,12 +1,8 @@
 pub mod Status
-pub mod World
-pub mod Tape
-pub mod Once
 pub mod Program
+pub mod Causes
+pub mod Once
 pub mod Serve
 pub mod Load
 pub mod Relay
 pub mod InnerServe
-pub mod Causes
-pub mod InnerRun
-pub mod Complete

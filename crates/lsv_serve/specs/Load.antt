@@ -18,7 +18,7 @@ use Rattle.lsv_serve.specs.declared.status.Status.{Status}
 use Rattle.lsv_serve.specs.declared.status.Status.TheVariants.{NoUpstream, Pending, Served, Usage, Conf, Store, ReadFault, WriteFault, PortFault, NoMem}
 use Rattle.lsv_serve.specs.Causes.{HasConfCause, HasPlacesAt, MayServeAgain}
 use Rattle.lsv_serve.specs.Program.{lines_in, machine_of, prompts_of, set_by}
-use Rattle.lsv_serve.specs.World.{World}
+use Rattle.lsv_once.specs.World.{World}
 
 -- all of the summary was put
 pub record PutsSummary {D : Type 0} (tape_tells : Type 0) (view : D → DiskView) (set : Settings) (texts : List (List ℕ)) (count : ℕ) (old new : World) (found left : D) (tape new_tape : List TapeTurn) : Type 0 where

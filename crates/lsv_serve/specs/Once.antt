@@ -1,78 +1,76 @@
--- A run of the command `once`: what it read, what it put, and what it did with the store, also where device calls fail and wherever the machine stops.
-use Rattle.std.specs.Prelude.{◌≡◌, ◌≢◌, ◌≤◌, ◌<◌, ◌-◌, ◌^◌, ◌⊎◌, ◌++◌, ℕ, Bool, false, List, [], ◌∷◌, length, map, IsSome, None}
-use Rattle.std.specs.List.{AllByRecursion, concat}
-use Rattle.lsv_base.specs.Time.{nanos_of}
+-- A run of the command `once`: lsv_once says what it did, and here its end is the program's status, by the settings file as it was found.
+use Rattle.std.specs.Prelude.{◌≡◌, ℕ, Bool, List, [], Option, None}
+use Rattle.lsv_defs.specs.Causes.{HasRisen}
+use Rattle.lsv_conf.specs.Lines.{Placed, first_refused}
 use Rattle.lsv_event.specs.declared.event.Kind.{Kind}
-use Rattle.lsv_session.specs.Transcript.{said_to}
 use Rattle.lsv_machine.specs.Machine.{Settings}
-use Rattle.lsv_machine.specs.Recovery.{Outside}
-use Rattle.lsv_seq.specs.Drawn.{entry_at}
-use Rattle.lsv_keeper.specs.Opening.{KeepsEntry}
-use Rattle.lsv_keeper.specs.declared.fault.StoreFault.{StoreFault}
-use Rattle.lsv_turn.specs.Turns.{all_taped}
-use Rattle.lsv_lane.specs.Store.{AreAnswered, KeepsStore, lane_settings}
+use Rattle.lsv_lane.specs.Store.{KeepsStore}
+use Rattle.lsv_once.specs.Causes.{HasOnceCause}
+use Rattle.lsv_once.specs.Complete.{Completes}
+use Rattle.lsv_once.specs.Once.{RunsOnce, once_settings}
+use Rattle.lsv_once.specs.World.{World}
+use Rattle.lsv_once.specs.declared.once.OnceEnd.{OnceEnd}
+use Rattle.lsv_once.specs.declared.once.OnceEnd.TheVariants as ends
 use Rattle.lsv_serve.specs.declared.status.Status.{Status}
 use Rattle.lsv_serve.specs.declared.status.Status.TheVariants.{NoUpstream, Pending, Served, Usage, Conf, Store, ReadFault, WriteFault, PortFault, NoMem}
-use Rattle.lsv_serve.specs.Tape.{EndsFor, PutsFor, ShutLast, Tape, TurnsOf, once_conn, replies_in, turn_of, turns_in, was_shut}
-use Rattle.lsv_serve.specs.World.{Wires, World, placed}
+use Rattle.lsv_serve.specs.Causes.{HasConfCause, HasPlacesAt, MayServeAgain}
+use Rattle.lsv_serve.specs.Program.{lines_in, machine_of, prompts_of, set_by}
 
--- ---- What is asked for
+-- the status by which the program tells the end of a connection's run
+abbrev pub status_of : OnceEnd → Status
+status_of ends.Served = Served
+status_of ends.ReadFault = ReadFault
+status_of ends.WriteFault = WriteFault
+status_of (ends.Store fault) = Store fault
+status_of ends.NoMem = NoMem
 
--- the settings of the machine: one lane, event lines of this form, and those of exits where they are asked for
-abbrev pub once_settings : Kind → (log_exit : Bool) → Settings
-once_settings kind log_exit = lane_settings 0 1 kind log_exit
+-- nothing was done: nothing was read, put or kept on the tape, and the store is as it was
+pub record IsIdle (set : Settings) (texts : List (List ℕ)) (old new : World) : Type 0 where
+  pub given : new.wires.given ≡ old.wires.given
+  pub rest : new.wires.rest ≡ old.wires.rest
+  pub put : new.wires.put ≡ old.wires.put
+  pub tape : new.tape ≡ old.tape
+  pub keeps : old.disk_tells → KeepsStore ⊥ set texts (record { found = old.disk; left = new.disk }) []
 
--- ---- What was read
+-- a run by its status: that of lsv_once with its end, or one that did nothing
+abbrev pub RunsFor : Settings → (texts : List (List ℕ)) → (old new : World) → Status → Type 0
+RunsFor set texts old new Served = RunsOnce set texts old new ends.Served
+RunsFor set texts old new ReadFault = RunsOnce set texts old new ends.ReadFault
+RunsFor set texts old new WriteFault = RunsOnce set texts old new ends.WriteFault
+RunsFor set texts old new (Store fault) = RunsOnce set texts old new (ends.Store fault)
+RunsFor set texts old new NoMem = RunsOnce set texts old new ends.NoMem
+RunsFor set texts old new (Conf line) = IsIdle set texts old new
+RunsFor set texts old new Usage = ⊥
+RunsFor set texts old new PortFault = ⊥
+RunsFor set texts old new NoUpstream = ⊥
+RunsFor set texts old new (Pending left) = ⊥
 
--- the turns of a run are what was read: a turn for each piece, of at most 65,536 bytes, until the connection is shut, the input ends or fails, or an answer can't be put
-pub record Reads (old new : Wires) (status : Status) (tape : Tape) : Type 0 where
-  pub pieces : List (List ℕ)
-  -- the piece for which memory ran out
-  pub lost : List (List ℕ)
-  pub given : old.source_tells → new.given ≡ old.given ++ (pieces ++ lost)
-  pub read : old.source_tells → old.rest ≡ concat (pieces ++ lost) ++ new.rest
-  pub small : AllByRecursion (λ piece. length piece ≤ 65536) (pieces ++ lost)
-  pub turns : TurnsOf [] [] pieces tape.reads
-  pub shut_last : ShutLast tape.reads
-  pub ends : EndsFor status tape
-  pub moments : AllByRecursion (λ t. IsSome (nanos_of t.now)) (turns_in tape)
-  -- a piece is lost only if memory ran out after it was read, before any Shut
-  pub few_lost : (lost ≡ []) ⊎ ((status ≡ NoMem) × (was_shut tape.reads ≡ false) × ((piece : List ℕ) × (lost ≡ piece ∷ [])))
-  -- a connection that is served and wasn't shut came to the end of the input
-  pub ended : status ≡ Served → was_shut tape.reads ≡ false → old.source_tells → new.count < 2 ^ 63 - 1 → new.rest ≡ []
+-- why a run ended so: its settings weren't read; else no line of them is refused, and a read or a write failed or the store wasn't opened
+abbrev pub HasProgramCause : (lines : List Placed) (faults faults' : ℕ) → (old new : World) → Status → Type 0
+HasProgramCause lines faults faults' old new Served = first_refused lines ≡ None
+HasProgramCause lines faults faults' old new ReadFault = (first_refused lines ≡ None) × HasOnceCause old new ends.ReadFault
+HasProgramCause lines faults faults' old new WriteFault = (first_refused lines ≡ None) × HasOnceCause old new ends.WriteFault
+HasProgramCause lines faults faults' old new (Store fault) = (first_refused lines ≡ None) × HasOnceCause old new (ends.Store fault)
+HasProgramCause lines faults faults' old new NoMem = Unit {0}
+HasProgramCause lines faults faults' old new (Conf line) = HasConfCause lines faults faults' line
+HasProgramCause lines faults faults' old new Usage = ⊥
+HasProgramCause lines faults faults' old new PortFault = ⊥
+HasProgramCause lines faults faults' old new NoUpstream = ⊥
+HasProgramCause lines faults faults' old new (Pending left) = ⊥
 
--- ---- What was done with the store
+-- A run whose settings were read ended in some way, for a cause, and is told as this. It serves each legal conversation that opens a
+-- log, if nothing is in the way.
+pub record OnceBy (kind : Kind) (log_exit : Bool) (texts : List (List ℕ)) (old new : World) (status : Status) : Type 0 where
+  pub end : OnceEnd
+  pub is : status ≡ status_of end
+  pub run : RunsOnce (once_settings kind log_exit) texts old new end
+  pub cause : HasOnceCause old new end
+  pub complete : Completes kind log_exit texts old new end
 
--- the status is one that comes after the store was opened; want of memory is where a turn was made
-abbrev pub IsOpened : Status → Tape → Type 0
-IsOpened Served tape = Unit {0}
-IsOpened ReadFault tape = Unit {0}
-IsOpened WriteFault tape = Unit {0}
-IsOpened PortFault tape = ⊥
-IsOpened NoUpstream tape = ⊥
-IsOpened (Pending left) tape = ⊥
-IsOpened NoMem tape = turns_in tape ≢ []
-IsOpened Usage tape = ⊥
-IsOpened (Conf line) tape = ⊥
-IsOpened (Store fault) tape = ⊥
-
--- ---- A run
-
--- what a run did with the store, at whatever status: at each moment each log recovers from a crash. If the store was opened, the turns are the machine's
-pub record KeepsOnce (set : Settings) (texts : List (List ℕ)) (o : Outside) (status : Status) (tape : Tape) : Type 0 where
-  pub store : KeepsStore (IsOpened status tape) set texts o (map turn_of (turns_in tape))
-  -- a connection that goes is told nothing, so all answers are those of the reads
-  pub silent : IsOpened status tape → said_to once_conn (replies_in tape.leaving) ≡ []
-
--- A run with these settings and prompts: its turns are what was read, what was put are their answers, and the tape and the store
--- keep them.
-pub record RunsOnce (set : Settings) (texts : List (List ℕ)) (old new : World) (status : Status) : Type 0 where
-  pub tape : Tape
-  pub reads : Reads old.wires new.wires status tape
-  pub puts : old.wires.sink_tells → (bytes : List ℕ) × (new.wires.put ≡ old.wires.put ++ bytes) × PutsFor status tape.reads bytes
-  pub taped : old.tape_tells → new.tape ≡ old.tape ++ all_taped (map turn_of (turns_in tape))
-  -- over every disk: each reply is to the connection of one of its turn's jobs, and says that a device failed only for a cause
-  pub answered : map turn_of (turns_in tape) ≢ [] → AreAnswered set.log_exit old.disk.faults new.disk.faults (map turn_of (turns_in tape))
-  -- at each moment of an opening that was refused the number file's last entry stayed as it was
-  pub entry : (fault : StoreFault) → status ≡ Store fault → old.disk_tells → entry_at 0 old.disk.reads ≢ None → KeepsEntry 0 old.disk new.disk
-  pub keeps : old.disk_tells → KeepsOnce set texts (record { found = placed old.disk new.disk; left = new.disk }) status tape
+-- a run of `once` with the settings file as it was found
+pub record OnceAs (found : Option (List ℕ)) (faults faults' : ℕ) (old new : World) (status : Status) : Type 0 where
+  pub runs : RunsFor (machine_of (set_by found)) (prompts_of (set_by found)) old new status
+  pub cause : HasProgramCause (lines_in found) faults faults' old new status
+  pub complete : (HasRisen faults faults' → ⊥) → first_refused (lines_in found) ≡ None → OnceBy (set_by found).format (set_by found).log_exit (prompts_of (set_by found)) old new status
+  pub places : old.disk_tells → HasPlacesAt (set_by found).iolog_dir (set_by found).path old.disk new.disk status
+  pub again : old.disk_tells → MayServeAgain old.disk new.disk

@@ -10,7 +10,7 @@ use Rattle.lsv_conf.specs.Settings.{settings_of}
 use Rattle.lsv_conf.specs.Settings as conf
 use Rattle.lsv_machine.specs.Machine.{Settings}
 use Rattle.lsv_port.specs.Ledger.{Listening}
-use Rattle.lsv_serve.specs.Once.{once_settings}
+use Rattle.lsv_once.specs.Once.{once_settings}
 
 -- the words ask for this: each is UTF-8, clap takes them, and this is what they say
 pub record Asks (words : List (List ℕ)) (a : Asked) : Type 0 where

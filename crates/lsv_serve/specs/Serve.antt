@@ -25,7 +25,7 @@ use Rattle.lsv_serve.specs.declared.status.Status.{Status}
 use Rattle.lsv_serve.specs.declared.status.Status.TheVariants.{NoUpstream, Pending, Served, Usage, Conf, Store, ReadFault, WriteFault, PortFault, NoMem}
 use Rattle.lsv_serve.specs.Causes.{HasConfCause, HasPlacesAt, MayServeAgain}
 use Rattle.lsv_serve.specs.Program.{lines_in, listening_by, machine_of, prompts_of, set_by}
-use Rattle.lsv_serve.specs.World.{placed}
+use Rattle.lsv_once.specs.World.{placed}
 
 -- ---- The outside of a server
 

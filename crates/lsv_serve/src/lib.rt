@@ -1,8 +1,6 @@
 //! The top call of `sudo_logsrvd`.
 #![tactic(auto)]
 
-mod answers;
-mod incoming;
 mod laws;
 mod load;
 mod once;
@@ -11,7 +9,6 @@ mod posts;
 mod program;
 mod relay;
 mod serve;
-mod server;
 mod status;
 mod text;
 

@@ -5,12 +5,10 @@ ghost use Rattle.lsv_event.specs.declared.event.Kind.TheVariants as kinds;
 ghost use Rattle.lsv_lane.specs.Store.{IsFresh};
 ghost use Rattle.lsv_serve.specs.Causes.{HasPlaces, MayServeAgain};
 ghost use Rattle.lsv_serve.specs.Load.{LoadsBy, TellsLoad};
-ghost use Rattle.lsv_serve.specs.Once.{once_settings};
-ghost use Rattle.lsv_serve.specs.World.{world_of};
+ghost use Rattle.lsv_once.specs.Once.{once_settings};
+ghost use Rattle.lsv_once.specs.World.{world_of};
 
-use crate::answers::write_answers;
-use crate::once::give_places;
-use crate::outside::{Kept, Options, Outside};
+use crate::outside::{Kept, Options, Outside, store_of};
 use crate::status::Status;
 use lsv_base::{Clock, Sink, Source};
 use lsv_disk::Disk;
@@ -19,7 +17,6 @@ use lsv_hook::{Formatter, LineWriter};
 use lsv_lane::Bay;
 use lsv_load::{LoadEnd, a_load_sums_up_all_its_conversations, run_load};
 use lsv_mask::{Prompt, Search};
-use lsv_service::Plan;
 use lsv_turn::Tape;
 use std::alloc::Global;
 
@@ -28,7 +25,7 @@ fn tell_load<K: Sink>(sink: &mut K, end: LoadEnd) -> Status
     ensures { TellsLoad K.tells (K.put sink.old) (K.put sink.new) (K.faults sink.old) (K.faults sink.new) end result }
 {
     match end {
-        LoadEnd::Served(text) => match write_answers(sink, text.as_slice()) {
+        LoadEnd::Served(text) => match sink.write(text.as_slice()) {
             Ok(()) => Status::Served,
             Err(_) => Status::WriteFault,
         },
@@ -74,26 +71,15 @@ fn load_by<
         source,
         mut sink,
         ports,
-        mut disk,
+        disk,
         clock,
         tape,
         texts,
         link,
         notices,
     } = out;
-    give_places(&mut disk, &options);
-    let Options {
-        log_exit,
-        prompts,
-        ..
-    } = options;
-    let plan = Plan {
-        formatter,
-        log_exit,
-        texts: prompts,
-        prompt,
-    };
-    let (bay, end) = run_load(alloc, count, Bay { disk, clock, tape }, plan);
+    let (bay, plan) = store_of(options, Bay { disk, clock, tape }, formatter, prompt);
+    let (bay, end) = run_load(alloc, count, bay, plan);
     let Bay { disk, clock, tape } = bay;
     let status = tell_load(&mut sink, end);
     let out = Outside {

@@ -4,9 +4,9 @@ ghost use Rattle.std.specs.Prelude.{◌≡◌, ◌≤◌, ◌<◌, ◌+◌, ◌+
 ghost use Rattle.lsv_endpoint.specs.Ports.{IsUnopened, view_by};
 ghost use Rattle.lsv_serve.specs.InnerServe.{ArePosts, IsSeated};
 
-use lsv_endpoint::WorkerPost;
+use lsv_endpoint::WorkerEndpoint;
 use lsv_port::Port;
-use lsv_reactor::Post;
+use lsv_reactor::Endpoint;
 use std::alloc::Global;
 
 /// Puts a value at the end of a vector that has room for it.
@@ -25,18 +25,18 @@ fn seat<P: Port + Drop>(
     alloc: Global,
     number: u32,
     port: P,
-    posts: &mut Vec<WorkerPost<P>>,
+    posts: &mut Vec<WorkerEndpoint<P>>,
     left: &mut Vec<P>,
 )
     requires idle { P.tells → IsUnopened (P.state port) }
     requires posts_room { vec_len posts.old < vec_capacity posts.old }
     requires left_room { vec_len left.old < vec_capacity left.old }
-    ensures seated { IsSeated ⟦<WorkerPost<P> as Post>⟧.number ⟦<WorkerPost<P> as Post>⟧.made_by ⟦<WorkerPost<P> as Post>⟧.view (view_by P.state P.ledger) number port posts.old.items posts.new.items left.old.items left.new.items }
+    ensures seated { IsSeated ⟦<WorkerEndpoint<P> as Endpoint>⟧.number ⟦<WorkerEndpoint<P> as Endpoint>⟧.lanes ⟦<WorkerEndpoint<P> as Endpoint>⟧.made_by ⟦<WorkerEndpoint<P> as Endpoint>⟧.view (view_by P.state P.ledger) number port posts.old.items posts.new.items left.old.items left.new.items }
     ensures posts_room { vec_capacity posts.old ≤ vec_capacity posts.new }
     ensures left_room { vec_capacity left.old ≤ vec_capacity left.new }
 {
     if left.is_empty() {
-        match WorkerPost::new(alloc, number, port) {
+        match WorkerEndpoint::new(alloc, number, 1, port) {
             Ok(post) => put(posts, post),
             Err(port) => put(left, port),
         }
@@ -62,12 +62,12 @@ pub(crate) fn posts_of<P: Port + Drop>(
     alloc: Global,
     ports: Vec<P>,
     room: Vec<P>,
-) -> Result<(Vec<WorkerPost<P>>, Vec<P>), Vec<P>>
+) -> Result<(Vec<WorkerEndpoint<P>>, Vec<P>), Vec<P>>
     requires few { length ports.items ≤ 64 }
     requires idle { P.tells → (i : ℕ) (port : P) → slice_get ports.items i ≡ Some port → IsUnopened (P.state port) }
     requires empty { vec_len room ≡ 0 }
     requires room { length ports.items ≤ vec_capacity room }
-    ensures made { IfOk result (λ r. ArePosts ⟦<WorkerPost<P> as Post>⟧.number ⟦<WorkerPost<P> as Post>⟧.made_by ⟦<WorkerPost<P> as Post>⟧.view (map (view_by P.state P.ledger) ports.items) r.0.items) }
+    ensures made { IfOk result (λ r. ArePosts ⟦<WorkerEndpoint<P> as Endpoint>⟧.number ⟦<WorkerEndpoint<P> as Endpoint>⟧.lanes ⟦<WorkerEndpoint<P> as Endpoint>⟧.made_by ⟦<WorkerEndpoint<P> as Endpoint>⟧.view (map (view_by P.state P.ledger) ports.items) r.0.items) }
     ensures room { IfOk result (λ r. r.1 ≡ room) }
     ensures back { IfErr result (λ given. map (view_by P.state P.ledger) given.items ≡ map (view_by P.state P.ledger) ports.items) }
 {
@@ -89,10 +89,10 @@ pub(crate) fn posts_of<P: Port + Drop>(
 }
 
 /// The ports of these posts, in their order, in a vector that has room for them.
-pub(crate) fn ports_of<P: Port + Drop>(posts: Vec<WorkerPost<P>>, room: Vec<P>) -> Vec<P>
+pub(crate) fn ports_of<P: Port + Drop>(posts: Vec<WorkerEndpoint<P>>, room: Vec<P>) -> Vec<P>
     requires empty { vec_len room ≡ 0 }
     requires room { length posts.items ≤ vec_capacity room }
-    ensures ports { map (view_by P.state P.ledger) result.items ≡ map ⟦<WorkerPost<P> as Post>⟧.view posts.items }
+    ensures ports { map (view_by P.state P.ledger) result.items ≡ map ⟦<WorkerEndpoint<P> as Endpoint>⟧.view posts.items }
     ensures room { vec_capacity room ≤ vec_capacity result }
 {
     let mut ports = room;

@@ -10,12 +10,12 @@ ghost use Rattle.lsv_event.specs.declared.event.Kind.TheVariants as kinds;
 ghost use Rattle.lsv_lane.specs.Store.{IsFresh};
 ghost use Rattle.lsv_endpoint.specs.Ports.{IsUnopened};
 ghost use Rattle.lsv_serve.specs.Causes.{HasConfCause};
-ghost use Rattle.lsv_serve.specs.Complete.{OnceAs};
 ghost use Rattle.lsv_serve.specs.Load.{LoadsAs};
+ghost use Rattle.lsv_serve.specs.Once.{OnceAs};
 ghost use Rattle.lsv_serve.specs.Program.{AsFound, Asks, lines_in, prompts_of, set_by, upstream_of};
 ghost use Rattle.lsv_serve.specs.Relay.{RelaysAs, relay_of};
 ghost use Rattle.lsv_serve.specs.Serve.{ServesAs, server_of};
-ghost use Rattle.lsv_serve.specs.World.{world_of};
+ghost use Rattle.lsv_once.specs.World.{world_of};
 
 use crate::load::serve_load;
 use crate::once::run_once;

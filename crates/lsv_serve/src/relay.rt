@@ -5,8 +5,7 @@ ghost use Rattle.lsv_forward.specs.Run.{TouchesRelays};
 ghost use Rattle.lsv_serve.specs.Causes.{HasPlacesAt};
 ghost use Rattle.lsv_serve.specs.Relay.{RestsStore, RunsRelay, relay_of, store_fault};
 
-use crate::once::give_places;
-use crate::outside::{Options, Outside};
+use crate::outside::{Options, Outside, give_places};
 use crate::status::Status;
 use crate::text::text_of;
 use lsv_disk::{Disk, FileId, Owner, Part};

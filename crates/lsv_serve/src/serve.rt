@@ -6,11 +6,10 @@ ghost use Rattle.lsv_lane.specs.Store.{IsFresh};
 ghost use Rattle.lsv_endpoint.specs.Ports.{IsUnopened};
 ghost use Rattle.lsv_service.specs.Runs.{HasEndCause};
 ghost use Rattle.lsv_serve.specs.Causes.{HasPlaces, MayServeAgain};
-ghost use Rattle.lsv_serve.specs.Once.{once_settings};
+ghost use Rattle.lsv_once.specs.Once.{once_settings};
 ghost use Rattle.lsv_serve.specs.Serve.{RunsAs, RunsTo, server_of, told};
 
-use crate::once::give_places;
-use crate::outside::{Kept, Options, Outside};
+use crate::outside::{Kept, Options, Outside, give_places};
 use crate::posts::{ports_of, posts_of};
 use crate::status::Status;
 use crate::text::text_of;

@@ -2,7 +2,7 @@ use Rattle.std.proofs.Common.{◌≡◌, ◌++◌, ◌∷◌, [], List, map, len
 use Rattle.std.proofs.lemmas.List.{length-append, map-append}
 use Rattle.std.specs.Vec.Iter.{into_iter_items}
 use Rattle.lsv_endpoint.specs.Ports.{view_by}
-use Rattle.lsv_endpoint.specs.declared.post.WorkerPost.{WorkerPost}
+use Rattle.lsv_endpoint.specs.declared.endpoint.WorkerEndpoint.{WorkerEndpoint}
 use Rattle.lsv_links.specs.Views.{PortView}
 use Rattle.lsv_serve.proofs.PostLemmas.{nothing_left}
 use Rattle.lsv_serve.proofs.posts.ports_of.Goals as goal
@@ -24,9 +24,9 @@ pub loop-post-preserved : goal.loop-post-preserved
 loop-post-preserved g c =
     let steps : into_iter_items c.loop-post.post-iterator ≡ c.in-Some.post ∷ into_iter_items c.next.new.self = c.in-Some.ensures.steps.0 in
     let view : g.row.P.Denot → PortView = view_by g.P.Port.state g.P.Port.ledger in
-    let its : WorkerPost g.row.P.Denot → PortView = λ post. view_by g.P.Port.state g.P.Port.ledger post.port in
+    let its : WorkerEndpoint g.row.P.Denot → PortView = λ post. view_by g.P.Port.state g.P.Port.ledger post.port in
     record {
-      items = append_assoc c.loop-post.yielded (c.in-Some.post ∷ []) (into_iter_items c.next.new.self) ∙ (ap (λ (x : List (WorkerPost g.row.P.Denot)). c.loop-post.yielded ++ x) (sym steps) ∙ c.loop-post.invariant.items);
+      items = append_assoc c.loop-post.yielded (c.in-Some.post ∷ []) (into_iter_items c.next.new.self) ∙ (ap (λ (x : List (WorkerEndpoint g.row.P.Denot)). c.loop-post.yielded ++ x) (sym steps) ∙ c.loop-post.invariant.items);
       counted = let was = c.loop-post.invariant.counted in let gone = c.in-Some.ensures.steps.1 in let short = ap length steps in omega arith;
       size =
           let n = c.loop-post.invariant.size in
@@ -42,8 +42,8 @@ loop-post-preserved g c =
 pub returns-clause-ports : goal.returns-clause-ports
 returns-clause-ports g c =
     let empty : into_iter_items c.loop-post.post-iterator ≡ [] = nothing_left (into_iter_items c.loop-post.post-iterator) (sym c.loop-post.invariant.counted ∙ c.in-None.ensures.steps.0) in
-    let whole : c.loop-post.yielded ≡ c.args.posts.items = sym (append-nil c.loop-post.yielded) ∙ (ap (λ (x : List (WorkerPost g.row.P.Denot)). c.loop-post.yielded ++ x) (sym empty) ∙ c.loop-post.invariant.items) in
-    c.loop-post.invariant.ports ∙ ap (map (λ (post : WorkerPost g.row.P.Denot). view_by g.P.Port.state g.P.Port.ledger post.port)) whole
+    let whole : c.loop-post.yielded ≡ c.args.posts.items = sym (append-nil c.loop-post.yielded) ∙ (ap (λ (x : List (WorkerEndpoint g.row.P.Denot)). c.loop-post.yielded ++ x) (sym empty) ∙ c.loop-post.invariant.items) in
+    c.loop-post.invariant.ports ∙ ap (map (λ (post : WorkerEndpoint g.row.P.Denot). view_by g.P.Port.state g.P.Port.ledger post.port)) whole
 
 pub put-requires : goal.put-requires
 put-requires g c =

@@ -2,9 +2,8 @@ use Rattle.std.proofs.Common.{◌≡◌, ◌≤◌, ◌+◌, ◌++◌, [], map, 
 use Rattle.std.specs.Prelude.{vec_capacity}
 use Rattle.std.specs.Vec.Iter.{into_iter_items, into_iter_len}
 use Rattle.lsv_worker.specs.Worker.{setting}
-use Rattle.lsv_endpoint.specs.InnerPost.{IsMade}
+use Rattle.lsv_endpoint.specs.InnerEndpoint.{IsMade}
 use Rattle.lsv_endpoint.specs.Ports.{view_by}
-use Rattle.lsv_reactor.specs.Calls.{jobs_by}
 use Rattle.lsv_serve.specs.InnerServe.{ArePosts}
 use Rattle.lsv_serve.proofs.posts.posts_of.Given as goal
 
@@ -17,5 +16,5 @@ invariant-loop-port g l = record {
   posts_room : length l.fn.ports.items ≤ vec_capacity l.posts;
   left_room : length l.fn.ports.items ≤ vec_capacity l.left;
   views : map (λ post. view_by g.P.Port.state g.P.Port.ledger post.port) l.posts.items ++ map (view_by g.P.Port.state g.P.Port.ledger) l.left.items ≡ map (view_by g.P.Port.state g.P.Port.ledger) l.yielded;
-  posts : l.left.items ≡ [] → ArePosts (λ post. (setting post.worker).number) (λ start post gave took. IsMade g.P.Port.tells g.P.Port.state g.P.Port.ledger start post (jobs_by gave) took) (λ post. view_by g.P.Port.state g.P.Port.ledger post.port) (map (view_by g.P.Port.state g.P.Port.ledger) l.yielded) l.posts.items;
+  posts : l.left.items ≡ [] → ArePosts (λ post. (setting post.worker).number) (λ post. (setting post.worker).lanes) (λ start post gave took. IsMade g.P.Port.tells g.P.Port.state g.P.Port.ledger start post gave took) (λ post. view_by g.P.Port.state g.P.Port.ledger post.port) (map (view_by g.P.Port.state g.P.Port.ledger) l.yielded) l.posts.items;
 }

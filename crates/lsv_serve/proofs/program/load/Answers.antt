@@ -2,7 +2,7 @@ use Rattle.std.proofs.Common.{◌≡◌, ◌∙◌, refl, ap, subst, List, ℕ, 
 use Rattle.lsv_conf.specs.Settings as conf
 use Rattle.lsv_serve.specs.Causes.{HasPlaces}
 use Rattle.lsv_serve.specs.Program.{lines_in, prompts_of, set_by}
-use Rattle.lsv_serve.specs.World.{World, world_of}
+use Rattle.lsv_once.specs.World.{World, world_of}
 use Rattle.lsv_serve.proofs.LoadLemmas.{loads_read, loads_unread}
 use Rattle.lsv_serve.proofs.ProgramLemmas.{unread_file, unread_line}
 use Rattle.lsv_serve.proofs.program.load.Goals as goal

@@ -3,7 +3,7 @@ use Rattle.lsv_args.specs.Reading.{Load, Once, Relay, Serve}
 use Rattle.lsv_serve.specs.declared.status.Status.TheVariants as status
 use Rattle.lsv_serve.specs.Relay.{RelayWorld, relay_of}
 use Rattle.lsv_serve.specs.Serve.{ServerWorld, server_of}
-use Rattle.lsv_serve.specs.World.{World, world_of}
+use Rattle.lsv_once.specs.World.{World, world_of}
 use Rattle.lsv_serve.proofs.LoadLemmas.{loads_unread}
 use Rattle.lsv_serve.proofs.OnceLemmas.{once_unread}
 use Rattle.lsv_serve.proofs.RelayLemmas.{relays_unread}

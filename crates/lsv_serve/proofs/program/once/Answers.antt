@@ -2,10 +2,9 @@ use Rattle.std.proofs.Common.{◌≡◌, ◌∙◌, refl, ap, subst, List, ℕ, 
 use Rattle.lsv_conf.specs.Settings as conf
 use Rattle.lsv_serve.specs.Causes.{HasPlaces}
 use Rattle.lsv_serve.specs.Program.{lines_in, prompts_of, set_by}
-use Rattle.lsv_serve.specs.World.{World, world_of}
-use Rattle.lsv_serve.proofs.CompleteLemmas.{completes}
-use Rattle.lsv_serve.proofs.OnceLemmas.{once_unread}
-use Rattle.lsv_serve.proofs.ProgramLemmas.{places_given, program_cause, unread_file, unread_line}
+use Rattle.lsv_once.specs.World.{World, world_of}
+use Rattle.lsv_serve.proofs.OnceLemmas.{once_read, once_unread}
+use Rattle.lsv_serve.proofs.ProgramLemmas.{unread_file, unread_line}
 use Rattle.lsv_serve.proofs.program.once.Goals as goal
 
 pub returns-in-Err-clause-once : goal.returns-in-Err-clause-once
@@ -28,7 +27,6 @@ pub returns-in-Ok-conf_in-clause-once : goal.returns-in-Ok-conf_in-clause-once
 returns-in-Ok-conf_in-clause-once g c =
     let found : Option (List ℕ) = c.in-Ok.found in
     let out = c.run_once.result.0 in
-    let after = g.D.Disk.view out.disk in
     let old : World = world_of g.S.Source g.K.Sink g.D.Disk g.G.Tape c.args.out.source c.args.out.sink c.args.out.disk c.args.out.tape in
     let new : World = world_of g.S.Source g.K.Sink g.D.Disk g.G.Tape out.source out.sink out.disk out.tape in
     let set = c.in-Ok-conf_in.ensures.ok in
@@ -39,13 +37,6 @@ returns-in-Ok-conf_in-clause-once g c =
     let events : c.options_of.result.events ≡ (set_by found).path = c.options_of.ensures.events ∙ ap (λ (s : conf.Settings). s.path) set in (
       found,
       λ told. c.in-Ok.ensures.ok told,
-      record {
-        runs = rw (form, log_exit, prompts) at c.run_once.ensures.runs;
-        cause = program_cause (lines_in found) (g.T.Texts.faults c.args.out.texts) _ old new c.run_once.result.1 c.in-Ok-conf_in.ensures.none_refused c.run_once.ensures.cause;
-        complete = λ calm none. completes (set_by found).format (set_by found).log_exit (prompts_of (set_by found)) old new c.run_once.result.1 c.run_once.ensures.not_usage c.run_once.ensures.cause;
-        places = λ told.
-            places_given (set_by found).iolog_dir (set_by found).path old.disk after old new c.run_once.result.1 c.run_once.ensures.not_usage c.run_once.ensures.cause
-            (subst (λ (e : List ℕ). HasPlaces (set_by found).iolog_dir e after) events (subst (λ (l : List ℕ). HasPlaces l c.options_of.result.events after) logs (c.run_once.ensures.places told)));
-        again = c.run_once.ensures.again;
-      },
+      once_read found (g.T.Texts.faults c.args.out.texts) _ old new c.run_once.result.1 c.in-Ok-conf_in.ensures.none_refused (rw (form, log_exit, prompts) at c.run_once.ensures.runs)
+          (λ told. subst (λ (e : List ℕ). HasPlaces (set_by found).iolog_dir e new.disk) events (subst (λ (l : List ℕ). HasPlaces l c.options_of.result.events new.disk) logs (c.run_once.ensures.places told))) c.run_once.ensures.again,
     )

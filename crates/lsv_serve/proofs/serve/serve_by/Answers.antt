@@ -1,6 +1,6 @@
 use Rattle.std.proofs.Common.{◌∙◌, List, ℕ, inl, inr, subst}
 use Rattle.lsv_port.specs.Ledger.{Listening}
-use Rattle.lsv_serve.specs.Once.{once_settings}
+use Rattle.lsv_once.specs.Once.{once_settings}
 use Rattle.lsv_serve.specs.Serve.{RunsTo, ServerWorld, server_of}
 use Rattle.lsv_serve.proofs.ServeLemmas.{complete_links, end_before, run_before, serves_again}
 use Rattle.lsv_serve.proofs.StartLemmas.{fresh_after}

@@ -1,12 +1,11 @@
 use Rattle.std.proofs.Common.{◌≡◌, map, length, refl, sym, ap, ◌∙◌, arith}
 use Rattle.lsv_port.specs.Ledger.{Listening}
 use Rattle.lsv_links.specs.Views.{PortView}
-use Rattle.lsv_endpoint.specs.InnerPost.{IsMade}
+use Rattle.lsv_endpoint.specs.InnerEndpoint.{IsMade}
 use Rattle.lsv_endpoint.specs.Ports.{view_by}
-use Rattle.lsv_endpoint.specs.declared.post.WorkerPost.{WorkerPost}
-use Rattle.lsv_reactor.specs.Calls.{jobs_by}
+use Rattle.lsv_endpoint.specs.declared.endpoint.WorkerEndpoint.{WorkerEndpoint}
 use Rattle.lsv_serve.specs.InnerServe.{port_at}
-use Rattle.lsv_serve.specs.Once.{once_settings}
+use Rattle.lsv_once.specs.Once.{once_settings}
 use Rattle.lsv_serve.specs.Serve.{ServerWorld, server_of}
 use Rattle.lsv_serve.proofs.PostLemmas.{written_back}
 use Rattle.lsv_serve.proofs.ServeLemmas.{idle_run, leaves_ports, store_placed}
@@ -30,7 +29,7 @@ serve_store-bay-requires-clause-posts g c =
 
 pub returns-clause-runs : goal.returns-clause-runs
 returns-clause-runs g c =
-    let view : WorkerPost g.row.P.Denot → PortView = λ post. view_by g.P.Port.state g.P.Port.ledger post.port in
+    let view : WorkerEndpoint g.row.P.Denot → PortView = λ post. view_by g.P.Port.state g.P.Port.ledger post.port in
     let old : ServerWorld = server_of g.P.Port g.D.Disk g.G.Tape c.args.ports.items c.args.bay.disk c.args.bay.tape in
     let new : ServerWorld = server_of g.P.Port g.D.Disk g.G.Tape c.ports_of.result.items c.serve_store-bay.result.0.disk c.serve_store-bay.result.0.tape in
     let asked : Listening = record { address = c.args.site.now.address.now; stop_after = c.args.site.now.stop_after } in
@@ -45,9 +44,12 @@ returns-clause-runs g c =
       turns = r.0;
       store = store_placed g.D.Disk.tells g.G.Tape.tells (once_settings c.args.plan.formatter.kind c.args.plan.log_exit) c.args.plan.texts (g.D.Disk.view c.args.bay.disk) new.disk (g.G.Tape.turns c.args.bay.tape) new.tape c.serve_store-bay.result.1 r.0
           c.serve_store-bay.ensures.places r.1;
-      links = leaves_ports view old new c.serve_store-bay.new.posts r.0 same views asked posts.items made.views (λ start post gave took. IsMade g.P.Port.tells g.P.Port.state g.P.Port.ledger start post (jobs_by gave) took) c.serve_store-bay.result.1 r.2
+      links = leaves_ports view old new c.serve_store-bay.new.posts r.0 same views asked posts.items made.views (λ start post gave took. IsMade g.P.Port.tells g.P.Port.state g.P.Port.ledger start post gave took) (λ post calls. Unit {0}) c.serve_store-bay.result.1 r.2
           (rw c.deref_mut.ensures.value at r.3) (λ fault e. ap g.G.Tape.turns (c.serve_store-bay.ensures.unserved fault e).2);
     }
 
 pub returns-clause-fresh_again : goal.returns-clause-fresh_again
 returns-clause-fresh_again g c = c.serve_store-bay.ensures.fresh_again
+
+pub serve_store-bay-requires-clause-lanes : goal.serve_store-bay-requires-clause-lanes
+serve_store-bay-requires-clause-lanes g c = rw c.deref_mut.ensures.value c.in-Ok-posts_of.ensures.made.laned

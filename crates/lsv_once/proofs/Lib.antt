@@ -1,0 +1,9 @@
+pub mod JobLemmas
+pub mod AnswerLemmas
+pub mod CourseLemmas
+pub mod ReadLemmas
+pub mod SilenceLemmas
+pub mod EndLemmas
+pub mod StoreLemmas
+pub mod OnceLemmas
+pub mod CompleteLemmas

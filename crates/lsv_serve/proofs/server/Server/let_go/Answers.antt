@@ -1,4 +1,0 @@
-use Rattle.lsv_serve.proofs.server.Server.let_go.Goals as goal
-
-pub returns-clause-made : goal.returns-clause-made
-returns-clause-made g c = rw (c.in_ok-put_job.ensures, c.new-jobs.ensures.items) at c.in_ok-turn.ensures.made
