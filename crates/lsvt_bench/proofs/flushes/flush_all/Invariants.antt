@@ -4,4 +4,4 @@ use Rattle.lsvt_bench.proofs.flushes.flush_all.Given as goal
 
 -- it is the bundle of a log
 abbrev pub invariant-loop-i : goal.invariant-loop-i
-invariant-loop-i l = l.bundle.shape ≡ Log
+invariant-loop-i o l = l.bundle.shape ≡ Log

@@ -4,4 +4,4 @@ use Rattle.lsvt_bench.proofs.logs.fill.Given as goal
 
 -- the log goes on
 abbrev pub invariant-loop : goal.invariant-loop
-invariant-loop l = is_complete l.log ≡ false
+invariant-loop o l = is_complete l.log ≡ false
