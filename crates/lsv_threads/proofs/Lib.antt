@@ -1,0 +1,13 @@
+pub mod Gating
+pub mod Hearing
+pub mod Rowing
+pub mod Siding
+pub mod Turning
+pub mod Done
+pub mod Zipping
+pub mod Deals
+pub mod Making
+pub mod Placing
+pub mod Serving
+pub mod Saying
+pub mod Preparing

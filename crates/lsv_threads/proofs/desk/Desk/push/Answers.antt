@@ -1,0 +1,17 @@
+use Rattle.std.proofs.Common.{[], refl}
+use Rattle.lsv_threads.specs.Desks.{heard}
+use Rattle.lsv_threads.proofs.desk.Desk.push.Goals as goal
+
+pub push-requires-clause-begun : goal.push-requires-clause-begun
+push-requires-clause-begun g c = let at = c.requires.at in (at.start, λ lane. [], heard c.args.self.now, at.stands.made c.requires.going)
+
+pub returns-clause-on : goal.returns-clause-on
+returns-clause-on g c = record {
+  same = record { number_is = refl; endpoint_number = λ e. c.push.ensures.number; endpoint_lanes = λ e. c.push.ensures.lanes; queue = refl; joined = refl; stays = λ e. e; continues = c.push.ensures.continues };
+  taken = refl;
+  stopped = refl;
+  stands = λ start s. record {
+    made = λ e. c.push.ensures.made start (λ lane. []) (heard c.args.self.now) (s.made e);
+    put = λ e. absurd (cc (e, c.requires.going));
+  };
+}

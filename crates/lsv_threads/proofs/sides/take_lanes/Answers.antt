@@ -1,0 +1,18 @@
+use Rattle.std.proofs.Common.{◌≡◌, [], ◌∷◌, ◌++◌, false, sym, ap, ◌∙◌, append_assoc, arith}
+use Rattle.std.specs.Vec.Iter.{into_iter_items}
+use Rattle.std.proofs.lemmas.List.{map-append}
+use Rattle.std.proofs.lemmas.List.Elements.{All-push}
+use Rattle.lsv_threads.specs.declared.lane_side.LaneSide.{LaneSide}
+use Rattle.lsv_threads.proofs.sides.take_lanes.Goals as goal
+
+pub loop-side-preserved : goal.loop-side-preserved
+loop-side-preserved g c = record {
+  items = append_assoc c.loop-side.yielded (c.in-Some.side ∷ []) (into_iter_items c.next.new.self) ∙ (ap (λ x. c.loop-side.yielded ++ x) (sym c.in-Some.ensures.steps.0) ∙ c.loop-side.invariant.items);
+  lanes = c.push_reserved.ensures.items ∙ (ap (λ l. l ++ c.in-Some.side.lane ∷ []) c.loop-side.invariant.lanes ∙ sym (map-append (λ (s : LaneSide g.row.L.Denot). s.lane) c.loop-side.yielded (c.in-Some.side ∷ [])));
+  receivers = c.push_reserved-in-loop-side.ensures.items ∙ (ap (λ l. l ++ c.in-Some.side.taken ∷ []) c.loop-side.invariant.receivers ∙ sym (map-append (λ (s : LaneSide g.row.L.Denot). s.taken) c.loop-side.yielded (c.in-Some.side ∷ [])));
+  rows = c.push_reserved-in-loop-side-2.ensures.items ∙ (ap (λ l. l ++ c.in-Some.side.given ∷ []) c.loop-side.invariant.rows ∙ sym (map-append (λ (s : LaneSide g.row.L.Denot). s.given) c.loop-side.yielded (c.in-Some.side ∷ [])));
+  failed = λ e. All-push (λ (s : LaneSide g.row.L.Denot). s.failed ≡ false) c.loop-side.yielded c.in-Some.side (c.loop-side.invariant.failed c.if-failed.false) e;
+  lanes_room = let s = c.in-Some.ensures.steps.1 in let p = c.push_reserved.ensures.len in let q = c.push_reserved.ensures.capacity in let i = c.loop-side.invariant.lanes_room in omega arith;
+  receivers_room = let s = c.in-Some.ensures.steps.1 in let p = c.push_reserved-in-loop-side.ensures.len in let q = c.push_reserved-in-loop-side.ensures.capacity in let i = c.loop-side.invariant.receivers_room in omega arith;
+  rows_room = let s = c.in-Some.ensures.steps.1 in let p = c.push_reserved-in-loop-side-2.ensures.len in let q = c.push_reserved-in-loop-side-2.ensures.capacity in let i = c.loop-side.invariant.rows_room in omega arith;
+}

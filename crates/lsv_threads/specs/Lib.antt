@@ -1,0 +1,15 @@
+pub mod Words
+pub mod Rows
+pub mod Gates
+pub mod Desks
+pub mod WorkerSides
+pub mod LaneSides
+pub mod Zips
+pub mod Threads
+pub mod Idling
+pub mod Running
+pub mod Dealt
+pub mod Parts
+pub mod Run
+pub mod Served
+pub mod Prepared

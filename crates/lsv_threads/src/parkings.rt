@@ -1,0 +1,118 @@
+//! Where threads sleep, and what wakes them.
+
+use lsv_base::NoMem;
+use lsv_port::Bell;
+use std::alloc::Global;
+use std::sync::Wait;
+use std::sync::atomic::{AtomicU64, Ordering};
+use std::thread::Parker;
+use std::time::Duration;
+
+/// How much memory the jobs of one lane may hold before puts to it are refused: 64 MiB.
+const MOST_BYTES: u64 = 67_108_864;
+
+/// How long a worker's thread sleeps at most, in milliseconds, if nothing wakes it.
+const WORKER_MILLIS: u64 = 50;
+
+/// How long the thread of several lanes sleeps at most, in milliseconds.
+const SHORT_MILLIS: u64 = 1;
+
+/// A place to sleep for each lane and each worker, the bell of each worker's port, and the bytes that each lane's inbox
+/// holds. All threads share it. Nothing is promised of it: it decides when a thread goes on, and never what it does.
+#[derive(Drop)]
+pub struct Parkings<B> {
+    /// One for each lane, in their order.
+    pub lanes: Vec<Parker>,
+    /// The bytes of the jobs that each lane has yet to take, in the lanes' order.
+    pub weights: Vec<AtomicU64>,
+    /// One for each worker, in their order.
+    pub workers: Vec<Parker>,
+    /// The bells of the workers' ports, in the workers' order.
+    pub bells: Vec<B>,
+}
+
+impl<B: Bell> Parkings<B> {
+    /// Parkings for this many lanes, and for the workers whose ports have these bells.
+    pub fn new(alloc: Global, lanes: usize, bells: Vec<B>) -> Result<Self, NoMem>
+    where
+        B: Drop,
+    {
+        let mut lane_parkers = Vec::new(alloc);
+        let mut weights = Vec::new(alloc);
+        for _ in 0..lanes {
+            lane_parkers.push(Parker::new())?;
+            weights.push(AtomicU64::new(0))?;
+        }
+        let mut workers = Vec::new(alloc);
+        for _ in 0..bells.len() {
+            workers.push(Parker::new())?;
+        }
+        Ok(Parkings {
+            lanes: lane_parkers,
+            weights,
+            workers,
+            bells,
+        })
+    }
+
+    /// Wakes the thread of a lane.
+    pub fn wake_lane(&self, lane: usize) {
+        if let Some(parker) = self.lanes.as_slice().get(lane) {
+            parker.unpark();
+        }
+    }
+
+    /// Wakes the thread of a worker, also if it waits in its port's turn.
+    pub fn wake_worker(&self, worker: usize) {
+        if let Some(parker) = self.workers.as_slice().get(worker) {
+            parker.unpark();
+        }
+        if let Some(bell) = self.bells.as_slice().get(worker) {
+            bell.ring();
+        }
+    }
+
+    /// A lane's thread sleeps until it is woken.
+    pub fn rest_lane<R: Wait>(&self, rt: &R, lane: usize) {
+        if let Some(parker) = self.lanes.as_slice().get(lane) {
+            parker.park(rt);
+        }
+    }
+
+    /// A lane's thread sleeps until it is woken, and no longer than a millisecond.
+    pub fn doze_lane<R: Wait>(&self, rt: &R, lane: usize) {
+        if let Some(parker) = self.lanes.as_slice().get(lane) {
+            parker.park_timeout(rt, Duration::from_millis(SHORT_MILLIS));
+        }
+    }
+
+    /// A worker's thread sleeps until it is woken, and no longer than 50 ms.
+    pub fn rest_worker<R: Wait>(&self, rt: &R, worker: usize) {
+        if let Some(parker) = self.workers.as_slice().get(worker) {
+            parker.park_timeout(rt, Duration::from_millis(WORKER_MILLIS));
+        }
+    }
+
+    /// Counts these bytes as put to a lane. False, and not counted, if the lane's jobs would then hold more than 64 MiB; but
+    /// a lane without jobs takes any. Two workers that ask at the same time may both be let through.
+    pub fn load(&self, lane: usize, bytes: u64) -> bool {
+        match self.weights.as_slice().get(lane) {
+            None => true,
+            Some(weight) => {
+                let held = weight.load(Ordering::SeqCst);
+                if held > 0 && held.saturating_add(bytes) > MOST_BYTES {
+                    return false;
+                }
+                weight.fetch_add(bytes, Ordering::SeqCst);
+                true
+            }
+        }
+    }
+
+    /// Counts these bytes as gone.
+    pub fn unload(&self, lane: usize, bytes: u64) {
+        if let Some(weight) = self.weights.as_slice().get(lane) {
+            weight.fetch_sub(bytes, Ordering::SeqCst);
+        }
+    }
+}

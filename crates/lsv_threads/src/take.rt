@@ -1,0 +1,53 @@
+//! The jobs of a turn.
+
+ghost use Rattle.std.specs.Prelude.{◌≡◌, ◌≤◌, ◌<◌, ◌++◌, List, length, Some, IfOk, OnErr};
+ghost use Rattle.lsv_queue.specs.Passes.{items_of};
+ghost use Rattle.lsv_session.specs.declared.job.Job.{Job};
+
+use crate::weight::job_size;
+use lsv_queue::{Gap, NoMem, OutPass, Queue};
+use lsv_session::Job;
+use std::alloc::Global;
+use std::sync::Wait;
+
+/// The most jobs of a turn.
+const MOST: usize = 256;
+
+/// Takes jobs until there are 256, or none is there. If memory runs out, those that it took are lost.
+pub(crate) fn take_jobs<R: Wait>(
+    rt: &R,
+    alloc: Global,
+    inbox: &Queue<Job>,
+    pass: &mut OutPass<Job>,
+) -> Result<(Vec<Job>, Option<Gap<Job>>), NoMem>
+    requires queue { pass.old.queue ≡ inbox.now.name }
+    ensures queue { pass.new.queue ≡ pass.old.queue }
+    ensures joined { pass.new.taken.joined ≡ pass.old.taken.joined }
+    ensures jobs { IfOk result (λ t. items_of pass.new.taken.got ≡ items_of pass.old.taken.got ++ t.0.items) }
+    ensures most { IfOk result (λ t. length t.0.items ≤ 256) }
+    ensures gap { IfOk result (λ t. length t.0.items < 256 → t.1 ≡ Some (length (items_of pass.new.taken.got))) }
+    ensures lost { OnErr result ((lost : List Job) × (items_of pass.new.taken.got ≡ items_of pass.old.taken.got ++ lost)) }
+{
+    let mut jobs = Vec::new(alloc);
+    for _ in 0..MOST {
+        if jobs.reserve(1).is_err() {
+            return Err(NoMem);
+        }
+        match inbox.get(rt, pass) {
+            Ok(job) => jobs.push_reserved(job),
+            Err(gap) => {
+                return Ok((jobs, Some(gap)));
+            }
+        }
+    }
+    Ok((jobs, None))
+}
+
+/// How much memory these jobs are taken to hold.
+pub(crate) fn weigh(jobs: &[Job]) -> u64 {
+    let mut bytes: u64 = 0;
+    for job in jobs {
+        bytes = bytes.wrapping_add(job_size(job));
+    }
+    bytes
+}
