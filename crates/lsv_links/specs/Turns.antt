@@ -1,5 +1,5 @@
 -- How large the turns of a server are, and whose jobs are whose.
-use Rattle.std.specs.Prelude.{◌≡◌, ◌≤◌, ◌==◌, if◌then◌else◌, ℕ, List, [], ◌∷◌, length}
+use Rattle.std.specs.Prelude.{◌≡◌, ◌≤◌, ◌==◌, if◌then◌else◌, ℕ, List, [], ◌∷◌, None, length}
 use Rattle.std.specs.List.{AllByRecursion}
 use Rattle.lsv_session.specs.declared.job.Job.{Job}
 use Rattle.lsv_session.specs.declared.reply.Reply.{Reply}
@@ -9,9 +9,9 @@ use Rattle.lsv_turn.specs.Turns.{LaneTurn}
 abbrev pub most_jobs : ℕ
 most_jobs = 256
 
--- each of these turns has jobs, and no more than that
+-- each of these turns has jobs, and no more than that; and no gap is told of it
 abbrev pub AreSized : List LaneTurn → Type 0
-AreSized turns = AllByRecursion (λ t. (1 ≤ length t.jobs) × (length t.jobs ≤ most_jobs)) turns
+AreSized turns = AllByRecursion (λ t. (1 ≤ length t.jobs) × (length t.jobs ≤ most_jobs) × (t.gap ≡ None)) turns
 
 -- each of these jobs is of a connection of this worker
 abbrev pub AreOf : ℕ → List Job → Type 0

@@ -14,6 +14,11 @@ pub record QueueSeen : Type 0 where
   pub name : TableId
   pub capacity : ℕ
 
+-- an empty queue that a receiver met: its name, and how many items had been taken of it by then
+pub record GapSeen : Type 0 where
+  pub queue : TableId
+  pub at : ℕ
+
 module _ (T : Type 0) where
   -- a sender's pass: the name of its queue, and its list
   pub record Sender : Type 0 where

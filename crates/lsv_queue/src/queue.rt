@@ -4,7 +4,7 @@ ghost use Rattle.std.specs.Prelude.{◌≡◌, ◌+◌, ◌≤◌, ◌<◌, ℕ,
 ghost use Rattle.crossbeam_queue.specs.Fifo.{Held};
 ghost use Rattle.crossbeam_queue.specs.Passes.{ruled_capacity};
 ghost use Rattle.lsv_queue.specs.Order.{sent, taken, sender, receiver, one_more, after_body, after_taking, after_joining, KnowsAll, IsClosed, marks_of, HoldsRest};
-ghost use Rattle.lsv_queue.specs.Passes.{known, QueueSeen, Sender, Receiver, list_of, taken_of, items_of};
+ghost use Rattle.lsv_queue.specs.Passes.{known, GapSeen, QueueSeen, Sender, Receiver, list_of, taken_of, items_of};
 
 use crate::rule::{InOrder, Joins, Makes, Puts, Roles, Takes};
 use crate::view::{Letter, View};
@@ -12,7 +12,8 @@ use crossbeam_queue::{Pass, RuledArrayQueue};
 use lsv_base::NoMem;
 use lsv_session::Full;
 use std::alloc::Global;
-use std::marker::{Model, PhantomData};
+use std::marker::Model;
+use std::snapshot::Snapshot;
 use std::sync::Wait;
 
 type Ring<T> = RuledArrayQueue<Letter<T>, View<T>, InOrder>;
@@ -62,23 +63,24 @@ impl<T> Model for OutPass<T> {
     ghost invariant = { λ p. (p.pass.me.1 ≡ []) × (known p.pass ≡ receiver (taken_of (known p.pass).taken)) × (p.count ≡ length (items_of (taken_of (known p.pass).taken).got)) × (p.marks ≡ marks_of (taken_of (known p.pass).taken).got) };
 }
 
-/// Says that the queue was found empty. `get` alone makes one.
+/// Says that a queue was found empty, which one, and how many items its receiver had taken by then. `get` alone makes one.
 #[derive(Drop)]
 pub struct Gap<T> {
     at: u64,
-    of: PhantomData<T>,
+    /// The receiver's pass, as clauses see it.
+    pass: Snapshot<OutPass<T>>,
 }
 
 impl<T> Model for Gap<T> {
-    ghost Value = { ℕ };
+    ghost Value = { GapSeen };
 
-    ghost view = { λ g. g.at };
+    ghost view = { λ g. record { queue = g.pass.value.queue; at = g.at } };
 }
 
 impl<T> Gap<T> {
     /// How many items the receiver had taken by then; end marks don't count.
     pub fn at(&self) -> u64
-        ensures at { result ≡ self.now }
+        ensures at { result ≡ self.now.at }
     {
         self.at
     }
@@ -86,11 +88,11 @@ impl<T> Gap<T> {
 
 impl<T> OutPass<T> {
     fn gap(&self) -> Gap<T>
-        ensures at { result ≡ length (items_of self.now.taken.got) }
+        ensures at { result ≡ record { queue = self.now.queue; at = length (items_of self.now.taken.got) } }
     {
         Gap {
             at: self.count,
-            of: PhantomData,
+            pass: Snapshot::of(self),
         }
     }
 
@@ -228,7 +230,7 @@ impl<T: Drop> Queue<T> {
         ensures joined { pass.new.taken.joined ≡ pass.old.taken.joined }
         ensures got { (marks : List (Letter T)) × (items_of marks ≡ []) × MatchResult result (λ x. (from : ℕ) × (pass.new.taken.got ≡ (pass.old.taken.got ++ marks) ++ record { from = from; body = Some x } ∷ [])) (λ g. pass.new.taken.got ≡ pass.old.taken.got ++ marks) }
         ensures items { MatchResult result (λ x. items_of pass.new.taken.got ≡ items_of pass.old.taken.got ++ x ∷ []) (λ _. items_of pass.new.taken.got ≡ items_of pass.old.taken.got) }
-        ensures gap { MatchResult result (λ _. Unit {0}) (λ g. g ≡ length (items_of pass.new.taken.got)) }
+        ensures gap { MatchResult result (λ _. Unit {0}) (λ g. g ≡ record { queue = self.now.name; at = length (items_of pass.new.taken.got) }) }
         ensures known { MatchResult result (λ _. (rest : List (Letter T)) × KnowsAll pass.new.taken rest) (λ _. KnowsAll pass.new.taken []) }
         ensures closed { IsClosed pass.old.taken → MatchResult result (λ _. ⊥) (λ _. pass.new.taken ≡ pass.old.taken) }
     {

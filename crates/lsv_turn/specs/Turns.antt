@@ -1,7 +1,9 @@
 -- The turns of a lane: what came in each, at which moment, and what was replied.
 use Rattle.std.specs.Prelude.{◌≡◌, ◌≤◌, ◌<◌, ◌+◌, ◌&&◌, ◌++◌, ℕ, Bool, true, false, not, List, [], ◌∷◌, Option, Some, length, map}
 use Rattle.std.specs.List.{flat_map, list_any}
+use Rattle.atomic_table.specs.Seated.{TableId}
 use Rattle.lsv_base.specs.declared.time.TimeSpec.{TimeSpec}
+use Rattle.lsv_queue.specs.Passes.{GapSeen}
 use Rattle.lsv_session.specs.Connections.{same}
 use Rattle.lsv_session.specs.Transcript.{bodies_of}
 use Rattle.lsv_session.specs.declared.connection.ConnId.{ConnId}
@@ -14,17 +16,17 @@ use Rattle.lsv_session.specs.declared.reply.ReplyBody.TheVariants.{Say, Shut}
 
 -- ---- A turn
 
--- what a tape tells of a turn: its moment, its jobs in order, and how many jobs its lane had taken at the empty pop that ended it, if one did
+-- what a tape tells of a turn: its moment, its jobs in order, and the empty pop at which its lane stopped taking jobs, if there was one
 pub record TapeTurn : Type 0 where
   pub now : TimeSpec
   pub jobs : List Job
-  pub gap : Option ℕ
+  pub gap : Option GapSeen
 
--- a turn: its moment, its jobs, how many jobs its lane had taken at the empty pop that ended it, if one did, and the replies, in order
+-- a turn: its moment, its jobs, the empty pop at which its lane stopped taking jobs, if there was one, and the replies, in order
 pub record LaneTurn : Type 0 where
   pub now : TimeSpec
   pub jobs : List Job
-  pub gap : Option ℕ
+  pub gap : Option GapSeen
   pub replies : List Reply
 
 -- what a tape tells of it
@@ -45,17 +47,17 @@ replies_in turns = flat_map (λ t. t.replies) turns
 
 -- ---- How large turns are
 
--- A turn has 1 to 256 jobs. One of fewer was ended by an empty pop, whose place is the number of jobs through its last.
--- before: how many jobs the lane had taken before
-pub record IsTurn (before : ℕ) (t : LaneTurn) : Type 0 where
+-- A turn has 1 to 256 jobs. With fewer than 256 it ended since this queue was found empty, just after its last job was taken.
+-- before: how many items had been taken of the queue before the turn. No program's turns are said to be so yet.
+pub record IsTaken (queue : TableId) (before : ℕ) (t : LaneTurn) : Type 0 where
   pub some : 1 ≤ length t.jobs
   pub most : length t.jobs ≤ 256
-  pub gap : length t.jobs < 256 → t.gap ≡ Some (before + length t.jobs)
+  pub gap : length t.jobs < 256 → t.gap ≡ Some (record { queue = queue; at = before + length t.jobs })
 
 -- each of these turns is so, in order
-abbrev pub AreTurns : ℕ → List LaneTurn → Type 0
-AreTurns before [] = Unit {0}
-AreTurns before (t ∷ turns) = IsTurn before t × AreTurns (before + length t.jobs) turns
+abbrev pub AreTaken : TableId → ℕ → List LaneTurn → Type 0
+AreTaken queue before [] = Unit {0}
+AreTaken queue before (t ∷ turns) = IsTaken queue before t × AreTaken queue (before + length t.jobs) turns
 
 -- ---- Shut
 
@@ -80,9 +82,13 @@ abbrev pub EndsWithGone : List Body → Type 0
 EndsWithGone [] = Unit {0}
 EndsWithGone (b ∷ bodies) = (b ≡ Gone → bodies ≡ []) × EndsWithGone bodies
 
+-- none of these replies is to a connection that brought none of these jobs
+abbrev pub IsToThese : List Job → List Reply → Type 0
+IsToThese jobs replies = (k : ConnId) → bodies_of k jobs ≡ [] → NoneFor k replies
+
 -- of these replies none is to a connection that brought none of these jobs; and none after one that shuts its connection, if that brings nothing after its end
 pub record AreAsked (jobs : List Job) (replies : List Reply) : Type 0 where
-  pub asked : (k : ConnId) → bodies_of k jobs ≡ [] → NoneFor k replies
+  pub asked : IsToThese jobs replies
   pub behind : (k : ConnId) (before after : List Reply) (r : Reply) → EndsWithGone (bodies_of k jobs) → replies ≡ before ++ r ∷ after → same r.conn k ≡ true → r.body ≡ Shut → NoneFor k after
 
 -- and so of these turns

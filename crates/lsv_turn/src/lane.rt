@@ -1,6 +1,6 @@
 ghost use Rattle.std.specs.Prelude.{List, [], ◌∷◌, ◌++◌, IsSome, IfOk, OnErr};
 ghost use Rattle.lsv_base.specs.Time.{nanos_of};
-ghost use Rattle.lsv_turn.specs.Turns.{AreAskedIn, LaneTurn};
+ghost use Rattle.lsv_turn.specs.Turns.{AreAskedIn, IsToThese, LaneTurn};
 
 use lsv_base::{NoMem, TimeSpec};
 use lsv_queue::Gap;
@@ -20,8 +20,9 @@ pub trait Lane {
     /// These turns, from this start on, made the lane what it is.
     ghost made_by: { Start → Self → List LaneTurn → Type 0 };
 
-    /// Does a turn of these jobs, which this gap ended if one did, and gives its moment. The replies are this turn's alone. Where it
-    /// is told, none is to a connection that brought nothing, and none after the Shut of one that brings nothing after its end.
+    /// Does a turn of these jobs, and gives its moment. `gap` is the empty pop at which the lane stopped taking jobs, if there was
+    /// one. The replies are this turn's alone, and each is to the connection of one of these jobs. If it is known to whom the lane
+    /// replies, none comes after the Shut of a connection that brings nothing after its end.
     fn turn(
         &mut self,
         jobs: Vec<Job>,
@@ -32,6 +33,7 @@ pub trait Lane {
         ensures valid { IfOk result (λ now. IsSome (nanos_of now)) }
         ensures made { IfOk result (λ now. (start : Start) (turns : List LaneTurn) → made_by start self.old turns →
             made_by start self.new (turns ++ record { now = now; jobs = jobs.items; gap = gap; replies = replies.new.items } ∷ [])) }
+        ensures to_these { IfOk result (λ now. IsToThese jobs.items replies.new.items) }
         ensures asked { tells → IfOk result (λ now. (start : Start) (turns : List LaneTurn) → made_by start self.old turns →
             AreAskedIn (turns ++ record { now = now; jobs = jobs.items; gap = gap; replies = replies.new.items } ∷ [])) }
         ensures lost { OnErr result ((start : Start) (turns : List LaneTurn) → made_by start self.old turns → made_by start self.new turns) };

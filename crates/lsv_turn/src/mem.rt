@@ -9,16 +9,16 @@ use std::alloc::Global;
 use std::marker::Model;
 use std::mem;
 
-/// A turn that was kept. `gap` is how many jobs its lane had taken at the empty pop that ended it, if one did.
-#[derive(Debug, Drop)]
+/// A turn that was kept. `gap` is the empty pop at which its lane stopped taking jobs, if there was one.
+#[derive(Drop)]
 pub struct KeptTurn {
     pub now: TimeSpec,
     pub jobs: List<Job>,
-    pub gap: Option<u64>,
+    pub gap: Option<Gap<Job>>,
 }
 
 /// A tape in memory, which tells its turns.
-#[derive(Debug, Drop)]
+#[derive(Drop)]
 pub struct MemTape {
     alloc: Global,
     turns: Vec<KeptTurn>,
@@ -63,21 +63,11 @@ impl Tape for MemTape {
         let turn = KeptTurn {
             now,
             jobs: List::from_vec(jobs),
-            gap: place_of(gap),
+            gap,
         };
         let Ok(()) = self.turns.push(turn) else {
             unreachable!();
         };
-    }
-}
-
-/// The place of a gap.
-fn place_of(gap: Option<Gap<Job>>) -> Option<u64>
-    ensures { result ≡ gap }
-{
-    match gap {
-        Some(gap) => Some(gap.at()),
-        None => None,
     }
 }
 

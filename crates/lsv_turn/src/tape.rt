@@ -24,7 +24,8 @@ pub trait Tape {
         ensures same { tells → turns self.new ≡ turns self.old }
         ensures ok { OnOk result (has_room self.new jobs.now) };
 
-    /// Keeps a turn of these jobs, for which there is room, at this moment, which this gap ended if one did. It can't fail.
+    /// Keeps a turn of these jobs, for which there is room, at this moment. `gap` is the empty pop at which the lane stopped taking
+    /// jobs, if there was one. It can't fail.
     fn keep(&mut self, jobs: &[Job], now: TimeSpec, gap: Option<Gap<Job>>)
         requires room { has_room self.old jobs.now }
         ensures kept { tells → turns self.new ≡ turns self.old ++ record { now = now; jobs = jobs.now; gap = gap } ∷ [] };
