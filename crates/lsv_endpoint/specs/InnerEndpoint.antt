@@ -9,6 +9,7 @@ use Rattle.lsv_reactor.specs.declared.endpoint.EndpointEnd.{EndpointEnd}
 use Rattle.lsv_reactor.specs.declared.endpoint.EndpointEnd.TheVariants as ends
 use Rattle.lsv_session.specs.declared.job.Job.{Job}
 use Rattle.lsv_session.specs.declared.reply.Reply.{Reply}
+use Rattle.lsv_worker.specs.Frames.{PutsOwn}
 use Rattle.lsv_worker.specs.Worker.{HoldsOwed, IsFit, Represents, setting}
 use Rattle.lsv_worker.specs.declared.link.Phase.{Phase}
 use Rattle.lsv_worker.specs.declared.link.Phase.TheVariants as phases
@@ -88,9 +89,10 @@ pub record HasPast {P : Type 0} (tells : Type 0) (state : P → PortState) (ledg
   pub took : List Reply
   pub made : IsMade tells state ledger start endpoint (λ lane. gave lane ++ jobs lane) took
 
--- it is the same endpoint still, and put to its inboxes what stands there more, whatever it had put and taken
+-- it is the same endpoint still, and put to its inboxes what stands there more, all of it of its own connections, whatever it had put and taken
 pub record PutsMore {P : Type 0} (tells : Type 0) (state : P → PortState) (ledger : P → PortLedger) (old new : WorkerEndpoint P) (before after : ℕ → List Job) : Type 0 where
   pub number : (setting new.worker).number ≡ (setting old.worker).number
   pub lanes : (setting new.worker).lanes ≡ (setting old.worker).lanes
   pub continues : Continues (ledger old.port) (ledger new.port)
+  pub own : PutsOwn (setting old.worker).number before after
   pub made : (start : PortView) (gave : ℕ → List Job) (took : List Reply) → IsMade tells state ledger start old (λ lane. gave lane ++ before lane) took → IsMade tells state ledger start new (λ lane. gave lane ++ after lane) took

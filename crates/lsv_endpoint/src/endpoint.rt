@@ -152,6 +152,7 @@ impl<P: Port> Endpoint for WorkerEndpoint<P> {
 
     ghost made_by = { λ start endpoint gave took. IsMade P.tells P.state P.ledger start endpoint gave took };
 
+    // It says nothing here: that a turn has one call's jobs is proved for any endpoint (lsv_reactor).
     ghost called = { λ endpoint calls. Unit {0} };
 
     fn open(&mut self, address: &str, stop_after: Option<u32>) -> bool {

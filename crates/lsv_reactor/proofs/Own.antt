@@ -9,7 +9,7 @@ use Rattle.lsv_session.specs.declared.job.Job.{Job}
 use Rattle.lsv_session.specs.declared.reply.Reply.{Reply}
 use Rattle.lsv_links.specs.Turns.{AreOf, jobs_of, replies_to}
 use Rattle.lsv_turn.specs.Turns.{LaneTurn, jobs_in}
-use Rattle.lsv_reactor.specs.Calls.{IsCall, call_of, calls_in, calls_of, is_by, jobs_by}
+use Rattle.lsv_reactor.specs.Calls.{IsOfOne, call_of, calls_in, calls_of, is_by, jobs_by}
 
 -- two numbers, and the value of their test
 pub data EqOr (a b : ℕ) : Type 0 where
@@ -76,7 +76,7 @@ pub jobs_join : (gave : List (List Job)) (jobs : List Job) → jobs_by (gave ++ 
 jobs_join gave jobs = flat_map-append (λ (l : List Job). l) gave (call_of jobs) ∙ ap (λ (l : List Job). jobs_by gave ++ l) (jobs_call jobs)
 
 -- what a worker's calls gave are its jobs
-jobs_more : (n w : ℕ) (jobs : List Job) (calls : List (List Job)) → IsCall n jobs → jobs_by (calls_of w calls) ≡ jobs_of w (jobs_by calls) → jobs_by (calls_of w (jobs ∷ calls)) ≡ jobs_of w (jobs ++ jobs_by calls)
+jobs_more : (n w : ℕ) (jobs : List Job) (calls : List (List Job)) → IsOfOne n jobs → jobs_by (calls_of w calls) ≡ jobs_of w (jobs_by calls) → jobs_by (calls_of w (jobs ∷ calls)) ≡ jobs_of w (jobs ++ jobs_by calls)
 jobs_more n w [] calls is e = e
 jobs_more n w (x ∷ jobs) calls is e = elim (eq_or x.conn.worker w) [
   | equal p t ↦
@@ -90,7 +90,7 @@ jobs_more n w (x ∷ jobs) calls is e = elim (eq_or x.conn.worker w) [
       ap jobs_by calls_are ∙ e ∙ ap (λ (l : List Job). l ++ jobs_of w (jobs_by calls)) (sym none) ∙ sym (jobs_append w (x ∷ jobs) (jobs_by calls))
 ]
 
-pub jobs_by_own : (n w : ℕ) (calls : List (List Job)) → AllByRecursion (IsCall n) calls → jobs_by (calls_of w calls) ≡ jobs_of w (jobs_by calls)
+pub jobs_by_own : (n w : ℕ) (calls : List (List Job)) → AllByRecursion (IsOfOne n) calls → jobs_by (calls_of w calls) ≡ jobs_of w (jobs_by calls)
 jobs_by_own n w [] all = refl
 jobs_by_own n w (jobs ∷ calls) all = jobs_more n w jobs calls all.0 (jobs_by_own n w calls all.1)
 
@@ -140,7 +140,7 @@ of_worker w (x ∷ jobs) job all c = elim (Contains-append_cases (x ∷ []) jobs
 ]
 
 -- a job that came of these calls is of a worker with a place
-pub within_calls : (n : ℕ) (calls : List (List Job)) (job : Job) → AllByRecursion (IsCall n) calls → Contains (jobs_by calls) job → job.conn.worker < n
+pub within_calls : (n : ℕ) (calls : List (List Job)) (job : Job) → AllByRecursion (IsOfOne n) calls → Contains (jobs_by calls) job → job.conn.worker < n
 within_calls n [] job all c = absurd (let less = c.1 in omega arith)
 within_calls n (jobs ∷ calls) job all c = elim (Contains-append_cases jobs (jobs_by calls) job c) [
   | inl here ↦ let is = all.0 in let e = of_worker is.worker jobs job is.own here in let less : is.worker < n = is.place in omega (arith, e, less)

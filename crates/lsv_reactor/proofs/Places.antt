@@ -12,7 +12,8 @@ use Rattle.lsv_port.proofs.LedgerLemmas.{continues_then}
 use Rattle.lsv_links.specs.Lanes.{one_lane}
 use Rattle.lsv_links.specs.Turns.{AreOf, replies_to}
 use Rattle.lsv_links.specs.Views.{PortView}
-use Rattle.lsv_reactor.specs.Calls.{IsCall, call_of, calls_of, jobs_by}
+use Rattle.lsv_worker.specs.Memory.{bytes_behind_first}
+use Rattle.lsv_reactor.specs.Calls.{IsOfOne, call_of, calls_of, jobs_by}
 use Rattle.std.specs.List.{AllByRecursion}
 use Rattle.lsv_reactor.proofs.Own.{EqOr.equal, EqOr.unequal, calls_append, eq_or, jobs_join, other_call, other_reply, own_call, own_reply, replies_append}
 
@@ -27,14 +28,14 @@ set_there xs i j v x ne e =
     slice_get-get_or xs j x less' ∙ ap Some (sym (get_or-set_other xs i j v x ne) ∙ get_or_from_slice_get (set xs i v) j x x e)
 
 -- calls of workers with places, and one more
-calls_more : (n m v : ℕ) (calls : List (List Job)) (jobs : List Job) → n ≡ m → v < n → AreOf v jobs → AllByRecursion (IsCall n) calls → AllByRecursion (IsCall m) (calls ++ call_of jobs)
-calls_more n m v [] [] same less own all = tt
-calls_more n m v [] (x ∷ jobs) same less own all = (record { worker = v; place = omega (arith, same, less); own = own }, tt)
-calls_more n m v (call ∷ calls) jobs same less own all =
-    (record { worker = all.0.worker; place = let k : all.0.worker < n = all.0.place in omega (arith, same, k); own = all.0.own }, calls_more n m v calls jobs same less own all.1)
+calls_more : (n m v : ℕ) (calls : List (List Job)) (jobs : List Job) → n ≡ m → v < n → AreOf v jobs → bytes_behind_first jobs ≤ 67108864 → AllByRecursion (IsOfOne n) calls → AllByRecursion (IsOfOne m) (calls ++ call_of jobs)
+calls_more n m v [] [] same less own light all = tt
+calls_more n m v [] (x ∷ jobs) same less own light all = (record { worker = v; place = omega (arith, same, less); own = own; light = light }, tt)
+calls_more n m v (call ∷ calls) jobs same less own light all =
+    (record { worker = all.0.worker; place = let k : all.0.worker < n = all.0.place in omega (arith, same, k); own = all.0.own; light = all.0.light }, calls_more n m v calls jobs same less own light all.1)
 
-calls_kept : (n m : ℕ) (calls : List (List Job)) → n ≡ m → AllByRecursion (IsCall n) calls → AllByRecursion (IsCall m) calls
-calls_kept n m calls same all = subst (λ (k : ℕ). AllByRecursion (IsCall k) calls) same all
+calls_kept : (n m : ℕ) (calls : List (List Job)) → n ≡ m → AllByRecursion (IsOfOne n) calls → AllByRecursion (IsOfOne m) calls
+calls_kept n m calls same all = subst (λ (k : ℕ). AllByRecursion (IsOfOne k) calls) same all
 
 -- the calls of a worker, and one more of its own
 own_given : (i : ℕ) (calls : List (List Job)) (added : List Job) → AreOf i added → calls_of i (calls ++ call_of added) ≡ calls_of i calls ++ call_of added
@@ -90,15 +91,15 @@ module _ {T S : Type 0} (number lanes : T → ℕ) (view : T → PortView) (made
       ]
 
   -- a call of one post gives jobs of its own
-  pub gives : (starts : ℕ → S) (ledgers : ℕ → PortLedger) (posts : List T) (i : ℕ) (d y : T) (calls : List (List Job)) (added : List Job) (took : List Reply) → i < length posts → AreOf i added
+  pub gives : (starts : ℕ → S) (ledgers : ℕ → PortLedger) (posts : List T) (i : ℕ) (d y : T) (calls : List (List Job)) (added : List Job) (took : List Reply) → i < length posts → AreOf i added → bytes_behind_first added ≤ 67108864
       → Gives number lanes view made_by called (get_or posts i d) y added
       → ArePosts number lanes view made_by called starts ledgers posts calls took → ArePosts number lanes view made_by called starts ledgers (set posts i y) (calls ++ call_of added) took
-  gives starts ledgers posts i d y calls added took less mine goes all =
+  gives starts ledgers posts i d y calls added took less mine light goes all =
       let n : number (get_or posts i d) ≡ i = (at_place starts ledgers posts i d calls took less all).numbered in
       let own : AreOf (number (get_or posts i d)) added = subst (λ (k : ℕ). AreOf k added) (sym n) mine in
       record {
         each = given starts ledgers posts i d y calls added took less own goes all;
-        placed = calls_more (length posts) (length (set posts i y)) i calls added (sym (length-set posts i y)) less mine all.placed;
+        placed = calls_more (length posts) (length (set posts i y)) i calls added (sym (length-set posts i y)) less mine light all.placed;
       }
 
   untaken : (starts : ℕ → S) (ledgers : ℕ → PortLedger) (j : ℕ) (z : T) (r : Reply) (calls : List (List Job)) (took : List Reply) → r.conn.worker ≢ j → IsPost number lanes view made_by called (starts j) (ledgers j) j z calls took

@@ -90,8 +90,8 @@ served_all {T} tells lane_tells number lanes made_by called begun view starts le
           (subst (λ (w : ℕ). Serves 1 w (λ lane. one_lane lane jobs) mine_took (begun (starts i)) (view post)) p.numbered
           (subst (λ (n : ℕ). Serves n (number post) (λ lane. one_lane lane jobs) mine_took (begun (starts i)) (view post)) p.laned own))));
       within = λ job c. within_calls (length posts) (calls_in turns) job are.placed (subst (λ (l : List Job). Contains l job) (sym (jobs_by_turns turns)) c);
-      visits = record {
-        calls = are.placed;
+      calls = record {
+        of_one = are.placed;
         answered = λ i post e. (are.each i post e).answered;
         made = λ i post e. subst (λ (l : List Job). made_by (starts i) post (λ lane. one_lane lane l) (replies_to i (replies_in turns))) (mine i) (are.each i post e).made;
       };

@@ -15,7 +15,7 @@ use Rattle.lsv_links.specs.Links.{PutsPrefixes}
 use Rattle.lsv_links.specs.Turns.{replies_to}
 use Rattle.lsv_links.specs.Views.{PortView}
 use Rattle.lsv_turn.specs.Turns.{LaneTurn, jobs_in, replies_in}
-use Rattle.lsv_reactor.specs.Calls.{IsCall, calls_in, calls_of, jobs_by}
+use Rattle.lsv_reactor.specs.Calls.{IsOfOne, calls_in, calls_of, jobs_by}
 use Rattle.lsv_reactor.specs.InnerLoop.{KeepLedgers, ArePosts, AreStopped, IsPost}
 use Rattle.lsv_reactor.specs.Served.{PutsAll}
 use Rattle.lsv_reactor.proofs.Own.{EqOr.equal, EqOr.unequal, eq_or, jobs_by_own, jobs_by_turns, within_calls}
@@ -25,7 +25,7 @@ use Rattle.lsv_reactor.proofs.OneLane.{puts_of_one}
 use Rattle.std.proofs.lemmas.Option.{slice_get_within}
 
 module _ {T S : Type 0} (tells : Type 0) (number lanes : T → ℕ) (made_by : S → T → (ℕ → List Job) → List Reply → Type 0) (called : T → List (List Job) → Type 0) (begun : S → PortView) (view : T → PortView) (starts : ℕ → S) (ledgers : ℕ → PortLedger) where
-  pub stopped_none : (posts : List T) (calls : List (List Job)) (took : List Reply) → AllByRecursion (IsCall (length posts)) calls → AreStopped tells begun view starts ledgers posts calls took 0
+  pub stopped_none : (posts : List T) (calls : List (List Job)) (took : List Reply) → AllByRecursion (IsOfOne (length posts)) calls → AreStopped tells begun view starts ledgers posts calls took 0
   stopped_none posts calls took placed = record { continues = λ i post less e. absurd (omega (arith, less)); put = λ told i post less e. absurd (omega (arith, less)); placed = placed }
 
   -- what is said of the post at a place below this
@@ -54,7 +54,7 @@ module _ {T S : Type 0} (tells : Type 0) (number lanes : T → ℕ) (made_by : S
             (puts_of_one place (jobs_by (calls_of place calls)) (replies_to place took) (begun (starts place)) (view y)
             (subst (λ (n : ℕ). PutsPrefixes n (λ lane. one_lane lane (jobs_by (calls_of place calls))) (λ lane. replies_to place took) (begun (starts place)) (view y)) is.numbered (put told (starts place) (λ lane. one_lane lane (jobs_by (calls_of place calls))) (replies_to place took) is.made)))))
             (below.put told);
-        placed = subst (λ (n : ℕ). AllByRecursion (IsCall n) calls) (sym (length-set posts place y)) below.placed;
+        placed = subst (λ (n : ℕ). AllByRecursion (IsOfOne n) calls) (sym (length-set posts place y)) below.placed;
       }
 
   pub stopped_whole : (posts : List T) (calls : List (List Job)) (took : List Reply) (count : ℕ) → length posts ≤ count → AreStopped tells begun view starts ledgers posts calls took count → AreStopped tells begun view starts ledgers posts calls took (length posts)

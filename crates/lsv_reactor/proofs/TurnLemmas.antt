@@ -29,10 +29,10 @@ replies_last turns t = flat_map-append (λ (u : LaneTurn). u.replies) turns (t �
 
 module _ {L M : Type 0} (tells : Type 0) (made_by : M → L → List LaneTurn → Type 0) (start : M) where
   -- the lane with one turn more
-  pub lane_turned : (old new : L) (turns : List LaneTurn) (t : LaneTurn) → 1 ≤ length t.jobs → length t.jobs ≤ most_jobs
+  pub lane_turned : (old new : L) (turns : List LaneTurn) (t : LaneTurn) → 1 ≤ length t.jobs → length t.jobs ≤ most_jobs → t.gap ≡ None
       → (made_by start old turns → made_by start new (turns ++ t ∷ [])) → (tells → made_by start old turns → AreAskedIn (turns ++ t ∷ []))
       → IsLane tells made_by start old turns → IsLane tells made_by start new (turns ++ t ∷ [])
-  lane_turned old new turns t some few goes asked is = record { made = goes is.made; sized = all_last _ turns t is.sized (some, few); asked = λ told. asked told is.made }
+  lane_turned old new turns t some few gap goes asked is = record { made = goes is.made; sized = all_last _ turns t is.sized (some, few, gap); asked = λ told. asked told is.made }
 
   -- and where it made none
   pub lane_kept : (old new : L) (turns : List LaneTurn) → (made_by start old turns → made_by start new turns) → IsLane tells made_by start old turns → IsLane tells made_by start new turns

@@ -1,8 +1,9 @@
 -- What the calls of endpoints put, those of each call together, and whose it was.
-use Rattle.std.specs.Prelude.{◌<◌, ◌==◌, if◌then◌else◌, ℕ, Bool, false, List, [], ◌∷◌, flat_map, map}
+use Rattle.std.specs.Prelude.{◌<◌, ◌≤◌, ◌==◌, if◌then◌else◌, ℕ, Bool, false, List, [], ◌∷◌, flat_map, map}
 use Rattle.lsv_session.specs.declared.job.Job.{Job}
 use Rattle.lsv_links.specs.Turns.{AreOf}
 use Rattle.lsv_turn.specs.Turns.{LaneTurn}
+use Rattle.lsv_worker.specs.Memory.{bytes_behind_first}
 
 -- the call that gave these jobs, if it gave any
 abbrev pub call_of : List Job → List (List Job)
@@ -13,7 +14,7 @@ call_of (job ∷ jobs) = (job ∷ jobs) ∷ []
 abbrev pub jobs_by : List (List Job) → List Job
 jobs_by calls = flat_map (λ jobs. jobs) calls
 
--- the calls after these turns, if each turn has all jobs that one call gave
+-- the jobs of each turn
 abbrev pub calls_in : List LaneTurn → List (List Job)
 calls_in turns = map (λ t. t.jobs) turns
 
@@ -27,8 +28,9 @@ abbrev pub calls_of : ℕ → List (List Job) → List (List Job)
 calls_of worker [] = []
 calls_of worker (jobs ∷ calls) = if is_by worker jobs then jobs ∷ calls_of worker calls else calls_of worker calls
 
--- these jobs came of one call: they are all of one worker, whose number is below this
-pub record IsCall (places : ℕ) (jobs : List Job) : Type 0 where
+-- these jobs are all of one worker, whose number is below this, and those after the first hold at most 64 MiB
+pub record IsOfOne (places : ℕ) (jobs : List Job) : Type 0 where
   pub worker : ℕ
   pub place : worker < places
   pub own : AreOf worker jobs
+  pub light : bytes_behind_first jobs ≤ 67108864

@@ -10,8 +10,7 @@ use Rattle.lsv_links.specs.Links.{ServesPort}
 use Rattle.lsv_links.specs.Views.{PortView}
 use Rattle.lsv_turn.specs.Turns.{EndsWithGone, NoneFor}
 
--- Of these replies none is to a connection that brought no lane a job. And none comes after one that shuts its connection, if
--- that brings one lane alone jobs, and nothing after its end.
+-- Nobody is replied to who gave no job. A connection whose jobs all went to one lane and end with its Gone gets nothing after a Shut.
 pub record AreAskedBy (jobs : ℕ → List Job) (replies : List Reply) : Type 0 where
   pub asked : (k : ConnId) → ((lane : ℕ) → bodies_of k (jobs lane) ≡ []) → NoneFor k replies
   pub behind : (k : ConnId) (lane : ℕ) (before after : List Reply) (r : Reply) → ((m : ℕ) → m ≢ lane → bodies_of k (jobs m) ≡ []) → EndsWithGone (bodies_of k (jobs lane))

@@ -8,7 +8,7 @@ use Rattle.lsv_links.specs.Lanes.{one_lane}
 use Rattle.lsv_links.specs.Links.{PutsPrefixes}
 use Rattle.lsv_links.specs.Turns.{AreSized, replies_to}
 use Rattle.lsv_links.specs.Views.{PortFailed, PortView}
-use Rattle.lsv_reactor.specs.Calls.{IsCall, call_of, calls_of, jobs_by}
+use Rattle.lsv_reactor.specs.Calls.{IsOfOne, call_of, calls_of, jobs_by}
 use Rattle.lsv_reactor.specs.Endpoints.{Serves}
 use Rattle.lsv_reactor.specs.declared.endpoint.EndpointEnd.{EndpointEnd}
 use Rattle.lsv_reactor.specs.declared.endpoint.EndpointEnd.TheVariants as its_end
@@ -18,7 +18,7 @@ use Rattle.lsv_turn.specs.Turns.{AreAskedIn, LaneTurn}
 use Rattle.lsv_worker.specs.Memory.{IsOrderly, waiting}
 use Rattle.lsv_worker.specs.declared.memory.MemInbox.{MemInbox}
 
--- a post is numbered by its place, and its port is the one with this ledger still; of these calls it answered its own, and of these replies it took its own
+-- this post's number is its place, its port is still the one of this ledger, and it put these of the calls' jobs and took these of the replies
 pub record IsPost {T S : Type 0} (number lanes : T → ℕ) (view : T → PortView) (made_by : S → T → (ℕ → List Job) → List Reply → Type 0) (called : T → List (List Job) → Type 0) (start : S) (ledger : PortLedger) (i : ℕ) (post : T) (calls : List (List Job)) (replies : List Reply) : Type 0 where
   pub numbered : number post ≡ i
   pub laned : lanes post ≡ 1
@@ -29,7 +29,7 @@ pub record IsPost {T S : Type 0} (number lanes : T → ℕ) (view : T → PortVi
 -- each of these posts is so, from these starts on; and each call is of one worker with a place
 pub record ArePosts {T S : Type 0} (number lanes : T → ℕ) (view : T → PortView) (made_by : S → T → (ℕ → List Job) → List Reply → Type 0) (called : T → List (List Job) → Type 0) (starts : ℕ → S) (ledgers : ℕ → PortLedger) (posts : List T) (calls : List (List Job)) (replies : List Reply) : Type 0 where
   pub each : (i : ℕ) (post : T) → slice_get posts i ≡ Some post → IsPost number lanes view made_by called (starts i) (ledgers i) i post calls replies
-  pub placed : AllByRecursion (IsCall (length posts)) calls
+  pub placed : AllByRecursion (IsOfOne (length posts)) calls
 
 -- one call of a post, which found nothing in its inbox, put these jobs there, whatever it had put and taken
 pub record Gives {T S : Type 0} (number lanes : T → ℕ) (view : T → PortView) (made_by : S → T → (ℕ → List Job) → List Reply → Type 0) (called : T → List (List Job) → Type 0) (old new : T) (jobs : List Job) : Type 0 where
@@ -84,4 +84,4 @@ KeepLedgers {T} view ledgers posts = (i : ℕ) (post : T) → slice_get posts i 
 pub record AreStopped {T S : Type 0} (tells : Type 0) (begun : S → PortView) (view : T → PortView) (starts : ℕ → S) (ledgers : ℕ → PortLedger) (posts : List T) (calls : List (List Job)) (took : List Reply) (count : ℕ) : Type 0 where
   pub continues : (i : ℕ) (post : T) → i < count → slice_get posts i ≡ Some post → Continues (ledgers i) (view post).ledger
   pub put : tells → (i : ℕ) (post : T) → i < count → slice_get posts i ≡ Some post → PutsPrefixes i (λ lane. one_lane lane (jobs_by calls)) (λ lane. one_lane lane took) (begun (starts i)) (view post)
-  pub placed : AllByRecursion (IsCall (length posts)) calls
+  pub placed : AllByRecursion (IsOfOne (length posts)) calls

@@ -9,7 +9,7 @@ use Rattle.lsv_links.specs.Lanes.{one_lane}
 use Rattle.lsv_links.specs.Links.{PutsPrefixes, ServesPort}
 use Rattle.lsv_links.specs.Turns.{jobs_of, replies_to}
 use Rattle.lsv_links.specs.Views.{PortFailed, PortView}
-use Rattle.lsv_reactor.specs.Calls.{IsCall, calls_in, calls_of}
+use Rattle.lsv_reactor.specs.Calls.{IsOfOne, calls_in, calls_of}
 use Rattle.lsv_reactor.specs.declared.rounds.PortsEnd.{PortsEnd}
 use Rattle.lsv_reactor.specs.declared.rounds.PortsEnd.TheVariants.{Stopped, Failed}
 
@@ -18,10 +18,10 @@ abbrev pub HasPortsEnd : {T S : Type 0} (tells : Type 0) (begun : S → PortView
 HasPortsEnd {T} tells begun view starts posts Stopped = tells → (i : ℕ) (post : T) → slice_get posts i ≡ Some post → (view post).state.stopped ≡ true
 HasPortsEnd {T} tells begun view starts posts Failed = (i : ℕ) × ((post : T) × (slice_get posts i ≡ Some post) × PortFailed (begun (starts i)) (view post))
 
--- Each turn has all jobs that one call of a post gave: the turns whose jobs are of a post's place are the calls that it answered, in
--- order. These jobs and the replies of the turns are what made it.
-pub record AreVisits {T S : Type 0} (made_by : S → T → (ℕ → List Job) → List Reply → Type 0) (called : T → List (List Job) → Type 0) (starts : ℕ → S) (posts : List T) (turns : List LaneTurn) : Type 0 where
-  pub calls : AllByRecursion (IsCall (length posts)) (calls_in turns)
+-- The jobs of the turns of one post, a list a turn, are what its calls put, in order, without calls that put nothing. These jobs and
+-- the replies of the turns are what made it.
+pub record AreCalls {T S : Type 0} (made_by : S → T → (ℕ → List Job) → List Reply → Type 0) (called : T → List (List Job) → Type 0) (starts : ℕ → S) (posts : List T) (turns : List LaneTurn) : Type 0 where
+  pub of_one : AllByRecursion (IsOfOne (length posts)) (calls_in turns)
   pub answered : (i : ℕ) (post : T) → slice_get posts i ≡ Some post → called post (calls_of i (calls_in turns))
   pub made : (i : ℕ) (post : T) → slice_get posts i ≡ Some post → made_by (starts i) post (λ lane. one_lane lane (jobs_of i (jobs_in turns))) (replies_to i (replies_in turns))
 
@@ -30,7 +30,7 @@ pub record ServesAll {T S : Type 0} (tells lane_tells : Type 0) (made_by : S →
   pub each : tells → (i : ℕ) (post : T) → slice_get posts i ≡ Some post
       → ServesPort (λ lane. lane_tells) 1 i (λ lane. jobs_in (one_lane lane turns)) (λ lane. replies_in (one_lane lane turns)) (begun (starts i)) (view post)
   pub within : (job : Job) → Contains (jobs_in turns) job → job.conn.worker < length posts
-  pub visits : AreVisits made_by called starts posts turns
+  pub calls : AreCalls made_by called starts posts turns
   pub ended : HasPortsEnd tells begun view starts posts end
 
 -- All links of all ports are closed. The jobs of these turns of the one lane are the first of what was read of them, nothing was put

@@ -5,6 +5,7 @@ ghost use Rattle.lsv_session.specs.declared.job.Job.{Job};
 ghost use Rattle.lsv_session.specs.declared.reply.Reply.{Reply};
 ghost use Rattle.lsv_links.specs.Links.{PutsPrefixes};
 ghost use Rattle.lsv_links.specs.Views.{PortFailed};
+ghost use Rattle.lsv_worker.specs.Frames.{PutsOwn};
 ghost use Rattle.lsv_reactor.specs.Calls.{call_of};
 ghost use Rattle.lsv_reactor.specs.Endpoints.{Serves};
 
@@ -18,8 +19,8 @@ pub enum EndpointEnd {
     Stopped,
     /// The same, but that its port couldn't listen, or a turn of it failed.
     Failed,
-    /// It was stopped, or lost a reply: memory ran out for it, or it was to no connection. What is said of its links then is
-    /// said by `stop`.
+    /// It was stopped; or it lost a reply, for which memory ran out or which was to no connection. `stop` says what is said of its
+    /// links then.
     Lost,
 }
 
@@ -51,8 +52,8 @@ pub trait Endpoint {
     /// From this start on, these are the jobs that it put to each lane, and the replies that it took.
     ghost made_by: { Start → Self → (ℕ → List Job) → List Reply → Type 0 };
 
-    /// These are the jobs that its calls of `wait` and `push` put to lane 0, those of each call together. It is known where each
-    /// call met an inbox in which no job stood.
+    /// What its calls of `wait` and `push` put to lane 0, a list for each call that put something. It is known only if each call was
+    /// given an empty inbox: so it says nothing for threads, where a turn's gap takes its place.
     ghost called: { Self → List (List Job) → Type 0 };
 
     /// Begins to take links at this address, a host and a port number. With a number in `stop_after` its port tells Stop once
@@ -69,30 +70,33 @@ pub trait Endpoint {
         ensures deaf { tells → result ≡ false → HasRisen (view self.old).ledger.deaf (view self.new).ledger.deaf }
         ensures cause { HasListenCause (result ≡ false) (view self.old).ledger (view self.new).ledger };
 
-    /// Waits until its port tells something, or a while, and does what that asks for. What comes of it is put to the inbox; a job
-    /// for which its lane has no room is kept.
+    /// Waits until its port tells something, or a while, and does what that asks for. What comes of it is put to the inbox, after
+    /// what stands there, and is of its own connections. A job for which its lane has no room is kept.
     fn wait<I: Inbox>(&mut self, inbox: &mut I)
         requires lanes { I.lanes inbox.old ≡ lanes self.old }
         requires begun { (start : Start) × (gave : ℕ → List Job) × (took : List Reply) × made_by start self.old (λ lane. gave lane ++ I.jobs inbox.old lane) took }
         ensures made { (start : Start) (gave : ℕ → List Job) (took : List Reply) → made_by start self.old (λ lane. gave lane ++ I.jobs inbox.old lane) took → made_by start self.new (λ lane. gave lane ++ I.jobs inbox.new lane) took }
         ensures called { (calls : List (List Job)) → ((lane : ℕ) → I.jobs inbox.old lane ≡ []) → called self.old calls → called self.new (calls ++ call_of (I.jobs inbox.new 0)) }
+        ensures own { PutsOwn (number self.old) (I.jobs inbox.old) (I.jobs inbox.new) }
         ensures number { number self.new ≡ number self.old }
         ensures lanes { lanes self.new ≡ lanes self.old }
         ensures continues { Continues (view self.old).ledger (view self.new).ledger }
         ensures same { I.is_same inbox.old inbox.new };
 
-    /// Does what can be done without waiting: it writes what is unsent, and reads where reading had stopped.
+    /// Does what can be done without waiting: it writes what is unsent, and reads where reading had stopped. What comes of it is put
+    /// as `wait` puts it.
     fn push<I: Inbox>(&mut self, inbox: &mut I)
         requires lanes { I.lanes inbox.old ≡ lanes self.old }
         requires begun { (start : Start) × (gave : ℕ → List Job) × (took : List Reply) × made_by start self.old (λ lane. gave lane ++ I.jobs inbox.old lane) took }
         ensures made { (start : Start) (gave : ℕ → List Job) (took : List Reply) → made_by start self.old (λ lane. gave lane ++ I.jobs inbox.old lane) took → made_by start self.new (λ lane. gave lane ++ I.jobs inbox.new lane) took }
         ensures called { (calls : List (List Job)) → ((lane : ℕ) → I.jobs inbox.old lane ≡ []) → called self.old calls → called self.new (calls ++ call_of (I.jobs inbox.new 0)) }
+        ensures own { PutsOwn (number self.old) (I.jobs inbox.old) (I.jobs inbox.new) }
         ensures number { number self.new ≡ number self.old }
         ensures lanes { lanes self.new ≡ lanes self.old }
         ensures continues { Continues (view self.old).ledger (view self.new).ledger }
         ensures same { I.is_same inbox.old inbox.new };
 
-    /// Whether the next `wait` lets its port turn, and so may take a while: not after Stop or a fault.
+    /// Whether the next `wait` lets its port turn, and so may take a while. A hint: no clause speaks of it.
     fn waits(&self) -> bool;
 
     /// Takes a reply to one of its connections. What it says is put by the next `wait` or `push`.

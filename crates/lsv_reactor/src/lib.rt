@@ -1,5 +1,5 @@
 //! A server's loop on one thread: it turns what serves each port, one after another, and lets a lane do the turns of their
-//! jobs between.
+//! jobs between. A post is an endpoint of one lane, which the loop serves.
 #![tactic(auto)]
 
 mod deliver;

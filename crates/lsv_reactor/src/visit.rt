@@ -6,7 +6,7 @@ ghost use Rattle.lsv_session.specs.declared.job.Job.{Job};
 ghost use Rattle.lsv_session.specs.declared.reply.Reply.{Reply};
 ghost use Rattle.lsv_links.specs.Lanes.{one_lane};
 ghost use Rattle.lsv_links.specs.Turns.{AreOf, most_jobs};
-ghost use Rattle.lsv_worker.specs.Memory.{IsOrderly, waiting};
+ghost use Rattle.lsv_worker.specs.Memory.{IsOrderly, bytes_behind_first, waiting};
 ghost use Rattle.lsv_reactor.specs.Calls.{call_of, calls_in};
 ghost use Rattle.lsv_reactor.specs.InnerLoop.{AreEmptied, ArePosts, Gives, IsEmptied, IsLane};
 ghost use Rattle.lsv_turn.specs.Turns.{LaneTurn, replies_in};
@@ -21,6 +21,9 @@ use std::alloc::Global;
 
 /// So often a post is tried again without waiting, while jobs come of it.
 const PASSES: u32 = 8;
+
+/// The most jobs of a turn.
+const MOST_JOBS: usize = 256;
 
 /// Lets the lane do a turn of these jobs, if there are any, and hands out its replies.
 fn turn<T: Endpoint, L: Lane>(
@@ -62,14 +65,28 @@ pub(crate) fn inboxes_of(alloc: Global, count: usize) -> Result<Vec<MemInbox>, N
     Ok(inboxes)
 }
 
+/// An empty list with places for the jobs of a turn, if there is memory for them; else it grows as they come.
+fn with_places(alloc: Global) -> Vec<Job>
+    ensures { result.items ≡ [] }
+{
+    match Vec::with_capacity(alloc, MOST_JOBS) {
+        Ok(jobs) => jobs,
+        Err(_) => Vec::new(alloc),
+    }
+}
+
 /// Hands out what stands in an inbox.
 fn hand_out(alloc: Global, inbox: &mut MemInbox) -> Vec<Job>
     requires orderly { IsOrderly inbox.old }
     ensures taken { result.items ≡ waiting inbox.old }
     ensures few { length result.items ≤ most_jobs }
+    ensures light { bytes_behind_first result.items ≤ 67108864 }
     ensures emptied { (n : ℕ) → inbox.old.worker ≡ n → IsEmptied n inbox.new × AreOf n result.items }
 {
-    let mut jobs = Vec::new(alloc);
+    if inbox.is_empty() {
+        return Vec::new(alloc);
+    }
+    let mut jobs = with_places(alloc);
     inbox.take(&mut jobs);
     jobs
 }
@@ -80,6 +97,7 @@ fn wait_for<T: Endpoint>(alloc: Global, post: &mut T, inbox: &mut MemInbox) -> V
     requires inbox { (n : ℕ) × IsEmptied n inbox.old }
     requires begun { (start : T.Start) × (gave : List Job) × (took : List Reply) × T.made_by start post.old (λ lane. one_lane lane gave) took }
     ensures few { length result.items ≤ most_jobs }
+    ensures light { bytes_behind_first result.items ≤ 67108864 }
     ensures gives { Gives T.number T.lanes T.view T.made_by T.called post.old post.new result.items }
     ensures emptied { (n : ℕ) → IsEmptied n inbox.old → IsEmptied n inbox.new × AreOf n result.items }
 {
@@ -93,6 +111,7 @@ fn push_for<T: Endpoint>(alloc: Global, post: &mut T, inbox: &mut MemInbox) -> V
     requires inbox { (n : ℕ) × IsEmptied n inbox.old }
     requires begun { (start : T.Start) × (gave : List Job) × (took : List Reply) × T.made_by start post.old (λ lane. one_lane lane gave) took }
     ensures few { length result.items ≤ most_jobs }
+    ensures light { bytes_behind_first result.items ≤ 67108864 }
     ensures gives { Gives T.number T.lanes T.view T.made_by T.called post.old post.new result.items }
     ensures emptied { (n : ℕ) → IsEmptied n inbox.old → IsEmptied n inbox.new × AreOf n result.items }
 {

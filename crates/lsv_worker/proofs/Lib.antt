@@ -11,6 +11,7 @@ pub mod Away
 pub mod Tables
 pub mod Crowds
 pub mod Order
+pub mod Owning
 mod Reading
 pub mod Passing
 pub mod Notes

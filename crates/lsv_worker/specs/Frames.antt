@@ -1,7 +1,9 @@
--- What calls leave unchanged of their port and their inbox.
-use Rattle.std.specs.Prelude.{◌≡◌, ℕ, ◌≤◌}
+-- What calls leave unchanged of their port and their inbox, and whose jobs they put.
+use Rattle.std.specs.Prelude.{◌≡◌, ◌++◌, ℕ, ◌≤◌, List}
 use Rattle.lsv_port.specs.Ledger.{Continues, PortLedger}
 use Rattle.lsv_port.specs.Port.{PortState}
+use Rattle.lsv_session.specs.declared.job.Job.{Job}
+use Rattle.lsv_links.specs.Turns.{AreOf}
 use Rattle.lsv_worker.specs.Links.{HasBlame}
 
 -- it is the same port still, no count of its failures fell, and if a link failed meanwhile, its count rose
@@ -19,3 +21,9 @@ pub record InboxKeeps {I : Type 0} (lanes : I → ℕ) (refused : I → ℕ → 
 pub record BothKeep {P I : Type 0} (tells : Type 0) (state : P → PortState) (ledger : P → PortLedger) (old new : P) (lanes : I → ℕ) (refused : I → ℕ → ℕ) (is_same : I → I → Type 0) (inbox_old inbox_new : I) : Type 0 where
   pub port : PortKeeps tells state ledger old new
   pub inbox : InboxKeeps lanes refused is_same inbox_old inbox_new
+
+-- a call puts more jobs to each lane, after those that it had: none but jobs of this worker's connections
+pub record PutsOwn (worker : ℕ) (before after : ℕ → List Job) : Type 0 where
+  pub more : ℕ → List Job
+  pub put : (lane : ℕ) → after lane ≡ before lane ++ more lane
+  pub are_own : (lane : ℕ) → AreOf worker (more lane)

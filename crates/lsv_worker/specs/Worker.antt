@@ -67,6 +67,11 @@ abbrev pub AreOfLanes : ℕ → List Link → Type 0
 AreOfLanes lanes [] = Unit {0}
 AreOfLanes lanes (link ∷ links) = (link.incoming.route.lanes ≡ lanes) × AreOfLanes lanes links
 
+-- each connection is of the worker of this number
+abbrev pub AreOfWorker : ℕ → List Link → Type 0
+AreOfWorker worker [] = Unit {0}
+AreOfWorker worker (link ∷ links) = (link.conn.worker ≡ worker) × AreOfWorker worker links
+
 -- the numbers of the links that a worker holds
 abbrev pub held_by : Worker → List ℕ
 held_by w = w.held.items
@@ -236,13 +241,14 @@ IsThere seq links = (link : Link) → Contains links link → link.conn.seq ≡ 
 abbrev pub open_in : List Link → List Link
 open_in links = filter (λ link. link.live) links
 
--- a worker has from 1 to 8 lanes, room for the numbers of all its links, and at most 128 open links
+-- a worker has from 1 to 8 lanes, room for the numbers of all its links, and at most 128 open links; and its connections have its number
 pub record IsFit (w : Worker) : Type 0 where
   pub first : 1 ≤ w.next
   pub some : 1 ≤ w.lanes
   pub few : w.lanes ≤ 8
   pub room : vec_len w.links ≤ vec_capacity w.held
   pub lanes : AreOfLanes w.lanes w.links.items
+  pub workers : AreOfWorker w.number w.links.items
   pub open_few : length (open_in w.links.items) ≤ 128
 
 -- each connection's Gone was put, and each was shut

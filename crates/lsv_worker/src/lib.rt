@@ -19,4 +19,5 @@ pub use link::{Blocked, Link, Phase};
 pub use memory::MemInbox;
 pub use outgoing::{Outgoing, Sending};
 pub use route::Route;
+pub use size::job_size;
 pub use worker::Worker;

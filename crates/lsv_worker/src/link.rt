@@ -8,7 +8,7 @@ ghost use Rattle.lsv_session.specs.declared.job.Job.{Job};
 ghost use Rattle.lsv_session.specs.declared.reply.Reply.{Reply};
 ghost use Rattle.lsv_session.specs.declared.reply.ReplyBody.TheVariants as said;
 ghost use Rattle.lsv_worker.specs.Incoming.{WasFull, has_left};
-ghost use Rattle.lsv_worker.specs.Frames.{BothKeep, InboxKeeps, PortKeeps};
+ghost use Rattle.lsv_worker.specs.Frames.{BothKeep, InboxKeeps, PortKeeps, PutsOwn};
 ghost use Rattle.lsv_worker.specs.Links.{Closes, Fails, IsPassed, TouchesNone, IsReadOnce, IsReadWithin, IsSent, LeavesOutput, LetsEnd, LinkStep, MayRead, OwesNoMore, BlockHasReason, ReadsOn, ReasonOf, Remains, SameSides, Takes, is_done, is_out_of_memory, reads_in};
 
 use crate::outgoing::{Outgoing, Sending};
@@ -82,6 +82,7 @@ impl Link {
         ensures step { (phase : Phase) (port : PortState) → LinkStep phase self.old self.new port port (I.jobs inbox.old) (I.jobs inbox.new) }
         ensures sides { SameSides self.old self.new }
         ensures remains { Remains self.old self.new }
+        ensures own { PutsOwn self.old.conn.worker (I.jobs inbox.old) (I.jobs inbox.new) }
         ensures inbox { InboxKeeps I.lanes I.refused I.is_same inbox.old inbox.new }
         ensures full { IsTrue result → WasFull self.new.incoming.route (I.refused inbox.old) (I.refused inbox.new) }
     {
@@ -117,6 +118,7 @@ impl Link {
         ensures once { P.tells → IsReadOnce self.new ((P.state port.old).link self.old.number) ((P.state port.new).link self.old.number) }
         ensures output { P.tells → LeavesOutput self.old self.new ((P.state port.old).link self.old.number) ((P.state port.new).link self.old.number) }
         ensures remains { Remains self.old self.new }
+        ensures own { PutsOwn self.old.conn.worker (I.jobs inbox.old) (I.jobs inbox.new) }
         ensures keeps { BothKeep P.tells P.state P.ledger port.old port.new I.lanes I.refused I.is_same inbox.old inbox.new }
     {
         match port.read(self.number, buffer) {
@@ -155,6 +157,7 @@ impl Link {
         ensures unblocked { result ≡ Blocked.No → self.new.live ≡ true → self.new.owed ≡ false }
         ensures reason { P.tells → ReasonOf result self.new ((P.state port.old).link self.old.number) ((P.state port.new).link self.old.number) (I.refused inbox.old) (I.refused inbox.new) }
         ensures limits { P.tells → IsReadWithin phase self.new ((P.state port.old).link self.old.number) ((P.state port.new).link self.old.number) }
+        ensures own { PutsOwn self.old.conn.worker (I.jobs inbox.old) (I.jobs inbox.new) }
         ensures keeps { BothKeep P.tells P.state P.ledger port.old port.new I.lanes I.refused I.is_same inbox.old inbox.new }
     {
         if self.advance(inbox) {
@@ -180,6 +183,7 @@ impl Link {
         ensures unblocked { result ≡ Blocked.No → self.new.live ≡ true → self.new.owed ≡ false }
         ensures reason { P.tells → ReasonOf result self.new ((P.state port.old).link self.old.number) ((P.state port.new).link self.old.number) (I.refused inbox.old) (I.refused inbox.new) }
         ensures limits { P.tells → IsReadWithin phase self.new ((P.state port.old).link self.old.number) ((P.state port.new).link self.old.number) }
+        ensures own { PutsOwn self.old.conn.worker (I.jobs inbox.old) (I.jobs inbox.new) }
         ensures keeps { BothKeep P.tells P.state P.ledger port.old port.new I.lanes I.refused I.is_same inbox.old inbox.new }
     {
         'reads: for k in 0..MOST_READS {
@@ -244,6 +248,7 @@ impl Link {
         ensures step { (phase : Phase) (port : PortState) → ((s : LinkState) → s.owed ≡ self.old.owed → LetsEnd phase s) → LinkStep phase self.old self.new port port (I.jobs inbox.old) (I.jobs inbox.new) }
         ensures sides { SameSides self.old self.new }
         ensures remains { Remains self.old self.new }
+        ensures own { PutsOwn self.old.conn.worker (I.jobs inbox.old) (I.jobs inbox.new) }
         ensures inbox { InboxKeeps I.lanes I.refused I.is_same inbox.old inbox.new }
         ensures full { IsTrue result → WasFull self.new.incoming.route (I.refused inbox.old) (I.refused inbox.new) }
     {
@@ -303,6 +308,7 @@ impl Link {
         ensures unblocked { reads_in phase ≡ true → self.new.blocked ≡ Blocked.No → self.new.live ≡ true → self.new.owed ≡ false }
         ensures limits { P.tells → IsReadWithin phase self.new ((P.state port.old).link self.old.number) ((P.state port.new).link self.old.number) }
         ensures stopped { phase ≡ Phase.Stopped → (m : ℕ) → I.jobs inbox.new m ≡ I.jobs inbox.old m }
+        ensures own { PutsOwn self.old.conn.worker (I.jobs inbox.old) (I.jobs inbox.new) }
         ensures keeps { BothKeep P.tells P.state P.ledger port.old port.new I.lanes I.refused I.is_same inbox.old inbox.new }
     {
         self.send(port, phase);
@@ -326,6 +332,7 @@ impl Link {
         ensures reason { P.tells → BlockHasReason self.new ((P.state port.old).link self.old.number) ((P.state port.new).link self.old.number) (I.refused inbox.old) (I.refused inbox.new) }
         ensures limits { P.tells → IsReadWithin phase self.new ((P.state port.old).link self.old.number) ((P.state port.new).link self.old.number) }
         ensures stopped { phase ≡ Phase.Stopped → (m : ℕ) → I.jobs inbox.new m ≡ I.jobs inbox.old m }
+        ensures own { PutsOwn self.old.conn.worker (I.jobs inbox.old) (I.jobs inbox.new) }
         ensures keeps { BothKeep P.tells P.state P.ledger port.old port.new I.lanes I.refused I.is_same inbox.old inbox.new }
     {
         match phase {
@@ -349,6 +356,7 @@ impl Link {
         ensures sides { SameSides self.old self.new }
         ensures remains { Remains self.old self.new }
         ensures reason { (before after : LinkState) (counts : ℕ → ℕ) → ((m : ℕ) → counts m ≤ I.refused inbox.old m) → BlockHasReason self.new before after counts (I.refused inbox.new) }
+        ensures own { PutsOwn self.old.conn.worker (I.jobs inbox.old) (I.jobs inbox.new) }
         ensures inbox { InboxKeeps I.lanes I.refused I.is_same inbox.old inbox.new }
     {
         if self.finish(inbox) {

@@ -90,8 +90,9 @@ fn message_size(message: &ClientMessage) -> u64
     }
 }
 
-/// An estimate of the memory that a job holds besides its own struct, in bytes.
-pub(crate) fn job_size(job: &Job) -> u64
+/// An estimate of the memory that a job holds besides its own struct, in bytes: that of its message's texts and lists. A fault
+/// or an end holds none.
+pub fn job_size(job: &Job) -> u64
     ensures { result ≡ counted (job_bytes job.now) }
 {
     match &job.body {

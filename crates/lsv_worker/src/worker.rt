@@ -8,9 +8,9 @@ ghost use Rattle.lsv_session.specs.declared.job.Job.{Job};
 ghost use Rattle.lsv_session.specs.declared.reply.Reply.{Reply};
 ghost use Rattle.lsv_session.specs.declared.reply.ReplyBody.TheVariants as said;
 ghost use Rattle.lsv_worker.specs.Incoming.{has_left};
-ghost use Rattle.lsv_worker.specs.Frames.{BothKeep, PortKeeps};
+ghost use Rattle.lsv_worker.specs.Frames.{BothKeep, PortKeeps, PutsOwn};
 ghost use Rattle.lsv_worker.specs.Links.{OwesNoMore, TouchesNone, reads_in};
-ghost use Rattle.lsv_worker.specs.Worker.{Admits, AllRemain, AreReadOut, AreClosed, AreOfLanes, ArePassed, AreReadWithin, Goes, HaveLeft, HoldsOwed, IsAt, IsFit, IsFresh, IsMade, IsNoted, IsBlocked, IsSameWorker, IsTable, IsThere, KeepRules, OnlyLinksChange, Represents, ServicesLinks, Setting, Stands, Steps, conn_at, held_by, marked, open_in, phase_after, setting, undone};
+ghost use Rattle.lsv_worker.specs.Worker.{Admits, AllRemain, AreReadOut, AreClosed, AreOfLanes, AreOfWorker, ArePassed, AreReadWithin, Goes, HaveLeft, HoldsOwed, IsAt, IsFit, IsFresh, IsMade, IsNoted, IsBlocked, IsSameWorker, IsTable, IsThere, KeepRules, OnlyLinksChange, Represents, ServicesLinks, Setting, Stands, Steps, conn_at, held_by, marked, open_in, phase_after, setting, undone};
 
 use crate::link::{Blocked, Link, PIECE, Phase};
 use crate::{Inbox, Incoming, Outgoing};
@@ -35,6 +35,8 @@ pub struct Worker {
     phase: Phase,
     links: Vec<Link>,
     held: Vec<u32>,
+    /// What links are read into.
+    buffer: Box<[u8; PIECE]>,
 }
 
 /// How many links are open.
@@ -168,6 +170,7 @@ fn pass_all<P: Port, I: Inbox>(
     ensures unblocked { reads_in phase ≡ true → AreReadOut links.new }
     ensures limits { P.tells → AreReadWithin phase links.new (P.state port.old) (P.state port.new) }
     ensures stopped { phase ≡ Phase.Stopped → (m : ℕ) → I.jobs inbox.new m ≡ I.jobs inbox.old m }
+    ensures own { (n : ℕ) → AreOfWorker n links.old → PutsOwn n (I.jobs inbox.old) (I.jobs inbox.new) }
     ensures keeps { BothKeep P.tells P.state P.ledger port.old port.new I.lanes I.refused I.is_same inbox.old inbox.new }
 {
     for link in links.iter_mut() {
@@ -214,6 +217,9 @@ impl Worker {
         ensures links { IfOk result (λ w. w.links.items ≡ []) }
         ensures held { IfOk result (λ w. held_by w ≡ []) }
     {
+        let Ok(buffer) = Box::new(alloc, [0; PIECE]) else {
+            return Err(NoMem);
+        };
         Ok(Worker {
             alloc,
             number,
@@ -223,6 +229,7 @@ impl Worker {
             phase: Phase::Going,
             links: Vec::new(alloc),
             held: Vec::with_capacity(alloc, MOST_LINKS)?,
+            buffer,
         })
     }
 
@@ -261,6 +268,7 @@ impl Worker {
         ensures phase { self.new.phase ≡ phase_after ready }
         ensures goes { P.tells → (before : PortState) → Told ready before (P.state port.old) → Goes self.old self.new before (P.state port.new) (I.jobs inbox.old) (I.jobs inbox.new) }
         ensures served { P.tells → ServicesLinks self.old self.new (P.state port.old) (P.state port.new) (I.refused inbox.old) (I.refused inbox.new) }
+        ensures own { PutsOwn self.old.number (I.jobs inbox.old) (I.jobs inbox.new) }
         ensures keeps { BothKeep P.tells P.state P.ledger port.old port.new I.lanes I.refused I.is_same inbox.old inbox.new }
     {
         self.note(port, ready);
@@ -278,6 +286,7 @@ impl Worker {
         ensures goes { P.tells → Goes self.old self.new (P.state port.old) (P.state port.new) (I.jobs inbox.old) (I.jobs inbox.new) }
         ensures served { P.tells → ServicesLinks self.old self.new (P.state port.old) (P.state port.new) (I.refused inbox.old) (I.refused inbox.new) }
         ensures stopped { self.old.phase ≡ Phase.Stopped → (m : ℕ) → I.jobs inbox.new m ≡ I.jobs inbox.old m }
+        ensures own { PutsOwn self.old.number (I.jobs inbox.old) (I.jobs inbox.new) }
         ensures keeps { BothKeep P.tells P.state P.ledger port.old port.new I.lanes I.refused I.is_same inbox.old inbox.new }
     {
         self.pass(port, inbox);
@@ -295,6 +304,7 @@ impl Worker {
         ensures phase { self.new.phase ≡ Phase.Failed }
         ensures goes { P.tells → Goes self.old self.new (P.state port.old) (P.state port.new) (I.jobs inbox.old) (I.jobs inbox.new) }
         ensures served { P.tells → ServicesLinks self.old self.new (P.state port.old) (P.state port.new) (I.refused inbox.old) (I.refused inbox.new) }
+        ensures own { PutsOwn self.old.number (I.jobs inbox.old) (I.jobs inbox.new) }
         ensures keeps { BothKeep P.tells P.state P.ledger port.old port.new I.lanes I.refused I.is_same inbox.old inbox.new }
     {
         self.phase = Phase::Failed;
@@ -393,6 +403,7 @@ impl Worker {
         requires fit { IsFit self.old }
         requires room { self.old.next < 2 ^ 64 - 1 }
         requires lanes { link.incoming.route.lanes ≡ self.old.lanes }
+        requires worker { link.conn.worker ≡ self.old.number }
         requires few { length (open_in self.old.links.items) < 128 }
         ensures fit { IsFit self.new }
         ensures yes { result ≡ true → Admits link self.old self.new }
@@ -533,6 +544,7 @@ impl Worker {
         ensures goes { P.tells → Goes self.old self.new (P.state port.old) (P.state port.new) (I.jobs inbox.old) (I.jobs inbox.new) }
         ensures served { P.tells → ServicesLinks self.old self.new (P.state port.old) (P.state port.new) (I.refused inbox.old) (I.refused inbox.new) }
         ensures stopped { self.old.phase ≡ Phase.Stopped → (m : ℕ) → I.jobs inbox.new m ≡ I.jobs inbox.old m }
+        ensures own { PutsOwn self.old.number (I.jobs inbox.old) (I.jobs inbox.new) }
         ensures keeps { BothKeep P.tells P.state P.ledger port.old port.new I.lanes I.refused I.is_same inbox.old inbox.new }
     {
         self.reorder();
@@ -561,10 +573,10 @@ impl Worker {
         ensures goes { P.tells → Goes self.old self.new (P.state port.old) (P.state port.new) (I.jobs inbox.old) (I.jobs inbox.new) }
         ensures served { P.tells → ServicesLinks self.old self.new (P.state port.old) (P.state port.new) (I.refused inbox.old) (I.refused inbox.new) }
         ensures stopped { self.old.phase ≡ Phase.Stopped → (m : ℕ) → I.jobs inbox.new m ≡ I.jobs inbox.old m }
+        ensures own { PutsOwn self.old.number (I.jobs inbox.old) (I.jobs inbox.new) }
         ensures keeps { BothKeep P.tells P.state P.ledger port.old port.new I.lanes I.refused I.is_same inbox.old inbox.new }
     {
-        let mut buffer = [0; PIECE];
-        pass_all(&mut self.links, port, inbox, &mut buffer, self.phase);
+        pass_all(&mut self.links, port, inbox, &mut self.buffer, self.phase);
         sweep(&mut self.links);
         collect(&self.links, &mut self.held);
     }

@@ -17,7 +17,7 @@ push_for-requires g c =
 pub returns-clause-made : goal.returns-clause-made
 returns-clause-made g c = λ starts ledgers calls took all.
     gives g.T.Endpoint.number g.T.Endpoint.lanes g.T.Endpoint.view g.T.Endpoint.made_by g.T.Endpoint.called starts ledgers c.args.posts.now c.args.place c.index-posts-place.result c.push_for.new.post calls c.push_for.result.items took c.requires.place
-    (c.push_for.ensures.emptied c.args.place (box_at _ c.args.place c.args.inboxes.now c.index-inboxes-place.result c.requires.inboxes c.requires.place)).1 c.push_for.ensures.gives all
+    (c.push_for.ensures.emptied c.args.place (box_at _ c.args.place c.args.inboxes.now c.index-inboxes-place.result c.requires.inboxes c.requires.place)).1 c.push_for.ensures.light c.push_for.ensures.gives all
 
 pub returns-clause-inboxes : goal.returns-clause-inboxes
 returns-clause-inboxes g c =

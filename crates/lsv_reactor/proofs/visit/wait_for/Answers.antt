@@ -20,3 +20,6 @@ returns-clause-gives g c =
 
 pub returns-clause-emptied : goal.returns-clause-emptied
 returns-clause-emptied g c = λ n is. c.hand_out.ensures.emptied n (c.wait.ensures.same.worker ∙ is.own)
+
+pub returns-clause-light : goal.returns-clause-light
+returns-clause-light g c = c.hand_out.ensures.light

@@ -10,6 +10,7 @@ use Rattle.lsv_worker.proofs.Linking.{most_none}
 use Rattle.lsv_worker.proofs.Passing.{lanes_remain, later_set, passed_on, quiet_in, remain_here, remain_set}
 use Rattle.lsv_worker.proofs.Reading.{below_on, reads_on, rest_on, spared_all, unread_here, unread_on}
 use Rattle.lsv_worker.proofs.Tables.{below_set, calm_all, lanes_at, open_at, steps_none, steps_one}
+use Rattle.lsv_worker.proofs.Owning.{own_by, own_none, own_then, worker_at, workers_remain}
 use Rattle.lsv_worker.proofs.worker.pass_all.Goals as goal
 
 pub loop-link-init : goal.loop-link-init
@@ -24,6 +25,7 @@ loop-link-init g c = record {
   rest = λ told j d above within. refl;
   output_full = λ told going j d under. absurd (omega arith);
   unread = λ told quiet. unread_here (g.P.Port.state c.args.port.now);
+  own = λ n are. own_none n (g.I.Inbox.jobs c.args.inbox.now);
   keeps = record {
     port = port_here g.P.Port.tells g.P.Port.state g.P.Port.ledger c.args.port.now;
     inbox = inbox_here g.I.Inbox.lanes g.I.Inbox.refused g.I.Inbox.is_same c.args.inbox.now (g.met.I.Inbox.same_here c.args.inbox.now);
@@ -75,6 +77,9 @@ loop-link-preserved g c =
           below_on at.set c.loop-link.links c.loop-link.link-index c.link-item.result c.service.new.self (g.P.Port.state c.args.port.now) (g.P.Port.state c.loop-link.port) (g.P.Port.state c.service.new.port) (λ lane. at.jobs lane ++ steps.added lane) at.replies here (steps.goes at.jobs at.replies at.stands) (c.service.ensures.step told).alone (c.service.ensures.step told).number
           ((c.service.ensures.limits told).output_full going) (c.loop-link.invariant.rest told) (c.loop-link.invariant.output_full told going);
       unread = λ told quiet. unread_on _ (g.P.Port.state c.args.port.now) (g.P.Port.state c.loop-link.port) (g.P.Port.state c.service.new.port) (c.service.ensures.step told).alone (c.loop-link.invariant.unread told quiet) ((c.service.ensures.limits told).unread quiet);
+      own = λ n are.
+          let is = worker_at n c.loop-link.links c.loop-link.link-index c.link-item.result here c.link-item.is (workers_remain n c.args.links.now c.loop-link.links c.loop-link.invariant.remains are) in
+          own_then (c.loop-link.invariant.own n are) (own_by n _ (ap (λ (l : Link). l.conn.worker) (sym c.link-item.is) ∙ is) c.service.ensures.own);
       keeps = both_then g.met.I.Inbox.same_through c.loop-link.invariant.keeps c.service.ensures.keeps;
     }
 

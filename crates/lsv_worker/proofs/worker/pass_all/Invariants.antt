@@ -1,7 +1,7 @@
 use Rattle.std.proofs.Common.{◌≡◌, ◌<◌, ℕ, true, false, get_or}
-use Rattle.lsv_worker.specs.Frames.{BothKeep}
+use Rattle.lsv_worker.specs.Frames.{BothKeep, PutsOwn}
 use Rattle.lsv_worker.specs.Links.{ReadsNone, WasReadAtMost, reads_in}
-use Rattle.lsv_worker.specs.Worker.{AllRemain, IsReadOut, Setting, Steps}
+use Rattle.lsv_worker.specs.Worker.{AllRemain, AreOfWorker, IsReadOut, Setting, Steps}
 use Rattle.lsv_worker.specs.declared.link.Link.{Link}
 use Rattle.lsv_worker.specs.declared.link.Phase.TheVariants.{Going, Stopped}
 use Rattle.lsv_worker.proofs.Passing.{Later, PassedBelow}
@@ -20,5 +20,6 @@ invariant-loop-link g l = record {
   rest : g.P.Port.tells → Rest l.links l.link-index (g.P.Port.state l.initial.port) (g.P.Port.state l.port);
   output_full : g.P.Port.tells → l.phase ≡ Going → Below l.links l.link-index (g.P.Port.state l.initial.port) (g.P.Port.state l.port);
   unread : g.P.Port.tells → reads_in l.phase ≡ false → ReadsNone (g.P.Port.state l.initial.port) (g.P.Port.state l.port);
+  own : (n : ℕ) → AreOfWorker n l.initial.links → PutsOwn n (g.I.Inbox.jobs l.initial.inbox) (g.I.Inbox.jobs l.inbox);
   keeps : BothKeep g.P.Port.tells g.P.Port.state g.P.Port.ledger l.initial.port l.port g.I.Inbox.lanes g.I.Inbox.refused g.I.Inbox.is_same l.initial.inbox l.inbox;
 }

@@ -24,6 +24,7 @@ returns-clause-puts g c = record {
   number = c.turn_failed.ensures.worker.number;
   lanes = c.turn_failed.ensures.worker.lanes;
   continues = c.turn_failed.ensures.keeps.port.continues;
+  own = c.turn_failed.ensures.own;
   made = λ start gave took u.
       stepped g.P.Port.tells g.P.Port.state g.P.Port.ledger start c.args.self.now _ _ _ gave took c.turn_failed.ensures.fit c.turn_failed.ensures.keeps.port.continues c.turn_failed.ensures.keeps.port.blame (λ e. e)
       (λ on. failed_mode c.args.self.now.mode (setting c.args.self.now.worker).phase (setting c.turn_failed.new.self).phase (PortFailed start (view_by g.P.Port.state g.P.Port.ledger c.args.self.now.port)) (PortFailed start (view_by g.P.Port.state g.P.Port.ledger c.turn_failed.new.port)) c.requires.failing c.turn_failed.ensures.phase

@@ -11,6 +11,7 @@ returns-then-not-is_empty-clause-puts g c = record {
   number = c.push_out.ensures.worker.number;
   lanes = c.push_out.ensures.worker.lanes;
   continues = c.push_out.ensures.keeps.port.continues;
+  own = c.push_out.ensures.own;
   made = λ start gave took u.
       tried g.P.Port.tells g.P.Port.state g.P.Port.ledger start c.args.self.now _ _ _ gave took c.push_out.ensures.fit c.push_out.ensures.keeps.port.continues c.push_out.ensures.keeps.port.blame (λ e. absurd (cc)) refl c.push_out.ensures.phase c.push_out.ensures.goes (λ told reads. (c.push_out.ensures.served told).owed (ap reads_in c.push_out.ensures.phase ∙ reads)) u;
 }
@@ -20,6 +21,7 @@ returns-else-had_ended-clause-puts g c = record {
   number = c.push_out.ensures.worker.number;
   lanes = c.push_out.ensures.worker.lanes;
   continues = c.push_out.ensures.keeps.port.continues;
+  own = c.push_out.ensures.own;
   made = λ start gave took u.
       tried g.P.Port.tells g.P.Port.state g.P.Port.ledger start c.args.self.now _ _ _ gave took c.push_out.ensures.fit c.push_out.ensures.keeps.port.continues c.push_out.ensures.keeps.port.blame (λ e. e) refl c.push_out.ensures.phase c.push_out.ensures.goes (λ told reads. (c.push_out.ensures.served told).owed (ap reads_in c.push_out.ensures.phase ∙ reads)) u;
 }

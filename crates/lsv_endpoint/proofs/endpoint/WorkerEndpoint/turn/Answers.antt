@@ -3,6 +3,7 @@ use Rattle.lsv_port.proofs.LedgerLemmas.{continues_then, goes_on}
 use Rattle.lsv_links.specs.Views.{PortFailed}
 use Rattle.lsv_worker.specs.Links.{reads_in}
 use Rattle.lsv_worker.specs.Worker.{setting}
+use Rattle.lsv_worker.proofs.Owning.{own_none}
 use Rattle.lsv_endpoint.specs.InnerEndpoint.{IsFaulted, IsInMode}
 use Rattle.lsv_endpoint.specs.Ports.{view_by}
 use Rattle.lsv_endpoint.specs.declared.mode.Mode.{Mode}
@@ -33,6 +34,7 @@ returns-in-Ok-clause-puts g c = record {
   number = c.on.ensures.worker.number;
   lanes = c.on.ensures.worker.lanes;
   continues = continues_then (g.P.Port.ledger c.args.self.now.port) (g.P.Port.ledger c.turn.new.self) (g.P.Port.ledger c.on.new.port) c.in-Ok.ensures.cause.continues c.on.ensures.keeps.port.continues;
+  own = c.on.ensures.own;
   made = λ start gave took u.
       stepped g.P.Port.tells g.P.Port.state g.P.Port.ledger start c.args.self.now _ _ _ gave took c.on.ensures.fit
       (continues_then (g.P.Port.ledger c.args.self.now.port) (g.P.Port.ledger c.turn.new.self) (g.P.Port.ledger c.on.new.port) c.in-Ok.ensures.cause.continues c.on.ensures.keeps.port.continues)
@@ -51,6 +53,7 @@ returns-in-Err-clause-puts g c = record {
   number = refl;
   lanes = refl;
   continues = c.in-Err.ensures.cause.continues;
+  own = own_none (setting c.args.self.now.worker).number (g.I.Inbox.jobs c.args.inbox.now);
   made = λ start gave took u.
       port_fault g.P.Port.tells g.P.Port.state g.P.Port.ledger start c.args.self.now _ _ took refl refl (goes_on (g.P.Port.ledger c.args.self.now.port) (g.P.Port.ledger c.turn.new.self) c.in-Err.ensures.cause.continues) c.in-Err.ensures.failed
       (λ on. (

@@ -5,3 +5,6 @@ try_links-requires g c = let b = c.requires.begun in record { lanes = c.requires
 
 pub returns-clause-made : goal.returns-clause-made
 returns-clause-made g c = c.try_links.ensures.puts.made
+
+pub returns-clause-own : goal.returns-clause-own
+returns-clause-own g c = c.try_links.ensures.puts.own

@@ -5,3 +5,6 @@ go_on-requires g c = let b = c.requires.begun in record { lanes = c.requires.lan
 
 pub returns-clause-made : goal.returns-clause-made
 returns-clause-made g c = c.go_on.ensures.puts.made
+
+pub returns-clause-own : goal.returns-clause-own
+returns-clause-own g c = c.go_on.ensures.puts.own

@@ -6,6 +6,7 @@ use Rattle.lsv_worker.proofs.FrameLemmas.{inbox_here, inbox_then, port_here, por
 use Rattle.lsv_worker.proofs.Linking.{link_same, link_then, most_add, most_none, most_up, read_more, read_none}
 use Rattle.lsv_worker.proofs.Ports.{risen_late}
 use Rattle.lsv_worker.proofs.Ruling.{light_on, reading, reads_here, reads_once, remains_here, remains_then}
+use Rattle.lsv_worker.proofs.Owning.{own_next, own_none}
 use Rattle.lsv_worker.proofs.link.Link.read_all.Goals as goal
 
 pub reads-init : goal.reads-init
@@ -18,6 +19,7 @@ reads-init g c = record {
   heavy = λ going heavy. heavy;
   most = λ told. most_none 0 ((g.P.Port.state c.args.port.now).link c.args.self.now.number) ((g.P.Port.state c.args.port.now).link c.args.self.now.number) refl;
   output_full = λ told going output_full. refl;
+  own = own_none c.args.self.now.conn.worker (g.I.Inbox.jobs c.args.inbox.now);
   keeps = record {
     port = port_here g.P.Port.tells g.P.Port.state g.P.Port.ledger c.args.port.now;
     inbox = inbox_here g.I.Inbox.lanes g.I.Inbox.refused g.I.Inbox.is_same c.args.inbox.now (g.met.I.Inbox.same_here c.args.inbox.now);
@@ -62,6 +64,7 @@ reads-preserved g c = record {
       light_on c.args.phase c.reads.self c.read_once.new.self c.advance.new.self ((g.P.Port.state c.args.port.now).link c.args.self.now.number) ((g.P.Port.state c.reads.port).link c.args.self.now.number) ((g.P.Port.state c.read_once.new.port).link c.args.self.now.number) (c.blocked_now.ensures.may (search rules))
       (subst (λ (k : ℕ). LeavesOutput c.reads.self c.read_once.new.self ((g.P.Port.state c.reads.port).link k) ((g.P.Port.state c.read_once.new.port).link k)) c.reads.invariant.remains.number (c.read_once.ensures.output told))
       c.advance.ensures.sides;
+  own = own_next c.args.self.now.conn c.read_once.new.self.conn (c.read_once.ensures.remains.conn ∙ c.reads.invariant.remains.conn) (own_next c.args.self.now.conn c.reads.self.conn c.reads.invariant.remains.conn c.reads.invariant.own c.read_once.ensures.own) c.advance.ensures.own;
   keeps = record { port = port_then c.reads.invariant.keeps.port c.read_once.ensures.keeps.port; inbox = inbox_then g.met.I.Inbox.same_through (inbox_then g.met.I.Inbox.same_through c.reads.invariant.keeps.inbox c.read_once.ensures.keeps.inbox) c.advance.ensures.inbox };
 }
 
@@ -127,3 +130,6 @@ returns-clause-limits g c = λ told. record {
   output_full = c.reads.invariant.output_full told;
   unread = reading c.args.phase ((g.P.Port.state c.args.port.now).link c.args.self.now.number) ((g.P.Port.state c.reads.port).link c.args.self.now.number) c.requires.phase;
 }
+
+pub returns-then-advance-clause-own : goal.returns-then-advance-clause-own
+returns-then-advance-clause-own g c = own_next c.args.self.now.conn c.read_once.new.self.conn (c.read_once.ensures.remains.conn ∙ c.reads.invariant.remains.conn) (own_next c.args.self.now.conn c.reads.self.conn c.reads.invariant.remains.conn c.reads.invariant.own c.read_once.ensures.own) c.advance.ensures.own

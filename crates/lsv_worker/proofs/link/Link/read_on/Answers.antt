@@ -4,6 +4,7 @@ use Rattle.lsv_worker.specs.Links.{IsReadWithin, ReadsOn, ReasonOf}
 use Rattle.lsv_worker.proofs.FrameLemmas.{inbox_then, port_here}
 use Rattle.lsv_worker.proofs.Linking.{link_then}
 use Rattle.lsv_worker.proofs.Ruling.{read_never, reads_first, reads_same, reason_from, remains_then}
+use Rattle.lsv_worker.proofs.Owning.{own_next}
 use Rattle.lsv_worker.proofs.link.Link.read_on.Goals as goal
 
 pub returns-then-advance-clause-step : goal.returns-then-advance-clause-step
@@ -49,3 +50,6 @@ returns-clause-limits g c = λ told.
 
 pub returns-clause-keeps : goal.returns-clause-keeps
 returns-clause-keeps g c = record { port = c.read_all.ensures.keeps.port; inbox = inbox_then g.met.I.Inbox.same_through c.advance.ensures.inbox c.read_all.ensures.keeps.inbox }
+
+pub returns-clause-own : goal.returns-clause-own
+returns-clause-own g c = own_next c.args.self.now.conn c.advance.new.self.conn c.advance.ensures.remains.conn c.advance.ensures.own c.read_all.ensures.own

@@ -10,6 +10,7 @@ use Rattle.lsv_worker.proofs.FrameLemmas.{inbox_here, port_changed}
 use Rattle.lsv_worker.proofs.Ports.{alone_change, alone_then, blame_failed, continues_then}
 use Rattle.lsv_worker.proofs.Ruling.{remains_here, remains_so, remains_then, sent_closed, sent_same}
 use Rattle.lsv_worker.proofs.Wanting.{keeps_here, keeps_stage, keeps_then}
+use Rattle.lsv_worker.proofs.Owning.{own_none, own_puts}
 use Rattle.lsv_worker.proofs.link.Link.read_once.Goals as goal
 
 pub returns-then-may_receive-clause-step : goal.returns-then-may_receive-clause-step
@@ -138,3 +139,18 @@ returns-in-Failed-clause-keeps g c =
       };
       inbox = inbox_here g.I.Inbox.lanes g.I.Inbox.refused g.I.Inbox.is_same c.args.inbox.now (g.met.I.Inbox.same_here c.args.inbox.now);
     }
+
+pub returns-then-may_receive-clause-own : goal.returns-then-may_receive-clause-own
+returns-then-may_receive-clause-own g c = own_puts c.receive.ensures.puts
+
+pub returns-else-may_receive-clause-own : goal.returns-else-may_receive-clause-own
+returns-else-may_receive-clause-own g c = own_none c.args.self.now.conn.worker (g.I.Inbox.jobs c.args.inbox.now)
+
+pub returns-in-NotYet-clause-own : goal.returns-in-NotYet-clause-own
+returns-in-NotYet-clause-own g c = own_none c.args.self.now.conn.worker (g.I.Inbox.jobs c.args.inbox.now)
+
+pub returns-in-End-clause-own : goal.returns-in-End-clause-own
+returns-in-End-clause-own g c = own_none c.args.self.now.conn.worker (g.I.Inbox.jobs c.args.inbox.now)
+
+pub returns-in-Failed-clause-own : goal.returns-in-Failed-clause-own
+returns-in-Failed-clause-own g c = own_none c.args.self.now.conn.worker (g.I.Inbox.jobs c.args.inbox.now)

@@ -4,6 +4,7 @@ use Rattle.lsv_worker.proofs.Linking.{link_paused, link_same, link_then}
 use Rattle.lsv_worker.specs.declared.link.Link.{Link}
 use Rattle.lsv_worker.proofs.FrameLemmas.{inbox_here, inbox_then, port_here}
 use Rattle.lsv_worker.proofs.Ruling.{read_never, read_then, reads_here, reads_more, reads_paused, remains_paused, remains_then}
+use Rattle.lsv_worker.proofs.Owning.{own_next, own_none}
 use Rattle.lsv_worker.proofs.link.Link.receive.Goals as goal
 
 pub returns-in-Going-clause-step : goal.returns-in-Going-clause-step
@@ -101,3 +102,9 @@ returns-then-not-self-clause-reason g c = λ told. c.finish_off.ensures.reason (
 
 pub returns-in-Failed-clause-reason : goal.returns-in-Failed-clause-reason
 returns-in-Failed-clause-reason g c = λ told. c.finish_off-in-Failed.ensures.reason ((g.P.Port.state c.args.port.now).link c.args.self.now.number) ((g.P.Port.state c.args.port.now).link c.args.self.now.number) (g.I.Inbox.refused c.args.inbox.now) (λ m. omega arith)
+
+pub returns-then-not-self-clause-own : goal.returns-then-not-self-clause-own
+returns-then-not-self-clause-own g c = own_next c.args.self.now.conn c.read_on-self-in-Stopping.new.self.conn c.read_on-self-in-Stopping.ensures.remains.conn c.read_on-self-in-Stopping.ensures.own c.finish_off.ensures.own
+
+pub returns-in-Stopped-clause-own : goal.returns-in-Stopped-clause-own
+returns-in-Stopped-clause-own g c = own_none c.args.self.now.conn.worker (g.I.Inbox.jobs c.args.inbox.now)

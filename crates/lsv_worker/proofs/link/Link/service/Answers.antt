@@ -1,9 +1,11 @@
-use Rattle.std.proofs.Common.{ℕ, sym, subst, ◌∙◌}
+use Rattle.std.proofs.Common.{ℕ, sym, ap, subst, ◌∙◌}
 use Rattle.lsv_port.specs.Port.{IsOpen}
+use Rattle.lsv_session.specs.declared.connection.ConnId.{ConnId}
 use Rattle.lsv_worker.specs.Links.{IsReadWithin, BlockHasReason, ReadsOn}
 use Rattle.lsv_worker.proofs.FrameLemmas.{port_then}
 use Rattle.lsv_worker.proofs.Linking.{link_then}
 use Rattle.lsv_worker.proofs.Ruling.{passes, read_late, remains_then}
+use Rattle.lsv_worker.proofs.Owning.{own_by}
 use Rattle.lsv_worker.proofs.link.Link.service.Goals as goal
 
 pub returns-clause-step : goal.returns-clause-step
@@ -36,3 +38,6 @@ receive-requires g c = record {
   lanes = c.requires.lanes ∙ sym c.send.ensures.remains.lanes;
   is_open = λ told live. subst (IsOpen (g.P.Port.state c.send.new.port)) (sym c.send.ensures.remains.number) (c.send.ensures.is_open told live);
 }
+
+pub returns-clause-own : goal.returns-clause-own
+returns-clause-own g c = own_by c.args.self.now.conn.worker c.send.new.self.conn.worker (ap (λ (k : ConnId). k.worker) c.send.ensures.remains.conn) c.receive.ensures.own

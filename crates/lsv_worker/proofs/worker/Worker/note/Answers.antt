@@ -1,7 +1,7 @@
 use Rattle.std.proofs.Common.{◌≤◌, ℕ, List, length, sym, ap, subst, ◌∙◌, rules}
 use Rattle.lsv_port.specs.Port.{LinkState, Opens, TellsReadable, Told}
 use Rattle.lsv_port.specs.declared.port.Ready.{Ready}
-use Rattle.lsv_worker.specs.Worker.{AreOfLanes, Stands, setting}
+use Rattle.lsv_worker.specs.Worker.{AreOfLanes, AreOfWorker, Stands, setting}
 use Rattle.lsv_worker.specs.declared.link.Link.{Link}
 use Rattle.lsv_worker.proofs.Notes.{lanes_marked, readable_stands, stop_stands, woken_stands, writable_stands}
 use Rattle.lsv_worker.specs.Worker.{IsNoted, marked, open_in}
@@ -9,6 +9,7 @@ use Rattle.lsv_worker.proofs.FrameLemmas.{port_here}
 use Rattle.lsv_worker.proofs.Reading.{quiet_here}
 use Rattle.lsv_worker.proofs.Tables.{given_back}
 use Rattle.lsv_worker.proofs.Passing.{noted_marked, noted_same, open_marked}
+use Rattle.lsv_worker.proofs.Owning.{workers_marked}
 use Rattle.lsv_worker.proofs.worker.Worker.note.Goals as goal
 
 pub opened-requires : goal.opened-requires
@@ -39,6 +40,7 @@ returns-in-Readable-clause-fit g c = record {
   few = c.requires.fit.few;
   room = search rules;
   open_few = let less = open_marked c.in-Readable.number c.args.self.now.links.items in subst (λ (l : List Link). length (open_in l) ≤ 128) (sym (given_back _ _ _ _ c.deref_mut.ensures.value c.deref_mut.ensures.len c.mark.auto.links ∙ c.mark.ensures ∙ ap (marked c.in-Readable.number) c.deref_mut.ensures.value)) (subst (λ (n : ℕ). n ≤ 128) (sym less) c.requires.fit.open_few);
+  workers = subst (AreOfWorker c.args.self.now.number) (sym (given_back _ _ _ _ c.deref_mut.ensures.value c.deref_mut.ensures.len c.mark.auto.links ∙ c.mark.ensures ∙ ap (marked c.in-Readable.number) c.deref_mut.ensures.value)) (workers_marked c.args.self.now.number c.in-Readable.number c.args.self.now.links.items c.requires.fit.workers);
   lanes = subst (AreOfLanes c.args.self.now.lanes) (sym (given_back _ _ _ _ c.deref_mut.ensures.value c.deref_mut.ensures.len c.mark.auto.links ∙ c.mark.ensures ∙ ap (marked c.in-Readable.number) c.deref_mut.ensures.value)) (lanes_marked c.args.self.now.lanes c.in-Readable.number c.args.self.now.links.items c.requires.fit.lanes);
 }
 

@@ -4,6 +4,7 @@ use Rattle.lsv_worker.proofs.FrameLemmas.{port_then}
 use Rattle.lsv_worker.proofs.Passing.{held_late, rules_late}
 use Rattle.lsv_worker.proofs.Reading.{most_late, spared_late, unread_then}
 use Rattle.lsv_worker.proofs.Going.{at_after, goes_after, same_set, same_then}
+use Rattle.lsv_worker.proofs.Owning.{own_by}
 use Rattle.lsv_worker.proofs.worker.Worker.on.Goals as goal
 
 pub pass-requires : goal.pass-requires
@@ -41,3 +42,6 @@ returns-clause-served g c = λ told.
 
 pub returns-clause-keeps : goal.returns-clause-keeps
 returns-clause-keeps g c = record { port = port_then c.note.ensures.port c.pass.ensures.keeps.port; inbox = c.pass.ensures.keeps.inbox }
+
+pub returns-clause-own : goal.returns-clause-own
+returns-clause-own g c = own_by c.args.self.now.number c.note.new.self.number c.note.ensures.worker.number c.pass.ensures.own

@@ -1,6 +1,7 @@
 use Rattle.std.proofs.Common.{sym, ap, ◌∙◌}
 use Rattle.lsv_worker.specs.Worker.{Setting}
 use Rattle.lsv_worker.proofs.Going.{at_after, goes_after}
+use Rattle.lsv_worker.proofs.Owning.{own_by}
 use Rattle.lsv_worker.proofs.worker.Worker.pass.Goals as goal
 
 pub pass_in_order-requires : goal.pass_in_order-requires
@@ -19,3 +20,6 @@ pub returns-clause-served : goal.returns-clause-served
 returns-clause-served g c = λ told.
     let served = c.pass_in_order.ensures.served told in
     record { owed = served.owed; held = served.held; limits = served.limits; written = served.written; rules = λ link has. served.rules link (c.reorder.ensures.has link has) }
+
+pub returns-clause-own : goal.returns-clause-own
+returns-clause-own g c = own_by c.args.self.now.number c.reorder.new.self.number (ap (λ (s : Setting). s.number) c.reorder.ensures.set) c.pass_in_order.ensures.own

@@ -1,11 +1,12 @@
 use Rattle.std.proofs.Common.{◌≡◌, ◌≢◌, ◌<◌, ◌≤◌, ◌++◌, ℕ, List, length, get_or, sym, ap, subst, ◌∙◌, refl, arith}
 use Rattle.std.specs.List.{Contains}
-use Rattle.lsv_worker.specs.Worker.{AllRemain, AreOfLanes, ArePassed, AreSpared, IsBlocked, IsTable, IsWritten, KeepRules, Stands, Steps, open_in, setting, undone}
+use Rattle.lsv_worker.specs.Worker.{AllRemain, AreOfLanes, AreOfWorker, ArePassed, AreSpared, IsBlocked, IsTable, IsWritten, KeepRules, Stands, Steps, open_in, setting, undone}
 use Rattle.lsv_worker.specs.declared.link.Link.{Link}
 use Rattle.lsv_worker.specs.declared.link.Blocked.TheVariants as blocks
 use Rattle.lsv_worker.proofs.Passing.{all_held, all_rules, all_written, lanes_remain, open_remain, open_swept}
 use Rattle.lsv_worker.proofs.Reading.{spared_swept}
 use Rattle.lsv_worker.proofs.Tables.{calm_swept, given_back, held_all, holds_owed, lanes_swept, stands_swept}
+use Rattle.lsv_worker.proofs.Owning.{workers_remain, workers_swept}
 use Rattle.lsv_worker.proofs.worker.Worker.pass_in_order.Goals as goal
 
 pub pass_all-requires : goal.pass_all-requires
@@ -49,7 +50,7 @@ returns-clause-served g c = λ told.
           holds_owed (setting c.args.self.now) (undone links) (g.P.Port.state c.pass_all.new.port) (λ lane. at.jobs lane ++ steps.added lane) at.replies c.collect.new.held.items
           (stands_swept (setting c.args.self.now) links (g.P.Port.state c.pass_all.new.port) (λ lane. at.jobs lane ++ steps.added lane) at.replies (steps.goes at.jobs at.replies at.represents))
           (calm_swept links (c.pass_all.ensures.unblocked reads)) (held_all (undone links) c.collect.new.held.items held);
-      held = λ l has. all_held phase (record c.args.self.now { links = c.sweep.new.links; held = c.collect.new.held }) olds links (g.P.Port.state c.args.port.now) (g.P.Port.state c.pass_all.new.port) before after l swept passed (subst (λ (x : List Link). IsBlocked x l) is (c.collect.ensures.blocked_by l has));
+      held = λ l has. all_held phase (record c.args.self.now { links = c.sweep.new.links; held = c.collect.new.held; buffer = record c.args.self.now.buffer { value = c.pass_all.new.buffer } }) olds links (g.P.Port.state c.args.port.now) (g.P.Port.state c.pass_all.new.port) before after l swept passed (subst (λ (x : List Link). IsBlocked x l) is (c.collect.ensures.blocked_by l has));
       limits =
           let limits = c.pass_all.ensures.limits told in
           record {
@@ -76,5 +77,9 @@ returns-clause-fit g c =
           let fewer = open_swept links in
           let few = c.requires.fit.open_few in
           subst (λ (l : List Link). length (open_in l) ≤ 128) (sym swept) (omega (arith, less, fewer, few));
+      workers = subst (AreOfWorker c.args.self.now.number) (sym swept) (workers_swept c.args.self.now.number links (workers_remain c.args.self.now.number c.args.self.now.links.items links remain c.requires.fit.workers));
       lanes = subst (AreOfLanes c.args.self.now.lanes) (sym swept) (lanes_swept c.args.self.now.lanes links (lanes_remain c.args.self.now.lanes c.args.self.now.links.items links remain c.requires.fit.lanes));
     }
+
+pub returns-clause-own : goal.returns-clause-own
+returns-clause-own g c = c.pass_all.ensures.own c.args.self.now.number (subst (AreOfWorker c.args.self.now.number) (sym c.deref_mut.ensures.value) c.requires.fit.workers)

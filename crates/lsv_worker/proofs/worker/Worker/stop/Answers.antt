@@ -1,10 +1,11 @@
 use Rattle.std.proofs.Common.{◌≤◌, ◌++◌, List, length, refl, sym, subst, rules, arith}
-use Rattle.lsv_worker.specs.Worker.{AllRemain, AreOfLanes, IsTable, KeepRules, Stands, Steps, open_in, setting}
+use Rattle.lsv_worker.specs.Worker.{AllRemain, AreOfLanes, AreOfWorker, IsTable, KeepRules, Stands, Steps, open_in, setting}
 use Rattle.lsv_worker.specs.declared.link.Link.{Link}
 use Rattle.lsv_worker.specs.declared.link.Phase.TheVariants.{Stopped}
 use Rattle.lsv_worker.proofs.Notes.{stopped_stands}
 use Rattle.lsv_worker.proofs.Passing.{lanes_remain, none_open, open_remain, rules_all}
 use Rattle.lsv_worker.proofs.Tables.{given_back}
+use Rattle.lsv_worker.proofs.Owning.{workers_remain}
 use Rattle.lsv_worker.proofs.worker.Worker.stop.Goals as goal
 
 pub close_all-requires : goal.close_all-requires
@@ -37,6 +38,7 @@ returns-clause-fit g c =
       few = c.requires.fit.few;
       room = search rules;
       lanes = subst (AreOfLanes c.args.self.now.lanes) (sym (given_back _ _ _ _ c.deref_mut.ensures.value c.deref_mut.ensures.len c.close_all.auto.links)) (lanes_remain c.args.self.now.lanes c.args.self.now.links.items links remain c.requires.fit.lanes);
+      workers = subst (AreOfWorker c.args.self.now.number) (sym (given_back _ _ _ _ c.deref_mut.ensures.value c.deref_mut.ensures.len c.close_all.auto.links)) (workers_remain c.args.self.now.number c.args.self.now.links.items links remain c.requires.fit.workers);
       open_few =
           let less = open_remain c.args.self.now.links.items links remain in
           let few = c.requires.fit.open_few in

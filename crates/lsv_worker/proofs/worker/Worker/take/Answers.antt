@@ -1,5 +1,5 @@
 use Rattle.std.proofs.Common.{◌≡◌, ◌≢◌, ◌<◌, ◌≤◌, ◌++◌, ◌∷◌, [], ℕ, List, length, get_or, refl, sym, ap, subst, ◌∙◌, rules, arith}
-use Rattle.lsv_worker.specs.Worker.{AllRemain, AreOfLanes, IsTable, IsThere, KeepRules, Stands, open_in, setting}
+use Rattle.lsv_worker.specs.Worker.{AllRemain, AreOfLanes, AreOfWorker, IsTable, IsThere, KeepRules, Stands, open_in, setting}
 use Rattle.lsv_worker.specs.declared.link.Link.{Link}
 use Rattle.lsv_worker.specs.declared.link.Phase.{Phase}
 use Rattle.lsv_worker.proofs.Passing.{lanes_remain, open_remain, remain_here, rules_all, there_at}
@@ -7,6 +7,7 @@ use Rattle.lsv_worker.proofs.FrameLemmas.{port_here}
 use Rattle.lsv_worker.proofs.Reading.{quiet_here, unread_here, unwritten_here}
 use Rattle.lsv_worker.proofs.Tables.{given_back}
 use Rattle.lsv_worker.proofs.Taking.{not_in, stands_dropped}
+use Rattle.lsv_worker.proofs.Owning.{workers_remain}
 use Rattle.lsv_worker.proofs.worker.Worker.take.Goals as goal
 
 pub take_at-requires : goal.take_at-requires
@@ -43,6 +44,7 @@ returns-clause-fit g c =
       few = c.requires.fit.few;
       room = search rules;
       lanes = subst (AreOfLanes c.args.self.now.lanes) (sym (given_back _ _ _ _ c.deref_mut.ensures.value c.deref_mut.ensures.len c.take_at.auto.links)) (lanes_remain c.args.self.now.lanes c.args.self.now.links.items links remain c.requires.fit.lanes);
+      workers = subst (AreOfWorker c.args.self.now.number) (sym (given_back _ _ _ _ c.deref_mut.ensures.value c.deref_mut.ensures.len c.take_at.auto.links)) (workers_remain c.args.self.now.number c.args.self.now.links.items links remain c.requires.fit.workers);
       open_few =
           let less = open_remain c.args.self.now.links.items links remain in
           let few = c.requires.fit.open_few in

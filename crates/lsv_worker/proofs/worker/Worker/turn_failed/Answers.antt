@@ -10,7 +10,7 @@ pub pass-requires : goal.pass-requires
 pass-requires g c =
     let mid : Worker = record c.args.self.now { phase = Failed } in
     record {
-      fit = record { first = c.requires.fit.first; some = c.requires.fit.some; few = c.requires.fit.few; room = c.requires.fit.room; lanes = c.requires.fit.lanes; open_few = c.requires.fit.open_few };
+      fit = record { first = c.requires.fit.first; some = c.requires.fit.some; few = c.requires.fit.few; room = c.requires.fit.room; lanes = c.requires.fit.lanes; workers = c.requires.fit.workers; open_few = c.requires.fit.open_few };
       lanes = c.requires.lanes;
       at = λ told. at_after c.args.self.now mid (g.P.Port.state c.args.port.now) (g.P.Port.state c.args.port.now) (λ jobs replies h. failed_stands (setting c.args.self.now) c.args.self.now.links.items (g.P.Port.state c.args.port.now) jobs replies c.requires.going (c.requires.failed told) h) (c.requires.at told);
     }
