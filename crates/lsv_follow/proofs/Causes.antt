@@ -1,9 +1,9 @@
 -- Which fault of a log that is read a fault of following it was.
 use Rattle.std.proofs.Common.{◌≡◌, ◌⊎◌, inl, inr, Result, Ok, Err, IfErr, IsErrAnd, IsErrOf, OnErr, refl, sym, ◌∙◌, ap}
 use Rattle.lsv_disk.specs.declared.file.Part.{Part}
-use Rattle.lsv_iolog.specs.declared.fault.LogFault.{LogFault}
-use Rattle.lsv_iolog.specs.declared.fault.LogFault.TheVariants as logs
-use Rattle.lsv_iolog.specs.Faults.{IsNextFault, IsOpenFault}
+use Rattle.lsv_iolog.specs.declared.fault.ViewFault.{ViewFault}
+use Rattle.lsv_iolog.specs.declared.fault.ViewFault.TheVariants as views
+use Rattle.lsv_iolog.specs.Faults.{IsNextFault}
 use Rattle.lsv_follow.specs.Faults.{of_log}
 use Rattle.lsv_follow.specs.declared.fault.FollowFault.{FollowFault}
 use Rattle.lsv_follow.specs.declared.fault.FollowFault.TheVariants.{Log, NoMem}
@@ -17,7 +17,7 @@ pub fault_is : {T : Type 0} (e d : FollowFault) → e ≡ d → IsErrOf {T = T} 
 fault_is {T} e d is = ap (λ (x : FollowFault). let y : Result T FollowFault = Err x in y) is
 
 -- what holds of an error, said of its result
-pub if_err_at : {T : Type 0} (r : Result T LogFault) (e : LogFault) (P : LogFault → Type 0) → IsErrAnd r (λ x. x ≡ e) → ((x : LogFault) → x ≡ e → P x) → IfErr r P
+pub if_err_at : {T : Type 0} (r : Result T ViewFault) (e : ViewFault) (P : ViewFault → Type 0) → IsErrAnd r (λ x. x ≡ e) → ((x : ViewFault) → x ≡ e → P x) → IfErr r P
 if_err_at (Ok x) e P is holds = absurd is
 if_err_at (Err x) e P is holds = holds x is
 
@@ -27,48 +27,33 @@ on_err (Ok x) P holds = tt
 on_err (Err e) P holds = holds
 
 -- a log that is neither absent nor damaged isn't opened by a device call that failed, or for want of memory
-pub open_fault : (e : LogFault) → IsOpenFault e → (e ≡ logs.Absent → ⊥) → ((part : Part) → e ≡ logs.Damaged part → ⊥) → (e ≡ logs.Disk) ⊎ (e ≡ logs.NoMem)
-open_fault logs.Absent is there sound = absurd (there refl)
-open_fault (logs.Damaged part) is there sound = absurd (sound part refl)
-open_fault logs.Complete is there sound = absurd is
-open_fault (logs.NoPoint point) is there sound = absurd is
-open_fault logs.Disk is there sound = inl refl
-open_fault logs.Broken is there sound = absurd is
-open_fault (logs.Full part) is there sound = absurd is
-open_fault (logs.TooLong point) is there sound = absurd is
-open_fault logs.NoMem is there sound = inr refl
+pub open_fault : (e : ViewFault) → (e ≡ views.Absent → ⊥) → ((part : Part) → e ≡ views.Damaged part → ⊥) → (e ≡ views.Disk) ⊎ (e ≡ views.NoMem)
+open_fault views.Absent there sound = absurd (there refl)
+open_fault (views.Damaged part) there sound = absurd (sound part refl)
+open_fault views.Disk there sound = inl refl
+open_fault views.NoMem there sound = inr refl
 
-log_same : (a b : LogFault) → Log a ≡ Log b → a ≡ b
+log_same : (a b : ViewFault) → Log a ≡ Log b → a ≡ b
 log_same a b is = cc
 
-no_log : (a : LogFault) → NoMem ≡ Log a → ⊥
+no_log : (a : ViewFault) → NoMem ≡ Log a → ⊥
 no_log a is = cc
 
 -- and if it answers `Log`, it is the device
-pub disk_alone : (e fault : LogFault) → of_log e ≡ Log fault → (e ≡ logs.Disk) ⊎ (e ≡ logs.NoMem) → fault ≡ logs.Disk
-disk_alone e fault is (inl disk) = sym (log_same logs.Disk fault (sym (ap of_log disk) ∙ is))
+pub disk_alone : (e fault : ViewFault) → of_log e ≡ Log fault → (e ≡ views.Disk) ⊎ (e ≡ views.NoMem) → fault ≡ views.Disk
+disk_alone e fault is (inl disk) = sym (log_same views.Disk fault (sym (ap of_log disk) ∙ is))
 disk_alone e fault is (inr memory) = absurd (no_log fault (sym (ap of_log memory) ∙ is))
 
 -- the part that is damaged is the log's
-pub damaged_is : (e : LogFault) (part : Part) → of_log e ≡ Log (logs.Damaged part) → e ≡ logs.Damaged part
-damaged_is logs.Absent part is = cc
-damaged_is (logs.Damaged other) part is = cc
-damaged_is logs.Complete part is = cc
-damaged_is (logs.NoPoint point) part is = cc
-damaged_is logs.Disk part is = cc
-damaged_is logs.Broken part is = cc
-damaged_is (logs.Full other) part is = cc
-damaged_is (logs.TooLong point) part is = cc
-damaged_is logs.NoMem part is = cc
+pub damaged_is : (e : ViewFault) (part : Part) → of_log e ≡ Log (views.Damaged part) → e ≡ views.Damaged part
+damaged_is views.Absent part is = cc
+damaged_is (views.Damaged other) part is = cc
+damaged_is views.Disk part is = cc
+damaged_is views.NoMem part is = cc
 
--- reading the next record has no other faults than opening
-pub next_fault : (e : LogFault) → IsNextFault e → (e ≡ logs.Absent → ⊥) × IsOpenFault e
-next_fault logs.Absent is = absurd is
-next_fault (logs.Damaged part) is = (λ at. cc, tt)
-next_fault logs.Complete is = absurd is
-next_fault (logs.NoPoint point) is = absurd is
-next_fault logs.Disk is = (λ at. cc, tt)
-next_fault logs.Broken is = absurd is
-next_fault (logs.Full part) is = absurd is
-next_fault (logs.TooLong point) is = absurd is
-next_fault logs.NoMem is = (λ at. cc, tt)
+-- reading the next record finds the log there
+pub next_fault : (e : ViewFault) → IsNextFault e → e ≡ views.Absent → ⊥
+next_fault views.Absent is = absurd is
+next_fault (views.Damaged part) is = λ at. cc
+next_fault views.Disk is = λ at. cc
+next_fault views.NoMem is = λ at. cc

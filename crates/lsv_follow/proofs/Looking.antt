@@ -7,10 +7,9 @@ use Rattle.lsv_disk.specs.Throughout.{OnlyReads}
 use Rattle.lsv_disk.specs.View.{DiskView, HasOwnCause, Image}
 use Rattle.lsv_disk.proofs.Composition.{OnlyNow, reads_trans}
 use Rattle.lsv_base.specs.Outside.{HasCause}
-use Rattle.lsv_iolog.specs.declared.fault.LogFault.{LogFault}
-use Rattle.lsv_iolog.specs.declared.fault.LogFault.TheVariants as logs
+use Rattle.lsv_iolog.specs.declared.fault.ViewFault.{ViewFault}
+use Rattle.lsv_iolog.specs.declared.fault.ViewFault.TheVariants as views
 use Rattle.lsv_iolog.specs.Damage.{IsViewDamage}
-use Rattle.lsv_iolog.specs.Faults.{IsOpenFault}
 use Rattle.lsv_iolog.specs.Later.{IsLater}
 use Rattle.lsv_iolog.specs.Reading.{ViewState}
 use Rattle.lsv_iolog.specs.Recovered.{IsOfLog, Replays, owner_of}
@@ -205,7 +204,7 @@ err_as : {T : Type 0} (r : Result T FollowEnd) (e : FollowEnd) → IsErrAnd r (�
 err_as (Ok x) e is = absurd is
 err_as (Err d) e is = ap (λ (x : FollowEnd). Err x) (sym is)
 
-damaged_disk : (part : Part) → logs.Damaged part ≡ logs.Disk → ⊥
+damaged_disk : (part : Part) → views.Damaged part ≡ views.Disk → ⊥
 damaged_disk part e = cc
 
 nothing_put : (o : Options) (part : List Item) → IsPart part (followed_by o seen.End) → part ≡ []
@@ -225,25 +224,20 @@ module _ (tells shows : Type 0) (o : Options) (start view : ViewState) (old now 
       → FollowsLooks {T = T} (IsStored start old.reads) o (Err e) (followed o is.looks)
   so_far e puts ends stored = record { looks = is.looks; puts = puts; ends = ends; stored = stored }
 
-  fails_by : {T : Type 0} (e : FollowFault) → IsLookFault e → ((s m : ℕ) → e ≡ faults.Resumed s m → ⊥) → (e ≡ faults.Log logs.Absent → ⊥)
-      → ((log : Stored) (rs : List Record) → HasGoneOn view rs log log now.reads → (fault : LogFault) → e ≡ faults.Log fault → fault ≡ logs.Disk)
+  fails_by : {T : Type 0} (e : FollowFault) → IsLookFault e → ((s m : ℕ) → e ≡ faults.Resumed s m → ⊥) → (e ≡ faults.Log views.Absent → ⊥)
+      → ((log : Stored) (rs : List Record) → HasGoneOn view rs log log now.reads → (fault : ViewFault) → e ≡ faults.Log fault → fault ≡ views.Disk)
       → FollowsLooks {T = T} (IsStored start old.reads) o (Err (of_look e)) (followed o is.looks)
   fails_by (faults.Resumed s m) fault uncut there sound = absurd (uncut s m refl)
-  fails_by (faults.Log logs.Absent) fault uncut there sound = absurd (there refl)
-  fails_by (faults.Log (logs.Damaged part)) fault uncut there sound =
-      so_far (ends.Fault (plays.Damaged part)) refl tt (λ log stored. let on = goes_on log stored in damaged_disk part (sound log on.0 on.1 (logs.Damaged part) refl))
-  fails_by (faults.Log logs.Disk) fault uncut there sound = so_far (ends.Fault plays.Disk) refl tt firsts
-  fails_by (faults.Log logs.Complete) fault uncut there sound = absurd fault
-  fails_by (faults.Log (logs.NoPoint point)) fault uncut there sound = absurd fault
-  fails_by (faults.Log logs.Broken) fault uncut there sound = absurd fault
-  fails_by (faults.Log (logs.Full part)) fault uncut there sound = absurd fault
-  fails_by (faults.Log (logs.TooLong point)) fault uncut there sound = absurd fault
-  fails_by (faults.Log logs.NoMem) fault uncut there sound = absurd fault
+  fails_by (faults.Log views.Absent) fault uncut there sound = absurd (there refl)
+  fails_by (faults.Log (views.Damaged part)) fault uncut there sound =
+      so_far (ends.Fault (plays.Damaged part)) refl tt (λ log stored. let on = goes_on log stored in damaged_disk part (sound log on.0 on.1 (views.Damaged part) refl))
+  fails_by (faults.Log views.Disk) fault uncut there sound = so_far (ends.Fault plays.Disk) refl tt firsts
+  fails_by (faults.Log views.NoMem) fault uncut there sound = absurd fault
   fails_by faults.NoMem fault uncut there sound = so_far (ends.Fault plays.NoMem) refl tt firsts
 
   -- a look failed
-  pub look_fails : {T : Type 0} (r : Result T FollowEnd) (e : FollowFault) → IsErrAnd r (λ x. x ≡ of_look e) → IsLookFault e → ((s m : ℕ) → e ≡ faults.Resumed s m → ⊥) → (e ≡ faults.Log logs.Absent → ⊥)
-      → ((log : Stored) (rs : List Record) → HasGoneOn view rs log log now.reads → (fault : LogFault) → e ≡ faults.Log fault → fault ≡ logs.Disk) → Puts shows (IsStored start old.reads) o r before shown
+  pub look_fails : {T : Type 0} (r : Result T FollowEnd) (e : FollowFault) → IsErrAnd r (λ x. x ≡ of_look e) → IsLookFault e → ((s m : ℕ) → e ≡ faults.Resumed s m → ⊥) → (e ≡ faults.Log views.Absent → ⊥)
+      → ((log : Stored) (rs : List Record) → HasGoneOn view rs log log now.reads → (fault : ViewFault) → e ≡ faults.Log fault → fault ≡ views.Disk) → Puts shows (IsStored start old.reads) o r before shown
   look_fails {T} r e err fault uncut there sound = record {
     put = followed o is.looks;
     put_is = is.put;
@@ -352,31 +346,21 @@ end_same (Err y) e d is same = let at : y ≡ d = cc in sym is ∙ at
 end_disk : (a b : PlayFault) → ends.Fault a ≡ ends.Fault b → a ≡ b
 end_disk a b e = cc
 
-play_disk : (e : LogFault) → play_faults.of_log e ≡ plays.Disk → e ≡ logs.Disk
-play_disk logs.Absent e = absurd (cc)
-play_disk (logs.Damaged part) e = absurd (cc)
-play_disk logs.Complete e = absurd (cc)
-play_disk (logs.NoPoint point) e = absurd (cc)
-play_disk logs.Disk e = refl
-play_disk logs.Broken e = absurd (cc)
-play_disk (logs.Full part) e = absurd (cc)
-play_disk (logs.TooLong point) e = absurd (cc)
-play_disk logs.NoMem e = absurd (cc)
+play_disk : (e : ViewFault) → play_faults.of_log e ≡ plays.Disk → e ≡ views.Disk
+play_disk views.Absent e = absurd (cc)
+play_disk (views.Damaged part) e = absurd (cc)
+play_disk views.Disk e = refl
+play_disk views.NoMem e = absurd (cc)
 
-play_screen : (e : LogFault) → play_faults.of_log e ≡ plays.Screen → ⊥
-play_screen logs.Absent e = cc
-play_screen (logs.Damaged part) e = cc
-play_screen logs.Complete e = cc
-play_screen (logs.NoPoint point) e = cc
-play_screen logs.Disk e = cc
-play_screen logs.Broken e = cc
-play_screen (logs.Full part) e = cc
-play_screen (logs.TooLong point) e = cc
-play_screen logs.NoMem e = cc
+play_screen : (e : ViewFault) → play_faults.of_log e ≡ plays.Screen → ⊥
+play_screen views.Absent e = cc
+play_screen (views.Damaged part) e = cc
+play_screen views.Disk e = cc
+play_screen views.NoMem e = cc
 
-pub look_disk : (e : FollowFault) → of_look e ≡ ends.Fault plays.Disk → e ≡ faults.Log logs.Disk
+pub look_disk : (e : FollowFault) → of_look e ≡ ends.Fault plays.Disk → e ≡ faults.Log views.Disk
 look_disk (faults.Resumed s m) e = absurd (cc)
-look_disk (faults.Log fault) e = ap (λ (f : LogFault). faults.Log f) (play_disk fault (end_disk (play_faults.of_log fault) plays.Disk e))
+look_disk (faults.Log fault) e = ap (λ (f : ViewFault). faults.Log f) (play_disk fault (end_disk (play_faults.of_log fault) plays.Disk e))
 look_disk faults.NoMem e = absurd (cc)
 
 pub look_screen : (e : FollowFault) → of_look e ≡ ends.Fault plays.Screen → ⊥
@@ -384,10 +368,10 @@ look_screen (faults.Resumed s m) e = cc
 look_screen (faults.Log fault) e = play_screen fault (end_disk (play_faults.of_log fault) plays.Screen e)
 look_screen faults.NoMem e = cc
 
-pub opening_disk : (e : LogFault) → ends.Fault (play_faults.of_log e) ≡ ends.Fault plays.Disk → e ≡ logs.Disk
+pub opening_disk : (e : ViewFault) → ends.Fault (play_faults.of_log e) ≡ ends.Fault plays.Disk → e ≡ views.Disk
 opening_disk e is = play_disk e (end_disk (play_faults.of_log e) plays.Disk is)
 
-pub opening_screen : (e : LogFault) → ends.Fault (play_faults.of_log e) ≡ ends.Fault plays.Screen → ⊥
+pub opening_screen : (e : ViewFault) → ends.Fault (play_faults.of_log e) ≡ ends.Fault plays.Screen → ⊥
 opening_screen e is = play_screen e (end_disk (play_faults.of_log e) plays.Screen is)
 
 pub screen_no_disk : ends.Fault plays.Screen ≡ ends.Fault plays.Disk → ⊥
@@ -408,20 +392,15 @@ ok_no_err r x e one two = cc
 -- ---- a log
 
 -- one that isn't opened puts nothing
-unopened : (T : Type 0) (n : ℕ) (image : Image) (e : LogFault) → IsOpenFault e → (e ≡ logs.Absent → Replays image n None) → ((part : Part) → e ≡ logs.Damaged part → IsViewDamage n part image) → IsNotFollowed {T = T} n image (Err (of_opening e))
-unopened T n image logs.Absent is absent damaged = absent refl
-unopened T n image (logs.Damaged part) is absent damaged = damaged part refl
-unopened T n image logs.Complete is absent damaged = absurd is
-unopened T n image (logs.NoPoint point) is absent damaged = absurd is
-unopened T n image logs.Disk is absent damaged = tt
-unopened T n image logs.Broken is absent damaged = absurd is
-unopened T n image (logs.Full part) is absent damaged = absurd is
-unopened T n image (logs.TooLong point) is absent damaged = absurd is
-unopened T n image logs.NoMem is absent damaged = tt
+unopened : (T : Type 0) (n : ℕ) (image : Image) (e : ViewFault) → (e ≡ views.Absent → Replays image n None) → ((part : Part) → e ≡ views.Damaged part → IsViewDamage n part image) → IsNotFollowed {T = T} n image (Err (of_opening e))
+unopened T n image views.Absent absent damaged = absent refl
+unopened T n image (views.Damaged part) absent damaged = damaged part refl
+unopened T n image views.Disk absent damaged = tt
+unopened T n image views.NoMem absent damaged = tt
 
-pub open_fails : {T : Type 0} (o : Options) (n : ℕ) (image : Image) (r : Result T FollowEnd) (e : LogFault) → IsErrAnd r (λ x. x ≡ of_opening e) → IsOpenFault e → (e ≡ logs.Absent → Replays image n None)
-    → ((part : Part) → e ≡ logs.Damaged part → IsViewDamage n part image) → Follows o n image r []
-open_fails {T} o n image r e err is absent damaged = inl (subst (λ (x : Result T FollowEnd). IsNotFollowed n image x) (err_as r (of_opening e) err) (unopened T n image e is absent damaged), refl)
+pub open_fails : {T : Type 0} (o : Options) (n : ℕ) (image : Image) (r : Result T FollowEnd) (e : ViewFault) → IsErrAnd r (λ x. x ≡ of_opening e) → (e ≡ views.Absent → Replays image n None)
+    → ((part : Part) → e ≡ views.Damaged part → IsViewDamage n part image) → Follows o n image r []
+open_fails {T} o n image r e err absent damaged = inl (subst (λ (x : Result T FollowEnd). IsNotFollowed n image x) (err_as r (of_opening e) err) (unopened T n image e absent damaged), refl)
 
 -- the cuts of one that is opened are those of its entry
 pub opened_cuts : (n : ℕ) (v : ViewState) (old mid : DiskView) → v.number ≡ n → OnlyReads old mid → HasCuts n (cuts_seen v) old.reads → HasCuts v.number (cuts_seen v) mid.reads

@@ -5,7 +5,7 @@ ghost use Rattle.lsv_follow.specs.declared.end.FollowEnd.TheVariants as ends;
 
 use crate::FollowFault;
 use lsv_base::SinkFault;
-use lsv_iolog::LogFault;
+use lsv_iolog::ViewFault;
 use lsv_play::PlayFault;
 use thiserror::Error;
 
@@ -23,10 +23,10 @@ pub enum FollowEnd {
     Fault(PlayFault),
 }
 
-impl From<LogFault> for FollowEnd {
+impl From<ViewFault> for FollowEnd {
     ghost from_gives = { λ fault given. given ≡ of_opening fault };
 
-    fn from(fault: LogFault) -> Self {
+    fn from(fault: ViewFault) -> Self {
         FollowEnd::Fault(PlayFault::from(fault))
     }
 }

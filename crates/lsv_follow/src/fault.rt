@@ -1,7 +1,7 @@
 ghost use Rattle.std.specs.Prelude.{◌≡◌};
 ghost use Rattle.lsv_follow.specs.Faults.{of_log};
 
-use lsv_iolog::LogFault;
+use lsv_iolog::ViewFault;
 use thiserror::Error;
 
 /// Why a log isn't followed further.
@@ -12,18 +12,18 @@ pub enum FollowFault {
     Resumed { seen: u64, now: u64 },
     /// The log can't be read: it is absent or damaged, or a device call failed.
     #[error("the log cannot be read")]
-    Log(LogFault),
+    Log(ViewFault),
     /// Out of memory.
     #[error("out of memory")]
     NoMem,
 }
 
-impl From<LogFault> for FollowFault {
+impl From<ViewFault> for FollowFault {
     ghost from_gives = { λ fault given. given ≡ of_log fault };
 
-    fn from(fault: LogFault) -> Self {
+    fn from(fault: ViewFault) -> Self {
         match fault {
-            LogFault::NoMem => FollowFault::NoMem,
+            ViewFault::NoMem => FollowFault::NoMem,
             fault => FollowFault::Log(fault),
         }
     }

@@ -2,9 +2,8 @@ ghost use Rattle.std.specs.Prelude.{◌≡◌, ◌≢◌, ◌⊎◌, ℕ, List, 
 ghost use Rattle.lsv_disk.specs.View.{HasOwnCause};
 ghost use Rattle.lsv_disk.specs.Throughout.{OnlyReads};
 ghost use Rattle.lsv_disk.specs.declared.file.Part.{Part};
-ghost use Rattle.lsv_iolog.specs.declared.fault.LogFault.{LogFault};
+ghost use Rattle.lsv_iolog.specs.declared.fault.ViewFault.{ViewFault};
 ghost use Rattle.lsv_iolog.specs.Damage.{IsViewDamage};
-ghost use Rattle.lsv_iolog.specs.Faults.{IsOpenFault};
 ghost use Rattle.lsv_iolog.specs.Reading.{HoldsLittle, IsBehind};
 ghost use Rattle.lsv_iolog.specs.Recovered.{IsOfLog, Replays};
 ghost use Rattle.lsv_record.specs.declared.records.Record.{Record};
@@ -15,7 +14,7 @@ ghost use Rattle.lsv_follow.specs.Following.{HasCuts, HasGoneOn, HasShown, IsLoo
 use crate::FollowFault;
 use lsv_base::LogNo;
 use lsv_disk::Disk;
-use lsv_iolog::{LogFault, LogView, Renewed};
+use lsv_iolog::{LogView, Renewed, ViewFault};
 use lsv_record::Record;
 use std::alloc::Global;
 
@@ -44,17 +43,16 @@ impl Follow {
     /// Opens the log of this number, with no record shown yet. `Absent` if it has no entry, `Damaged(part)` if a file is
     /// absent or shorter than the last entry says, or else the head is no head. `Disk` only if a device call on a file
     /// of this log failed, `NoMem` if memory ran out.
-    pub fn open<D: Disk>(alloc: Global, disk: &mut D, number: LogNo) -> Result<Follow, LogFault>
+    pub fn open<D: Disk>(alloc: Global, disk: &mut D, number: LogNo) -> Result<Follow, ViewFault>
         ensures number { IfOk result (λ f. f.view.number ≡ number) }
         ensures cuts { D.tells → IfOk result (λ f. HasCuts number (cuts_seen f.view) (D.view disk.old).reads) }
         ensures shows { D.tells → (log : Stored) → Replays (D.view disk.old).reads number (Some log) → IfOk result (λ f. HasShown f.view [] log) }
         ensures little { IfOk result (λ f. HoldsLittle f.view) }
-        ensures absent { D.tells → IsErrOf result LogFault.Absent → Replays (D.view disk.old).reads number None }
-        ensures damaged { D.tells → (part : Part) → IsErrOf result (LogFault.Damaged part) → IsViewDamage number part (D.view disk.old).reads }
-        ensures undamaged { D.tells → (log : Stored) → Replays (D.view disk.old).reads number (Some log) → IfErr result (λ e. (e ≡ LogFault.Disk) ⊎ (e ≡ LogFault.NoMem)) }
+        ensures absent { D.tells → IsErrOf result ViewFault.Absent → Replays (D.view disk.old).reads number None }
+        ensures damaged { D.tells → (part : Part) → IsErrOf result (ViewFault.Damaged part) → IsViewDamage number part (D.view disk.old).reads }
+        ensures undamaged { D.tells → (log : Stored) → Replays (D.view disk.old).reads number (Some log) → IfErr result (λ e. (e ≡ ViewFault.Disk) ⊎ (e ≡ ViewFault.NoMem)) }
         ensures reads { D.tells → OnlyReads (D.view disk.old) (D.view disk.new) }
-        ensures fault { IfErr result IsOpenFault }
-        ensures cause { HasOwnCause (IsOfLog number) (IsErrOf result LogFault.Disk) (D.view disk.old) (D.view disk.new) }
+        ensures cause { HasOwnCause (IsOfLog number) (IsErrOf result ViewFault.Disk) (D.view disk.old) (D.view disk.new) }
     {
         let view = LogView::open(alloc, disk, number)?;
         Ok(Follow { view })
@@ -67,16 +65,16 @@ impl Follow {
     pub fn next<D: Disk>(&mut self, disk: &mut D) -> Result<Seen, FollowFault>
         ensures sees { D.tells → (was now : Stored) (shown : List Record) → HasGoneOn self.old.view shown was now (D.view disk.old).reads → IfOk result (λ seen. Sees seen self.new.view shown now) }
         ensures stays { D.tells → (was now : Stored) (shown : List Record) → HasGoneOn self.old.view shown was now (D.view disk.old).reads → OnErr result (HasShown self.new.view shown was) }
-        ensures undamaged { D.tells → (was now : Stored) (shown : List Record) → HasGoneOn self.old.view shown was now (D.view disk.old).reads → (fault : LogFault) → IsErrOf result (FollowFault.Log fault) → fault ≡ LogFault.Disk }
+        ensures undamaged { D.tells → (was now : Stored) (shown : List Record) → HasGoneOn self.old.view shown was now (D.view disk.old).reads → (fault : ViewFault) → IsErrOf result (FollowFault.Log fault) → fault ≡ ViewFault.Disk }
         ensures uncut { D.tells → (cuts : ℕ) → HasCuts self.old.view.number cuts (D.view disk.old).reads → IfOk result (λ _. cuts ≡ cuts_seen self.old.view) }
         ensures resumed { D.tells → (seen now : ℕ) → IsErrOf result (FollowFault.Resumed seen now) → WasCut self.old.view seen now (D.view disk.old).reads }
-        ensures absent { D.tells → IsErrOf result (FollowFault.Log LogFault.Absent) → Replays (D.view disk.old).reads self.old.view.number None }
-        ensures damaged { D.tells → (part : Part) → IsErrOf result (FollowFault.Log (LogFault.Damaged part)) → IsLookDamage self.old.view part (D.view disk.old) }
+        ensures absent { D.tells → IsErrOf result (FollowFault.Log ViewFault.Absent) → Replays (D.view disk.old).reads self.old.view.number None }
+        ensures damaged { D.tells → (part : Part) → IsErrOf result (FollowFault.Log (ViewFault.Damaged part)) → IsLookDamage self.old.view part (D.view disk.old) }
         ensures same { (self.new.view.number ≡ self.old.view.number) × (cuts_seen self.new.view ≡ cuts_seen self.old.view) }
         ensures little { HoldsLittle self.new.view }
         ensures reads { D.tells → OnlyReads (D.view disk.old) (D.view disk.new) }
         ensures fault { IfErr result IsLookFault }
-        ensures cause { HasOwnCause (IsOfLog self.old.view.number) (IsErrOf result (FollowFault.Log LogFault.Disk)) (D.view disk.old) (D.view disk.new) }
+        ensures cause { HasOwnCause (IsOfLog self.old.view.number) (IsErrOf result (FollowFault.Log ViewFault.Disk)) (D.view disk.old) (D.view disk.new) }
     {
         self.renew(disk)?;
         match self.view.next(disk)? {
@@ -90,15 +88,15 @@ impl Follow {
         ensures renewed { D.tells → OnOk result (IsRenewed self.old.view self.new.view (D.view disk.old)) }
         ensures behind { D.tells → (was now : Stored) (shown : List Record) → HasGoneOn self.old.view shown was now (D.view disk.old).reads → OnOk result (IsBehind self.new.view shown (D.view disk.new)) }
         ensures unchanged { OnErr result (self.new ≡ self.old) }
-        ensures undamaged { D.tells → (was now : Stored) (shown : List Record) → HasGoneOn self.old.view shown was now (D.view disk.old).reads → (fault : LogFault) → IsErrOf result (FollowFault.Log fault) → fault ≡ LogFault.Disk }
+        ensures undamaged { D.tells → (was now : Stored) (shown : List Record) → HasGoneOn self.old.view shown was now (D.view disk.old).reads → (fault : ViewFault) → IsErrOf result (FollowFault.Log fault) → fault ≡ ViewFault.Disk }
         ensures resumed { D.tells → (seen now : ℕ) → IsErrOf result (FollowFault.Resumed seen now) → WasCut self.old.view seen now (D.view disk.old).reads }
-        ensures absent { D.tells → IsErrOf result (FollowFault.Log LogFault.Absent) → Replays (D.view disk.old).reads self.old.view.number None }
-        ensures damaged { D.tells → (part : Part) → IsErrOf result (FollowFault.Log (LogFault.Damaged part)) → IsLookDamage self.old.view part (D.view disk.old) }
+        ensures absent { D.tells → IsErrOf result (FollowFault.Log ViewFault.Absent) → Replays (D.view disk.old).reads self.old.view.number None }
+        ensures damaged { D.tells → (part : Part) → IsErrOf result (FollowFault.Log (ViewFault.Damaged part)) → IsLookDamage self.old.view part (D.view disk.old) }
         ensures same { (self.new.view.number ≡ self.old.view.number) × (cuts_seen self.new.view ≡ cuts_seen self.old.view) × (self.new.view.given ≡ self.old.view.given) }
         ensures little { HoldsLittle self.new.view }
         ensures reads { D.tells → OnlyReads (D.view disk.old) (D.view disk.new) }
         ensures fault { IfErr result IsLookFault }
-        ensures cause { HasOwnCause (IsOfLog self.old.view.number) (IsErrOf result (FollowFault.Log LogFault.Disk)) (D.view disk.old) (D.view disk.new) }
+        ensures cause { HasOwnCause (IsOfLog self.old.view.number) (IsErrOf result (FollowFault.Log ViewFault.Disk)) (D.view disk.old) (D.view disk.new) }
     {
         match self.view.renew(disk)? {
             Renewed::Same => Ok(()),

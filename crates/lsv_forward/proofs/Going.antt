@@ -8,7 +8,7 @@ use Rattle.lsv_disk.specs.Throughout.{Throughout}
 use Rattle.lsv_disk.specs.View.{DiskView, Image, IsCrashImage}
 use Rattle.lsv_disk.proofs.Composition.{OnlyNow, followed, risen_first, risen_second, started, widened}
 use Rattle.lsv_bundle.specs.declared.fault.BundleFault.TheVariants as bundles
-use Rattle.lsv_iolog.specs.declared.fault.LogFault.TheVariants as logs
+use Rattle.lsv_iolog.specs.declared.fault.ViewFault.TheVariants as logs
 use Rattle.lsv_link.specs.declared.connection.Connection.{Connection}
 use Rattle.lsv_link.specs.Link.{Continues, LinkCounts, LinkState, after_close, joined}
 use Rattle.lsv_relay.specs.declared.fault.RelayFault.{RelayFault}
@@ -97,11 +97,6 @@ module _ (tells : Type 0) (n : ℕ) (image other : Image) (same : tells → Same
   }
   shut_cause_same (relays.Log logs.Disk) cause = cause
   shut_cause_same (relays.Log logs.NoMem) cause = cause
-  shut_cause_same (relays.Log logs.Complete) cause = cause
-  shut_cause_same (relays.Log (logs.NoPoint point)) cause = cause
-  shut_cause_same (relays.Log logs.Broken) cause = cause
-  shut_cause_same (relays.Log (logs.Full part)) cause = cause
-  shut_cause_same (relays.Log (logs.TooLong point)) cause = cause
   shut_cause_same (relays.State bundles.Disk) cause = cause
   shut_cause_same (relays.State bundles.Broken) cause = cause
   shut_cause_same (relays.State (bundles.Damaged part)) cause = λ told. (unmarked_same n image other (same told) (cause told).0, state_damage_alone n part image other (same told).relay (cause told).1)

@@ -13,7 +13,7 @@ use Rattle.lsv_dialogue.specs.declared.ends.TalkFault.{TalkFault}
 use Rattle.lsv_dialogue.specs.declared.ends.TalkFault.TheVariants as talks
 use Rattle.lsv_iolog.specs.Damage.{IsViewDamage}
 use Rattle.lsv_iolog.specs.Recovered.{IsOfLog, Replays, SameFiles}
-use Rattle.lsv_iolog.specs.declared.fault.LogFault.TheVariants as logs
+use Rattle.lsv_iolog.specs.declared.fault.ViewFault.TheVariants as logs
 use Rattle.lsv_kept.specs.Kept.{IsAsBefore, IsMarked, IsOfRelay, IsStateDamage, Keeps}
 use Rattle.lsv_kept.specs.Value.{is_done}
 use Rattle.lsv_kept.specs.declared.state.State.{State}
@@ -83,11 +83,6 @@ unjudged_of (relays.Log logs.Absent) n old new log state is = absurd (cc)
 unjudged_of (relays.Log (logs.Damaged part)) n old new log state is = absurd (cc)
 unjudged_of (relays.Log logs.Disk) n old new log state is = let rise = log.risen refl in (rise.0, inl rise.1, rise.2)
 unjudged_of (relays.Log logs.NoMem) n old new log state is = absurd (cc)
-unjudged_of (relays.Log logs.Complete) n old new log state is = absurd (cc)
-unjudged_of (relays.Log (logs.NoPoint point)) n old new log state is = absurd (cc)
-unjudged_of (relays.Log logs.Broken) n old new log state is = absurd (cc)
-unjudged_of (relays.Log (logs.Full part)) n old new log state is = absurd (cc)
-unjudged_of (relays.Log (logs.TooLong point)) n old new log state is = absurd (cc)
 unjudged_of (relays.State bundles.Disk) n old new log state is = let rise = state.risen refl in (rise.0, inr rise.1, rise.2)
 unjudged_of (relays.State bundles.Broken) n old new log state is = absurd (cc)
 unjudged_of (relays.State (bundles.Damaged part)) n old new log state is = absurd (cc)
@@ -129,11 +124,6 @@ passed_by tells n (relays.Log logs.Absent) old new s told passed = absent_not n 
 passed_by tells n (relays.Log (logs.Damaged part)) old new s told passed = absurd (cc)
 passed_by tells n (relays.Log logs.Disk) old new s told passed = absurd (cc)
 passed_by tells n (relays.Log logs.NoMem) old new s told passed = absurd (cc)
-passed_by tells n (relays.Log logs.Complete) old new s told passed = absurd (cc)
-passed_by tells n (relays.Log (logs.NoPoint point)) old new s told passed = absurd (cc)
-passed_by tells n (relays.Log logs.Broken) old new s told passed = absurd (cc)
-passed_by tells n (relays.Log (logs.Full part)) old new s told passed = absurd (cc)
-passed_by tells n (relays.Log (logs.TooLong point)) old new s told passed = absurd (cc)
 passed_by tells n (relays.State fault) old new s told passed = absurd (cc)
 passed_by tells n relays.NoMem old new s told passed = absurd (cc)
 
@@ -163,11 +153,6 @@ module _ (undamaged : (n : ℕ) (image : Image) (part : Part) → IsStateDamage 
   shut_unmarked tells n (relays.Log (logs.Damaged part)) old new s told device memory passed = let d = s.why told in record { complete = d.complete; unmarked = d.unmarked }
   shut_unmarked tells n (relays.Log logs.Disk) old new s told device memory passed = absurd (cc)
   shut_unmarked tells n (relays.Log logs.NoMem) old new s told device memory passed = absurd s.word
-  shut_unmarked tells n (relays.Log logs.Complete) old new s told device memory passed = absurd s.word
-  shut_unmarked tells n (relays.Log (logs.NoPoint point)) old new s told device memory passed = absurd s.word
-  shut_unmarked tells n (relays.Log logs.Broken) old new s told device memory passed = absurd s.word
-  shut_unmarked tells n (relays.Log (logs.Full part)) old new s told device memory passed = absurd s.word
-  shut_unmarked tells n (relays.Log (logs.TooLong point)) old new s told device memory passed = absurd s.word
   shut_unmarked tells n (relays.State bundles.Disk) old new s told device memory passed = absurd (cc)
   shut_unmarked tells n (relays.State bundles.Broken) old new s told device memory passed = absurd s.word
   shut_unmarked tells n (relays.State (bundles.Damaged part)) old new s told device memory passed = let d = s.why told in record { complete = d.0; unmarked = undamaged n old.reads part d.1 }
@@ -181,11 +166,6 @@ module _ (undamaged : (n : ℕ) (image : Image) (part : Part) → IsStateDamage 
   shut_cause tells n (relays.Log (logs.Damaged part)) old new s memory passed = λ told. s.why told
   shut_cause tells n (relays.Log logs.Disk) old new s memory passed = tt
   shut_cause tells n (relays.Log logs.NoMem) old new s memory passed = absurd s.word
-  shut_cause tells n (relays.Log logs.Complete) old new s memory passed = absurd s.word
-  shut_cause tells n (relays.Log (logs.NoPoint point)) old new s memory passed = absurd s.word
-  shut_cause tells n (relays.Log logs.Broken) old new s memory passed = absurd s.word
-  shut_cause tells n (relays.Log (logs.Full part)) old new s memory passed = absurd s.word
-  shut_cause tells n (relays.Log (logs.TooLong point)) old new s memory passed = absurd s.word
   shut_cause tells n (relays.State bundles.Disk) old new s memory passed = tt
   shut_cause tells n (relays.State bundles.Broken) old new s memory passed = absurd s.word
   shut_cause tells n (relays.State (bundles.Damaged part)) old new s memory passed = λ told. let d = s.why told in (record { complete = d.0; unmarked = undamaged n old.reads part d.1 }, d.1)

@@ -1,7 +1,7 @@
 -- What only the proofs need of a run.
 use Rattle.std.specs.Prelude.{◌≡◌, ◌⊎◌, ℕ, Bool, true, false, List, Option, IfSome}
 use Rattle.lsv_disk.specs.View.{DiskView}
-use Rattle.lsv_iolog.specs.declared.fault.LogFault.TheVariants as logs
+use Rattle.lsv_iolog.specs.declared.fault.ViewFault.TheVariants as logs
 use Rattle.lsv_link.specs.declared.connection.Connection.{Connection}
 use Rattle.lsv_link.specs.Link.{LinkCounts, LinkState}
 use Rattle.lsv_relay.specs.declared.fault.RelayFault.{RelayFault}

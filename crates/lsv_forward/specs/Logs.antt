@@ -7,7 +7,7 @@ use Rattle.lsv_disk.specs.View.{DiskView, Image}
 use Rattle.lsv_disk.specs.declared.file.Part.{Part}
 use Rattle.lsv_bundle.specs.declared.fault.BundleFault.TheVariants as bundles
 use Rattle.lsv_iolog.specs.Damage.{IsViewDamage}
-use Rattle.lsv_iolog.specs.declared.fault.LogFault.TheVariants as logs
+use Rattle.lsv_iolog.specs.declared.fault.ViewFault.TheVariants as logs
 use Rattle.lsv_link.specs.declared.connection.Connection.{Connection}
 use Rattle.lsv_link.specs.Link.{LinkState, after_miss, all_of}
 use Rattle.lsv_kept.specs.Kept.{IsMarked, IsOfRelay, IsStateDamage}

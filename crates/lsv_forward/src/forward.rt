@@ -13,7 +13,7 @@ use crate::numbers::last_number;
 use crate::{ForwardFault, Outcome, RelayNotices};
 use lsv_base::{LogNo, NoMem};
 use lsv_disk::Disk;
-use lsv_iolog::LogFault;
+use lsv_iolog::ViewFault;
 use lsv_kept::what_is_kept_is_one;
 use lsv_link::Link;
 use lsv_relay::{Relay, RelayEnd, RelayFault, a_crash_leaves_what_is_kept};
@@ -106,7 +106,7 @@ fn unopened(fault: RelayFault) -> Result<Outcome, NoMem>
     ensures { IfOk result (λ outcome. IsUnopened fault outcome) }
 {
     match fault {
-        RelayFault::Incomplete | RelayFault::Log(LogFault::Absent) => Ok(Outcome::Passed),
+        RelayFault::Incomplete | RelayFault::Log(ViewFault::Absent) => Ok(Outcome::Passed),
         RelayFault::NoMem => Err(NoMem),
         fault => Ok(Outcome::Unopened(fault)),
     }

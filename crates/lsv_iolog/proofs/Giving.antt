@@ -30,8 +30,8 @@ use Rattle.lsv_record.specs.Tally.{Totals, lines_of, totals_of, told_count, told
 use Rattle.lsv_record.proofs.Layouts.{stream_of-push, elapsed-push}
 use Rattle.lsv_record.proofs.Once.{one_line}
 use Rattle.lsv_record.proofs.Tallies.{totals_more, lines_are_timing, lines_tell_data, lines_tell_time, lines_grow}
-use Rattle.lsv_iolog.specs.declared.fault.LogFault.{LogFault}
-use Rattle.lsv_iolog.specs.declared.fault.LogFault.TheVariants as logs
+use Rattle.lsv_iolog.specs.declared.fault.ViewFault.{ViewFault}
+use Rattle.lsv_iolog.specs.declared.fault.ViewFault.TheVariants as views
 use Rattle.lsv_iolog.specs.Recovered.{part_of, laid_in}
 use Rattle.lsv_iolog.specs.Reading.{AreThere, IsWindowOf, GoesOn, LacksData, AllUsed, IsLeftOver, IsStreamFault, IsTimingFault, IsFaultBehind, IsSoundBehind}
 use Rattle.lsv_iolog.specs.Inner.Scanning.{text_of, Scan, IsReading, IsBadLine, EachCounted, AllCounted, streams_before}
@@ -282,13 +282,13 @@ apart (suc a) zero le other = absurd (let no_ : ⊥ = omega (arith, le) in no_)
 apart (suc a) (suc b) le other = let h = apart a b (omega (arith, le)) (λ e. other (ap suc e)) in omega (arith, h)
 
 -- they end otherwise than the entry says
-pub ends_behind : (lines : Scan) (rs : List Record) (disk : DiskView) (fault : LogFault) (part : Part) → IsBehindLines lines rs disk → lines.tally.timing ≡ length_of lines.view.body Timing → fault ≡ logs.Damaged part
+pub ends_behind : (lines : Scan) (rs : List Record) (disk : DiskView) (fault : ViewFault) (part : Part) → IsBehindLines lines rs disk → lines.tally.timing ≡ length_of lines.view.body Timing → fault ≡ views.Damaged part
     → IsEndFault lines.view.body lines.tally fault → IsFaultBehind (laid_in (text_of lines.view disk)) lines.view.body rs part
 ends_behind lines rs disk fault part is end damaged (inl counts) =
     subst (IsFaultBehind (laid_in (text_of lines.view disk)) lines.view.body rs) (one Timing part (sym counts.0 ∙ damaged))
     (inr (inr (inl (timing_ends lines rs disk is end, λ ends. counts.1 (ends.count ∙ sym (tally_count lines.tally rs is.given)) (ends.time ∙ sym (tally_elapsed lines.tally rs is.given))))))
   where
-    one : (a b : Part) → logs.Damaged a ≡ logs.Damaged b → a ≡ b
+    one : (a b : Part) → views.Damaged a ≡ views.Damaged b → a ≡ b
     one a b e = cc
 ends_behind lines rs disk fault part is end damaged (inr streams) =
     subst (IsFaultBehind l lines.view.body rs) (one (part_of s) part (sym streams.2.1 ∙ damaged))
@@ -305,7 +305,7 @@ ends_behind lines rs disk fault part is end damaged (inr streams) =
     s : Stream
     s = streams.2.0
 
-    one : (a b : Part) → logs.Damaged a ≡ logs.Damaged b → a ≡ b
+    one : (a b : Part) → views.Damaged a ≡ views.Damaged b → a ≡ b
     one a b e = cc
 
 -- or as it says
@@ -321,9 +321,9 @@ whole_behind lines rs disk is end count time streams = record {
 }
 
 -- the timing is at fault alone
-pub timing_alone : (e : LogFault) (part : Part) → e ≡ logs.Damaged part → (e ≡ logs.Disk) ⊎ (e ≡ logs.Damaged Timing) ⊎ (e ≡ logs.NoMem) → Timing ≡ part
+pub timing_alone : (e : ViewFault) (part : Part) → e ≡ views.Damaged part → (e ≡ views.Disk) ⊎ (e ≡ views.Damaged Timing) ⊎ (e ≡ views.NoMem) → Timing ≡ part
 timing_alone e part is (inl disk) = absurd (let no_ : ⊥ = cc in no_)
-timing_alone e part is (inr (inl damaged)) = let h : logs.Damaged Timing ≡ logs.Damaged part = sym damaged ∙ is in cc
+timing_alone e part is (inr (inl damaged)) = let h : views.Damaged Timing ≡ views.Damaged part = sym damaged ∙ is in cc
 timing_alone e part is (inr (inr mem)) = absurd (let no_ : ⊥ = cc in no_)
 
 -- ---- where a record is given, or the end, nothing is at fault

@@ -15,8 +15,8 @@ use Rattle.lsv_bundle.specs.declared.view.View.{View}
 use Rattle.lsv_bundle.specs.Body.{length_of}
 use Rattle.lsv_bundle.specs.Committed.{Committed, HasPrefix, HasEntry, HoldsEntry, IsShort}
 use Rattle.lsv_bundle.specs.Shape.{IsPart, on_shape}
-use Rattle.lsv_iolog.specs.declared.fault.LogFault.{LogFault}
-use Rattle.lsv_iolog.specs.declared.fault.LogFault.TheVariants as logs
+use Rattle.lsv_iolog.specs.declared.fault.ViewFault.{ViewFault}
+use Rattle.lsv_iolog.specs.declared.fault.ViewFault.TheVariants as views
 use Rattle.lsv_iolog.specs.Recovered.{owner_of, IsHeadText}
 use Rattle.lsv_iolog.specs.Damage.{IsViewDamage}
 use Rattle.lsv_iolog.specs.Reading.{AreThere, committed_text}
@@ -25,13 +25,13 @@ use Rattle.lsv_iolog.proofs.Replaying.{on_log}
 use Rattle.lsv_iolog.proofs.Scans.{text_same}
 
 -- which error it is
-pub err_is : {T : Type 0} (r : Result T LogFault) (e d : LogFault) → IsErrAnd r (λ x. x ≡ e) → IsErrOf r d → e ≡ d
+pub err_is : {T : Type 0} (r : Result T ViewFault) (e d : ViewFault) → IsErrAnd r (λ x. x ≡ e) → IsErrOf r d → e ≡ d
 err_is (Ok x) e d is same = absurd is
 err_is {T} (Err x) e d is same = sym is ∙ (let h : x ≡ d = cc in h)
 
 -- an error is that error
-pub err_of : {T : Type 0} (e d : LogFault) → e ≡ d → IsErrOf {T = T} (Err e) d
-err_of {T} e d is = ap (λ (x : LogFault). let y : Result T LogFault = Err x in y) is
+pub err_of : {T : Type 0} (e d : ViewFault) → e ≡ d → IsErrOf {T = T} (Err e) d
+err_of {T} e d is = ap (λ (x : ViewFault). let y : Result T ViewFault = Err x in y) is
 
 enough_is : (a b : ℕ) → (a < b → ⊥) → b ≤ a
 enough_is a zero no_ = omega arith
@@ -79,9 +79,9 @@ entry_holds n body disk entry enough = record {
 }
 
 -- a head is at fault alone
-pub head_alone : (e : LogFault) (part : Part) → e ≡ logs.Damaged part → (e ≡ logs.Disk) ⊎ (e ≡ logs.Damaged Head) ⊎ (e ≡ logs.NoMem) → part ≡ Head
+pub head_alone : (e : ViewFault) (part : Part) → e ≡ views.Damaged part → (e ≡ views.Disk) ⊎ (e ≡ views.Damaged Head) ⊎ (e ≡ views.NoMem) → part ≡ Head
 head_alone e part is (inl disk) = absurd (let no_ : ⊥ = cc in no_)
-head_alone e part is (inr (inl damaged)) = let h : logs.Damaged part ≡ logs.Damaged Head = sym is ∙ damaged in cc
+head_alone e part is (inr (inl damaged)) = let h : views.Damaged part ≡ views.Damaged Head = sym is ∙ damaged in cc
 head_alone e part is (inr (inr mem)) = absurd (let no_ : ⊥ = cc in no_)
 
 -- then the log is damaged there

@@ -31,9 +31,9 @@ pub(crate) fn part_of(stream: Stream) -> Part
 
 impl IoLog {
     /// Stages a valid record after the others of a log that isn't complete, and answers the nanoseconds from the start
-    /// of the log to it. `TooLong`, with the elapsed time so far, exactly where it would reach 2^63; else `Broken`
-    /// exactly where the log is; else `Full(part)` exactly where the timing would pass 2^40 bytes, or else the stream
-    /// would. Where it fails, the log is unchanged. It commits nothing.
+    /// of the log to it. `TooLong`, with the elapsed time so far, comes exactly if that time would reach 2^63. Else
+    /// `Broken` comes exactly if the log is broken. Else `Full(part)` comes exactly if the timing, or else the stream,
+    /// would pass 2^40 bytes. A fault leaves the log unchanged. Nothing is committed.
     pub fn append(&mut self, r: &Record) -> Result<Point, LogFault>
         requires valid { IsValid r.now }
         requires going { is_complete self.old ≡ false }
@@ -65,7 +65,7 @@ impl IoLog {
     }
 }
 
-/// Stages the line of a record after this many bytes of timing, and its data. Where either is refused, nothing is.
+/// Stages the line of a record after `keep` bytes of timing, and its data. If either is refused, nothing is staged.
 fn stage_record(bundle: &mut Bundle, line: &Bytes, keep: usize, r: &Record) -> Result<(), LogFault>
     requires shape { bundle.old.shape ≡ shapes.Log }
     requires whole { bundle.old.is_broken ≡ false }
@@ -87,7 +87,7 @@ fn stage_record(bundle: &mut Bundle, line: &Bytes, keep: usize, r: &Record) -> R
     }
 }
 
-/// Stages the data of a record, where it has some.
+/// Stages the data of a record, if it has any.
 fn stage_data(bundle: &mut Bundle, r: &Record) -> Result<(), LogFault>
     requires shape { bundle.old.shape ≡ shapes.Log }
     requires whole { bundle.old.is_broken ≡ false }

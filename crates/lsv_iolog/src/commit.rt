@@ -23,10 +23,10 @@ use lsv_disk::{Disk, Part};
 use lsv_info::{Exit, write_exit};
 
 impl IoLog {
-    /// Commits all staged records, by one entry of kind 1 where there is one, and answers the nanoseconds from the start
-    /// of the log to its last record. At every moment a crash leaves the log as it was before or as it is now, and after Ok
-    /// the latter alone. `Disk` only where a device call on a file of this log failed; from then on `Broken`, until it
-    /// is opened again. It takes no memory.
+    /// Commits all staged records, by one entry of kind 1 if there are any, and answers the nanoseconds from the start
+    /// of the log to its last record. At every moment a crash leaves the log as it was before or as it is now, and after
+    /// Ok the latter alone. `Disk` comes only if a device call on a file of this log failed. From then on the log
+    /// answers `Broken`, until it is opened again. It takes no memory.
     pub fn flush<D: Disk>(&mut self, disk: &mut D) -> Result<Point, LogFault>
         requires represents { D.tells → self.old.is_broken ≡ false → (value : LogValue) × Represents self.old value (D.view disk.old) }
         ensures elapsed { IfOk result (λ point. point ≡ self.old.elapsed) }
@@ -56,10 +56,10 @@ impl IoLog {
         self.commit(disk, FLUSHED)
     }
 
-    /// Commits all staged records with the text of this exit, by one entry of kind 3; the log wasn't complete, and is then. The
-    /// exit's run time is valid. Crashes leave what they leave of a flush, and `Disk` and `Broken` come as there.
-    /// `Full(Exit)` exactly where the exit's text is too long for its file, which then is unchanged: so it fits where the
-    /// disk failed.
+    /// Commits all staged records with the text of this exit, by one entry of kind 3. The log wasn't complete, and is
+    /// then. The exit's run time is valid. A crash leaves what it leaves of a flush, and `Disk` and `Broken` come as
+    /// there. `Full(Exit)` comes exactly if the exit's text is too long for its file, which is then unchanged. So the
+    /// text fits if the disk failed.
     pub fn finish<D: Disk>(&mut self, disk: &mut D, exit: &Exit) -> Result<Point, LogFault>
         requires represents { D.tells → self.old.is_broken ≡ false → (value : LogValue) × Represents self.old value (D.view disk.old) }
         requires going { is_complete self.old ≡ false }

@@ -20,6 +20,7 @@ ghost use Rattle.lsv_iolog.specs.Inner.Cutting.{IsFound, IsCutTo, entry_behind, 
 ghost use Rattle.lsv_iolog.specs.Inner.Next.{cuts_in};
 ghost use Rattle.lsv_iolog.specs.Inner.Scanning.{text_of};
 ghost use Rattle.lsv_iolog.specs.declared.fault.LogFault.{LogFault};
+ghost use Rattle.lsv_iolog.specs.declared.fault.ViewFault.{ViewFault};
 ghost use Rattle.lsv_iolog.specs.Recovered.{IsOfLog, owner_of};
 ghost use Rattle.lsv_iolog.specs.Later.{cut_log, drops};
 ghost use Rattle.lsv_iolog.specs.Value.{LogValue, is_complete, bare, kind_of, SameCounts, IsFlushed};
@@ -28,7 +29,7 @@ ghost use Rattle.lsv_iolog.specs.Moments.{IsEither, IsThereLater, IsCutFault};
 
 use crate::lines::Lines;
 use crate::open::view_of;
-use crate::{IoLog, LogFault};
+use crate::{IoLog, LogFault, ViewFault};
 use lsv_base::Point;
 use lsv_bundle::{Body, View};
 use lsv_disk::{Disk, Part};
@@ -39,12 +40,13 @@ use std::alloc::Global;
 const MOST_CUTS: u64 = (1 << 63) - 1;
 
 impl IoLog {
-    /// Keeps the records through the first that ends at this point, by an entry of kind 2, and counts a cut where it drops
-    /// one. Nothing is staged. `Broken` exactly where the log is; else `Complete` exactly where it is complete; else `NoPoint` exactly
-    /// where no record ends there; `Full(Slots)` exactly where the cuts would pass 2^63 - 1. At every moment a crash
-    /// leaves the log as it was before or as it is cut, and after Ok the latter alone. `Disk` only where a device call
-    /// failed: on the journal, once the point was found; or on the timing, which is read in pieces of at most 65,536
-    /// bytes, and then the disk is as it was. Every other fault leaves the log and the disk as they were.
+    /// Keeps the records through the first that ends at this point, by an entry of kind 2, and counts a cut if it drops
+    /// one. Nothing is staged. `Broken` comes exactly if the log is broken, else `Complete` exactly if it is complete,
+    /// else `NoPoint` exactly if no record ends there. `Full(Slots)` comes exactly if the cuts would pass 2^63 - 1. At
+    /// every moment a crash leaves the log as it was before or as it is cut, and after Ok the latter alone. `Disk` comes
+    /// only if a device call failed: on the journal, after the point was found; or on the timing, and then the disk is as
+    /// it was. The timing is read in pieces of at most 65,536 bytes. Every other fault leaves the log and the disk as
+    /// they were.
     pub fn cut_at<D: Disk>(&mut self, disk: &mut D, point: Point) -> Result<(), LogFault>
         requires represents { D.tells → self.old.is_broken ≡ false → (value : LogValue) × Represents self.old value (D.view disk.old) }
         requires flushed { IsFlushed self.old }
@@ -92,7 +94,7 @@ impl IoLog {
 }
 
 impl IoLog {
-    /// What the timing comes to through the first line that ends at this point. None where none does.
+    /// What the timing comes to through the first line that ends at this point. None if no line does.
     fn find<D: Disk>(&mut self, disk: &mut D, point: Point) -> Result<Option<Tally>, LogFault>
         requires represents { D.tells → self.old.is_broken ≡ false → (value : LogValue) × Represents self.old value (D.view disk.old) }
         requires whole { self.old.is_broken ≡ false }
@@ -111,12 +113,13 @@ impl IoLog {
         let view = view_of(self.number, self.bundle.last());
         match first_end(self.alloc, disk, view, point) {
             Ok(found) => Ok(found),
-            Err(LogFault::Disk) => {
+            Err(ViewFault::Disk) => {
                 self.is_broken = true;
                 Err(LogFault::Disk)
             }
-            Err(LogFault::Damaged(_)) => Err(LogFault::NoPoint(point)),
-            Err(_) => Err(LogFault::NoMem),
+            Err(ViewFault::Damaged(_)) => Err(LogFault::NoPoint(point)),
+            Err(ViewFault::NoMem) => Err(LogFault::NoMem),
+            Err(ViewFault::Absent) => unreachable!(),
         }
     }
 
@@ -194,21 +197,21 @@ fn lengths_behind(body: &Body, kept: &Tally) -> [u64; 8]
     ]
 }
 
-/// What the timing of a view comes to through the first line that ends at this point. None where no line does.
+/// What the timing of a view comes to through the first line that ends at this point. None if no line does.
 fn first_end<D: Disk>(
     alloc: Global,
     disk: &mut D,
     view: View,
     point: Point,
-) -> Result<Option<Tally>, LogFault>
+) -> Result<Option<Tally>, ViewFault>
     requires shape { view.shape ≡ shapes.Log }
     ensures found { D.tells → IfOk result (λ found. (records : List Record) → All IsValid records → text_of view (D.view disk.old) Part.Timing ≡ timing_of records → IsFound records point found) }
     ensures at { IfOk result (λ found. IfSome found (λ kept. (kept.elapsed ≡ point) × (kept.timing ≤ length_of view.body Part.Timing))) }
-    ensures damaged { D.tells → IsErrOf result (LogFault.Damaged Part.Timing) → length (text_of view (D.view disk.old) Part.Timing) ≡ length_of view.body Part.Timing
+    ensures damaged { D.tells → IsErrOf result (ViewFault.Damaged Part.Timing) → length (text_of view (D.view disk.old) Part.Timing) ≡ length_of view.body Part.Timing
         → (told : List Shaped) → All IsGood told → text_of view (D.view disk.old) Part.Timing ≡ lines_of told → told_elapsed told < 2 ^ 63 → length (text_of view (D.view disk.old) Part.Timing) ≤ 2 ^ 40 → ⊥ }
     ensures reads { D.tells → OnlyReads (D.view disk.old) (D.view disk.new) }
-    ensures fault { IfErr result (λ e. (e ≡ LogFault.Disk) ⊎ (e ≡ LogFault.Damaged Part.Timing) ⊎ (e ≡ LogFault.NoMem)) }
-    ensures cause { HasCause (file_of view.owner Part.Timing) (IsErrOf result LogFault.Disk) (D.view disk.old) (D.view disk.new) }
+    ensures fault { IfErr result (λ e. (e ≡ ViewFault.Disk) ⊎ (e ≡ ViewFault.Damaged Part.Timing) ⊎ (e ≡ ViewFault.NoMem)) }
+    ensures cause { HasCause (file_of view.owner Part.Timing) (IsErrOf result ViewFault.Disk) (D.view disk.old) (D.view disk.new) }
 {
     let mut lines = Lines::new(alloc, view);
     while let Some(_) = lines.next(alloc, disk)? {

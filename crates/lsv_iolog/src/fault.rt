@@ -5,6 +5,23 @@ use lsv_record::TimingFault;
 use std::alloc::AllocError;
 use thiserror::Error;
 
+/// Why a log isn't read. Each call gives only those that it names.
+#[derive(Clone, Copy, Debug, PartialEq, Eq, Error)]
+pub enum ViewFault {
+    /// There is no log of this number.
+    #[error("there is no such log")]
+    Absent,
+    /// The log has an entry, and this is the first part at fault.
+    #[error("the log is damaged")]
+    Damaged(Part),
+    /// A device call on a file of this log failed.
+    #[error("a call on a file of the log failed")]
+    Disk,
+    /// Out of memory.
+    #[error("out of memory")]
+    NoMem,
+}
+
 /// Why a call of a log failed. Each call gives only those that it names.
 #[derive(Clone, Copy, Debug, PartialEq, Eq, Error)]
 pub enum LogFault {
@@ -59,6 +76,44 @@ impl From<AllocError> for LogFault {
     }
 }
 
+impl From<ViewFault> for LogFault {
+    ghost use Rattle.std.specs.Prelude.{◌≡◌};
+    ghost use Rattle.lsv_iolog.specs.Faults.{of_view};
+
+    ghost from_gives = { λ fault given. given ≡ of_view fault };
+
+    fn from(fault: ViewFault) -> Self {
+        match fault {
+            ViewFault::Absent => LogFault::Absent,
+            ViewFault::Damaged(part) => LogFault::Damaged(part),
+            ViewFault::Disk => LogFault::Disk,
+            ViewFault::NoMem => LogFault::NoMem,
+        }
+    }
+}
+
+impl From<NoMem> for ViewFault {
+    ghost use Rattle.std.specs.Prelude.{◌≡◌};
+    ghost use Rattle.lsv_iolog.specs.declared.fault.ViewFault.TheVariants as faults;
+
+    ghost from_gives = { λ _ fault. fault ≡ faults.NoMem };
+
+    fn from(_: NoMem) -> Self {
+        ViewFault::NoMem
+    }
+}
+
+impl From<AllocError> for ViewFault {
+    ghost use Rattle.std.specs.Prelude.{◌≡◌};
+    ghost use Rattle.lsv_iolog.specs.declared.fault.ViewFault.TheVariants as faults;
+
+    ghost from_gives = { λ _ fault. fault ≡ faults.NoMem };
+
+    fn from(_: AllocError) -> Self {
+        ViewFault::NoMem
+    }
+}
+
 impl From<BundleFault> for LogFault {
     ghost use Rattle.std.specs.Prelude.{◌≡◌};
     ghost use Rattle.lsv_iolog.specs.Faults.{fault_of};
@@ -76,7 +131,7 @@ impl From<BundleFault> for LogFault {
     }
 }
 
-impl From<TimingFault> for LogFault {
+impl From<TimingFault> for ViewFault {
     ghost use Rattle.std.specs.Prelude.{◌≡◌};
     ghost use Rattle.lsv_iolog.specs.Faults.{fault_of_timing};
 
@@ -84,8 +139,8 @@ impl From<TimingFault> for LogFault {
 
     fn from(fault: TimingFault) -> Self {
         match fault {
-            TimingFault::NoMem => LogFault::NoMem,
-            TimingFault::BadLine | TimingFault::TooLong => LogFault::Damaged(Part::Timing),
+            TimingFault::NoMem => ViewFault::NoMem,
+            TimingFault::BadLine | TimingFault::TooLong => ViewFault::Damaged(Part::Timing),
         }
     }
 }

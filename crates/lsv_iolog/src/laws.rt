@@ -17,8 +17,8 @@ use crate::IoLog;
 use lsv_disk::{Claim, Disk};
 use std::marker::PhantomData;
 
-/// What an image holds of a log hangs on the log's files alone, and is one thing; where no file of it is there, the log
-/// is absent; and whether it is absent, there, or damaged is decided. Where a part is at fault, nothing is there.
+/// What an image holds of a log depends on the log's files alone, and is one thing. If none of its files exists, the log
+/// is absent. It is decided whether the log is absent, stored or damaged. If a part is at fault, no log is stored.
 pub fn a_log_is_recovered_in_one_way()
     ensures once { (image : Image) (n : ℕ) (found other : Option Stored) → Replays image n found → Replays image n other → found ≡ other }
     ensures own_files { (image other : Image) (n : ℕ) (found : Option Stored) → SameFiles n image other → Replays image n found → Replays other n found }
@@ -33,8 +33,8 @@ pub fn later_states_are_ordered()
     ensures further { (a b c : Stored) → IsLater a b → IsLater b c → IsLater a c }
 {}
 
-/// Each crash image replays what an open log has committed. It stays represented where calls on the disk touched none of
-/// its files, and with what is staged.
+/// Each crash image replays what an open log has committed. It stays represented, with what is staged, if calls on the
+/// disk touched none of its files.
 pub fn logs_stay<D: Disk, C: Claim>(
     log: &IoLog,
     next: &IoLog,

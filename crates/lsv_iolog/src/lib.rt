@@ -13,7 +13,7 @@ mod open;
 mod pieces;
 mod view;
 
-pub use fault::LogFault;
+pub use fault::{LogFault, ViewFault};
 pub use laws::{a_log_is_recovered_in_one_way, later_states_are_ordered, logs_stay};
 pub use log::IoLog;
 pub use view::{LogView, Renewed};

@@ -1,3 +1,4 @@
+//! The lines of a log's timing, read through a window.
 ghost use Rattle.std.specs.Prelude.{◌≡◌, ◌≢◌, ◌↔◌, ◌⊎◌, ℕ, List, None, ◌+◌, ◌<◌, ◌≤◌, ◌^◌, [], length, IsTrue, IfOk, IfErr, IfSome, IfNone, OnOk, OnErr, IsErrOf};
 ghost use Rattle.lsv_disk.specs.declared.file.Part.{Part};
 ghost use Rattle.lsv_disk.specs.Files.{file_of};
@@ -8,11 +9,11 @@ ghost use Rattle.lsv_bundle.specs.Body.{length_of};
 ghost use Rattle.lsv_record.specs.Lines.{IsLineAt};
 ghost use Rattle.lsv_record.specs.Records.{IsGood};
 ghost use Rattle.lsv_record.specs.Tally.{totals_of, with_line};
-ghost use Rattle.lsv_iolog.specs.declared.fault.LogFault.{LogFault};
+ghost use Rattle.lsv_iolog.specs.declared.fault.ViewFault.{ViewFault};
 ghost use Rattle.lsv_iolog.specs.Inner.Scanning.{text_of, IsInOrder, IsSameWindow, IsReading, IsBadLine};
 ghost use Rattle.lsv_iolog.specs.Reading.{IsWindowOf};
 
-use crate::LogFault;
+use crate::ViewFault;
 use crate::pieces::read_piece;
 use lsv_base::Bytes;
 use lsv_bundle::View;
@@ -27,7 +28,7 @@ const FILE_LIMIT: u64 = 1 << 40;
 /// The most bytes of timing that are read at once.
 const WINDOW: u64 = 1 << 16;
 
-/// Where the length of the timing stands among the eight.
+/// The place of the timing's length among the eight.
 const TIMING: usize = 2;
 
 /// The committed timing of a log, which is read line by line through windows of it.
@@ -83,7 +84,7 @@ impl Lines {
         self.tally
     }
 
-    /// Stands where it stood when the lines came to this.
+    /// Goes back to the place at which the lines came to this.
     pub(crate) fn back_to(&mut self, before: Tally)
         requires start { self.old.start ≤ before.timing }
         requires end { before.timing ≤ self.old.start + length self.old.window }
@@ -118,9 +119,9 @@ impl Lines {
         self.total() - self.start == self.window.as_slice().len() as u64
     }
 
-    /// Reads the next line from the window, where a whole one stands there. None at the end of the timing, and where the
-    /// window is too short. Where there is none, and at a fault, nothing is read.
-    fn step(&mut self, alloc: Global) -> Result<Option<Shaped>, LogFault>
+    /// Reads the next line from the window, if the window has a whole one. None at the end of the timing, and if the
+    /// window is too short. At None and at a fault nothing is read.
+    fn step(&mut self, alloc: Global) -> Result<Option<Shaped>, ViewFault>
         requires small { length_of self.old.view.body Part.Timing ≤ 2 ^ 40 }
         ensures line { IfOk result (λ line. IfSome line (λ told. (text : List ℕ) → IsWindowOf text self.old.start self.old.window self.old.tally.timing → length text ≤ length_of self.old.view.body Part.Timing
             → IsLineAt text self.old.tally.timing told self.new.tally.timing)) }
@@ -129,12 +130,12 @@ impl Lines {
         ensures short { IfOk result (λ line. IfNone line (self.old.start + length self.old.window < self.old.tally.timing + 56)) }
         ensures stays { IfOk result (λ line. IfNone line (self.new.tally ≡ self.old.tally)) }
         ensures err { OnErr result (self.new.tally ≡ self.old.tally) }
-        ensures bad { IsErrOf result (LogFault.Damaged Part.Timing) → (text : List ℕ) → IsWindowOf text self.old.start self.old.window self.old.tally.timing → length text ≤ length_of self.old.view.body Part.Timing
+        ensures bad { IsErrOf result (ViewFault.Damaged Part.Timing) → (text : List ℕ) → IsWindowOf text self.old.start self.old.window self.old.tally.timing → length text ≤ length_of self.old.view.body Part.Timing
             → IsBadLine text self.old.tally }
         ensures view { self.new.view ≡ self.old.view }
         ensures window { IsSameWindow self.old self.new }
         ensures in_order { IsInOrder self.new }
-        ensures fault { IfErr result (λ e. (e ≡ LogFault.Damaged Part.Timing) ⊎ (e ≡ LogFault.NoMem)) }
+        ensures fault { IfErr result (λ e. (e ≡ ViewFault.Damaged Part.Timing) ⊎ (e ≡ ViewFault.NoMem)) }
     {
         let from = (self.tally.timing() - self.start) as usize;
         let is_last = self.is_last();
@@ -143,8 +144,8 @@ impl Lines {
         Ok(line)
     }
 
-    /// Reads a window that begins at the next line. Where that fails, the window is empty.
-    fn fill<D: Disk>(&mut self, alloc: Global, disk: &mut D) -> Result<(), LogFault>
+    /// Reads a window that begins at the next line. If that fails, the window is empty.
+    fn fill<D: Disk>(&mut self, alloc: Global, disk: &mut D) -> Result<(), ViewFault>
         ensures reading { D.tells → IsReading self.old (D.view disk.old) → IsReading self.new (D.view disk.new) }
         ensures full { D.tells → OnOk result (IsReading self.old (D.view disk.old) → length (text_of self.old.view (D.view disk.old) Part.Timing) ≡ length_of self.old.view.body Part.Timing
             → (65536 ≤ length self.new.window) ⊎ (self.new.start + length self.new.window ≡ length_of self.old.view.body Part.Timing)) }
@@ -153,8 +154,8 @@ impl Lines {
         ensures start { self.new.start ≡ self.old.tally.timing }
         ensures in_order { IsInOrder self.new }
         ensures reads { D.tells → OnlyReads (D.view disk.old) (D.view disk.new) }
-        ensures fault { IfErr result (λ e. (e ≡ LogFault.Disk) ⊎ (e ≡ LogFault.NoMem)) }
-        ensures cause { HasCause (file_of self.old.view.owner Part.Timing) (IsErrOf result LogFault.Disk) (D.view disk.old) (D.view disk.new) }
+        ensures fault { IfErr result (λ e. (e ≡ ViewFault.Disk) ⊎ (e ≡ ViewFault.NoMem)) }
+        ensures cause { HasCause (file_of self.old.view.owner Part.Timing) (IsErrOf result ViewFault.Disk) (D.view disk.old) (D.view disk.new) }
     {
         let start = self.tally.timing();
         let room = (self.view.body.lens[TIMING] - start).min(WINDOW);
@@ -165,14 +166,13 @@ impl Lines {
         Ok(())
     }
 
-    /// Reads the next line. None at the end of the timing. `Damaged(Timing)` where no line stands there, or the
-    /// elapsed time reaches 2^63 nanoseconds with it, or the timing has more than 2^40 bytes. Where it fails, no line
-    /// was read.
+    /// Reads the next line. None at the end of the timing. `Damaged(Timing)` comes if there is no line, or the elapsed
+    /// time reaches 2^63 nanoseconds with it, or the timing has more than 2^40 bytes. At a fault no line was read.
     pub(crate) fn next<D: Disk>(
         &mut self,
         alloc: Global,
         disk: &mut D,
-    ) -> Result<Option<Shaped>, LogFault>
+    ) -> Result<Option<Shaped>, ViewFault>
         ensures line { D.tells → IfOk result (λ line. IfSome line (λ told. IsReading self.old (D.view disk.old) → IsLineAt (text_of self.old.view (D.view disk.old) Part.Timing) self.old.tally.timing told self.new.tally.timing)) }
         ensures taken { IfOk result (λ line. IfSome line (λ told. IsGood told × (self.new.tally ≡ with_line self.old.tally told))) }
         ensures end { IfOk result (λ line. IfNone line (self.old.tally.timing ≡ length_of self.old.view.body Part.Timing)) }
@@ -183,14 +183,14 @@ impl Lines {
         ensures window { (self.new.start ≤ self.old.tally.timing) × (self.old.tally.timing ≤ self.new.start + length self.new.window) }
         ensures in_order { IsInOrder self.new }
         ensures reading { D.tells → IsReading self.old (D.view disk.old) → IsReading self.new (D.view disk.new) }
-        ensures bad { D.tells → IsErrOf result (LogFault.Damaged Part.Timing) → IsReading self.old (D.view disk.old) → length (text_of self.old.view (D.view disk.old) Part.Timing) ≡ length_of self.old.view.body Part.Timing
+        ensures bad { D.tells → IsErrOf result (ViewFault.Damaged Part.Timing) → IsReading self.old (D.view disk.old) → length (text_of self.old.view (D.view disk.old) Part.Timing) ≡ length_of self.old.view.body Part.Timing
             → IsBadLine (text_of self.old.view (D.view disk.old) Part.Timing) self.old.tally }
         ensures reads { D.tells → OnlyReads (D.view disk.old) (D.view disk.new) }
-        ensures fault { IfErr result (λ e. (e ≡ LogFault.Disk) ⊎ (e ≡ LogFault.Damaged Part.Timing) ⊎ (e ≡ LogFault.NoMem)) }
-        ensures cause { HasCause (file_of self.old.view.owner Part.Timing) (IsErrOf result LogFault.Disk) (D.view disk.old) (D.view disk.new) }
+        ensures fault { IfErr result (λ e. (e ≡ ViewFault.Disk) ⊎ (e ≡ ViewFault.Damaged Part.Timing) ⊎ (e ≡ ViewFault.NoMem)) }
+        ensures cause { HasCause (file_of self.old.view.owner Part.Timing) (IsErrOf result ViewFault.Disk) (D.view disk.old) (D.view disk.new) }
     {
         if self.total() > FILE_LIMIT {
-            return Err(LogFault::Damaged(Part::Timing));
+            return Err(ViewFault::Damaged(Part::Timing));
         }
         if let Some(line) = self.step(alloc)? {
             return Ok(Some(line));
@@ -205,14 +205,14 @@ impl Lines {
         }
     }
 
-    /// At the end of the timing no line is left; before it one is wanting.
-    fn no_line(&self) -> Result<Option<Shaped>, LogFault>
+    /// At the end of the timing no line is left; before it one is missing.
+    fn no_line(&self) -> Result<Option<Shaped>, ViewFault>
         ensures end { IfOk result (λ line. (line ≡ None) × (self.now.start + length self.now.window ≡ length_of self.now.view.body Part.Timing)) }
-        ensures fault { IfErr result (λ e. (e ≡ LogFault.Damaged Part.Timing) × (self.now.start + length self.now.window ≢ length_of self.now.view.body Part.Timing)) }
+        ensures fault { IfErr result (λ e. (e ≡ ViewFault.Damaged Part.Timing) × (self.now.start + length self.now.window ≢ length_of self.now.view.body Part.Timing)) }
     {
         if self.is_last() {
             return Ok(None);
         }
-        Err(LogFault::Damaged(Part::Timing))
+        Err(ViewFault::Damaged(Part::Timing))
     }
 }

@@ -146,10 +146,10 @@ fn make_files<D: Disk>(
 }
 
 impl IoLog {
-    /// Makes a log of this head, with no record, by an entry of kind 0. None of its files is there, and its head's time is valid. At every
-    /// moment a crash leaves nothing of it or the whole log, and after Ok the log. `Disk` only where a device call on
-    /// a file of this log failed, `Full(Head)` where the head's text has more than 2^40 bytes; then nothing of it is left
-    /// whatever failed. Memory is asked for before the log is there: also at `NoMem` nothing of it is left, at no moment.
+    /// Makes a log of this head, with no record, by an entry of kind 0. None of its files exists, and its head's time is
+    /// valid. At every moment a crash leaves nothing of it or the whole log, and after Ok the log. `Disk` comes only if a
+    /// device call on a file of this log failed, `Full(Head)` if the head's text has more than 2^40 bytes. At
+    /// `Full(Head)` and at `NoMem` nothing of it is left, at no moment: memory is taken before the log exists.
     pub fn create<D: Disk>(
         alloc: Global,
         disk: &mut D,
@@ -211,7 +211,7 @@ impl IoLog {
         self.count
     }
 
-    /// What is told of the command at its start, as its text reads.
+    /// What the client said of the command at its start, as the head's text reads.
     pub fn head(&self) -> &Head
         ensures { result.now ≡ self.now.head }
     {

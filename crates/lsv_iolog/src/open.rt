@@ -13,6 +13,7 @@ ghost use Rattle.lsv_disk.specs.declared.file.Part.{Part};
 ghost use Rattle.lsv_bundle.specs.Body.{length_of};
 ghost use Rattle.lsv_record.specs.Points.{Stored};
 ghost use Rattle.lsv_iolog.specs.declared.fault.LogFault.{LogFault};
+ghost use Rattle.lsv_iolog.specs.declared.fault.ViewFault.{ViewFault};
 ghost use Rattle.lsv_journal.specs.Last.{LastAt, SameJournal, IsSomeCrashOf, HasSlotsEntry};
 ghost use Rattle.lsv_bundle.specs.declared.body.Body.{Body};
 ghost use Rattle.lsv_bundle.specs.Represents as bundles;
@@ -32,7 +33,7 @@ use crate::append::part_of;
 use crate::lines::Lines;
 use crate::log::{COMPLETE, owner_of};
 use crate::pieces::{committed, read_part};
-use crate::{IoLog, LogFault};
+use crate::{IoLog, LogFault, ViewFault};
 use lsv_base::{Bytes, LogNo};
 use lsv_bundle::{Body, Bundle, Shape, View};
 use lsv_disk::{Disk, FileId, Part};
@@ -42,13 +43,13 @@ use lsv_record::{Stream, Tally};
 use std::alloc::Global;
 
 impl IoLog {
-    /// Opens a log: its files are synced, and its head and its timing are read, the latter in pieces of at most 65,536
-    /// bytes, and no byte of a stream. A complete log opens. `Absent` exactly where it has no entry; then nothing was
-    /// synced or written. `Damaged(part)` exactly where what its files hold is no log, and it is the first part at
-    /// fault: a file that is absent or shorter than the last entry says, then the head, the exit, the timing, and the
-    /// streams. Whatever it answers, the log reads as it read before, and at every moment a crash leaves of it what it
-    /// could leave before. Where none of its files is there, nothing is synced or written. `Disk` only where a device
-    /// call on a file of this log failed.
+    /// Opens a log: its files are synced, and its head and its timing are read, the timing in pieces of at most 65,536
+    /// bytes. No byte of a stream is read. A complete log opens. `Absent` comes exactly if it has no entry; then nothing
+    /// was synced or written. `Damaged(part)` comes exactly if its files hold no log. It is the first part at fault: a
+    /// file that is absent or shorter than the last entry says, then the head, the exit, the timing, and the streams.
+    /// At any answer the log reads as it read before, and at every moment a crash leaves of it what it could leave
+    /// before. If none of its files exists, nothing is synced or written. `Disk` comes only if a device call on a file of
+    /// this log failed.
     pub fn open<D: Disk>(alloc: Global, disk: &mut D, number: LogNo) -> Result<IoLog, LogFault>
         ensures number { IfOk result (λ log. log.number ≡ number) }
         ensures whole { IfOk result (λ log. log.is_broken ≡ false) }
@@ -132,7 +133,7 @@ pub(crate) fn view_of(number: LogNo, body: Body) -> View
 }
 
 /// Reads the head of a log, and what its timing comes to, and judges both and its exit and its streams.
-fn read_stored<D: Disk>(alloc: Global, disk: &mut D, view: View) -> Result<(Head, Tally), LogFault>
+fn read_stored<D: Disk>(alloc: Global, disk: &mut D, view: View) -> Result<(Head, Tally), ViewFault>
     requires shape { view.shape ≡ shapes.Log }
     ensures head { D.tells → IfOk result (λ read. head_of (text_of view (D.view disk.old) Part.Head) ≡ Ok read.0) }
     ensures exit { OnOk result (ExitIsWhole view.body) }
@@ -141,10 +142,10 @@ fn read_stored<D: Disk>(alloc: Global, disk: &mut D, view: View) -> Result<(Head
     ensures streams { IfOk result (λ read. AllCounted view.body read.1) }
     ensures timing { IfOk result (λ read. read.1.timing ≡ length_of view.body Part.Timing) }
     ensures small { OnOk result (length_of view.body Part.Timing ≤ 2 ^ 40) }
-    ensures damaged { D.tells → (part : Part) → IsErrOf result (LogFault.Damaged part) → IsWholeView view (D.view disk.old) → IsFault (entry_of view (D.view disk.old)) part }
+    ensures damaged { D.tells → (part : Part) → IsErrOf result (ViewFault.Damaged part) → IsWholeView view (D.view disk.old) → IsFault (entry_of view (D.view disk.old)) part }
     ensures reads { D.tells → OnlyReads (D.view disk.old) (D.view disk.new) }
     ensures fault { IfErr result IsNextFault }
-    ensures cause { HasOwnCause (λ f. f.owner ≡ view.owner) (IsErrOf result LogFault.Disk) (D.view disk.old) (D.view disk.new) }
+    ensures cause { HasOwnCause (λ f. f.owner ≡ view.owner) (IsErrOf result ViewFault.Disk) (D.view disk.old) (D.view disk.new) }
 {
     let head = read_log_head(alloc, disk, &view)?;
     check_exit(&view.body)?;
@@ -159,75 +160,75 @@ pub(crate) fn read_log_head<D: Disk>(
     alloc: Global,
     disk: &mut D,
     view: &View,
-) -> Result<Head, LogFault>
+) -> Result<Head, ViewFault>
     requires shape { view.now.shape ≡ shapes.Log }
     ensures head { D.tells → IfOk result (λ head. head_of (text_of view.now (D.view disk.old) Part.Head) ≡ Ok head) }
-    ensures damaged { D.tells → IsErrOf result (LogFault.Damaged Part.Head) → IsHeadText (text_of view.now (D.view disk.old) Part.Head) → ⊥ }
+    ensures damaged { D.tells → IsErrOf result (ViewFault.Damaged Part.Head) → IsHeadText (text_of view.now (D.view disk.old) Part.Head) → ⊥ }
     ensures reads { D.tells → OnlyReads (D.view disk.old) (D.view disk.new) }
-    ensures fault { IfErr result (λ e. (e ≡ LogFault.Disk) ⊎ (e ≡ LogFault.Damaged Part.Head) ⊎ (e ≡ LogFault.NoMem)) }
-    ensures cause { HasCause (file_of view.now.owner Part.Head) (IsErrOf result LogFault.Disk) (D.view disk.old) (D.view disk.new) }
+    ensures fault { IfErr result (λ e. (e ≡ ViewFault.Disk) ⊎ (e ≡ ViewFault.Damaged Part.Head) ⊎ (e ≡ ViewFault.NoMem)) }
+    ensures cause { HasCause (file_of view.now.owner Part.Head) (IsErrOf result ViewFault.Disk) (D.view disk.old) (D.view disk.new) }
 {
     let text = read_part(alloc, disk, view, Part::Head)?;
     match read_head(alloc, text.as_slice()) {
         Ok(head) => Ok(head),
-        Err(InfoFault::NoMem) => Err(LogFault::NoMem),
-        Err(_) => Err(LogFault::Damaged(Part::Head)),
+        Err(InfoFault::NoMem) => Err(ViewFault::NoMem),
+        Err(_) => Err(ViewFault::Damaged(Part::Head)),
     }
 }
 
-/// There is a text of an exit exactly where the entry is of a log that is complete.
-fn check_exit(body: &Body) -> Result<(), LogFault>
+/// There is a text of an exit exactly if the entry is of a complete log.
+fn check_exit(body: &Body) -> Result<(), ViewFault>
     ensures whole { OnOk result (ExitIsWhole body.now) }
-    ensures fault { IfErr result (λ e. (e ≡ LogFault.Damaged Part.Exit) × (ExitIsWhole body.now → ⊥)) }
+    ensures fault { IfErr result (λ e. (e ≡ ViewFault.Damaged Part.Exit) × (ExitIsWhole body.now → ⊥)) }
 {
     let is_empty = committed(body, Part::Exit) == 0;
     if body.kind == COMPLETE {
         if is_empty {
-            return Err(LogFault::Damaged(Part::Exit));
+            return Err(ViewFault::Damaged(Part::Exit));
         }
         return Ok(());
     }
     if is_empty {
         return Ok(());
     }
-    Err(LogFault::Damaged(Part::Exit))
+    Err(ViewFault::Damaged(Part::Exit))
 }
 
 /// What all lines of the timing come to.
-fn read_timing<D: Disk>(alloc: Global, disk: &mut D, view: View) -> Result<Tally, LogFault>
+fn read_timing<D: Disk>(alloc: Global, disk: &mut D, view: View) -> Result<Tally, ViewFault>
     requires shape { view.shape ≡ shapes.Log }
     ensures told { D.tells → IfOk result (λ tally. length (text_of view (D.view disk.old) Part.Timing) ≡ length_of view.body Part.Timing → (told : List Shaped) × IsScanned view (D.view disk.old) told tally) }
     ensures timing { IfOk result (λ tally. tally.timing ≡ length_of view.body Part.Timing) }
     ensures small { OnOk result (length_of view.body Part.Timing ≤ 2 ^ 40) }
-    ensures damaged { D.tells → IsErrOf result (LogFault.Damaged Part.Timing) → length (text_of view (D.view disk.old) Part.Timing) ≡ length_of view.body Part.Timing
+    ensures damaged { D.tells → IsErrOf result (ViewFault.Damaged Part.Timing) → length (text_of view (D.view disk.old) Part.Timing) ≡ length_of view.body Part.Timing
         → (told : List Shaped) → All IsGood told → text_of view (D.view disk.old) Part.Timing ≡ lines_of told → told_elapsed told < 2 ^ 63 → length (text_of view (D.view disk.old) Part.Timing) ≤ 2 ^ 40 → ⊥ }
     ensures reads { D.tells → OnlyReads (D.view disk.old) (D.view disk.new) }
-    ensures fault { IfErr result (λ e. (e ≡ LogFault.Disk) ⊎ (e ≡ LogFault.Damaged Part.Timing) ⊎ (e ≡ LogFault.NoMem)) }
-    ensures cause { HasCause (file_of view.owner Part.Timing) (IsErrOf result LogFault.Disk) (D.view disk.old) (D.view disk.new) }
+    ensures fault { IfErr result (λ e. (e ≡ ViewFault.Disk) ⊎ (e ≡ ViewFault.Damaged Part.Timing) ⊎ (e ≡ ViewFault.NoMem)) }
+    ensures cause { HasCause (file_of view.owner Part.Timing) (IsErrOf result ViewFault.Disk) (D.view disk.old) (D.view disk.new) }
 {
     let mut lines = Lines::new(alloc, view);
     while let Some(_) = lines.next(alloc, disk)? {}
     Ok(lines.tally())
 }
 
-/// The lines are as many, and of as much time, as the entry says.
-pub(crate) fn check_counts(body: &Body, tally: &Tally) -> Result<(), LogFault>
+/// The count and the time of the lines are those of the entry.
+pub(crate) fn check_counts(body: &Body, tally: &Tally) -> Result<(), ViewFault>
     ensures ok { OnOk result ((body.now.count ≡ tally.now.count) × (body.now.elapsed ≡ tally.now.elapsed)) }
-    ensures fault { IfErr result (λ e. (e ≡ LogFault.Damaged Part.Timing) × ((body.now.count ≡ tally.now.count) → (body.now.elapsed ≡ tally.now.elapsed) → ⊥)) }
+    ensures fault { IfErr result (λ e. (e ≡ ViewFault.Damaged Part.Timing) × ((body.now.count ≡ tally.now.count) → (body.now.elapsed ≡ tally.now.elapsed) → ⊥)) }
 {
     if body.count != tally.count() {
-        return Err(LogFault::Damaged(Part::Timing));
+        return Err(ViewFault::Damaged(Part::Timing));
     }
     if body.elapsed != tally.elapsed() {
-        return Err(LogFault::Damaged(Part::Timing));
+        return Err(ViewFault::Damaged(Part::Timing));
     }
     Ok(())
 }
 
-/// Of each stream as many bytes are committed as the lines tell; else the first is damaged of which it isn't so.
-pub(crate) fn check_streams(body: &Body, tally: &Tally) -> Result<(), LogFault>
+/// Each stream has as many committed bytes as the lines say; else the first that has not is damaged.
+pub(crate) fn check_streams(body: &Body, tally: &Tally) -> Result<(), ViewFault>
     ensures ok { OnOk result (AllCounted body.now tally.now) }
-    ensures fault { IfErr result (λ e. (s : Stream) × (e ≡ LogFault.Damaged (part_of s)) × IsFirstUncounted body.now tally.now s) }
+    ensures fault { IfErr result (λ e. (s : Stream) × (e ≡ ViewFault.Damaged (part_of s)) × IsFirstUncounted body.now tally.now s) }
 {
     check_stream(body, tally, Stream::Stdin)?;
     check_stream(body, tally, Stream::Stdout)?;
@@ -236,13 +237,13 @@ pub(crate) fn check_streams(body: &Body, tally: &Tally) -> Result<(), LogFault>
     check_stream(body, tally, Stream::Ttyout)
 }
 
-fn check_stream(body: &Body, tally: &Tally, stream: Stream) -> Result<(), LogFault>
+fn check_stream(body: &Body, tally: &Tally, stream: Stream) -> Result<(), ViewFault>
     ensures ok { OnOk result (IsCounted body.now tally.now stream) }
-    ensures fault { IfErr result (λ e. (e ≡ LogFault.Damaged (part_of stream)) × (IsCounted body.now tally.now stream → ⊥)) }
+    ensures fault { IfErr result (λ e. (e ≡ ViewFault.Damaged (part_of stream)) × (IsCounted body.now tally.now stream → ⊥)) }
 {
     let part = part_of(stream);
     if committed(body, part) != tally.data_bytes(stream) {
-        return Err(LogFault::Damaged(part));
+        return Err(ViewFault::Damaged(part));
     }
     Ok(())
 }

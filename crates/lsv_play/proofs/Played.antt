@@ -11,10 +11,10 @@ use Rattle.lsv_disk.proofs.Composition.{OnlyNow, reads_trans, unchanged_reads}
 use Rattle.lsv_bundle.specs.declared.body.Body.{Body}
 use Rattle.lsv_bundle.specs.Committed.{HasEntry}
 use Rattle.lsv_info.specs.Reading.{head_of}
-use Rattle.lsv_iolog.specs.declared.fault.LogFault.{LogFault}
-use Rattle.lsv_iolog.specs.declared.fault.LogFault.TheVariants as logs
+use Rattle.lsv_iolog.specs.declared.fault.ViewFault.{ViewFault}
+use Rattle.lsv_iolog.specs.declared.fault.ViewFault.TheVariants as views
 use Rattle.lsv_iolog.specs.Damage.{IsViewDamage}
-use Rattle.lsv_iolog.specs.Faults.{IsNextFault, IsOpenFault}
+use Rattle.lsv_iolog.specs.Faults.{IsNextFault}
 use Rattle.lsv_iolog.specs.Reading.{AreThere, ViewState, IsBehind, IsFaultBehind, IsWhole, committed_laid, committed_text, IsSoundBehind}
 use Rattle.lsv_iolog.specs.Recovered.{IsOfLog, Replays, owner_of}
 use Rattle.lsv_iolog.proofs.Scans.{reads_nothing}
@@ -131,17 +131,12 @@ err_as (Ok x) e is = absurd is
 err_as (Err d) e is = ap (λ (x : PlayFault). Err x) (sym is)
 
 -- all was put so far, and a log gives no further record
-fault_puts : (T : Type 0) (o : Options) (l : Laid) (body : Body) (rs : List Record) (e : LogFault) → AreGiven l body rs → IsNextFault e → ((part : Part) → e ≡ logs.Damaged part → IsFaultBehind l body rs part)
+fault_puts : (T : Type 0) (o : Options) (l : Laid) (body : Body) (rs : List Record) (e : ViewFault) → AreGiven l body rs → IsNextFault e → ((part : Part) → e ≡ views.Damaged part → IsFaultBehind l body rs part)
     → PlaysRecords {T = T} o l body (Err (of_log e)) (play o rs)
-fault_puts T o l body rs logs.Absent begins is fault = absurd is
-fault_puts T o l body rs (logs.Damaged part) begins is fault = (rs, record { begins = begins.begins; sound = begins.sound; fault = fault part refl }, refl)
-fault_puts T o l body rs logs.Complete begins is fault = absurd is
-fault_puts T o l body rs (logs.NoPoint point) begins is fault = absurd is
-fault_puts T o l body rs logs.Disk begins is fault = (rs, begins, part_whole (play o rs))
-fault_puts T o l body rs logs.Broken begins is fault = absurd is
-fault_puts T o l body rs (logs.Full part) begins is fault = absurd is
-fault_puts T o l body rs (logs.TooLong point) begins is fault = absurd is
-fault_puts T o l body rs logs.NoMem begins is fault = (rs, begins, part_whole (play o rs))
+fault_puts T o l body rs views.Absent begins is fault = absurd is
+fault_puts T o l body rs (views.Damaged part) begins is fault = (rs, record { begins = begins.begins; sound = begins.sound; fault = fault part refl }, refl)
+fault_puts T o l body rs views.Disk begins is fault = (rs, begins, part_whole (play o rs))
+fault_puts T o l body rs views.NoMem begins is fault = (rs, begins, part_whole (play o rs))
 
 module _ (tells shows : Type 0) (o : Options) (start log : ViewState) (old now : DiskView) (before shown : List Item) (failed fails : ℕ) (is : IsPlaying tells shows o start log old now before shown failed fails)
     (told : tells) (fresh : IsBehind start [] old) where
@@ -155,8 +150,8 @@ module _ (tells shows : Type 0) (o : Options) (start log : ViewState) (old now :
   are_given = record { begins = begun; sound = so_far.3 }
 
   -- the log gives no record, for this reason
-  pub next_fails : {T : Type 0} (r : Result T PlayFault) (e : LogFault) → IsErrAnd r (λ x. x ≡ of_log e) → IsNextFault e
-      → ((part : Part) → e ≡ logs.Damaged part → (rs : List Record) → IsBehind log rs now → IsFaultBehind (committed_laid log.number log.body now) log.body rs part)
+  pub next_fails : {T : Type 0} (r : Result T PlayFault) (e : ViewFault) → IsErrAnd r (λ x. x ≡ of_log e) → IsNextFault e
+      → ((part : Part) → e ≡ views.Damaged part → (rs : List Record) → IsBehind log rs now → IsFaultBehind (committed_laid log.number log.body now) log.body rs part)
       → Puts shows o (laid_at start.number start.body old.reads) start.body r before shown
   next_fails {T} r e err is_fault fault = record {
     put = play o so_far.0;
@@ -237,27 +232,17 @@ pub err_same : {T : Type 0} (r : Result T PlayFault) (e d : PlayFault) → IsErr
 err_same (Ok x) e d is same = absurd is
 err_same (Err y) e d is same = let at : y ≡ d = cc in sym is ∙ at
 
-pub log_disk : (e : LogFault) → of_log e ≡ faults.Disk → e ≡ logs.Disk
-log_disk logs.Absent e = absurd (cc)
-log_disk (logs.Damaged part) e = absurd (cc)
-log_disk logs.Complete e = absurd (cc)
-log_disk (logs.NoPoint point) e = absurd (cc)
-log_disk logs.Disk e = refl
-log_disk logs.Broken e = absurd (cc)
-log_disk (logs.Full part) e = absurd (cc)
-log_disk (logs.TooLong point) e = absurd (cc)
-log_disk logs.NoMem e = absurd (cc)
+pub log_disk : (e : ViewFault) → of_log e ≡ faults.Disk → e ≡ views.Disk
+log_disk views.Absent e = absurd (cc)
+log_disk (views.Damaged part) e = absurd (cc)
+log_disk views.Disk e = refl
+log_disk views.NoMem e = absurd (cc)
 
-pub log_screen : (e : LogFault) → of_log e ≡ faults.Screen → ⊥
-log_screen logs.Absent e = cc
-log_screen (logs.Damaged part) e = cc
-log_screen logs.Complete e = cc
-log_screen (logs.NoPoint point) e = cc
-log_screen logs.Disk e = cc
-log_screen logs.Broken e = cc
-log_screen (logs.Full part) e = cc
-log_screen (logs.TooLong point) e = cc
-log_screen logs.NoMem e = cc
+pub log_screen : (e : ViewFault) → of_log e ≡ faults.Screen → ⊥
+log_screen views.Absent e = cc
+log_screen (views.Damaged part) e = cc
+log_screen views.Disk e = cc
+log_screen views.NoMem e = cc
 
 pub no_disk : faults.Screen ≡ faults.Disk → ⊥
 no_disk e = cc
@@ -282,20 +267,15 @@ opened_log n v old new number reads entry head behind = record {
 }
 
 -- and one that isn't opened puts nothing
-unopened : (T : Type 0) (n : ℕ) (image : Image) (e : LogFault) → IsOpenFault e → (e ≡ logs.Absent → Replays image n None) → ((part : Part) → e ≡ logs.Damaged part → IsViewDamage n part image) → IsNotOpened {T = T} n image (Err (of_log e))
-unopened T n image logs.Absent is absent damaged = absent refl
-unopened T n image (logs.Damaged part) is absent damaged = damaged part refl
-unopened T n image logs.Complete is absent damaged = absurd is
-unopened T n image (logs.NoPoint point) is absent damaged = absurd is
-unopened T n image logs.Disk is absent damaged = tt
-unopened T n image logs.Broken is absent damaged = absurd is
-unopened T n image (logs.Full part) is absent damaged = absurd is
-unopened T n image (logs.TooLong point) is absent damaged = absurd is
-unopened T n image logs.NoMem is absent damaged = tt
+unopened : (T : Type 0) (n : ℕ) (image : Image) (e : ViewFault) → (e ≡ views.Absent → Replays image n None) → ((part : Part) → e ≡ views.Damaged part → IsViewDamage n part image) → IsNotOpened {T = T} n image (Err (of_log e))
+unopened T n image views.Absent absent damaged = absent refl
+unopened T n image (views.Damaged part) absent damaged = damaged part refl
+unopened T n image views.Disk absent damaged = tt
+unopened T n image views.NoMem absent damaged = tt
 
-pub open_fails : {T : Type 0} (o : Options) (n : ℕ) (image : Image) (r : Result T PlayFault) (e : LogFault) → IsErrAnd r (λ x. x ≡ of_log e) → IsOpenFault e → (e ≡ logs.Absent → Replays image n None)
-    → ((part : Part) → e ≡ logs.Damaged part → IsViewDamage n part image) → Plays o n image r []
-open_fails {T} o n image r e err is absent damaged = inl (subst (λ (x : Result T PlayFault). IsNotOpened n image x) (err_as r (of_log e) err) (unopened T n image e is absent damaged), refl)
+pub open_fails : {T : Type 0} (o : Options) (n : ℕ) (image : Image) (r : Result T PlayFault) (e : ViewFault) → IsErrAnd r (λ x. x ≡ of_log e) → (e ≡ views.Absent → Replays image n None)
+    → ((part : Part) → e ≡ views.Damaged part → IsViewDamage n part image) → Plays o n image r []
+open_fails {T} o n image r e err absent damaged = inl (subst (λ (x : Result T PlayFault). IsNotOpened n image x) (err_as r (of_log e) err) (unopened T n image e absent damaged), refl)
 
 -- the records of one that is opened are played
 pub opened_plays : {T : Type 0} (o : Options) (n : ℕ) (v : ViewState) (old mid : DiskView) (r : Result T PlayFault) (put : List Item) → v.number ≡ n → OnlyReads old mid → IsOpened n v.body v.head old.reads

@@ -4,7 +4,7 @@ ghost use Rattle.lsv_play.specs.declared.fault.PlayFault.TheVariants as faults;
 
 use lsv_base::SinkFault;
 use lsv_disk::Part;
-use lsv_iolog::LogFault;
+use lsv_iolog::ViewFault;
 use thiserror::Error;
 
 /// Why a log isn't played to its end.
@@ -27,21 +27,15 @@ pub enum PlayFault {
     NoMem,
 }
 
-impl From<LogFault> for PlayFault {
+impl From<ViewFault> for PlayFault {
     ghost from_gives = { λ fault given. given ≡ of_log fault };
 
-    fn from(fault: LogFault) -> Self {
+    fn from(fault: ViewFault) -> Self {
         match fault {
-            LogFault::Absent => PlayFault::Absent,
-            LogFault::Damaged(part) => PlayFault::Damaged(part),
-            LogFault::Disk => PlayFault::Disk,
-            LogFault::NoMem => PlayFault::NoMem,
-            // No call that only reads a log answers these.
-            LogFault::Complete
-            | LogFault::NoPoint(_)
-            | LogFault::Broken
-            | LogFault::Full(_)
-            | LogFault::TooLong(_) => PlayFault::NoMem,
+            ViewFault::Absent => PlayFault::Absent,
+            ViewFault::Damaged(part) => PlayFault::Damaged(part),
+            ViewFault::Disk => PlayFault::Disk,
+            ViewFault::NoMem => PlayFault::NoMem,
         }
     }
 }

@@ -16,8 +16,8 @@ use Rattle.lsv_iolog.specs.Damage.{IsViewDamage}
 use Rattle.lsv_iolog.specs.Faults as logs
 use Rattle.lsv_iolog.specs.Reading.{ViewState, committed_laid, committed_text}
 use Rattle.lsv_iolog.specs.Recovered.{Replays}
-use Rattle.lsv_iolog.specs.declared.fault.LogFault.{LogFault}
-use Rattle.lsv_iolog.specs.declared.fault.LogFault.TheVariants as reads
+use Rattle.lsv_iolog.specs.declared.fault.ViewFault.{ViewFault}
+use Rattle.lsv_iolog.specs.declared.fault.ViewFault.TheVariants as reads
 use Rattle.lsv_kept.specs.Faults.{IsCommitFault}
 use Rattle.lsv_kept.specs.Kept.{IsOfRelay, IsStateDamage}
 use Rattle.lsv_kept.specs.declared.state.State.{State}
@@ -39,26 +39,16 @@ use Rattle.lsv_relay.proofs.Reading.{same_log}
 
 -- ---- a lower fault
 
-pub log_same : (e f : LogFault) → of_log e ≡ faults.Log f → e ≡ f
+pub log_same : (e f : ViewFault) → of_log e ≡ faults.Log f → e ≡ f
 log_same reads.Absent f is = cc (is)
 log_same (reads.Damaged part) f is = cc (is)
-log_same reads.Complete f is = cc (is)
-log_same (reads.NoPoint point) f is = cc (is)
 log_same reads.Disk f is = cc (is)
-log_same reads.Broken f is = cc (is)
-log_same (reads.Full part) f is = cc (is)
-log_same (reads.TooLong point) f is = cc (is)
 log_same reads.NoMem f is = absurd (cc (is))
 
-pub not_incomplete : (e : LogFault) → of_log e ≡ faults.Incomplete → ⊥
+pub not_incomplete : (e : ViewFault) → of_log e ≡ faults.Incomplete → ⊥
 not_incomplete reads.Absent is = cc (is)
 not_incomplete (reads.Damaged part) is = cc (is)
-not_incomplete reads.Complete is = cc (is)
-not_incomplete (reads.NoPoint point) is = cc (is)
 not_incomplete reads.Disk is = cc (is)
-not_incomplete reads.Broken is = cc (is)
-not_incomplete (reads.Full part) is = cc (is)
-not_incomplete (reads.TooLong point) is = cc (is)
 not_incomplete reads.NoMem is = cc (is)
 
 pub state_same : (e f : BundleFault) → of_state e ≡ faults.State f → e ≡ f
@@ -76,13 +66,13 @@ state_no_log (kept.Full part) is = absurd is
 state_no_log kept.NoMem is = refl
 
 -- a fault that was handed on is that of the lower call
-pub log_err : {T U : Type 0} (low : Result T LogFault) (high : Result U RelayFault) (e f : LogFault) → low ≡ Err e → IsErrAnd high (λ x. x ≡ of_log e) → IsErrOf high (faults.Log f) → IsErrOf low f
-log_err {T} {U} low high e f was is at = was ∙ ap (λ (x : LogFault). let r : Result T LogFault = Err x in r) (log_same e f (err_same high (of_log e) (faults.Log f) is at))
+pub log_err : {T U : Type 0} (low : Result T ViewFault) (high : Result U RelayFault) (e f : ViewFault) → low ≡ Err e → IsErrAnd high (λ x. x ≡ of_log e) → IsErrOf high (faults.Log f) → IsErrOf low f
+log_err {T} {U} low high e f was is at = was ∙ ap (λ (x : ViewFault). let r : Result T ViewFault = Err x in r) (log_same e f (err_same high (of_log e) (faults.Log f) is at))
 
 pub state_err : {T U : Type 0} (low : Result T BundleFault) (high : Result U RelayFault) (e f : BundleFault) → low ≡ Err e → IsErrAnd high (λ x. x ≡ of_state e) → IsErrOf high (faults.State f) → IsErrOf low f
 state_err {T} {U} low high e f was is at = was ∙ ap (λ (x : BundleFault). let r : Result T BundleFault = Err x in r) (state_same e f (err_same high (of_state e) (faults.State f) is at))
 
-pub log_own : {T U : Type 0} (Own : FileId → Type 0) (low : Result T LogFault) (high : Result U RelayFault) (e : LogFault) (old new : DiskView) → low ≡ Err e → IsErrAnd high (λ x. x ≡ of_log e) → HasOwnCause Own (IsErrOf low reads.Disk) old new → HasOwnCause Own (IsErrOf high (faults.Log reads.Disk)) old new
+pub log_own : {T U : Type 0} (Own : FileId → Type 0) (low : Result T ViewFault) (high : Result U RelayFault) (e : ViewFault) (old new : DiskView) → low ≡ Err e → IsErrAnd high (λ x. x ≡ of_log e) → HasOwnCause Own (IsErrOf low reads.Disk) old new → HasOwnCause Own (IsErrOf high (faults.Log reads.Disk)) old new
 log_own Own low high e old new was is cause = record { monotone = cause.monotone; risen = λ at. cause.risen (log_err low high e reads.Disk was is at) }
 
 pub state_own : {T U : Type 0} (Own : FileId → Type 0) (low : Result T BundleFault) (high : Result U RelayFault) (e : BundleFault) (old new : DiskView) → low ≡ Err e → IsErrAnd high (λ x. x ≡ of_state e) → HasOwnCause Own (IsErrOf low kept.Disk) old new → HasOwnCause Own (IsErrOf high (faults.State kept.Disk)) old new
@@ -90,32 +80,22 @@ state_own Own low high e old new was is cause = record { monotone = cause.monoto
 
 -- ---- its word
 
-pub next_fault : (e : LogFault) → logs.IsNextFault e → IsLogFault (of_log e)
+pub next_fault : (e : ViewFault) → logs.IsNextFault e → IsLogFault (of_log e)
 next_fault reads.Absent is = absurd is
 next_fault (reads.Damaged part) is = tt
-next_fault reads.Complete is = absurd is
-next_fault (reads.NoPoint point) is = absurd is
 next_fault reads.Disk is = tt
-next_fault reads.Broken is = absurd is
-next_fault (reads.Full part) is = absurd is
-next_fault (reads.TooLong point) is = absurd is
 next_fault reads.NoMem is = tt
 
-pub view_fault : (e : LogFault) → logs.IsOpenFault e → IsLogFault (of_log e)
-view_fault reads.Absent is = tt
-view_fault (reads.Damaged part) is = tt
-view_fault reads.Complete is = absurd is
-view_fault (reads.NoPoint point) is = absurd is
-view_fault reads.Disk is = tt
-view_fault reads.Broken is = absurd is
-view_fault (reads.Full part) is = absurd is
-view_fault (reads.TooLong point) is = absurd is
-view_fault reads.NoMem is = tt
+pub view_fault : (e : ViewFault) → IsLogFault (of_log e)
+view_fault reads.Absent = tt
+view_fault (reads.Damaged part) = tt
+view_fault reads.Disk = tt
+view_fault reads.NoMem = tt
 
-pub exit_fault : (e : LogFault) → (e ≡ reads.Disk) ⊎ (e ≡ reads.Damaged ExitPart) ⊎ (e ≡ reads.NoMem) → IsLogFault (of_log e)
-exit_fault e (inl is) = subst (λ (x : LogFault). IsLogFault (of_log x)) (sym is) tt
-exit_fault e (inr (inl is)) = subst (λ (x : LogFault). IsLogFault (of_log x)) (sym is) tt
-exit_fault e (inr (inr is)) = subst (λ (x : LogFault). IsLogFault (of_log x)) (sym is) tt
+pub exit_fault : (e : ViewFault) → (e ≡ reads.Disk) ⊎ (e ≡ reads.Damaged ExitPart) ⊎ (e ≡ reads.NoMem) → IsLogFault (of_log e)
+exit_fault e (inl is) = subst (λ (x : ViewFault). IsLogFault (of_log x)) (sym is) tt
+exit_fault e (inr (inl is)) = subst (λ (x : ViewFault). IsLogFault (of_log x)) (sym is) tt
+exit_fault e (inr (inr is)) = subst (λ (x : ViewFault). IsLogFault (of_log x)) (sym is) tt
 
 pub kept_fault : (e : BundleFault) → IsCommitFault e → (e ≡ kept.Broken → ⊥) → IsStateFault (of_state e)
 kept_fault kept.Disk is whole = tt
@@ -145,11 +125,6 @@ log_open_cause n image faults.Incomplete word incomplete absent damaged = incomp
 log_open_cause n image (faults.Log reads.Absent) word incomplete absent damaged = absent refl
 log_open_cause n image (faults.Log (reads.Damaged part)) word incomplete absent damaged = damaged part refl
 log_open_cause n image (faults.Log reads.Disk) word incomplete absent damaged = tt
-log_open_cause n image (faults.Log reads.Complete) word incomplete absent damaged = absurd word
-log_open_cause n image (faults.Log (reads.NoPoint point)) word incomplete absent damaged = absurd word
-log_open_cause n image (faults.Log reads.Broken) word incomplete absent damaged = absurd word
-log_open_cause n image (faults.Log (reads.Full part)) word incomplete absent damaged = absurd word
-log_open_cause n image (faults.Log (reads.TooLong point)) word incomplete absent damaged = absurd word
 log_open_cause n image (faults.Log reads.NoMem) word incomplete absent damaged = absurd word
 log_open_cause n image (faults.State fault) word incomplete absent damaged = absurd word
 log_open_cause n image faults.NoMem word incomplete absent damaged = tt
@@ -180,11 +155,6 @@ read_cause_back n old new same faults.Incomplete is = is
 read_cause_back n old new same (faults.Log reads.Absent) is = is
 read_cause_back n old new same (faults.Log (reads.Damaged part)) is = damage_back n part old new same is
 read_cause_back n old new same (faults.Log reads.Disk) is = is
-read_cause_back n old new same (faults.Log reads.Complete) is = is
-read_cause_back n old new same (faults.Log (reads.NoPoint point)) is = is
-read_cause_back n old new same (faults.Log reads.Broken) is = is
-read_cause_back n old new same (faults.Log (reads.Full part)) is = is
-read_cause_back n old new same (faults.Log (reads.TooLong point)) is = is
 read_cause_back n old new same (faults.Log reads.NoMem) is = is
 read_cause_back n old new same (faults.State fault) is = is
 read_cause_back n old new same faults.NoMem is = is
@@ -195,11 +165,6 @@ read_log_cause n disk faults.Incomplete is = absurd is
 read_log_cause n disk (faults.Log reads.Absent) is = absurd is
 read_log_cause n disk (faults.Log (reads.Damaged part)) is = inr is
 read_log_cause n disk (faults.Log reads.Disk) is = tt
-read_log_cause n disk (faults.Log reads.Complete) is = tt
-read_log_cause n disk (faults.Log (reads.NoPoint point)) is = tt
-read_log_cause n disk (faults.Log reads.Broken) is = tt
-read_log_cause n disk (faults.Log (reads.Full part)) is = tt
-read_log_cause n disk (faults.Log (reads.TooLong point)) is = tt
 read_log_cause n disk (faults.Log reads.NoMem) is = tt
 read_log_cause n disk (faults.State fault) is = tt
 read_log_cause n disk faults.NoMem is = tt
@@ -211,11 +176,6 @@ log_cause_back n old new only (faults.Log reads.Absent) is = as_read (λ (image 
 log_cause_back n old new only (faults.Log (reads.Damaged part)) (inl is) = inl (as_read (IsViewDamage n part) old new only is)
 log_cause_back n old new only (faults.Log (reads.Damaged part)) (inr is) = inr (damage_back n part old new (same_log n old new only) is)
 log_cause_back n old new only (faults.Log reads.Disk) is = tt
-log_cause_back n old new only (faults.Log reads.Complete) is = tt
-log_cause_back n old new only (faults.Log (reads.NoPoint point)) is = tt
-log_cause_back n old new only (faults.Log reads.Broken) is = tt
-log_cause_back n old new only (faults.Log (reads.Full part)) is = tt
-log_cause_back n old new only (faults.Log (reads.TooLong point)) is = tt
 log_cause_back n old new only (faults.Log reads.NoMem) is = tt
 log_cause_back n old new only (faults.State fault) is = tt
 log_cause_back n old new only faults.NoMem is = tt
@@ -227,31 +187,21 @@ view_cause n disk faults.Incomplete incomplete absent damaged = incomplete refl
 view_cause n disk (faults.Log reads.Absent) incomplete absent damaged = absent refl
 view_cause n disk (faults.Log (reads.Damaged part)) incomplete absent damaged = inl (damaged part refl)
 view_cause n disk (faults.Log reads.Disk) incomplete absent damaged = tt
-view_cause n disk (faults.Log reads.Complete) incomplete absent damaged = tt
-view_cause n disk (faults.Log (reads.NoPoint point)) incomplete absent damaged = tt
-view_cause n disk (faults.Log reads.Broken) incomplete absent damaged = tt
-view_cause n disk (faults.Log (reads.Full part)) incomplete absent damaged = tt
-view_cause n disk (faults.Log (reads.TooLong point)) incomplete absent damaged = tt
 view_cause n disk (faults.Log reads.NoMem) incomplete absent damaged = tt
 view_cause n disk (faults.State fault) incomplete absent damaged = tt
 view_cause n disk faults.NoMem incomplete absent damaged = tt
 
 -- by what reading the next record says
-pub next_cause : (n : ℕ) (disk : DiskView) (e : LogFault) → logs.IsNextFault e → ((part : Part) → e ≡ reads.Damaged part → IsLogDamage n part disk) → IsReadCause n disk (of_log e)
+pub next_cause : (n : ℕ) (disk : DiskView) (e : ViewFault) → logs.IsNextFault e → ((part : Part) → e ≡ reads.Damaged part → IsLogDamage n part disk) → IsReadCause n disk (of_log e)
 next_cause n disk reads.Absent word damaged = absurd word
 next_cause n disk (reads.Damaged part) word damaged = damaged part refl
-next_cause n disk reads.Complete word damaged = tt
-next_cause n disk (reads.NoPoint point) word damaged = tt
 next_cause n disk reads.Disk word damaged = tt
-next_cause n disk reads.Broken word damaged = tt
-next_cause n disk (reads.Full part) word damaged = tt
-next_cause n disk (reads.TooLong point) word damaged = tt
 next_cause n disk reads.NoMem word damaged = tt
 
-pub exit_cause : (n : ℕ) (disk : DiskView) (e : LogFault) → (e ≡ reads.Disk) ⊎ (e ≡ reads.Damaged ExitPart) ⊎ (e ≡ reads.NoMem) → (e ≡ reads.Damaged ExitPart → IsLogDamage n ExitPart disk) → IsReadCause n disk (of_log e)
-exit_cause n disk e (inl is) damaged = subst (λ (x : LogFault). IsReadCause n disk (of_log x)) (sym is) tt
-exit_cause n disk e (inr (inl is)) damaged = subst (λ (x : LogFault). IsReadCause n disk (of_log x)) (sym is) (damaged is)
-exit_cause n disk e (inr (inr is)) damaged = subst (λ (x : LogFault). IsReadCause n disk (of_log x)) (sym is) tt
+pub exit_cause : (n : ℕ) (disk : DiskView) (e : ViewFault) → (e ≡ reads.Disk) ⊎ (e ≡ reads.Damaged ExitPart) ⊎ (e ≡ reads.NoMem) → (e ≡ reads.Damaged ExitPart → IsLogDamage n ExitPart disk) → IsReadCause n disk (of_log e)
+exit_cause n disk e (inl is) damaged = subst (λ (x : ViewFault). IsReadCause n disk (of_log x)) (sym is) tt
+exit_cause n disk e (inr (inl is)) damaged = subst (λ (x : ViewFault). IsReadCause n disk (of_log x)) (sym is) (damaged is)
+exit_cause n disk e (inr (inr is)) damaged = subst (λ (x : ViewFault). IsReadCause n disk (of_log x)) (sym is) tt
 
 -- a log is complete, and a part of it is at fault
 pub damage_of : (n : ℕ) (part : Part) (view : ViewState) (records : List Record) (disk : DiskView) → HasLog n view records disk
@@ -326,8 +276,8 @@ next_why began state r0 r1 d0 d1 events fault talks same elsewhere sends why =
     next_why_at began state r0 r1 d0 d1 events fault r0.at refl talks.at same (log_elsewhere r0.number d0 d1 elsewhere) (subst IsSending same.at sends) why
 
 -- the lower call failed so
-pub that_err : {T : Type 0} (low : Result T LogFault) (e f : LogFault) → low ≡ Err e → e ≡ f → IsErrOf low f
-that_err {T} low e f was is = was ∙ ap (λ (x : LogFault). let r : Result T LogFault = Err x in r) is
+pub that_err : {T : Type 0} (low : Result T ViewFault) (e f : ViewFault) → low ≡ Err e → e ≡ f → IsErrOf low f
+that_err {T} low e f was is = was ∙ ap (λ (x : ViewFault). let r : Result T ViewFault = Err x in r) is
 
 pub that_relay : {T : Type 0} (low : Result T RelayFault) (e f : RelayFault) → low ≡ Err e → e ≡ f → IsErrOf low f
 that_relay {T} low e f was is = was ∙ ap (λ (x : RelayFault). let r : Result T RelayFault = Err x in r) is
@@ -370,7 +320,7 @@ pub any_err : {T : Type 0} (r : Result T RelayFault) (P : RelayFault → Type 0)
 any_err (Ok x) P p = tt
 any_err (Err e) P p = p e
 
-state_log : (e : BundleFault) (f : LogFault) → of_state e ≡ faults.Log f → ⊥
+state_log : (e : BundleFault) (f : ViewFault) → of_state e ≡ faults.Log f → ⊥
 state_log kept.Disk f is = cc (is)
 state_log kept.Broken f is = cc (is)
 state_log (kept.Damaged part) f is = cc (is)

@@ -12,7 +12,7 @@ use Rattle.lsv_disk.specs.View.{DiskView, HasOwnCause, Image, IsCrashImage}
 use Rattle.lsv_disk.specs.declared.file.FileId.{FileId}
 use Rattle.lsv_disk.proofs.Composition.{OnlyNow, cause_second, cause_widened, followed, started, widened}
 use Rattle.lsv_iolog.specs.Recovered.{IsOfLog}
-use Rattle.lsv_iolog.specs.declared.fault.LogFault.TheVariants as logs
+use Rattle.lsv_iolog.specs.declared.fault.ViewFault.TheVariants as logs
 use Rattle.lsv_kept.specs.Kept.{IsMarked, IsOfRelay, Keeps}
 use Rattle.lsv_kept.specs.Value.{is_done}
 use Rattle.lsv_kept.specs.declared.state.State.{State}

@@ -9,7 +9,7 @@ use Rattle.lsv_dialogue.specs.declared.ends.TalkFault.TheVariants as talks
 use Rattle.lsv_disk.specs.View.{DiskView, HasOwnCause}
 use Rattle.lsv_disk.specs.declared.file.FileId.{FileId}
 use Rattle.lsv_iolog.specs.Recovered.{IsOfLog}
-use Rattle.lsv_iolog.specs.declared.fault.LogFault.TheVariants as logs
+use Rattle.lsv_iolog.specs.declared.fault.ViewFault.TheVariants as logs
 use Rattle.lsv_kept.specs.Kept.{IsOfRelay}
 use Rattle.lsv_kept.specs.Value.{is_done}
 use Rattle.lsv_kept.specs.declared.state.State.{State}

@@ -5,8 +5,8 @@ use Rattle.lsv_bundle.specs.declared.fault.BundleFault.TheVariants as kept
 use Rattle.lsv_disk.specs.View.{DiskView, Image}
 use Rattle.lsv_iolog.specs.Damage.{IsViewDamage}
 use Rattle.lsv_iolog.specs.Recovered.{Replays}
-use Rattle.lsv_iolog.specs.declared.fault.LogFault.{LogFault}
-use Rattle.lsv_iolog.specs.declared.fault.LogFault.TheVariants as reads
+use Rattle.lsv_iolog.specs.declared.fault.ViewFault.{ViewFault}
+use Rattle.lsv_iolog.specs.declared.fault.ViewFault.TheVariants as reads
 use Rattle.lsv_kept.specs.Kept.{IsStateDamage}
 use Rattle.lsv_kept.specs.Value.{is_done}
 use Rattle.lsv_relay.specs.Complete.{IsComplete, IsIncomplete, IsLogDamage, IsUnreadable}
@@ -18,15 +18,10 @@ use Rattle.lsv_relay.specs.declared.relay.Place.TheVariants as places
 -- ---- A lower fault as one of the relay
 
 -- a fault of the log, without memory that alone
-abbrev pub of_log : LogFault → RelayFault
+abbrev pub of_log : ViewFault → RelayFault
 of_log reads.Absent = faults.Log reads.Absent
 of_log (reads.Damaged part) = faults.Log (reads.Damaged part)
-of_log reads.Complete = faults.Log reads.Complete
-of_log (reads.NoPoint point) = faults.Log (reads.NoPoint point)
 of_log reads.Disk = faults.Log reads.Disk
-of_log reads.Broken = faults.Log reads.Broken
-of_log (reads.Full part) = faults.Log (reads.Full part)
-of_log (reads.TooLong point) = faults.Log (reads.TooLong point)
 of_log reads.NoMem = faults.NoMem
 
 -- a fault of what is kept, without memory that alone
@@ -40,15 +35,10 @@ of_state kept.NoMem = faults.NoMem
 -- ---- Which faults come
 
 -- the faults of the log: it is absent or damaged, or a device call failed
-abbrev pub IsReadFault : LogFault → Type 0
+abbrev pub IsReadFault : ViewFault → Type 0
 IsReadFault reads.Absent = Unit {0}
 IsReadFault (reads.Damaged part) = Unit {0}
 IsReadFault reads.Disk = Unit {0}
-IsReadFault reads.Complete = ⊥
-IsReadFault (reads.NoPoint point) = ⊥
-IsReadFault reads.Broken = ⊥
-IsReadFault (reads.Full part) = ⊥
-IsReadFault (reads.TooLong point) = ⊥
 IsReadFault reads.NoMem = ⊥
 
 -- the faults of what is kept, when it is opened: it is damaged, or a device call failed
@@ -111,11 +101,6 @@ IsOpenCause n image faults.Incomplete = IsIncomplete n image
 IsOpenCause n image (faults.Log reads.Absent) = Replays image n None
 IsOpenCause n image (faults.Log (reads.Damaged part)) = IsUnreadable n part image
 IsOpenCause n image (faults.Log reads.Disk) = Unit {0}
-IsOpenCause n image (faults.Log reads.Complete) = ⊥
-IsOpenCause n image (faults.Log (reads.NoPoint point)) = ⊥
-IsOpenCause n image (faults.Log reads.Broken) = ⊥
-IsOpenCause n image (faults.Log (reads.Full part)) = ⊥
-IsOpenCause n image (faults.Log (reads.TooLong point)) = ⊥
 IsOpenCause n image (faults.Log reads.NoMem) = ⊥
 IsOpenCause n image (faults.State kept.Disk) = IsComplete n image
 IsOpenCause n image (faults.State kept.Broken) = ⊥
@@ -130,11 +115,6 @@ IsLogCause n disk faults.Incomplete = IsIncomplete n disk.reads
 IsLogCause n disk (faults.Log reads.Absent) = Replays disk.reads n None
 IsLogCause n disk (faults.Log (reads.Damaged part)) = IsViewDamage n part disk.reads ⊎ IsLogDamage n part disk
 IsLogCause n disk (faults.Log reads.Disk) = Unit {0}
-IsLogCause n disk (faults.Log reads.Complete) = Unit {0}
-IsLogCause n disk (faults.Log (reads.NoPoint point)) = Unit {0}
-IsLogCause n disk (faults.Log reads.Broken) = Unit {0}
-IsLogCause n disk (faults.Log (reads.Full part)) = Unit {0}
-IsLogCause n disk (faults.Log (reads.TooLong point)) = Unit {0}
 IsLogCause n disk (faults.Log reads.NoMem) = Unit {0}
 IsLogCause n disk (faults.State fault) = Unit {0}
 IsLogCause n disk faults.NoMem = Unit {0}
@@ -145,11 +125,6 @@ IsReadCause n disk faults.Incomplete = ⊥
 IsReadCause n disk (faults.Log reads.Absent) = ⊥
 IsReadCause n disk (faults.Log (reads.Damaged part)) = IsLogDamage n part disk
 IsReadCause n disk (faults.Log reads.Disk) = Unit {0}
-IsReadCause n disk (faults.Log reads.Complete) = Unit {0}
-IsReadCause n disk (faults.Log (reads.NoPoint point)) = Unit {0}
-IsReadCause n disk (faults.Log reads.Broken) = Unit {0}
-IsReadCause n disk (faults.Log (reads.Full part)) = Unit {0}
-IsReadCause n disk (faults.Log (reads.TooLong point)) = Unit {0}
 IsReadCause n disk (faults.Log reads.NoMem) = Unit {0}
 IsReadCause n disk (faults.State fault) = Unit {0}
 IsReadCause n disk faults.NoMem = Unit {0}

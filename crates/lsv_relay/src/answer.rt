@@ -7,7 +7,7 @@ ghost use Rattle.lsv_info.specs.Reading.{exit_of};
 ghost use Rattle.lsv_info.specs.declared.times.Exit.{Exit};
 ghost use Rattle.lsv_iolog.specs.Reading.{IsBehind, IsWhole, ViewState, committed_text};
 ghost use Rattle.lsv_iolog.specs.Recovered as logs;
-ghost use Rattle.lsv_iolog.specs.declared.fault.LogFault.{LogFault};
+ghost use Rattle.lsv_iolog.specs.declared.fault.ViewFault.{ViewFault};
 ghost use Rattle.lsv_record.specs.declared.records.Record.{Record};
 ghost use Rattle.lsv_relay.specs.Faults.{IsLogFault, IsReadCause};
 ghost use Rattle.lsv_relay.specs.Inner.{Answers, IsRelay, IsSending};
@@ -60,7 +60,7 @@ impl Core {
         ensures reads { D.tells → OnlyReads (D.view disk.old) (D.view disk.new) }
         ensures fault { IfErr result (λ fault. IsLogFault fault × IsSending self.old.at) }
         ensures why { D.tells → IfErr result (λ fault. (view : ViewState) (records : List Record) → self.old.at ≡ places.Sends view → HasLog self.old.number view records (D.view disk.old) → IsReadCause self.old.number (D.view disk.old) fault) }
-        ensures cause { HasOwnCause (logs.IsOfLog self.old.number) (IsErrOf result (RelayFault.Log LogFault.Disk)) (D.view disk.old) (D.view disk.new) }
+        ensures cause { HasOwnCause (logs.IsOfLog self.old.number) (IsErrOf result (RelayFault.Log ViewFault.Disk)) (D.view disk.old) (D.view disk.new) }
     {
         if self.meter.waits {
             return Ok(List::new(self.alloc));
@@ -96,7 +96,7 @@ fn next_of<D: Disk>(alloc: Global, disk: &mut D, log: &mut LogView) -> Result<Ne
     ensures reads { D.tells → OnlyReads (D.view disk.old) (D.view disk.new) }
     ensures fault { IfErr result IsLogFault }
     ensures why { D.tells → IfErr result (λ fault. (n : ℕ) (records : List Record) → HasLog n log.old records (D.view disk.old) → IsReadCause n (D.view disk.old) fault) }
-    ensures cause { HasOwnCause (logs.IsOfLog log.old.number) (IsErrOf result (RelayFault.Log LogFault.Disk)) (D.view disk.old) (D.view disk.new) }
+    ensures cause { HasOwnCause (logs.IsOfLog log.old.number) (IsErrOf result (RelayFault.Log ViewFault.Disk)) (D.view disk.old) (D.view disk.new) }
 {
     let batch = next_messages(alloc, disk, log, MOST)?;
     if !is_empty(&batch) {

@@ -1,6 +1,6 @@
 use lsv_base::NoMem;
 use lsv_bundle::BundleFault;
-use lsv_iolog::LogFault;
+use lsv_iolog::ViewFault;
 use thiserror::Error;
 
 /// Why a call of a relay failed. Each call gives only those that it names. `NoMem` never stands within another fault.
@@ -11,7 +11,7 @@ pub enum RelayFault {
     Incomplete,
     /// The log is absent or damaged, or a read of it failed.
     #[error("{0}")]
-    Log(LogFault),
+    Log(ViewFault),
     /// What is kept of the relaying is damaged, or a device call on its files failed.
     #[error("{0}")]
     State(BundleFault),
@@ -31,15 +31,15 @@ impl From<NoMem> for RelayFault {
     }
 }
 
-impl From<LogFault> for RelayFault {
+impl From<ViewFault> for RelayFault {
     ghost use Rattle.std.specs.Prelude.{◌≡◌};
     ghost use Rattle.lsv_relay.specs.Faults.{of_log};
 
     ghost from_gives = { λ fault given. given ≡ of_log fault };
 
-    fn from(fault: LogFault) -> Self {
+    fn from(fault: ViewFault) -> Self {
         match fault {
-            LogFault::NoMem => RelayFault::NoMem,
+            ViewFault::NoMem => RelayFault::NoMem,
             fault => RelayFault::Log(fault),
         }
     }

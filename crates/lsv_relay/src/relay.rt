@@ -5,7 +5,7 @@ ghost use Rattle.lsv_bundle.specs.declared.fault.BundleFault.{BundleFault};
 ghost use Rattle.lsv_disk.specs.Throughout.{OnlyReads, Throughout};
 ghost use Rattle.lsv_disk.specs.View.{HasOwnCause};
 ghost use Rattle.lsv_iolog.specs.Recovered as logs;
-ghost use Rattle.lsv_iolog.specs.declared.fault.LogFault.{LogFault};
+ghost use Rattle.lsv_iolog.specs.declared.fault.ViewFault.{ViewFault};
 ghost use Rattle.lsv_kept.specs.Kept.{IsAsBefore, IsOfRelay, Keeps};
 ghost use Rattle.lsv_kept.specs.Value.{is_done};
 ghost use Rattle.lsv_kept.specs.declared.state.State.{State};
@@ -101,7 +101,7 @@ impl Relay {
         ensures reads { D.tells → IfErr result (λ fault. IsLogFault fault → fault ≢ RelayFault.NoMem → OnlyReads (D.view disk.old) (D.view disk.new)) }
         ensures any_moment { D.tells → Throughout (IsOfRelay number) (IsAsBefore number (D.view disk.old)) (D.view disk.old) (D.view disk.new) }
         ensures fault { IfErr result IsOpenFault }
-        ensures log { HasOwnCause (logs.IsOfLog number) (IsErrOf result (RelayFault.Log LogFault.Disk)) (D.view disk.old) (D.view disk.new) }
+        ensures log { HasOwnCause (logs.IsOfLog number) (IsErrOf result (RelayFault.Log ViewFault.Disk)) (D.view disk.old) (D.view disk.new) }
         ensures state { HasOwnCause (IsOfRelay number) (IsErrOf result (RelayFault.State BundleFault.Disk)) (D.view disk.old) (D.view disk.new) }
     {
         check_complete(disk, number)?;
@@ -172,7 +172,7 @@ impl Relay {
         ensures fault { IfErr result (IsStepFault self.old self.new) }
         ensures why { D.tells → IfErr result (λ fault. (began : D) (state : State) (events : List Event) → Talks (D.view began) state self.old (D.view disk.old) events
             → IsLogCause self.old.number (D.view disk.old) fault) }
-        ensures log { HasOwnCause (logs.IsOfLog self.old.number) (IsErrOf result (RelayFault.Log LogFault.Disk)) (D.view disk.old) (D.view disk.new) }
+        ensures log { HasOwnCause (logs.IsOfLog self.old.number) (IsErrOf result (RelayFault.Log ViewFault.Disk)) (D.view disk.old) (D.view disk.new) }
         ensures state { HasOwnCause (IsOfRelay self.old.number) (IsErrOf result (RelayFault.State BundleFault.Disk)) (D.view disk.old) (D.view disk.new) }
     {
         if self.core.keeping.is_broken() {
@@ -200,7 +200,7 @@ impl Relay {
         ensures same { (self.new.number ≡ self.old.number) × (self.new.at ≡ self.old.at) }
         ensures fault { IfErr result (IsStepFault (unended self.old) self.new) }
         ensures why { D.tells → IfErr result (IsLogCause self.old.number (D.view disk.old)) }
-        ensures log { HasOwnCause (logs.IsOfLog self.old.number) (IsErrOf result (RelayFault.Log LogFault.Disk)) (D.view disk.old) (D.view disk.new) }
+        ensures log { HasOwnCause (logs.IsOfLog self.old.number) (IsErrOf result (RelayFault.Log ViewFault.Disk)) (D.view disk.old) (D.view disk.new) }
         ensures state { HasOwnCause (IsOfRelay self.old.number) (IsErrOf result (RelayFault.State BundleFault.Disk)) (D.view disk.old) (D.view disk.new) }
     {
         if self.core.keeping.is_broken() {

@@ -7,7 +7,7 @@ ghost use Rattle.lsv_dialogue.specs.declared.ends.End.{End};
 ghost use Rattle.lsv_disk.specs.Throughout.{Throughout};
 ghost use Rattle.lsv_disk.specs.View.{HasOwnCause};
 ghost use Rattle.lsv_iolog.specs.Recovered.{IsOfLog};
-ghost use Rattle.lsv_iolog.specs.declared.fault.LogFault.{LogFault};
+ghost use Rattle.lsv_iolog.specs.declared.fault.ViewFault.{ViewFault};
 ghost use Rattle.lsv_kept.specs.Kept.{IsMarked, IsOfRelay};
 ghost use Rattle.lsv_kept.specs.Value.{is_done};
 ghost use Rattle.lsv_link.specs.Link.{Continues};
@@ -21,7 +21,7 @@ use lsv_base::{List, Point};
 use lsv_bundle::BundleFault;
 use lsv_dialogue::{Cause, End, Judged, Speaker, TalkFault, run};
 use lsv_disk::Disk;
-use lsv_iolog::LogFault;
+use lsv_iolog::ViewFault;
 use lsv_kept::{a_crash_leaves_what_stands, what_is_kept_is_one};
 use lsv_link::Link;
 use lsv_msg::{ClientMessage, ServerMessage};
@@ -115,7 +115,7 @@ impl Relay {
         ensures marked { D.tells → is_done (state_of self.old) ≡ false → IfOk result (λ end. (end ≡ RelayEnd.Done) ↔ IsMarked self.old.number (D.view disk.new).reads) }
         ensures unmarked { D.tells → is_done (state_of self.old) ≡ false → is_broken self.old ≡ false → IfErr result (λ fault. IsPlain fault → IsMarked self.old.number (D.view disk.new).reads → ⊥) }
         ensures touches { D.tells → is_done (state_of self.old) ≡ false → is_broken self.old ≡ false → Throughout (IsOfRelay self.old.number) (λ image. Unit {0}) (D.view disk.old) (D.view disk.new) }
-        ensures log { HasOwnCause (IsOfLog self.old.number) (IsErrOf result (RelayFault.Log LogFault.Disk)) (D.view disk.old) (D.view disk.new) }
+        ensures log { HasOwnCause (IsOfLog self.old.number) (IsErrOf result (RelayFault.Log ViewFault.Disk)) (D.view disk.old) (D.view disk.new) }
         ensures state { HasOwnCause (IsOfRelay self.old.number) (IsErrOf result (RelayFault.State BundleFault.Disk)) (D.view disk.old) (D.view disk.new) }
         ensures continues { Continues (L.counts link.old) (L.counts link.new) }
     {

@@ -6,7 +6,7 @@ ghost use Rattle.lsv_info.specs.declared.times.Head.{Head};
 ghost use Rattle.lsv_disk.specs.declared.file.Part.{Part};
 ghost use Rattle.lsv_iolog.specs.Damage.{IsViewDamage};
 ghost use Rattle.lsv_iolog.specs.Recovered as logs;
-ghost use Rattle.lsv_iolog.specs.declared.fault.LogFault.{LogFault};
+ghost use Rattle.lsv_iolog.specs.declared.fault.ViewFault.{ViewFault};
 ghost use Rattle.lsv_record.specs.Points.{first};
 ghost use Rattle.lsv_record.specs.declared.records.Record.{Record};
 ghost use Rattle.lsv_relay.specs.Complete.{IsComplete, IsIncomplete};
@@ -22,7 +22,7 @@ use lsv_base::{Bytes, List, LogNo, NoMem};
 use lsv_bundle::Body;
 use lsv_disk::{Disk, FileId, Owner, Part};
 use lsv_info::Head;
-use lsv_iolog::{LogFault, LogView};
+use lsv_iolog::{LogView, ViewFault};
 use lsv_journal::Journal;
 use lsv_kept::State;
 use lsv_msg::ClientMessage;
@@ -47,7 +47,7 @@ impl Core {
         ensures reads { D.tells → OnlyReads (D.view disk.old) (D.view disk.new) }
         ensures fault { IfErr result IsLogFault }
         ensures why { D.tells → IfErr result (IsLogCause self.old.number (D.view disk.old)) }
-        ensures cause { HasOwnCause (logs.IsOfLog self.old.number) (IsErrOf result (RelayFault.Log LogFault.Disk)) (D.view disk.old) (D.view disk.new) }
+        ensures cause { HasOwnCause (logs.IsOfLog self.old.number) (IsErrOf result (RelayFault.Log ViewFault.Disk)) (D.view disk.old) (D.view disk.new) }
     {
         let State::Kept(kept) = self.keeping.state() else {
             return self.start_anew(disk);
@@ -78,7 +78,7 @@ impl Core {
         ensures reads { D.tells → OnlyReads (D.view disk.old) (D.view disk.new) }
         ensures fault { IfErr result IsLogFault }
         ensures why { D.tells → IfErr result (IsLogCause self.old.number (D.view disk.old)) }
-        ensures cause { HasOwnCause (logs.IsOfLog self.old.number) (IsErrOf result (RelayFault.Log LogFault.Disk)) (D.view disk.old) (D.view disk.new) }
+        ensures cause { HasOwnCause (logs.IsOfLog self.old.number) (IsErrOf result (RelayFault.Log ViewFault.Disk)) (D.view disk.old) (D.view disk.new) }
     {
         let log = open_complete(self.alloc, disk, self.number)?;
         let opening = anew(self.alloc, log.head())?;
@@ -92,17 +92,17 @@ impl Core {
 pub(crate) fn check_complete<D: Disk>(disk: &mut D, number: LogNo) -> Result<(), RelayFault>
     ensures complete { D.tells → OnOk result (IsComplete number (D.view disk.old).reads) }
     ensures incomplete { D.tells → result ≡ Err RelayFault.Incomplete → IsIncomplete number (D.view disk.old).reads }
-    ensures absent { D.tells → result ≡ Err (RelayFault.Log LogFault.Absent) → logs.Replays (D.view disk.old).reads number None }
+    ensures absent { D.tells → result ≡ Err (RelayFault.Log ViewFault.Absent) → logs.Replays (D.view disk.old).reads number None }
     ensures reads { D.tells → OnlyReads (D.view disk.old) (D.view disk.new) }
-    ensures fault { IfErr result (λ e. (e ≡ RelayFault.Incomplete) ⊎ (e ≡ RelayFault.Log LogFault.Absent) ⊎ (e ≡ RelayFault.Log LogFault.Disk)) }
-    ensures cause { HasOwnCause (logs.IsOfLog number) (IsErrOf result (RelayFault.Log LogFault.Disk)) (D.view disk.old) (D.view disk.new) }
+    ensures fault { IfErr result (λ e. (e ≡ RelayFault.Incomplete) ⊎ (e ≡ RelayFault.Log ViewFault.Absent) ⊎ (e ≡ RelayFault.Log ViewFault.Disk)) }
+    ensures cause { HasOwnCause (logs.IsOfLog number) (IsErrOf result (RelayFault.Log ViewFault.Disk)) (D.view disk.old) (D.view disk.new) }
 {
     let slots = FileId::new(Owner::Log(number.get()), Part::Slots);
     let Ok(last) = Journal::<89>::view(disk, slots) else {
-        return Err(RelayFault::Log(LogFault::Disk));
+        return Err(RelayFault::Log(ViewFault::Disk));
     };
     let Some(bytes) = last else {
-        return Err(RelayFault::Log(LogFault::Absent));
+        return Err(RelayFault::Log(ViewFault::Absent));
     };
     let body = Body::decode(bytes);
     if body.kind != COMPLETE {
@@ -119,14 +119,14 @@ pub(crate) fn open_complete<D: Disk>(
 ) -> Result<LogView, RelayFault>
     ensures log { D.tells → IfOk result (λ log. HasLog number log [] (D.view disk.new)) }
     ensures number { IfOk result (λ log. log.number ≡ number) }
-    ensures damaged { D.tells → (part : Part) → result ≡ Err (RelayFault.Log (LogFault.Damaged part)) → IsViewDamage number part (D.view disk.old).reads }
+    ensures damaged { D.tells → (part : Part) → result ≡ Err (RelayFault.Log (ViewFault.Damaged part)) → IsViewDamage number part (D.view disk.old).reads }
     ensures incomplete { D.tells → result ≡ Err RelayFault.Incomplete → IsIncomplete number (D.view disk.old).reads }
     ensures complete { D.tells → IfOk result (λ log. IsComplete number (D.view disk.old).reads) }
     ensures readable { D.tells → IfOk result (λ log. (part : Part) → IsViewDamage number part (D.view disk.old).reads → ⊥) }
-    ensures absent { D.tells → result ≡ Err (RelayFault.Log LogFault.Absent) → logs.Replays (D.view disk.old).reads number None }
+    ensures absent { D.tells → result ≡ Err (RelayFault.Log ViewFault.Absent) → logs.Replays (D.view disk.old).reads number None }
     ensures reads { D.tells → OnlyReads (D.view disk.old) (D.view disk.new) }
     ensures fault { IfErr result IsLogFault }
-    ensures cause { HasOwnCause (logs.IsOfLog number) (IsErrOf result (RelayFault.Log LogFault.Disk)) (D.view disk.old) (D.view disk.new) }
+    ensures cause { HasOwnCause (logs.IsOfLog number) (IsErrOf result (RelayFault.Log ViewFault.Disk)) (D.view disk.old) (D.view disk.new) }
 {
     let log = LogView::open(alloc, disk, number)?;
     if log.body().kind != COMPLETE {
@@ -148,7 +148,7 @@ fn open_at<D: Disk>(
     ensures reads { D.tells → OnlyReads (D.view disk.old) (D.view disk.new) }
     ensures fault { IfErr result IsLogFault }
     ensures why { D.tells → IfErr result (IsLogCause number (D.view disk.old)) }
-    ensures cause { HasOwnCause (logs.IsOfLog number) (IsErrOf result (RelayFault.Log LogFault.Disk)) (D.view disk.old) (D.view disk.new) }
+    ensures cause { HasOwnCause (logs.IsOfLog number) (IsErrOf result (RelayFault.Log ViewFault.Disk)) (D.view disk.old) (D.view disk.new) }
 {
     let mut log = open_complete(alloc, disk, number)?;
     let found = pass_over(disk, &mut log, point)?;

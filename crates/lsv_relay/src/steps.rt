@@ -5,7 +5,7 @@ ghost use Rattle.lsv_bundle.specs.declared.fault.BundleFault.{BundleFault};
 ghost use Rattle.lsv_dialogue.specs.Events.{Event, all_said, as_heard};
 ghost use Rattle.lsv_disk.specs.View.{HasOwnCause};
 ghost use Rattle.lsv_iolog.specs.Recovered as logs;
-ghost use Rattle.lsv_iolog.specs.declared.fault.LogFault.{LogFault};
+ghost use Rattle.lsv_iolog.specs.declared.fault.ViewFault.{ViewFault};
 ghost use Rattle.lsv_kept.specs.Kept.{IsOfRelay};
 ghost use Rattle.lsv_kept.specs.declared.state.State.{State};
 ghost use Rattle.lsv_relay.specs.Faults.{IsLogCause, IsStepFault};
@@ -44,7 +44,7 @@ impl Core {
         ensures fault { IfErr result (IsStepFault self.old self.new) }
         ensures why { D.tells → IfErr result (λ fault. (began : D) (state : State) (events : List Event) → Talks (D.view began) state self.old (D.view disk.old) events
             → IsLogCause self.old.number (D.view disk.old) fault) }
-        ensures log { HasOwnCause (logs.IsOfLog self.old.number) (IsErrOf result (RelayFault.Log LogFault.Disk)) (D.view disk.old) (D.view disk.new) }
+        ensures log { HasOwnCause (logs.IsOfLog self.old.number) (IsErrOf result (RelayFault.Log ViewFault.Disk)) (D.view disk.old) (D.view disk.new) }
         ensures state { HasOwnCause (IsOfRelay self.old.number) (IsErrOf result (RelayFault.State BundleFault.Disk)) (D.view disk.old) (D.view disk.new) }
     {
         match self.at {
@@ -73,7 +73,7 @@ impl Core {
         ensures fault { IfErr result (IsStepFault self.old self.new) }
         ensures why { D.tells → IfErr result (λ fault. (began : D) (state : State) (events : List Event) → Talks (D.view began) state self.old (D.view disk.old) events
             → IsLogCause self.old.number (D.view disk.old) fault) }
-        ensures log { HasOwnCause (logs.IsOfLog self.old.number) (IsErrOf result (RelayFault.Log LogFault.Disk)) (D.view disk.old) (D.view disk.new) }
+        ensures log { HasOwnCause (logs.IsOfLog self.old.number) (IsErrOf result (RelayFault.Log ViewFault.Disk)) (D.view disk.old) (D.view disk.new) }
         ensures state { HasOwnCause (IsOfRelay self.old.number) (IsErrOf result (RelayFault.State BundleFault.Disk)) (D.view disk.old) (D.view disk.new) }
     {
         let opening = self.start(disk)?;
@@ -103,7 +103,7 @@ impl Core {
         ensures fault { IfErr result (IsStepFault self.old self.new) }
         ensures why { D.tells → IfErr result (λ fault. (began : D) (state : State) (events : List Event) → Talks (D.view began) state self.old (D.view disk.old) events
             → IsLogCause self.old.number (D.view disk.old) fault) }
-        ensures log { HasOwnCause (logs.IsOfLog self.old.number) (IsErrOf result (RelayFault.Log LogFault.Disk)) (D.view disk.old) (D.view disk.new) }
+        ensures log { HasOwnCause (logs.IsOfLog self.old.number) (IsErrOf result (RelayFault.Log ViewFault.Disk)) (D.view disk.old) (D.view disk.new) }
         ensures state { HasOwnCause (IsOfRelay self.old.number) (IsErrOf result (RelayFault.State BundleFault.Disk)) (D.view disk.old) (D.view disk.new) }
     {
         self.take(disk, got)?;

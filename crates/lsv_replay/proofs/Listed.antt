@@ -7,10 +7,9 @@ use Rattle.lsv_disk.specs.Throughout.{OnlyReads}
 use Rattle.lsv_disk.specs.View.{Image, DiskView}
 use Rattle.lsv_disk.proofs.Composition.{OnlyNow, reads_trans}
 use Rattle.lsv_info.specs.declared.times.Head.{Head}
-use Rattle.lsv_iolog.specs.declared.fault.LogFault.{LogFault}
-use Rattle.lsv_iolog.specs.declared.fault.LogFault.TheVariants as logs
+use Rattle.lsv_iolog.specs.declared.fault.ViewFault.{ViewFault}
+use Rattle.lsv_iolog.specs.declared.fault.ViewFault.TheVariants as views
 use Rattle.lsv_iolog.specs.Damage.{IsViewDamage}
-use Rattle.lsv_iolog.specs.Faults.{IsOpenFault}
 use Rattle.lsv_iolog.specs.Recovered.{Replays}
 use Rattle.lsv_iolog.proofs.Scans.{reads_nothing}
 use Rattle.lsv_play.specs.declared.screen.Item.{Item}
@@ -38,17 +37,12 @@ one_of_head searched image n head (Err faults.Screen) put is lists = inr (There 
 one_of_head searched image n head (Err faults.NoMem) put is lists = inr (There head, is, lists)
 
 -- and of one that isn't nothing is put
-pub one_of_fault : (searched : Option Expression) (image : Image) (n : ℕ) (e : LogFault) → IsOpenFault e → (e ≡ logs.Absent → Replays image n None) → ((part : Part) → e ≡ logs.Damaged part → IsViewDamage n part image)
+pub one_of_fault : (searched : Option Expression) (image : Image) (n : ℕ) (e : ViewFault) → (e ≡ views.Absent → Replays image n None) → ((part : Part) → e ≡ views.Damaged part → IsViewDamage n part image)
     → ListsOne searched image n (of_log e) []
-one_of_fault searched image n logs.Absent is absent damaged = (Nowhere, absent refl, refl, refl)
-one_of_fault searched image n (logs.Damaged part) is absent damaged = (Faulty part, damaged part refl, refl, refl)
-one_of_fault searched image n logs.Complete is absent damaged = absurd is
-one_of_fault searched image n (logs.NoPoint point) is absent damaged = absurd is
-one_of_fault searched image n logs.Disk is absent damaged = inl refl
-one_of_fault searched image n logs.Broken is absent damaged = absurd is
-one_of_fault searched image n (logs.Full part) is absent damaged = absurd is
-one_of_fault searched image n (logs.TooLong point) is absent damaged = absurd is
-one_of_fault searched image n logs.NoMem is absent damaged = inl refl
+one_of_fault searched image n views.Absent absent damaged = (Nowhere, absent refl, refl, refl)
+one_of_fault searched image n (views.Damaged part) absent damaged = (Faulty part, damaged part refl, refl, refl)
+one_of_fault searched image n views.Disk absent damaged = inl refl
+one_of_fault searched image n views.NoMem absent damaged = inl refl
 
 -- ---- the logs up to a number
 

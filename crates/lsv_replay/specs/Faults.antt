@@ -2,8 +2,8 @@
 use Rattle.std.specs.Prelude.{◌≡◌, Option, Some, None, Result, Ok, Err}
 use Rattle.lsv_disk.specs.declared.file.Part.{Part}
 use Rattle.lsv_disk.specs.declared.file.Part.TheVariants.{Slots}
-use Rattle.lsv_iolog.specs.declared.fault.LogFault.{LogFault}
-use Rattle.lsv_iolog.specs.declared.fault.LogFault.TheVariants as logs
+use Rattle.lsv_iolog.specs.declared.fault.ViewFault.{ViewFault}
+use Rattle.lsv_iolog.specs.declared.fault.ViewFault.TheVariants as views
 use Rattle.lsv_seq.specs.declared.fault.SeqFault.{SeqFault}
 use Rattle.lsv_seq.specs.declared.fault.SeqFault.TheVariants as seqs
 use Rattle.lsv_replay.specs.declared.fault.ListFault.{ListFault}
@@ -22,14 +22,9 @@ IsNumbersFault Disk = Unit {0}
 IsNumbersFault Screen = ⊥
 IsNumbersFault NoMem = ⊥
 
--- what a log that isn't opened is to a listing: a damaged one has its part; faults that no reading answers are out of memory
-abbrev pub of_log : LogFault → Result (Option Part) ListFault
-of_log logs.Absent = Ok None
-of_log (logs.Damaged part) = Ok (Some part)
-of_log logs.Disk = Err Disk
-of_log logs.NoMem = Err NoMem
-of_log logs.Complete = Err NoMem
-of_log (logs.NoPoint point) = Err NoMem
-of_log logs.Broken = Err NoMem
-of_log (logs.Full part) = Err NoMem
-of_log (logs.TooLong point) = Err NoMem
+-- what a log that isn't opened is to a listing: a damaged one has its part
+abbrev pub of_log : ViewFault → Result (Option Part) ListFault
+of_log views.Absent = Ok None
+of_log (views.Damaged part) = Ok (Some part)
+of_log views.Disk = Err Disk
+of_log views.NoMem = Err NoMem

@@ -4,7 +4,6 @@ ghost use Rattle.lsv_base.specs.Outside.{HasCause};
 ghost use Rattle.lsv_base.specs.Time.{nanos_of};
 ghost use Rattle.lsv_disk.specs.Throughout.{OnlyReads};
 ghost use Rattle.lsv_disk.specs.View.{HasOwnCause};
-ghost use Rattle.lsv_iolog.specs.Faults.{IsOpenFault};
 ghost use Rattle.lsv_iolog.specs.Recovered.{IsOfLog};
 ghost use Rattle.lsv_play.specs.declared.screen.Item.{Item};
 ghost use Rattle.lsv_search.specs.Grammar.{Expression};
@@ -21,7 +20,7 @@ use lsv_base::{Bytes, LogNo, NoMem};
 use lsv_disk::{Disk, Part};
 use lsv_event::{Event, Peer, sudo_line};
 use lsv_info::Head;
-use lsv_iolog::{LogFault, LogView};
+use lsv_iolog::{LogView, ViewFault};
 use lsv_play::Screen;
 use lsv_search::{Expr, matches};
 use std::alloc::Global;
@@ -97,15 +96,14 @@ fn list_log<D: Disk, S: Screen>(
 }
 
 /// What a listing does with a log that isn't opened: it is passed over if it is absent or damaged.
-fn damage_of(fault: LogFault) -> Result<Option<Part>, ListFault>
-    requires { IsOpenFault fault }
+fn damage_of(fault: ViewFault) -> Result<Option<Part>, ListFault>
     ensures { result ≡ of_log fault }
 {
     match fault {
-        LogFault::Absent => Ok(None),
-        LogFault::Damaged(part) => Ok(Some(part)),
-        LogFault::Disk => Err(ListFault::Disk),
-        _ => Err(ListFault::NoMem),
+        ViewFault::Absent => Ok(None),
+        ViewFault::Damaged(part) => Ok(Some(part)),
+        ViewFault::Disk => Err(ListFault::Disk),
+        ViewFault::NoMem => Err(ListFault::NoMem),
     }
 }
 

@@ -11,8 +11,8 @@ use Rattle.lsv_disk.specs.declared.file.Part.TheVariants as parts
 use Rattle.lsv_disk.proofs.Composition.{reads_trans}
 use Rattle.lsv_iolog.specs.Faults.{IsNextFault}
 use Rattle.lsv_iolog.specs.Reading.{IsBehind, IsFaultBehind, IsWhole, ViewState, committed_laid}
-use Rattle.lsv_iolog.specs.declared.fault.LogFault.{LogFault}
-use Rattle.lsv_iolog.specs.declared.fault.LogFault.TheVariants as logs
+use Rattle.lsv_iolog.specs.declared.fault.ViewFault.{ViewFault}
+use Rattle.lsv_iolog.specs.declared.fault.ViewFault.TheVariants as views
 use Rattle.lsv_msg.specs.declared.messages.ClientMessage.{ClientMessage}
 use Rattle.lsv_play.specs.Playing.{laid_at}
 use Rattle.lsv_play.proofs.Played.{same_image}
@@ -102,20 +102,15 @@ done_either place (inr is) = ap is_done_soon is
 -- ---- a fault
 
 -- by what the fault is
-pub by_fault : {T : Type 0} (r : Result T LogFault) (Q : LogFault → Type 0) → IfErr r IsNextFault → Q logs.Disk → Q logs.NoMem → ((part : Part) → r ≡ Err (logs.Damaged part) → Q (logs.Damaged part)) → IfErr r Q
+pub by_fault : {T : Type 0} (r : Result T ViewFault) (Q : ViewFault → Type 0) → IfErr r IsNextFault → Q views.Disk → Q views.NoMem → ((part : Part) → r ≡ Err (views.Damaged part) → Q (views.Damaged part)) → IfErr r Q
 by_fault (Ok x) Q fault disk memory damaged = tt
-by_fault (Err (logs.Damaged part)) Q fault disk memory damaged = damaged part refl
-by_fault (Err logs.Disk) Q fault disk memory damaged = disk
-by_fault (Err logs.NoMem) Q fault disk memory damaged = memory
-by_fault (Err logs.Absent) Q fault disk memory damaged = absurd fault
-by_fault (Err logs.Complete) Q fault disk memory damaged = absurd fault
-by_fault (Err (logs.NoPoint point)) Q fault disk memory damaged = absurd fault
-by_fault (Err logs.Broken) Q fault disk memory damaged = absurd fault
-by_fault (Err (logs.Full part)) Q fault disk memory damaged = absurd fault
-by_fault (Err (logs.TooLong point)) Q fault disk memory damaged = absurd fault
+by_fault (Err (views.Damaged part)) Q fault disk memory damaged = damaged part refl
+by_fault (Err views.Disk) Q fault disk memory damaged = disk
+by_fault (Err views.NoMem) Q fault disk memory damaged = memory
+by_fault (Err views.Absent) Q fault disk memory damaged = absurd fault
 
-pub at_fault : {T : Type 0} (r : Result T LogFault) (x : LogFault) (Q : LogFault → Type 0) → r ≡ Err x → IfErr r Q → Q x
-at_fault r x Q is all = subst (λ (s : Result _ LogFault). IfErr s Q) is all
+pub at_fault : {T : Type 0} (r : Result T ViewFault) (x : ViewFault) (Q : ViewFault → Type 0) → r ≡ Err x → IfErr r Q → Q x
+at_fault r x Q is all = subst (λ (s : Result _ ViewFault). IfErr s Q) is all
 
 -- the exit is at fault
 pub faulty_exit : (start : Start) (s : Sender) (log : ViewState) (disk mid : DiskView) (events : List Event) (part : Part) → IsOf start.source s → CanRecord s.place s.known → log.number ≡ s.log.number → log.body ≡ s.log.body → OnlyReads disk mid → (t : Told start s disk events)

@@ -1,12 +1,18 @@
 -- A log that was opened, and resumed at a point.
-use Rattle.std.proofs.Common.{◌≡◌, ◌∙◌, inl, inr, ℕ, List, length, take, refl, sym, ap, subst, arith, Option, Some, Result}
+use Rattle.std.proofs.Common.{◌≡◌, ◌∙◌, inl, inr, ℕ, List, length, take, refl, sym, ap, subst, arith, Option, None, Some, Result}
 use Rattle.lsv_bundle.specs.declared.body.Body.{Body}
 use Rattle.lsv_disk.specs.Throughout.{OnlyReads}
 use Rattle.lsv_disk.specs.View.{DiskView, Image}
 use Rattle.lsv_info.specs.declared.times.Head.{Head}
+use Rattle.lsv_disk.specs.declared.file.Part.{Part}
+use Rattle.lsv_iolog.specs.Damage.{IsViewDamage}
+use Rattle.lsv_iolog.specs.Faults.{of_view}
 use Rattle.lsv_iolog.specs.Reading.{ViewState, committed_laid}
+use Rattle.lsv_iolog.specs.Recovered.{Replays}
 use Rattle.lsv_iolog.specs.declared.fault.LogFault.{LogFault}
 use Rattle.lsv_iolog.specs.declared.fault.LogFault.TheVariants as logs
+use Rattle.lsv_iolog.specs.declared.fault.ViewFault.{ViewFault}
+use Rattle.lsv_iolog.specs.declared.fault.ViewFault.TheVariants as views
 use Rattle.lsv_play.specs.Playing.{IsOpened, laid_at}
 use Rattle.lsv_play.proofs.Played.{same_image}
 use Rattle.lsv_record.specs.Points.{first}
@@ -29,6 +35,13 @@ use Rattle.lsv_send.specs.Opening.{HasNoEnd, IsNew, IsNotOpened, IsNotResumed, O
 use Rattle.lsv_send.specs.declared.sender.Sender.{Sender}
 use Rattle.lsv_send.proofs.Stored.{take_whole}
 use Rattle.lsv_send.proofs.Telling.{laid_here}
+
+-- the log wasn't viewed
+pub viewed_not : (what : Sending) (n : ℕ) (image : Image) (e : ViewFault) → (e ≡ views.Absent → Replays image n None) → ((part : Part) → e ≡ views.Damaged part → IsViewDamage n part image) → IsNotOpened what n image (of_view e)
+viewed_not what n image views.Absent absent damaged = absent refl
+viewed_not what n image (views.Damaged part) absent damaged = inl (damaged part refl)
+viewed_not what n image views.Disk absent damaged = tt
+viewed_not what n image views.NoMem absent damaged = tt
 
 -- the records through a point are of its time
 ends_there : (records : List Record) (point : ℕ) → first records point ≡ Some (length records) → point ≡ elapsed records

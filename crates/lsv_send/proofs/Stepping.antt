@@ -9,8 +9,8 @@ use Rattle.std.specs.Prelude.{if◌then◌else◌, ◌&&◌, ◌||◌, not}
 use Rattle.lsv_disk.specs.declared.file.FileId.{FileId}
 use Rattle.lsv_disk.proofs.Composition.{reads_trans}
 use Rattle.lsv_iolog.specs.Recovered.{IsOfLog}
-use Rattle.lsv_iolog.specs.declared.fault.LogFault.{LogFault}
-use Rattle.lsv_iolog.specs.declared.fault.LogFault.TheVariants as logs
+use Rattle.lsv_iolog.specs.declared.fault.ViewFault.{ViewFault}
+use Rattle.lsv_iolog.specs.declared.fault.ViewFault.TheVariants as views
 use Rattle.lsv_msg.specs.declared.messages.ClientMessage.{ClientMessage}
 use Rattle.lsv_msg.specs.declared.messages.ServerMessage.{ServerMessage}
 use Rattle.lsv_defs.specs.Causes.{HasRisen}
@@ -150,7 +150,7 @@ of_message verdict (faults.Log f) is = is
 of_message verdict (faults.Strange p) is = tt
 of_message verdict (faults.LongId n) is = tt
 
-not_log : (verdict : Option SendFault) (fault : SendFault) → IsTakeFault verdict fault → fault ≡ faults.Log logs.Disk → ⊥
+not_log : (verdict : Option SendFault) (fault : SendFault) → IsTakeFault verdict fault → fault ≡ faults.Log views.Disk → ⊥
 not_log verdict faults.Sink is e = cc
 not_log verdict faults.NoMem is e = cc
 not_log verdict (faults.Log f) is e = is
@@ -182,15 +182,15 @@ pub fails_late : (dt st same : Type 0) (start : Begins dt) (s : Sender) (disk : 
 fails_late dt st same start s disk printed printed' count count' events m fault is some mono risen b =
     fails_by dt st same start s disk printed printed' count count' events (events ++ as_late m) m fault (inr (refl, of_message (judged s m) fault is)) (lines_late events m) is some mono risen b.talks b.keeps
 
-log_disk : (fault : LogFault) → (let f : SendFault = faults.Log fault in f) ≡ faults.Log logs.Disk → fault ≡ logs.Disk
+log_disk : (fault : ViewFault) → (let f : SendFault = faults.Log fault in f) ≡ faults.Log views.Disk → fault ≡ views.Disk
 log_disk fault e = cc
 
-log_sink : (fault : LogFault) → (let f : SendFault = faults.Log fault in f) ≡ faults.Sink → ⊥
+log_sink : (fault : ViewFault) → (let f : SendFault = faults.Log fault in f) ≡ faults.Sink → ⊥
 log_sink fault e = cc
 
 -- nothing more was said, since the log wasn't read on
-pub fails_saying : (dt st same : Type 0) (start : Begins dt) (s : Sender) (disk later : DiskView) (printed : List ℕ) (count : ℕ) (before events : List Event) (got : Option ServerMessage) (fault : LogFault) (old : Sender) → events ≡ before ++ as_heard got
-    → (hands : (d : dt) → HandsOut (start.source d) start.disk.reads (far_of old) before) → ((d : dt) → TakesEach (start.source d) start.disk.reads before) → (dt → OnlyReads disk later) → HasOwnCause (IsOfLog s.log.number) (fault ≡ logs.Disk) disk later
+pub fails_saying : (dt st same : Type 0) (start : Begins dt) (s : Sender) (disk later : DiskView) (printed : List ℕ) (count : ℕ) (before events : List Event) (got : Option ServerMessage) (fault : ViewFault) (old : Sender) → events ≡ before ++ as_heard got
+    → (hands : (d : dt) → HandsOut (start.source d) start.disk.reads (far_of old) before) → ((d : dt) → TakesEach (start.source d) start.disk.reads before) → (dt → OnlyReads disk later) → HasOwnCause (IsOfLog s.log.number) (fault ≡ views.Disk) disk later
     → ((d : dt) → IsStuck (start.source d) start.disk.reads ((start.source d).skipped ++ (hands d).more) fault) → CanRecord old.place (knows old.known got) → HasNoPoint old.place old.reached → ((d : dt) → IfSome got (IsTaken (far_of old) (elapsed ((start.source d).skipped ++ (hands d).more))))
     → Talks dt st start s disk printed count events → same → Fails dt st start later printed count same events (faults.Log fault)
 fails_saying dt st same start s disk later printed count before events got fault old are hands takes reads cause stuck going point taken t keeps = record {
@@ -230,7 +230,7 @@ between_both dt st same start s mid new disk later printed printed' count count'
     }
 
 -- a step without a message failed
-pub fails_silent : (dt st same : Type 0) (start : Begins dt) (s : Sender) (disk later : DiskView) (printed : List ℕ) (count : ℕ) (events : List Event) (fault : LogFault) → (dt → OnlyReads disk later) → HasOwnCause (IsOfLog s.log.number) (fault ≡ logs.Disk) disk later
+pub fails_silent : (dt st same : Type 0) (start : Begins dt) (s : Sender) (disk later : DiskView) (printed : List ℕ) (count : ℕ) (events : List Event) (fault : ViewFault) → (dt → OnlyReads disk later) → HasOwnCause (IsOfLog s.log.number) (fault ≡ views.Disk) disk later
     → ((d : dt) → IsOf (start.source d) s → (t : Told (start_at (start.source d) start.disk) s disk events) → IsStuck (start.source d) start.disk.reads ((start.source d).skipped ++ t.hands.more) fault) → CanRecord s.place s.known → Between dt st start s disk printed count same events
     → Fails dt st start later printed count same (events ++ as_heard None) (faults.Log fault)
 fails_silent dt st same start s disk later printed count events fault reads cause stuck going b = subst (λ (es : List Event). Fails dt st start later printed count same es (faults.Log fault)) (sym (append-nil events))
@@ -238,8 +238,8 @@ fails_silent dt st same start s disk later printed count events fault reads caus
     (λ d. stuck d (b.talks.is d) (told_at (told_start start d) s disk events (b.talks.told d))) going b.rests.point (λ d. tt) b.talks b.keeps)
 
 -- after a message was taken
-pub fails_after : (dt st same : Type 0) (start : Begins dt) (s mid : Sender) (disk later : DiskView) (printed printed' : List ℕ) (count count' : ℕ) (events : List Event) (m : ServerMessage) (fault : LogFault) → judged s m ≡ None → mid ≡ hears m s → (st → printed' ≡ printed ++ line_of m) → count ≤ count'
-    → (dt → OnlyReads disk later) → HasOwnCause (IsOfLog mid.log.number) (fault ≡ logs.Disk) disk later
+pub fails_after : (dt st same : Type 0) (start : Begins dt) (s mid : Sender) (disk later : DiskView) (printed printed' : List ℕ) (count count' : ℕ) (events : List Event) (m : ServerMessage) (fault : ViewFault) → judged s m ≡ None → mid ≡ hears m s → (st → printed' ≡ printed ++ line_of m) → count ≤ count'
+    → (dt → OnlyReads disk later) → HasOwnCause (IsOfLog mid.log.number) (fault ≡ views.Disk) disk later
     → ((d : dt) → IsOf (start.source d) mid → (t : Told (start_at (start.source d) start.disk) mid disk (events ++ Heard m ∷ [])) → IsStuck (start.source d) start.disk.reads ((start.source d).skipped ++ t.hands.more) fault) → CanRecord mid.place mid.known
     → Between dt st start s disk printed count same events → Fails dt st start later printed' count' same (events ++ as_heard (Some m)) (faults.Log fault)
 fails_after dt st same start s mid disk later printed printed' count count' events m fault none is put sink reads cause stuck going b =
@@ -255,8 +255,8 @@ fails_after dt st same start s mid disk later printed printed' count count' even
         (record { begins = of.begins; stop = of.stop; number = of.number; body = of.body }) heard_so
 
 -- the cause of a call is that of its fault
-pub own_cause : {T : Type 0} (r : Result T LogFault) (x : LogFault) (Own : FileId → Type 0) (disk later : DiskView) → r ≡ Err x → HasOwnCause Own (r ≡ Err logs.Disk) disk later → HasOwnCause Own (x ≡ logs.Disk) disk later
-own_cause r x Own disk later is cause = record { monotone = cause.monotone; risen = λ e. cause.risen (is ∙ ap (λ (f : LogFault). Err f) e) }
+pub own_cause : {T : Type 0} (r : Result T ViewFault) (x : ViewFault) (Own : FileId → Type 0) (disk later : DiskView) → r ≡ Err x → HasOwnCause Own (r ≡ Err views.Disk) disk later → HasOwnCause Own (x ≡ views.Disk) disk later
+own_cause r x Own disk later is cause = record { monotone = cause.monotone; risen = λ e. cause.risen (is ∙ ap (λ (f : ViewFault). Err f) e) }
 
 -- ---- by what a call answered
 

@@ -18,6 +18,8 @@ use Rattle.lsv_iolog.specs.Reading.{IsBehind}
 use Rattle.lsv_iolog.specs.Recovered.{IsOfLog}
 use Rattle.lsv_iolog.specs.declared.fault.LogFault.{LogFault}
 use Rattle.lsv_iolog.specs.declared.fault.LogFault.TheVariants as logs
+use Rattle.lsv_iolog.specs.declared.fault.ViewFault.TheVariants as views
+use Rattle.lsv_iolog.specs.Faults.{of_view}
 use Rattle.lsv_iolog.proofs.Scans.{reads_nothing}
 use Rattle.lsv_link.specs.Link.{Continues, LinkCounts, LinkState}
 use Rattle.lsv_link.specs.declared.connection.Connection.{Connection}
@@ -154,13 +156,13 @@ broke_as dt st tells same start s disk printed count T F from fails before after
 
 -- what is known of the disk and the sink at the end
 abbrev pub Leaves : (dt same : Type 0) (old new : DiskView) (n count count' : ℕ) (ended : Result End (TalkFault SendFault)) → Type 0
-Leaves dt same old new n count count' ended = same × (dt → OnlyReads old new) × HasOwnCause (IsOfLog n) (ended ≡ Err (talks.Speaker (faults.Log logs.Disk))) old new × (count ≤ count') × (ended ≡ Err (talks.Speaker faults.Sink) → HasRisen count count')
+Leaves dt same old new n count count' ended = same × (dt → OnlyReads old new) × HasOwnCause (IsOfLog n) (ended ≡ Err (talks.Speaker (faults.Log views.Disk))) old new × (count ≤ count') × (ended ≡ Err (talks.Speaker faults.Sink) → HasRisen count count')
 
 pub left_ended : (dt st same : Type 0) (start : Begins dt) (s : Sender) (disk : DiskView) (printed : List ℕ) (count : ℕ) (events : List Event) (end : End) → Between dt st start s disk printed count same events → Leaves dt same start.disk disk start.number start.faults count (Ok end)
 left_ended dt st same start s disk printed count events end b = (
   b.keeps,
   λ d. (b.talks.told d).reads,
-  record { monotone = b.talks.counts; risen = λ e. absurd (let no : Ok end ≡ Err (talks.Speaker (faults.Log logs.Disk)) = e in cc) },
+  record { monotone = b.talks.counts; risen = λ e. absurd (let no : Ok end ≡ Err (talks.Speaker (faults.Log views.Disk)) = e in cc) },
   b.talks.sink,
   λ e. absurd (let no : Ok end ≡ Err (talks.Speaker faults.Sink) = e in cc),
 )
@@ -171,7 +173,7 @@ left_broke dt st same start s disk printed count T F from fails events talks.NoM
     let b = from events broke in (
       b.keeps,
       λ d. (b.talks.told d).reads,
-      record { monotone = b.talks.counts; risen = λ e. absurd (let no : talks.NoMem ≡ talks.Speaker (faults.Log logs.Disk) = cc in cc) },
+      record { monotone = b.talks.counts; risen = λ e. absurd (let no : talks.NoMem ≡ talks.Speaker (faults.Log views.Disk) = cc in cc) },
       b.talks.sink,
       λ e. absurd (let no : talks.NoMem ≡ talks.Speaker faults.Sink = cc in cc),
     )
@@ -179,7 +181,7 @@ left_broke dt st same start s disk printed count T F from fails events (talks.Sp
     let b = fails events fault broke in (
       b.keeps,
       b.reads,
-      record { monotone = b.cause.monotone; risen = λ e. b.cause.risen (let same_fault : fault ≡ faults.Log logs.Disk = cc in same_fault) },
+      record { monotone = b.cause.monotone; risen = λ e. b.cause.risen (let same_fault : fault ≡ faults.Log views.Disk = cc in same_fault) },
       b.sink,
       λ e. b.sink_cause (let same_fault : fault ≡ faults.Sink = cc in same_fault),
     )
@@ -231,7 +233,7 @@ pub link_none : (status : SendStatus) (counts : LinkCounts) → IsUnrefused stat
 link_none status counts u = other_cause status counts counts (continues_same counts) u.0 u.1
 
 unrefused_fault : (fault : SendFault) → IsUnrefused (of_fault fault)
-unrefused_fault (faults.Log fault) = unrefused_log fault
+unrefused_fault (faults.Log fault) = unrefused_log (of_view fault)
 unrefused_fault faults.Sink = (λ e. cc, λ e. cc)
 unrefused_fault (faults.Strange point) = (λ e. cc, λ e. cc)
 unrefused_fault (faults.LongId n) = (λ e. cc, λ e. cc)

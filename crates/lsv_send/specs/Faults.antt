@@ -8,8 +8,8 @@ use Rattle.lsv_disk.specs.declared.file.Part.TheVariants as parts
 use Rattle.lsv_info.specs.Reading.{exit_of}
 use Rattle.lsv_info.specs.declared.times.Exit.{Exit}
 use Rattle.lsv_iolog.specs.Reading.{IsFaultBehind}
-use Rattle.lsv_iolog.specs.declared.fault.LogFault.{LogFault}
-use Rattle.lsv_iolog.specs.declared.fault.LogFault.TheVariants as logs
+use Rattle.lsv_iolog.specs.declared.fault.ViewFault.{ViewFault}
+use Rattle.lsv_iolog.specs.declared.fault.ViewFault.TheVariants as views
 use Rattle.lsv_msg.specs.declared.messages.ServerMessage.{ServerMessage}
 use Rattle.lsv_play.specs.Playing.{laid_at, text_at}
 use Rattle.lsv_record.specs.Records.{elapsed}
@@ -40,16 +40,11 @@ abbrev pub IsFaulty : Source → Image → (records : List Record) → Part → 
 IsFaulty source image records part = IsFaultBehind (laid_at source.number source.body image) source.body records part ⊎ IsExitFaulty source image records part
 
 -- why a log isn't read on after these records: it is damaged there, a read failed, or memory ran out
-abbrev pub IsStuck : Source → Image → (records : List Record) → LogFault → Type 0
-IsStuck source image records (logs.Damaged part) = IsFaulty source image records part
-IsStuck source image records logs.Disk = Unit {0}
-IsStuck source image records logs.NoMem = Unit {0}
-IsStuck source image records logs.Absent = ⊥
-IsStuck source image records logs.Complete = ⊥
-IsStuck source image records (logs.NoPoint point) = ⊥
-IsStuck source image records logs.Broken = ⊥
-IsStuck source image records (logs.Full part) = ⊥
-IsStuck source image records (logs.TooLong point) = ⊥
+abbrev pub IsStuck : Source → Image → (records : List Record) → ViewFault → Type 0
+IsStuck source image records (views.Damaged part) = IsFaulty source image records part
+IsStuck source image records views.Disk = Unit {0}
+IsStuck source image records views.NoMem = Unit {0}
+IsStuck source image records views.Absent = ⊥
 
 -- a message came before all that is waited for, and it isn't taken
 pub record IsUntaken (far : Far) (sent : ℕ) (got : Option ServerMessage) (why : SendFault) : Type 0 where
@@ -64,7 +59,7 @@ knows known None = known
 knows known (Some m) = known || is_id m
 
 -- the log isn't read on after these records, where records may be said: no commit point had come after the last ones, and the message that came then, if one did, was taken
-pub record IsNotReadOn (source : Source) (image : Image) (far : Far) (records : List Record) (got : Option ServerMessage) (fault : LogFault) : Type 0 where
+pub record IsNotReadOn (source : Source) (image : Image) (far : Far) (records : List Record) (got : Option ServerMessage) (fault : ViewFault) : Type 0 where
   pub stuck : IsStuck source image records fault
   pub going : CanRecord far.place (knows far.known got)
   pub point : HasNoPoint far.place far.reached

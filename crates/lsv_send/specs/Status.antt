@@ -7,6 +7,7 @@ use Rattle.lsv_dialogue.specs.declared.ends.TalkFault.{TalkFault}
 use Rattle.lsv_dialogue.specs.declared.ends.TalkFault.TheVariants as talks
 use Rattle.lsv_iolog.specs.declared.fault.LogFault.{LogFault}
 use Rattle.lsv_iolog.specs.declared.fault.LogFault.TheVariants as logs
+use Rattle.lsv_iolog.specs.Faults.{of_view}
 use Rattle.lsv_link.specs.Link.{Continues, LinkCounts}
 use Rattle.lsv_defs.specs.Causes.{HasRisen}
 use Rattle.lsv_send.specs.declared.fault.SendFault.{SendFault}
@@ -37,7 +38,7 @@ of_log (logs.TooLong point) = Log (logs.TooLong point)
 
 -- how a run ends whose sender stops for this
 abbrev pub of_fault : SendFault → SendStatus
-of_fault (faults.Log fault) = of_log fault
+of_fault (faults.Log fault) = of_log (of_view fault)
 of_fault faults.Sink = WriteFault
 of_fault (faults.Strange point) = Refused (causes.Strange point)
 of_fault (faults.LongId n) = Refused (causes.LongId n)

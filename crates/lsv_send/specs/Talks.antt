@@ -7,7 +7,7 @@ use Rattle.lsv_disk.specs.declared.file.FileId.{FileId}
 use Rattle.lsv_info.specs.declared.times.Exit.{Exit}
 use Rattle.lsv_iolog.specs.Reading.{IsBehind, ViewState}
 use Rattle.lsv_iolog.specs.Recovered.{IsOfLog}
-use Rattle.lsv_iolog.specs.declared.fault.LogFault.TheVariants as logs
+use Rattle.lsv_iolog.specs.declared.fault.ViewFault.TheVariants as views
 use Rattle.lsv_msg.specs.declared.messages.ClientMessage.{ClientMessage}
 use Rattle.lsv_record.specs.Records.{elapsed}
 use Rattle.lsv_record.specs.declared.records.Record.{Record}
@@ -150,5 +150,5 @@ pub record Fails (disk_tells sink_tells : Type 0) (start : Begins disk_tells) (d
   pub prints : sink_tells → PrintsAt fault (lines_of (heard events)) start.printed printed
   pub sink : start.faults ≤ sink_faults
   pub sink_cause : fault ≡ faults.Sink → HasRisen start.faults sink_faults
-  pub cause : HasOwnCause (IsOfLog start.number) (fault ≡ faults.Log logs.Disk) start.disk disk
+  pub cause : HasOwnCause (IsOfLog start.number) (fault ≡ faults.Log views.Disk) start.disk disk
   pub keeps : same

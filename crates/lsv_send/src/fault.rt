@@ -3,14 +3,14 @@ ghost use Rattle.std.specs.Prelude.{◌≡◌};
 ghost use Rattle.lsv_send.specs.declared.fault.SendFault.TheVariants as faults;
 
 use lsv_base::{NoMem, Point, SinkFault};
-use lsv_iolog::LogFault;
+use lsv_iolog::ViewFault;
 use std::alloc::AllocError;
 
 /// Why a sender stops before all is sent.
 #[derive(Clone, Copy, Debug, PartialEq, Eq)]
 pub enum SendFault {
     /// The log isn't read on.
-    Log(LogFault),
+    Log(ViewFault),
     /// A line wasn't printed.
     Sink,
     /// The server committed more than was sent: this point, or the greatest if it is no time.
@@ -45,10 +45,10 @@ impl From<SinkFault> for SendFault {
     }
 }
 
-impl From<LogFault> for SendFault {
+impl From<ViewFault> for SendFault {
     ghost from_gives = { λ log fault. fault ≡ faults.Log log };
 
-    fn from(fault: LogFault) -> Self {
+    fn from(fault: ViewFault) -> Self {
         SendFault::Log(fault)
     }
 }

@@ -8,6 +8,7 @@ ghost use Rattle.lsv_dialogue.specs.declared.ends.TalkFault.TheVariants as talks
 ghost use Rattle.lsv_disk.specs.Throughout.{OnlyReads};
 ghost use Rattle.lsv_disk.specs.View.{HasOwnCause};
 ghost use Rattle.lsv_iolog.specs.declared.fault.LogFault.TheVariants as logs;
+ghost use Rattle.lsv_iolog.specs.declared.fault.ViewFault.TheVariants as views;
 ghost use Rattle.lsv_send_args.specs.Asked.{asked_in};
 ghost use Rattle.lsv_send_args.specs.Request.{Asked};
 ghost use Rattle.lsv_send_args.specs.declared.fault.Unfit.{Unfit};
@@ -113,7 +114,7 @@ fn send_log<D: Disk, L: Link, K: Sink>(
     };
     let mut sender = match open(alloc, disk, number, &request.what) {
         Ok(sender) => sender,
-        Err(fault) => return SendStatus::of_fault(SendFault::Log(fault)),
+        Err(fault) => return SendStatus::of_log(fault),
     };
     SendStatus::of_talk(talk(
         alloc,
@@ -138,7 +139,7 @@ fn talk<D: Disk, L: Link, K: Sink>(
     ensures talked { D.tells → L.tells → K.tells → (source : Source) → IsReadyOver source sender.old (D.view disk.old) → (printed : List ℕ) × (K.put sink.new ≡ K.put sink.old ++ printed)
         × Talked L.tells source (D.view disk.old).reads server.now result (record { old = L.state link.old; new = L.state link.new; before = L.counts link.old; after = L.counts link.new; printed = printed }) }
     ensures reads { D.tells → OnlyReads (D.view disk.old) (D.view disk.new) }
-    ensures disk { HasOwnCause IsOfSomeLog (result ≡ Err (talks.Speaker (stops.Log logs.Disk))) (D.view disk.old) (D.view disk.new) }
+    ensures disk { HasOwnCause IsOfSomeLog (result ≡ Err (talks.Speaker (stops.Log views.Disk))) (D.view disk.old) (D.view disk.new) }
     ensures sink { HasCause (result ≡ Err (talks.Speaker stops.Sink)) (K.faults sink.old) (K.faults sink.new) }
     ensures link { HasLinkCause (of_talk result) (L.counts link.old) (L.counts link.new) }
 {
@@ -161,7 +162,7 @@ fn talk_in<'a, D: Disk, L: Link, K: Sink>(
         × Talked L.tells source (D.view world.old.disk.now).reads server.now result (record { old = L.state link.old; new = L.state link.new; before = L.counts link.old; after = L.counts link.new; printed = printed }) }
     ensures same { (world.new.disk.ghost_name ≡ world.old.disk.ghost_name) × (world.new.sink.ghost_name ≡ world.old.sink.ghost_name) }
     ensures reads { D.tells → OnlyReads (D.view world.old.disk.now) (D.view world.new.disk.now) }
-    ensures disk { HasOwnCause IsOfSomeLog (result ≡ Err (talks.Speaker (stops.Log logs.Disk))) (D.view world.old.disk.now) (D.view world.new.disk.now) }
+    ensures disk { HasOwnCause IsOfSomeLog (result ≡ Err (talks.Speaker (stops.Log views.Disk))) (D.view world.old.disk.now) (D.view world.new.disk.now) }
     ensures sink { HasCause (result ≡ Err (talks.Speaker stops.Sink)) (K.faults world.old.sink.now) (K.faults world.new.sink.now) }
     ensures link { HasLinkCause (of_talk result) (L.counts link.old) (L.counts link.new) }
 {

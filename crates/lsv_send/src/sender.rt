@@ -7,7 +7,7 @@ ghost use Rattle.lsv_disk.specs.declared.file.Part.{Part};
 ghost use Rattle.lsv_disk.specs.declared.file.Part.TheVariants as parts;
 ghost use Rattle.lsv_iolog.specs.Faults.{IsNextFault};
 ghost use Rattle.lsv_iolog.specs.Recovered.{IsOfLog};
-ghost use Rattle.lsv_iolog.specs.declared.fault.LogFault.TheVariants as logs;
+ghost use Rattle.lsv_iolog.specs.declared.fault.ViewFault.TheVariants as views;
 ghost use Rattle.lsv_dialogue.specs.Events.{Event, all_said};
 ghost use Rattle.lsv_send.specs.Judging.{hears, hears_late, is_done, is_over, is_silent, judged, judged_id, judged_point};
 ghost use Rattle.lsv_send.specs.Lines.{line_of};
@@ -25,7 +25,7 @@ use crate::print::print;
 use lsv_base::{List, Point, Sink};
 use lsv_disk::Disk;
 use lsv_info::Exit;
-use lsv_iolog::{LogFault, LogView};
+use lsv_iolog::{LogView, ViewFault};
 use lsv_msg::{ClientMessage, ServerMessage};
 use lsv_transcript::next_messages;
 use std::alloc::Global;
@@ -147,7 +147,7 @@ impl Sender {
     }
 
     /// Hands out what may be said next.
-    pub fn say<D: Disk>(&mut self, disk: &mut D) -> Result<List<ClientMessage>, LogFault>
+    pub fn say<D: Disk>(&mut self, disk: &mut D) -> Result<List<ClientMessage>, ViewFault>
         ensures told { D.tells → IfOk result (λ ms. (source : Source) (begun : D) (events : List Event) → IsOf source self.old → Told (start_at source (D.view begun)) self.old (D.view disk.old) events → Told (start_at source (D.view begun)) self.new (D.view disk.new) (events ++ all_said ms)) }
         ensures start { IfOk result (λ _. KeepsStart self.old self.new) }
         ensures quiet { IfOk result (λ ms. ms ≡ [] → (self.old.place ≡ Place.Opening → self.old.opening ≢ []) → is_silent self.new.place self.new.known ≡ true) }
@@ -157,7 +157,7 @@ impl Sender {
         ensures going { IfErr result (λ _. CanRecord self.old.place self.old.known) }
         ensures stuck { D.tells → IfErr result (λ fault. (source : Source) (begun : D) (events : List Event) → IsOf source self.old → (t : Told (start_at source (D.view begun)) self.old (D.view disk.old) events) → IsStuck source (D.view begun).reads (source.skipped ++ t.hands.more) fault) }
         ensures fault { IfErr result IsNextFault }
-        ensures cause { HasOwnCause (IsOfLog self.old.log.number) (result ≡ Err logs.Disk) (D.view disk.old) (D.view disk.new) }
+        ensures cause { HasOwnCause (IsOfLog self.old.log.number) (result ≡ Err views.Disk) (D.view disk.old) (D.view disk.new) }
     {
         match self.place {
             Place::Opening => Ok(self.say_opening()),
@@ -180,7 +180,7 @@ impl Sender {
     }
 
     /// Hands out the next records, or after the last one the ending.
-    fn say_records<D: Disk>(&mut self, disk: &mut D) -> Result<List<ClientMessage>, LogFault>
+    fn say_records<D: Disk>(&mut self, disk: &mut D) -> Result<List<ClientMessage>, ViewFault>
         requires place { CanRecord self.old.place self.old.known }
         ensures told { D.tells → IfOk result (λ ms. (source : Source) (begun : D) (events : List Event) → IsOf source self.old → Told (start_at source (D.view begun)) self.old (D.view disk.old) events → Told (start_at source (D.view begun)) self.new (D.view disk.new) (events ++ all_said ms)) }
         ensures start { IfOk result (λ _. KeepsStart self.old self.new) }
@@ -190,7 +190,7 @@ impl Sender {
         ensures reads { D.tells → OnlyReads (D.view disk.old) (D.view disk.new) }
         ensures stuck { D.tells → IfErr result (λ fault. (source : Source) (begun : D) (events : List Event) → IsOf source self.old → (t : Told (start_at source (D.view begun)) self.old (D.view disk.old) events) → IsStuck source (D.view begun).reads (source.skipped ++ t.hands.more) fault) }
         ensures fault { IfErr result IsNextFault }
-        ensures cause { HasOwnCause (IsOfLog self.old.log.number) (result ≡ Err logs.Disk) (D.view disk.old) (D.view disk.new) }
+        ensures cause { HasOwnCause (IsOfLog self.old.log.number) (result ≡ Err views.Disk) (D.view disk.old) (D.view disk.new) }
     {
         let most = self.most();
         let batch = next_messages(self.alloc, disk, &mut self.log, most)?;
@@ -229,16 +229,16 @@ impl Sender {
     }
 
     /// Hands out the exit, if one is to be sent.
-    fn say_ending<D: Disk>(&mut self, disk: &mut D) -> Result<List<ClientMessage>, LogFault>
+    fn say_ending<D: Disk>(&mut self, disk: &mut D) -> Result<List<ClientMessage>, ViewFault>
         ensures ends { D.tells → IfOk result (λ ms. Ends self.old self.new (D.view disk.old).reads ms) }
         ensures start { IfOk result (λ _. KeepsStart self.old self.new) }
         ensures quiet { IfOk result (λ ms. ms ≡ [] → is_silent self.new.place self.new.known ≡ true) }
         ensures busy { IfOk result (λ ms. ms ≢ [] → is_done self.new.place ≡ false) }
         ensures after { IfOk result (λ _. HasSpoken self.new) }
         ensures reads { D.tells → OnlyReads (D.view disk.old) (D.view disk.new) }
-        ensures damaged { D.tells → (part : Part) → result ≡ Err (logs.Damaged part) → (part ≡ parts.Exit) × (self.old.stop ≡ None) × LacksExit self.old.log.number self.old.log.body (D.view disk.old).reads }
+        ensures damaged { D.tells → (part : Part) → result ≡ Err (views.Damaged part) → (part ≡ parts.Exit) × (self.old.stop ≡ None) × LacksExit self.old.log.number self.old.log.body (D.view disk.old).reads }
         ensures fault { IfErr result IsNextFault }
-        ensures cause { HasOwnCause (IsOfLog self.old.log.number) (result ≡ Err logs.Disk) (D.view disk.old) (D.view disk.new) }
+        ensures cause { HasOwnCause (IsOfLog self.old.log.number) (result ≡ Err views.Disk) (D.view disk.old) (D.view disk.new) }
     {
         let last = self.last_exit(disk)?;
         let is_last = last.is_some();
@@ -248,13 +248,13 @@ impl Sender {
     }
 
     /// The exit that is to be sent, if there is one.
-    fn last_exit<D: Disk>(&mut self, disk: &mut D) -> Result<Option<Exit>, LogFault>
+    fn last_exit<D: Disk>(&mut self, disk: &mut D) -> Result<Option<Exit>, ViewFault>
         ensures last { D.tells → IfOk result (IsExitBy self.old.stop self.old.log.number self.old.log.body (D.view disk.old).reads) }
         ensures same { self.new ≡ self.old }
         ensures reads { D.tells → OnlyReads (D.view disk.old) (D.view disk.new) }
-        ensures damaged { D.tells → (part : Part) → result ≡ Err (logs.Damaged part) → (part ≡ parts.Exit) × (self.old.stop ≡ None) × LacksExit self.old.log.number self.old.log.body (D.view disk.old).reads }
+        ensures damaged { D.tells → (part : Part) → result ≡ Err (views.Damaged part) → (part ≡ parts.Exit) × (self.old.stop ≡ None) × LacksExit self.old.log.number self.old.log.body (D.view disk.old).reads }
         ensures fault { IfErr result IsNextFault }
-        ensures cause { HasOwnCause (IsOfLog self.old.log.number) (result ≡ Err logs.Disk) (D.view disk.old) (D.view disk.new) }
+        ensures cause { HasOwnCause (IsOfLog self.old.log.number) (result ≡ Err views.Disk) (D.view disk.old) (D.view disk.new) }
     {
         match self.stop {
             Some(_) => Ok(None),

@@ -41,7 +41,7 @@ impl SendStatus {
     }
 
     /// How a run ends whose log is at fault.
-    fn of_log(fault: LogFault) -> Self
+    pub(crate) fn of_log(fault: LogFault) -> Self
         ensures { result ≡ of_log fault }
     {
         if fault == LogFault::NoMem {
@@ -56,7 +56,7 @@ impl SendStatus {
         ensures { result ≡ of_fault fault }
     {
         match fault {
-            SendFault::Log(fault) => SendStatus::of_log(fault),
+            SendFault::Log(fault) => SendStatus::of_log(LogFault::from(fault)),
             SendFault::NoMem => SendStatus::NoMem,
             SendFault::Sink => SendStatus::WriteFault,
             SendFault::Strange(point) => SendStatus::Refused(Cause::Strange(point)),

@@ -15,7 +15,7 @@ use Rattle.lsv_disk.specs.View.{DiskView, HasOwnCause, Image}
 use Rattle.lsv_disk.proofs.Composition.{OnlyNow, reads_trans, unchanged_reads}
 use Rattle.lsv_bundle.specs.declared.body.Body.{Body}
 use Rattle.lsv_iolog.specs.Reading.{IsFaultBehind, committed_laid}
-use Rattle.lsv_iolog.specs.declared.fault.LogFault.{LogFault}
+use Rattle.lsv_iolog.specs.declared.fault.ViewFault.{ViewFault}
 use Rattle.lsv_iolog.specs.Recovered.{IsOfLog, laid_in, owner_of}
 use Rattle.lsv_iolog.proofs.Scans.{reads_nothing}
 use Rattle.lsv_record.specs.declared.laid.Laid.{Laid}
@@ -236,7 +236,7 @@ damage_first tells start log old now records batch size reading told is none par
     image = fun_ext (λ f. unchanged_reads old now (reading.reads told).unchanged f)
 
 -- a fault that was handed on, and nothing else
-pub fault_first : (r : Result Batch LogFault) (fault other : LogFault) (none : Type 0) → IfErr r (λ e. (e ≡ fault) × none) → IsErrOf r other → (fault ≡ other) × none
+pub fault_first : (r : Result Batch ViewFault) (fault other : ViewFault) (none : Type 0) → IfErr r (λ e. (e ≡ fault) × none) → IsErrOf r other → (fault ≡ other) × none
 fault_first (Ok x) fault other none holds is = absurd (cc (is))
 fault_first (Err e) fault other none holds is = (sym holds.0 ∙ (let h : e ≡ other = cc (is) in h), holds.1)
 

@@ -6,7 +6,7 @@ ghost use Rattle.lsv_iolog.specs.Faults.{IsNextFault};
 ghost use Rattle.lsv_disk.specs.declared.file.Part.{Part};
 ghost use Rattle.lsv_iolog.specs.Reading.{IsBehind, IsFaultBehind, committed_laid};
 ghost use Rattle.lsv_iolog.specs.Recovered.{IsOfLog};
-ghost use Rattle.lsv_iolog.specs.declared.fault.LogFault.{LogFault};
+ghost use Rattle.lsv_iolog.specs.declared.fault.ViewFault.{ViewFault};
 ghost use Rattle.lsv_record.specs.Records.{IsValid, delay_of};
 ghost use Rattle.lsv_record.specs.declared.records.Record.{Record};
 ghost use Rattle.lsv_request.specs.Stored.{record_message};
@@ -14,7 +14,7 @@ ghost use Rattle.lsv_transcript.specs.Reading.{GivesNext, size_of};
 
 use lsv_base::List;
 use lsv_disk::Disk;
-use lsv_iolog::{LogFault, LogView};
+use lsv_iolog::{LogView, ViewFault};
 use lsv_msg::ClientMessage;
 use lsv_record::Record;
 use lsv_request::record_message;
@@ -43,15 +43,15 @@ pub fn next_messages<D: Disk>(
     disk: &mut D,
     log: &mut LogView,
     most: usize,
-) -> Result<Batch, LogFault>
+) -> Result<Batch, ViewFault>
     ensures gives { D.tells → IfOk result (λ batch. (records : List Record) → IsBehind log.old records (D.view disk.old) → GivesNext log.new (D.view disk.new) records batch most) }
     ensures few { IfOk result (λ batch. (length batch.messages ≤ 16) × (length batch.messages ≤ most)) }
-    ensures damaged { D.tells → (part : Part) → IsErrOf result (LogFault.Damaged part) → (records : List Record) → IsBehind log.old records (D.view disk.old)
+    ensures damaged { D.tells → (part : Part) → IsErrOf result (ViewFault.Damaged part) → (records : List Record) → IsBehind log.old records (D.view disk.old)
         → IsFaultBehind (committed_laid log.old.number log.old.body (D.view disk.old)) log.old.body records part }
     ensures same { (log.new.number ≡ log.old.number) × (log.new.head ≡ log.old.head) × (log.new.body ≡ log.old.body) }
     ensures reads { D.tells → OnlyReads (D.view disk.old) (D.view disk.new) }
     ensures fault { IfErr result IsNextFault }
-    ensures cause { HasOwnCause (IsOfLog log.old.number) (IsErrOf result LogFault.Disk) (D.view disk.old) (D.view disk.new) }
+    ensures cause { HasOwnCause (IsOfLog log.old.number) (IsErrOf result ViewFault.Disk) (D.view disk.old) (D.view disk.new) }
 {
     let mut batch = Batch {
         messages: List::new(alloc),
@@ -75,22 +75,22 @@ pub fn next_messages<D: Disk>(
 
 impl Batch {
     /// Adds the message of a record.
-    fn push(&mut self, added: Record) -> Result<(), LogFault>
+    fn push(&mut self, added: Record) -> Result<(), ViewFault>
         requires valid { IsValid added }
         ensures messages { OnOk result (self.new.messages ≡ self.old.messages ++ record_message added ∷ []) }
         ensures elapsed { OnOk result (self.new.elapsed ≡ min (self.old.elapsed + delay_of added) (2 ^ 64 - 1)) }
-        ensures fault { IfErr result (λ e. e ≡ LogFault.NoMem) }
+        ensures fault { IfErr result (λ e. e ≡ ViewFault.NoMem) }
     {
         let elapsed = self.elapsed.saturating_add(added.delay());
         if self.messages.push(record_message(added)).is_err() {
-            return Err(LogFault::NoMem);
+            return Err(ViewFault::NoMem);
         }
         self.elapsed = elapsed;
         Ok(())
     }
 
     /// The batch, or the fault that came before its first message.
-    fn unless_empty(self, fault: LogFault) -> Result<Batch, LogFault>
+    fn unless_empty(self, fault: ViewFault) -> Result<Batch, ViewFault>
         ensures ok { IfOk result (λ batch. (batch ≡ self) × (batch.messages ≢ [])) }
         ensures err { IfErr result (λ e. (e ≡ fault) × (self.messages ≡ [])) }
     {

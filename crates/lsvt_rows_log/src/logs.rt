@@ -197,7 +197,7 @@ impl Opened {
 pub fn view(rt: &HostRuntime, store: &mut Store, words: &str) -> Result<()> {
     let mut view = match LogView::open(rt.alloc(), store, number_of(words)?) {
         Ok(view) => view,
-        Err(fault) => return show(rt, Err(fault)),
+        Err(fault) => return show(rt, Err(LogFault::from(fault))),
     };
     let body = view.body();
     let mut count = 0u64;

@@ -2,7 +2,7 @@
 
 use anyhow::{Result, anyhow};
 use lsv_base::{Bytes, LogNo};
-use lsv_iolog::{LogFault, LogView};
+use lsv_iolog::{LogView, ViewFault};
 use lsv_record::{Record, lay};
 use lsvt_doubles::Hostile;
 use std::alloc::Global;
@@ -55,6 +55,6 @@ pub fn shown(alloc: Global, disk: &mut Hostile) -> Result<String> {
 
 /// Whether this is what is told of an absent log.
 pub fn is_absent(alloc: Global, text: &str) -> Result<bool> {
-    let absent = LogFault::Absent;
+    let absent = ViewFault::Absent;
     Ok(text == format!(in alloc; "{absent}")?.as_str())
 }

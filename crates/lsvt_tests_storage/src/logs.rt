@@ -7,7 +7,9 @@ ghost use Rattle.lsv_record.specs.Records.{IsValid};
 use lsv_base::{Bytes, List, LogNo, Point};
 use lsv_disk::{Claim, Disk, MemDisk};
 use lsv_info::{Exit, Head, Info};
-use lsv_iolog::{IoLog, LogFault, LogView, Renewed, a_log_is_recovered_in_one_way, logs_stay};
+use lsv_iolog::{
+    IoLog, LogFault, LogView, Renewed, ViewFault, a_log_is_recovered_in_one_way, logs_stay,
+};
 use lsv_record::{Record, Stream};
 use std::alloc::Global;
 use std::marker::PhantomData;
@@ -58,7 +60,7 @@ fn viewed<D: Disk>(
     alloc: Global,
     disk: &mut D,
     number: LogNo,
-) -> Result<(bool, bool, Renewed), LogFault> {
+) -> Result<(bool, bool, Renewed), ViewFault> {
     let mut view = LogView::open(alloc, disk, number)?;
     let has_record = view.next(disk)?.is_some() && view.next(disk)?.is_none();
     let has_exit = view.exit(disk)?.is_some();

@@ -2,7 +2,7 @@
 
 use lsv_base::LogNo;
 use lsv_disk::{Disk, Part};
-use lsv_iolog::{LogFault, LogView};
+use lsv_iolog::{LogView, ViewFault};
 use lsv_real_disk::{
     Lack, ReadOnlyDisk, Uncovered, folder_of_log, has_numbers, lack_of, uncovered_in,
 };
@@ -44,7 +44,7 @@ pub fn say_unlisted(rt: &HostRuntime, dir: &str, is_damaged: bool) {
 
 /// Says of a damaged log which part is at fault.
 fn say_if_damaged(rt: &HostRuntime, disk: &mut ReadOnlyDisk, dir: &str, number: LogNo) {
-    if let Err(LogFault::Damaged(part)) = LogView::open(rt.alloc(), disk, number) {
+    if let Err(ViewFault::Damaged(part)) = LogView::open(rt.alloc(), disk, number) {
         say_damaged(rt, dir, number, part, "; it isn't listed");
     }
 }

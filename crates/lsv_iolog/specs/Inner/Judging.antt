@@ -14,16 +14,16 @@ use Rattle.lsv_record.specs.declared.records.Stream.{Stream}
 use Rattle.lsv_record.specs.Layout.{Begins, IsLayout}
 use Rattle.lsv_record.specs.Records.{event_of, shape_of, elapsed}
 use Rattle.lsv_record.specs.Tally.{Totals, totals_of, told_count}
-use Rattle.lsv_iolog.specs.declared.fault.LogFault.{LogFault}
-use Rattle.lsv_iolog.specs.declared.fault.LogFault.TheVariants as logs
+use Rattle.lsv_iolog.specs.declared.fault.ViewFault.{ViewFault}
+use Rattle.lsv_iolog.specs.declared.fault.ViewFault.TheVariants as views
 use Rattle.lsv_iolog.specs.Reading.{AreThere}
 use Rattle.lsv_iolog.specs.Recovered.{part_of, laid_in}
 use Rattle.lsv_iolog.specs.Inner.Scanning.{text_of, Scan, IsReading, IsFirstUncounted}
 
 -- at the end of the lines: they are more or fewer or of another time, or else a stream is at fault
-abbrev pub IsEndFault : Body → Totals → LogFault → Type 0
-IsEndFault body tally fault = ((fault ≡ logs.Damaged Timing) × (body.count ≡ tally.count → body.elapsed ≡ tally.elapsed → ⊥))
-    ⊎ ((body.count ≡ tally.count) × (body.elapsed ≡ tally.elapsed) × ((s : Stream) × (fault ≡ logs.Damaged (part_of s)) × IsFirstUncounted body tally s))
+abbrev pub IsEndFault : Body → Totals → ViewFault → Type 0
+IsEndFault body tally fault = ((fault ≡ views.Damaged Timing) × (body.count ≡ tally.count → body.elapsed ≡ tally.elapsed → ⊥))
+    ⊎ ((body.count ≡ tally.count) × (body.elapsed ≡ tally.elapsed) × ((s : Stream) × (fault ≡ views.Damaged (part_of s)) × IsFirstUncounted body tally s))
 
 -- the lines so far are no more, and of no more time, than the entry says
 pub record IsWithin (body : Body) (tally : Totals) : Type 0 where

@@ -2,8 +2,8 @@
 use Rattle.std.proofs.Common.{◌≡◌, ◌≢◌, ◌∙◌, ◌+◌, ◌++◌, ℕ, List, [], ◌∷◌, Result, Ok, Err, IsErrOf, refl, sym, arith}
 use Rattle.lsv_disk.specs.View.{DiskView}
 use Rattle.lsv_disk.proofs.Composition.{reads_trans}
-use Rattle.lsv_iolog.specs.declared.fault.LogFault.{LogFault}
-use Rattle.lsv_iolog.specs.declared.fault.LogFault.TheVariants as logs
+use Rattle.lsv_iolog.specs.declared.fault.ViewFault.{ViewFault}
+use Rattle.lsv_iolog.specs.declared.fault.ViewFault.TheVariants as views
 use Rattle.lsv_record.specs.declared.records.Record.{Record}
 use Rattle.lsv_play.specs.declared.fault.PlayFault.TheVariants as plays
 use Rattle.lsv_play.proofs.Played.{own_cause, own_none, screen_cause, screen_none}
@@ -38,7 +38,7 @@ returns-in_err-seen-clause-followed g c told has =
     let puts = look_fails g.D.Disk.tells g.S.Screen.tells c.args.o.now c.args.log.now.view c.looks.log.view (g.D.Disk.view c.args.disk.now) (g.D.Disk.view c.looks.disk) (g.S.Screen.shown c.args.screen.now) (g.S.Screen.shown c.looks.screen)
     (g.S.Screen.faults c.args.screen.now) (g.S.Screen.faults c.looks.screen) c.looks.quiet c.looks.invariant told c.from_residual.result e c.from_residual.ensures.1 c.in_err-seen.ensures.fault
     (λ s m at. never_cut c.args.log.now.view c.looks.log.view old now s m c.looks.invariant.number c.looks.invariant.cuts (c.looks.invariant.reads told) has (c.in_err-seen.ensures.resumed told s m (fault_is {T = Seen} e (faults.Resumed s m) at)))
-    (λ at. never_absent c.args.log.now.view c.looks.log.view old now c.looks.invariant.number (c.looks.invariant.reads told) has (c.in_err-seen.ensures.absent told (fault_is {T = Seen} e (faults.Log logs.Absent) at)))
+    (λ at. never_absent c.args.log.now.view c.looks.log.view old now c.looks.invariant.number (c.looks.invariant.reads told) has (c.in_err-seen.ensures.absent told (fault_is {T = Seen} e (faults.Log views.Absent) at)))
     (λ log rs on fault at. c.in_err-seen.ensures.undamaged told log log rs on fault (fault_is {T = Seen} e (faults.Log fault) at)) in
     (puts.put, puts.put_is, puts.follows)
 
@@ -48,7 +48,7 @@ returns-in_err-seen-clause-reads g c told = reads_trans (g.D.Disk.view c.args.di
 pub returns-in_err-seen-clause-disk : goal.returns-in_err-seen-clause-disk
 returns-in_err-seen-clause-disk g c =
     own_cause c.args.log.now.view.number c.looks.log.view.number _ _ (g.D.Disk.view c.args.disk.now) (g.D.Disk.view c.looks.disk) (g.D.Disk.view c.next.new.disk) c.looks.invariant.number c.looks.invariant.disk c.in_err-seen.ensures.cause
-    (λ is. fault_is {T = Seen} c.in_err-seen.field-0.0 (faults.Log logs.Disk) (look_disk c.in_err-seen.field-0.0 (end_same c.from_residual.result (of_look c.in_err-seen.field-0.0) (ends.Fault plays.Disk) c.from_residual.ensures.1 is)))
+    (λ is. fault_is {T = Seen} c.in_err-seen.field-0.0 (faults.Log views.Disk) (look_disk c.in_err-seen.field-0.0 (end_same c.from_residual.result (of_look c.in_err-seen.field-0.0) (ends.Fault plays.Disk) c.from_residual.ensures.1 is)))
 
 pub returns-in_err-seen-clause-screen : goal.returns-in_err-seen-clause-screen
 returns-in_err-seen-clause-screen g c =

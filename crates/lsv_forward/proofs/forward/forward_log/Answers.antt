@@ -3,7 +3,7 @@ use Rattle.std.proofs.Common.{◌≡◌, ◌∙◌, ℕ, List, true, false, refl
 use Rattle.lsv_bundle.specs.declared.fault.BundleFault.TheVariants as bundles
 use Rattle.lsv_disk.specs.View.{DiskView}
 use Rattle.lsv_iolog.specs.Recovered.{IsOfLog}
-use Rattle.lsv_iolog.specs.declared.fault.LogFault.TheVariants as logs
+use Rattle.lsv_iolog.specs.declared.fault.ViewFault.TheVariants as logs
 use Rattle.lsv_kept.specs.Kept.{IsAsBefore, IsOfRelay}
 use Rattle.lsv_kept.specs.Value.{is_done}
 use Rattle.lsv_link.specs.Link.{LinkState}

@@ -8,10 +8,10 @@ use Rattle.lsv_record.specs.declared.records.Shaped.{Shaped}
 use Rattle.lsv_record.specs.Lines.{IsLineAt}
 use Rattle.lsv_record.specs.Records.{IsGood}
 use Rattle.lsv_record.specs.Tally.{with_line}
-use Rattle.lsv_iolog.specs.declared.fault.LogFault.{LogFault}
-use Rattle.lsv_iolog.specs.declared.fault.LogFault.TheVariants as logs
+use Rattle.lsv_iolog.specs.declared.fault.ViewFault.{ViewFault}
+use Rattle.lsv_iolog.specs.declared.fault.ViewFault.TheVariants as views
 use Rattle.lsv_iolog.specs.Inner.Scanning.{text_of, IsReading, IsBadLine}
-use Rattle.lsv_iolog.proofs.Results.{same_log_fault}
+use Rattle.lsv_iolog.proofs.Results.{same_fault}
 use Rattle.lsv_iolog.proofs.Scans.{scanning_starts, scanning_goes_on, scan_bad, if_some_at, text_same}
 use Rattle.lsv_iolog.proofs.open.read_timing.Goals as goal
 
@@ -45,8 +45,8 @@ returns-in_err-next-clause-damaged g c told is_damaged long lines good same in_t
     let now : DiskView = g.D.Disk.view c.loop-lines.disk in
     let inv = c.loop-lines.invariant in
     let text : text_of c.loop-lines.lines.view now Timing ≡ text_of c.args.view old Timing = ap (λ (v : View). text_of v now Timing) inv.view_is ∙ text_same c.args.view old now Timing (inv.reads told) in
-    let fault : c.in_err-next.field-0.0 ≡ logs.Damaged Timing = same_log_fault c.from_residual.result c.in_err-next.field-0.0 (logs.Damaged Timing) c.from_residual.ensures.1 is_damaged in
+    let fault : c.in_err-next.field-0.0 ≡ views.Damaged Timing = same_fault c.from_residual.result c.in_err-next.field-0.0 (views.Damaged Timing) c.from_residual.ensures.1 is_damaged in
     let bad : IsBadLine (text_of c.loop-lines.lines.view now Timing) c.loop-lines.lines.tally =
-    c.in_err-next.ensures.bad told (ap (λ (x : LogFault). let y : Result (Option Shaped) LogFault = Err x in y) fault) (inv.reading told)
+    c.in_err-next.ensures.bad told (ap (λ (x : ViewFault). let y : Result (Option Shaped) ViewFault = Err x in y) fault) (inv.reading told)
     (ap length text ∙ long ∙ ap (λ (v : View). length_of v.body Timing) (sym inv.view_is)) in
     scan_bad (text_of c.args.view old Timing) c.loop-lines.lines.tally (inv.scanned told) (subst (λ (xs : List ℕ). IsBadLine xs c.loop-lines.lines.tally) text bad) lines good same in_time few

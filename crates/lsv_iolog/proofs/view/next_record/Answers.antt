@@ -12,7 +12,7 @@ use Rattle.lsv_record.specs.Lines.{IsLineAt}
 use Rattle.lsv_defs.specs.Pieces.{piece}
 use Rattle.lsv_record.specs.Records.{IsGood, event_of}
 use Rattle.lsv_record.specs.Tally.{Totals, with_line, told_count}
-use Rattle.lsv_iolog.specs.declared.fault.LogFault.TheVariants as logs
+use Rattle.lsv_iolog.specs.declared.fault.ViewFault.TheVariants as views
 use Rattle.lsv_iolog.specs.Recovered.{laid_in, part_of}
 use Rattle.lsv_iolog.specs.Reading.{IsFaultBehind}
 use Rattle.lsv_iolog.specs.Inner.Scanning.{text_of, Scan, IsReading, AllCounted}
@@ -22,23 +22,23 @@ use Rattle.lsv_iolog.proofs.Viewing.{err_is, err_of, text_long}
 use Rattle.lsv_iolog.proofs.Giving.{behind_same, behind_more, bad_behind, over_behind, lacks_behind, ends_behind, whole_behind, ending_sound, going_sound, reading_on, timing_alone, IsRecordOf}
 use Rattle.lsv_iolog.proofs.view.next_record.Goals as goal
 
-one_part : (a b : Part) → logs.Damaged a ≡ logs.Damaged b → a ≡ b
+one_part : (a b : Part) → views.Damaged a ≡ views.Damaged b → a ≡ b
 one_part a b e = cc
 
 pub returns-in_err-told-clause-damaged : goal.returns-in_err-told-clause-damaged
 returns-in_err-told-clause-damaged g c told part is rs behind =
     let disk : DiskView = g.D.Disk.view c.args.disk.now in
     let lines : Scan = c.args.lines.now in
-    let e : c.in_err-told.field-0.0 ≡ logs.Damaged part = err_is c.from_residual.result c.in_err-told.field-0.0 (logs.Damaged part) c.from_residual.ensures.1 is in
+    let e : c.in_err-told.field-0.0 ≡ views.Damaged part = err_is c.from_residual.result c.in_err-told.field-0.0 (views.Damaged part) c.from_residual.ensures.1 is in
     let at : Timing ≡ part = timing_alone c.in_err-told.field-0.0 part e c.in_err-told.ensures.fault in
     subst (IsFaultBehind (laid_in (text_of lines.view disk)) lines.view.body rs) at
-    (bad_behind lines rs disk behind (c.in_err-told.ensures.bad told (err_of {T = Option Shaped} c.in_err-told.field-0.0 (logs.Damaged Timing) (e ∙ ap logs.Damaged (sym at))) behind.window (text_long lines.view disk Timing (behind.there Timing tt))))
+    (bad_behind lines rs disk behind (c.in_err-told.ensures.bad told (err_of {T = Option Shaped} c.in_err-told.field-0.0 (views.Damaged Timing) (e ∙ ap views.Damaged (sym at))) behind.window (text_long lines.view disk Timing (behind.there Timing tt))))
 
 pub returns-in_err-check_end-clause-damaged : goal.returns-in_err-check_end-clause-damaged
 returns-in_err-check_end-clause-damaged g c told part is rs behind =
     let disk : DiskView = g.D.Disk.view c.args.disk.now in
     let lines : Scan = c.args.lines.now in
-    let e = err_is c.from_residual-in_err-check_end.result c.in_err-check_end.field-0.0 (logs.Damaged part) c.from_residual-in_err-check_end.ensures.1 is in
+    let e = err_is c.from_residual-in_err-check_end.result c.in_err-check_end.field-0.0 (views.Damaged part) c.from_residual-in_err-check_end.ensures.1 is in
     let end : lines.tally.timing ≡ length_of lines.view.body Timing = if_none_at c.in_ok-told.field-0 (lines.tally.timing ≡ length_of lines.view.body Timing) (none_there c.in_ok-told.field-0 c.in_default.not-Some) c.in_ok-told.ensures.end in
     let fault : IsEndFault lines.view.body lines.tally c.in_err-check_end.field-0.0 =
     subst (λ (v : View). IsEndFault v.body lines.tally c.in_err-check_end.field-0.0) c.view-view.ensures
@@ -68,7 +68,7 @@ returns-in_err-check_within-clause-damaged g c told part is rs behind =
     let lines : Scan = c.args.lines.now in
     let new : Scan = c.next.new.self in
     let line : Shaped = c.in-Some.told in
-    let e = err_is c.from_residual-in_err-check_within.result c.in_err-check_within.field-0.0 (logs.Damaged part) c.from_residual-in_err-check_within.ensures.1 is in
+    let e = err_is c.from_residual-in_err-check_within.result c.in_err-check_within.field-0.0 (views.Damaged part) c.from_residual-in_err-check_within.ensures.1 is in
     let at : Timing ≡ part = one_part Timing part (sym c.in_err-check_within.ensures.fault.0 ∙ e) in
     let stands : IsLineAt (text_of lines.view disk Timing) lines.tally.timing line new.tally.timing =
     if_some_at c.in_ok-told.field-0 line (λ t. IsReading lines disk → IsLineAt (text_of lines.view disk Timing) lines.tally.timing t new.tally.timing) c.in-Some.is (c.in_ok-told.ensures.line told) behind.window in
@@ -85,7 +85,7 @@ returns-in_err-record-clause-damaged g c told part is rs behind =
     let lines : Scan = c.args.lines.now in
     let new : Scan = c.next.new.self in
     let line : Shaped = c.in-Some.told in
-    let e = err_is c.from_residual-in_err-record.result c.in_err-record.field-0.0 (logs.Damaged part) c.from_residual-in_err-record.ensures.1 is in
+    let e = err_is c.from_residual-in_err-record.result c.in_err-record.field-0.0 (views.Damaged part) c.from_residual-in_err-record.ensures.1 is in
     let stands : IsLineAt (text_of lines.view disk Timing) lines.tally.timing line new.tally.timing =
     if_some_at c.in_ok-told.field-0 line (λ t. IsReading lines disk → IsLineAt (text_of lines.view disk Timing) lines.tally.timing t new.tally.timing) c.in-Some.is (c.in_ok-told.ensures.line told) behind.window in
     let taken = if_some_at c.in_ok-told.field-0 line (λ t. IsGood t × (new.tally ≡ with_line lines.tally t)) c.in-Some.is c.in_ok-told.ensures.taken in
@@ -96,7 +96,7 @@ returns-in_err-record-clause-damaged g c told part is rs behind =
     subst (λ (v : View). LacksIn v lines.tally new.tally line later part) c.view-view.ensures
     (subst (λ (t : Totals). LacksIn c.view-view.result t new.tally line later part) c.tally-before.ensures.tally
     (subst (λ (t : Totals). LacksIn c.view-view.result c.tally-before.result t line later part) c.tally-after.ensures.tally
-    (c.in_err-record.ensures.lacks told part (err_of {T = Record} c.in_err-record.field-0.0 (logs.Damaged part) e)))) in
+    (c.in_err-record.ensures.lacks told part (err_of {T = Record} c.in_err-record.field-0.0 (views.Damaged part) e)))) in
     lacks_behind lines rs disk later line new.tally.timing new.tally part behind (c.next.ensures.reads told) stands taken.1 within lacks
 
 pub returns-clause-given : goal.returns-clause-given

@@ -2,7 +2,7 @@
 use Rattle.std.proofs.Common.{◌≡◌, ◌∙◌, [], append-nil, arith, sym}
 use Rattle.lsv_disk.specs.View.{DiskView}
 use Rattle.lsv_disk.proofs.Composition.{reads_trans}
-use Rattle.lsv_iolog.specs.declared.fault.LogFault.TheVariants as logs
+use Rattle.lsv_iolog.specs.declared.fault.ViewFault.TheVariants as views
 use Rattle.lsv_iolog.proofs.Viewing.{err_of}
 use Rattle.lsv_play.specs.Faults.{of_log}
 use Rattle.lsv_play.specs.declared.fault.PlayFault.TheVariants as faults
@@ -13,14 +13,14 @@ pub returns-in_err-log-clause-played : goal.returns-in_err-log-clause-played
 returns-in_err-log-clause-played g c told = (
   [],
   λ told_too. sym (append-nil (g.S.Screen.shown c.args.screen.now)),
-  open_fails c.args.o.now c.args.number (g.D.Disk.view c.args.disk.now).reads c.from_residual.result c.in_err-log.field-0.0 c.from_residual.ensures.1 c.in_err-log.ensures.fault
-      (λ at. c.in_err-log.ensures.absent told (err_of c.in_err-log.field-0.0 logs.Absent at)) (λ part at. c.in_err-log.ensures.damaged told part (err_of c.in_err-log.field-0.0 (logs.Damaged part) at)),
+  open_fails c.args.o.now c.args.number (g.D.Disk.view c.args.disk.now).reads c.from_residual.result c.in_err-log.field-0.0 c.from_residual.ensures.1
+      (λ at. c.in_err-log.ensures.absent told (err_of c.in_err-log.field-0.0 views.Absent at)) (λ part at. c.in_err-log.ensures.damaged told part (err_of c.in_err-log.field-0.0 (views.Damaged part) at)),
 )
 
 pub returns-in_err-log-clause-disk : goal.returns-in_err-log-clause-disk
 returns-in_err-log-clause-disk g c = record {
   monotone = c.in_err-log.ensures.cause.monotone;
-  risen = λ is. c.in_err-log.ensures.cause.risen (err_of c.in_err-log.field-0.0 logs.Disk (log_disk c.in_err-log.field-0.0 (err_same c.from_residual.result (of_log c.in_err-log.field-0.0) faults.Disk c.from_residual.ensures.1 is)));
+  risen = λ is. c.in_err-log.ensures.cause.risen (err_of c.in_err-log.field-0.0 views.Disk (log_disk c.in_err-log.field-0.0 (err_same c.from_residual.result (of_log c.in_err-log.field-0.0) faults.Disk c.from_residual.ensures.1 is)));
 }
 
 pub returns-in_err-log-clause-screen : goal.returns-in_err-log-clause-screen

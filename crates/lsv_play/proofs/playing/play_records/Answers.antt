@@ -1,7 +1,7 @@
 -- Each record that the log gives is put; its end, or a fault, ends the playing.
 use Rattle.std.proofs.Common.{◌≡◌, ◌∙◌, ◌++◌, ℕ, List, [], ◌∷◌, Option, Some, Result, Err, refl}
 use Rattle.lsv_disk.proofs.Composition.{reads_trans}
-use Rattle.lsv_iolog.specs.declared.fault.LogFault.TheVariants as logs
+use Rattle.lsv_iolog.specs.declared.fault.ViewFault.TheVariants as views
 use Rattle.lsv_iolog.specs.Reading.{IsBehind, IsWhole}
 use Rattle.lsv_iolog.proofs.Scans.{if_none_at, if_some_at, none_there}
 use Rattle.lsv_iolog.proofs.Viewing.{err_of}
@@ -32,7 +32,7 @@ pub returns-in_err-record-clause-played : goal.returns-in_err-record-clause-play
 returns-in_err-record-clause-played g c told fresh =
     let puts = next_fails g.D.Disk.tells g.S.Screen.tells c.args.o.now c.args.log.now c.records.log (g.D.Disk.view c.args.disk.now) (g.D.Disk.view c.records.disk) (g.S.Screen.shown c.args.screen.now) (g.S.Screen.shown c.records.screen)
     (g.S.Screen.faults c.args.screen.now) (g.S.Screen.faults c.records.screen) c.records.invariant told fresh c.from_residual.result c.in_err-record.field-0.0 c.from_residual.ensures.1 c.in_err-record.ensures.fault
-    (λ part at. c.in_err-record.ensures.damaged told part (err_of {T = Option Record} c.in_err-record.field-0.0 (logs.Damaged part) at)) in
+    (λ part at. c.in_err-record.ensures.damaged told part (err_of {T = Option Record} c.in_err-record.field-0.0 (views.Damaged part) at)) in
     (puts.put, puts.put_is, puts.plays)
 
 pub returns-in_err-record-clause-reads : goal.returns-in_err-record-clause-reads
@@ -42,7 +42,7 @@ returns-in_err-record-clause-reads g c told =
 pub returns-in_err-record-clause-disk : goal.returns-in_err-record-clause-disk
 returns-in_err-record-clause-disk g c =
     own_cause c.args.log.now.number c.records.log.number _ _ (g.D.Disk.view c.args.disk.now) (g.D.Disk.view c.records.disk) (g.D.Disk.view c.next.new.disk) c.records.invariant.number c.records.invariant.disk c.in_err-record.ensures.cause
-    (λ is. err_of {T = Option Record} c.in_err-record.field-0.0 logs.Disk (log_disk c.in_err-record.field-0.0 (err_same c.from_residual.result (of_log c.in_err-record.field-0.0) faults.Disk c.from_residual.ensures.1 is)))
+    (λ is. err_of {T = Option Record} c.in_err-record.field-0.0 views.Disk (log_disk c.in_err-record.field-0.0 (err_same c.from_residual.result (of_log c.in_err-record.field-0.0) faults.Disk c.from_residual.ensures.1 is)))
 
 pub returns-in_err-record-clause-screen : goal.returns-in_err-record-clause-screen
 returns-in_err-record-clause-screen g c =

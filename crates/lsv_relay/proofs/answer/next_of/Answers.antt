@@ -1,7 +1,7 @@
 use Rattle.std.proofs.Common.{inl, inr, refl}
 use Rattle.lsv_disk.specs.declared.file.Part.TheVariants.{Exit as ExitPart}
 use Rattle.lsv_iolog.specs.Recovered as logs
-use Rattle.lsv_iolog.specs.declared.fault.LogFault.TheVariants as reads
+use Rattle.lsv_iolog.specs.declared.fault.ViewFault.TheVariants as reads
 use Rattle.lsv_relay.specs.Faults.{IsLogFault, of_log}
 use Rattle.lsv_relay.proofs.Causes.{damage_of, err_is, exit_cause, exit_fault, log_own, next_cause, next_fault, read_cause_back, that_err}
 use Rattle.lsv_relay.proofs.Reading.{ends_whole, log_next, same_log, whole_further}

@@ -3,7 +3,7 @@ use Rattle.lsv_disk.proofs.Composition.{cause_second}
 use Rattle.std.specs.Prelude.{IsErrOf, ℕ}
 use Rattle.lsv_disk.specs.View.{HasOwnCause}
 use Rattle.lsv_iolog.specs.Recovered as logs
-use Rattle.lsv_iolog.specs.declared.fault.LogFault.TheVariants as reads
+use Rattle.lsv_iolog.specs.declared.fault.ViewFault.TheVariants as reads
 use Rattle.lsv_relay.specs.Faults.{IsLogCause, IsLogFault, of_log}
 use Rattle.lsv_relay.specs.declared.fault.RelayFault.TheVariants as faults
 use Rattle.lsv_relay.proofs.Causes.{damage_of, err_is, log_cause_back, log_own, next_cause, next_fault, read_log_cause, that_err, that_relay, view_cause}

@@ -1,5 +1,5 @@
 use Rattle.lsv_iolog.specs.Recovered as logs
-use Rattle.lsv_iolog.specs.declared.fault.LogFault.TheVariants as reads
+use Rattle.lsv_iolog.specs.declared.fault.ViewFault.TheVariants as reads
 use Rattle.lsv_relay.specs.Faults.{IsLogFault, of_log}
 use Rattle.lsv_relay.specs.declared.fault.RelayFault.TheVariants as faults
 use Rattle.lsv_relay.proofs.Causes.{err_is, log_err, log_own, not_incomplete, view_fault}
@@ -17,7 +17,7 @@ pub returns-in_err-log-clause-incomplete : goal.returns-in_err-log-clause-incomp
 returns-in_err-log-clause-incomplete g c told is = absurd (not_incomplete c.in_err-log.field-0.0 (err_same c.from_residual.result (of_log c.in_err-log.field-0.0) faults.Incomplete c.from_residual.ensures.1 is))
 
 pub returns-in_err-log-clause-fault : goal.returns-in_err-log-clause-fault
-returns-in_err-log-clause-fault g c = err_is c.from_residual.result (of_log c.in_err-log.field-0.0) IsLogFault c.from_residual.ensures.1 (view_fault c.in_err-log.field-0.0 c.in_err-log.ensures.fault)
+returns-in_err-log-clause-fault g c = err_is c.from_residual.result (of_log c.in_err-log.field-0.0) IsLogFault c.from_residual.ensures.1 (view_fault c.in_err-log.field-0.0)
 
 pub returns-in_err-log-clause-cause : goal.returns-in_err-log-clause-cause
 returns-in_err-log-clause-cause g c =

@@ -4,7 +4,7 @@ use Rattle.lsv_base.specs.Time.{nanos_of}
 use Rattle.lsv_disk.specs.declared.file.Part.{Part}
 use Rattle.lsv_disk.specs.View.{DiskView}
 use Rattle.lsv_info.specs.declared.times.Head.{Head}
-use Rattle.lsv_iolog.specs.declared.fault.LogFault.TheVariants as logs
+use Rattle.lsv_iolog.specs.declared.fault.ViewFault.TheVariants as views
 use Rattle.lsv_iolog.proofs.Viewing.{err_of}
 use Rattle.lsv_play.specs.Playing.{IsOpened}
 use Rattle.lsv_play.proofs.Played.{opened_log}
@@ -33,6 +33,6 @@ returns-in-Err-clause-listed g c told searched steps =
       [],
       λ told_too. sym (append-nil (g.S.Screen.shown c.args.screen.now)),
       subst (λ (r : Result (Option Part) ListFault). ListsOne searched old.reads c.args.number r []) (sym c.damage_of.ensures)
-          (one_of_fault searched old.reads c.args.number c.in-Err.fault c.in-Err.ensures.fault
-          (λ at. c.in-Err.ensures.absent told (err_of c.in-Err.fault logs.Absent at)) (λ part at. c.in-Err.ensures.damaged told part (err_of c.in-Err.fault (logs.Damaged part) at))),
+          (one_of_fault searched old.reads c.args.number c.in-Err.fault
+          (λ at. c.in-Err.ensures.absent told (err_of c.in-Err.fault views.Absent at)) (λ part at. c.in-Err.ensures.damaged told part (err_of c.in-Err.fault (views.Damaged part) at))),
     )

@@ -8,7 +8,7 @@ pub returns-in-Err-clause-sends : goal.returns-in-Err-clause-sends
 returns-in-Err-clause-sends g c = λ d l k. (
   [],
   sym (append-nil (g.K.Sink.put c.args.sink.now)),
-  sends_nothing _ (asked_in c.args.request.now) _ c.in-Some.number _ c.in-Err.fault _ _ (sym (c.in-Some.ensures.computed ∙ ap log_no_in c.as_slice.ensures)) c.of_fault.ensures (c.in-Err.ensures.not d) (record { link = refl; printed = refl }),
+  sends_nothing _ (asked_in c.args.request.now) _ c.in-Some.number _ c.in-Err.fault _ _ (sym (c.in-Some.ensures.computed ∙ ap log_no_in c.as_slice.ensures)) c.of_log.ensures (c.in-Err.ensures.not d) (record { link = refl; printed = refl }),
 )
 
 pub talk-requires : goal.talk-requires

@@ -2,7 +2,7 @@ use Rattle.std.proofs.Common.{◌≡◌, ◌≤◌, ◌∙◌, ◌++◌, ◌∷�
 use Rattle.lsv_iolog.specs.Reading.{IsBehind, IsWhole}
 use Rattle.lsv_iolog.proofs.Scans.{if_none_at, if_some_at}
 use Rattle.lsv_iolog.proofs.Viewing.{err_of}
-use Rattle.lsv_iolog.specs.declared.fault.LogFault.TheVariants as faults
+use Rattle.lsv_iolog.specs.declared.fault.ViewFault.TheVariants as faults
 use Rattle.lsv_msg.specs.declared.messages.ClientMessage.{ClientMessage}
 use Rattle.lsv_record.specs.declared.records.Record.{Record}
 use Rattle.lsv_transcript.proofs.Points.{IsGiving, damage_first, fault_first, given_all, gives_end, gives_one, length_more, reading_goes_on, some_size}

@@ -4,8 +4,8 @@ use Rattle.lsv_disk.specs.View.{DiskView}
 use Rattle.lsv_disk.proofs.Composition.{reads_trans}
 use Rattle.lsv_bundle.specs.declared.body.Body.{Body}
 use Rattle.lsv_record.specs.declared.records.Record.{Record}
-use Rattle.lsv_iolog.specs.declared.fault.LogFault.{LogFault}
-use Rattle.lsv_iolog.specs.declared.fault.LogFault.TheVariants as logs
+use Rattle.lsv_iolog.specs.declared.fault.ViewFault.{ViewFault}
+use Rattle.lsv_iolog.specs.declared.fault.ViewFault.TheVariants as views
 use Rattle.lsv_iolog.specs.Reading.{IsBehind, IsWhole, ViewState}
 use Rattle.lsv_iolog.proofs.Scans.{if_none_at, if_some_at}
 use Rattle.lsv_iolog.proofs.Viewing.{err_of}
@@ -33,28 +33,28 @@ returns-in_err-record-clause-undamaged g c told was now shown on fault at =
     let old : DiskView = g.D.Disk.view c.args.disk.now in
     let mid : DiskView = g.D.Disk.view c.renew.new.disk in
     let v : ViewState = c.renew.new.self.view in
-    let e : LogFault = c.in_err-record.field-0.0 in
+    let e : ViewFault = c.in_err-record.field-0.0 in
     let same = same_image old mid (c.renew.ensures.reads told) in
     let behind : IsBehind v shown mid = c.in_ok-renew.ensures.behind told was now shown on in
     let is = next_fault e c.in_err-record.ensures.fault in
     disk_alone e fault (same_fault c.from_residual-in_err-record.result (of_log e) (Log fault) c.from_residual-in_err-record.ensures.1 at)
-    (open_fault e is.1 is.0
+    (open_fault e is
     (λ part damaged. no_fault c.args.self.now.view v old now (c.in_ok-renew.ensures.renewed told) on.holds shown part (behind_same v shown old mid same behind)
-    (fault_same v shown part old mid same (c.in_err-record.ensures.damaged told part (err_of {T = Option Record} e (logs.Damaged part) damaged) shown behind))))
+    (fault_same v shown part old mid same (c.in_err-record.ensures.damaged told part (err_of {T = Option Record} e (views.Damaged part) damaged) shown behind))))
 
 pub returns-in_err-record-clause-damaged : goal.returns-in_err-record-clause-damaged
 returns-in_err-record-clause-damaged g c told part at =
     let old : DiskView = g.D.Disk.view c.args.disk.now in
     let mid : DiskView = g.D.Disk.view c.renew.new.disk in
     let v : ViewState = c.renew.new.self.view in
-    let e : LogFault = c.in_err-record.field-0.0 in
+    let e : ViewFault = c.in_err-record.field-0.0 in
     let same = same_image old mid (c.renew.ensures.reads told) in
-    let is = damaged_is e part (same_fault c.from_residual-in_err-record.result (of_log e) (Log (logs.Damaged part)) c.from_residual-in_err-record.ensures.1 at) in
+    let is = damaged_is e part (same_fault c.from_residual-in_err-record.result (of_log e) (Log (views.Damaged part)) c.from_residual-in_err-record.ensures.1 at) in
     inr (inr (record {
       next = v;
       renewed = c.in_ok-renew.ensures.renewed told;
       fault = λ records behind. fault_same v records part old mid same
-          (c.in_err-record.ensures.damaged told part (err_of {T = Option Record} e (logs.Damaged part) is) records (behind_same v records mid old (sym same) behind));
+          (c.in_err-record.ensures.damaged told part (err_of {T = Option Record} e (views.Damaged part) is) records (behind_same v records mid old (sym same) behind));
     }))
 
 pub returns-in-Some-clause-sees : goal.returns-in-Some-clause-sees

@@ -1,7 +1,7 @@
 -- A log is opened with nothing shown, and isn't damaged if the disk holds it.
 use Rattle.std.proofs.Common.{◌≡◌, ◌⊎◌, refl, sym, subst}
-use Rattle.lsv_iolog.specs.declared.fault.LogFault.{LogFault}
-use Rattle.lsv_iolog.specs.declared.fault.LogFault.TheVariants as logs
+use Rattle.lsv_iolog.specs.declared.fault.ViewFault.{ViewFault}
+use Rattle.lsv_iolog.specs.declared.fault.ViewFault.TheVariants as views
 use Rattle.lsv_iolog.proofs.Viewing.{err_of}
 use Rattle.lsv_play.proofs.Undamaged.{no_view_damage}
 use Rattle.lsv_follow.proofs.Causes.{if_err_at, open_fault}
@@ -11,11 +11,11 @@ use Rattle.lsv_follow.proofs.follow.Follow.open.Goals as goal
 pub returns-in_err-view-clause-undamaged : goal.returns-in_err-view-clause-undamaged
 returns-in_err-view-clause-undamaged g c told log holds =
     let image = (g.D.Disk.view c.args.disk.now).reads in
-    let e : LogFault = c.in_err-view.field-0.0 in
-    let is = open_fault e c.in_err-view.ensures.fault
-    (λ at. not_absent c.args.number image log holds (c.in_err-view.ensures.absent told (err_of e logs.Absent at)))
-    (λ part at. no_view_damage c.args.number image log holds part (c.in_err-view.ensures.damaged told part (err_of e (logs.Damaged part) at))) in
-    if_err_at c.from_residual.result e (λ x. (x ≡ logs.Disk) ⊎ (x ≡ logs.NoMem)) c.from_residual.ensures.1 (λ x at. subst (λ (y : LogFault). (y ≡ logs.Disk) ⊎ (y ≡ logs.NoMem)) (sym at) is)
+    let e : ViewFault = c.in_err-view.field-0.0 in
+    let is = open_fault e
+    (λ at. not_absent c.args.number image log holds (c.in_err-view.ensures.absent told (err_of e views.Absent at)))
+    (λ part at. no_view_damage c.args.number image log holds part (c.in_err-view.ensures.damaged told part (err_of e (views.Damaged part) at))) in
+    if_err_at c.from_residual.result e (λ x. (x ≡ views.Disk) ⊎ (x ≡ views.NoMem)) c.from_residual.ensures.1 (λ x at. subst (λ (y : ViewFault). (y ≡ views.Disk) ⊎ (y ≡ views.NoMem)) (sym at) is)
 
 pub returns-clause-shows : goal.returns-clause-shows
 returns-clause-shows g c told log holds = record {

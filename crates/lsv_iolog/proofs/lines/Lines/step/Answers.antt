@@ -5,7 +5,7 @@ use Rattle.lsv_bundle.specs.Body.{length_of}
 use Rattle.lsv_record.specs.declared.records.Shaped.{Shaped}
 use Rattle.lsv_record.specs.declared.tally.TimingFault.{TimingFault}
 use Rattle.lsv_record.specs.Lines.{IsWindow, IsLineAt}
-use Rattle.lsv_iolog.specs.declared.fault.LogFault.TheVariants as logs
+use Rattle.lsv_iolog.specs.declared.fault.ViewFault.TheVariants as views
 use Rattle.lsv_iolog.specs.Reading.{IsWindowOf}
 use Rattle.lsv_iolog.specs.Inner.Scanning.{Scan, IsBadLine}
 use Rattle.lsv_iolog.proofs.Windows.{window_rest, slice_rest}
@@ -49,7 +49,7 @@ returns-in_err-line-clause-bad c is_damaged text is short =
     subst (λ (xs : List ℕ). IsWindow text was.tally.timing xs c.is_last-is_last.result) (sym (slice_rest c.as_slice.result.now from)) (
     subst (λ (xs : List ℕ). IsWindow text was.tally.timing (drop from xs) c.is_last-is_last.result) (sym c.as_slice.ensures)
     (subst (λ (k : ℕ). IsWindow text was.tally.timing (drop (k - was.start) was.window) c.is_last-is_last.result) (sym c.timing.ensures) rest)) in
-    let told : IsBadLine text was.tally = elim (timing_is c.in_err-line.field-0.0 (given_timing c.from_residual.result c.in_err-line.field-0.0 (logs.Damaged Timing) c.from_residual.ensures.1 is_damaged)) [
+    let told : IsBadLine text was.tally = elim (timing_is c.in_err-line.field-0.0 (given_timing c.from_residual.result c.in_err-line.field-0.0 (views.Damaged Timing) c.from_residual.ensures.1 is_damaged)) [
       | inl bad ↦ inr (inl (c.in_err-line.ensures.bad (ap (λ (x : TimingFault). let y : Result (Option Shaped) TimingFault = Err x in y) bad) text at))
       | inr long ↦ inr (inr (c.in_err-line.ensures.too_long (ap (λ (x : TimingFault). let y : Result (Option Shaped) TimingFault = Err x in y) long) text at))
     ] in

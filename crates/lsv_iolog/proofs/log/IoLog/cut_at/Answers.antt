@@ -26,7 +26,7 @@ use Rattle.std.proofs.lemmas.Result.{on_err_weaker, on_ok_weaker}
 use Rattle.lsv_bundle.specs.declared.body.Body.{Body}
 use Rattle.lsv_iolog.proofs.Flushing.{idle_moment, either_later, last_kind, on_ok_always}
 use Rattle.lsv_iolog.proofs.Finishing.{going_exit}
-use Rattle.lsv_iolog.proofs.Results.{same_log_fault}
+use Rattle.lsv_iolog.proofs.Results.{same_fault}
 use Rattle.lsv_iolog.proofs.Scans.{none_there}
 use Rattle.lsv_iolog.proofs.Dropping.{read_stays, read_moment, none_left, on_ok_five, some_first, cut_later, cut_moment, cut_represents, cuts_are, drops_is, has_body}
 use Rattle.lsv_iolog.proofs.log.IoLog.cut_at.Goals as goal
@@ -74,7 +74,7 @@ returns-in_err-cuts-clause-later g c told value at =
 
 pub returns-in_err-kept-clause-none : goal.returns-in_err-kept-clause-none
 returns-in_err-kept-clause-none g c told is value at =
-    let fault : c.in_err-kept.field-0.0 ≡ logs.NoPoint c.args.point = same_log_fault c.from_residual.result c.in_err-kept.field-0.0 (logs.NoPoint c.args.point) c.from_residual.ensures.1 is in
+    let fault : c.in_err-kept.field-0.0 ≡ logs.NoPoint c.args.point = same_fault c.from_residual.result c.in_err-kept.field-0.0 (logs.NoPoint c.args.point) c.from_residual.ensures.1 is in
     absurd (c.in_err-kept.ensures.none told (ap (λ (x : LogFault). let y : Result (Option Totals) LogFault = Err x in y) fault) value at)
 
 pub returns-in_default-clause-none : goal.returns-in_default-clause-none

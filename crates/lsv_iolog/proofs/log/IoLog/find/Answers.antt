@@ -9,8 +9,8 @@ use Rattle.lsv_bundle.specs.Value.{committed_length}
 use Rattle.lsv_record.specs.Records.{IsGood}
 use Rattle.lsv_record.specs.Tally.{Totals, lines_of, told_elapsed}
 use Rattle.lsv_record.specs.declared.records.Shaped.{Shaped}
-use Rattle.lsv_iolog.specs.declared.fault.LogFault.{LogFault}
-use Rattle.lsv_iolog.specs.declared.fault.LogFault.TheVariants as logs
+use Rattle.lsv_iolog.specs.declared.fault.ViewFault.{ViewFault}
+use Rattle.lsv_iolog.specs.declared.fault.ViewFault.TheVariants as views
 use Rattle.lsv_iolog.proofs.Results.{only_damaged}
 use Rattle.lsv_iolog.specs.Recovered.{owner_of}
 use Rattle.lsv_iolog.specs.Value.{IoLogView}
@@ -41,7 +41,7 @@ returns-in-Err-Damaged-clause-none g c told is value at =
     let last : log.bundle.last ≡ Some c.last.result = ap (λ (v : IoLogView). v.bundle.last) (sym c.self.view_is) ∙ c.last.ensures.last in
     let view : c.view_of-view.result ≡ record { owner = owner_of log.number; shape = shapes.Log; body = c.last.result } =
     c.view_of-view.ensures ∙ ap (λ (v : IoLogView). let w : View = record { owner = owner_of v.number; shape = shapes.Log; body = c.last.result } in w) c.self.view_is in
-    let damaged : c.in-Err-Damaged.field-0 ≡ logs.Damaged Timing = c.in-Err-Damaged.field-0-is ∙ ap logs.Damaged (sym (only_damaged c.in-Err-Damaged.field-0 Timing c.in-Err-Damaged.field-0-0 c.in-Err-Damaged.ensures.fault c.in-Err-Damaged.field-0-is)) in
+    let damaged : c.in-Err-Damaged.field-0 ≡ views.Damaged Timing = c.in-Err-Damaged.field-0-is ∙ ap views.Damaged (sym (only_damaged c.in-Err-Damaged.field-0 Timing c.in-Err-Damaged.field-0-0 c.in-Err-Damaged.ensures.fault c.in-Err-Damaged.field-0-is)) in
     no_bad_line log value old c.last.result at last (g.met.D.Disk.reads_itself told c.args.disk.now)
     (subst (λ (v : View). length (text_of v old Timing) ≡ length_of v.body Timing → (lines : List Shaped) → All IsGood lines → text_of v old Timing ≡ lines_of lines → told_elapsed lines < 2 ^ 63 → length (text_of v old Timing) ≤ 2 ^ 40 → ⊥) view
-    (c.in-Err-Damaged.ensures.damaged told (ap (λ (x : LogFault). let y : Result (Option Totals) LogFault = Err x in y) damaged)))
+    (c.in-Err-Damaged.ensures.damaged told (ap (λ (x : ViewFault). let y : Result (Option Totals) ViewFault = Err x in y) damaged)))

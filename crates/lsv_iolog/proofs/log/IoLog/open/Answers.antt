@@ -1,8 +1,8 @@
 -- The journal is looked at, the files are opened, and what they hold is read and judged.
-use Rattle.std.proofs.Common.{◌≡◌, ◌≤◌, ◌^◌, inl, inr, ℕ, List, Ok, Err, Result, false, refl, sym, ◌∙◌, ap, subst, arith}
+use Rattle.std.proofs.Common.{◌≡◌, ◌≤◌, ◌^◌, inl, inr, ℕ, List, Ok, Err, IsErrOf, Result, false, refl, sym, ◌∙◌, ap, subst, arith}
 use Rattle.lsv_disk.specs.declared.file.Part.TheVariants.{Head, Timing}
 use Rattle.lsv_disk.specs.View.{Image, DiskView}
-use Rattle.lsv_disk.proofs.Composition.{unchanged_reads}
+use Rattle.lsv_disk.proofs.Composition.{cause_second, unchanged_reads}
 use Rattle.lsv_journal.proofs.Laws.{own_alone}
 use Rattle.lsv_bundle.specs.declared.body.Body.{Body}
 use Rattle.lsv_bundle.specs.declared.bundle.Bundle.{Bundle}
@@ -18,12 +18,15 @@ use Rattle.lsv_record.specs.declared.records.Shaped.{Shaped}
 use Rattle.lsv_record.specs.Tally.{Totals}
 use Rattle.lsv_iolog.specs.declared.fault.LogFault.{LogFault}
 use Rattle.lsv_iolog.specs.declared.fault.LogFault.TheVariants as logs
-use Rattle.lsv_iolog.specs.Recovered.{owner_of}
+use Rattle.lsv_iolog.specs.declared.fault.ViewFault.{ViewFault}
+use Rattle.lsv_iolog.specs.declared.fault.ViewFault.TheVariants as views
+use Rattle.lsv_iolog.specs.Faults.{IsOpenFault, of_view}
+use Rattle.lsv_iolog.specs.Recovered.{IsOfLog, owner_of}
 use Rattle.lsv_iolog.specs.Damage.{IsFault}
 use Rattle.lsv_iolog.specs.Value.{IoLogView}
 use Rattle.lsv_iolog.specs.Inner.Invariant.{IsSettled}
 use Rattle.lsv_iolog.specs.Inner.Scanning.{text_of, entry_of, IsWholeView, IsScanned, ExitIsWhole, AllCounted}
-use Rattle.lsv_iolog.proofs.Results.{same_log_fault}
+use Rattle.lsv_iolog.proofs.Results.{err_holds, given_view, same_fault, view_cause, view_damaged, view_opens, view_there}
 use Rattle.lsv_iolog.proofs.Scans.{reads_nothing}
 use Rattle.lsv_iolog.proofs.Judging.{judged_log}
 use Rattle.lsv_iolog.proofs.Representing.{settled_represents, settled_invariant, settled_small}
@@ -67,7 +70,7 @@ returns-in_err-bundle-clause-absent g c told is_absent =
     let first = c.check_entry.ensures.reads told in
     let run = c.open_files.ensures.any_moment told in
     let last = reads_nothing two (g.met.D.Disk.only_now told c.open_files.new.disk) in
-    let e : c.in_err-bundle.field-0.0 ≡ logs.Absent = same_log_fault c.from_residual-in_err-bundle.result c.in_err-bundle.field-0.0 logs.Absent c.from_residual-in_err-bundle.ensures.1 is_absent in
+    let e : c.in_err-bundle.field-0.0 ≡ logs.Absent = same_fault c.from_residual-in_err-bundle.result c.in_err-bundle.field-0.0 logs.Absent c.from_residual-in_err-bundle.ensures.1 is_absent in
     let none = c.in_err-bundle.ensures.absent told (ap (λ (x : LogFault). let y : Result Bundle LogFault = Err x in y) e) in
     absurd (c.in_ok-check_entry.ensures.there told (sym (own_alone 89 (journal_of (owner_of n)) old.reads one.reads (λ f own. unchanged_reads old one first.unchanged f)) ∙ none))
 
@@ -80,7 +83,7 @@ returns-in_err-bundle-clause-damaged g c told part is_damaged =
     let first = c.check_entry.ensures.reads told in
     let run = c.open_files.ensures.any_moment told in
     let last = reads_nothing two (g.met.D.Disk.only_now told c.open_files.new.disk) in
-    let e : c.in_err-bundle.field-0.0 ≡ logs.Damaged part = same_log_fault c.from_residual-in_err-bundle.result c.in_err-bundle.field-0.0 (logs.Damaged part) c.from_residual-in_err-bundle.ensures.1 is_damaged in
+    let e : c.in_err-bundle.field-0.0 ≡ logs.Damaged part = same_fault c.from_residual-in_err-bundle.result c.in_err-bundle.field-0.0 (logs.Damaged part) c.from_residual-in_err-bundle.ensures.1 is_damaged in
     let same : one.reads ≡ old.reads = λ i f. unchanged_reads old one first.unchanged f i in
     inl (subst (λ (image : Image). IsDamaged (owner_of n) shapes.Log image part) same (c.in_err-bundle.ensures.damaged told part (ap (λ (x : LogFault). let y : Result Bundle LogFault = Err x in y) e)))
 
@@ -163,13 +166,29 @@ returns-in_err-head-clause-damaged g c told part is_damaged =
     let enough = c.in_ok-bundle.ensures.enough told in
     let whole : IsWholeView view two = whole_view n b body old one two new settled first entry enough run.elsewhere.same last in
     let holds : HoldsEntry (owner_of n) shapes.Log (entry_of view two) old.reads = holds_old n b body old one two new settled first entry enough run.elsewhere.same last in
-    let e : c.in_err-head.field-0.0 ≡ logs.Damaged part = same_log_fault c.from_residual-in_err-head.result c.in_err-head.field-0.0 (logs.Damaged part) c.from_residual-in_err-head.ensures.1 is_damaged in
+    let e : c.in_err-head.field-0.0 ≡ views.Damaged part = view_damaged c.in_err-head.field-0.0 part (given_view c.from_residual-in_err-head.result c.in_err-head.field-0.0 (logs.Damaged part) c.from_residual-in_err-head.ensures.1 is_damaged) in
     inr (record {
       entry = entry_of view two;
       holds = holds;
       fault = subst (λ (v : View). IsWholeView v two → IsFault (entry_of v two) part) c.view_of-view.ensures
-          (c.in_err-head.ensures.damaged told part (ap (λ (x : LogFault). let y : Result (info.Head × Totals) LogFault = Err x in y) e)) whole;
+          (c.in_err-head.ensures.damaged told part (ap (λ (x : ViewFault). let y : Result (info.Head × Totals) ViewFault = Err x in y) e)) whole;
     })
+
+pub returns-in_err-head-clause-absent : goal.returns-in_err-head-clause-absent
+returns-in_err-head-clause-absent g c told is_absent =
+    absurd (view_there c.in_err-head.field-0.0 c.in_err-head.ensures.fault (given_view c.from_residual-in_err-head.result c.in_err-head.field-0.0 logs.Absent c.from_residual-in_err-head.ensures.1 is_absent))
+
+pub returns-in_err-head-clause-fault : goal.returns-in_err-head-clause-fault
+returns-in_err-head-clause-fault g c = err_holds c.from_residual-in_err-head.result (of_view c.in_err-head.field-0.0) IsOpenFault c.from_residual-in_err-head.ensures.1 (view_opens c.in_err-head.field-0.0)
+
+pub returns-in_err-head-clause-cause : goal.returns-in_err-head-clause-cause
+returns-in_err-head-clause-cause g c =
+    let old : DiskView = g.D.Disk.view c.args.disk.now in
+    let two : DiskView = g.D.Disk.view c.open_files.new.disk in
+    cause_second (IsOfLog c.args.number) (IsErrOf c.from_residual-in_err-head.result logs.Disk) old two (g.D.Disk.view c.read_stored.new.disk)
+    (λ f. let a = c.check_entry.ensures.cause.monotone f in let b = c.open_files.ensures.cause.monotone f in omega (arith, a, b))
+    (view_cause {U = info.Head × Totals} (λ f. f.owner ≡ c.view_of-view.result.owner) (IsOfLog c.args.number) c.from_residual-in_err-head.result c.in_err-head.field-0.0 two (g.D.Disk.view c.read_stored.new.disk)
+    (λ f own. own ∙ ap (λ (v : View). v.owner) c.view_of-view.ensures) c.from_residual-in_err-head.ensures.1 c.in_err-head.ensures.cause)
 
 pub invariant_of-result : goal.invariant_of-result
 invariant_of-result g c =

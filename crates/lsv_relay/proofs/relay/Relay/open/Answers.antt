@@ -4,7 +4,7 @@ use Rattle.lsv_disk.specs.View.{Image}
 use Rattle.lsv_disk.proofs.Composition.{cause_second, reads_trans}
 use Rattle.lsv_iolog.specs.Damage.{IsViewDamage}
 use Rattle.lsv_iolog.specs.Recovered as logs
-use Rattle.lsv_iolog.specs.declared.fault.LogFault.TheVariants as reads
+use Rattle.lsv_iolog.specs.declared.fault.ViewFault.TheVariants as reads
 use Rattle.lsv_kept.specs.Kept.{IsMarked, IsOfRelay, IsStateDamage}
 use Rattle.lsv_kept.specs.Value.{KeepingView, is_done}
 use Rattle.lsv_kept.proofs.Opening.{reads_as_before}

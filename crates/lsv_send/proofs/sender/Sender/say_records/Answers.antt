@@ -2,7 +2,7 @@ use Rattle.std.proofs.Common.{◌++◌, List}
 use Rattle.std.proofs.lemmas.Result.{IfOk-weaker}
 use Rattle.lsv_dialogue.specs.Events.{Event}
 use Rattle.lsv_dialogue.proofs.ReadLemmas.{at_exit}
-use Rattle.lsv_iolog.specs.declared.fault.LogFault.{LogFault}
+use Rattle.lsv_iolog.specs.declared.fault.ViewFault.{ViewFault}
 use Rattle.lsv_send.specs.Faults.{IsStuck}
 use Rattle.lsv_send.specs.Handing.{Source}
 use Rattle.lsv_send.specs.Talks.{IsOf, Told, start_at}
@@ -30,7 +30,7 @@ returns-then-is_empty-clause-stuck g c = λ d. by_fault c.say_ending.result _ c.
 pub returns-in_err-batch-clause-stuck : goal.returns-in_err-batch-clause-stuck
 returns-in_err-batch-clause-stuck g c = λ d. at_exit _ c.from_residual.result c.in_err-batch.field-0.0 c.from_residual.ensures.1
     (at_fault c.next_messages.result c.in_err-batch.field-0.0
-    (λ (fault : LogFault). (source : Source) (begun : g.row.D.Denot) (events : List Event) → IsOf source c.args.self.now → (t : Told (start_at source (g.D.Disk.view begun)) c.args.self.now (g.D.Disk.view c.args.disk.now) events) → IsStuck source (g.D.Disk.view begun).reads (source.skipped ++ t.hands.more) fault)
+    (λ (fault : ViewFault). (source : Source) (begun : g.row.D.Denot) (events : List Event) → IsOf source c.args.self.now → (t : Told (start_at source (g.D.Disk.view begun)) c.args.self.now (g.D.Disk.view c.args.disk.now) events) → IsStuck source (g.D.Disk.view begun).reads (source.skipped ++ t.hands.more) fault)
     c.in_err-batch.was
     (by_fault c.next_messages.result _ c.next_messages.ensures.fault (λ source begun events is t. tt) (λ source begun events is t. tt)
     (λ part e source begun events is t. faulty_records (start_at source (g.D.Disk.view begun)) c.args.self.now (g.D.Disk.view c.args.disk.now) events part is c.requires.place (c.next_messages.ensures.damaged d part e) t)))
